@@ -1,0 +1,2 @@
+pub mod Alu
+pub mod Machine
