@@ -8,4 +8,3 @@ abbrev pub result_of : BinaryOp → ℕ → ℕ → ℕ
 result_of Add a b = (a + b) % 2 ^ 64
 result_of Mov a b = b
 result_of _ a b = a
-

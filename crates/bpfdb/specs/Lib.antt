@@ -1,2 +1,4 @@
 pub mod Alu
 pub mod Machine
+pub mod History
+pub mod Steps

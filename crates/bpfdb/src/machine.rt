@@ -18,7 +18,11 @@ pub enum Status {
 #[derive(Clone, Copy)]
 pub enum Entry {
     /// Arithmetic: the slot of the instruction, and the register with its number before.
-    Register { pc: usize, register: Reg, value: u64 },
+    Register {
+        pc: usize,
+        register: Reg,
+        value: u64,
+    },
     /// The end of the program: the status alone.
     End,
 }
@@ -75,7 +79,11 @@ impl Cpu {
         ensures { result ≡ number_in self.now register }
     {
         let number = register.number() as usize;
-        if number < 10 { self.registers[number] } else { 0x2_0000_0200 }
+        if number < 10 {
+            self.registers[number]
+        } else {
+            0x2_0000_0200
+        }
     }
 }
 
@@ -105,7 +113,11 @@ impl Cpu {
         ensures { (x : State) → Leads x self.old → overwritten x ≡ entry.now → self.new ≡ x }
     {
         match entry {
-            Entry::Register { pc, register, value } => {
+            Entry::Register {
+                pc,
+                register,
+                value,
+            } => {
                 self.registers[register.number() as usize] = *value;
                 self.pc = *pc;
             }
@@ -165,7 +177,12 @@ impl Cpu {
         ensures { self.new ≡ executed insn.now self.old }
     {
         match insn {
-            Insn::Binary { op, dst, source, .. } => {
+            Insn::Binary {
+                op,
+                dst,
+                source,
+                ..
+            } => {
                 let right = self.operand(source);
                 let left = self.reg(*dst);
                 self.registers[dst.number() as usize] = combine(*op, left, right);

@@ -1,5 +1,5 @@
 use Rattle.std.proofs.Common.{arith}
-use Rattle.bpfdb.proofs.Steps.{pc-below, dst-below, IsState-moved}
+use Rattle.bpfdb.proofs.Undoing.{pc-below, dst-below, IsState-moved}
 use Rattle.bpfdb.proofs.machine.Cpu.execute.Goals as goal
 
 pub bounds-self-inside-number : goal.bounds-self-inside-number

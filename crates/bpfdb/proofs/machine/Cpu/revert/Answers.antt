@@ -1,6 +1,6 @@
 use Rattle.std.proofs.Common.{◌≡◌, arith, sym, ◌∙◌, subst}
 use Rattle.bpfdb.specs.Machine.{State, IsState, IsUndoable}
-use Rattle.bpfdb.proofs.Steps.{undone, undone-next, undone-below}
+use Rattle.bpfdb.proofs.Undoing.{undone, undone-next, undone-below}
 use Rattle.bpfdb.proofs.machine.Cpu.revert.Goals as goal
 
 pub bounds-self-inside-number : goal.bounds-self-inside-number
