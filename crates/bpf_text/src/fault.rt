@@ -1,0 +1,5 @@
+// What writing a text can answer.
+
+/// A writer took no more: it answered an error, or no byte of a piece that isn't empty.
+#[derive(Clone, Copy)]
+pub struct WriteFault;
