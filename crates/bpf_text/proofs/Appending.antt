@@ -1,5 +1,5 @@
 -- Texts that are appended one after another.
-use Rattle.std.proofs.Common.{ℕ, ◌≡◌, ◌+◌, ◌-◌, length, List, [], ◌++◌, take, drop, Option, Some, None, Result, Ok, Err, refl, sym, ap, ◌∙◌, append_assoc}
+use Rattle.std.proofs.Common.{ℕ, ◌≡◌, ◌+◌, ◌-◌, length, List, [], ◌++◌, take, drop, Option, Some, None, Result, Ok, Err, sym, ap, ◌∙◌, append_assoc}
 use Rattle.std.proofs.Math.Seq.{take-add}
 use Rattle.std.proofs.lemmas.List.{take-append-drop, take_rest, append-nil}
 use Rattle.std.specs.Io.KnownBytes.{Appends, Keeps}
@@ -49,8 +49,12 @@ Writes-Writes contents a b c (Ok x) (Ok y) w s t z p q = record {
 Writes-Writes contents a b c (Ok x) (Err e) w s t z p q = record {
   ok = tt;
   same = tt;
-  err = (s ++ q.err.0, q.err.1, ap (λ v. s ++ v) q.err.2 ∙ sym (append_assoc s q.err.0 q.err.1),
-    Appends-Appends (contents a.inner) (contents b.inner) (contents c.inner) s q.err.0 p.ok q.err.3);
+  err = (
+    s ++ q.err.0,
+    q.err.1,
+    ap (λ v. s ++ v) q.err.2 ∙ sym (append_assoc s q.err.0 q.err.1),
+    Appends-Appends (contents a.inner) (contents b.inner) (contents c.inner) s q.err.0 p.ok q.err.3,
+  );
   fault = q.fault ∙ ap one_more p.same;
 }
 
