@@ -1,0 +1,216 @@
+//! Instructions (RFC 9669, sections 3 to 5): a few shapes over small tables of operations.
+use crate::register::Reg;
+
+/// The width of an operation: the classes ALU and JMP32, and ALU64 and JMP.
+#[derive(Clone, Copy)]
+pub enum Width {
+    Bits32,
+    Bits64,
+}
+
+/// The size of an access to memory: W, H, B and DW (4, 2, 1 and 8 bytes).
+#[derive(Clone, Copy)]
+pub enum Size {
+    Word,
+    Half,
+    Byte,
+    Double,
+}
+
+/// The size of a load that extends the sign: W, H and B (4, 2 and 1 bytes).
+#[derive(Clone, Copy)]
+pub enum SignedSize {
+    Word,
+    Half,
+    Byte,
+}
+
+/// Arithmetic of two operands, in the order of RFC 9669, section 4.1.
+#[derive(Clone, Copy)]
+pub enum BinaryOp {
+    Add,
+    Sub,
+    Mul,
+    Div,
+    SignedDiv,
+    Or,
+    And,
+    LeftShift,
+    RightShift,
+    Mod,
+    SignedMod,
+    Xor,
+    Mov,
+    SignedRightShift,
+}
+
+/// The second operand: the form K (imm, a signed number of 32 bits) or X (a register).
+#[derive(Clone, Copy)]
+pub enum Source {
+    Immediate(i32),
+    Register(Reg),
+}
+
+/// A sign-extending move: how many low bits of the source count, and the width of the result.
+#[derive(Clone, Copy)]
+pub enum Extension {
+    Byte64,
+    Half64,
+    Word64,
+    Byte32,
+    Half32,
+}
+
+/// Which bytes a byte swap puts first (RFC 9669, section 4.2).
+#[derive(Clone, Copy)]
+pub enum ByteOrder {
+    Little,
+    Big,
+    Swap,
+}
+
+/// How many low bits a byte swap keeps.
+#[derive(Clone, Copy)]
+pub enum SwapWidth {
+    Bits16,
+    Bits32,
+    Bits64,
+}
+
+/// The condition of a conditional jump, in the order of RFC 9669, section 4.3.
+#[derive(Clone, Copy)]
+pub enum Condition {
+    Equal,
+    Greater,
+    GreaterOrEqual,
+    BitsSet,
+    NotEqual,
+    SignedGreater,
+    SignedGreaterOrEqual,
+    Less,
+    LessOrEqual,
+    SignedLess,
+    SignedLessOrEqual,
+}
+
+/// An atomic operation (RFC 9669, section 5.3).
+#[derive(Clone, Copy)]
+pub enum AtomicOp {
+    Add,
+    Or,
+    And,
+    Xor,
+    FetchAdd,
+    FetchOr,
+    FetchAnd,
+    FetchXor,
+    Exchange,
+    CompareExchange,
+}
+
+/// An instruction. Offsets of jumps count slots from the next slot, offsets of accesses count bytes.
+#[derive(Clone, Copy)]
+pub enum Insn {
+    /// `dst = dst op source`, or `dst = source` for a move.
+    Binary {
+        op: BinaryOp,
+        width: Width,
+        dst: Reg,
+        source: Source,
+    },
+    /// `dst = -dst`.
+    Negate {
+        width: Width,
+        dst: Reg,
+    },
+    /// A move that extends the sign of the source's low bits.
+    SignExtend {
+        extension: Extension,
+        dst: Reg,
+        src: Reg,
+    },
+    /// A byte swap of dst's low bits.
+    SwapBytes {
+        order: ByteOrder,
+        width: SwapWidth,
+        dst: Reg,
+    },
+    /// A jump by `offset` slots where dst meets the condition with the source.
+    JumpIf {
+        condition: Condition,
+        width: Width,
+        dst: Reg,
+        source: Source,
+        offset: i16,
+    },
+    /// A jump by `offset` slots.
+    Jump {
+        offset: i16,
+    },
+    /// A jump by `distance` slots.
+    JumpLong {
+        distance: i32,
+    },
+    /// A call of a helper function by its number.
+    CallHelper {
+        helper: u32,
+    },
+    /// A call of a function of the program, `distance` slots from the next slot.
+    CallLocal {
+        distance: i32,
+    },
+    /// The end of a function or of the program.
+    Exit,
+    /// `dst` = the number at `src + offset`.
+    Load {
+        size: Size,
+        dst: Reg,
+        src: Reg,
+        offset: i16,
+    },
+    /// `dst` = the number at `src + offset`, its sign extended.
+    LoadSigned {
+        size: SignedSize,
+        dst: Reg,
+        src: Reg,
+        offset: i16,
+    },
+    /// Stores the low bytes of `value` at `dst + offset`.
+    StoreImmediate {
+        size: Size,
+        dst: Reg,
+        offset: i16,
+        value: i32,
+    },
+    /// Stores the low bytes of `src` at `dst + offset`.
+    StoreRegister {
+        size: Size,
+        dst: Reg,
+        src: Reg,
+        offset: i16,
+    },
+    /// An atomic operation on the number at `dst + offset`.
+    Atomic {
+        op: AtomicOp,
+        width: Width,
+        dst: Reg,
+        src: Reg,
+        offset: i16,
+    },
+    /// A wide load of a number.
+    LoadNumber {
+        dst: Reg,
+        value: u64,
+    },
+    /// A wide load of a map's token.
+    LoadMap {
+        dst: Reg,
+        map: u32,
+    },
+    /// A wide load of the address of a byte of a map's values.
+    LoadMapValue {
+        dst: Reg,
+        map: u32,
+        offset: u32,
+    },
+}

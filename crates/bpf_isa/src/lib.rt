@@ -1,0 +1,15 @@
+//! The instruction set of BPF (RFC 9669): words, their decoder and encoder, and the checker of programs.
+#![tactic(auto)]
+
+mod instruction;
+mod maps;
+mod program;
+mod register;
+
+pub use instruction::{
+    AtomicOp, BinaryOp, ByteOrder, Condition, Extension, Insn, SignedSize, Size, Source, SwapWidth,
+    Width,
+};
+pub use maps::{MapShape, MapTable};
+pub use program::{LoadFault, Program, check};
+pub use register::Reg;
