@@ -2,3 +2,13 @@ pub mod Alu
 pub mod Machine
 pub mod History
 pub mod Steps
+pub mod Script
+pub mod Refusals
+pub mod Commands
+pub mod Outcomes
+pub mod Forward
+pub mod Backward
+pub mod Meaning
+pub mod Stub
+pub mod Replies
+pub mod Output

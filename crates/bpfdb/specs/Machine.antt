@@ -31,6 +31,10 @@ frame_pointer = 0x200000200
 abbrev pub number_in : State → ℕ → ℕ
 number_in x r = if r == 10 then frame_pointer else slice_index x.registers r
 
+-- Whether the machine has ended.
+abbrev pub has_ended : State → Bool
+has_ended x = elim x.status [ Running ↦ false | Exited ↦ true ]
+
 -- The instructions that the machine has.
 abbrev pub IsKnown : Insn → Type 0
 IsKnown (Binary Add Bits64 dst source) = Unit {0}

@@ -1,8 +1,15 @@
 //! bpfdb runs programs of BPF (RFC 9669) forwards and backwards.
 #![tactic(auto)]
 
+mod command;
+mod count;
+mod forward;
 mod history;
 mod machine;
+mod number;
+mod refusal;
+mod reply;
 mod timeline;
+mod words;
 
 fn main() {}

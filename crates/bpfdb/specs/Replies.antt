@@ -1,0 +1,53 @@
+-- The texts of replies (bpfdb's own choice).
+use Rattle.std.specs.Prelude.{ℕ, zero, suc, ◌+◌, List, [], ◌∷◌, ◌++◌, Option, Some, None, Result, Ok, Err, decimal}
+use lib.Chars.{codes}
+use Rattle.bpf_isa.specs.Programs.{insn_at}
+use Rattle.bpf_text.specs.Writing.{hexadecimal}
+use Rattle.bpfdb.specs.Stub.{text_of_insn}
+use Rattle.bpfdb.specs.Machine.{State, number_in}
+use Rattle.bpfdb.specs.Refusals.{refusal_text}
+use Rattle.bpfdb.specs.declared.machine.Status.TheVariants.{Running, Exited}
+use Rattle.bpfdb.specs.declared.reply.Why.{Why}
+use Rattle.bpfdb.specs.declared.reply.Why.TheVariants.{End, Done, Limit, Memory, Start}
+use Rattle.bpfdb.specs.declared.reply.Reply.{Reply}
+use Rattle.bpfdb.specs.declared.reply.Reply.TheVariants.{Forward, Back, Registers, Nothing}
+use Rattle.bpfdb.specs.declared.refusal.Refusal.{Refusal}
+
+-- why a command stopped
+abbrev pub text_of_why : Why → List ℕ
+text_of_why End = codes "end"
+text_of_why Done = codes "done"
+text_of_why Limit = codes "limit"
+text_of_why Memory = codes "memory"
+text_of_why Start = codes "start"
+
+-- where the machine stands: the instruction to run, or what an exited program answers
+unfoldable pub place : State → List ℕ
+place x = elim x.status [
+    Running ↦ codes "at " ++ decimal x.pc ++ codes ": " ++ elim (insn_at x.program x.pc) [ None ↦ [] | Some i ↦ text_of_insn x.pc i ]
+  | Exited ↦ codes "exited at " ++ decimal x.pc ++ codes ": r0 " ++ hexadecimal (number_in x 0)
+  ]
+
+-- the registers from r on, n of them, a blank in front of each but r0
+abbrev pub registers_from : State → ℕ → ℕ → List ℕ
+registers_from x r zero = []
+registers_from x r (suc n) = codes " r" ++ decimal r ++ codes "=" ++ hexadecimal (number_in x r) ++ registers_from x (r + 1) n
+
+-- r0 to r10 on one line
+abbrev pub text_of_registers : State → List ℕ
+text_of_registers x = codes "r0=" ++ hexadecimal (number_in x 0) ++ registers_from x 1 10
+
+-- how far a command went, why it stopped, and where
+abbrev pub text_of_move : ℕ → List ℕ → Why → State → List ℕ
+text_of_move k way why x = decimal k ++ way ++ text_of_why why ++ codes "; " ++ place x ++ codes "\n"
+
+unfoldable pub text_of_reply : Reply → State → List ℕ
+text_of_reply (Forward k why) x = text_of_move k (codes " forward; ") why x
+text_of_reply (Back k why) x = text_of_move k (codes " back; ") why x
+text_of_reply Registers x = text_of_registers x ++ codes "\n" ++ place x ++ codes "\n"
+text_of_reply Nothing x = []
+
+-- what is printed for a reply or a refusal
+abbrev pub text_of_answer : Result Reply Refusal → State → List ℕ
+text_of_answer (Ok reply) x = text_of_reply reply x
+text_of_answer (Err refusal) x = refusal_text refusal

@@ -1,0 +1,47 @@
+//! Counts of steps and moves.
+ghost use Rattle.std.specs.Prelude.{◌≡◌, ◌≤◌, ◌↔◌, IfSome, IsSome};
+
+use std::marker::Model;
+
+/// How many steps or moves a command asks for: 1 to 1,000,000,000.
+#[derive(Clone, Copy)]
+pub struct Count {
+    value: u64,
+}
+
+impl Model for Count {
+    ghost use Rattle.std.specs.Prelude.{ℕ, ◌≤◌};
+
+    ghost Value = { ℕ };
+
+    ghost view = { λ count. count.value };
+
+    ghost invariant = { λ count. (1 ≤ count.value) × (count.value ≤ 1000000000) };
+
+    ghost inverse = { λ n. record { value = n } };
+}
+
+impl Count {
+    /// The count of a command that doesn't say one.
+    pub const ONE: Count = Count { value: 1 };
+
+    /// The count of this value, None for 0 and above 1,000,000,000.
+    pub fn new(value: u64) -> Option<Count>
+        ensures found { IsSome result ↔ ((1 ≤ value) × (value ≤ 1000000000)) }
+        ensures value { IfSome result (λ count. count ≡ value) }
+    {
+        if (1..=1_000_000_000).contains(&value) {
+            Some(Count { value })
+        } else {
+            None
+        }
+    }
+
+    /// The count's value, 1 to 1,000,000,000.
+    pub fn get(&self) -> u64
+        ensures value { result ≡ self.now }
+        ensures fits { (1 ≤ result) × (result ≤ 1000000000) }
+    {
+        self.value
+    }
+}
