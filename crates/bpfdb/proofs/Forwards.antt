@@ -6,6 +6,7 @@ use Rattle.bpfdb.specs.Machine.{State, Leads, next, has_ended}
 use Rattle.bpfdb.specs.History.{Record, Kept, StandsFor, Steps, Stays, keep, step}
 use Rattle.bpfdb.specs.Outcomes.{Outcome, Obeys, refused, last_refusal}
 use Rattle.bpfdb.specs.Forward.{after, kept, stop, stop_in, least, steps, taken, cut, forward}
+use Rattle.bpfdb.proofs.Answering.{obeys-as}
 use Rattle.bpfdb.specs.declared.machine.Status.{Status}
 use Rattle.bpfdb.specs.declared.machine.Status.TheVariants.{Running, Exited}
 use Rattle.bpfdb.specs.declared.reply.Why.{Why}
@@ -122,17 +123,6 @@ module _ {K : Type 0} (holds : K → List Kept → Type 0) (refusals : K → ℕ
         none = i.none ∙ least-next (stops count limit old.0) (k + 1) (limit - k) (omega arith) passes ∙ ap (least (stops count limit old.0) (k + 1 + 1)) (let m : limit - k - 1 ≡ limit - (k + 1) = omega arith in m);
       }
 
-  -- the outcome that the command comes to, and what is left of it
-  obeys-as : (meaning : Option ℕ → Outcome) (answer : Result Reply Refusal) (gap : Option ℕ) (o : Outcome) → meaning gap ≡ o → answer ≡ o.answer → new.0 ≡ o.state → StandsFor holds new.1 new.0 o.history → (refusals old.1 < last_refusal → refusals new.1 ≡ refusals old.1 → gap ≡ None) → (refusals old.1 ≤ last_refusal → (refusals old.1 ≤ refusals new.1) × (refusals new.1 ≤ last_refusal)) → Obeys holds refusals old new meaning answer
-  obeys-as meaning answer gap o is said state st whole counted = record {
-    gap = gap;
-    whole = whole;
-    counted = counted;
-    answered = said ∙ ap (λ (v : Outcome). v.answer) (sym is);
-    left = state ∙ ap (λ (v : Outcome). v.state) (sym is);
-    stands = subst (λ (v : Outcome). StandsFor holds new.1 new.0 v.history) (sym is) st;
-  }
-
   -- a step that stops the command
   pub Going-stop : Going holds refusals old now count limit k → Steps holds (k == 0) now new → refusals new.1 ≡ refusals now.1 → (why : Why) → stop_in count limit new.0 (k + 1) ≡ Some why → (h : List Record) → StandsFor holds old.1 old.0 h → Obeys holds refusals old new (λ gap. forward gap count limit h old.0) (Ok (replies.Forward (k + 1) why))
   Going-stop i s same why found h st =
@@ -142,7 +132,7 @@ module _ {K : Type 0} (holds : K → List Kept → Type 0) (refusals : K → ℕ
       let there : stop count limit old.0 (k + 1) ≡ Some why = subst (λ (y : State). stop_in count limit y (k + 1) ≡ Some why) e found in
       let n : steps count limit old.0 ≡ k + 1 = i.none ∙ least-here (stops count limit old.0) (k + 1) (limit - k) (omega arith) (ap is_some there) in
       let m : forward None count limit h old.0 ≡ taken (k + 1) why h old.0 = rw (fresh, n, there) refl in
-      obeys-as _ _ None _ m refl e (stands-more i s h st) (λ _ _. refl) (λ b. let q = same ∙ i.same in (omega arith, omega arith))
+      obeys-as holds refusals old new _ _ None _ m refl e (stands-more i s h st) (λ _ _. refl) (λ b. let q = same ∙ i.same in (omega arith, omega arith))
 
   -- a step that the keeper refused
   pub Going-cut : Going holds refusals old now count limit k → Stays holds now new → refusals new.1 ≡ min (refusals now.1 + 1) last_refusal → (h : List Record) → StandsFor holds old.1 old.0 h → Obeys holds refusals old new (λ gap. forward gap count limit h old.0) (if k == 0 then Err OutOfMemory else Ok (replies.Forward k Memory))
@@ -152,4 +142,4 @@ module _ {K : Type 0} (holds : K → List Kept → Type 0) (refusals : K → ℕ
       let lt : nat_lt k (steps count limit old.0) ≡ true = lt-true _ _ far in
       let m : forward (Some k) count limit h old.0 ≡ cut-of (k == 0) k h old.0 = rw (fresh, lt) refl in
       let same = i.same in
-      obeys-as _ _ (Some k) _ m (cut-answer (k == 0) k h old.0) (cut-state (k == 0) k h old.0 new.0 (is-first k) (s.0 ∙ i.state)) (cut-history (k == 0) k h old.0 (StandsFor holds new.1 new.0) (is-first k) (s.1 _ (i.stands h st))) (λ b q. absurd (omega arith)) (λ b. (omega arith, omega arith))
+      obeys-as holds refusals old new _ _ (Some k) _ m (cut-answer (k == 0) k h old.0) (cut-state (k == 0) k h old.0 new.0 (is-first k) (s.0 ∙ i.state)) (cut-history (k == 0) k h old.0 (StandsFor holds new.1 new.0) (is-first k) (s.1 _ (i.stands h st))) (λ b q. absurd (omega arith)) (λ b. (omega arith, omega arith))

@@ -1,5 +1,6 @@
 -- A backward command looks a recorded state up.
-use Rattle.std.specs.Prelude.{ℕ, List, [], ◌∷◌, Option, Some, None, Ok, zero, suc, length, drop, slice_get, nat_le, if◌then◌else◌}
+use Rattle.std.specs.Prelude.{ℕ, List, [], ◌∷◌, Ok, zero, suc, length, drop, slice_get, nat_le, if◌then◌else◌}
+use Rattle.std.specs.Option.{option_map_or}
 use Rattle.bpfdb.specs.Machine.{State}
 use Rattle.bpfdb.specs.History.{Record}
 use Rattle.bpfdb.specs.Outcomes.{Outcome, refused}
@@ -11,7 +12,7 @@ use Rattle.bpfdb.specs.declared.refusal.Refusal.TheVariants.{NoKeptStep}
 -- the recorded state before the k-th last move; x itself for k = 0
 abbrev pub before_last : ℕ → List Record → State → State
 before_last zero h x = x
-before_last (suc k) h x = elim (slice_get h k) [ None ↦ x | Some r ↦ r.before ]
+before_last (suc k) h x = option_map_or (λ r. r.before) (slice_get h k) x
 
 -- The state before the k-th last move comes back, and the moves from it on are no longer kept.
 abbrev pub gone_back : ℕ → Why → List Record → State → Outcome

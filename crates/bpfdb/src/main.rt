@@ -1,6 +1,7 @@
 //! bpfdb runs programs of BPF (RFC 9669) forwards and backwards.
 #![tactic(auto)]
 
+mod backward;
 mod command;
 mod count;
 mod forward;
