@@ -11,4 +11,5 @@ pub mod Backward
 pub mod Meaning
 pub mod Stub
 pub mod Replies
+pub mod Sessions
 pub mod Output

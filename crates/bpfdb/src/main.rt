@@ -10,6 +10,7 @@ mod machine;
 mod number;
 mod refusal;
 mod reply;
+mod session;
 mod timeline;
 mod words;
 
