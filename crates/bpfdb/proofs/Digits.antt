@@ -27,7 +27,7 @@ pub reads-more : (base : ℕ) (digits : List ℕ) (i value next : ℕ) → i < l
 reads-more base digits i value next inside reads digit fits is = record {
   value = is ∙ value-more base digits i value inside reads.value;
   digits = rw (list_all_more (λ byte. is_digit byte base) digits i 0 inside, reads.digits, lt-ltb _ _ digit) refl;
-  fits = omega (arith, is, fits)
+  fits = omega (arith, is, fits);
 }
 
 -- a byte that is no digit
@@ -44,10 +44,12 @@ is_numeral-large base digits i positive large =
 pub reads-stop : (base : ℕ) (digits : List ℕ) (i value : ℕ) → 1 ≤ base → i < length digits → ReadsDigits base digits i value → ((digit_value (get_or digits i 0) < base) × (value * base + digit_value (get_or digits i 0) < 2 ^ 64) → ⊥) → numeral base digits ≡ None
 reads-stop base digits i value positive inside reads stops =
     elim (cases_lt (digit_value (get_or digits i 0)) base) [
-      inl digit ↦ elim (cases_lt (value * base + digit_value (get_or digits i 0)) (2 ^ 64)) [
-        inl small ↦ absurd (stops (digit, small))
-      | inr large ↦ rw (is_numeral-large base digits (i + 1) positive (omega (arith, large, value-more base digits i value inside reads.value))) refl ]
-    | inr none ↦ stray base digits i inside none ]
+      | inl digit ↦ elim (cases_lt (value * base + digit_value (get_or digits i 0)) (2 ^ 64)) [
+        | inl small ↦ absurd (stops (digit, small))
+        | inr large ↦ rw (is_numeral-large base digits (i + 1) positive (omega (arith, large, value-more base digits i value inside reads.value))) refl
+      ]
+      | inr none ↦ stray base digits i inside none
+    ]
 
 -- the reading ends
 pub reads-all : (base : ℕ) (digits : List ℕ) (i value : ℕ) → 0 < length digits → length digits ≤ i → ReadsDigits base digits i value → numeral base digits ≡ Some value

@@ -90,7 +90,7 @@ cut-history false k h x P z p = p
 is-first : (k : ℕ) → (k == 0) ≡ true → k ≡ 0
 is-first k h = grind (arith, nat_tests)
 
-lt-true : (j k : ℕ) → j < k → nat_lt j k ≡ true
+pub lt-true : (j k : ℕ) → j < k → nat_lt j k ≡ true
 lt-true j k h = grind (arith, nat_tests)
 
 module _ {K : Type 0} (holds : K → List Kept → Type 0) (refusals : K → ℕ) (old now new : State × K) (count limit k : ℕ) where

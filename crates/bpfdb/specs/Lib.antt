@@ -13,3 +13,4 @@ pub mod Stub
 pub mod Replies
 pub mod Sessions
 pub mod Output
+pub mod Scripts

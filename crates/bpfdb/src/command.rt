@@ -1,5 +1,6 @@
 //! Commands, one on a line.
 ghost use Rattle.std.specs.Prelude.{◌≡◌};
+ghost use Rattle.std.specs.Str.{bytes_eq};
 ghost use Rattle.bpfdb.specs.Commands.{bare, command_of, one_of, optional_count, shows};
 
 use crate::count::Count;
@@ -23,12 +24,6 @@ pub enum Command {
     Quit,
 }
 
-const STEPI: &[u8] = b"stepi";
-const REVERSE_STEPI: &[u8] = b"reverse-stepi";
-const INFO: &[u8] = b"info";
-const QUIT: &[u8] = b"quit";
-const REGS: &[u8] = b"regs";
-
 /// The command on a line, which is given without its line feed; None where it has no words.
 ///
 /// Q12 where the line is too long, else Q1 where its first word is no command's name, else Q2 where a word after the
@@ -44,13 +39,13 @@ pub fn parse_command(line: &[u8]) -> Result<Option<Command>, Refusal>
     let Some(name) = words.next_word() else {
         return Ok(None);
     };
-    let command = if name == STEPI {
+    let command = if is(name, "stepi") {
         optional_count(words).map(Command::Step)
-    } else if name == REVERSE_STEPI {
+    } else if is(name, "reverse-stepi") {
         optional_count(words).map(Command::ReverseStep)
-    } else if name == INFO {
+    } else if is(name, "info") {
         info(words)
-    } else if name == QUIT {
+    } else if is(name, "quit") {
         bare(words, Command::Quit)
     } else {
         return Err(Refusal::UnknownCommand);
@@ -83,9 +78,16 @@ fn info(mut words: Words) -> Option<Command>
     ensures value { result ≡ one_of shows words.entry }
 {
     let name = words.next_word()?;
-    if name == REGS {
+    if is(name, "regs") {
         bare(words, Command::InfoRegisters)
     } else {
         None
     }
+}
+
+// Whether a word is this text; case matters.
+fn is(word: &[u8], text: &str) -> bool
+    ensures value { result ≡ bytes_eq word.now text.now }
+{
+    word == text.as_bytes()
 }

@@ -1,7 +1,6 @@
 //! Numbers in command lines.
-ghost use Rattle.std.specs.Prelude.{◌≡◌, ◌≤◌, ◌<◌, ◌+◌, ◌*◌, ◌^◌};
+ghost use Rattle.std.specs.Prelude.{◌≡◌, ◌≤◌, ◌<◌, ◌+◌, ◌*◌, ◌^◌, ◌↔◌, IsSome, IfSome};
 ghost use Rattle.std.specs.Char.{digit_value};
-ghost use Rattle.std.specs.Option.{SomeIff};
 ghost use Rattle.bpfdb.specs.Script.{number, numeral};
 
 const HEXADECIMAL_PREFIX: &[u8] = b"0x";
@@ -36,8 +35,12 @@ fn parse_digits(digits: &[u8], base: u32) -> Option<u64>
 // The number with one more digit.
 fn append_digit(value: u64, byte: u8, base: u32) -> Option<u64>
     requires within { (2 ≤ base) × (base ≤ 36) }
-    ensures value { SomeIff result ((digit_value byte < base) × (value * base + digit_value byte < 2 ^ 64)) (value * base + digit_value byte) }
+    ensures found { IsSome result
+        ↔ ((digit_value byte < base) × (value * base + digit_value byte < 2 ^ 64)) }
+    ensures value { IfSome result (λ more. more ≡ value * base + digit_value byte) }
 {
     let digit = char::from(byte).to_digit(base)?;
-    value.checked_mul(u64::from(base))?.checked_add(u64::from(digit))
+    value
+        .checked_mul(u64::from(base))?
+        .checked_add(u64::from(digit))
 }

@@ -55,7 +55,8 @@ impl<'a> Words<'a> {
 
 // A line from its first word on.
 fn without_blanks(line: &[u8]) -> &[u8]
-    ensures value { result.now ≡ drop (position_or_len (λ byte. not (is_blank byte)) line.now) line.now }
+    ensures value { result.now
+        ≡ drop (position_or_len (λ byte. not (is_blank byte)) line.now) line.now }
 {
     let start = line.iter().position(|byte| !is_blank(*byte));
     &line[start.unwrap_or(line.len())..]

@@ -1,0 +1,93 @@
+-- A line is read a byte at a time: what came so far, and what each exit has read.
+use Rattle.std.proofs.Common.{◌≡◌, ◌≢◌, ◌<◌, ◌≤◌, ◌+◌, ◌-◌, ◌^◌, ◌↔◌, ℕ, Bool, true, false, not, List, [], ◌∷◌, ◌++◌, Option, Some, None, Result, Ok, Err, IsTrue, length, refl, sym, ap, subst, ◌∙◌, arith, append_assoc}
+use Rattle.std.proofs.lemmas.List.{append-nil}
+use Rattle.std.specs.Io.KnownBytes.{Consumes, IsAtEnd, Keeps}
+use Rattle.bpf_text.specs.Counted.{Tally, one_more}
+use Rattle.bpf_text.specs.Reading.{ReadsByte}
+use Rattle.bpfdb.specs.Script.{lines}
+use Rattle.bpfdb.specs.Scripts.{Buffer, Holds, CutsLine, ReadsLine}
+use Rattle.bpfdb.proofs.Lines.{HasNoLineFeed, HasNoLineFeed-empty, HasNoLineFeed-push, lines-empty, lines-last, lines-first}
+
+-- what a consumed byte leaves
+consumed : (old new : Option (List ℕ)) (byte : ℕ) (rest : List ℕ) → old ≡ Some rest → Consumes old new (byte ∷ []) → (left : List ℕ) × (new ≡ Some left) × (rest ≡ byte ∷ left)
+consumed None new byte rest e h = absurd cc
+consumed (Some xs) None byte rest e h = absurd h
+consumed (Some xs) (Some ys) byte rest e h = let s : xs ≡ rest = cc in (ys, refl, sym s ∙ h)
+
+-- nothing is left at the end
+ended : (left : Option (List ℕ)) (rest : List ℕ) → left ≡ Some rest → IsAtEnd left → rest ≡ []
+ended None rest e h = absurd cc
+ended (Some xs) rest e h = let s : xs ≡ rest = cc in sym s ∙ h
+
+kept-left : (old new : Option (List ℕ)) (rest : List ℕ) → old ≡ Some rest → Keeps old new → new ≡ Some rest
+kept-left None new rest e k = absurd cc
+kept-left (Some xs) None rest e k = absurd k
+kept-left (Some xs) (Some ys) rest e k = ap Some k ∙ e
+
+module _ {R : Type 0} (remaining : R → Option (List ℕ)) where
+  -- the bytes that came so far: no line feed among them, in the buffer, and in front of what is left
+  pub record Reading (old now : Tally R) (buffer : Buffer) : Type 0 where
+    pub same : now.failures ≡ old.failures
+    pub nearer : old.reads ≤ now.reads
+    pub front : List ℕ
+    pub none : HasNoLineFeed front
+    pub held : Holds buffer front
+    pub came : (text : List ℕ) → remaining old.inner ≡ Some text → (rest : List ℕ) × (remaining now.inner ≡ Some rest) × (text ≡ front ++ rest)
+
+  pub Reading-start : (old : Tally R) (buffer : Buffer) → Holds buffer [] → Reading old old buffer
+  Reading-start old buffer h = record {
+    same = refl;
+    nearer = omega arith;
+    front = [];
+    none = HasNoLineFeed-empty;
+    held = h;
+    came = λ text e. (text, e, refl);
+  }
+
+  -- one more byte
+  pub Reading-more : {E : Type 0} (old now new : Tally R) (before after : Buffer) (byte : ℕ) → Reading old now before → ReadsByte {E = E} remaining now new (Ok (Some byte)) → byte ≢ 10 → ((line : List ℕ) → Holds before line → Holds after (line ++ byte ∷ [])) → Reading old new after
+  Reading-more old now new before after byte i r other push = let p = r.passed in let j = i.nearer in record {
+    same = r.same ∙ i.same;
+    nearer = omega arith;
+    front = i.front ++ byte ∷ [];
+    none = HasNoLineFeed-push i.front byte i.none other;
+    held = push i.front i.held;
+    came = λ text e.
+      let w = i.came text e in
+      let d = consumed _ _ byte w.0 w.1 r.value in
+      (d.0, d.1, w.2 ∙ ap (λ (xs : List ℕ). i.front ++ xs) d.2 ∙ sym (append_assoc i.front (byte ∷ []) d.0));
+  }
+
+  -- a line feed
+  pub Reading-line : {E : Type 0} (old now new : Tally R) (buffer : Buffer) (byte : ℕ) → Reading old now buffer → ReadsByte {E = E} remaining now new (Ok (Some byte)) → byte ≡ 10 → ReadsLine {E = E} remaining old new buffer (Ok true)
+  Reading-line old now new buffer byte i r lf = let p = r.passed in let j = i.nearer in record {
+    cut = λ text e.
+      let w = i.came text e in
+      let d = consumed _ _ byte w.0 w.1 r.value in
+      (d.0, d.1, (i.front, ap lines (w.2 ∙ ap (λ (xs : List ℕ). i.front ++ xs) (d.2 ∙ ap (λ (b : ℕ). b ∷ d.0) lf)) ∙ lines-first i.front d.0 i.none, i.held));
+    same = r.same ∙ i.same;
+    nearer = (omega arith, omega arith);
+    fault = tt;
+  }
+
+  -- a read that failed
+  pub Reading-fail : {E : Type 0} (old now new : Tally R) (buffer : Buffer) (fault : E) → Reading old now buffer → ReadsByte remaining now new (Err fault) → ReadsLine remaining old new buffer (Err fault)
+  Reading-fail old now new buffer fault i r = record { cut = tt; same = tt; nearer = tt; fault = r.fault ∙ ap one_more i.same }
+
+  -- the last line, or none
+  cut-last : (empty : Bool) (front : List ℕ) (buffer : Buffer) → HasNoLineFeed front → Holds buffer front → (IsTrue empty ↔ (front ≡ [])) → CutsLine (not empty) front [] buffer
+  cut-last true front buffer none held is = ap lines (is.0 refl) ∙ lines-empty
+  cut-last false [] buffer none held is = absurd (let t = is.1 refl in cc)
+  cut-last false (byte ∷ front) buffer none held is = (byte ∷ front, lines-last (byte ∷ front) none (omega arith), held)
+
+  pub Reading-end : {E : Type 0} (old now new : Tally R) (buffer : Buffer) (empty : Bool) → Reading old now buffer → ReadsByte {E = E} remaining now new (Ok None) → ((line : List ℕ) → Holds buffer line → (IsTrue empty ↔ (line ≡ []))) → ReadsLine {E = E} remaining old new buffer (Ok (not empty))
+  Reading-end old now new buffer empty i r is = let p = r.passed in let j = i.nearer in record {
+    cut = λ text e.
+      let w = i.came text e in
+      let none = ended _ w.0 w.1 r.value.0 in
+      let whole : text ≡ i.front = w.2 ∙ ap (λ (xs : List ℕ). i.front ++ xs) none ∙ append-nil i.front in
+      ([], kept-left _ _ w.0 w.1 r.value.1 ∙ ap Some none, subst (λ (xs : List ℕ). CutsLine (not empty) xs [] buffer) (sym whole) (cut-last empty i.front buffer i.none i.held (is i.front i.held)));
+    same = r.same ∙ i.same;
+    nearer = (omega arith, omega arith);
+    fault = tt;
+  }

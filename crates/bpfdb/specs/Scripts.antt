@@ -1,0 +1,66 @@
+-- What a session does with the lines of a script, as they come from a reader and go to a writer.
+use Rattle.std.specs.Prelude.{◌≡◌, ◌<◌, ◌≤◌, ◌-◌, ◌^◌, ℕ, Bool, true, false, List, [], ◌∷◌, ◌++◌, Option, Some, None, Result, IfOk, OnOk, OnErr, length}
+use Rattle.bpf_text.specs.Counted.{Tally, one_more}
+use Rattle.bpf_text.specs.Writing.{Writes}
+use Rattle.bpfdb.specs.Machine.{State}
+use Rattle.bpfdb.specs.History.{Record, Kept, StandsFor}
+use Rattle.bpfdb.specs.Outcomes.{last_refusal}
+use Rattle.bpfdb.specs.Sessions.{Standing, HasPast}
+use Rattle.bpfdb.specs.Script.{lines}
+use Rattle.bpfdb.specs.Commands.{command_of}
+use Rattle.bpfdb.specs.Output.{Point, Effect, effect, out, final}
+use Rattle.bpfdb.specs.declared.script.RunFault.{RunFault}
+use Rattle.bpfdb.specs.declared.script.RunFault.TheVariants.{Read, Write}
+
+-- A buffer for a line: its bytes, up to 1,024 of them, and whether there are more.
+pub record Buffer : Type 0 where
+  pub bytes : List ℕ
+  pub is_long : Bool
+
+-- The buffer holds the line, or the line is longer than the buffer.
+abbrev pub Holds : Buffer → List ℕ → Type 0
+Holds buffer line = elim buffer.is_long [ true ↦ 1024 < length line | false ↦ buffer.bytes ≡ line ]
+
+-- A line was cut off the front of a text, or the text has no line left.
+abbrev pub CutsLine : Bool → List ℕ → List ℕ → Buffer → Type 0
+CutsLine true text rest buffer = (line : List ℕ) × (lines text ≡ line ∷ lines rest) × Holds buffer line
+CutsLine false text rest buffer = lines text ≡ []
+
+-- The next line was read from what a reader had left; reads come closer to their last count; an error is one failure.
+pub record ReadsLine {R E : Type 0} (remaining : R → Option (List ℕ)) (old new : Tally R) (buffer : Buffer) (result : Result Bool E) : Type 0 where
+  pub cut : IfOk result (λ more. (text : List ℕ) → remaining old.inner ≡ Some text → (rest : List ℕ) × (remaining new.inner ≡ Some rest) × CutsLine more text rest buffer)
+  pub same : OnOk result (new.failures ≡ old.failures)
+  pub nearer : OnOk result ((old.reads < new.reads) × (new.reads ≤ 2 ^ 64 - 1))
+  pub fault : OnErr result (new.failures ≡ one_more old.failures)
+
+-- The point at which a session with this history stands.
+abbrev pub point_of : {K : Type 0} → Standing K → List Record → Point
+point_of s h = record { history = h; state = s.timeline.0 }
+
+-- A session stands at a point.
+abbrev pub StandsAt : {K : Type 0} → (K → List Kept → Type 0) → Standing K → Point → Type 0
+StandsAt holds s p = (s.timeline.0 ≡ p.state) × StandsFor holds s.timeline.1 s.timeline.0 p.history
+
+-- What was written and left is the effect of a line, for some gap; there is none where the refusals didn't rise.
+pub record ObeysLine {K W E : Type 0} (holds : K → List Kept → Type 0) (refusals : K → ℕ) (contents : W → Option (List ℕ))
+    (old new : Standing K) (before after : Tally W) (h : List Record) (line : List ℕ) (result : Result Bool E) : Type 0 where
+  pub gap : Option ℕ
+  pub whole : refusals old.timeline.1 < last_refusal → refusals new.timeline.1 ≡ refusals old.timeline.1 → gap ≡ None
+  pub counted : refusals old.timeline.1 ≤ last_refusal → (refusals old.timeline.1 ≤ refusals new.timeline.1) × (refusals new.timeline.1 ≤ last_refusal)
+  pub goes_on : IfOk result (λ more. more ≡ (effect gap old.limit (command_of line) (point_of old h)).goes_on)
+  pub written : Writes contents before after result (effect gap old.limit (command_of line) (point_of old h)).text
+  pub stands : StandsAt holds new (effect gap old.limit (command_of line) (point_of old h)).point
+
+-- The bytes written are those that the script prints, and the session stands at its final point, for some gaps;
+-- there are none where the refusals didn't rise.
+pub record Prints {K : Type 0} (holds : K → List Kept → Type 0) (refusals : K → ℕ) (old new : Standing K) (h : List Record)
+    (script before : List ℕ) (after : Option (List ℕ)) : Type 0 where
+  pub gaps : List (Option ℕ)
+  pub whole : refusals old.timeline.1 < last_refusal → refusals new.timeline.1 ≡ refusals old.timeline.1 → gaps ≡ []
+  pub written : after ≡ Some (before ++ out gaps old.limit (lines script) (point_of old h))
+  pub stands : StandsAt holds new (final gaps old.limit (lines script) (point_of old h))
+
+-- Which failures a run's fault answers: each is counted once, at the end that failed.
+abbrev pub Fails : {R W : Type 0} → RunFault → Tally R → Tally R → Tally W → Tally W → Type 0
+Fails Read reader reader' writer writer' = (reader'.failures ≡ one_more reader.failures) × (writer'.failures ≡ writer.failures)
+Fails Write reader reader' writer writer' = (reader'.failures ≡ reader.failures) × (writer'.failures ≡ one_more writer.failures)
