@@ -1,11 +1,13 @@
 -- The texts of replies (bpfdb's own choice).
-use Rattle.std.specs.Prelude.{ℕ, zero, suc, ◌+◌, List, [], ◌∷◌, ◌++◌, Option, Some, None, Result, Ok, Err, decimal}
+use Rattle.std.specs.Prelude.{ℕ, zero, suc, ◌+◌, List, [], ◌∷◌, ◌++◌, Result, Ok, Err, decimal}
 use lib.Chars.{codes}
+use Rattle.std.specs.Option.{option_map_or}
 use Rattle.bpf_isa.specs.Programs.{insn_at}
 use Rattle.bpf_text.specs.Writing.{hexadecimal}
 use Rattle.bpfdb.specs.Stub.{text_of_insn}
 use Rattle.bpfdb.specs.Machine.{State, number_in}
 use Rattle.bpfdb.specs.Refusals.{refusal_text}
+use Rattle.bpfdb.specs.declared.machine.Status.{Status}
 use Rattle.bpfdb.specs.declared.machine.Status.TheVariants.{Running, Exited}
 use Rattle.bpfdb.specs.declared.reply.Why.{Why}
 use Rattle.bpfdb.specs.declared.reply.Why.TheVariants.{End, Done, Limit, Memory, Start}
@@ -21,20 +23,29 @@ text_of_why Limit = codes "limit"
 text_of_why Memory = codes "memory"
 text_of_why Start = codes "start"
 
--- where the machine stands: the instruction to run, or what an exited program answers
-unfoldable pub place : State → List ℕ
-place x = elim x.status [
-    Running ↦ codes "at " ++ decimal x.pc ++ codes ": " ++ elim (insn_at x.program x.pc) [ None ↦ [] | Some i ↦ text_of_insn x.pc i ]
-  | Exited ↦ codes "exited at " ++ decimal x.pc ++ codes ": r0 " ++ hexadecimal (number_in x 0)
-  ]
+-- the instruction to run
+abbrev pub text_at : State → List ℕ
+text_at x = option_map_or (λ i. text_of_insn x.pc i) (insn_at x.program x.pc) []
 
--- the registers from r on, n of them, a blank in front of each but r0
-abbrev pub registers_from : State → ℕ → ℕ → List ℕ
+-- where a machine stands: the instruction to run, or what an exited program answers
+abbrev pub place_in : Status → State → List ℕ
+place_in Running x = codes "at " ++ decimal x.pc ++ codes ": " ++ text_at x
+place_in Exited x = codes "exited at " ++ decimal x.pc ++ codes ": r0 " ++ hexadecimal (number_in x 0)
+
+unfoldable pub place : State → List ℕ
+place x = place_in x.status x
+
+-- a register's name and number, with a blank in front
+unfoldable pub text_of_register : State → ℕ → List ℕ
+text_of_register x r = codes " r" ++ decimal r ++ codes "=" ++ hexadecimal (number_in x r)
+
+-- the registers from r on, n of them
+unfoldable pub registers_from : State → ℕ → ℕ → List ℕ
 registers_from x r zero = []
-registers_from x r (suc n) = codes " r" ++ decimal r ++ codes "=" ++ hexadecimal (number_in x r) ++ registers_from x (r + 1) n
+registers_from x r (suc n) = text_of_register x r ++ registers_from x (r + 1) n
 
 -- r0 to r10 on one line
-abbrev pub text_of_registers : State → List ℕ
+unfoldable pub text_of_registers : State → List ℕ
 text_of_registers x = codes "r0=" ++ hexadecimal (number_in x 0) ++ registers_from x 1 10
 
 -- how far a command went, why it stopped, and where

@@ -139,14 +139,14 @@ impl Cpu {
         if let Status::Exited = self.status {
             return Err(Ended);
         }
-        let insn = self.fetch();
+        let insn = self.insn();
         let entry = self.replaced(&insn);
         self.execute(&insn);
         Ok(entry)
     }
 
     /// The instruction at pc.
-    fn fetch(&self) -> Insn
+    pub fn insn(&self) -> Insn
         ensures { insn_at self.now.program self.now.pc ≡ Some result }
     {
         match self.program.insn_at(self.pc) {
