@@ -1,8 +1,10 @@
 -- Texts that were written in pieces, one after another.
-use Rattle.std.proofs.Common.{◌≡◌, ◌+◌, ◌-◌, ◌<◌, ℕ, zero, suc, List, [], ◌∷◌, ◌++◌, Option, Result, refl, sym, ap, subst, ◌∙◌, append_assoc, arith}
+use Rattle.std.proofs.Common.{◌≡◌, ◌+◌, ◌-◌, ◌<◌, ℕ, zero, suc, List, [], ◌∷◌, ◌++◌, Option, Some, None, Result, Ok, Err, refl, sym, ap, subst, ◌∙◌, append_assoc, arith}
 use Rattle.std.proofs.lemmas.List.{append-nil}
-use Rattle.bpf_text.specs.Counted.{Tally}
-use Rattle.bpf_text.specs.Writing.{Writes, WritesAfter}
+use Rattle.std.specs.Io.KnownBytes.{Appends, Keeps}
+use Rattle.bpf_text.specs.Counted.{Tally, one_more}
+use Rattle.bpf_text.specs.Writing.{Writes, WritesAfter, AppendsBeginning}
+use Rattle.bpf_text.proofs.Appending.{Appends-Keeps}
 use Rattle.bpfdb.specs.Machine.{State}
 use Rattle.bpfdb.specs.Replies.{text_of_register, registers_from, text_of_registers}
 
@@ -51,3 +53,39 @@ module _ {W A E : Type 0} (contents : W → Option (List ℕ)) (old : Tally W) (
   Telling-end now after t = λ first front known.
     let whole : t.told ≡ text_of_registers x = sym (append-nil t.told) ∙ ap (λ (xs : List ℕ). t.told ++ xs) (sym (registers-last x 11)) ∙ t.rest in
     subst (λ (xs : List ℕ). Writes contents first now after (front ++ xs)) whole (t.written first front known)
+
+-- nothing appended
+Appends-none : (known : Option (List ℕ)) → Appends known known []
+Appends-none None = tt
+Appends-none (Some xs) = sym (append-nil xs)
+
+module _ {W : Type 0} (contents : W → Option (List ℕ)) (old : Tally W) where
+  -- nothing written
+  pub Writes-none : {A E : Type 0} (value : A) → Writes {E = E} contents old old (Ok value) []
+  Writes-none value = record { ok = Appends-none (contents old.inner); same = refl; err = tt; fault = tt }
+
+  -- written after nothing
+  pub Writes-from : {A E : Type 0} (value : A) (new : Tally W) (result : Result A E) (text : List ℕ) → WritesAfter contents old (Ok value) new result text → Writes contents old new result text
+  Writes-from value new result text h = h old [] (Writes-none value)
+
+  -- what was written before a failure, whatever is answered else
+  pub Writes-fault : {A B E : Type 0} (new : Tally W) (fault : E) (text : List ℕ) → Writes {A = A} contents old new (Err fault) text → Writes {A = B} contents old new (Err fault) text
+  Writes-fault new fault text w = record { ok = tt; same = tt; err = w.err; fault = w.fault }
+
+  -- a flush that went well
+  pub Writes-flushed : {A B E : Type 0} (middle new : Tally W) (value : A) (other : B) (text : List ℕ) → Writes {E = E} contents old middle (Ok value) text → Keeps (contents middle.inner) (contents new.inner) → new.failures ≡ middle.failures → Writes {E = E} contents old new (Ok other) text
+  Writes-flushed middle new value other text w keeps same = record {
+    ok = Appends-Keeps _ _ _ text w.ok keeps;
+    same = same ∙ w.same;
+    err = tt;
+    fault = tt;
+  }
+
+  -- a flush that failed, after the whole text
+  pub Writes-unflushed : {A B E : Type 0} (middle new : Tally W) (value : A) (fault : E) (text : List ℕ) → Writes {E = E} contents old middle (Ok value) text → Keeps (contents middle.inner) (contents new.inner) → new.failures ≡ one_more middle.failures → Writes {A = B} contents old new (Err fault) text
+  Writes-unflushed middle new value fault text w keeps more = record {
+    ok = tt;
+    same = tt;
+    err = (text, [], sym (append-nil text), Appends-Keeps _ _ _ text w.ok keeps);
+    fault = more ∙ ap one_more w.same;
+  }

@@ -25,12 +25,18 @@ pub record Effect : Type 0 where
 abbrev pub effect_of : Outcome → Effect
 effect_of o = record { text = text_of_answer o.answer o.state; point = record { history = o.history; state = o.state }; goes_on = true }
 
+-- Whether a command ends the session.
+abbrev pub is_quit : Command → Bool
+is_quit Quit = true
+is_quit _ = false
+
 -- The effect of what a line says: no word does nothing, a refusal is printed, `quit` ends the session without a reply.
 abbrev pub effect : Option ℕ → ℕ → Answer → Point → Effect
 effect gap limit (Ok None) p = record { text = []; point = p; goes_on = true }
 effect gap limit (Err refusal) p = record { text = refusal_text refusal; point = p; goes_on = true }
-effect gap limit (Ok (Some Quit)) p = record { text = []; point = p; goes_on = false }
-effect gap limit (Ok (Some command)) p = effect_of (does gap limit command p.history p.state)
+effect gap limit (Ok (Some command)) p =
+    if is_quit command then record { text = []; point = p; goes_on = false }
+    else effect_of (does gap limit command p.history p.state)
 
 -- The gaps of a session, one a line (None from the end of the list on): what `does` says of a command's refused step.
 abbrev pub first_gap : List (Option ℕ) → Option ℕ

@@ -1,5 +1,5 @@
 -- What a session does with the lines of a script, as they come from a reader and go to a writer.
-use Rattle.std.specs.Prelude.{◌≡◌, ◌<◌, ◌≤◌, ◌-◌, ◌^◌, ℕ, Bool, true, false, List, [], ◌∷◌, ◌++◌, Option, Some, None, Result, IfOk, OnOk, OnErr, length}
+use Rattle.std.specs.Prelude.{◌≡◌, ◌<◌, ◌≤◌, ◌-◌, ◌^◌, ℕ, Bool, true, false, List, [], ◌∷◌, ◌++◌, Option, Some, None, Result, Ok, Err, IfOk, OnOk, OnErr, length}
 use Rattle.bpf_text.specs.Counted.{Tally, one_more}
 use Rattle.bpf_text.specs.Writing.{Writes}
 use Rattle.bpfdb.specs.Machine.{State}
@@ -50,6 +50,11 @@ pub record ObeysLine {K W E : Type 0} (holds : K → List Kept → Type 0) (refu
   pub goes_on : IfOk result (λ more. more ≡ (effect gap old.limit (command_of line) (point_of old h)).goes_on)
   pub written : Writes contents before after result (effect gap old.limit (command_of line) (point_of old h)).text
   pub stands : StandsAt holds new (effect gap old.limit (command_of line) (point_of old h)).point
+
+-- A writer's failures: one more where the result is a fault, and else as many as before.
+abbrev pub FailsOnce : {W A E : Type 0} → Result A E → Tally W → Tally W → Type 0
+FailsOnce (Ok value) old new = new.failures ≡ old.failures
+FailsOnce (Err fault) old new = new.failures ≡ one_more old.failures
 
 -- The bytes written are those that the script prints, and the session stands at its final point, for some gaps;
 -- there are none where the refusals didn't rise.

@@ -1,8 +1,10 @@
 //! Sessions: commands over a machine and the keeper of its moves.
 ghost use Rattle.std.specs.Prelude.{◌≡◌, ◌≤◌, List};
+ghost use Rattle.bpf_text.specs.Writing.{Writes};
 ghost use Rattle.bpfdb.specs.History.{HasHistory, Record};
 ghost use Rattle.bpfdb.specs.Meaning.{does};
 ghost use Rattle.bpfdb.specs.Outcomes.{Obeys};
+ghost use Rattle.bpfdb.specs.Replies.{text_of_reply};
 ghost use Rattle.bpfdb.specs.Sessions.{HasPast};
 
 use crate::backward::go_back;
@@ -11,8 +13,10 @@ use crate::forward::go_forward;
 use crate::history::Keeper;
 use crate::machine::Cpu;
 use crate::refusal::Refusal;
-use crate::reply::Reply;
+use crate::reply::{Reply, put_reply};
 use crate::timeline::Timeline;
+use bpf_text::{Counted, WriteFault};
+use std::io::Write;
 use std::marker::Model;
 
 /// The most steps that the limit of a command may be.
@@ -84,5 +88,16 @@ impl<K: Keeper> Session<K> {
             Command::InfoRegisters => Ok(Reply::Registers),
             Command::Quit => Ok(Reply::Nothing),
         }
+    }
+
+    /// Writes the lines of a reply to the command that was obeyed last.
+    pub fn write_reply<W: Write>(
+        &self,
+        reply: &Reply,
+        writer: &mut Counted<W>,
+    ) -> Result<(), WriteFault>
+        ensures { Writes W.contents writer.old writer.new result (text_of_reply reply.now self.now.timeline.0) }
+    {
+        put_reply(writer, Ok(()), reply, self.cpu())
     }
 }

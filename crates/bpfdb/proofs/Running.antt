@@ -1,0 +1,244 @@
+-- A run's loop: what was printed so far and what the rest prints make up what the script prints.
+use Rattle.std.proofs.Common.{◌≡◌, ◌<◌, ◌≤◌, ◌+◌, ◌-◌, ◌^◌, ℕ, Bool, true, false, List, [], ◌∷◌, ◌++◌, Option, Some, None, Result, Ok, Err, refl, sym, ap, subst, ◌∙◌, arith, append_assoc}
+use Rattle.std.proofs.lemmas.List.{append-nil}
+use Rattle.std.specs.Io.KnownBytes.{Appends}
+use Rattle.std.specs.Prelude.{if◌then◌else◌, nat_lt, ◌==◌, ◌⊎◌}
+use Rattle.std.proofs.Common.{inl, inr}
+use Rattle.std.proofs.lemmas.Bool.Decides.{nat_tests}
+use Rattle.bpf_text.specs.Counted.{Tally, one_more}
+use Rattle.bpf_text.specs.Writing.{Writes}
+use Rattle.bpfdb.specs.Machine.{State}
+use Rattle.bpfdb.specs.History.{Record, Kept, StandsFor}
+use Rattle.bpfdb.specs.Outcomes.{last_refusal}
+use Rattle.bpfdb.specs.Sessions.{Standing, HasPast}
+use Rattle.bpfdb.specs.Script.{lines}
+use Rattle.bpfdb.specs.Commands.{command_of}
+use Rattle.bpfdb.specs.Output.{Point, Effect, effect, first_gap, later_gaps, out, final}
+use Rattle.bpfdb.specs.Scripts.{Buffer, Holds, CutsLine, ReadsLine, point_of, StandsAt, ObeysLine, Prints}
+
+-- what a writer holds after a text
+appended : (before after : Option (List ℕ)) (xs ys : List ℕ) → before ≡ Some xs → Appends before after ys → after ≡ Some (xs ++ ys)
+appended None after xs ys e h = absurd cc
+appended (Some zs) None xs ys e h = absurd h
+appended (Some zs) (Some ws) xs ys e h = let s : zs ≡ xs = cc in ap Some (h ∙ ap (λ (v : List ℕ). v ++ ys) s)
+
+-- a line after which the session goes on
+out-line : (gap : Option ℕ) (later : List (Option ℕ)) (limit : ℕ) (line : List ℕ) (more : List (List ℕ)) (p : Point) (e : Effect) → effect gap limit (command_of line) p ≡ e → e.goes_on ≡ true → out (gap ∷ later) limit (line ∷ more) p ≡ e.text ++ out later limit more e.point
+out-line gap later limit line more p e is on = rw (is, on) refl
+
+final-line : (gap : Option ℕ) (later : List (Option ℕ)) (limit : ℕ) (line : List ℕ) (more : List (List ℕ)) (p : Point) (e : Effect) → effect gap limit (command_of line) p ≡ e → e.goes_on ≡ true → final (gap ∷ later) limit (line ∷ more) p ≡ final later limit more e.point
+final-line gap later limit line more p e is on = rw (is, on) refl
+
+-- the same without a gap from here on
+out-none : (limit : ℕ) (line : List ℕ) (more : List (List ℕ)) (p : Point) (e : Effect) → effect None limit (command_of line) p ≡ e → e.goes_on ≡ true → out [] limit (line ∷ more) p ≡ e.text ++ out [] limit more e.point
+out-none limit line more p e is on = rw (is, on) refl
+
+final-none : (limit : ℕ) (line : List ℕ) (more : List (List ℕ)) (p : Point) (e : Effect) → effect None limit (command_of line) p ≡ e → e.goes_on ≡ true → final [] limit (line ∷ more) p ≡ final [] limit more e.point
+final-none limit line more p e is on = rw (is, on) refl
+
+-- a line that ends the session
+out-stop : (gap : Option ℕ) (later : List (Option ℕ)) (limit : ℕ) (line : List ℕ) (more : List (List ℕ)) (p : Point) (e : Effect) → effect gap limit (command_of line) p ≡ e → e.goes_on ≡ false → out (gap ∷ later) limit (line ∷ more) p ≡ e.text
+out-stop gap later limit line more p e is off = rw (is, off) refl
+
+final-stop : (gap : Option ℕ) (later : List (Option ℕ)) (limit : ℕ) (line : List ℕ) (more : List (List ℕ)) (p : Point) (e : Effect) → effect gap limit (command_of line) p ≡ e → e.goes_on ≡ false → final (gap ∷ later) limit (line ∷ more) p ≡ e.point
+final-stop gap later limit line more p e is off = rw (is, off) refl
+
+out-stop-none : (limit : ℕ) (line : List ℕ) (more : List (List ℕ)) (p : Point) (e : Effect) → effect None limit (command_of line) p ≡ e → e.goes_on ≡ false → out [] limit (line ∷ more) p ≡ e.text
+out-stop-none limit line more p e is off = rw (is, off) refl
+
+final-stop-none : (limit : ℕ) (line : List ℕ) (more : List (List ℕ)) (p : Point) (e : Effect) → effect None limit (command_of line) p ≡ e → e.goes_on ≡ false → final [] limit (line ∷ more) p ≡ e.point
+final-stop-none limit line more p e is off = rw (is, off) refl
+
+-- whether no push was refused is a test
+refused-or-not : (m n : ℕ) → ((m < last_refusal) × (n ≡ m)) ⊎ (m < last_refusal → n ≡ m → ⊥)
+refused-or-not m n = elim-on (nat_lt m last_refusal) (n == m) refl refl
+  where
+  elim-on : (low same : Bool) → nat_lt m last_refusal ≡ low → (n == m) ≡ same → ((m < last_refusal) × (n ≡ m)) ⊎ (m < last_refusal → n ≡ m → ⊥)
+  elim-on true true l s = inl (grind (arith, nat_tests), grind (arith, nat_tests))
+  elim-on false same l s = inr (λ a b. absurd (grind (arith, nat_tests)))
+  elim-on low false l s = inr (λ a b. absurd (grind (arith, nat_tests)))
+
+module _ {K R W : Type 0} (holds : K → List Kept → Type 0) (refusals : K → ℕ) (remaining : R → Option (List ℕ)) (contents : W → Option (List ℕ)) where
+  -- the lines behind us: their gaps, what they printed, the point after them, and the bytes that are left
+  pub record Behind (old now : Standing K) (writer : Tally W) (reader : Tally R) (h : List Record) (script told : List ℕ) : Type 0 where
+    pub gaps : List (Option ℕ)
+    pub printed : List ℕ
+    pub point : Point
+    pub rest : List ℕ
+    pub left : remaining reader.inner ≡ Some rest
+    pub written : contents writer.inner ≡ Some (told ++ printed)
+    pub stands : StandsAt holds now point
+    pub out_is : (later : List (Option ℕ)) → out (gaps ++ later) old.limit (lines script) (point_of old h) ≡ printed ++ out later old.limit (lines rest) point
+    pub final_is : (later : List (Option ℕ)) → final (gaps ++ later) old.limit (lines script) (point_of old h) ≡ final later old.limit (lines rest) point
+    pub counted : refusals old.timeline.1 ≤ last_refusal → (refusals old.timeline.1 ≤ refusals now.timeline.1) × (refusals now.timeline.1 ≤ last_refusal)
+    pub out_whole : refusals old.timeline.1 < last_refusal → refusals now.timeline.1 ≡ refusals old.timeline.1 → out [] old.limit (lines script) (point_of old h) ≡ printed ++ out [] old.limit (lines rest) point
+    pub final_whole : refusals old.timeline.1 < last_refusal → refusals now.timeline.1 ≡ refusals old.timeline.1 → final [] old.limit (lines script) (point_of old h) ≡ final [] old.limit (lines rest) point
+
+  -- what holds in front of each line
+  pub record Running (old now : Standing K) (reader0 reader : Tally R) (writer0 writer : Tally W) : Type 0 where
+    pub read : reader.failures ≡ reader0.failures
+    pub wrote : writer.failures ≡ writer0.failures
+    pub limit : now.limit ≡ old.limit
+    pub behind : (h : List Record) (script told : List ℕ) → HasPast holds old h → remaining reader0.inner ≡ Some script → contents writer0.inner ≡ Some told → Behind old now writer reader h script told
+
+  -- before the first line
+  pub Running-start : (old : Standing K) (reader : Tally R) (writer : Tally W) → Running old old reader reader writer writer
+  Running-start old reader writer = record {
+    read = refl;
+    wrote = refl;
+    limit = refl;
+    behind = λ h script told past left held. record {
+      gaps = [];
+      printed = [];
+      point = point_of old h;
+      rest = script;
+      left = left;
+      written = held ∙ ap (λ (v : List ℕ). Some v) (sym (append-nil told));
+      stands = (refl, past);
+      out_is = λ later. refl;
+      final_is = λ later. refl;
+      counted = λ b. (omega arith, b);
+      out_whole = λ a b. refl;
+      final_whole = λ a b. refl;
+    };
+  }
+
+  module _ (old now new : Standing K) (reader0 reader reader' : Tally R) (writer0 writer writer' : Tally W) (buffer : Buffer) where
+    -- what a line did, seen from the point in front of it
+    record Turn (b : Point) (rest told : List ℕ) (more : Bool) : Type 0 where
+      pub gap : Option ℕ
+      pub line : List ℕ
+      pub ahead : List ℕ
+      pub e : Effect
+      pub is : effect gap old.limit (command_of line) b ≡ e
+      pub on : more ≡ e.goes_on
+      pub cut : lines rest ≡ line ∷ lines ahead
+      pub left : remaining reader'.inner ≡ Some ahead
+      pub written : contents writer'.inner ≡ Some (told ++ e.text)
+      pub stands : StandsAt holds new e.point
+      pub whole : refusals now.timeline.1 < last_refusal → refusals new.timeline.1 ≡ refusals now.timeline.1 → gap ≡ None
+      pub counted : refusals now.timeline.1 ≤ last_refusal → (refusals now.timeline.1 ≤ refusals new.timeline.1) × (refusals new.timeline.1 ≤ last_refusal)
+
+    turn-of : {E F : Type 0} (b : Point) (rest told : List ℕ) (more : Bool) → StandsAt holds now b → remaining reader.inner ≡ Some rest → contents writer.inner ≡ Some told → now.limit ≡ old.limit → ReadsLine {E = E} remaining reader reader' buffer (Ok true) → ((h : List Record) (text : List ℕ) → HasPast holds now h → Holds buffer text → ObeysLine {E = F} holds refusals contents now new writer writer' h text (Ok more)) → Turn b rest told more
+    turn-of b rest told more st left held limit r obey =
+        let k = r.cut rest left in
+        let c = k.2 in
+        let o = obey b.history c.0 st.1 c.2 in
+        let here : point_of now b.history ≡ b = ap (λ (x : State). record { history = b.history; state = x }) st.0 in
+        let e = effect o.gap now.limit (command_of c.0) (point_of now b.history) in
+        let is : effect o.gap old.limit (command_of c.0) b ≡ e = sym (ap (λ (l : ℕ). effect o.gap l (command_of c.0) (point_of now b.history)) limit ∙ ap (effect o.gap old.limit (command_of c.0)) here) in
+        record {
+          gap = o.gap;
+          line = c.0;
+          ahead = k.0;
+          e = e;
+          is = is;
+          on = o.goes_on;
+          cut = c.1;
+          left = k.1;
+          written = appended _ _ told e.text held o.written.ok;
+          stands = o.stands;
+          whole = o.whole;
+          counted = o.counted;
+        }
+
+    -- no push was refused up to here, where none was up to after the line
+    quiet-before : (old.timeline.1 ≡ old.timeline.1) → refusals old.timeline.1 < last_refusal → refusals new.timeline.1 ≡ refusals old.timeline.1 → (refusals old.timeline.1 ≤ last_refusal → (refusals old.timeline.1 ≤ refusals now.timeline.1) × (refusals now.timeline.1 ≤ last_refusal)) → (refusals now.timeline.1 ≤ last_refusal → (refusals now.timeline.1 ≤ refusals new.timeline.1) × (refusals new.timeline.1 ≤ last_refusal)) → refusals now.timeline.1 ≡ refusals old.timeline.1
+    quiet-before _ low same c d =
+        let x : refusals old.timeline.1 ≤ last_refusal = omega arith in
+        let y = c x in
+        let z = d y.1 in
+        omega arith
+
+    -- a line without a gap where no push was refused
+    none-is : (b : Point) (rest told : List ℕ) (more : Bool) (t : Turn b rest told more) → refusals now.timeline.1 < last_refusal → refusals new.timeline.1 ≡ refusals now.timeline.1 → effect None old.limit (command_of t.line) b ≡ t.e
+    none-is b rest told more t low same = ap (λ (g : Option ℕ). effect g old.limit (command_of t.line) b) (sym (t.whole low same)) ∙ t.is
+
+    -- one more line, after which the session goes on
+    Behind-step : (h : List Record) (script told : List ℕ) (b : Behind old now writer reader h script told) → Turn b.point b.rest (told ++ b.printed) true → Behind old new writer' reader' h script told
+    Behind-step h script told b t = record {
+      gaps = b.gaps ++ t.gap ∷ [];
+      printed = b.printed ++ t.e.text;
+      point = t.e.point;
+      rest = t.ahead;
+      left = t.left;
+      written = t.written ∙ ap (λ (v : List ℕ). Some v) (append_assoc told b.printed t.e.text);
+      stands = t.stands;
+      out_is = λ later.
+        ap (λ (g : List (Option ℕ)). out g old.limit (lines script) (point_of old h)) (append_assoc b.gaps (t.gap ∷ []) later)
+        ∙ b.out_is (t.gap ∷ later)
+        ∙ ap (λ (v : List ℕ). b.printed ++ v) (ap (λ (ls : List (List ℕ)). out (t.gap ∷ later) old.limit ls b.point) t.cut ∙ out-line t.gap later old.limit t.line (lines t.ahead) b.point t.e t.is (sym t.on))
+        ∙ sym (append_assoc b.printed t.e.text _);
+      final_is = λ later.
+        ap (λ (g : List (Option ℕ)). final g old.limit (lines script) (point_of old h)) (append_assoc b.gaps (t.gap ∷ []) later)
+        ∙ b.final_is (t.gap ∷ later)
+        ∙ ap (λ (ls : List (List ℕ)). final (t.gap ∷ later) old.limit ls b.point) t.cut ∙ final-line t.gap later old.limit t.line (lines t.ahead) b.point t.e t.is (sym t.on);
+      counted = λ low. let y = b.counted low in let z = t.counted y.1 in (omega arith, z.1);
+      out_whole = λ low same.
+        let q = quiet-before refl low same b.counted t.counted in
+        let n = none-is b.point b.rest (told ++ b.printed) true t (omega arith) (same ∙ sym q) in
+        b.out_whole low q
+        ∙ ap (λ (v : List ℕ). b.printed ++ v) (ap (λ (ls : List (List ℕ)). out [] old.limit ls b.point) t.cut ∙ out-none old.limit t.line (lines t.ahead) b.point t.e n (sym t.on))
+        ∙ sym (append_assoc b.printed t.e.text _);
+      final_whole = λ low same.
+        let q = quiet-before refl low same b.counted t.counted in
+        let n = none-is b.point b.rest (told ++ b.printed) true t (omega arith) (same ∙ sym q) in
+        b.final_whole low q
+        ∙ ap (λ (ls : List (List ℕ)). final [] old.limit ls b.point) t.cut ∙ final-none old.limit t.line (lines t.ahead) b.point t.e n (sym t.on);
+    }
+
+    pub Running-step : {E F : Type 0} → Running old now reader0 reader writer0 writer → ReadsLine {E = E} remaining reader reader' buffer (Ok true) → ((h : List Record) (text : List ℕ) → HasPast holds now h → Holds buffer text → ObeysLine {E = F} holds refusals contents now new writer writer' h text (Ok true)) → writer'.failures ≡ writer.failures → new.limit ≡ now.limit → Running old new reader0 reader' writer0 writer'
+    Running-step i r obey wrote limit = record {
+      read = r.same ∙ i.read;
+      wrote = wrote ∙ i.wrote;
+      limit = limit ∙ i.limit;
+      behind = λ h script told past left held.
+        let b = i.behind h script told past left held in
+        Behind-step h script told b (turn-of b.point b.rest (told ++ b.printed) true b.stands b.left b.written i.limit r obey);
+    }
+
+  -- what is printed in all, for some gaps, and for none where no push was refused
+  prints-as : (old new : Standing K) (h : List Record) (script told total : List ℕ) (after : Option (List ℕ)) (p : Point) (gaps : List (Option ℕ)) → after ≡ Some (told ++ total) → StandsAt holds new p → out gaps old.limit (lines script) (point_of old h) ≡ total → final gaps old.limit (lines script) (point_of old h) ≡ p → (refusals old.timeline.1 < last_refusal → refusals new.timeline.1 ≡ refusals old.timeline.1 → (out [] old.limit (lines script) (point_of old h) ≡ total) × (final [] old.limit (lines script) (point_of old h) ≡ p)) → Prints holds refusals old new h script told after
+  prints-as old new h script told total after p gaps held st o f whole =
+      elim (refused-or-not (refusals old.timeline.1) (refusals new.timeline.1)) [
+        inl q ↦
+          let w = whole q.0 q.1 in
+          record {
+            gaps = [];
+            whole = λ a b. refl;
+            written = held ∙ ap (λ (v : List ℕ). Some (told ++ v)) (sym w.0);
+            stands = subst (StandsAt holds new) (sym w.1) st;
+          }
+      | inr q ↦
+          record {
+            gaps = gaps;
+            whole = λ a b. absurd (q a b);
+            written = held ∙ ap (λ (v : List ℕ). Some (told ++ v)) (sym o);
+            stands = subst (StandsAt holds new) (sym f) st;
+          }
+      ]
+
+  -- no line is left
+  pub Running-end : {E : Type 0} (old now : Standing K) (reader0 reader reader' : Tally R) (writer0 writer : Tally W) (buffer : Buffer) → Running old now reader0 reader writer0 writer → ReadsLine {E = E} remaining reader reader' buffer (Ok false) → (h : List Record) (script told : List ℕ) → HasPast holds old h → remaining reader0.inner ≡ Some script → contents writer0.inner ≡ Some told → Prints holds refusals old now h script told (contents writer.inner)
+  Running-end old now reader0 reader reader' writer0 writer buffer i r h script told past left held =
+      let b = i.behind h script told past left held in
+      let none : lines b.rest ≡ [] = (r.cut b.rest b.left).2 in
+      let o : (later : List (Option ℕ)) → b.printed ++ out later old.limit (lines b.rest) b.point ≡ b.printed = λ later. ap (λ (ls : List (List ℕ)). b.printed ++ out later old.limit ls b.point) none ∙ append-nil b.printed in
+      let f : (later : List (Option ℕ)) → final later old.limit (lines b.rest) b.point ≡ b.point = λ later. ap (λ (ls : List (List ℕ)). final later old.limit ls b.point) none in
+      prints-as old now h script told b.printed _ b.point (b.gaps ++ []) b.written b.stands (b.out_is [] ∙ o []) (b.final_is [] ∙ f []) (λ low same. (b.out_whole low same ∙ o [], b.final_whole low same ∙ f []))
+
+  -- a line that ends the session
+  pub Running-quit : {E F : Type 0} (old now new : Standing K) (reader0 reader reader' : Tally R) (writer0 writer writer' : Tally W) (buffer : Buffer) → Running old now reader0 reader writer0 writer → ReadsLine {E = E} remaining reader reader' buffer (Ok true) → ((h : List Record) (text : List ℕ) → HasPast holds now h → Holds buffer text → ObeysLine {E = F} holds refusals contents now new writer writer' h text (Ok false)) → (h : List Record) (script told : List ℕ) → HasPast holds old h → remaining reader0.inner ≡ Some script → contents writer0.inner ≡ Some told → Prints holds refusals old new h script told (contents writer'.inner)
+  Running-quit old now new reader0 reader reader' writer0 writer writer' buffer i r obey h script told past left held =
+      let b = i.behind h script told past left held in
+      let t = turn-of old now new reader0 reader reader' writer0 writer writer' buffer b.point b.rest (told ++ b.printed) false b.stands b.left b.written i.limit r obey in
+      let total = b.printed ++ t.e.text in
+      let o : b.printed ++ out (t.gap ∷ []) old.limit (lines b.rest) b.point ≡ total = ap (λ (v : List ℕ). b.printed ++ v) (ap (λ (ls : List (List ℕ)). out (t.gap ∷ []) old.limit ls b.point) t.cut ∙ out-stop t.gap [] old.limit t.line (lines t.ahead) b.point t.e t.is (sym t.on)) in
+      let f : final (t.gap ∷ []) old.limit (lines b.rest) b.point ≡ t.e.point = ap (λ (ls : List (List ℕ)). final (t.gap ∷ []) old.limit ls b.point) t.cut ∙ final-stop t.gap [] old.limit t.line (lines t.ahead) b.point t.e t.is (sym t.on) in
+      prints-as old new h script told total _ t.e.point (b.gaps ++ t.gap ∷ []) (t.written ∙ ap (λ (v : List ℕ). Some v) (append_assoc told b.printed t.e.text)) t.stands (b.out_is (t.gap ∷ []) ∙ o) (b.final_is (t.gap ∷ []) ∙ f)
+        (λ low same.
+          let q = quiet-before old now new reader0 reader reader' writer0 writer writer' buffer refl low same b.counted t.counted in
+          let n = none-is old now new reader0 reader reader' writer0 writer writer' buffer b.point b.rest (told ++ b.printed) false t (omega arith) (same ∙ sym q) in
+          ( b.out_whole low q ∙ ap (λ (v : List ℕ). b.printed ++ v) (ap (λ (ls : List (List ℕ)). out [] old.limit ls b.point) t.cut ∙ out-stop-none old.limit t.line (lines t.ahead) b.point t.e n (sym t.on))
+          , b.final_whole low q ∙ ap (λ (ls : List (List ℕ)). final [] old.limit ls b.point) t.cut ∙ final-stop-none old.limit t.line (lines t.ahead) b.point t.e n (sym t.on)
+          ))

@@ -1,0 +1,24 @@
+use Rattle.std.proofs.Common.{◌≡◌, true, false, Ok, sym, ap, ◌∙◌}
+use Rattle.bpfdb.proofs.Running.{Running-start, Running-step, Running-end, Running-quit}
+use Rattle.bpfdb.proofs.script.run.Goals as goal
+
+pub loop-more-init : goal.loop-more-init
+loop-more-init g c = Running-start _ _ _ _ _ _ _
+
+pub returns-then-not-more-clause-value : goal.returns-then-not-more-clause-value
+returns-then-not-more-clause-value g c =
+    Running-end _ _ _ _ _ _ _ _ _ _ _ _ c.loop-more.invariant (rw (c.in-Ok.is ∙ ap Ok c.if-not-more.true) at c.next_line.ensures)
+
+pub returns-then-not-goes_on-clause-value : goal.returns-then-not-goes_on-clause-value
+returns-then-not-goes_on-clause-value g c =
+    Running-quit _ _ _ _ _ _ _ _ _ _ _ _ _ _ c.loop-more.invariant
+    (rw (c.in-Ok.is ∙ ap Ok c.if-not-more.false) at c.next_line.ensures)
+    (rw (c.in-Ok-obey.is ∙ ap Ok c.if-not-goes_on.true) at c.obey.ensures.value)
+
+pub loop-more-preserved : goal.loop-more-preserved
+loop-more-preserved g c =
+    Running-step _ _ _ _ _ _ _ _ _ _ _ _ _ _ c.loop-more.invariant
+    (rw (c.in-Ok.is ∙ ap Ok c.if-not-more.false) at c.next_line.ensures)
+    (rw (c.in-Ok-obey.is ∙ ap Ok c.if-not-goes_on.false) at c.obey.ensures.value)
+    c.in-Ok-obey.ensures.fault
+    c.obey.ensures.same
