@@ -5,6 +5,8 @@ mod counted;
 mod fault;
 mod hexadecimal;
 mod reading;
+#[cfg(test)]
+mod tests;
 mod writing;
 
 pub use counted::Counted;
