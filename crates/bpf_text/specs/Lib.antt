@@ -1,3 +1,4 @@
 pub mod Counted
+pub mod Mnemonics
 pub mod Reading
 pub mod Writing

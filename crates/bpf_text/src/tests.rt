@@ -55,11 +55,27 @@ fn writes_in_short_pieces(rt: HostRuntime) -> Result<(), Fail> {
         };
         let mut writer = Counted::new(&mut narrow);
         let result = write_text(&mut writer, b"abcde");
-        assert_eq!(rt; result.is_ok(), failures == 0, "{step} a write, {room} in all");
-        assert_eq!(rt; writer.failures(), failures, "{step} a write, {room} in all");
+        assert_eq!(rt;
+            result.is_ok(),
+            failures == 0,
+            "{step} a write, {room} in all"
+        );
+        assert_eq!(rt;
+            writer.failures(),
+            failures,
+            "{step} a write, {room} in all"
+        );
         assert!(rt; writer.flush().is_err());
-        assert_eq!(rt; writer.failures(), failures + 1, "{step} a write, {room} in all");
-        assert_eq!(rt; narrow.taken.as_slice(), taken.as_bytes(), "{step} a write, {room} in all");
+        assert_eq!(rt;
+            writer.failures(),
+            failures + 1,
+            "{step} a write, {room} in all"
+        );
+        assert_eq!(rt;
+            narrow.taken.as_slice(),
+            taken.as_bytes(),
+            "{step} a write, {room} in all"
+        );
     }
     Ok(())
 }
