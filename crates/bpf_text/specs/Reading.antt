@@ -6,7 +6,7 @@ use Rattle.bpf_text.specs.Counted.{Tally, one_more, last_count}
 -- a byte is the first of those that remain, none comes at their end; an error is one failure, and takes no byte
 pub record ReadsByte {T E : Type 0} (remaining : T → Option (List ℕ)) (old new : Tally T)
     (result : Result (Option ℕ) E) : Type 0 where
-  pub value : IfOk result (λ byte. MatchOption byte (IsAtEnd (remaining old.inner) × IsAtEnd (remaining new.inner))
+  pub value : IfOk result (λ byte. MatchOption byte (IsAtEnd (remaining old.inner) × Keeps (remaining old.inner) (remaining new.inner))
       (λ b. Consumes (remaining old.inner) (remaining new.inner) (b ∷ [])))
   pub same : OnOk result (new.failures ≡ old.failures)
   pub passed : OnOk result ((old.reads < last_count) × (new.reads ≡ old.reads + 1))
