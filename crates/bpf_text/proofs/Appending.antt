@@ -1,9 +1,9 @@
 -- Texts that are appended one after another.
-use Rattle.std.proofs.Common.{ℕ, ◌≡◌, ◌+◌, ◌-◌, length, List, [], ◌++◌, take, drop, Option, Some, None, Result, Ok, Err, sym, ap, ◌∙◌, append_assoc}
+use Rattle.std.proofs.Common.{ℕ, ◌≡◌, ◌+◌, ◌-◌, length, List, [], ◌++◌, take, drop, Option, Some, None, Result, Ok, Err, refl, sym, ap, ◌∙◌, append_assoc}
 use Rattle.std.proofs.Math.Seq.{take-add}
 use Rattle.std.proofs.lemmas.List.{take-append-drop, take_rest, append-nil}
 use Rattle.std.specs.Io.KnownBytes.{Appends, Keeps}
-use Rattle.bpf_text.specs.Writing.{AppendsBeginning, Writes}
+use Rattle.bpf_text.specs.Writing.{AppendsBeginning, Writes, WritesAfter}
 use Rattle.bpf_text.specs.Counted.{Tally, one_more}
 
 -- what is appended twice is appended
@@ -12,6 +12,11 @@ Appends-Appends None b c s t p q = tt
 Appends-Appends (Some xs) None c s t p q = absurd p
 Appends-Appends (Some xs) (Some ys) None s t p q = absurd q
 Appends-Appends (Some xs) (Some ys) (Some zs) s t p q = q ∙ ap (λ v. v ++ t) p ∙ append_assoc xs s t
+
+-- nothing is appended at first
+pub Appends-nil : (a : Option (List ℕ)) → Appends a a []
+Appends-nil None = tt
+Appends-nil (Some xs) = sym (append-nil xs)
 
 -- what is kept is appended
 pub Appends-Keeps : (a b c : Option (List ℕ)) (s : List ℕ) → Appends a b s → Keeps b c → Appends a c s
@@ -68,3 +73,25 @@ Writes-Err contents a b (Err y) e s t z p = record {
   err = (p.err.0, p.err.1 ++ t, ap (λ v. v ++ t) p.err.2 ∙ append_assoc p.err.0 p.err.1 t, p.err.3);
   fault = p.fault;
 }
+
+-- two texts one after the other
+pub WritesAfter-WritesAfter : {T A E : Type 0} (contents : T → Option (List ℕ)) (a b c : Tally T) (p q r : Result A E)
+    (s t whole : List ℕ) → WritesAfter contents a p b q s → WritesAfter contents b q c r t → s ++ t ≡ whole
+    → WritesAfter contents a p c r whole
+WritesAfter-WritesAfter contents a b c p q r s t whole one two e = λ first front known.
+    rw (← e, ← append_assoc front s t) (two first (front ++ s) (one first front known))
+
+-- the same text in other words
+pub WritesAfter-text : {T A E : Type 0} (contents : T → Option (List ℕ)) (a b : Tally T) (p q : Result A E)
+    (s t : List ℕ) → WritesAfter contents a p b q s → s ≡ t → WritesAfter contents a p b q t
+WritesAfter-text contents a b p q s t one e = λ first front known. rw (← e) (one first front known)
+
+-- no text is written at first
+pub Writes-none : {T A E : Type 0} (contents : T → Option (List ℕ)) (a : Tally T) (x : A)
+    → Writes {E = E} contents a a (Ok x) []
+Writes-none contents a x = record { ok = Appends-nil (contents a.inner); same = refl; err = tt; fault = tt }
+
+-- the same text in other words
+pub Writes-text : {T A E : Type 0} (contents : T → Option (List ℕ)) (a b : Tally T) (q : Result A E)
+    (s t : List ℕ) → Writes contents a b q s → s ≡ t → Writes contents a b q t
+Writes-text contents a b q s t one e = rw (← e) one

@@ -1,2 +1,4 @@
 pub mod Appending
 pub mod HexDigits
+pub mod Listings
+pub mod Offsets

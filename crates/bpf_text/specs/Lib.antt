@@ -1,3 +1,6 @@
+pub mod Canonical
 pub mod Counted
+pub mod Mnemonics
+pub mod Operands
 pub mod Reading
 pub mod Writing

@@ -43,6 +43,18 @@ impl<T> Counted<T> {
     {
         self.failures
     }
+
+    /// The reader or writer itself.
+    pub fn into_inner(self) -> T
+        ensures { result ≡ self.inner }
+    {
+        let Counted {
+            inner,
+            failures: _,
+            reads: _,
+        } = self;
+        inner
+    }
 }
 
 impl<T: Read> Read for Counted<T> {

@@ -2,13 +2,24 @@
 #![tactic(auto)]
 
 mod counted;
+mod disassembler;
 mod fault;
 mod hexadecimal;
+mod insn;
+mod mnemonic;
+mod names;
+mod operand;
 mod reading;
+#[cfg(test)]
+mod tests;
 mod writing;
 
 pub use counted::Counted;
+pub use disassembler::disassemble;
 pub use fault::{ReadFault, WriteFault};
 pub use hexadecimal::put_hexadecimal;
+pub use insn::{put_insn, put_label, write_insn};
+pub use mnemonic::Mnemonic;
+pub use operand::{Operand, Operands, operands_of, target_of};
 pub use reading::read_byte;
 pub use writing::{put, put_decimal, put_signed, write_text};

@@ -1,0 +1,153 @@
+-- Mnemonics (the tables of RFC 9669, sections 4 and 5, a row an equation). The names are bpfdb's own choice.
+use Rattle.std.specs.Prelude.{ℕ, List, [], ◌++◌, codes}
+use Rattle.bpf_isa.specs.declared.instruction.Insn.{Insn}
+use Rattle.bpf_isa.specs.declared.instruction.Insn.TheVariants as insn
+use Rattle.bpf_isa.specs.declared.instruction.Width.{Width}
+use Rattle.bpf_isa.specs.declared.instruction.Width.TheVariants.{Bits32, Bits64}
+use Rattle.bpf_isa.specs.declared.instruction.Size.{Size}
+use Rattle.bpf_isa.specs.declared.instruction.Size.TheVariants.{Word, Half, Byte, Double}
+use Rattle.bpf_isa.specs.declared.instruction.SignedSize.{SignedSize}
+use Rattle.bpf_isa.specs.declared.instruction.SignedSize.TheVariants as signed
+use Rattle.bpf_isa.specs.declared.instruction.BinaryOp.{BinaryOp}
+use Rattle.bpf_isa.specs.declared.instruction.BinaryOp.TheVariants as binary
+use Rattle.bpf_isa.specs.declared.instruction.Extension.{Extension}
+use Rattle.bpf_isa.specs.declared.instruction.Extension.TheVariants.{Byte64, Half64, Word64, Byte32, Half32}
+use Rattle.bpf_isa.specs.declared.instruction.ByteOrder.{ByteOrder}
+use Rattle.bpf_isa.specs.declared.instruction.ByteOrder.TheVariants.{Little, Big, Swap}
+use Rattle.bpf_isa.specs.declared.instruction.SwapWidth.{SwapWidth}
+use Rattle.bpf_isa.specs.declared.instruction.SwapWidth.TheVariants as swap
+use Rattle.bpf_isa.specs.declared.instruction.Condition.{Condition}
+use Rattle.bpf_isa.specs.declared.instruction.Condition.TheVariants as condition
+use Rattle.bpf_isa.specs.declared.instruction.AtomicOp.{AtomicOp}
+use Rattle.bpf_isa.specs.declared.instruction.AtomicOp.TheVariants as atomic
+use Rattle.bpf_text.specs.declared.mnemonic.Mnemonic.{Mnemonic}
+use Rattle.bpf_text.specs.declared.mnemonic.Mnemonic.TheVariants.{Binary, Negate, SignExtend, SwapBytes, JumpIf, Jump, JumpLong, CallHelper, CallLocal, Exit, Load, LoadSigned, StoreImmediate, StoreRegister, Atomic, LoadNumber, LoadMap, LoadMapValue}
+
+-- Arithmetic (section 4.1).
+abbrev pub binary_name : BinaryOp → List ℕ
+binary_name binary.Add = codes "add"
+binary_name binary.Sub = codes "sub"
+binary_name binary.Mul = codes "mul"
+binary_name binary.Div = codes "div"
+binary_name binary.SignedDiv = codes "sdiv"
+binary_name binary.Or = codes "or"
+binary_name binary.And = codes "and"
+binary_name binary.LeftShift = codes "lsh"
+binary_name binary.RightShift = codes "rsh"
+binary_name binary.Mod = codes "mod"
+binary_name binary.SignedMod = codes "smod"
+binary_name binary.Xor = codes "xor"
+binary_name binary.Mov = codes "mov"
+binary_name binary.SignedRightShift = codes "arsh"
+
+-- Arithmetic and jumps on 32 bits have a suffix.
+abbrev pub width_suffix : Width → List ℕ
+width_suffix Bits32 = codes "32"
+width_suffix Bits64 = []
+
+-- Moves that extend the sign (section 4.1).
+abbrev pub extension_name : Extension → List ℕ
+extension_name Byte64 = codes "movsx8"
+extension_name Half64 = codes "movsx16"
+extension_name Word64 = codes "movsx32"
+extension_name Byte32 = codes "movsx8_32"
+extension_name Half32 = codes "movsx16_32"
+
+-- Byte swaps (section 4.2).
+abbrev pub order_name : ByteOrder → List ℕ
+order_name Little = codes "le"
+order_name Big = codes "be"
+order_name Swap = codes "swap"
+
+-- How many bits a byte swap keeps.
+abbrev pub swap_suffix : SwapWidth → List ℕ
+swap_suffix swap.Bits16 = codes "16"
+swap_suffix swap.Bits32 = codes "32"
+swap_suffix swap.Bits64 = codes "64"
+
+-- Conditional jumps (section 4.3).
+abbrev pub condition_name : Condition → List ℕ
+condition_name condition.Equal = codes "jeq"
+condition_name condition.Greater = codes "jgt"
+condition_name condition.GreaterOrEqual = codes "jge"
+condition_name condition.BitsSet = codes "jset"
+condition_name condition.NotEqual = codes "jne"
+condition_name condition.SignedGreater = codes "jsgt"
+condition_name condition.SignedGreaterOrEqual = codes "jsge"
+condition_name condition.Less = codes "jlt"
+condition_name condition.LessOrEqual = codes "jle"
+condition_name condition.SignedLess = codes "jslt"
+condition_name condition.SignedLessOrEqual = codes "jsle"
+
+-- The sizes of loads and stores (section 5).
+abbrev pub size_suffix : Size → List ℕ
+size_suffix Word = codes "w"
+size_suffix Half = codes "h"
+size_suffix Byte = codes "b"
+size_suffix Double = codes "dw"
+
+-- The sizes of loads that extend the sign (section 5.2).
+abbrev pub signed_suffix : SignedSize → List ℕ
+signed_suffix signed.Word = codes "w"
+signed_suffix signed.Half = codes "h"
+signed_suffix signed.Byte = codes "b"
+
+-- Atomic operations (section 5.3).
+abbrev pub atomic_name : AtomicOp → List ℕ
+atomic_name atomic.Add = codes "atomic_add"
+atomic_name atomic.Or = codes "atomic_or"
+atomic_name atomic.And = codes "atomic_and"
+atomic_name atomic.Xor = codes "atomic_xor"
+atomic_name atomic.FetchAdd = codes "atomic_fetch_add"
+atomic_name atomic.FetchOr = codes "atomic_fetch_or"
+atomic_name atomic.FetchAnd = codes "atomic_fetch_and"
+atomic_name atomic.FetchXor = codes "atomic_fetch_xor"
+atomic_name atomic.Exchange = codes "atomic_xchg"
+atomic_name atomic.CompareExchange = codes "atomic_cmpxchg"
+
+-- The width of an atomic operation.
+abbrev pub atomic_suffix : Width → List ℕ
+atomic_suffix Bits32 = codes "32"
+atomic_suffix Bits64 = codes "64"
+
+-- The name of a mnemonic.
+abbrev pub name_of : Mnemonic → List ℕ
+name_of (Binary op width) = binary_name op ++ width_suffix width
+name_of (Negate width) = codes "neg" ++ width_suffix width
+name_of (SignExtend extension) = extension_name extension
+name_of (SwapBytes order width) = order_name order ++ swap_suffix width
+name_of (JumpIf condition width) = condition_name condition ++ width_suffix width
+name_of Jump = codes "ja"
+name_of JumpLong = codes "ja32"
+name_of CallHelper = codes "call"
+name_of CallLocal = codes "callf"
+name_of Exit = codes "exit"
+name_of (Load size) = codes "ldx" ++ size_suffix size
+name_of (LoadSigned size) = codes "ldxs" ++ signed_suffix size
+name_of (StoreImmediate size) = codes "st" ++ size_suffix size
+name_of (StoreRegister size) = codes "stx" ++ size_suffix size
+name_of (Atomic op width) = atomic_name op ++ atomic_suffix width
+name_of LoadNumber = codes "lddw"
+name_of LoadMap = codes "ldmap"
+name_of LoadMapValue = codes "ldmapval"
+
+-- The mnemonic of an instruction.
+abbrev pub mnemonic_of : Insn → Mnemonic
+mnemonic_of (insn.Binary op width dst source) = Binary op width
+mnemonic_of (insn.Negate width dst) = Negate width
+mnemonic_of (insn.SignExtend extension dst src) = SignExtend extension
+mnemonic_of (insn.SwapBytes order width dst) = SwapBytes order width
+mnemonic_of (insn.JumpIf condition width dst source offset) = JumpIf condition width
+mnemonic_of (insn.Jump offset) = Jump
+mnemonic_of (insn.JumpLong distance) = JumpLong
+mnemonic_of (insn.CallHelper helper) = CallHelper
+mnemonic_of (insn.CallLocal distance) = CallLocal
+mnemonic_of insn.Exit = Exit
+mnemonic_of (insn.Load size dst src offset) = Load size
+mnemonic_of (insn.LoadSigned size dst src offset) = LoadSigned size
+mnemonic_of (insn.StoreImmediate size dst offset value) = StoreImmediate size
+mnemonic_of (insn.StoreRegister size dst src offset) = StoreRegister size
+mnemonic_of (insn.Atomic op width dst src offset) = Atomic op width
+mnemonic_of (insn.LoadNumber dst value) = LoadNumber
+mnemonic_of (insn.LoadMap dst map) = LoadMap
+mnemonic_of (insn.LoadMapValue dst map offset) = LoadMapValue

@@ -1,0 +1,84 @@
+-- The operands of instructions, and their canonical texts. These are bpfdb's own choice.
+use Rattle.std.specs.Prelude.{ℕ, ℤ, pos, negsuc, ◌+◌, ◌+ℤ◌, ◌≤◌, List, [], ◌++◌, codes, decimal}
+use Rattle.std.specs.Fmt.{signed_decimal}
+use Rattle.bpf_isa.specs.declared.instruction.Insn.{Insn}
+use Rattle.bpf_isa.specs.declared.instruction.Insn.TheVariants.{Binary, Negate, SignExtend, SwapBytes, JumpIf, Jump, JumpLong, CallHelper, CallLocal, Exit, Load, LoadSigned, StoreImmediate, StoreRegister, Atomic, LoadNumber, LoadMap, LoadMapValue}
+use Rattle.bpf_isa.specs.declared.instruction.Source.{Source}
+use Rattle.bpf_isa.specs.declared.instruction.Source.TheVariants as source
+use Rattle.bpf_text.specs.declared.operand.Operand.{Operand}
+use Rattle.bpf_text.specs.declared.operand.Operand.TheVariants.{Register, Signed, Unsigned, Hexadecimal, Memory, Target}
+use Rattle.bpf_text.specs.declared.operand.Operands.{Operands}
+use Rattle.bpf_text.specs.declared.operand.Operands.TheVariants.{Nothing, One, Two, Three}
+use Rattle.bpf_text.specs.Mnemonics.{mnemonic_of, name_of}
+use Rattle.bpf_text.specs.Writing.{hexadecimal}
+
+-- A whole number that can be a slot.
+abbrev pub IsSlot : ℤ → Type 0
+IsSlot (pos p) = p ≤ 65535
+IsSlot (negsuc n) = ⊥
+
+-- A second operand.
+abbrev pub operand_of : Source → Operand
+operand_of (source.Immediate value) = Signed value
+operand_of (source.Register reg) = Register reg
+
+-- A target: the slot of this whole number.
+abbrev pub target_operand : ℤ → Operand
+target_operand (pos p) = Target p
+target_operand (negsuc n) = Target 0
+
+-- The operands of an instruction in slot p. A target is counted from the next slot (RFC 9669, section 4.3).
+abbrev pub operands_of : ℕ → Insn → Operands
+operands_of p (Binary op width dst source) = Two (Register dst) (operand_of source)
+operands_of p (Negate width dst) = One (Register dst)
+operands_of p (SignExtend extension dst src) = Two (Register dst) (Register src)
+operands_of p (SwapBytes order width dst) = One (Register dst)
+operands_of p (JumpIf condition width dst source offset) =
+    Three (Register dst) (operand_of source) (target_operand (pos (p + 1) +ℤ offset))
+operands_of p (Jump offset) = One (target_operand (pos (p + 1) +ℤ offset))
+operands_of p (JumpLong distance) = One (target_operand (pos (p + 1) +ℤ distance))
+operands_of p (CallHelper helper) = One (Unsigned helper)
+operands_of p (CallLocal distance) = One (target_operand (pos (p + 1) +ℤ distance))
+operands_of p Exit = Nothing
+operands_of p (Load size dst src offset) = Two (Register dst) (Memory src offset)
+operands_of p (LoadSigned size dst src offset) = Two (Register dst) (Memory src offset)
+operands_of p (StoreImmediate size dst offset value) = Two (Memory dst offset) (Signed value)
+operands_of p (StoreRegister size dst src offset) = Two (Memory dst offset) (Register src)
+operands_of p (Atomic op width dst src offset) = Two (Memory dst offset) (Register src)
+operands_of p (LoadNumber dst value) = Two (Register dst) (Hexadecimal value)
+operands_of p (LoadMap dst map) = Two (Register dst) (Unsigned map)
+operands_of p (LoadMapValue dst map offset) = Three (Register dst) (Unsigned map) (Unsigned offset)
+
+-- A register's name.
+abbrev pub register_text : ℕ → List ℕ
+register_text r = codes "r" ++ decimal r
+
+-- The name of the label of a slot.
+abbrev pub label_text : ℕ → List ℕ
+label_text p = codes "L" ++ decimal p
+
+-- An offset in brackets, always with its sign.
+abbrev pub offset_text : ℤ → List ℕ
+offset_text (pos n) = codes "+" ++ decimal n
+offset_text (negsuc n) = signed_decimal (negsuc n)
+
+-- The canonical text of an operand.
+abbrev pub operand_text : Operand → List ℕ
+operand_text (Register r) = register_text r
+operand_text (Signed value) = signed_decimal value
+operand_text (Unsigned n) = decimal n
+operand_text (Hexadecimal n) = hexadecimal n
+operand_text (Memory base offset) = codes "[" ++ register_text base ++ offset_text offset ++ codes "]"
+operand_text (Target p) = label_text p
+
+-- The canonical text of operands: a blank before the first, a comma and a blank before each further one.
+abbrev pub operands_text : Operands → List ℕ
+operands_text Nothing = []
+operands_text (One a) = codes " " ++ operand_text a
+operands_text (Two a b) = (codes " " ++ operand_text a) ++ (codes ", " ++ operand_text b)
+operands_text (Three a b c) =
+    (codes " " ++ operand_text a) ++ (codes ", " ++ operand_text b) ++ (codes ", " ++ operand_text c)
+
+-- The canonical text of an instruction in slot p.
+abbrev pub text_of_insn : ℕ → Insn → List ℕ
+text_of_insn p insn = name_of (mnemonic_of insn) ++ operands_text (operands_of p insn)

@@ -1,0 +1,155 @@
+//! The operands of an instruction, as a listing shows them.
+ghost use Rattle.std.specs.Prelude.{◌≡◌, ◌≤◌, ◌+◌, ◌+ℤ◌, pos, Some, None, IfSome, IfNone};
+ghost use Rattle.bpf_isa.specs.Programs.{target_of};
+ghost use Rattle.bpf_text.specs.Operands.{operand_of, operands_of, target_operand, IsSlot};
+
+use bpf_isa::{Insn, Reg, Source};
+
+/// One operand.
+#[derive(Clone, Copy)]
+pub enum Operand {
+    /// A register.
+    Register(Reg),
+    /// A signed number, in decimal.
+    Signed(i32),
+    /// An unsigned number, in decimal.
+    Unsigned(u32),
+    /// A number of 64 bits, in hexadecimal.
+    Hexadecimal(u64),
+    /// The memory at a register and an offset in bytes.
+    Memory(Reg, i16),
+    /// The slot of a target.
+    Target(u64),
+}
+
+/// The operands of an instruction.
+#[derive(Clone, Copy)]
+pub enum Operands {
+    Nothing,
+    One(Operand),
+    Two(Operand, Operand),
+    Three(Operand, Operand, Operand),
+}
+
+/// The operands of an instruction in this slot; its target, if it has one, is a slot of 0 to 65,535.
+pub fn operands_of(slot: usize, insn: &Insn) -> Operands
+    requires slot { slot ≤ 65535 }
+    requires target { IfSome (target_of slot insn.now) IsSlot }
+    ensures { result ≡ operands_of slot insn.now }
+{
+    match *insn {
+        Insn::Binary { dst, source, .. } => Operands::Two(
+            Operand::Register(dst),
+            operand_of(source),
+        ),
+        Insn::Negate { dst, .. } | Insn::SwapBytes { dst, .. } => {
+            Operands::One(Operand::Register(dst))
+        }
+        Insn::SignExtend { dst, src, .. } => {
+            Operands::Two(Operand::Register(dst), Operand::Register(src))
+        }
+        Insn::JumpIf {
+            dst,
+            source,
+            offset,
+            ..
+        } => Operands::Three(
+            Operand::Register(dst),
+            operand_of(source),
+            target(slot, i32::from(offset)),
+        ),
+        Insn::Jump { offset } => Operands::One(target(slot, i32::from(offset))),
+        Insn::JumpLong { distance } | Insn::CallLocal { distance } => {
+            Operands::One(target(slot, distance))
+        }
+        Insn::CallHelper { helper } => Operands::One(Operand::Unsigned(helper)),
+        Insn::Exit => Operands::Nothing,
+        Insn::Load {
+            dst,
+            src,
+            offset,
+            ..
+        }
+        | Insn::LoadSigned {
+            dst,
+            src,
+            offset,
+            ..
+        } => Operands::Two(Operand::Register(dst), Operand::Memory(src, offset)),
+        Insn::StoreImmediate {
+            dst,
+            offset,
+            value,
+            ..
+        } => Operands::Two(Operand::Memory(dst, offset), Operand::Signed(value)),
+        Insn::StoreRegister {
+            dst,
+            src,
+            offset,
+            ..
+        }
+        | Insn::Atomic {
+            dst,
+            src,
+            offset,
+            ..
+        } => Operands::Two(Operand::Memory(dst, offset), Operand::Register(src)),
+        Insn::LoadNumber { dst, value } => {
+            Operands::Two(Operand::Register(dst), Operand::Hexadecimal(value))
+        }
+        Insn::LoadMap { dst, map } => {
+            Operands::Two(Operand::Register(dst), Operand::Unsigned(map))
+        }
+        Insn::LoadMapValue { dst, map, offset } => Operands::Three(
+            Operand::Register(dst),
+            Operand::Unsigned(map),
+            Operand::Unsigned(offset),
+        ),
+    }
+}
+
+// A second operand: a number in the form K, a register in the form X.
+fn operand_of(source: Source) -> Operand
+    ensures { result ≡ operand_of source }
+{
+    match source {
+        Source::Immediate(value) => Operand::Signed(value),
+        Source::Register(reg) => Operand::Register(reg),
+    }
+}
+
+// The target that is the distance from the next slot.
+fn target(slot: usize, distance: i32) -> Operand
+    requires slot { slot ≤ 65535 }
+    requires target { IsSlot (pos (slot + 1) +ℤ distance) }
+    ensures { result ≡ target_operand (pos (slot + 1) +ℤ distance) }
+{
+    Operand::Target(target_slot(slot, distance) as u64)
+}
+
+/// The target of an instruction in this slot, if it has one: a slot of 0 to 65,535.
+pub fn target_of(slot: usize, insn: &Insn) -> Option<usize>
+    requires slot { slot ≤ 65535 }
+    requires target { IfSome (target_of slot insn.now) IsSlot }
+    ensures found { IfSome result (λ t. target_of slot insn.now ≡ Some (pos t)) }
+    ensures none { IfNone result (target_of slot insn.now ≡ None) }
+{
+    match *insn {
+        Insn::JumpIf { offset, .. } | Insn::Jump { offset } => {
+            Some(target_slot(slot, i32::from(offset)))
+        }
+        Insn::JumpLong { distance } | Insn::CallLocal { distance } => {
+            Some(target_slot(slot, distance))
+        }
+        _ => None,
+    }
+}
+
+// The slot that is the distance from the next slot.
+fn target_slot(slot: usize, distance: i32) -> usize
+    requires slot { slot ≤ 65535 }
+    requires target { IsSlot (pos (slot + 1) +ℤ distance) }
+    ensures { pos result ≡ pos (slot + 1) +ℤ distance }
+{
+    (slot as i64 + 1 + i64::from(distance)) as usize
+}
