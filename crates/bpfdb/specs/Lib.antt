@@ -9,7 +9,6 @@ pub mod Outcomes
 pub mod Forward
 pub mod Backward
 pub mod Meaning
-pub mod Stub
 pub mod Replies
 pub mod Sessions
 pub mod Output

@@ -4,7 +4,7 @@ use lib.Chars.{codes}
 use Rattle.std.specs.Option.{option_map_or}
 use Rattle.bpf_isa.specs.Programs.{insn_at}
 use Rattle.bpf_text.specs.Writing.{hexadecimal}
-use Rattle.bpfdb.specs.Stub.{text_of_insn}
+use Rattle.bpf_text.specs.Operands.{text_of_insn}
 use Rattle.bpfdb.specs.Machine.{State, number_in}
 use Rattle.bpfdb.specs.Refusals.{refusal_text}
 use Rattle.bpfdb.specs.declared.machine.Status.{Status}

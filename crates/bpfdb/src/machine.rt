@@ -60,6 +60,13 @@ impl Model for Cpu {
 impl Cpu {
     ghost use Rattle.bpfdb.specs.Machine.{IsState, number_in};
 
+    /// Brings what every state meets into a proof.
+    pub fn known(&self)
+        ensures { IsState self.now }
+    {
+        let _pc = &self.pc;
+    }
+
     /// The slot of the instruction to run.
     pub fn pc(&self) -> usize
         ensures { result ≡ self.now.pc }

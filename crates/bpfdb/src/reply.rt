@@ -4,12 +4,11 @@ ghost use Rattle.bpf_text.specs.Writing.{WritesAfter};
 ghost use Rattle.bpfdb.specs.Refusals.{refusal_text};
 ghost use Rattle.bpfdb.specs.Replies.{place, text_of_move, text_of_register, text_of_registers, text_of_reply, text_of_why};
 ghost use Rattle.bpfdb.specs.Machine.{number_in};
-ghost use Rattle.bpfdb.specs.Stub.{text_of_insn};
 
 use crate::machine::{Cpu, Status};
 use crate::refusal::Refusal;
-use bpf_isa::{Insn, Reg};
-use bpf_text::{Counted, WriteFault, put, put_decimal, put_hexadecimal};
+use bpf_isa::Reg;
+use bpf_text::{Counted, WriteFault, put, put_decimal, put_hexadecimal, put_insn};
 use std::io::Write;
 
 /// Why a command stopped.
@@ -107,10 +106,11 @@ pub fn put_place<W: Write>(
 {
     match cpu.status() {
         Status::Running => {
+            cpu.known();
             let at = put(writer, so_far, b"at ");
             let slot = put_decimal(writer, at, cpu.pc() as u64);
             let parted = put(writer, slot, b": ");
-            put_insn(writer, parted, cpu.pc(), &cpu.insn())
+            put_insn(writer, parted, cpu.pc(), cpu.insn())
         }
         Status::Exited => {
             let at = put(writer, so_far, b"exited at ");
@@ -177,17 +177,4 @@ pub fn put_refusal<W: Write>(
     let parted = put(writer, numbered, b": ");
     let said = put(writer, parted, refusal.text().as_bytes());
     put(writer, said, b"\n")
-}
-
-fn put_insn<W: Write>(
-    writer: &mut Counted<W>,
-    so_far: Result<(), WriteFault>,
-    slot: usize,
-    insn: &Insn,
-) -> Result<(), WriteFault>
-    ensures { WritesAfter W.contents writer.old so_far writer.new result (text_of_insn slot insn.now) }
-{
-    let _slot = slot;
-    let _insn = insn;
-    put(writer, so_far, b"")
 }

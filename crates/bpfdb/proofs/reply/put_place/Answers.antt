@@ -1,9 +1,10 @@
-use Rattle.std.proofs.Common.{codes, sym, ◌∙◌}
+use Rattle.std.proofs.Common.{codes, arith, sym, ◌∙◌}
 use Rattle.std.specs.Prelude.{decimal}
 use Rattle.bpf_text.specs.Writing.{hexadecimal}
 use Rattle.bpfdb.specs.Machine.{number_in}
 use Rattle.bpfdb.specs.Replies.{place}
-use Rattle.bpfdb.specs.Stub.{text_of_insn}
+use Rattle.bpf_text.specs.Operands.{text_of_insn}
+use Rattle.bpfdb.proofs.Slots.{slot-fits, target-fits}
 use Rattle.bpfdb.proofs.Pieces.{joined4}
 use Rattle.bpfdb.proofs.reply.put_place.Goals as goal
 
@@ -26,3 +27,9 @@ returns-in-Exited g c = λ first front known.
     let parted = c.put-parted-in-Exited.ensures first _ slot in
     let told = rw c.number_in.ensures at (c.put_hexadecimal.ensures first _ parted) in
     rw (sym c.status.ensures ∙ c.in-Exited.is) (joined4 _ _ _ _ front (codes "exited at ") (decimal x.pc) (codes ": r0 ") (hexadecimal (number_in x 0)) told)
+
+pub put_insn-requires-clause-slot : goal.put_insn-requires-clause-slot
+put_insn-requires-clause-slot g c = rw c.pc-in-Running.ensures (slot-fits _ _ c.known.ensures.program c.known.ensures.start)
+
+pub put_insn-requires-clause-target : goal.put_insn-requires-clause-target
+put_insn-requires-clause-target g c = rw c.pc-in-Running.ensures (target-fits _ _ _ c.known.ensures.program c.insn.ensures)
