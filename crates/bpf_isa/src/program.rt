@@ -1,5 +1,5 @@
 //! Programs that the checker accepted.
-ghost use Rattle.std.specs.Prelude.{◌≡◌, ◌↔◌, IsTrue, length};
+ghost use Rattle.std.specs.Prelude.{◌≡◌, ◌↔◌, IsTrue, IfOk, length};
 
 use crate::instruction::Insn;
 use crate::maps::{MapShape, MapTable};
@@ -70,6 +70,10 @@ impl Program {
 }
 
 /// Checks a program. (So far it only answers want of memory.)
-pub fn check(_alloc: Global, _bytes: &[u8], _maps: &MapTable) -> Result<Program, LoadFault> {
+pub fn check(_alloc: Global, bytes: &[u8], maps: &MapTable) -> Result<Program, LoadFault>
+    ensures ok { IfOk result (λ p. (p.bytes ≡ bytes.now) × (p.maps ≡ maps.now)) }
+{
+    let _bytes = bytes;
+    let _maps = maps;
     Err(LoadFault::Memory)
 }

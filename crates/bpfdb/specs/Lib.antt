@@ -13,3 +13,4 @@ pub mod Replies
 pub mod Sessions
 pub mod Output
 pub mod Scripts
+pub mod Debug

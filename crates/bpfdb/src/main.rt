@@ -4,6 +4,7 @@
 mod backward;
 mod command;
 mod count;
+mod debug;
 mod forward;
 mod history;
 mod line;
@@ -16,4 +17,33 @@ mod session;
 mod timeline;
 mod words;
 
-fn main() {}
+use bpf_text::Counted;
+use debug::debug;
+use std::io;
+use std::io::{BufReader, BufWriter};
+use std::process::ExitCode;
+
+/// The program that is debugged: r0 = 42, and the end.
+const PROGRAM: [u8; 16] = [
+    0xb7, 0, 0, 0, 0x2a, 0, 0, 0, // mov r0, 42
+    0x95, 0, 0, 0, 0, 0, 0, 0, // exit
+];
+
+fn main(rt: HostRuntime) -> ExitCode {
+    match debug_standard_input(&rt) {
+        Ok(()) => ExitCode::SUCCESS,
+        Err(()) => {
+            let _ = eprintln!(rt; "debug failed");
+            ExitCode::from(2)
+        }
+    }
+}
+
+/// Debugs the program with the script from standard input.
+fn debug_standard_input(rt: &HostRuntime) -> Result<(), ()> {
+    let input = BufReader::new(rt.alloc(), rt.reader()).map_err(|_| ())?;
+    let output = BufWriter::new(rt.alloc(), io::writer(rt)).map_err(|_| ())?;
+    let mut reader = Counted::new(input);
+    let mut writer = Counted::new(output);
+    debug(rt.alloc(), &PROGRAM, &mut reader, &mut writer).map_err(|_| ())
+}

@@ -1,0 +1,59 @@
+//! The debugger of one program.
+ghost use Rattle.std.specs.Prelude.{◌≡◌, List, ℕ, OnOk, Some};
+ghost use Rattle.bpfdb.specs.Debug.{Debugs};
+
+use crate::history::ListKeeper;
+use crate::machine::{Cpu, OpenFault};
+use crate::script::{RunFault, run};
+use crate::session::Session;
+use bpf_isa::{LoadFault, MapTable, check};
+use bpf_text::Counted;
+use std::alloc::Global;
+use std::io::{Read, Write};
+
+/// The most steps of a command.
+pub const STEP_LIMIT: u64 = 1_000_000;
+
+/// Why a program was not debugged to the end of its script.
+#[derive(Drop)]
+pub enum DebugFault {
+    /// The checker refused the program.
+    Load(LoadFault),
+    /// The machine can't be opened on it.
+    Open(OpenFault),
+    /// A read or a write failed.
+    Run(RunFault),
+}
+
+/// Debugs a program, given as the raw little-endian words of its slots: obeys the script from the reader and writes
+/// the replies.
+///
+/// The program has no maps and no context. A refused program leaves the reader and the writer untouched.
+pub fn debug<R: Read, W: Write>(
+    alloc: Global,
+    program: &[u8],
+    reader: &mut Counted<R>,
+    writer: &mut Counted<W>,
+) -> Result<(), DebugFault>
+    // What is printed is what the script prints in a debugger that keeps whole states.
+    ensures value { OnOk result ((script told : List ℕ) → R.remaining reader.old.inner ≡ Some script →
+        W.contents writer.old.inner ≡ Some told → Debugs STEP_LIMIT program.now script told (W.contents writer.new.inner)) }
+    ensures ok { OnOk result ((reader.new.failures ≡ reader.old.failures) × (writer.new.failures ≡ writer.old.failures)) }
+{
+    let code = match check(alloc, program, &MapTable::empty()) {
+        Ok(code) => code,
+        Err(fault) => return Err(DebugFault::Load(fault)),
+    };
+    code.known();
+    let cpu = match Cpu::open(code) {
+        Ok(cpu) => cpu,
+        Err(fault) => return Err(DebugFault::Open(fault)),
+    };
+    let mut session = Session::open(cpu, ListKeeper::new(alloc), STEP_LIMIT);
+    let answer = run(&mut session, reader, writer);
+    session.close();
+    match answer {
+        Ok(()) => Ok(()),
+        Err(fault) => Err(DebugFault::Run(fault)),
+    }
+}
