@@ -39,7 +39,7 @@ pub not-both : (x : State) → has_ended x ≡ false → x.status ≡ Exited →
 not-both x h e = let r : Running ≡ Exited = sym (status-runs x.status h) ∙ e in cc
 
 -- the least number is not below the first one that is tried
-least-from : (test : ℕ → Bool) (k n : ℕ) → k ≤ least test k n
+pub least-from : (test : ℕ → Bool) (k n : ℕ) → k ≤ least test k n
 least-from test k zero = omega arith
 least-from test k (suc n) = elim (test k) as (λ b. k ≤ (if b then k else least test (k + 1) n)) [ true ↦ omega arith | false ↦ omega (arith, least-from test (k + 1) n) ]
 

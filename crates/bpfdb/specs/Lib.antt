@@ -14,3 +14,4 @@ pub mod Sessions
 pub mod Output
 pub mod Scripts
 pub mod Debug
+pub mod Laws

@@ -7,6 +7,7 @@ mod count;
 mod debug;
 mod forward;
 mod history;
+mod laws;
 mod line;
 mod machine;
 mod number;
