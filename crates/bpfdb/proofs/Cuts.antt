@@ -1,8 +1,8 @@
 -- The first word of a line, cut off.
-use Rattle.std.proofs.Common.{◌≡◌, ℕ, ◌+◌, ◌<◌, ◌≤◌, Bool, true, false, cond, ltb, List, [], ◌∷◌, take, drop, length, get_or, Option, Some, None, ap, refl, sym, ◌∙◌, arith, inl, inr}
+use Rattle.std.proofs.Common.{◌≡◌, ℕ, ◌+◌, ◌<◌, ◌≤◌, Bool, true, false, cond, ltb, List, [], ◌∷◌, take, drop, length, get_or, Some, None, ap, refl, sym, ◌∙◌, arith, inl, inr}
 use Rattle.std.specs.Prelude.{not}
 use Rattle.std.specs.Option.{unwrap_or}
-use Rattle.std.specs.List.{slice_split, filter, prefix_len, position_or_len, before_first, after_first}
+use Rattle.std.specs.List.{slice_split, filter, position_or_len, after_first}
 use Rattle.std.proofs.Math.Numerals.{one-add}
 use Rattle.std.proofs.lemmas.Bool.{lt-ltb, ltb-false, cases_lt}
 use Rattle.std.proofs.lemmas.List.{take_all, drop_all, drop_more, length-drop, length-take-le}
@@ -18,8 +18,9 @@ unwrap_or-tested n len false outside h = omega (arith, ltb-false n len outside)
 pub unwrap_or-position : (p : ℕ → Bool) (line : List ℕ) → unwrap_or (cond (ltb (position_or_len p line) (length line)) (Some (position_or_len p line)) None) (length line) ≡ position_or_len p line
 unwrap_or-position p line = unwrap_or-tested _ _ _ refl (prefix_len-le-length (λ byte. not (p byte)) line)
 
-abbrev pub is_letter : ℕ → Bool
-is_letter byte = not (is_blank byte)
+-- a byte of a word
+abbrev pub is_word_byte : ℕ → Bool
+is_word_byte byte = not (is_blank byte)
 
 -- a blank in front makes no word
 words-blank : (b : ℕ) (line : List ℕ) → is_blank b ≡ true → words (b ∷ line) ≡ words line
@@ -27,10 +28,10 @@ words-blank b line blank = rw (slice_split-cons_yes is_blank b line blank) refl
 
 words-drop_one : (b : ℕ) (line : List ℕ) (n : ℕ) (v : Bool) → is_blank b ≡ v → words (drop n line) ≡ words line → words (drop (cond (not (not v)) (1 + n) 0) (b ∷ line)) ≡ words (b ∷ line)
 words-drop_one b line n true blank h = rw (one-add n) (h ∙ sym (words-blank b line blank))
-words-drop_one b line n false letter h = refl
+words-drop_one b line n false other h = refl
 
--- nor do all those before the first letter
-pub words-drop_blanks : (line : List ℕ) → words (drop (position_or_len is_letter line) line) ≡ words line
+-- nor do all blanks in front
+pub words-drop_blanks : (line : List ℕ) → words (drop (position_or_len is_word_byte line) line) ≡ words line
 words-drop_blanks [] = refl
 words-drop_blanks (b ∷ line) = words-drop_one b line _ (is_blank b) refl (words-drop_blanks line)
 
@@ -59,12 +60,12 @@ pub words-first : (line : List ℕ) → 0 < position_or_len is_blank line → wo
 words-first line some =
     elim (cases_lt (position_or_len is_blank line) (length line)) [ inl inside ↦ words-first_inside line some inside | inr whole ↦ words-first_whole line some whole ]
 
--- a line that begins with a letter has a first word
-pub first-letter : (line rest : List ℕ) → line ≡ drop (position_or_len is_letter rest) rest → 0 < length line → 0 < position_or_len is_blank line
-first-letter line rest e h =
-    let m : ℕ = position_or_len is_letter rest in
+-- what is left after the blanks in front begins with a word
+pub first-word_byte : (line rest : List ℕ) → line ≡ drop (position_or_len is_word_byte rest) rest → 0 < length line → 0 < position_or_len is_blank line
+first-word_byte line rest e h =
+    let m : ℕ = position_or_len is_word_byte rest in
     let inside : m < length rest = omega (arith, ap length e, length-drop m rest) in
-    rw (e ∙ drop_more rest m 0 inside) (rw (passes_at_first is_letter rest 0 inside) (omega arith))
+    rw (e ∙ drop_more rest m 0 inside) (rw (passes_at_first is_word_byte rest 0 inside) (omega arith))
 
 -- an empty line has no word
 pub words-empty : (line : List ℕ) → length line ≡ 0 → words line ≡ []

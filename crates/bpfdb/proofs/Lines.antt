@@ -1,11 +1,13 @@
 -- The lines of a text, for a reader that takes one byte at a time.
-use Rattle.std.proofs.Common.{◌≡◌, ◌≢◌, ℕ, ◌<◌, true, false, List, [], ◌∷◌, ◌++◌, length, ap, refl, ◌∙◌, arith}
+use Rattle.std.proofs.Common.{◌≡◌, ◌≢◌, ℕ, ◌<◌, false, List, [], ◌∷◌, ◌++◌, Err, length, ap, refl, ◌∙◌, arith}
 use Rattle.std.specs.Prelude.{◌==◌}
-use Rattle.std.specs.List.{slice_split, All}
+use Rattle.std.specs.List.{All}
 use Rattle.std.proofs.lemmas.List.Splits.{slice_split_at, slice_split_none, length-slice_split}
 use Rattle.std.proofs.lemmas.List.Elements.{All-push}
-use Rattle.std.proofs.lemmas.Bool.{ne_eqb}
+use Rattle.std.proofs.lemmas.Bool.{ne_eqb, lt-ltb}
 use Rattle.bpfdb.specs.Script.{lines, without_empty_last}
+use Rattle.bpfdb.specs.Commands.{command_of}
+use Rattle.bpfdb.specs.declared.refusal.Refusal.TheVariants.{LineTooLong}
 
 -- no byte is a line feed
 abbrev pub HasNoLineFeed : List ℕ → Type 0
@@ -40,3 +42,8 @@ pub lines-first : (line rest : List ℕ) → HasNoLineFeed line → lines (line 
 lines-first line rest h =
     ap without_empty_last (slice_split_at (λ byte. byte == 10) line 10 rest (no_cut line h) refl)
     ∙ without_empty_last-cons line _ (omega (arith, length-slice_split (λ byte. byte == 10) rest))
+
+-- a line that is too long is refused, whatever its bytes
+pub command_of-long : (line : List ℕ) → 1024 < length line → command_of line ≡ Err LineTooLong
+unfolding command_of
+command_of-long line long = rw (lt-ltb 1024 (length line) long) refl

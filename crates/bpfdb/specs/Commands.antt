@@ -20,7 +20,8 @@ bare command (word ∷ more) = None
 
 -- a number from 1 to 1,000,000,000
 abbrev pub count : List ℕ → Option ℕ
-count word = option_and_then (λ n. if nat_le 1 n && nat_le n 1000000000 then Some n else None) (number word)
+count word =
+    option_and_then (λ n. if nat_le 1 n && nat_le n 1_000_000_000 then Some n else None) (number word)
 
 -- a count, which is 1 where it is left out
 abbrev pub optional_count : List (List ℕ) → Option ℕ
@@ -42,7 +43,7 @@ arguments_of [] name = None
 arguments_of (row ∷ rows) name = if bytes_eq name row.0 then Some row.1 else arguments_of rows name
 
 -- a name of the table and the words that may follow it
-abbrev pub one_of : Table → Arguments
+unfoldable pub one_of : Table → Arguments
 one_of table [] = None
 one_of table (name ∷ more) = option_and_then (λ arguments. arguments more) (arguments_of table name)
 
@@ -61,20 +62,28 @@ commands =
     ∷ (codes "quit", bare Quit)
     ∷ []
 
--- nothing, a command or a refusal
+-- an unknown name, or its words right or wrong
+abbrev pub outcome : Option Arguments → List (List ℕ) → Result Command Refusal
+outcome None more = Err UnknownCommand
+outcome (Some arguments) more = ok_or (arguments more) WrongArgument
+
+-- what a name and the words after it say
+unfoldable pub command_named : List ℕ → List (List ℕ) → Result Command Refusal
+command_named name more = outcome (arguments_of commands name) more
+
+-- what a line says: nothing, a command or a refusal
 abbrev pub Answer : Type 0
 Answer = Result (Option Command) Refusal
 
--- what a name and the words after it say
-abbrev pub answer_of : Option Arguments → List (List ℕ) → Answer
-answer_of None more = Err UnknownCommand
-answer_of (Some arguments) more = ok_or (option_map Some (arguments more)) WrongArgument
+abbrev pub as_answer : Result Command Refusal → Answer
+as_answer (Ok command) = Ok (Some command)
+as_answer (Err refusal) = Err refusal
 
--- what words say
+-- no words say nothing; else the first is the command's name
 abbrev pub command_of_words : List (List ℕ) → Answer
 command_of_words [] = Ok None
-command_of_words (name ∷ more) = answer_of (arguments_of commands name) more
+command_of_words (name ∷ more) = as_answer (command_named name more)
 
--- what a line says; one of more than 1,024 bytes isn't read
+-- a line of more than 1,024 bytes is refused, whatever its words
 unfoldable pub command_of : List ℕ → Answer
 command_of line = if nat_lt 1024 (length line) then Err LineTooLong else command_of_words (words line)

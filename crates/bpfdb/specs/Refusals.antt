@@ -25,4 +25,5 @@ text_of OutOfMemory = codes "out of memory"
 
 -- the line that answers a refused command, as `refused Q12: line too long`
 abbrev pub refusal_text : Refusal → List ℕ
-refusal_text refusal = codes "refused Q" ++ decimal (number_of refusal) ++ codes ": " ++ text_of refusal ++ codes "\n"
+refusal_text refusal =
+    codes "refused Q" ++ decimal (number_of refusal) ++ codes ": " ++ text_of refusal ++ codes "\n"

@@ -1,7 +1,8 @@
 //! Commands, one on a line.
 ghost use Rattle.std.specs.Prelude.{◌≡◌};
+ghost use Rattle.std.specs.Option.{ok_or};
 ghost use Rattle.std.specs.Str.{bytes_eq};
-ghost use Rattle.bpfdb.specs.Commands.{bare, command_of, one_of, optional_count, shows};
+ghost use Rattle.bpfdb.specs.Commands.{bare, command_named, counted, command_of, one_of, optional_count, shows};
 
 use crate::count::Count;
 use crate::number::parse_number;
@@ -39,50 +40,72 @@ pub fn parse_command(line: &[u8]) -> Result<Option<Command>, Refusal>
     let Some(name) = words.next_word() else {
         return Ok(None);
     };
-    let command = if is(name, "stepi") {
-        optional_count(words).map(Command::Step)
+    command_named(name, words).map(Some)
+}
+
+// The command of this name, with the words after it.
+#[tactic(auto, unfolding(crate::specs::Commands::command_named))]
+fn command_named(name: &[u8], words: Words) -> Result<Command, Refusal>
+    ensures value { result ≡ command_named name.now words.entry }
+{
+    if is(name, "stepi") {
+        step(words)
     } else if is(name, "reverse-stepi") {
-        optional_count(words).map(Command::ReverseStep)
+        reverse_step(words)
     } else if is(name, "info") {
         info(words)
     } else if is(name, "quit") {
         bare(words, Command::Quit)
     } else {
-        return Err(Refusal::UnknownCommand);
-    };
-    command.map(Some).ok_or(Refusal::WrongArgument)
+        Err(Refusal::UnknownCommand)
+    }
 }
 
-// A command after whose name no word stands.
-fn bare(words: Words, command: Command) -> Option<Command>
-    ensures value { result ≡ bare command words.entry }
+// `stepi` and a count.
+fn step(words: Words) -> Result<Command, Refusal>
+    ensures value { result ≡ ok_or (counted Command.Step words.entry) Refusal.WrongArgument }
 {
-    words.end()?;
-    Some(command)
+    optional_count(words).map(Command::Step)
 }
 
-// A count, which is 1 where no word is left.
-fn optional_count(mut words: Words) -> Option<Count>
-    ensures value { result ≡ optional_count words.entry }
+// `reverse-stepi` and a count.
+fn reverse_step(words: Words) -> Result<Command, Refusal>
+    ensures value { result ≡ ok_or (counted Command.ReverseStep words.entry) Refusal.WrongArgument }
 {
-    let Some(word) = words.next_word() else {
-        return Some(Count::ONE);
-    };
-    let count = Count::new(parse_number(word)?)?;
-    words.end()?;
-    Some(count)
+    optional_count(words).map(Command::ReverseStep)
 }
 
-// What `info` is to show.
-fn info(mut words: Words) -> Option<Command>
-    ensures value { result ≡ one_of shows words.entry }
+// `info` and what it shows.
+#[tactic(auto, unfolding(crate::specs::Commands::one_of))]
+fn info(mut words: Words) -> Result<Command, Refusal>
+    ensures value { result ≡ ok_or (one_of shows words.entry) Refusal.WrongArgument }
 {
-    let name = words.next_word()?;
+    let name = words.next_word().ok_or(Refusal::WrongArgument)?;
     if is(name, "regs") {
         bare(words, Command::InfoRegisters)
     } else {
-        None
+        Err(Refusal::WrongArgument)
     }
+}
+
+// A command after whose name no word stands.
+fn bare(words: Words, command: Command) -> Result<Command, Refusal>
+    ensures value { result ≡ ok_or (bare command words.entry) Refusal.WrongArgument }
+{
+    words.end()?;
+    Ok(command)
+}
+
+// A count, which is 1 where no word is left.
+fn optional_count(mut words: Words) -> Result<Count, Refusal>
+    ensures value { result ≡ ok_or (optional_count words.entry) Refusal.WrongArgument }
+{
+    let Some(word) = words.next_word() else {
+        return Ok(Count::ONE);
+    };
+    let count = parse_number(word).and_then(Count::new);
+    words.end()?;
+    count.ok_or(Refusal::WrongArgument)
 }
 
 // Whether a word is this text; case matters.

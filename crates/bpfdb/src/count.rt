@@ -16,7 +16,7 @@ impl Model for Count {
 
     ghost view = { λ count. count.value };
 
-    ghost invariant = { λ count. (1 ≤ count.value) × (count.value ≤ 1000000000) };
+    ghost invariant = { λ count. (1 ≤ count.value) × (count.value ≤ 1_000_000_000) };
 
     ghost inverse = { λ n. record { value = n } };
 }
@@ -27,7 +27,7 @@ impl Count {
 
     /// The count of this value, None for 0 and above 1,000,000,000.
     pub fn new(value: u64) -> Option<Count>
-        ensures found { IsSome result ↔ ((1 ≤ value) × (value ≤ 1000000000)) }
+        ensures found { IsSome result ↔ ((1 ≤ value) × (value ≤ 1_000_000_000)) }
         ensures value { IfSome result (λ count. count ≡ value) }
     {
         if (1..=1_000_000_000).contains(&value) {
@@ -40,7 +40,7 @@ impl Count {
     /// The count's value, 1 to 1,000,000,000.
     pub fn get(&self) -> u64
         ensures value { result ≡ self.now }
-        ensures fits { (1 ≤ result) × (result ≤ 1000000000) }
+        ensures fits { (1 ≤ result) × (result ≤ 1_000_000_000) }
     {
         self.value
     }

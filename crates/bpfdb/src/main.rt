@@ -15,6 +15,8 @@ mod refusal;
 mod reply;
 mod script;
 mod session;
+#[cfg(test)]
+mod tests;
 mod timeline;
 mod words;
 

@@ -23,6 +23,7 @@ use std::marker::Model;
 pub const GREATEST_LIMIT: u64 = 1_000_000_000;
 
 /// A session of commands.
+#[derive(Drop)]
 pub struct Session<K: Keeper> {
     timeline: Timeline<K>,
     limit: u64,

@@ -18,6 +18,7 @@ pub enum StepFault {
 }
 
 /// A machine and a keeper: there is a history that they stand for.
+#[derive(Drop)]
 pub struct Timeline<K: Keeper> {
     cpu: Cpu,
     keeper: K,

@@ -1,8 +1,9 @@
 //! The words of a line.
-ghost use Rattle.std.specs.Prelude.{◌≡◌, [], ◌∷◌, drop, not, IfNone, IsSome, MatchOption, ◌↔◌};
+ghost use Rattle.std.specs.Prelude.{◌≡◌, [], ◌∷◌, drop, not, IfNone, IsOk, IfErr, MatchOption, ◌↔◌};
 ghost use Rattle.std.specs.List.{position_or_len};
 ghost use Rattle.bpfdb.specs.Script.{is_blank, words};
 
+use crate::refusal::Refusal;
 use std::marker::Model;
 
 /// The words of a line that are still to be read. Space, tab and carriage return stand between words.
@@ -42,13 +43,14 @@ impl<'a> Words<'a> {
         Some(word)
     }
 
-    /// Some where no word is left.
-    pub(crate) fn end(mut self) -> Option<()>
-        ensures found { IsSome result ↔ (self.entry ≡ []) }
+    /// Nothing is left to be read, else Q2.
+    pub(crate) fn end(mut self) -> Result<(), Refusal>
+        ensures ok { IsOk result ↔ (self.entry ≡ []) }
+        ensures err { IfErr result (λ refusal. refusal ≡ Refusal.WrongArgument) }
     {
         match self.next_word() {
-            None => Some(()),
-            Some(_) => None,
+            None => Ok(()),
+            Some(_) => Err(Refusal::WrongArgument),
         }
     }
 }

@@ -1,9 +1,8 @@
-use Rattle.std.proofs.Common.{◌≡◌, ◌<◌, ℕ, ap, sym, ◌∙◌, length, take, drop, refl, arith, rules, tests}
+use Rattle.std.proofs.Common.{◌≡◌, ◌<◌, ap, sym, ◌∙◌, length, refl, arith, rules, tests}
 use Rattle.std.specs.Prelude.{not}
-use Rattle.std.specs.List.{position_or_len}
 use Rattle.std.proofs.lemmas.List.Sums.{prefix_len-le-length}
 use Rattle.bpfdb.specs.Script.{is_blank, words}
-use Rattle.bpfdb.proofs.Cuts.{words-drop_blanks, words-first, first-letter, words-empty}
+use Rattle.bpfdb.proofs.Cuts.{words-drop_blanks, words-first, first-word_byte, words-empty}
 use Rattle.bpfdb.proofs.words.Words.next_word.Goals as goal
 
 pub returns-then-is_empty-clause-next : goal.returns-then-is_empty-clause-next
@@ -18,6 +17,6 @@ pub returns-clause-next : goal.returns-clause-next
 returns-clause-next c =
     let line = c.without_blanks-line.result.now in
     let some : 0 < length line = search (rules, tests) in
-    let first = words-first line (first-letter line c.self.inside.line.now c.without_blanks-line.ensures.value some) in
+    let first = words-first line (first-word_byte line c.self.inside.line.now c.without_blanks-line.ensures.value some) in
     sym c.self.view_is ∙ sym (words-drop_blanks c.self.inside.line.now) ∙ ap words (sym c.without_blanks-line.ensures.value) ∙ first
     ∙ rw (c.split_at.ensures.front, c.split_at.ensures.back, c.word_len.ensures.value) refl

@@ -1,0 +1,3 @@
+//! Tests of what no contract says: the worked sessions, and the user's manual of lines.
+mod lines;
+mod sessions;
