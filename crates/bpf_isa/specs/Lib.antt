@@ -1,1 +1,9 @@
 pub mod Programs
+pub mod Rows
+pub mod Arithmetic
+pub mod Swaps
+pub mod Jumps
+pub mod Memory
+pub mod WideLoads
+pub mod Bits
+pub mod Words

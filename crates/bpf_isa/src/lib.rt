@@ -1,11 +1,15 @@
 //! The instruction set of BPF (RFC 9669): words, their decoder and encoder, and the checker of programs.
 #![tactic(auto)]
 
+mod fields;
+mod form;
 mod instruction;
 mod maps;
+mod opcode;
 mod program;
 mod register;
 
+pub use form::{Form, Operand};
 pub use instruction::{
     AtomicOp, BinaryOp, ByteOrder, Condition, Extension, Insn, SignedSize, Size, Source, SwapWidth,
     Width,
