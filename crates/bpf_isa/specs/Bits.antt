@@ -1,16 +1,11 @@
--- The parts of an opcode: class, source and code, or class, size and mode (RFC 9669, sections 3.1 and 4 and 5).
-use Rattle.std.specs.Prelude.{◌≡◌, ◌<◌, ◌⊎◌, ℕ, ◌+◌, ◌*◌}
+-- The parts of an opcode: class and source bit (RFC 9669, sections 3.1 and 4); and which fields a row leaves unused.
+use Rattle.std.specs.Prelude.{◌≡◌, ℕ, Bool, true, false}
 use Rattle.bpf_isa.specs.declared.instruction.Width.{Width}
 use Rattle.bpf_isa.specs.declared.instruction.Width.TheVariants.{Bits32, Bits64}
-use Rattle.bpf_isa.specs.declared.instruction.BinaryOp.{BinaryOp}
-use Rattle.bpf_isa.specs.declared.instruction.Extension.{Extension}
-use Rattle.bpf_isa.specs.declared.instruction.Condition.{Condition}
-use Rattle.bpf_isa.specs.declared.instruction.Extension.TheVariants.{Byte64, Half64, Word64, Byte32, Half32}
 use Rattle.bpf_isa.specs.declared.form.Operand.{Operand}
 use Rattle.bpf_isa.specs.declared.form.Operand.TheVariants.{Immediate, Register}
-use Rattle.bpf_isa.specs.Rows.{HasCode, Row}
-use Rattle.bpf_isa.specs.Arithmetic.{binary_opcode, binary_offset, extension_row}
-use Rattle.bpf_isa.specs.Jumps.{condition_opcode}
+use Rattle.bpf_isa.specs.declared.unused.Unused.{Unused}
+use Rattle.bpf_isa.specs.Rows.{Field, unused, code, used, Row}
 
 -- The source bit: K is 0, X is 1, in the place of 8.
 abbrev pub operand_bit : Operand → ℕ
@@ -26,3 +21,17 @@ class_of Bits64 = 7
 abbrev pub jump_class_of : Width → ℕ
 jump_class_of Bits32 = 6
 jump_class_of Bits64 = 5
+
+-- Whether a field is unused.
+abbrev pub is_unused : Field → Bool
+is_unused unused = true
+is_unused (code k) = false
+is_unused used = false
+
+-- The unused fields of a row.
+pub record AreUnused (row : Row) (flags : Unused) : Type 0 where
+  pub dst : flags.dst ≡ is_unused row.dst
+  pub src : flags.src ≡ is_unused row.src
+  pub offset : flags.offset ≡ is_unused row.offset
+  pub imm : flags.imm ≡ is_unused row.imm
+  pub next : flags.next ≡ is_unused row.next

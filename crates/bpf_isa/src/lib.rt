@@ -1,6 +1,8 @@
 //! The instruction set of BPF (RFC 9669): words, their decoder and encoder, and the checker of programs.
 #![tactic(auto)]
 
+mod decode;
+mod fault;
 mod fields;
 mod form;
 mod instruction;
@@ -8,7 +10,9 @@ mod maps;
 mod opcode;
 mod program;
 mod register;
+mod unused;
 
+pub use fault::WordFault;
 pub use form::{Form, Operand};
 pub use instruction::{
     AtomicOp, BinaryOp, ByteOrder, Condition, Extension, Insn, SignedSize, Size, Source, SwapWidth,

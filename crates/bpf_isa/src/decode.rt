@@ -1,0 +1,110 @@
+//! From words to instructions.
+ghost use Rattle.std.specs.Prelude.{◌≡◌, ◌↔◌, IsTrue, IfOk};
+ghost use Rattle.bpf_isa.specs.Words.{operand_of, form_of, HasRegisters, HasSource, HasParts};
+
+use crate::fields::Fields;
+use crate::form::{Form, Operand};
+use crate::instruction::{Insn, Source};
+use crate::register::Reg;
+
+/// The second operand.
+fn source_of(operand: Operand, fields: Fields) -> Source
+    requires { HasRegisters fields }
+    ensures operand { operand_of result ≡ operand }
+    ensures value { HasSource result fields }
+{
+    match operand {
+        Operand::Immediate => Source::Immediate(fields.imm.cast_signed()),
+        Operand::Register => Source::Register(Reg::of(fields.src)),
+    }
+}
+
+/// The instruction of a form with the parts that stand in the fields.
+fn insn_of(form: Form, fields: Fields) -> Insn
+    requires { HasRegisters fields }
+    ensures form { form_of result ≡ form }
+    ensures parts { HasParts result fields }
+{
+    let dst = Reg::of(fields.dst);
+    let src = Reg::of(fields.src);
+    let offset = fields.offset.cast_signed();
+    match form {
+        Form::Binary { op, width, operand } => Insn::Binary {
+            op,
+            width,
+            dst,
+            source: source_of(operand, fields),
+        },
+        Form::Negate { width } => Insn::Negate { width, dst },
+        Form::SignExtend { extension } => Insn::SignExtend {
+            extension,
+            dst,
+            src,
+        },
+        Form::SwapBytes { order, width } => Insn::SwapBytes { order, width, dst },
+        Form::JumpIf {
+            condition,
+            width,
+            operand,
+        } => Insn::JumpIf {
+            condition,
+            width,
+            dst,
+            source: source_of(operand, fields),
+            offset,
+        },
+        Form::Jump => Insn::Jump { offset },
+        Form::JumpLong => Insn::JumpLong {
+            distance: fields.imm.cast_signed(),
+        },
+        Form::CallHelper => Insn::CallHelper { helper: fields.imm },
+        Form::CallLocal => Insn::CallLocal {
+            distance: fields.imm.cast_signed(),
+        },
+        Form::Exit => Insn::Exit,
+        Form::Load { size } => Insn::Load {
+            size,
+            dst,
+            src,
+            offset,
+        },
+        Form::LoadSigned { size } => Insn::LoadSigned {
+            size,
+            dst,
+            src,
+            offset,
+        },
+        Form::StoreImmediate { size } => Insn::StoreImmediate {
+            size,
+            dst,
+            offset,
+            value: fields.imm.cast_signed(),
+        },
+        Form::StoreRegister { size } => Insn::StoreRegister {
+            size,
+            dst,
+            src,
+            offset,
+        },
+        Form::Atomic { op, width } => Insn::Atomic {
+            op,
+            width,
+            dst,
+            src,
+            offset,
+        },
+        Form::LoadNumber => Insn::LoadNumber {
+            dst,
+            value: u64::from(fields.imm) + 4294967296 * u64::from(fields.next),
+        },
+        Form::LoadMap => Insn::LoadMap {
+            dst,
+            map: fields.imm,
+        },
+        Form::LoadMapValue => Insn::LoadMapValue {
+            dst,
+            map: fields.imm,
+            offset: fields.next,
+        },
+    }
+}
