@@ -6,4 +6,5 @@ pub mod Jumps
 pub mod Memory
 pub mod WideLoads
 pub mod Bits
+pub mod WordFaults
 pub mod Words

@@ -1,11 +1,15 @@
 //! From words to instructions.
-ghost use Rattle.std.specs.Prelude.{◌≡◌, ◌↔◌, IsTrue, IfOk};
-ghost use Rattle.bpf_isa.specs.Words.{operand_of, form_of, HasRegisters, HasSource, HasParts};
+ghost use Rattle.std.specs.Prelude.{◌≡◌, ◌⊎◌, IfOk, OnOk, IfErr, Ok, length, slice_index};
+ghost use Rattle.bpf_isa.specs.Words.{operand_of, form_of, HasRegisters, HasSource, HasParts, IsWord};
+ghost use Rattle.bpf_isa.specs.WordFaults.{HasWordFault, IsLeastWordFault};
 
-use crate::fields::Fields;
+use crate::fault::WordFault;
+use crate::fields::{Fields, read};
 use crate::form::{Form, Operand};
 use crate::instruction::{Insn, Source};
+use crate::opcode::form_of;
 use crate::register::Reg;
+use crate::unused::is_clean;
 
 /// The second operand.
 fn source_of(operand: Operand, fields: Fields) -> Source
@@ -107,4 +111,29 @@ fn insn_of(form: Form, fields: Fields) -> Insn
             offset: fields.next,
         },
     }
+}
+
+/// The instruction that 8 bytes spell, or 16 that begin with the wide opcode.
+pub(crate) fn word(bytes: &[u8]) -> Result<Insn, WordFault>
+    requires { (length bytes.now ≡ 8) ⊎ ((length bytes.now ≡ 16) × (slice_index bytes.now 0 ≡ 24)) }
+    ensures ok { IfOk result (λ insn. IsWord insn bytes.now) }
+    ensures clear { OnOk result ((fault : WordFault) → HasWordFault bytes.now fault → ⊥) }
+    ensures fault { IfErr result (IsLeastWordFault bytes.now) }
+    ensures only { (insn : Insn) → IsWord insn bytes.now → result ≡ Ok insn }
+{
+    let fields = read(bytes);
+    let form = match form_of(fields) {
+        Some(form) => form,
+        None => return Err(WordFault::UnknownInstruction),
+    };
+    if fields.dst > 10 || fields.src > 10 {
+        return Err(WordFault::RegisterAboveTen);
+    }
+    if !is_clean(form, fields) {
+        return Err(WordFault::UnusedField);
+    }
+    if fields.opcode == 0x18 && bytes.len() == 8 {
+        return Err(WordFault::CutOff);
+    }
+    Ok(insn_of(form, fields))
 }
