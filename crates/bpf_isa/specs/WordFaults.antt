@@ -29,6 +29,10 @@ pub record IsLeastWordFault (bytes : List ℕ) (fault : WordFault) : Type 0 wher
   pub applies : HasWordFault bytes fault
   pub least : (other : WordFault) → HasWordFault bytes other → word_fault_number fault ≤ word_fault_number other
 
+-- No fault applies.
+pub record HasNoWordFault (bytes : List ℕ) : Type 0 where
+  pub none : (fault : WordFault) → HasWordFault bytes fault → ⊥
+
 -- The bytes that count: the second slot only after the wide opcode.
 abbrev pub joined : List ℕ → Option (List ℕ) → List ℕ
 joined first None = first

@@ -1,7 +1,7 @@
 //! The instruction set of BPF (RFC 9669): words, their decoder and encoder, and the checker of programs.
 #![tactic(auto)]
 
-mod decode;
+mod decoder;
 mod fault;
 mod fields;
 mod form;
@@ -12,6 +12,7 @@ mod program;
 mod register;
 mod unused;
 
+pub use decoder::decode;
 pub use fault::WordFault;
 pub use form::{Form, Operand};
 pub use instruction::{

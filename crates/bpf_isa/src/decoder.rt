@@ -1,7 +1,7 @@
 //! From words to instructions.
-ghost use Rattle.std.specs.Prelude.{◌≡◌, ◌⊎◌, IfOk, OnOk, IfErr, Ok, length, slice_index};
+ghost use Rattle.std.specs.Prelude.{◌≡◌, ◌⊎◌, IfOk, OnOk, IfErr, Ok, ◌++◌, length, slice_index};
 ghost use Rattle.bpf_isa.specs.Words.{operand_of, form_of, HasRegisters, HasSource, HasParts, IsWord};
-ghost use Rattle.bpf_isa.specs.WordFaults.{HasWordFault, IsLeastWordFault};
+ghost use Rattle.bpf_isa.specs.WordFaults.{HasNoWordFault, IsLeastWordFault, joined};
 
 use crate::fault::WordFault;
 use crate::fields::{Fields, read};
@@ -117,7 +117,7 @@ fn insn_of(form: Form, fields: Fields) -> Insn
 pub(crate) fn word(bytes: &[u8]) -> Result<Insn, WordFault>
     requires { (length bytes.now ≡ 8) ⊎ ((length bytes.now ≡ 16) × (slice_index bytes.now 0 ≡ 24)) }
     ensures ok { IfOk result (λ insn. IsWord insn bytes.now) }
-    ensures clear { OnOk result ((fault : WordFault) → HasWordFault bytes.now fault → ⊥) }
+    ensures clear { OnOk result (HasNoWordFault bytes.now) }
     ensures fault { IfErr result (IsLeastWordFault bytes.now) }
     ensures only { (insn : Insn) → IsWord insn bytes.now → result ≡ Ok insn }
 {
@@ -136,4 +136,35 @@ pub(crate) fn word(bytes: &[u8]) -> Result<Insn, WordFault>
         return Err(WordFault::CutOff);
     }
     Ok(insn_of(form, fields))
+}
+
+/// The instruction that the slots spell. The second is looked at only after the opcode of the wide loads, 0x18.
+///
+/// The fault is the one with the least number of those that apply.
+pub fn decode(first: [u8; 8], second: Option<[u8; 8]>) -> Result<Insn, WordFault>
+    ensures ok { IfOk result (λ insn. IsWord insn (joined first second)) }
+    ensures clear { OnOk result (HasNoWordFault (joined first second)) }
+    ensures fault { IfErr result (IsLeastWordFault (joined first second)) }
+    ensures only { (insn : Insn) → IsWord insn (joined first second) → result ≡ Ok insn }
+{
+    match second {
+        Some(second) => {
+            if first[0] == 0x18 {
+                word(&both(first, second))
+            } else {
+                word(&first)
+            }
+        }
+        None => word(&first),
+    }
+}
+
+/// The bytes of two slots.
+fn both(first: [u8; 8], second: [u8; 8]) -> [u8; 16]
+    ensures { result ≡ first ++ second }
+{
+    let mut bytes = [0; 16];
+    bytes[..8].copy_from_slice(&first);
+    bytes[8..].copy_from_slice(&second);
+    bytes
 }
