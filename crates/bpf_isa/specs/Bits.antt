@@ -1,5 +1,7 @@
 -- The parts of an opcode: class and source bit (RFC 9669, sections 3.1 and 4); and which fields a row leaves unused.
-use Rattle.std.specs.Prelude.{◌≡◌, ℕ, Bool, true, false}
+use Rattle.std.specs.Prelude.{◌≡◌, ℕ, ℤ, Bool, true, false}
+use Rattle.std.specs.Int.{w16, cast_signed}
+use Rattle.bpf_isa.specs.declared.fields.Fields.{Fields}
 use Rattle.bpf_isa.specs.declared.instruction.Width.{Width}
 use Rattle.bpf_isa.specs.declared.instruction.Width.TheVariants.{Bits32, Bits64}
 use Rattle.bpf_isa.specs.declared.form.Operand.{Operand}
@@ -35,3 +37,13 @@ pub record AreUnused (row : Row) (flags : Unused) : Type 0 where
   pub offset : flags.offset ≡ is_unused row.offset
   pub imm : flags.imm ≡ is_unused row.imm
   pub next : flags.next ≡ is_unused row.next
+
+-- The fields of an access by two registers and an offset.
+pub record IsAccess (opcode dst src : ℕ) (offset : ℤ) (fields : Fields) : Type 0 where
+  pub opcode_is : fields.opcode ≡ opcode
+  pub dst_is : fields.dst ≡ dst
+  pub src_is : fields.src ≡ src
+  pub offset_is : cast_signed w16 fields.offset ≡ offset
+  pub imm : fields.imm ≡ 0
+  pub reserved : fields.reserved ≡ 0
+  pub next : fields.next ≡ 0

@@ -2,6 +2,7 @@
 #![tactic(auto)]
 
 mod decoder;
+mod encoder;
 mod fault;
 mod fields;
 mod form;
