@@ -14,6 +14,7 @@ use crate::instruction::{
     Width,
 };
 use crate::register::Reg;
+use crate::words::Words;
 
 /// The class and source bit of arithmetic.
 fn arithmetic_bits(width: Width, operand: Operand) -> u8
@@ -404,4 +405,11 @@ fn atomic_fields(op: AtomicOp, width: Width, dst: Reg, src: Reg, offset: i16) ->
         imm: atomic_imm(op),
         ..ZERO
     }
+}
+
+/// The one word of an instruction.
+pub fn encode(insn: Insn) -> Words
+    ensures { IsWord insn result }
+{
+    Words::of(fields_with(insn))
 }

@@ -41,3 +41,33 @@ pub fn read(bytes: &[u8]) -> Fields
         next: if is_wide { word(bytes, 12) } else { 0 },
     }
 }
+
+/// The bytes of two slots with these fields.
+pub fn written(fields: Fields) -> [u8; 16]
+    requires { (fields.dst < 16) × (fields.src < 16) }
+    ensures value { fields_of result ≡ fields }
+    ensures within { All (λ byte. byte < 256) result }
+{
+    let offset = fields.offset.to_le_bytes();
+    let imm = fields.imm.to_le_bytes();
+    let reserved = fields.reserved.to_le_bytes();
+    let next = fields.next.to_le_bytes();
+    [
+        fields.opcode,
+        fields.dst + 16 * fields.src,
+        offset[0],
+        offset[1],
+        imm[0],
+        imm[1],
+        imm[2],
+        imm[3],
+        reserved[0],
+        reserved[1],
+        reserved[2],
+        reserved[3],
+        next[0],
+        next[1],
+        next[2],
+        next[3],
+    ]
+}

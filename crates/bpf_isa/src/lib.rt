@@ -12,6 +12,7 @@ mod opcode;
 mod program;
 mod register;
 mod unused;
+mod words;
 
 pub use decoder::decode;
 pub use fault::WordFault;
@@ -23,3 +24,4 @@ pub use instruction::{
 pub use maps::{MapShape, MapTable};
 pub use program::{LoadFault, Program, check};
 pub use register::Reg;
+pub use words::Words;
