@@ -1,5 +1,5 @@
 -- Words: the 8 or 16 bytes that spell an instruction (RFC 9669, section 3).
-use Rattle.std.specs.Prelude.{◌≡◌, ◌<◌, ◌≤◌, ◌==◌, if◌then◌else◌, ℕ, ◌+◌, ◌*◌, ◌/◌, ◌%◌, List, ◌++◌, Option, Some, None, All, length, slice_index}
+use Rattle.std.specs.Prelude.{◌≡◌, ◌<◌, ◌≤◌, ◌==◌, if◌then◌else◌, ℕ, ◌+◌, ◌*◌, ◌/◌, ◌%◌, List, [], ◌++◌, Option, Some, None, All, length, slice_index}
 use Rattle.std.specs.Int.{w16, w32, cast_signed}
 use Rattle.bpf_isa.specs.declared.instruction.Insn.{Insn}
 use Rattle.bpf_isa.specs.declared.instruction.Source.{Source}
@@ -140,3 +140,11 @@ pub record IsWord (insn : Insn) (bytes : List ℕ) : Type 0 where
   pub clean : IsClean (row (form_of insn)) (fields_of bytes)
   pub registers : HasRegisters (fields_of bytes)
   pub parts : HasParts insn (fields_of bytes)
+
+-- An instruction has at most one word.
+abbrev pub HaveOneWord : Type 0
+HaveOneWord = (insn : Insn) (a b : List ℕ) → IsWord insn a → IsWord insn b → a ≡ b
+
+-- No word begins another.
+abbrev pub NoneBeginsAnother : Type 0
+NoneBeginsAnother = (i j : Insn) (a rest : List ℕ) → IsWord i a → IsWord j (a ++ rest) → rest ≡ []

@@ -7,6 +7,7 @@ mod fault;
 mod fields;
 mod form;
 mod instruction;
+mod laws;
 mod maps;
 mod opcode;
 mod program;
@@ -21,6 +22,7 @@ pub use instruction::{
     AtomicOp, BinaryOp, ByteOrder, Condition, Extension, Insn, SignedSize, Size, Source, SwapWidth,
     Width,
 };
+pub use laws::one_spelling;
 pub use maps::{MapShape, MapTable};
 pub use program::{LoadFault, Program, check};
 pub use register::Reg;
