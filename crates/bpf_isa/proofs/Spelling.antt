@@ -11,7 +11,7 @@ use Rattle.std.proofs.lemmas.List.Elements.{All-get_or}
 use Rattle.bpf_isa.specs.declared.instruction.Insn.{Insn}
 use Rattle.bpf_isa.specs.declared.instruction.Insn.TheVariants.{Binary, Negate, SignExtend, SwapBytes, JumpIf, Jump, JumpLong, CallHelper, CallLocal, Exit, Load, LoadSigned, StoreImmediate, StoreRegister, Atomic, LoadNumber, LoadMap, LoadMapValue}
 use Rattle.bpf_isa.specs.declared.fields.Fields.{Fields}
-use Rattle.bpf_isa.specs.Programs.{slots_of}
+use Rattle.bpf_isa.specs.Insns.{slots_of}
 use Rattle.bpf_isa.specs.Words.{row, form_of, fields_of, HasCodes, IsClean, HasParts, IsWord}
 
 -- the ranges of the fields

@@ -1,10 +1,12 @@
-pub mod Programs
 pub mod Rows
 pub mod Arithmetic
 pub mod Swaps
 pub mod Jumps
 pub mod Memory
 pub mod WideLoads
-pub mod Bits
-pub mod WordFaults
+pub mod Insns
 pub mod Words
+pub mod WordFaults
+pub mod Checker
+pub mod Programs
+pub mod Bits

@@ -16,7 +16,7 @@ use Rattle.bpf_isa.specs.Swaps.{swap_row}
 use Rattle.bpf_isa.specs.Jumps.{jump_row, jump_long_row, condition_row, call_helper_row, call_local_row, exit_row}
 use Rattle.bpf_isa.specs.Memory.{load_row, load_signed_row, store_immediate_row, store_register_row, atomic_row}
 use Rattle.bpf_isa.specs.WideLoads.{wide_opcode, load_number_row, load_map_row, load_map_value_row}
-use Rattle.bpf_isa.specs.Programs.{slots_of}
+use Rattle.bpf_isa.specs.Insns.{slots_of}
 
 -- The row of a form.
 abbrev pub row : Form → Row

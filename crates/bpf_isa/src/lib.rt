@@ -16,7 +16,7 @@ mod unused;
 mod words;
 
 pub use decoder::decode;
-pub use fault::WordFault;
+pub use fault::{LoadFault, PieceFault, WordFault};
 pub use form::{Form, Operand};
 pub use instruction::{
     AtomicOp, BinaryOp, ByteOrder, Condition, Extension, Insn, SignedSize, Size, Source, SwapWidth,
@@ -24,6 +24,6 @@ pub use instruction::{
 };
 pub use laws::one_spelling;
 pub use maps::{MapShape, MapTable};
-pub use program::{LoadFault, Program, check};
+pub use program::{Program, check};
 pub use register::Reg;
 pub use words::Words;

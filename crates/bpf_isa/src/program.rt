@@ -1,16 +1,11 @@
 //! Programs that the checker accepted.
 ghost use Rattle.std.specs.Prelude.{◌≡◌, ◌↔◌, IsTrue, length};
 
+use crate::fault::LoadFault;
 use crate::instruction::Insn;
 use crate::maps::{MapShape, MapTable};
 use std::alloc::Global;
 use std::marker::Model;
-
-/// Why a program is refused. (So far only for want of memory.)
-#[derive(Drop)]
-pub enum LoadFault {
-    Memory,
-}
 
 /// A checked program: its bytes, the instruction of each slot, and its maps.
 #[derive(Drop)]
