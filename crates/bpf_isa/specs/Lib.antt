@@ -4,6 +4,7 @@ pub mod Swaps
 pub mod Jumps
 pub mod Memory
 pub mod WideLoads
+pub mod Maps
 pub mod Insns
 pub mod Words
 pub mod WordFaults

@@ -54,3 +54,18 @@ pub enum LoadFault {
     /// Memory ran out.
     Memory,
 }
+
+/// Why a map, or a list of maps, is refused.
+#[derive(Clone, Copy)]
+pub enum MapFault {
+    /// A value isn't 1 to 256 bytes.
+    ValueSize,
+    /// There aren't 1 to 4,096 entries.
+    Entries,
+    /// The map is larger than 65,536 bytes.
+    Total,
+    /// There are 16 maps already.
+    Full,
+    /// The text is no list of maps.
+    Malformed,
+}

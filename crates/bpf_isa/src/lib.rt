@@ -16,7 +16,7 @@ mod unused;
 mod words;
 
 pub use decoder::decode;
-pub use fault::{LoadFault, PieceFault, WordFault};
+pub use fault::{LoadFault, MapFault, PieceFault, WordFault};
 pub use form::{Form, Operand};
 pub use instruction::{
     AtomicOp, BinaryOp, ByteOrder, Condition, Extension, Insn, SignedSize, Size, Source, SwapWidth,
