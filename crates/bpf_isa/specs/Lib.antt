@@ -9,5 +9,6 @@ pub mod Insns
 pub mod Words
 pub mod WordFaults
 pub mod Checker
+pub mod Flags
 pub mod Programs
 pub mod Bits

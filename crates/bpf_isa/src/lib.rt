@@ -12,6 +12,7 @@ mod maps;
 mod opcode;
 mod program;
 mod register;
+mod rules;
 mod unused;
 mod words;
 
