@@ -40,7 +40,7 @@ agree : (insn : Insn) (f g : Fields) → AreSmall f → AreSmall g → HasCodes 
 agree insn f g small_f small_g codes_f codes_g clean_f clean_g parts_f parts_g = grind (arith, same_half, same_word)
 
 -- the opcode tells how many slots there are
-wide_or_not : (insn : Insn) → (((row (form_of insn)).opcode ≡ 24) × (slots_of insn ≡ 2)) ⊎ (((row (form_of insn)).opcode ≢ 24) × (slots_of insn ≡ 1))
+pub wide_or_not : (insn : Insn) → (((row (form_of insn)).opcode ≡ 24) × (slots_of insn ≡ 2)) ⊎ (((row (form_of insn)).opcode ≢ 24) × (slots_of insn ≡ 1))
 wide_or_not insn = grind arith
 
 -- a byte anywhere, also past the end

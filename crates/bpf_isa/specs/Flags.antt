@@ -1,7 +1,27 @@
--- The starts of a program as flags, one a slot.
-use Rattle.std.specs.Prelude.{◌≡◌, ◌<◌, ℕ, ◌*◌, Bool, List, Option, Some, length, slice_get}
-use Rattle.bpf_isa.specs.Checker.{is_start}
+-- How the checker keeps the starts of a program, one flag a slot, and what it asks of an instruction by itself.
+use Rattle.std.specs.Prelude.{◌≡◌, ◌<◌, ◌≤◌, ℕ, ◌*◌, Bool, List, Option, Some, length, slice_get}
+use Rattle.bpf_isa.specs.declared.instruction.Insn.{Insn}
+use Rattle.bpf_isa.specs.declared.maps.MapShape.{MapShape}
+use Rattle.bpf_isa.specs.declared.fault.PieceFault.{PieceFault}
+use Rattle.bpf_isa.specs.declared.fault.PieceFault.TheVariants.{UnknownInstruction, RegisterAboveTen, UnusedField, WritesFramePointer, NoTarget, CutOff, RunsOff, UnknownHelper, NoMap}
+use Rattle.bpf_isa.specs.Insns.{FallsThrough}
+use Rattle.bpf_isa.specs.Checker.{is_start, after, SparesTen, Lands, CallsHelper, NamesMap, fault_number}
 
+-- The flags are the starts.
 pub record AreStarts (bytes : List ℕ) (starts : List Bool) : Type 0 where
   pub slots : 8 * length starts ≡ length bytes
   pub flags : (p : ℕ) → p < length starts → slice_get starts p ≡ Some (is_start bytes p)
+
+-- A rule that a whole instruction breaks at a slot.
+abbrev pub Breaks : List ℕ → List MapShape → ℕ → Insn → PieceFault → Type 0
+Breaks bytes maps p insn WritesFramePointer = SparesTen insn → ⊥
+Breaks bytes maps p insn NoTarget = Lands bytes p insn → ⊥
+Breaks bytes maps p insn RunsOff = (length bytes ≤ 8 * after bytes p) × FallsThrough insn
+Breaks bytes maps p insn UnknownHelper = CallsHelper insn → ⊥
+Breaks bytes maps p insn NoMap = NamesMap maps insn → ⊥
+Breaks bytes maps p insn _ = ⊥
+
+-- The broken rule with the least number.
+pub record IsLeastBroken (bytes : List ℕ) (maps : List MapShape) (p : ℕ) (insn : Insn) (fault : PieceFault) : Type 0 where
+  pub applies : Breaks bytes maps p insn fault
+  pub least : (other : PieceFault) → Breaks bytes maps p insn other → fault_number fault ≤ fault_number other

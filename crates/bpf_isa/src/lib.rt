@@ -1,6 +1,7 @@
 //! The instruction set of BPF (RFC 9669): words, their decoder and encoder, and the checker of programs.
 #![tactic(auto)]
 
+mod checker;
 mod decoder;
 mod encoder;
 mod fault;

@@ -1,0 +1,98 @@
+//! The checker: the first fault of the bytes, or a program.
+ghost use Rattle.std.specs.Prelude.{◌≡◌, ◌≤◌, ◌<◌, ◌⊎◌, ◌*◌, ◌↔◌, IsTrue, IfSome, IfNone, IfOk, OnOk, IfErr, List, ℕ, length, slice_index};
+ghost use Rattle.bpf_isa.specs.Checker.{IsStartIn, AreSlots, piece_at, after, HasFault, HasNoFault, IsLeastFault, IsFirstFault, IsAccepted, IsRefused};
+ghost use Rattle.bpf_isa.specs.Flags.{AreStarts, Breaks, IsLeastBroken};
+ghost use Rattle.bpf_isa.specs.WordFaults.{IsLeastWordFault};
+ghost use Rattle.bpf_isa.specs.Words.{IsWord};
+ghost use Rattle.bpf_isa.specs.declared.maps.MapShape.{MapShape};
+
+use crate::decoder::word;
+use crate::fault::{PieceFault, WordFault};
+use crate::fields::read;
+use crate::instruction::Insn;
+use crate::maps::MapTable;
+use crate::opcode::form_of;
+use crate::rules::lands;
+
+/// The bytes of the piece at a start.
+fn piece_of(bytes: &[u8], slot: usize) -> &[u8]
+    requires slots { AreSlots bytes.now }
+    requires start { IsStartIn bytes.now slot }
+    ensures value { result.now ≡ piece_at bytes.now slot }
+    ensures fits { (length result.now ≡ 8) ⊎ ((length result.now ≡ 16) × (slice_index result.now 0 ≡ 24)) }
+{
+    let from = 8 * slot;
+    let to = if bytes[from] == 0x18 && from + 16 <= bytes.len() {
+        from + 16
+    } else {
+        from + 8
+    };
+    &bytes[from..to]
+}
+
+/// The fault of a piece that is no word.
+fn word_fault(piece: &[u8], fault: WordFault) -> PieceFault
+    requires size { (length piece.now ≡ 8) ⊎ (length piece.now ≡ 16) }
+    requires least { IsLeastWordFault piece.now fault }
+    ensures { (bytes : List ℕ) (maps : List MapShape) (slot : ℕ)
+        → piece_at bytes slot ≡ piece.now → IsLeastFault bytes maps slot result }
+{
+    match fault {
+        WordFault::UnknownInstruction => PieceFault::UnknownInstruction,
+        WordFault::RegisterAboveTen => PieceFault::RegisterAboveTen,
+        WordFault::UnusedField => PieceFault::UnusedField,
+        WordFault::CutOff => cut_off_fault(piece),
+    }
+}
+
+/// The fault of a wide instruction without its second slot, which may write r10.
+fn cut_off_fault(piece: &[u8]) -> PieceFault
+    requires size { (length piece.now ≡ 8) ⊎ (length piece.now ≡ 16) }
+    requires least { IsLeastWordFault piece.now WordFault.CutOff }
+    ensures { (bytes : List ℕ) (maps : List MapShape) (slot : ℕ)
+        → piece_at bytes slot ≡ piece.now → IsLeastFault bytes maps slot result }
+{
+    let fields = read(piece);
+    match form_of(fields) {
+        Some(_) => {
+            if fields.dst == 10 {
+                PieceFault::WritesFramePointer
+            } else {
+                PieceFault::CutOff
+            }
+        }
+        None => PieceFault::CutOff,
+    }
+}
+
+/// The rule that an instruction at a slot breaks.
+fn broken_rule(
+    insn: &Insn,
+    slot: usize,
+    is_last: bool,
+    starts: &[bool],
+    maps: &MapTable,
+) -> Option<PieceFault>
+    requires { slot ≤ 65535 }
+    ensures found { (bytes : List ℕ) → AreStarts bytes starts.now → (IsTrue is_last ↔ (length bytes ≤ 8 * after bytes slot))
+        → IfSome result (IsLeastBroken bytes maps.now slot insn.now) }
+    ensures none { (bytes : List ℕ) → AreStarts bytes starts.now → (IsTrue is_last ↔ (length bytes ≤ 8 * after bytes slot))
+        → IfNone result ((fault : PieceFault) → Breaks bytes maps.now slot insn.now fault → ⊥) }
+{
+    if !insn.spares_ten() {
+        return Some(PieceFault::WritesFramePointer);
+    }
+    if !lands(insn, slot, starts) {
+        return Some(PieceFault::NoTarget);
+    }
+    if is_last && insn.falls_through() {
+        return Some(PieceFault::RunsOff);
+    }
+    if !insn.calls_helper() {
+        return Some(PieceFault::UnknownHelper);
+    }
+    if !insn.names_map(maps) {
+        return Some(PieceFault::NoMap);
+    }
+    None
+}
