@@ -141,6 +141,10 @@ pub record IsWord (insn : Insn) (bytes : List ℕ) : Type 0 where
   pub registers : HasRegisters (fields_of bytes)
   pub parts : HasParts insn (fields_of bytes)
 
+-- The form of the instruction is the only one whose opcode and numbers stand in the bytes.
+abbrev pub HasOneForm : List ℕ → Insn → Type 0
+HasOneForm bytes insn = (other : Form) → HasCodes (row other) (fields_of bytes) → other ≡ form_of insn
+
 -- An instruction has at most one word.
 abbrev pub HaveOneWord : Type 0
 HaveOneWord = (insn : Insn) (a b : List ℕ) → IsWord insn a → IsWord insn b → a ≡ b

@@ -96,3 +96,42 @@ fn broken_rule(
     }
     None
 }
+
+/// Whether no piece follows the one at a start.
+fn is_last(bytes: &[u8], slot: usize) -> bool
+    requires slots { AreSlots bytes.now }
+    requires start { IsStartIn bytes.now slot }
+    ensures { IsTrue result ↔ (length bytes.now ≤ 8 * after bytes.now slot) }
+{
+    let after = if bytes[8 * slot] == 0x18 {
+        slot + 2
+    } else {
+        slot + 1
+    };
+    bytes.len() <= 8 * after
+}
+
+/// The instruction at a start, or its fault with the least number.
+fn piece(
+    bytes: &[u8],
+    slot: usize,
+    starts: &[bool],
+    maps: &MapTable,
+) -> Result<Insn, PieceFault>
+    requires slots { AreSlots bytes.now }
+    requires start { IsStartIn bytes.now slot }
+    requires flags { AreStarts bytes.now starts.now }
+    ensures ok { IfOk result (λ insn. IsWord insn (piece_at bytes.now slot)) }
+    ensures clear { OnOk result (HasNoFault bytes.now maps.now slot) }
+    ensures fault { IfErr result (IsLeastFault bytes.now maps.now slot) }
+{
+    let piece = piece_of(bytes, slot);
+    let insn = match word(piece) {
+        Ok(insn) => insn,
+        Err(fault) => return Err(word_fault(piece, fault)),
+    };
+    match broken_rule(&insn, slot, is_last(bytes, slot), starts, maps) {
+        Some(fault) => Err(fault),
+        None => Ok(insn),
+    }
+}

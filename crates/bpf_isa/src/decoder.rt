@@ -1,6 +1,6 @@
 //! From words to instructions.
 ghost use Rattle.std.specs.Prelude.{◌≡◌, ◌⊎◌, IfOk, OnOk, IfErr, Ok, ◌++◌, length, slice_index};
-ghost use Rattle.bpf_isa.specs.Words.{operand_of, form_of, HasRegisters, HasSource, HasParts, IsWord};
+ghost use Rattle.bpf_isa.specs.Words.{operand_of, form_of, HasRegisters, HasSource, HasParts, HasOneForm, IsWord};
 ghost use Rattle.bpf_isa.specs.WordFaults.{HasNoWordFault, IsLeastWordFault, joined};
 
 use crate::fault::WordFault;
@@ -119,6 +119,7 @@ pub(crate) fn word(bytes: &[u8]) -> Result<Insn, WordFault>
     ensures ok { IfOk result (λ insn. IsWord insn bytes.now) }
     ensures clear { OnOk result (HasNoWordFault bytes.now) }
     ensures fault { IfErr result (IsLeastWordFault bytes.now) }
+    ensures form { IfOk result (HasOneForm bytes.now) }
     ensures only { (insn : Insn) → IsWord insn bytes.now → result ≡ Ok insn }
 {
     let fields = read(bytes);
