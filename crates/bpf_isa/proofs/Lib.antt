@@ -1,3 +1,4 @@
 pub mod Spelling
 pub mod LeastFaults
 pub mod BrokenRules
+pub mod KeptInsns

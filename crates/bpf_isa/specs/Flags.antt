@@ -1,11 +1,12 @@
 -- How the checker keeps the starts of a program, one flag a slot, and what it asks of an instruction by itself.
-use Rattle.std.specs.Prelude.{◌≡◌, ◌<◌, ◌≤◌, ℕ, ◌*◌, Bool, List, Option, Some, length, slice_get}
+use Rattle.std.specs.Prelude.{◌≡◌, ◌<◌, ◌≤◌, ℕ, ◌*◌, Bool, true, false, List, Option, Some, None, length, unwrap_or, slice_get}
 use Rattle.bpf_isa.specs.declared.instruction.Insn.{Insn}
 use Rattle.bpf_isa.specs.declared.maps.MapShape.{MapShape}
 use Rattle.bpf_isa.specs.declared.fault.PieceFault.{PieceFault}
 use Rattle.bpf_isa.specs.declared.fault.PieceFault.TheVariants.{UnknownInstruction, RegisterAboveTen, UnusedField, WritesFramePointer, NoTarget, CutOff, RunsOff, UnknownHelper, NoMap}
 use Rattle.bpf_isa.specs.Insns.{FallsThrough}
-use Rattle.bpf_isa.specs.Checker.{is_start, after, SparesTen, Lands, CallsHelper, NamesMap, fault_number}
+use Rattle.bpf_isa.specs.Words.{IsWord}
+use Rattle.bpf_isa.specs.Checker.{is_start, IsStartIn, piece_at, after, HasNoFault, SparesTen, Lands, CallsHelper, NamesMap, fault_number}
 
 -- The flags are the starts.
 pub record AreStarts (bytes : List ℕ) (starts : List Bool) : Type 0 where
@@ -25,3 +26,14 @@ Breaks bytes maps p insn _ = ⊥
 pub record IsLeastBroken (bytes : List ℕ) (maps : List MapShape) (p : ℕ) (insn : Insn) (fault : PieceFault) : Type 0 where
   pub applies : Breaks bytes maps p insn fault
   pub least : (other : PieceFault) → Breaks bytes maps p insn other → fault_number fault ≤ fault_number other
+
+-- What the checker keeps at a slot: the instruction of a start, and nothing at another slot.
+abbrev pub IsInsnAt : List ℕ → ℕ → Option Insn → Type 0
+IsInsnAt bytes p None = is_start bytes p ≡ false
+IsInsnAt bytes p (Some insn) = (is_start bytes p ≡ true) × IsWord insn (piece_at bytes p)
+
+-- The first n slots were found without fault, and their instructions are kept.
+pub record AreInsns (bytes : List ℕ) (maps : List MapShape) (insns : List (Option Insn)) (n : ℕ) : Type 0 where
+  pub slots : length insns ≡ n
+  pub each : (p : ℕ) → p < n → IsInsnAt bytes p (unwrap_or (slice_get insns p) None)
+  pub clear : (p : ℕ) → p < n → IsStartIn bytes p → HasNoFault bytes maps p

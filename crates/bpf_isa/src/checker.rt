@@ -1,18 +1,19 @@
 //! The checker: the first fault of the bytes, or a program.
 ghost use Rattle.std.specs.Prelude.{◌≡◌, ◌≤◌, ◌<◌, ◌⊎◌, ◌*◌, ◌↔◌, IsTrue, IfSome, IfNone, IfOk, OnOk, IfErr, List, ℕ, length, slice_index};
 ghost use Rattle.bpf_isa.specs.Checker.{IsStartIn, AreSlots, piece_at, after, HasFault, HasNoFault, IsLeastFault, IsFirstFault, IsAccepted, IsRefused};
-ghost use Rattle.bpf_isa.specs.Flags.{AreStarts, Breaks, IsLeastBroken};
+ghost use Rattle.bpf_isa.specs.Flags.{AreStarts, AreInsns, Breaks, IsLeastBroken};
 ghost use Rattle.bpf_isa.specs.WordFaults.{IsLeastWordFault};
 ghost use Rattle.bpf_isa.specs.Words.{IsWord};
 ghost use Rattle.bpf_isa.specs.declared.maps.MapShape.{MapShape};
 
 use crate::decoder::word;
-use crate::fault::{PieceFault, WordFault};
+use crate::fault::{LoadFault, PieceFault, WordFault};
 use crate::fields::read;
 use crate::instruction::Insn;
 use crate::maps::MapTable;
 use crate::opcode::form_of;
 use crate::rules::lands;
+use std::alloc::{AllocError, Global};
 
 /// The bytes of the piece at a start.
 fn piece_of(bytes: &[u8], slot: usize) -> &[u8]
@@ -134,4 +135,51 @@ fn piece(
         Some(fault) => Err(fault),
         None => Ok(insn),
     }
+}
+
+/// The starts, one flag a slot.
+fn starts_of(alloc: Global, bytes: &[u8]) -> Result<Vec<bool>, AllocError>
+    requires { AreSlots bytes.now }
+    ensures { IfOk result (λ starts. AreStarts bytes.now starts.items) }
+{
+    let mut starts = Vec::with_capacity(alloc, bytes.len() / 8)?;
+    let mut is_start = true;
+    for slot in 0..bytes.len() / 8 {
+        starts.push(is_start)?;
+        is_start = !(is_start && bytes[8 * slot] == 0x18);
+    }
+    Ok(starts)
+}
+
+/// The instructions at the starts, or the first fault.
+fn insns_of(
+    alloc: Global,
+    bytes: &[u8],
+    starts: &[bool],
+    maps: &MapTable,
+) -> Result<Vec<Option<Insn>>, LoadFault>
+    requires slots { AreSlots bytes.now }
+    requires flags { AreStarts bytes.now starts.now }
+    ensures ok { IfOk result (λ insns. AreInsns bytes.now maps.now insns.items (length starts.now)) }
+    ensures fault { IfErr result (IsRefused bytes.now maps.now) }
+{
+    let mut insns = match Vec::with_capacity(alloc, starts.len()) {
+        Ok(insns) => insns,
+        Err(_) => return Err(LoadFault::Memory),
+    };
+    for slot in 0..starts.len() {
+        if starts[slot] {
+            match piece(bytes, slot, starts, maps) {
+                Ok(insn) => {
+                    if insns.push(Some(insn)).is_err() {
+                        return Err(LoadFault::Memory);
+                    }
+                }
+                Err(fault) => return Err(LoadFault::At { slot, fault }),
+            }
+        } else if insns.push(None).is_err() {
+            return Err(LoadFault::Memory);
+        }
+    }
+    Ok(insns)
 }
