@@ -12,7 +12,7 @@ use Rattle.bpf_isa.specs.Insns.{FallsThrough}
 use Rattle.bpf_isa.specs.Words.{form_of, fields_of, HasParts, HasRegisters, HasOneForm, IsWord}
 use Rattle.bpf_isa.specs.WordFaults.{HasNoWordFault}
 use Rattle.bpf_isa.specs.Checker.{piece_at, HasFault, HasNoFault, IsLeastFault, SparesTen, CallsHelper, NamesMap, Lands, WritesTen}
-use Rattle.bpf_isa.specs.Flags.{Breaks, IsLeastBroken}
+use Rattle.bpf_isa.specs.Flags.{Breaks, IsLeastBroken, IsSound}
 
 writes_ten : (insn : Insn) (fields : Fields) → HasParts insn fields → HasRegisters fields → (SparesTen insn → ⊥) → WritesTen (form_of insn) fields
 writes_ten insn fields parts registers written = grind arith
@@ -46,5 +46,16 @@ module _ (bytes : List ℕ) (maps : List MapShape) (p : ℕ) (insn : Insn) (whol
   pub least_fault : (fault : PieceFault) → IsLeastBroken bytes maps p insn fault → IsLeastFault bytes maps p fault
   least_fault fault broken = record { applies = to_fault fault broken.applies; least = λ other has. broken.least other (from_fault other has) }
 
-  pub no_fault : ((fault : PieceFault) → Breaks bytes maps p insn fault → ⊥) → HasNoFault bytes maps p
-  no_fault none = record { none = λ fault has. none fault (from_fault fault has) }
+  unbroken : IsSound bytes maps p insn → (fault : PieceFault) → Breaks bytes maps p insn fault → ⊥
+  unbroken sound UnknownInstruction b = b
+  unbroken sound RegisterAboveTen b = b
+  unbroken sound UnusedField b = b
+  unbroken sound WritesFramePointer b = b sound.spares
+  unbroken sound NoTarget b = b sound.lands
+  unbroken sound CutOff b = b
+  unbroken sound RunsOff b = omega (arith, sound.falls b.1, b.0)
+  unbroken sound UnknownHelper b = b sound.helper
+  unbroken sound NoMap b = b sound.names
+
+  pub no_fault : IsSound bytes maps p insn → HasNoFault bytes maps p
+  no_fault sound = record { none = λ fault has. unbroken sound fault (from_fault fault has) }

@@ -18,11 +18,11 @@ entry_at : (insns : List (Option Insn)) (o : Option Insn) (n : ℕ) → length i
 entry_at insns o n e =
     sym (unwrap_or-slice_get (insns ++ o ∷ []) n None ∙ ap (λ k. get_or (insns ++ o ∷ []) k None) (sym e) ∙ get_or-append_seam insns o [] None)
 
-pub one_more : (bytes : List ℕ) (maps : List MapShape) (insns : List (Option Insn)) (o : Option Insn) (n : ℕ) → AreInsns bytes maps insns n → IsInsnAt bytes n o → (IsStartIn bytes n → HasNoFault bytes maps n) → AreInsns bytes maps (insns ++ o ∷ []) (n + 1)
+pub one_more : (bytes : List ℕ) (maps : List MapShape) (insns : List (Option Insn)) (o : Option Insn) (n : ℕ) → AreInsns bytes maps insns n → IsInsnAt bytes maps n o → (IsStartIn bytes n → HasNoFault bytes maps n) → AreInsns bytes maps (insns ++ o ∷ []) (n + 1)
 one_more bytes maps insns o n kept here clear =
     let slots : length insns ≡ n = kept.slots in
     record {
       slots = omega (arith, length-append insns (o ∷ []));
-      each = below_more (λ p. IsInsnAt bytes p (unwrap_or (slice_get (insns ++ o ∷ []) p) None)) n (λ p below. subst (IsInsnAt bytes p) (entry_before insns o p (omega arith)) (kept.each p below)) (subst (IsInsnAt bytes n) (entry_at insns o n slots) here);
+      each = below_more (λ p. IsInsnAt bytes maps p (unwrap_or (slice_get (insns ++ o ∷ []) p) None)) n (λ p below. subst (IsInsnAt bytes maps p) (entry_before insns o p (omega arith)) (kept.each p below)) (subst (IsInsnAt bytes maps n) (entry_at insns o n slots) here);
       clear = below_more (λ p. IsStartIn bytes p → HasNoFault bytes maps p) n kept.clear clear
     }

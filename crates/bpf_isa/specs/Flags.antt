@@ -27,13 +27,26 @@ pub record IsLeastBroken (bytes : List ℕ) (maps : List MapShape) (p : ℕ) (in
   pub applies : Breaks bytes maps p insn fault
   pub least : (other : PieceFault) → Breaks bytes maps p insn other → fault_number fault ≤ fault_number other
 
+-- An instruction at a slot breaks no rule.
+pub record IsSound (bytes : List ℕ) (maps : List MapShape) (p : ℕ) (insn : Insn) : Type 0 where
+  pub spares : SparesTen insn
+  pub lands : Lands bytes p insn
+  pub falls : FallsThrough insn → 8 * after bytes p < length bytes
+  pub helper : CallsHelper insn
+  pub names : NamesMap maps insn
+
+-- The piece at a slot is a word whose instruction breaks no rule.
+pub record IsPiece (bytes : List ℕ) (maps : List MapShape) (p : ℕ) (insn : Insn) : Type 0 where
+  pub whole : IsWord insn (piece_at bytes p)
+  pub sound : IsSound bytes maps p insn
+
 -- What the checker keeps at a slot: the instruction of a start, and nothing at another slot.
-abbrev pub IsInsnAt : List ℕ → ℕ → Option Insn → Type 0
-IsInsnAt bytes p None = is_start bytes p ≡ false
-IsInsnAt bytes p (Some insn) = (is_start bytes p ≡ true) × IsWord insn (piece_at bytes p)
+abbrev pub IsInsnAt : List ℕ → List MapShape → ℕ → Option Insn → Type 0
+IsInsnAt bytes maps p None = is_start bytes p ≡ false
+IsInsnAt bytes maps p (Some insn) = (is_start bytes p ≡ true) × IsPiece bytes maps p insn
 
 -- The first n slots were found without fault, and their instructions are kept.
 pub record AreInsns (bytes : List ℕ) (maps : List MapShape) (insns : List (Option Insn)) (n : ℕ) : Type 0 where
   pub slots : length insns ≡ n
-  pub each : (p : ℕ) → p < n → IsInsnAt bytes p (unwrap_or (slice_get insns p) None)
+  pub each : (p : ℕ) → p < n → IsInsnAt bytes maps p (unwrap_or (slice_get insns p) None)
   pub clear : (p : ℕ) → p < n → IsStartIn bytes p → HasNoFault bytes maps p

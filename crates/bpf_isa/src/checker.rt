@@ -1,7 +1,7 @@
 //! The checker: the first fault of the bytes, or a program.
 ghost use Rattle.std.specs.Prelude.{◌≡◌, ◌≤◌, ◌<◌, ◌⊎◌, ◌*◌, ◌↔◌, IsTrue, IfSome, IfNone, IfOk, OnOk, IfErr, List, ℕ, length, slice_index};
 ghost use Rattle.bpf_isa.specs.Checker.{IsStartIn, AreSlots, piece_at, after, HasFault, HasNoFault, IsLeastFault, IsFirstFault, IsAccepted, IsRefused};
-ghost use Rattle.bpf_isa.specs.Flags.{AreStarts, AreInsns, Breaks, IsLeastBroken};
+ghost use Rattle.bpf_isa.specs.Flags.{AreStarts, AreInsns, IsLeastBroken, IsPiece, IsSound};
 ghost use Rattle.bpf_isa.specs.WordFaults.{IsLeastWordFault};
 ghost use Rattle.bpf_isa.specs.Words.{IsWord};
 ghost use Rattle.bpf_isa.specs.declared.maps.MapShape.{MapShape};
@@ -78,7 +78,7 @@ fn broken_rule(
     ensures found { (bytes : List ℕ) → AreStarts bytes starts.now → (IsTrue is_last ↔ (length bytes ≤ 8 * after bytes slot))
         → IfSome result (IsLeastBroken bytes maps.now slot insn.now) }
     ensures none { (bytes : List ℕ) → AreStarts bytes starts.now → (IsTrue is_last ↔ (length bytes ≤ 8 * after bytes slot))
-        → IfNone result ((fault : PieceFault) → Breaks bytes maps.now slot insn.now fault → ⊥) }
+        → IfNone result (IsSound bytes maps.now slot insn.now) }
 {
     if !insn.spares_ten() {
         return Some(PieceFault::WritesFramePointer);
@@ -122,7 +122,7 @@ fn piece(
     requires slots { AreSlots bytes.now }
     requires start { IsStartIn bytes.now slot }
     requires flags { AreStarts bytes.now starts.now }
-    ensures ok { IfOk result (λ insn. IsWord insn (piece_at bytes.now slot)) }
+    ensures ok { IfOk result (IsPiece bytes.now maps.now slot) }
     ensures clear { OnOk result (HasNoFault bytes.now maps.now slot) }
     ensures fault { IfErr result (IsLeastFault bytes.now maps.now slot) }
 {
@@ -138,7 +138,7 @@ fn piece(
 }
 
 /// The starts, one flag a slot.
-fn starts_of(alloc: Global, bytes: &[u8]) -> Result<Vec<bool>, AllocError>
+pub fn starts_of(alloc: Global, bytes: &[u8]) -> Result<Vec<bool>, AllocError>
     requires { AreSlots bytes.now }
     ensures { IfOk result (λ starts. AreStarts bytes.now starts.items) }
 {
@@ -152,7 +152,7 @@ fn starts_of(alloc: Global, bytes: &[u8]) -> Result<Vec<bool>, AllocError>
 }
 
 /// The instructions at the starts, or the first fault.
-fn insns_of(
+pub fn insns_of(
     alloc: Global,
     bytes: &[u8],
     starts: &[bool],

@@ -58,6 +58,15 @@ impl MapTable {
         self.shapes.get(map).copied()
     }
 
+    /// The same maps.
+    pub(crate) fn copied(&self) -> MapTable
+        ensures { result ≡ self.now }
+    {
+        let mut shapes = ArrayVec::new();
+        let _all = shapes.try_extend_from_slice(self.shapes.as_slice());
+        MapTable { shapes }
+    }
+
     /// Adds a map with values of some bytes and a number of entries.
     ///
     /// The fault is the one with the least number of those that apply, and the table is then as it was.
