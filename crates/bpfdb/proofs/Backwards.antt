@@ -41,12 +41,12 @@ module _ {K : Type 0} (holds : K → List Kept → Type 0) (refusals : K → ℕ
   Receding-step i back same = record {
     same = same ∙ i.same;
     state = λ h st lt.
-      let a = record_at h k (omega arith) in
-      let b = state-back h a.found a.front back (i.stands h st (omega arith)) in
-      b.0 ∙ sym (before-last h k a.found old.0 a.there);
+        let a = record_at h k (omega arith) in
+        let b = state-back h a.found a.front back (i.stands h st (omega arith)) in
+        b.0 ∙ sym (before-last h k a.found old.0 a.there);
     stands = λ h st lt.
-      let a = record_at h k (omega arith) in
-      rw add-one (state-back h a.found a.front back (i.stands h st (omega arith))).1;
+        let a = record_at h k (omega arith) in
+        rw add-one (state-back h a.found a.front back (i.stands h st (omega arith))).1;
   }
 
 -- what a backward command over a history comes to

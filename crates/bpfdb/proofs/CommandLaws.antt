@@ -24,25 +24,25 @@ cut-refused : (gap : Option ℕ) (k : ℕ) (why : Why) (h : List Record) (x : St
 cut-refused None k why h x r e = absurd cc
 cut-refused (Some p) k why h x r e = test (nat_lt p k) (p == 0) e
   where
-  test : (less first : Bool) → (if less then (if first then refused OutOfMemory h x else taken p Memory h x) else taken k why h x).answer ≡ Err r → Leaves (if less then (if first then refused OutOfMemory h x else taken p Memory h x) else taken k why h x) h x
-  test true true e = record { history = refl; state = refl }
-  test true false e = absurd cc
-  test false first e = absurd cc
+    test : (less first : Bool) → (if less then (if first then refused OutOfMemory h x else taken p Memory h x) else taken k why h x).answer ≡ Err r → Leaves (if less then (if first then refused OutOfMemory h x else taken p Memory h x) else taken k why h x) h x
+    test true true e = record { history = refl; state = refl }
+    test true false e = absurd cc
+    test false first e = absurd cc
 
 forward-refused : (gap : Option ℕ) (count limit : ℕ) (h : List Record) (x : State) (r : Refusal) → (forward gap count limit h x).answer ≡ Err r → Leaves (forward gap count limit h x) h x
 forward-refused gap count limit h x r e = test (has_ended x) e
   where
-  test : (ended : Bool) → (if ended then refused MachineEnded h x else cut gap (steps count limit x) (unwrap_or (stop count limit x (steps count limit x)) Limit) h x).answer ≡ Err r → Leaves (if ended then refused MachineEnded h x else cut gap (steps count limit x) (unwrap_or (stop count limit x (steps count limit x)) Limit) h x) h x
-  test true e = record { history = refl; state = refl }
-  test false e = cut-refused gap (steps count limit x) _ h x r e
+    test : (ended : Bool) → (if ended then refused MachineEnded h x else cut gap (steps count limit x) (unwrap_or (stop count limit x (steps count limit x)) Limit) h x).answer ≡ Err r → Leaves (if ended then refused MachineEnded h x else cut gap (steps count limit x) (unwrap_or (stop count limit x (steps count limit x)) Limit) h x) h x
+    test true e = record { history = refl; state = refl }
+    test false e = cut-refused gap (steps count limit x) _ h x r e
 
 backward-refused : (count : ℕ) (h : List Record) (x : State) (r : Refusal) → (backward count h x).answer ≡ Err r → Leaves (backward count h x) h x
 backward-refused count [] x r e = record { history = refl; state = refl }
 backward-refused count (q ∷ h) x r e = test (nat_le count (length (q ∷ h))) e
   where
-  test : (enough : Bool) → (if enough then gone_back count Done (q ∷ h) x else gone_back (length (q ∷ h)) Start (q ∷ h) x).answer ≡ Err r → Leaves (if enough then gone_back count Done (q ∷ h) x else gone_back (length (q ∷ h)) Start (q ∷ h) x) (q ∷ h) x
-  test true e = absurd cc
-  test false e = absurd cc
+    test : (enough : Bool) → (if enough then gone_back count Done (q ∷ h) x else gone_back (length (q ∷ h)) Start (q ∷ h) x).answer ≡ Err r → Leaves (if enough then gone_back count Done (q ∷ h) x else gone_back (length (q ∷ h)) Start (q ∷ h) x) (q ∷ h) x
+    test true e = absurd cc
+    test false e = absurd cc
 
 pub refused-changes-nothing : RefusedChangesNothing
 unfolding does
@@ -56,17 +56,17 @@ cut-taken : (gap : Option ℕ) (n k : ℕ) (because why : Why) (h : List Record)
 cut-taken None n k because why h x e = let s : n ≡ k = cc in record { history = ap (λ j. kept j h x) s; state = ap (λ j. after j x) s }
 cut-taken (Some p) n k because why h x e = test (nat_lt p n) (p == 0) e
   where
-  test : (less first : Bool) → (if less then (if first then refused OutOfMemory h x else taken p Memory h x) else taken n because h x).answer ≡ Ok (Forward k why) → Leaves (if less then (if first then refused OutOfMemory h x else taken p Memory h x) else taken n because h x) (kept k h x) (after k x)
-  test true true e = absurd cc
-  test true false e = let s : p ≡ k = cc in record { history = ap (λ j. kept j h x) s; state = ap (λ j. after j x) s }
-  test false first e = let s : n ≡ k = cc in record { history = ap (λ j. kept j h x) s; state = ap (λ j. after j x) s }
+    test : (less first : Bool) → (if less then (if first then refused OutOfMemory h x else taken p Memory h x) else taken n because h x).answer ≡ Ok (Forward k why) → Leaves (if less then (if first then refused OutOfMemory h x else taken p Memory h x) else taken n because h x) (kept k h x) (after k x)
+    test true true e = absurd cc
+    test true false e = let s : p ≡ k = cc in record { history = ap (λ j. kept j h x) s; state = ap (λ j. after j x) s }
+    test false first e = let s : n ≡ k = cc in record { history = ap (λ j. kept j h x) s; state = ap (λ j. after j x) s }
 
 forward-taken : (gap : Option ℕ) (count limit k : ℕ) (why : Why) (h : List Record) (x : State) → (forward gap count limit h x).answer ≡ Ok (Forward k why) → Leaves (forward gap count limit h x) (kept k h x) (after k x)
 forward-taken gap count limit k why h x e = test (has_ended x) e
   where
-  test : (ended : Bool) → (if ended then refused MachineEnded h x else cut gap (steps count limit x) (unwrap_or (stop count limit x (steps count limit x)) Limit) h x).answer ≡ Ok (Forward k why) → Leaves (if ended then refused MachineEnded h x else cut gap (steps count limit x) (unwrap_or (stop count limit x (steps count limit x)) Limit) h x) (kept k h x) (after k x)
-  test true e = absurd cc
-  test false e = cut-taken gap (steps count limit x) k _ why h x e
+    test : (ended : Bool) → (if ended then refused MachineEnded h x else cut gap (steps count limit x) (unwrap_or (stop count limit x (steps count limit x)) Limit) h x).answer ≡ Ok (Forward k why) → Leaves (if ended then refused MachineEnded h x else cut gap (steps count limit x) (unwrap_or (stop count limit x (steps count limit x)) Limit) h x) (kept k h x) (after k x)
+    test true e = absurd cc
+    test false e = cut-taken gap (steps count limit x) k _ why h x e
 
 length-kept : (k : ℕ) (h : List Record) (x : State) → length (kept k h x) ≡ k + length h
 length-kept zero h x = omega arith
@@ -105,22 +105,22 @@ least-passes : (test : ℕ → Bool) (k n j : ℕ) → k ≤ j → j < k + n →
 least-passes test k zero j a b e = absurd (omega arith)
 least-passes test k (suc n) j a b e = at (test k) refl (λ (c : k + 1 ≤ j). least-passes test (k + 1) n j c (omega arith) e)
   where
-  at : (v : Bool) → test k ≡ v → (k + 1 ≤ j → test (least test (k + 1) n) ≡ true) → test (if v then k else least test (k + 1) n) ≡ true
-  at true q rest = q
-  at false q rest = rest (let d : k ≡ j → ⊥ = differs test k j q e in omega arith)
+    at : (v : Bool) → test k ≡ v → (k + 1 ≤ j → test (least test (k + 1) n) ≡ true) → test (if v then k else least test (k + 1) n) ≡ true
+    at true q rest = q
+    at false q rest = rest (let d : k ≡ j → ⊥ = differs test k j q e in omega arith)
 
 -- and none below it does
 least-below : (test : ℕ → Bool) (k n j : ℕ) → k ≤ j → j < least test k n → test j ≡ false
 least-below test k zero j a b = absurd (omega arith)
 least-below test k (suc n) j a b = at (test k) refl b (λ (c : k + 1 ≤ j) (d : j < least test (k + 1) n). least-below test (k + 1) n j c d)
   where
-  at : (v : Bool) → test k ≡ v → j < (if v then k else least test (k + 1) n) → (k + 1 ≤ j → j < least test (k + 1) n → test j ≡ false) → test j ≡ false
-  at true q less rest = absurd (omega arith)
-  at false q less rest = here (j == k) refl
-    where
-    here : (same : Bool) → (j == k) ≡ same → test j ≡ false
-    here true s = let same : j ≡ k = grind (arith, nat_tests) in ap test same ∙ q
-    here false s = let other : j ≡ k → ⊥ = λ same. grind (arith, nat_tests) in rest (omega arith) less
+    at : (v : Bool) → test k ≡ v → j < (if v then k else least test (k + 1) n) → (k + 1 ≤ j → j < least test (k + 1) n → test j ≡ false) → test j ≡ false
+    at true q less rest = absurd (omega arith)
+    at false q less rest = here (j == k) refl
+      where
+        here : (same : Bool) → (j == k) ≡ same → test j ≡ false
+        here true s = let same : j ≡ k = grind (arith, nat_tests) in ap test same ∙ q
+        here false s = let other : j ≡ k → ⊥ = λ same. grind (arith, nat_tests) in rest (omega arith) less
 
 same-true : (n : ℕ) → (n == n) ≡ true
 same-true n = grind (arith, nat_tests)
@@ -128,11 +128,11 @@ same-true n = grind (arith, nat_tests)
 stops-at-limit : (count limit : ℕ) (y : State) → is_some (stop_in count limit y limit) ≡ true
 stops-at-limit count limit y = at (has_ended y) (limit == count) (limit == limit) (same-true limit)
   where
-  at : (ended done here : Bool) → here ≡ true → is_some (if ended then Some End else (if done then Some Done else (if here then Some Limit else None))) ≡ true
-  at true done here h = refl
-  at false true here h = refl
-  at false false true h = refl
-  at false false false h = cc
+    at : (ended done here : Bool) → here ≡ true → is_some (if ended then Some End else (if done then Some Done else (if here then Some Limit else None))) ≡ true
+    at true done here h = refl
+    at false true here h = refl
+    at false false true h = refl
+    at false false false h = cc
 
 none-of : {A : Type 0} (o : Option A) → is_some o ≡ false → IsNone o
 none-of None e = refl

@@ -42,17 +42,17 @@ module _ {W A E : Type 0} (contents : W → Option (List ℕ)) (old : Tally W) (
     told = t.told ++ text_of_register x r;
     written = λ first front known. subst (Writes contents first new after) (append_assoc front t.told (text_of_register x r)) (more first _ (t.written first front known));
     rest =
-      let n : 11 - r ≡ suc (11 - (r + 1)) = omega arith in
-      append_assoc t.told (text_of_register x r) (registers_from x (r + 1) (11 - (r + 1)))
-      ∙ ap (λ (xs : List ℕ). t.told ++ xs) (sym (ap (registers_from x r) n ∙ registers-next x r (11 - (r + 1))))
-      ∙ t.rest;
+        let n : 11 - r ≡ suc (11 - (r + 1)) = omega arith in
+        append_assoc t.told (text_of_register x r) (registers_from x (r + 1) (11 - (r + 1)))
+        ∙ ap (λ (xs : List ℕ). t.told ++ xs) (sym (ap (registers_from x r) n ∙ registers-next x r (11 - (r + 1))))
+        ∙ t.rest;
   }
 
   -- the whole line
   pub Telling-end : (now : Tally W) (after : Result A E) → Telling contents old before now after x 11 → WritesAfter contents old before now after (text_of_registers x)
   Telling-end now after t = λ first front known.
-    let whole : t.told ≡ text_of_registers x = sym (append-nil t.told) ∙ ap (λ (xs : List ℕ). t.told ++ xs) (sym (registers-last x 11)) ∙ t.rest in
-    subst (λ (xs : List ℕ). Writes contents first now after (front ++ xs)) whole (t.written first front known)
+      let whole : t.told ≡ text_of_registers x = sym (append-nil t.told) ∙ ap (λ (xs : List ℕ). t.told ++ xs) (sym (registers-last x 11)) ∙ t.rest in
+      subst (λ (xs : List ℕ). Writes contents first now after (front ++ xs)) whole (t.written first front known)
 
 -- nothing appended
 Appends-none : (known : Option (List ℕ)) → Appends known known []

@@ -53,18 +53,18 @@ module _ {R : Type 0} (remaining : R → Option (List ℕ)) where
     none = HasNoLineFeed-push i.front byte i.none other;
     held = push i.front i.held;
     came = λ text e.
-      let w = i.came text e in
-      let d = consumed _ _ byte w.0 w.1 r.value in
-      (d.0, d.1, w.2 ∙ ap (λ (xs : List ℕ). i.front ++ xs) d.2 ∙ sym (append_assoc i.front (byte ∷ []) d.0));
+        let w = i.came text e in
+        let d = consumed _ _ byte w.0 w.1 r.value in
+        (d.0, d.1, w.2 ∙ ap (λ (xs : List ℕ). i.front ++ xs) d.2 ∙ sym (append_assoc i.front (byte ∷ []) d.0));
   }
 
   -- a line feed
   pub Reading-line : {E : Type 0} (old now new : Tally R) (buffer : Buffer) (byte : ℕ) → Reading old now buffer → ReadsByte {E = E} remaining now new (Ok (Some byte)) → byte ≡ 10 → ReadsLine {E = E} remaining old new buffer (Ok true)
   Reading-line old now new buffer byte i r lf = let p = r.passed in let j = i.nearer in record {
     cut = λ text e.
-      let w = i.came text e in
-      let d = consumed _ _ byte w.0 w.1 r.value in
-      (d.0, d.1, (i.front, ap lines (w.2 ∙ ap (λ (xs : List ℕ). i.front ++ xs) (d.2 ∙ ap (λ (b : ℕ). b ∷ d.0) lf)) ∙ lines-first i.front d.0 i.none, i.held));
+        let w = i.came text e in
+        let d = consumed _ _ byte w.0 w.1 r.value in
+        (d.0, d.1, (i.front, ap lines (w.2 ∙ ap (λ (xs : List ℕ). i.front ++ xs) (d.2 ∙ ap (λ (b : ℕ). b ∷ d.0) lf)) ∙ lines-first i.front d.0 i.none, i.held));
     same = r.same ∙ i.same;
     nearer = (omega arith, omega arith);
     fault = tt;
@@ -83,10 +83,10 @@ module _ {R : Type 0} (remaining : R → Option (List ℕ)) where
   pub Reading-end : {E : Type 0} (old now new : Tally R) (buffer : Buffer) (empty : Bool) → Reading old now buffer → ReadsByte {E = E} remaining now new (Ok None) → ((line : List ℕ) → Holds buffer line → (IsTrue empty ↔ (line ≡ []))) → ReadsLine {E = E} remaining old new buffer (Ok (not empty))
   Reading-end old now new buffer empty i r is = let p = r.passed in let j = i.nearer in record {
     cut = λ text e.
-      let w = i.came text e in
-      let none = ended _ w.0 w.1 r.value.0 in
-      let whole : text ≡ i.front = w.2 ∙ ap (λ (xs : List ℕ). i.front ++ xs) none ∙ append-nil i.front in
-      ([], kept-left _ _ w.0 w.1 r.value.1 ∙ ap Some none, subst (λ (xs : List ℕ). CutsLine (not empty) xs [] buffer) (sym whole) (cut-last empty i.front buffer i.none i.held (is i.front i.held)));
+        let w = i.came text e in
+        let none = ended _ w.0 w.1 r.value.0 in
+        let whole : text ≡ i.front = w.2 ∙ ap (λ (xs : List ℕ). i.front ++ xs) none ∙ append-nil i.front in
+        ([], kept-left _ _ w.0 w.1 r.value.1 ∙ ap Some none, subst (λ (xs : List ℕ). CutsLine (not empty) xs [] buffer) (sym whole) (cut-last empty i.front buffer i.none i.held (is i.front i.held)));
     same = r.same ∙ i.same;
     nearer = (omega arith, omega arith);
     fault = tt;

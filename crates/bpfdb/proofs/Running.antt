@@ -53,10 +53,10 @@ final-stop-none limit line more p e is off = rw (is, off) refl
 refused-or-not : (m n : ℕ) → ((m < last_refusal) × (n ≡ m)) ⊎ (m < last_refusal → n ≡ m → ⊥)
 refused-or-not m n = elim-on (nat_lt m last_refusal) (n == m) refl refl
   where
-  elim-on : (low same : Bool) → nat_lt m last_refusal ≡ low → (n == m) ≡ same → ((m < last_refusal) × (n ≡ m)) ⊎ (m < last_refusal → n ≡ m → ⊥)
-  elim-on true true l s = inl (grind (arith, nat_tests), grind (arith, nat_tests))
-  elim-on false same l s = inr (λ a b. absurd (grind (arith, nat_tests)))
-  elim-on low false l s = inr (λ a b. absurd (grind (arith, nat_tests)))
+    elim-on : (low same : Bool) → nat_lt m last_refusal ≡ low → (n == m) ≡ same → ((m < last_refusal) × (n ≡ m)) ⊎ (m < last_refusal → n ≡ m → ⊥)
+    elim-on true true l s = inl (grind (arith, nat_tests), grind (arith, nat_tests))
+    elim-on false same l s = inr (λ a b. absurd (grind (arith, nat_tests)))
+    elim-on low false l s = inr (λ a b. absurd (grind (arith, nat_tests)))
 
 module _ {K R W : Type 0} (holds : K → List Kept → Type 0) (refusals : K → ℕ) (remaining : R → Option (List ℕ)) (contents : W → Option (List ℕ)) where
   -- the lines behind us: their gaps, what they printed, the point after them, and the bytes that are left
@@ -165,26 +165,26 @@ module _ {K R W : Type 0} (holds : K → List Kept → Type 0) (refusals : K →
       written = t.written ∙ ap (λ (v : List ℕ). Some v) (append_assoc told b.printed t.e.text);
       stands = t.stands;
       out_is = λ later.
-        ap (λ (g : List (Option ℕ)). out g old.limit (lines script) (point_of old h)) (append_assoc b.gaps (t.gap ∷ []) later)
-        ∙ b.out_is (t.gap ∷ later)
-        ∙ ap (λ (v : List ℕ). b.printed ++ v) (ap (λ (ls : List (List ℕ)). out (t.gap ∷ later) old.limit ls b.point) t.cut ∙ out-line t.gap later old.limit t.line (lines t.ahead) b.point t.e t.is (sym t.on))
-        ∙ sym (append_assoc b.printed t.e.text _);
+          ap (λ (g : List (Option ℕ)). out g old.limit (lines script) (point_of old h)) (append_assoc b.gaps (t.gap ∷ []) later)
+          ∙ b.out_is (t.gap ∷ later)
+          ∙ ap (λ (v : List ℕ). b.printed ++ v) (ap (λ (ls : List (List ℕ)). out (t.gap ∷ later) old.limit ls b.point) t.cut ∙ out-line t.gap later old.limit t.line (lines t.ahead) b.point t.e t.is (sym t.on))
+          ∙ sym (append_assoc b.printed t.e.text _);
       final_is = λ later.
-        ap (λ (g : List (Option ℕ)). final g old.limit (lines script) (point_of old h)) (append_assoc b.gaps (t.gap ∷ []) later)
-        ∙ b.final_is (t.gap ∷ later)
-        ∙ ap (λ (ls : List (List ℕ)). final (t.gap ∷ later) old.limit ls b.point) t.cut ∙ final-line t.gap later old.limit t.line (lines t.ahead) b.point t.e t.is (sym t.on);
+          ap (λ (g : List (Option ℕ)). final g old.limit (lines script) (point_of old h)) (append_assoc b.gaps (t.gap ∷ []) later)
+          ∙ b.final_is (t.gap ∷ later)
+          ∙ ap (λ (ls : List (List ℕ)). final (t.gap ∷ later) old.limit ls b.point) t.cut ∙ final-line t.gap later old.limit t.line (lines t.ahead) b.point t.e t.is (sym t.on);
       counted = λ low. let y = b.counted low in let z = t.counted y.1 in (omega arith, z.1);
       out_whole = λ low same.
-        let q = quiet-before refl low same b.counted t.counted in
-        let n = none-is b.point b.rest (told ++ b.printed) true t (omega arith) (same ∙ sym q) in
-        b.out_whole low q
-        ∙ ap (λ (v : List ℕ). b.printed ++ v) (ap (λ (ls : List (List ℕ)). out [] old.limit ls b.point) t.cut ∙ out-none old.limit t.line (lines t.ahead) b.point t.e n (sym t.on))
-        ∙ sym (append_assoc b.printed t.e.text _);
+          let q = quiet-before refl low same b.counted t.counted in
+          let n = none-is b.point b.rest (told ++ b.printed) true t (omega arith) (same ∙ sym q) in
+          b.out_whole low q
+          ∙ ap (λ (v : List ℕ). b.printed ++ v) (ap (λ (ls : List (List ℕ)). out [] old.limit ls b.point) t.cut ∙ out-none old.limit t.line (lines t.ahead) b.point t.e n (sym t.on))
+          ∙ sym (append_assoc b.printed t.e.text _);
       final_whole = λ low same.
-        let q = quiet-before refl low same b.counted t.counted in
-        let n = none-is b.point b.rest (told ++ b.printed) true t (omega arith) (same ∙ sym q) in
-        b.final_whole low q
-        ∙ ap (λ (ls : List (List ℕ)). final [] old.limit ls b.point) t.cut ∙ final-none old.limit t.line (lines t.ahead) b.point t.e n (sym t.on);
+          let q = quiet-before refl low same b.counted t.counted in
+          let n = none-is b.point b.rest (told ++ b.printed) true t (omega arith) (same ∙ sym q) in
+          b.final_whole low q
+          ∙ ap (λ (ls : List (List ℕ)). final [] old.limit ls b.point) t.cut ∙ final-none old.limit t.line (lines t.ahead) b.point t.e n (sym t.on);
     }
 
     pub Running-step : {E F : Type 0} → Running old now reader0 reader writer0 writer → ReadsLine {E = E} remaining reader reader' buffer (Ok true) → ((h : List Record) (text : List ℕ) → HasPast holds now h → Holds buffer text → ObeysLine {E = F} holds refusals contents now new writer writer' h text (Ok true)) → writer'.failures ≡ writer.failures → new.limit ≡ now.limit → Running old new reader0 reader' writer0 writer'
@@ -193,29 +193,29 @@ module _ {K R W : Type 0} (holds : K → List Kept → Type 0) (refusals : K →
       wrote = wrote ∙ i.wrote;
       limit = limit ∙ i.limit;
       behind = λ h script told past left held.
-        let b = i.behind h script told past left held in
-        Behind-step h script told b (turn-of b.point b.rest (told ++ b.printed) true b.stands b.left b.written i.limit r obey);
+          let b = i.behind h script told past left held in
+          Behind-step h script told b (turn-of b.point b.rest (told ++ b.printed) true b.stands b.left b.written i.limit r obey);
     }
 
   -- what is printed in all, for some gaps, and for none where no push was refused
   prints-as : (old new : Standing K) (h : List Record) (script told total : List ℕ) (after : Option (List ℕ)) (p : Point) (gaps : List (Option ℕ)) → after ≡ Some (told ++ total) → StandsAt holds new p → out gaps old.limit (lines script) (point_of old h) ≡ total → final gaps old.limit (lines script) (point_of old h) ≡ p → (refusals old.timeline.1 < last_refusal → refusals new.timeline.1 ≡ refusals old.timeline.1 → (out [] old.limit (lines script) (point_of old h) ≡ total) × (final [] old.limit (lines script) (point_of old h) ≡ p)) → Prints holds refusals old new h script told after
   prints-as old new h script told total after p gaps held st o f whole =
       elim (refused-or-not (refusals old.timeline.1) (refusals new.timeline.1)) [
-        inl q ↦
-          let w = whole q.0 q.1 in
-          record {
-            gaps = [];
-            whole = λ a b. refl;
-            written = held ∙ ap (λ (v : List ℕ). Some (told ++ v)) (sym w.0);
-            stands = subst (StandsAt holds new) (sym w.1) st;
-          }
-      | inr q ↦
-          record {
-            gaps = gaps;
-            whole = λ a b. absurd (q a b);
-            written = held ∙ ap (λ (v : List ℕ). Some (told ++ v)) (sym o);
-            stands = subst (StandsAt holds new) (sym f) st;
-          }
+        | inl q ↦
+            let w = whole q.0 q.1 in
+            record {
+              gaps = [];
+              whole = λ a b. refl;
+              written = held ∙ ap (λ (v : List ℕ). Some (told ++ v)) (sym w.0);
+              stands = subst (StandsAt holds new) (sym w.1) st;
+            }
+        | inr q ↦
+            record {
+              gaps = gaps;
+              whole = λ a b. absurd (q a b);
+              written = held ∙ ap (λ (v : List ℕ). Some (told ++ v)) (sym o);
+              stands = subst (StandsAt holds new) (sym f) st;
+            }
       ]
 
   -- no line is left
@@ -236,9 +236,9 @@ module _ {K R W : Type 0} (holds : K → List Kept → Type 0) (refusals : K →
       let o : b.printed ++ out (t.gap ∷ []) old.limit (lines b.rest) b.point ≡ total = ap (λ (v : List ℕ). b.printed ++ v) (ap (λ (ls : List (List ℕ)). out (t.gap ∷ []) old.limit ls b.point) t.cut ∙ out-stop t.gap [] old.limit t.line (lines t.ahead) b.point t.e t.is (sym t.on)) in
       let f : final (t.gap ∷ []) old.limit (lines b.rest) b.point ≡ t.e.point = ap (λ (ls : List (List ℕ)). final (t.gap ∷ []) old.limit ls b.point) t.cut ∙ final-stop t.gap [] old.limit t.line (lines t.ahead) b.point t.e t.is (sym t.on) in
       prints-as old new h script told total _ t.e.point (b.gaps ++ t.gap ∷ []) (t.written ∙ ap (λ (v : List ℕ). Some v) (append_assoc told b.printed t.e.text)) t.stands (b.out_is (t.gap ∷ []) ∙ o) (b.final_is (t.gap ∷ []) ∙ f)
-        (λ low same.
-          let q = quiet-before old now new reader0 reader reader' writer0 writer writer' buffer refl low same b.counted t.counted in
-          let n = none-is old now new reader0 reader reader' writer0 writer writer' buffer b.point b.rest (told ++ b.printed) false t (omega arith) (same ∙ sym q) in
-          ( b.out_whole low q ∙ ap (λ (v : List ℕ). b.printed ++ v) (ap (λ (ls : List (List ℕ)). out [] old.limit ls b.point) t.cut ∙ out-stop-none old.limit t.line (lines t.ahead) b.point t.e n (sym t.on))
-          , b.final_whole low q ∙ ap (λ (ls : List (List ℕ)). final [] old.limit ls b.point) t.cut ∙ final-stop-none old.limit t.line (lines t.ahead) b.point t.e n (sym t.on)
-          ))
+      (λ low same.
+      let q = quiet-before old now new reader0 reader reader' writer0 writer writer' buffer refl low same b.counted t.counted in
+      let n = none-is old now new reader0 reader reader' writer0 writer writer' buffer b.point b.rest (told ++ b.printed) false t (omega arith) (same ∙ sym q) in (
+        b.out_whole low q ∙ ap (λ (v : List ℕ). b.printed ++ v) (ap (λ (ls : List (List ℕ)). out [] old.limit ls b.point) t.cut ∙ out-stop-none old.limit t.line (lines t.ahead) b.point t.e n (sym t.on)),
+        b.final_whole low q ∙ ap (λ (ls : List (List ℕ)). final [] old.limit ls b.point) t.cut ∙ final-stop-none old.limit t.line (lines t.ahead) b.point t.e n (sym t.on),
+      ))

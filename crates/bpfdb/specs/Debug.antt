@@ -1,9 +1,15 @@
 -- What the debugger answers for a program and a script.
 use Rattle.std.specs.Prelude.{◌≡◌, ℕ, List, [], ◌++◌, Option, Some}
 use Rattle.bpf_isa.specs.Programs.{Code, IsProgram}
+use Rattle.bpf_isa.specs.Checker.{IsRefused}
+use Rattle.bpf_text.specs.Counted.{Tally}
 use Rattle.bpfdb.specs.Machine.{HasAll, initial}
+use Rattle.bpfdb.specs.Machine as machine
 use Rattle.bpfdb.specs.Script.{lines}
 use Rattle.bpfdb.specs.Output.{Point, out}
+use Rattle.bpfdb.specs.Scripts.{Fails}
+use Rattle.bpfdb.specs.declared.debug.DebugFault.{DebugFault}
+use Rattle.bpfdb.specs.declared.debug.DebugFault.TheVariants.{Load, Open, Run}
 
 -- The bytes are an accepted program without maps, all of whose instructions the machine has.
 pub record Loads (bytes : List ℕ) (code : Code) : Type 0 where
@@ -22,3 +28,10 @@ pub record Debugs (limit : ℕ) (bytes script told : List ℕ) (after : Option (
   pub loads : Loads bytes code
   pub gaps : List (Option ℕ)
   pub written : after ≡ Some (told ++ out gaps limit (lines script) (opening code))
+
+-- Why nothing more was debugged: a program that is refused leaves the reader and the writer untouched.
+abbrev pub Stops : {R W : Type 0} → List ℕ → DebugFault → Tally R → Tally R → Tally W → Tally W → Type 0
+Stops bytes (Load fault) reader reader' writer writer' = IsRefused bytes [] fault × (reader' ≡ reader) × (writer' ≡ writer)
+Stops bytes (Open fault) reader reader' writer writer' =
+    (code : Code) × IsProgram code × (code.bytes ≡ bytes) × machine.IsRefused code fault × (reader' ≡ reader) × (writer' ≡ writer)
+Stops bytes (Run fault) reader reader' writer writer' = Fails fault reader reader' writer writer'

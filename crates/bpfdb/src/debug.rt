@@ -1,6 +1,6 @@
 //! The debugger of one program.
-ghost use Rattle.std.specs.Prelude.{◌≡◌, List, ℕ, OnOk, Some};
-ghost use Rattle.bpfdb.specs.Debug.{Debugs};
+ghost use Rattle.std.specs.Prelude.{◌≡◌, List, ℕ, OnOk, IfErr, Some};
+ghost use Rattle.bpfdb.specs.Debug.{Debugs, Stops};
 
 use crate::history::ListKeeper;
 use crate::machine::{Cpu, OpenFault};
@@ -38,6 +38,7 @@ pub fn debug<R: Read, W: Write>(
     // What is printed is what the script prints in a debugger that keeps whole states.
     ensures value { OnOk result ((script told : List ℕ) → R.remaining reader.old.inner ≡ Some script →
         W.contents writer.old.inner ≡ Some told → Debugs STEP_LIMIT program.now script told (W.contents writer.new.inner)) }
+    ensures err { IfErr result (λ fault. Stops program.now fault reader.old reader.new writer.old writer.new) }
     ensures ok { OnOk result ((reader.new.failures ≡ reader.old.failures) × (writer.new.failures ≡ writer.old.failures)) }
 {
     let code = match check(alloc, program, &MapTable::empty()) {

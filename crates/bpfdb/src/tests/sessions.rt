@@ -111,9 +111,18 @@ fn sessions_print_their_replies(rt: HostRuntime) -> Result<(), Fail> {
 #[test]
 fn long_lines_are_refused(rt: HostRuntime) -> Result<(), Fail> {
     for (letters, wanted) in [
-        (1024, "refused Q1: unknown command\n1 forward; done; at 1: exit\n"),
-        (1025, "refused Q12: line too long\n1 forward; done; at 1: exit\n"),
-        (5000, "refused Q12: line too long\n1 forward; done; at 1: exit\n"),
+        (
+            1024,
+            "refused Q1: unknown command\n1 forward; done; at 1: exit\n",
+        ),
+        (
+            1025,
+            "refused Q12: line too long\n1 forward; done; at 1: exit\n",
+        ),
+        (
+            5000,
+            "refused Q12: line too long\n1 forward; done; at 1: exit\n",
+        ),
     ] {
         let mut script = vec![in rt.alloc(); b'z'; letters]?;
         script.extend_from_slice(b"\nstepi")?;
@@ -130,7 +139,10 @@ fn long_lines_are_refused(rt: HostRuntime) -> Result<(), Fail> {
 #[test]
 fn refused_programs_leave_the_script_unread(rt: HostRuntime) -> Result<(), Fail> {
     let fetch: &[u8] = &[0xdb, 0x11, 0, 0, 1, 0, 0, 0, 0x95, 0, 0, 0, 0, 0, 0, 0];
-    for (name, program, is_load) in [("no program", &ANSWER[..0], true), ("an atomic", fetch, false)] {
+    for (name, program, is_load) in [
+        ("no program", &ANSWER[..0], true),
+        ("an atomic", fetch, false),
+    ] {
         let mut printed = Vec::new(rt.alloc());
         let mut reader = Counted::new(b"stepi\n".as_slice());
         let mut writer = Counted::new(&mut printed);
@@ -150,7 +162,9 @@ fn refused_programs_leave_the_script_unread(rt: HostRuntime) -> Result<(), Fail>
 // Each public call once, by hand.
 #[test]
 fn a_session_by_calls(rt: HostRuntime) -> Result<(), Fail> {
-    let code = check(rt.alloc(), ANSWER, &MapTable::empty()).ok().ok_or("refused")?;
+    let code = check(rt.alloc(), ANSWER, &MapTable::empty())
+        .ok()
+        .ok_or("refused")?;
     code.known();
     let cpu = Cpu::open(code).ok().ok_or("not opened")?;
     let mut session = Session::open(cpu, ListKeeper::new(rt.alloc()), 10);
@@ -166,7 +180,10 @@ fn a_session_by_calls(rt: HostRuntime) -> Result<(), Fail> {
     let mut text = Vec::new(rt.alloc());
     let mut writer = Counted::new(&mut text);
     assert!(rt; session.write_reply(&reply, &mut writer).is_ok());
-    assert_eq!(rt; text.as_slice(), b"1 forward; done; at 1: exit\n".as_slice());
+    assert_eq!(rt;
+        text.as_slice(),
+        b"1 forward; done; at 1: exit\n".as_slice()
+    );
     assert_eq!(rt; session.cpu().pc(), 1);
     assert_eq!(rt; session.keeper().len(), 1);
     assert_eq!(rt; session.keeper().refusals(), 0);

@@ -21,5 +21,5 @@ returns-in-Ok-answer-clause-value g c = λ script told left held.
     let p = r [] script told (c.new.ensures.empty, tt) left held in
     let o = c.in-Ok-open.ensures.ok in
     from-opening _ _ script told _ c.in-Ok.code c.in-Ok-open.cpu p.gaps
-    (record { accepted = c.known.ensures; same = c.in-Ok.ensures.ok.0; unmapped = c.in-Ok.ensures.ok.1 ∙ c.empty.ensures; known = o.1 })
+    (record { accepted = c.known.ensures; same = c.in-Ok.ensures.value.0; unmapped = c.in-Ok.ensures.value.1 ∙ c.empty.ensures; known = o.1 })
     o.0 p.written

@@ -10,9 +10,9 @@ unfolding text_of_registers
 loop-number-init g c = record {
   told = codes "r0=" ++ hexadecimal (number_in c.args.cpu.now 0);
   written = λ first front known.
-    let begun = c.put-begun.ensures first front known in
-    let shown = rw c.number_in.ensures at (c.put_hexadecimal-shown.ensures first _ begun) in
-    subst (Writes g.W.Write.contents first _ _) (append_assoc front (codes "r0=") (hexadecimal (number_in c.args.cpu.now 0))) shown;
+      let begun = c.put-begun.ensures first front known in
+      let shown = rw c.number_in.ensures at (c.put_hexadecimal-shown.ensures first _ begun) in
+      subst (Writes g.W.Write.contents first _ _) (append_assoc front (codes "r0=") (hexadecimal (number_in c.args.cpu.now 0))) shown;
   rest = refl;
 }
 
