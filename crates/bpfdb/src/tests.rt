@@ -1,3 +1,4 @@
 //! Tests of what no contract says: the worked sessions, and the user's manual of lines.
+mod faults;
 mod lines;
 mod sessions;
