@@ -35,7 +35,8 @@ pub fn debug<R: Read, W: Write>(
     reader: &mut Counted<R>,
     writer: &mut Counted<W>,
 ) -> Result<(), DebugFault>
-    // What is printed is what the script prints in a debugger that keeps whole states; what follows `quit` is left unread.
+    // What is printed is what the script prints in a debugger that keeps whole states; what follows `quit`
+    // is left unread.
     ensures value { OnOk result ((script told : List ℕ) → R.remaining reader.old.inner ≡ Some script →
         W.contents writer.old.inner ≡ Some told → Debugs STEP_LIMIT program.now script told
         (W.contents writer.new.inner) (R.remaining reader.new.inner)) }

@@ -100,7 +100,8 @@ pub fn run<K: Keeper, R: Read, W: Write>(
     reader: &mut Counted<R>,
     writer: &mut Counted<W>,
 ) -> Result<(), RunFault>
-    // What is printed is what the script prints in a debugger that keeps whole states; what follows `quit` is left unread.
+    // What is printed is what the script prints in a debugger that keeps whole states; what follows `quit`
+    // is left unread.
     ensures value { OnOk result ((h : List Record) (script told : List ℕ) → HasPast K.holds session.old h →
         R.remaining reader.old.inner ≡ Some script → W.contents writer.old.inner ≡ Some told →
         Prints K.holds K.refused session.old session.new h script told
