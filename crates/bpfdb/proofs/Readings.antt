@@ -76,7 +76,7 @@ module _ {R : Type 0} (remaining : R → Option (List ℕ)) where
 
   -- the last line, or none
   cut-last : (empty : Bool) (front : List ℕ) (buffer : Buffer) → HasNoLineFeed front → Holds buffer front → (IsTrue empty ↔ (front ≡ [])) → CutsLine (not empty) front [] buffer
-  cut-last true front buffer none held is = ap lines (is.0 refl) ∙ lines-empty
+  cut-last true front buffer none held is = (ap lines (is.0 refl) ∙ lines-empty, refl)
   cut-last false [] buffer none held is = absurd (let t = is.1 refl in cc)
   cut-last false (byte ∷ front) buffer none held is = (byte ∷ front, lines-last (byte ∷ front) none (omega arith), held)
 

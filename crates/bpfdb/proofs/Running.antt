@@ -1,20 +1,21 @@
 -- A run's loop: what was printed so far and what the rest prints make up what the script prints.
-use Rattle.std.proofs.Common.{◌≡◌, ◌<◌, ◌≤◌, ◌+◌, ◌-◌, ◌^◌, ℕ, Bool, true, false, List, [], ◌∷◌, ◌++◌, Option, Some, None, Result, Ok, Err, refl, sym, ap, subst, ◌∙◌, arith, append_assoc}
+use Rattle.std.proofs.Common.{◌≡◌, ◌<◌, ◌≤◌, ◌+◌, ◌-◌, ◌^◌, ℕ, Bool, true, false, not, List, [], ◌∷◌, ◌++◌, Option, Some, None, Result, Ok, Err, refl, sym, ap, subst, ◌∙◌, arith, append_assoc}
 use Rattle.std.proofs.lemmas.List.{append-nil}
 use Rattle.std.specs.Io.KnownBytes.{Appends}
 use Rattle.std.specs.Prelude.{if◌then◌else◌, nat_lt, ◌==◌, ◌⊎◌}
 use Rattle.std.proofs.Common.{inl, inr}
 use Rattle.std.proofs.lemmas.Bool.Decides.{nat_tests}
 use Rattle.bpf_text.specs.Counted.{Tally, one_more}
-use Rattle.bpf_text.specs.Writing.{Writes}
+use Rattle.bpf_text.specs.Writing.{Writes, AppendsBeginning}
 use Rattle.bpfdb.specs.Machine.{State}
 use Rattle.bpfdb.specs.History.{Record, Kept, StandsFor}
 use Rattle.bpfdb.specs.Outcomes.{last_refusal}
 use Rattle.bpfdb.specs.Sessions.{Standing, HasPast}
 use Rattle.bpfdb.specs.Script.{lines}
-use Rattle.bpfdb.specs.Commands.{command_of}
-use Rattle.bpfdb.specs.Output.{Point, Effect, effect, first_gap, later_gaps, out, final}
-use Rattle.bpfdb.specs.Scripts.{Buffer, Holds, CutsLine, ReadsLine, point_of, StandsAt, ObeysLine, Prints}
+use Rattle.bpfdb.specs.Commands.{Answer, command_of}
+use Rattle.bpfdb.specs.Output.{is_quit}
+use Rattle.bpfdb.specs.Output.{Point, Effect, effect, first_gap, later_gaps, out, final, ends, unread}
+use Rattle.bpfdb.specs.Scripts.{Buffer, Holds, CutsLine, ReadsLine, point_of, StandsAt, ObeysLine, Prints, PrintsBeginning, LeavesUnread}
 
 -- what a writer holds after a text
 appended : (before after : Option (List ℕ)) (xs ys : List ℕ) → before ≡ Some xs → Appends before after ys → after ≡ Some (xs ++ ys)
@@ -49,6 +50,30 @@ out-stop-none limit line more p e is off = rw (is, off) refl
 final-stop-none : (limit : ℕ) (line : List ℕ) (more : List (List ℕ)) (p : Point) (e : Effect) → effect None limit (command_of line) p ≡ e → e.goes_on ≡ false → final [] limit (line ∷ more) p ≡ e.point
 final-stop-none limit line more p e is off = rw (is, off) refl
 
+-- what a line prints begins what it and the lines after it print
+out-begins : (gaps : List (Option ℕ)) (limit : ℕ) (line : List ℕ) (more : List (List ℕ)) (p : Point) (e : Effect) → effect (first_gap gaps) limit (command_of line) p ≡ e → (tail : List ℕ) × (out gaps limit (line ∷ more) p ≡ e.text ++ tail)
+out-begins gaps limit line more p e is = elim-on e.goes_on refl
+  where
+    elim-on : (on : Bool) → e.goes_on ≡ on → (tail : List ℕ) × (out gaps limit (line ∷ more) p ≡ e.text ++ tail)
+    elim-on true on = (out (later_gaps gaps) limit more e.point, rw (is, on) refl)
+    elim-on false off = ([], rw (is, off) (sym (append-nil e.text)))
+
+-- a session ends at `quit` and goes on after each other line
+ends-when : (gap : Option ℕ) (limit : ℕ) (answer : Answer) (p : Point) (on : Bool) → (effect gap limit answer p).goes_on ≡ on → ends answer ≡ not on
+ends-when gap limit (Ok None) p on e = ap not e
+ends-when gap limit (Err refusal) p on e = ap not e
+ends-when gap limit (Ok (Some command)) p on e = elim-on (is_quit command) refl
+  where
+    elim-on : (quits : Bool) → is_quit command ≡ quits → is_quit command ≡ not on
+    elim-on true q = q ∙ ap not (rw q at e)
+    elim-on false q = q ∙ ap not (rw q at e)
+
+unread-line : (line : List ℕ) (more : List (List ℕ)) → ends (command_of line) ≡ false → unread (line ∷ more) ≡ unread more
+unread-line line more e = rw e refl
+
+unread-quit : (line : List ℕ) (more : List (List ℕ)) → ends (command_of line) ≡ true → unread (line ∷ more) ≡ more
+unread-quit line more e = rw e refl
+
 -- whether no push was refused is a test
 refused-or-not : (m n : ℕ) → ((m < last_refusal) × (n ≡ m)) ⊎ (m < last_refusal → n ≡ m → ⊥)
 refused-or-not m n = elim-on (nat_lt m last_refusal) (n == m) refl refl
@@ -70,6 +95,7 @@ module _ {K R W : Type 0} (holds : K → List Kept → Type 0) (refusals : K →
     pub stands : StandsAt holds now point
     pub out_is : (later : List (Option ℕ)) → out (gaps ++ later) old.limit (lines script) (point_of old h) ≡ printed ++ out later old.limit (lines rest) point
     pub final_is : (later : List (Option ℕ)) → final (gaps ++ later) old.limit (lines script) (point_of old h) ≡ final later old.limit (lines rest) point
+    pub next_is : unread (lines script) ≡ unread (lines rest)
     pub counted : refusals old.timeline.1 ≤ last_refusal → (refusals old.timeline.1 ≤ refusals now.timeline.1) × (refusals now.timeline.1 ≤ last_refusal)
     pub out_whole : refusals old.timeline.1 < last_refusal → refusals now.timeline.1 ≡ refusals old.timeline.1 → out [] old.limit (lines script) (point_of old h) ≡ printed ++ out [] old.limit (lines rest) point
     pub final_whole : refusals old.timeline.1 < last_refusal → refusals now.timeline.1 ≡ refusals old.timeline.1 → final [] old.limit (lines script) (point_of old h) ≡ final [] old.limit (lines rest) point
@@ -97,6 +123,7 @@ module _ {K R W : Type 0} (holds : K → List Kept → Type 0) (refusals : K →
       stands = (refl, past);
       out_is = λ later. refl;
       final_is = λ later. refl;
+      next_is = refl;
       counted = λ b. (omega arith, b);
       out_whole = λ a b. refl;
       final_whole = λ a b. refl;
@@ -142,6 +169,10 @@ module _ {K R W : Type 0} (holds : K → List Kept → Type 0) (refusals : K →
           counted = o.counted;
         }
 
+    -- whether a line ends the session
+    ends-of : (b : Point) (rest told : List ℕ) (more : Bool) (t : Turn b rest told more) → ends (command_of t.line) ≡ not more
+    ends-of b rest told more t = ends-when t.gap old.limit (command_of t.line) b more (ap (λ (e : Effect). e.goes_on) t.is ∙ sym t.on)
+
     -- no push was refused up to here, where none was up to after the line
     quiet-before : (old.timeline.1 ≡ old.timeline.1) → refusals old.timeline.1 < last_refusal → refusals new.timeline.1 ≡ refusals old.timeline.1 → (refusals old.timeline.1 ≤ last_refusal → (refusals old.timeline.1 ≤ refusals now.timeline.1) × (refusals now.timeline.1 ≤ last_refusal)) → (refusals now.timeline.1 ≤ last_refusal → (refusals now.timeline.1 ≤ refusals new.timeline.1) × (refusals new.timeline.1 ≤ last_refusal)) → refusals now.timeline.1 ≡ refusals old.timeline.1
     quiet-before _ low same c d =
@@ -173,6 +204,7 @@ module _ {K R W : Type 0} (holds : K → List Kept → Type 0) (refusals : K →
           ap (λ (g : List (Option ℕ)). final g old.limit (lines script) (point_of old h)) (append_assoc b.gaps (t.gap ∷ []) later)
           ∙ b.final_is (t.gap ∷ later)
           ∙ ap (λ (ls : List (List ℕ)). final (t.gap ∷ later) old.limit ls b.point) t.cut ∙ final-line t.gap later old.limit t.line (lines t.ahead) b.point t.e t.is (sym t.on);
+      next_is = b.next_is ∙ ap unread t.cut ∙ unread-line t.line (lines t.ahead) (ends-of b.point b.rest (told ++ b.printed) true t);
       counted = λ low. let y = b.counted low in let z = t.counted y.1 in (omega arith, z.1);
       out_whole = λ low same.
           let q = quiet-before refl low same b.counted t.counted in
@@ -198,8 +230,8 @@ module _ {K R W : Type 0} (holds : K → List Kept → Type 0) (refusals : K →
     }
 
   -- what is printed in all, for some gaps, and for none where no push was refused
-  prints-as : (old new : Standing K) (h : List Record) (script told total : List ℕ) (after : Option (List ℕ)) (p : Point) (gaps : List (Option ℕ)) → after ≡ Some (told ++ total) → StandsAt holds new p → out gaps old.limit (lines script) (point_of old h) ≡ total → final gaps old.limit (lines script) (point_of old h) ≡ p → (refusals old.timeline.1 < last_refusal → refusals new.timeline.1 ≡ refusals old.timeline.1 → (out [] old.limit (lines script) (point_of old h) ≡ total) × (final [] old.limit (lines script) (point_of old h) ≡ p)) → Prints holds refusals old new h script told after
-  prints-as old new h script told total after p gaps held st o f whole =
+  prints-as : (old new : Standing K) (h : List Record) (script told total : List ℕ) (after left : Option (List ℕ)) (p : Point) (gaps : List (Option ℕ)) → LeavesUnread script left → after ≡ Some (told ++ total) → StandsAt holds new p → out gaps old.limit (lines script) (point_of old h) ≡ total → final gaps old.limit (lines script) (point_of old h) ≡ p → (refusals old.timeline.1 < last_refusal → refusals new.timeline.1 ≡ refusals old.timeline.1 → (out [] old.limit (lines script) (point_of old h) ≡ total) × (final [] old.limit (lines script) (point_of old h) ≡ p)) → Prints holds refusals old new h script told after left
+  prints-as old new h script told total after left p gaps next held st o f whole =
       elim (refused-or-not (refusals old.timeline.1) (refusals new.timeline.1)) [
         | inl q ↦
             let w = whole q.0 q.1 in
@@ -208,6 +240,7 @@ module _ {K R W : Type 0} (holds : K → List Kept → Type 0) (refusals : K →
               whole = λ a b. refl;
               written = held ∙ ap (λ (v : List ℕ). Some (told ++ v)) (sym w.0);
               stands = subst (StandsAt holds new) (sym w.1) st;
+              next = next;
             }
         | inr q ↦
             record {
@@ -215,30 +248,82 @@ module _ {K R W : Type 0} (holds : K → List Kept → Type 0) (refusals : K →
               whole = λ a b. absurd (q a b);
               written = held ∙ ap (λ (v : List ℕ). Some (told ++ v)) (sym o);
               stands = subst (StandsAt holds new) (sym f) st;
+              next = next;
             }
       ]
 
   -- no line is left
-  pub Running-end : {E : Type 0} (old now : Standing K) (reader0 reader reader' : Tally R) (writer0 writer : Tally W) (buffer : Buffer) → Running old now reader0 reader writer0 writer → ReadsLine {E = E} remaining reader reader' buffer (Ok false) → (h : List Record) (script told : List ℕ) → HasPast holds old h → remaining reader0.inner ≡ Some script → contents writer0.inner ≡ Some told → Prints holds refusals old now h script told (contents writer.inner)
+  pub Running-end : {E : Type 0} (old now : Standing K) (reader0 reader reader' : Tally R) (writer0 writer : Tally W) (buffer : Buffer) → Running old now reader0 reader writer0 writer → ReadsLine {E = E} remaining reader reader' buffer (Ok false) → (h : List Record) (script told : List ℕ) → HasPast holds old h → remaining reader0.inner ≡ Some script → contents writer0.inner ≡ Some told → Prints holds refusals old now h script told (contents writer.inner) (remaining reader'.inner)
   Running-end old now reader0 reader reader' writer0 writer buffer i r h script told past left held =
       let b = i.behind h script told past left held in
-      let none : lines b.rest ≡ [] = (r.cut b.rest b.left).2 in
+      let k = r.cut b.rest b.left in
+      let none : lines b.rest ≡ [] = k.2.0 in
+      let next : LeavesUnread script (remaining reader'.inner) = (k.0, k.1, ap lines k.2.1 ∙ sym (b.next_is ∙ ap unread none)) in
       let o : (later : List (Option ℕ)) → b.printed ++ out later old.limit (lines b.rest) b.point ≡ b.printed = λ later. ap (λ (ls : List (List ℕ)). b.printed ++ out later old.limit ls b.point) none ∙ append-nil b.printed in
       let f : (later : List (Option ℕ)) → final later old.limit (lines b.rest) b.point ≡ b.point = λ later. ap (λ (ls : List (List ℕ)). final later old.limit ls b.point) none in
-      prints-as old now h script told b.printed _ b.point (b.gaps ++ []) b.written b.stands (b.out_is [] ∙ o []) (b.final_is [] ∙ f []) (λ low same. (b.out_whole low same ∙ o [], b.final_whole low same ∙ f []))
+      prints-as old now h script told b.printed _ _ b.point (b.gaps ++ []) next b.written b.stands (b.out_is [] ∙ o []) (b.final_is [] ∙ f []) (λ low same. (b.out_whole low same ∙ o [], b.final_whole low same ∙ f []))
 
   -- a line that ends the session
-  pub Running-quit : {E F : Type 0} (old now new : Standing K) (reader0 reader reader' : Tally R) (writer0 writer writer' : Tally W) (buffer : Buffer) → Running old now reader0 reader writer0 writer → ReadsLine {E = E} remaining reader reader' buffer (Ok true) → ((h : List Record) (text : List ℕ) → HasPast holds now h → Holds buffer text → ObeysLine {E = F} holds refusals contents now new writer writer' h text (Ok false)) → (h : List Record) (script told : List ℕ) → HasPast holds old h → remaining reader0.inner ≡ Some script → contents writer0.inner ≡ Some told → Prints holds refusals old new h script told (contents writer'.inner)
+  pub Running-quit : {E F : Type 0} (old now new : Standing K) (reader0 reader reader' : Tally R) (writer0 writer writer' : Tally W) (buffer : Buffer) → Running old now reader0 reader writer0 writer → ReadsLine {E = E} remaining reader reader' buffer (Ok true) → ((h : List Record) (text : List ℕ) → HasPast holds now h → Holds buffer text → ObeysLine {E = F} holds refusals contents now new writer writer' h text (Ok false)) → (h : List Record) (script told : List ℕ) → HasPast holds old h → remaining reader0.inner ≡ Some script → contents writer0.inner ≡ Some told → Prints holds refusals old new h script told (contents writer'.inner) (remaining reader'.inner)
   Running-quit old now new reader0 reader reader' writer0 writer writer' buffer i r obey h script told past left held =
       let b = i.behind h script told past left held in
       let t = turn-of old now new reader0 reader reader' writer0 writer writer' buffer b.point b.rest (told ++ b.printed) false b.stands b.left b.written i.limit r obey in
       let total = b.printed ++ t.e.text in
+      let next : LeavesUnread script (remaining reader'.inner) = (t.ahead, t.left, sym (b.next_is ∙ ap unread t.cut ∙ unread-quit t.line (lines t.ahead) (ends-of old now new reader0 reader reader' writer0 writer writer' buffer b.point b.rest (told ++ b.printed) false t))) in
       let o : b.printed ++ out (t.gap ∷ []) old.limit (lines b.rest) b.point ≡ total = ap (λ (v : List ℕ). b.printed ++ v) (ap (λ (ls : List (List ℕ)). out (t.gap ∷ []) old.limit ls b.point) t.cut ∙ out-stop t.gap [] old.limit t.line (lines t.ahead) b.point t.e t.is (sym t.on)) in
       let f : final (t.gap ∷ []) old.limit (lines b.rest) b.point ≡ t.e.point = ap (λ (ls : List (List ℕ)). final (t.gap ∷ []) old.limit ls b.point) t.cut ∙ final-stop t.gap [] old.limit t.line (lines t.ahead) b.point t.e t.is (sym t.on) in
-      prints-as old new h script told total _ t.e.point (b.gaps ++ t.gap ∷ []) (t.written ∙ ap (λ (v : List ℕ). Some v) (append_assoc told b.printed t.e.text)) t.stands (b.out_is (t.gap ∷ []) ∙ o) (b.final_is (t.gap ∷ []) ∙ f)
+      prints-as old new h script told total _ _ t.e.point (b.gaps ++ t.gap ∷ []) next (t.written ∙ ap (λ (v : List ℕ). Some v) (append_assoc told b.printed t.e.text)) t.stands (b.out_is (t.gap ∷ []) ∙ o) (b.final_is (t.gap ∷ []) ∙ f)
       (λ low same.
       let q = quiet-before old now new reader0 reader reader' writer0 writer writer' buffer refl low same b.counted t.counted in
       let n = none-is old now new reader0 reader reader' writer0 writer writer' buffer b.point b.rest (told ++ b.printed) false t (omega arith) (same ∙ sym q) in (
         b.out_whole low q ∙ ap (λ (v : List ℕ). b.printed ++ v) (ap (λ (ls : List (List ℕ)). out [] old.limit ls b.point) t.cut ∙ out-stop-none old.limit t.line (lines t.ahead) b.point t.e n (sym t.on)),
         b.final_whole low q ∙ ap (λ (ls : List (List ℕ)). final [] old.limit ls b.point) t.cut ∙ final-stop-none old.limit t.line (lines t.ahead) b.point t.e n (sym t.on),
+      ))
+
+  -- a beginning of what is printed, for some gaps, and for none where no push was refused
+  begins-as : (old new : Standing K) (h : List Record) (script told front : List ℕ) (after : Option (List ℕ)) (gaps : List (Option ℕ)) → after ≡ Some (told ++ front) → ((rest : List ℕ) × (out gaps old.limit (lines script) (point_of old h) ≡ front ++ rest)) → (refusals old.timeline.1 < last_refusal → refusals new.timeline.1 ≡ refusals old.timeline.1 → (rest : List ℕ) × (out [] old.limit (lines script) (point_of old h) ≡ front ++ rest)) → PrintsBeginning refusals old new h script told after
+  begins-as old new h script told front after gaps held o whole =
+      let grown : Appends (Some told) after front = subst (λ (v : Option (List ℕ)). Appends (Some told) v front) (sym held) refl in
+      elim (refused-or-not (refusals old.timeline.1) (refusals new.timeline.1)) [
+        | inl q ↦
+            let w = whole q.0 q.1 in
+            record { gaps = []; whole = λ a b. refl; written = (front, w.0, w.1, grown) }
+        | inr q ↦ record { gaps = gaps; whole = λ a b. absurd (q a b); written = (front, o.0, o.1, grown) }
+      ]
+
+  -- what was printed up to a line
+  pub Running-unread : (old now : Standing K) (reader0 reader : Tally R) (writer0 writer : Tally W) → Running old now reader0 reader writer0 writer → (h : List Record) (script told : List ℕ) → HasPast holds old h → remaining reader0.inner ≡ Some script → contents writer0.inner ≡ Some told → PrintsBeginning refusals old now h script told (contents writer.inner)
+  Running-unread old now reader0 reader writer0 writer i h script told past left held =
+      let b = i.behind h script told past left held in
+      begins-as old now h script told b.printed _ (b.gaps ++ []) b.written (out [] old.limit (lines b.rest) b.point, b.out_is []) (λ low same. (out [] old.limit (lines b.rest) b.point, b.out_whole low same))
+
+  -- one text after another, of which the second is a beginning of a third that begins a fourth
+  begins-on : (printed text front rest tail : List ℕ) → text ≡ front ++ rest → printed ++ (text ++ tail) ≡ (printed ++ front) ++ (rest ++ tail)
+  begins-on printed text front rest tail e = ap (λ (v : List ℕ). printed ++ (v ++ tail)) e ∙ simp append_assoc
+
+  -- a line whose text was not written to its end
+  pub Running-unwritten : {E F : Type 0} (fault : F) (old now new : Standing K) (reader0 reader reader' : Tally R) (writer0 writer writer' : Tally W) (buffer : Buffer) → Running old now reader0 reader writer0 writer → ReadsLine {E = E} remaining reader reader' buffer (Ok true) → ((h : List Record) (text : List ℕ) → HasPast holds now h → Holds buffer text → ObeysLine {E = F} holds refusals contents now new writer writer' h text (Err fault)) → (h : List Record) (script told : List ℕ) → HasPast holds old h → remaining reader0.inner ≡ Some script → contents writer0.inner ≡ Some told → PrintsBeginning refusals old new h script told (contents writer'.inner)
+  Running-unwritten fault old now new reader0 reader reader' writer0 writer writer' buffer i r obey h script told past left held =
+      let b = i.behind h script told past left held in
+      let k = r.cut b.rest b.left in
+      let c = k.2 in
+      let o = obey b.point.history c.0 b.stands.1 c.2 in
+      let here : point_of now b.point.history ≡ b.point = ap (λ (x : State). record { history = b.point.history; state = x }) b.stands.0 in
+      let e = effect o.gap now.limit (command_of c.0) (point_of now b.point.history) in
+      let is : effect o.gap old.limit (command_of c.0) b.point ≡ e = sym (ap (λ (l : ℕ). effect o.gap l (command_of c.0) (point_of now b.point.history)) i.limit ∙ ap (effect o.gap old.limit (command_of c.0)) here) in
+      let w = o.written.err in
+      let all = out-begins (o.gap ∷ []) old.limit c.0 (lines k.0) b.point e is in
+      let total : out (b.gaps ++ o.gap ∷ []) old.limit (lines script) (point_of old h) ≡ (b.printed ++ w.0) ++ (w.1 ++ all.0) =
+      b.out_is (o.gap ∷ [])
+      ∙ ap (λ (v : List ℕ). b.printed ++ v) (ap (λ (ls : List (List ℕ)). out (o.gap ∷ []) old.limit ls b.point) c.1 ∙ all.1)
+      ∙ begins-on b.printed e.text w.0 w.1 all.0 w.2 in
+      begins-as old new h script told (b.printed ++ w.0) _ (b.gaps ++ o.gap ∷ []) (appended _ _ (told ++ b.printed) w.0 b.written w.3 ∙ ap (λ (v : List ℕ). Some v) (append_assoc told b.printed w.0)) (w.1 ++ all.0, total)
+      (λ low same.
+      let q = quiet-before old now new reader0 reader reader' writer0 writer writer' buffer refl low same b.counted o.counted in
+      let n : effect None old.limit (command_of c.0) b.point ≡ e = ap (λ (g : Option ℕ). effect g old.limit (command_of c.0) b.point) (sym (o.whole (omega arith) (same ∙ sym q))) ∙ is in
+      let none = out-begins [] old.limit c.0 (lines k.0) b.point e n in (
+        w.1 ++ none.0,
+        b.out_whole low q
+            ∙ ap (λ (v : List ℕ). b.printed ++ v) (ap (λ (ls : List (List ℕ)). out [] old.limit ls b.point) c.1 ∙ none.1)
+            ∙ begins-on b.printed e.text w.0 w.1 none.0 w.2,
       ))

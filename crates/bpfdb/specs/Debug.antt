@@ -3,11 +3,12 @@ use Rattle.std.specs.Prelude.{◌≡◌, ℕ, List, [], ◌++◌, Option, Some}
 use Rattle.bpf_isa.specs.Programs.{Code, IsProgram}
 use Rattle.bpf_isa.specs.Checker.{IsRefused}
 use Rattle.bpf_text.specs.Counted.{Tally}
+use Rattle.bpf_text.specs.Writing.{AppendsBeginning}
 use Rattle.bpfdb.specs.Machine.{HasAll, initial}
 use Rattle.bpfdb.specs.Machine as machine
 use Rattle.bpfdb.specs.Script.{lines}
 use Rattle.bpfdb.specs.Output.{Point, out}
-use Rattle.bpfdb.specs.Scripts.{Fails}
+use Rattle.bpfdb.specs.Scripts.{Fails, LeavesUnread}
 use Rattle.bpfdb.specs.declared.debug.DebugFault.{DebugFault}
 use Rattle.bpfdb.specs.declared.debug.DebugFault.TheVariants.{Load, Open, Run}
 
@@ -22,12 +23,21 @@ pub record Loads (bytes : List ℕ) (code : Code) : Type 0 where
 abbrev pub opening : Code → Point
 opening code = record { history = []; state = initial code }
 
--- The bytes after those that were told before are those that the script prints, where the keeper refused what the gaps say.
-pub record Debugs (limit : ℕ) (bytes script told : List ℕ) (after : Option (List ℕ)) : Type 0 where
+-- The bytes after those that were told before are those that the script prints, where the keeper refused what the gaps say;
+-- what follows `quit` is left unread.
+pub record Debugs (limit : ℕ) (bytes script told : List ℕ) (after left : Option (List ℕ)) : Type 0 where
   pub code : Code
   pub loads : Loads bytes code
   pub gaps : List (Option ℕ)
   pub written : after ≡ Some (told ++ out gaps limit (lines script) (opening code))
+  pub next : LeavesUnread script left
+
+-- The bytes after those that were told before are a beginning of those that the script prints.
+pub record DebugsBeginning (limit : ℕ) (bytes script told : List ℕ) (after : Option (List ℕ)) : Type 0 where
+  pub code : Code
+  pub loads : Loads bytes code
+  pub gaps : List (Option ℕ)
+  pub written : AppendsBeginning (Some told) after (out gaps limit (lines script) (opening code))
 
 -- Why nothing more was debugged: a program that is refused leaves the reader and the writer untouched.
 abbrev pub Stops : {R W : Type 0} → List ℕ → DebugFault → Tally R → Tally R → Tally W → Tally W → Type 0

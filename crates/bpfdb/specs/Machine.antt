@@ -50,7 +50,7 @@ pub record IsState (x : State) : Type 0 where
   pub ten : length x.registers ≡ 10
   pub fits : (r : ℕ) → slice_index x.registers r < 2 ^ 64
 
--- Where a program begins: slot 0, all registers 0.
+-- Where a program begins: slot 0, with 0 in r0 to r9 (bpfdb's own choice of numbers).
 abbrev pub initial : Code → State
 initial code = record { program = code; pc = 0; registers = 0 ∷ 0 ∷ 0 ∷ 0 ∷ 0 ∷ 0 ∷ 0 ∷ 0 ∷ 0 ∷ 0 ∷ []; status = Running }
 

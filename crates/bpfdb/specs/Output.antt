@@ -54,6 +54,17 @@ out gaps limit (line ∷ lines) p =
     let e = effect (first_gap gaps) limit (command_of line) p in
     if e.goes_on then e.text ++ out (later_gaps gaps) limit lines e.point else e.text
 
+-- Whether what a line says ends the session.
+abbrev pub ends : Answer → Bool
+ends (Ok (Some command)) = is_quit command
+ends (Ok None) = false
+ends (Err refusal) = false
+
+-- The lines after the first `quit`, which are left unread.
+abbrev pub unread : List (List ℕ) → List (List ℕ)
+unread [] = []
+unread (line ∷ lines) = if ends (command_of line) then lines else unread lines
+
 -- The point at which they leave the session.
 abbrev pub final : List (Option ℕ) → ℕ → List (List ℕ) → Point → Point
 final gaps limit [] p = p

@@ -1,14 +1,14 @@
 -- What a session does with the lines of a script, as they come from a reader and go to a writer.
 use Rattle.std.specs.Prelude.{◌≡◌, ◌<◌, ◌≤◌, ◌-◌, ◌^◌, ℕ, Bool, true, false, List, [], ◌∷◌, ◌++◌, Option, Some, None, Result, Ok, Err, IfOk, OnOk, OnErr, length}
 use Rattle.bpf_text.specs.Counted.{Tally, one_more}
-use Rattle.bpf_text.specs.Writing.{Writes}
+use Rattle.bpf_text.specs.Writing.{Writes, AppendsBeginning}
 use Rattle.bpfdb.specs.Machine.{State}
 use Rattle.bpfdb.specs.History.{Record, Kept, StandsFor}
 use Rattle.bpfdb.specs.Outcomes.{last_refusal}
 use Rattle.bpfdb.specs.Sessions.{Standing, HasPast}
 use Rattle.bpfdb.specs.Script.{lines}
 use Rattle.bpfdb.specs.Commands.{command_of}
-use Rattle.bpfdb.specs.Output.{Point, Effect, effect, out, final}
+use Rattle.bpfdb.specs.Output.{Point, Effect, effect, out, final, unread}
 use Rattle.bpfdb.specs.declared.script.RunFault.{RunFault}
 use Rattle.bpfdb.specs.declared.script.RunFault.TheVariants.{Read, Write}
 
@@ -21,10 +21,10 @@ pub record Buffer : Type 0 where
 abbrev pub Holds : Buffer → List ℕ → Type 0
 Holds buffer line = elim buffer.is_long [ true ↦ 1024 < length line | false ↦ buffer.bytes ≡ line ]
 
--- A line was cut off the front of a text, or the text has no line left.
+-- A line was cut off the front of a text, or the text has no line, and nothing is left of it.
 abbrev pub CutsLine : Bool → List ℕ → List ℕ → Buffer → Type 0
 CutsLine true text rest buffer = (line : List ℕ) × (lines text ≡ line ∷ lines rest) × Holds buffer line
-CutsLine false text rest buffer = lines text ≡ []
+CutsLine false text rest buffer = (lines text ≡ []) × (rest ≡ [])
 
 -- The next line was read from what a reader had left; reads come closer to their last count; an error is one failure.
 pub record ReadsLine {R E : Type 0} (remaining : R → Option (List ℕ)) (old new : Tally R) (buffer : Buffer) (result : Result Bool E) : Type 0 where
@@ -56,14 +56,27 @@ abbrev pub FailsOnce : {W A E : Type 0} → Result A E → Tally W → Tally W �
 FailsOnce (Ok value) old new = new.failures ≡ old.failures
 FailsOnce (Err fault) old new = new.failures ≡ one_more old.failures
 
+-- What a reader has left of a script are the lines after the first `quit`.
+abbrev pub LeavesUnread : List ℕ → Option (List ℕ) → Type 0
+LeavesUnread script left = (rest : List ℕ) × (left ≡ Some rest) × (lines rest ≡ unread (lines script))
+
 -- The bytes written are those that the script prints, and the session stands at its final point, for some gaps;
--- there are none where the refusals didn't rise.
+-- there are none where the refusals didn't rise. What follows `quit` is left unread.
 pub record Prints {K : Type 0} (holds : K → List Kept → Type 0) (refusals : K → ℕ) (old new : Standing K) (h : List Record)
-    (script before : List ℕ) (after : Option (List ℕ)) : Type 0 where
+    (script before : List ℕ) (after left : Option (List ℕ)) : Type 0 where
   pub gaps : List (Option ℕ)
   pub whole : refusals old.timeline.1 < last_refusal → refusals new.timeline.1 ≡ refusals old.timeline.1 → gaps ≡ []
   pub written : after ≡ Some (before ++ out gaps old.limit (lines script) (point_of old h))
   pub stands : StandsAt holds new (final gaps old.limit (lines script) (point_of old h))
+  pub next : LeavesUnread script left
+
+-- The bytes written before a failure are a beginning of those that the script prints, for some gaps;
+-- there are none where the refusals didn't rise.
+pub record PrintsBeginning {K : Type 0} (refusals : K → ℕ) (old new : Standing K) (h : List Record)
+    (script before : List ℕ) (after : Option (List ℕ)) : Type 0 where
+  pub gaps : List (Option ℕ)
+  pub whole : refusals old.timeline.1 < last_refusal → refusals new.timeline.1 ≡ refusals old.timeline.1 → gaps ≡ []
+  pub written : AppendsBeginning (Some before) after (out gaps old.limit (lines script) (point_of old h))
 
 -- Which failures a run's fault answers: each is counted once, at the end that failed.
 abbrev pub Fails : {R W : Type 0} → RunFault → Tally R → Tally R → Tally W → Tally W → Type 0

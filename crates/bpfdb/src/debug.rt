@@ -1,6 +1,6 @@
 //! The debugger of one program.
-ghost use Rattle.std.specs.Prelude.{◌≡◌, List, ℕ, OnOk, IfErr, Some};
-ghost use Rattle.bpfdb.specs.Debug.{Debugs, Stops};
+ghost use Rattle.std.specs.Prelude.{◌≡◌, List, ℕ, OnOk, IfErr, Some, Err};
+ghost use Rattle.bpfdb.specs.Debug.{Debugs, DebugsBeginning, Stops};
 
 use crate::history::ListKeeper;
 use crate::machine::{Cpu, OpenFault};
@@ -35,9 +35,15 @@ pub fn debug<R: Read, W: Write>(
     reader: &mut Counted<R>,
     writer: &mut Counted<W>,
 ) -> Result<(), DebugFault>
-    // What is printed is what the script prints in a debugger that keeps whole states.
+    // What is printed is what the script prints in a debugger that keeps whole states; what follows `quit`
+    // is left unread.
     ensures value { OnOk result ((script told : List ℕ) → R.remaining reader.old.inner ≡ Some script →
-        W.contents writer.old.inner ≡ Some told → Debugs STEP_LIMIT program.now script told (W.contents writer.new.inner)) }
+        W.contents writer.old.inner ≡ Some told → Debugs STEP_LIMIT program.now script told
+        (W.contents writer.new.inner) (R.remaining reader.new.inner)) }
+    // Where a read or a write fails, a beginning of that was printed.
+    ensures fault { (why : RunFault) (script told : List ℕ) → result ≡ Err (DebugFault.Run why) →
+        R.remaining reader.old.inner ≡ Some script → W.contents writer.old.inner ≡ Some told →
+        DebugsBeginning STEP_LIMIT program.now script told (W.contents writer.new.inner) }
     ensures err { IfErr result (λ fault. Stops program.now fault reader.old reader.new writer.old writer.new) }
     ensures ok { OnOk result ((reader.new.failures ≡ reader.old.failures) × (writer.new.failures ≡ writer.old.failures)) }
 {

@@ -97,7 +97,7 @@ impl Cpu {
 impl Cpu {
     ghost use Rattle.bpfdb.specs.Machine.{State, Leads, initial, HasAll, IsRefused, IsUndoable, overwritten};
 
-    /// A machine at the beginning of the program: slot 0, all registers 0. Refused where the machine lacks an instruction.
+    /// A machine at the beginning of the program: slot 0, with 0 in r0 to r9. Refused where the machine lacks an instruction.
     pub fn open(program: Program) -> Result<Cpu, OpenFault>
         ensures ok { IfOk result (λ c. (c ≡ initial program) × HasAll program) }
         ensures err { IfErr result (λ e. IsRefused program e) }

@@ -1,11 +1,11 @@
 //! Scripts: lines from a reader, obeyed one after another, and their replies to a writer.
-ghost use Rattle.std.specs.Prelude.{◌≡◌, ◌↔◌, List, ℕ, IsTrue, IfOk, true, OnOk, IfErr, Some};
+ghost use Rattle.std.specs.Prelude.{◌≡◌, ◌↔◌, List, ℕ, IsTrue, IfOk, true, OnOk, OnErr, IfErr, Some};
 ghost use Rattle.bpf_text.specs.Writing.{Writes};
 ghost use Rattle.bpfdb.specs.History.{Record};
 ghost use Rattle.bpfdb.specs.Output.{is_quit};
 ghost use Rattle.bpfdb.specs.Refusals.{refusal_text};
 ghost use Rattle.bpfdb.specs.Replies.{text_of_answer};
-ghost use Rattle.bpfdb.specs.Scripts.{Fails, FailsOnce, Holds, ObeysLine, Prints};
+ghost use Rattle.bpfdb.specs.Scripts.{Fails, FailsOnce, Holds, ObeysLine, Prints, PrintsBeginning};
 ghost use Rattle.bpfdb.specs.Sessions.{HasPast};
 
 use crate::command::Command;
@@ -100,12 +100,18 @@ pub fn run<K: Keeper, R: Read, W: Write>(
     reader: &mut Counted<R>,
     writer: &mut Counted<W>,
 ) -> Result<(), RunFault>
-    // What is printed is what the script prints in a debugger that keeps whole states.
+    // What is printed is what the script prints in a debugger that keeps whole states; what follows `quit`
+    // is left unread.
     ensures value { OnOk result ((h : List Record) (script told : List ℕ) → HasPast K.holds session.old h →
         R.remaining reader.old.inner ≡ Some script → W.contents writer.old.inner ≡ Some told →
-        Prints K.holds K.refused session.old session.new h script told (W.contents writer.new.inner)) }
+        Prints K.holds K.refused session.old session.new h script told
+        (W.contents writer.new.inner) (R.remaining reader.new.inner)) }
     ensures ok { OnOk result ((reader.new.failures ≡ reader.old.failures) × (writer.new.failures ≡ writer.old.failures)) }
     ensures err { IfErr result (λ fault. Fails fault reader.old reader.new writer.old writer.new) }
+    // Where a read or a write fails, a beginning of that was printed.
+    ensures fault { OnErr result ((h : List Record) (script told : List ℕ) → HasPast K.holds session.old h →
+        R.remaining reader.old.inner ≡ Some script → W.contents writer.old.inner ≡ Some told →
+        PrintsBeginning K.refused session.old session.new h script told (W.contents writer.new.inner)) }
     ensures same { session.new.limit ≡ session.old.limit }
 {
     let mut line = Line::new();

@@ -1,5 +1,5 @@
-//! Whole sessions: a program, a script, and what is printed. The expected replies are the worked sessions of the
-//! debugger's specification, or follow from its table of commands by hand; none is bpfdb's own output.
+//! Whole sessions: a program, a script, and what is printed. The expected replies were worked out by hand from what
+//! each command means; none is bpfdb's own output.
 use crate::command::Command;
 use crate::count::Count;
 use crate::debug::{DebugFault, debug};

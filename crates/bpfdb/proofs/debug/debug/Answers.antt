@@ -1,18 +1,30 @@
-use Rattle.std.proofs.Common.{◌≡◌, List, [], ◌++◌, ℕ, Option, Some, ap, ◌∙◌}
+use Rattle.std.proofs.Common.{◌≡◌, List, [], ◌++◌, ℕ, Option, Some, ap, subst, ◌∙◌}
 use Rattle.bpfdb.specs.Machine.{State, initial}
 use Rattle.bpf_isa.specs.Programs.{Code}
-use Rattle.bpfdb.specs.Debug.{Loads, Debugs}
+use Rattle.bpf_text.specs.Writing.{AppendsBeginning}
+use Rattle.bpfdb.specs.Debug.{Loads, Debugs, DebugsBeginning}
 use Rattle.bpfdb.specs.Script.{lines}
 use Rattle.bpfdb.specs.Output.{out}
+use Rattle.bpfdb.specs.Scripts.{LeavesUnread}
 use Rattle.bpfdb.proofs.debug.debug.Goals as goal
 
 -- what was printed from the machine's state was printed from the opening one
-from-opening : (limit : ℕ) (bytes script told : List ℕ) (after : Option (List ℕ)) (code : Code) (x : State) (gaps : List (Option ℕ)) → Loads bytes code → x ≡ initial code → after ≡ Some (told ++ out gaps limit (lines script) (record { history = []; state = x })) → Debugs limit bytes script told after
-from-opening limit bytes script told after code x gaps loads opened written = record {
+from-opening : (limit : ℕ) (bytes script told : List ℕ) (after left : Option (List ℕ)) (code : Code) (x : State) (gaps : List (Option ℕ)) → Loads bytes code → x ≡ initial code → after ≡ Some (told ++ out gaps limit (lines script) (record { history = []; state = x })) → LeavesUnread script left → Debugs limit bytes script told after left
+from-opening limit bytes script told after left code x gaps loads opened written next = record {
   code = code;
   loads = loads;
   gaps = gaps;
+  next = next;
   written = written ∙ ap (λ (y : State). Some (told ++ out gaps limit (lines script) (record { history = []; state = y }))) opened;
+}
+
+-- the same of a beginning
+begun-from-opening : (limit : ℕ) (bytes script told : List ℕ) (after : Option (List ℕ)) (code : Code) (x : State) (gaps : List (Option ℕ)) → Loads bytes code → x ≡ initial code → AppendsBeginning (Some told) after (out gaps limit (lines script) (record { history = []; state = x })) → DebugsBeginning limit bytes script told after
+begun-from-opening limit bytes script told after code x gaps loads opened written = record {
+  code = code;
+  loads = loads;
+  gaps = gaps;
+  written = subst (λ (y : State). AppendsBeginning (Some told) after (out gaps limit (lines script) (record { history = []; state = y }))) opened written;
 }
 
 pub returns-in-Ok-answer-clause-value : goal.returns-in-Ok-answer-clause-value
@@ -20,6 +32,15 @@ returns-in-Ok-answer-clause-value g c = λ script told left held.
     let r = rw c.open-session.ensures at c.in-Ok-answer.ensures.value in
     let p = r [] script told (c.new.ensures.empty, tt) left held in
     let o = c.in-Ok-open.ensures.ok in
-    from-opening _ _ script told _ c.in-Ok.code c.in-Ok-open.cpu p.gaps
+    from-opening _ _ script told _ _ c.in-Ok.code c.in-Ok-open.cpu p.gaps
+    (record { accepted = c.known.ensures; same = c.in-Ok.ensures.value.0; unmapped = c.in-Ok.ensures.value.1 ∙ c.empty.ensures; known = o.1 })
+    o.0 p.written p.next
+
+pub returns-in-Err-answer-clause-fault : goal.returns-in-Err-answer-clause-fault
+returns-in-Err-answer-clause-fault g c = λ why script told is left held.
+    let r = rw c.open-session.ensures at c.in-Err-answer.ensures.fault in
+    let p = r [] script told (c.new.ensures.empty, tt) left held in
+    let o = c.in-Ok-open.ensures.ok in
+    begun-from-opening _ _ script told _ c.in-Ok.code c.in-Ok-open.cpu p.gaps
     (record { accepted = c.known.ensures; same = c.in-Ok.ensures.value.0; unmapped = c.in-Ok.ensures.value.1 ∙ c.empty.ensures; known = o.1 })
     o.0 p.written

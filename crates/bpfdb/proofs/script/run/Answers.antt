@@ -1,5 +1,5 @@
-use Rattle.std.proofs.Common.{◌≡◌, true, false, Ok, sym, ap, ◌∙◌}
-use Rattle.bpfdb.proofs.Running.{Running-start, Running-step, Running-end, Running-quit}
+use Rattle.std.proofs.Common.{◌≡◌, true, false, Ok, Err, sym, ap, ◌∙◌}
+use Rattle.bpfdb.proofs.Running.{Running-start, Running-step, Running-end, Running-quit, Running-unread, Running-unwritten}
 use Rattle.bpfdb.proofs.script.run.Goals as goal
 
 pub loop-more-init : goal.loop-more-init
@@ -22,3 +22,12 @@ loop-more-preserved g c =
     (rw (c.in-Ok-obey.is ∙ ap Ok c.if-not-goes_on.false) at c.obey.ensures.value)
     c.in-Ok-obey.ensures.fault
     c.obey.ensures.same
+
+pub returns-in-Err-clause-fault : goal.returns-in-Err-clause-fault
+returns-in-Err-clause-fault g c = Running-unread _ _ _ _ _ _ _ _ _ _ c.loop-more.invariant
+
+pub returns-in-Err-obey-clause-fault : goal.returns-in-Err-obey-clause-fault
+returns-in-Err-obey-clause-fault g c =
+    Running-unwritten _ _ _ _ _ _ _ _ _ _ _ _ _ _ _ c.loop-more.invariant
+    (rw (c.in-Ok.is ∙ ap Ok c.if-not-more.false) at c.next_line.ensures)
+    (rw c.in-Err-obey.is at c.obey.ensures.value)
