@@ -185,3 +185,40 @@ fn a_flush_that_fails_is_a_failed_write(rt: HostRuntime) -> Result<(), Fail> {
     );
     Ok(())
 }
+
+// A writer that counts its flushes, and notes how much it held at the last one.
+#[derive(Drop)]
+struct Noting {
+    taken: Vec<u8>,
+    flushes: u64,
+    noted: usize,
+}
+
+impl Write for Noting {
+    fn write(&mut self, piece: &[u8]) -> io::Result<usize> {
+        self.taken.extend_from_slice(piece)?;
+        Ok(piece.len())
+    }
+
+    fn flush(&mut self) -> io::Result<()> {
+        self.flushes = self.flushes.wrapping_add(1);
+        self.noted = self.taken.len();
+        Ok(())
+    }
+}
+
+// Each reply is flushed, refusals too; a line without words has none.
+#[test]
+fn each_reply_is_flushed(rt: HostRuntime) -> Result<(), Fail> {
+    let mut reader = Counted::new(b"stepi\n\nfrob\ninfo regs\n".as_slice());
+    let mut noting = Noting {
+        taken: Vec::new(rt.alloc()),
+        flushes: 0,
+        noted: 0,
+    };
+    let mut writer = Counted::new(&mut noting);
+    assert!(rt; debug(rt.alloc(), ANSWER, &mut reader, &mut writer).is_ok());
+    assert_eq!(rt; noting.flushes, 3);
+    assert_eq!(rt; noting.noted, noting.taken.len());
+    Ok(())
+}
