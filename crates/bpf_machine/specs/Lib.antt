@@ -1,0 +1,4 @@
+pub mod Numbers
+pub mod Arithmetic
+pub mod Swaps
+pub mod Jumps

@@ -1,0 +1,4 @@
+//! The machine that runs BPF programs.
+#![tactic(auto)]
+
+mod alu;
