@@ -2,3 +2,6 @@ pub mod Numbers
 pub mod Arithmetic
 pub mod Swaps
 pub mod Jumps
+pub mod Platform
+pub mod Regions
+pub mod Lending

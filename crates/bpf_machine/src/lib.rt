@@ -2,3 +2,9 @@
 #![tactic(auto)]
 
 mod alu;
+mod fault;
+mod memory;
+mod platform;
+
+pub use fault::OpenFault;
+pub use memory::Memory;
