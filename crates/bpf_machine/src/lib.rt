@@ -1,10 +1,16 @@
-//! The machine that runs BPF programs.
+//! The machine that runs BPF programs (RFC 9669): registers, memory, status, and the step.
 #![tactic(auto)]
 
 mod alu;
+mod byte_string;
+mod entry;
 mod fault;
 mod memory;
 mod platform;
+mod status;
 
+pub use byte_string::ByteString;
+pub use entry::Entry;
 pub use fault::OpenFault;
 pub use memory::Memory;
+pub use status::{Ended, Fault, Status};
