@@ -6,3 +6,7 @@ pub mod Status
 pub mod Platform
 pub mod Regions
 pub mod Lending
+pub mod State
+pub mod Next
+pub mod Fetched
+pub mod Entries

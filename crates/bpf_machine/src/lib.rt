@@ -3,14 +3,19 @@
 
 mod alu;
 mod byte_string;
+mod change;
+mod cpu;
 mod entry;
 mod fault;
+mod frame;
 mod memory;
 mod platform;
 mod status;
 
 pub use byte_string::ByteString;
+pub use cpu::Cpu;
 pub use entry::Entry;
 pub use fault::OpenFault;
+pub use frame::Frame;
 pub use memory::Memory;
 pub use status::{Ended, Fault, Status};

@@ -1,0 +1,12 @@
+use Rattle.bpf_machine.proofs.cpu.Cpu.known.Goals as goal
+
+pub returns : goal.returns
+returns c = rw (← c.self.view_is) (record {
+  checked = c.known.ensures;
+  known = c.self.invariant.knows;
+  start = c.self.invariant.start;
+  ten = c.are_ten.ensures;
+  outermost = c.self.invariant.outermost;
+  image = c.known-2.ensures;
+  traced = rw c.as_slice-trace.ensures.value at c.as_slice-trace.ensures.fits;
+})
