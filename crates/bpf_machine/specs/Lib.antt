@@ -7,6 +7,7 @@ pub mod Platform
 pub mod Regions
 pub mod Lending
 pub mod State
+pub mod Opening
 pub mod Next
 pub mod Fetched
 pub mod Entries

@@ -1,6 +1,7 @@
 //! The machine: its state, and what can be read of it.
 ghost use Rattle.std.specs.Prelude.{◌≡◌, ◌≤◌, ◌↔◌, IsTrue, IsSome, length, option_map};
 
+mod open;
 mod step;
 
 use crate::change::Change;
@@ -37,7 +38,8 @@ impl Model for Cpu {
 }
 
 impl Cpu {
-    ghost use Rattle.bpf_machine.specs.State.{State, IsState, register as register_of, depth as depth_of, frame, accessible};
+    ghost use Rattle.bpf_machine.specs.Regions.{run_at};
+    ghost use Rattle.bpf_machine.specs.State.{IsState, register as register_of, depth as depth_of, frame, accessible};
 
     /// The slot of the next instruction.
     pub fn pc(&self) -> u16
@@ -55,6 +57,20 @@ impl Cpu {
             self.registers[number]
         } else {
             frame_pointer(self.frames.len())
+        }
+    }
+
+    /// A pushed frame, 0 the innermost; None past the outermost.
+    pub fn frame(&self, i: usize) -> Option<Frame>
+        ensures { result ≡ frame self.now i }
+    {
+        if i < self.frames.len() {
+            self.frames
+                .as_slice()
+                .get(self.frames.len() - 1 - i)
+                .copied()
+        } else {
+            None
         }
     }
 
@@ -84,6 +100,24 @@ impl Cpu {
         ensures { result.now ≡ self.now.program }
     {
         &self.program
+    }
+
+    /// The n bytes at this address, None where some of them aren't present.
+    pub fn peek(&self, address: u64, n: usize) -> Option<&[u8]>
+        requires { 1 ≤ n }
+        ensures { option_map (λ run. run.now) result ≡ run_at self.now.memory address n }
+    {
+        self.memory.peek(address, n)
+    }
+
+    /// Whether the program may access the n bytes at this address.
+    pub fn accessible(&self, address: u64, n: usize) -> bool
+        requires { 1 ≤ n }
+        ensures { IsTrue result ↔ IsSome (accessible self.now address n) }
+    {
+        self.memory
+            .place(address, n, self.frames.len() + 1)
+            .is_some()
     }
 
     /// Brings what holds of every machine into a proof.

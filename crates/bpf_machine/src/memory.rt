@@ -1,5 +1,5 @@
 //! Memory: the bytes of all regions, one region after another.
-ghost use Rattle.std.specs.Prelude.{◌≡◌, ◌+◌, ◌-◌, ◌*◌, ◌≤◌, ◌<◌, ◌⊎◌, length, IfSome, IfNone, IfOk, ◌++◌, replicate};
+ghost use Rattle.std.specs.Prelude.{◌≡◌, ◌+◌, ◌-◌, ◌*◌, ◌≤◌, ◌<◌, ◌⊎◌, length, IfSome, IfNone, IfOk, IfErr, option_map, ◌++◌, replicate};
 ghost use Rattle.bpf_machine.specs.Regions.{place, frames_from};
 ghost use Rattle.bpf_machine.specs.Platform.{context_limit, frame_count, frame_len};
 
@@ -33,12 +33,14 @@ impl Model for Memory {
 impl Memory {
     ghost use Rattle.std.specs.Borrow.{sem};
     ghost use Rattle.bpf_machine.specs.Numbers.{size_len};
-    ghost use Rattle.bpf_machine.specs.Regions.{regions, run, number, with_number, opened, IsImage};
+    ghost use Rattle.bpf_machine.specs.Regions.{regions, run, run_at, number, with_number, IsImage};
+    ghost use Rattle.bpf_machine.specs.Opening.{MemoryOpened, MemoryRefused};
     ghost use Rattle.bpf_machine.specs.Lending.{LendsRun};
 
     /// Opens memory with the context's bytes and frames of zero bytes.
     pub fn open(alloc: Global, _maps: &MapTable, context: &[u8]) -> Result<Memory, OpenFault>
-        ensures value { IfOk result (λ memory. memory ≡ opened context.now) }
+        ensures ok { IfOk result (MemoryOpened context.now) }
+        ensures err { IfErr result (MemoryRefused context.now) }
     {
         if context.len() > CONTEXT_LIMIT {
             return Err(OpenFault::ContextTooLong);
@@ -92,6 +94,17 @@ impl Memory {
         ensures value { result.now ≡ run self.old at n }
     {
         self.bytes.slice_mut(at..at + n)
+    }
+
+    /// The n bytes at this address, None where some of them aren't present.
+    pub fn peek(&self, address: u64, n: usize) -> Option<&[u8]>
+        requires { 1 ≤ n }
+        ensures { option_map (λ run. run.now) result ≡ run_at self.now address n }
+    {
+        match self.place(address, n, FRAME_COUNT) {
+            Some(at) => Some(self.run(at, n)),
+            None => None,
+        }
     }
 
     /// The number that 1, 2, 4 or 8 bytes from a place on are.
