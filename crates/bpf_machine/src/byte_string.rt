@@ -43,6 +43,14 @@ impl ByteString {
         ByteString { items }
     }
 
+    /// How many bytes it has, 1 to 256.
+    pub fn len(&self) -> usize
+        ensures value { result ≡ length self.now }
+        ensures fits { (1 ≤ result) × (result ≤ 256) }
+    {
+        self.as_slice().len()
+    }
+
     /// Its bytes.
     pub fn as_slice(&self) -> &[u8]
         ensures value { result.now ≡ self.now }

@@ -73,6 +73,49 @@ pub enum Entry {
 }
 
 impl Entry {
+    ghost use Rattle.bpf_machine.specs.Entries.{weight as weight_of};
+
+    /// How many bytes it has in a journal: 5 to 281.
+    pub fn weight(&self) -> usize
+        ensures { result ≡ weight_of self.now }
+    {
+        match self {
+            Entry::Register {
+                pc: _,
+                register: _,
+                value: _,
+            } => 16,
+            Entry::Jump { pc: _ } | Entry::Call { pc: _ } => 7,
+            Entry::Return { pc: _, saved: _ } => 39,
+            Entry::Store {
+                pc: _,
+                address: _,
+                old,
+            } => 16 + old.len(),
+            Entry::Fetch {
+                pc: _,
+                register: _,
+                value: _,
+                address: _,
+                old,
+            } => 25 + old.len(),
+            Entry::Cell {
+                pc: _,
+                r0: _,
+                address: _,
+                old,
+            } => 23 + old.len(),
+            Entry::Trace { pc: _, r0: _ } => 15,
+            Entry::End => 5,
+            Entry::EditRegister {
+                register: _,
+                value: _,
+            } => 14,
+            Entry::EditBytes { address: _, old } => 13 + old.len(),
+            Entry::EditPc { pc: _, status: _ } => 16,
+        }
+    }
+
     /// A copy.
     pub fn copied(&self) -> Entry
         ensures { result ≡ self.now }

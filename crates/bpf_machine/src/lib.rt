@@ -8,6 +8,7 @@ mod cpu;
 mod entry;
 mod fault;
 mod frame;
+pub mod laws;
 mod memory;
 mod platform;
 mod status;
