@@ -1,5 +1,5 @@
 //! Memory: the bytes of all regions, one region after another.
-ghost use Rattle.std.specs.Prelude.{◌≡◌, ◌+◌, ◌-◌, ◌*◌, ◌≤◌, ◌<◌, ◌⊎◌, length, IfSome, IfNone, IfOk, IfErr, option_map, ◌++◌, replicate};
+ghost use Rattle.std.specs.Prelude.{◌≡◌, ◌+◌, ◌-◌, ◌*◌, ◌≤◌, ◌<◌, ◌⊎◌, length, IfSome, IfNone, IfOk, IfErr, option_map, Some, None, if◌then◌else◌, ◌==◌, ◌++◌, replicate};
 ghost use Rattle.bpf_machine.specs.Regions.{place, frames_from};
 ghost use Rattle.bpf_machine.specs.Platform.{context_limit, frame_count, frame_len};
 
@@ -35,7 +35,7 @@ impl Memory {
     ghost use Rattle.bpf_machine.specs.Numbers.{size_len};
     ghost use Rattle.bpf_machine.specs.Regions.{regions, run, run_at, number, with_number, IsImage};
     ghost use Rattle.bpf_machine.specs.Opening.{MemoryOpened, MemoryRefused};
-    ghost use Rattle.bpf_machine.specs.Lending.{LendsRun};
+    ghost use Rattle.bpf_machine.specs.Lending.{LendsRun, LendsRunOrNone, LendsBytes};
 
     /// Opens memory with the context's bytes and frames of zero bytes.
     pub fn open(alloc: Global, _maps: &MapTable, context: &[u8]) -> Result<Memory, OpenFault>
@@ -105,6 +105,30 @@ impl Memory {
             Some(at) => Some(self.run(at, n)),
             None => None,
         }
+    }
+
+    /// The n bytes at this address, lent for writing; None where some of them aren't present.
+    pub fn bytes_mut(&mut self, address: u64, n: usize) -> Option<&mut [u8]>
+        requires { 1 ≤ n }
+        ensures* lends { sem 𝓛 (LendsBytes self.entry address n result) }
+        ensures value { option_map (λ run. run.now) result ≡ run_at self.old address n }
+    {
+        let run = self.run_or_none(address, n);
+        if run.len() == 0 { None } else { Some(run) }
+    }
+
+    /// The n bytes at this address, or no bytes where some of them aren't present.
+    fn run_or_none(&mut self, address: u64, n: usize) -> &mut [u8]
+        requires { 1 ≤ n }
+        ensures* lends { sem 𝓛 (LendsRunOrNone self.entry address n result) }
+        ensures value { (if length result.now == 0 then None else Some result.now)
+            ≡ run_at self.old address n }
+    {
+        let (at, len) = match self.place(address, n, FRAME_COUNT) {
+            Some(at) => (at, n),
+            None => (0, 0),
+        };
+        self.run_mut(at, len)
     }
 
     /// The number that 1, 2, 4 or 8 bytes from a place on are.
