@@ -12,6 +12,8 @@ pub mod laws;
 mod memory;
 mod platform;
 mod status;
+#[cfg(test)]
+mod tests;
 
 pub use byte_string::ByteString;
 pub use cpu::Cpu;

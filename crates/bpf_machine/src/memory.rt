@@ -55,14 +55,14 @@ impl Memory {
     }
 
     /// Brings what holds of every memory into a proof.
-    pub fn known(&self)
+    pub(crate) fn known(&self)
         ensures { IsImage self.now }
     {
         let _bytes = &self.bytes;
     }
 
     /// Where the run of n bytes at this address begins, among the context and the first `frames` frames.
-    pub fn place(&self, address: u64, n: usize, frames: usize) -> Option<usize>
+    pub(crate) fn place(&self, address: u64, n: usize, frames: usize) -> Option<usize>
         requires some { 1 ≤ n }
         requires within { frames ≤ frame_count }
         ensures value { result ≡ place (regions self.now.context_len frames) address n }
@@ -79,7 +79,7 @@ impl Memory {
     }
 
     /// The n bytes from a place on.
-    pub fn run(&self, at: usize, n: usize) -> &[u8]
+    pub(crate) fn run(&self, at: usize, n: usize) -> &[u8]
         requires { at + n ≤ length self.now.bytes }
         ensures value { result.now ≡ run self.now at n }
         ensures fits { length result.now ≡ n }
@@ -88,7 +88,7 @@ impl Memory {
     }
 
     /// The n bytes from a place on, lent for writing.
-    pub fn run_mut(&mut self, at: usize, n: usize) -> &mut [u8]
+    pub(crate) fn run_mut(&mut self, at: usize, n: usize) -> &mut [u8]
         requires { at + n ≤ length self.old.bytes }
         ensures* lends { sem 𝓛 (LendsRun self.entry at result) }
         ensures value { result.now ≡ run self.old at n }
@@ -97,7 +97,7 @@ impl Memory {
     }
 
     /// The n bytes at this address, None where some of them aren't present.
-    pub fn peek(&self, address: u64, n: usize) -> Option<&[u8]>
+    pub(crate) fn peek(&self, address: u64, n: usize) -> Option<&[u8]>
         requires { 1 ≤ n }
         ensures { option_map (λ run. run.now) result ≡ run_at self.now address n }
     {
@@ -132,7 +132,7 @@ impl Memory {
     }
 
     /// The number that 1, 2, 4 or 8 bytes from a place on are.
-    pub fn number(&self, at: usize, size: Size) -> u64
+    pub(crate) fn number(&self, at: usize, size: Size) -> u64
         requires { at + size_len size ≤ length self.now.bytes }
         ensures { result ≡ number self.now at (size_len size) }
     {
@@ -145,7 +145,7 @@ impl Memory {
     }
 
     /// Writes the low 1, 2, 4 or 8 bytes of a number from a place on.
-    pub fn put(&mut self, at: usize, size: Size, value: u64)
+    pub(crate) fn put(&mut self, at: usize, size: Size, value: u64)
         requires { at + size_len size ≤ length self.old.bytes }
         ensures { self.new ≡ with_number self.old at (size_len size) value }
     {

@@ -1,0 +1,2 @@
+//! Tests: vectors and worked programs.
+mod arithmetic;
