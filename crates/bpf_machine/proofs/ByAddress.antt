@@ -78,7 +78,7 @@ place_fits [] a n at e = cc
 place_fits (r ∷ rs) a n at e = elim (place_split r rs a n) [
   | inl here ↦ let same : a - r.base ≡ at = cc (here.2) in omega (arith, here.0, here.1)
   | inr other ↦
-      let found = some_from_map _ _ _ (sym other.1 ∙ e) in
+      let found : (x : ℕ) × (place rs a n ≡ Some x) × (at ≡ r.len + x) = some_from_map _ _ _ (sym other.1 ∙ e) in
       omega (arith, place_fits rs a n found.0 found.1, found.2)
 ]
 

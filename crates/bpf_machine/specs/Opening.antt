@@ -1,11 +1,22 @@
 -- Opening a machine: what it refuses, in this order: a context that is too long, a word that the machine lacks, want of memory.
-use Rattle.std.specs.Prelude.{◌≡◌, ◌≤◌, ◌<◌, ℕ, List, length}
+use Rattle.std.specs.Prelude.{◌≡◌, ◌≤◌, ◌<◌, ℕ, List, length, codes}
 use Rattle.bpf_isa.specs.Programs.{Code}
 use Rattle.bpf_machine.specs.declared.fault.OpenFault.{OpenFault}
 use Rattle.bpf_machine.specs.declared.fault.OpenFault.TheVariants.{ContextTooLong, OutOfMemory, Unknown}
 use Rattle.bpf_machine.specs.Platform.{context_limit}
 use Rattle.bpf_machine.specs.Regions.{Image, opened}
 use Rattle.bpf_machine.specs.State.{State, initial, IsKnownAt}
+
+-- A fault's number and text.
+abbrev pub number_of : OpenFault → ℕ
+number_of ContextTooLong = 1
+number_of OutOfMemory = 2
+number_of (Unknown slot) = 3
+
+abbrev pub text_of : OpenFault → List ℕ
+text_of ContextTooLong = codes "context too long"
+text_of OutOfMemory = codes "out of memory"
+text_of (Unknown slot) = codes "instruction not supported"
 
 -- The machine knows each word of a program.
 abbrev pub IsKnownWhole : Code → Type 0

@@ -90,7 +90,8 @@ impl Cpu {
 
     /// The words that were traced.
     pub fn trace(&self) -> &[u64]
-        ensures { result.now ≡ self.now.trace }
+        ensures value { result.now ≡ self.now.trace }
+        ensures fits { length result.now ≤ 256 }
     {
         self.trace.as_slice()
     }
@@ -127,7 +128,7 @@ impl Cpu {
         self.program.known();
         self.memory.known();
         are_ten(&self.registers);
-        let _trace = self.trace.as_slice();
+        let _trace = self.trace();
     }
 }
 

@@ -1,4 +1,5 @@
 //! Why a machine can't be opened.
+ghost use Rattle.std.specs.Prelude.{◌≡◌};
 
 /// Why a machine or its memory can't be opened.
 #[derive(Clone, Copy)]
@@ -12,8 +13,12 @@ pub enum OpenFault {
 }
 
 impl OpenFault {
+    ghost use Rattle.bpf_machine.specs.Opening.{number_of, text_of};
+
     /// The fault's number, behind the letter O.
-    pub fn number(&self) -> u8 {
+    pub fn number(&self) -> u8
+        ensures { result ≡ number_of self.now }
+    {
         match self {
             OpenFault::ContextTooLong => 1,
             OpenFault::OutOfMemory => 2,
@@ -22,7 +27,9 @@ impl OpenFault {
     }
 
     /// The fault's text.
-    pub fn text(&self) -> &'static str {
+    pub fn text(&self) -> &'static str
+        ensures { result.now ≡ text_of self.now }
+    {
         match self {
             OpenFault::ContextTooLong => "context too long",
             OpenFault::OutOfMemory => "out of memory",

@@ -1,2 +1,6 @@
 //! Tests: vectors and worked programs.
-mod arithmetic;
+mod edges;
+mod machine;
+mod programs;
+mod results32;
+mod results64;

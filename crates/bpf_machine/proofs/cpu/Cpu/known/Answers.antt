@@ -1,3 +1,5 @@
+use Rattle.std.proofs.Common.{ap}
+use Rattle.bpf_machine.specs.State.{State}
 use Rattle.bpf_machine.proofs.cpu.Cpu.known.Goals as goal
 
 pub returns : goal.returns
@@ -8,5 +10,5 @@ returns c = rw (← c.self.view_is) (record {
   ten = c.are_ten.ensures;
   outermost = c.self.invariant.outermost;
   image = c.known-2.ensures;
-  traced = rw c.as_slice-trace.ensures.value at c.as_slice-trace.ensures.fits;
+  traced = rw (ap (λ (x : State). x.trace) c.self.view_is) (rw c.trace-trace.ensures.value at c.trace-trace.ensures.fits);
 })
