@@ -99,7 +99,8 @@ impl Memory {
     /// The n bytes at this address, None where some of them aren't present.
     pub(crate) fn peek(&self, address: u64, n: usize) -> Option<&[u8]>
         requires { 1 ≤ n }
-        ensures { option_map (λ run. run.now) result ≡ run_at self.now address n }
+        ensures value { option_map (λ run. run.now) result ≡ run_at self.now address n }
+        ensures fits { IfSome result (λ run. length run.now ≡ n) }
     {
         match self.place(address, n, FRAME_COUNT) {
             Some(at) => Some(self.run(at, n)),
@@ -112,6 +113,7 @@ impl Memory {
         requires { 1 ≤ n }
         ensures* lends { sem 𝓛 (LendsBytes self.entry address n result) }
         ensures value { option_map (λ run. run.now) result ≡ run_at self.old address n }
+        ensures fits { IfSome result (λ run. length run.now ≡ n) }
     {
         let run = self.run_or_none(address, n);
         if run.len() == 0 { None } else { Some(run) }
@@ -123,6 +125,7 @@ impl Memory {
         ensures* lends { sem 𝓛 (LendsRunOrNone self.entry address n result) }
         ensures value { (if length result.now == 0 then None else Some result.now)
             ≡ run_at self.old address n }
+        ensures fits { 0 < length result.now → length result.now ≡ n }
     {
         let (at, len) = match self.place(address, n, FRAME_COUNT) {
             Some(at) => (at, n),

@@ -1,5 +1,5 @@
 //! What can be read of a machine.
-ghost use Rattle.std.specs.Prelude.{◌≡◌, ◌≤◌, ◌↔◌, IsTrue, IsSome, length, option_map};
+ghost use Rattle.std.specs.Prelude.{◌≡◌, ◌≤◌, ◌↔◌, IsTrue, IsSome, IfSome, length, option_map};
 
 use super::Cpu;
 use crate::frame::Frame;
@@ -76,7 +76,8 @@ impl Cpu {
     /// The n bytes at this address, None where some of them aren't present.
     pub fn peek(&self, address: u64, n: usize) -> Option<&[u8]>
         requires { 1 ≤ n }
-        ensures { option_map (λ run. run.now) result ≡ run_at self.now.memory address n }
+        ensures value { option_map (λ run. run.now) result ≡ run_at self.now.memory address n }
+        ensures fits { IfSome result (λ run. length run.now ≡ n) }
     {
         self.memory.peek(address, n)
     }

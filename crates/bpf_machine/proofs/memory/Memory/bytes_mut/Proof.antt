@@ -8,7 +8,9 @@ use Rattle.std.proofs.VecSteps.Element.{Some-of, none_of}
 use Rattle.std.specs.declared.option.Option.TheVariants.{None, Some}
 use Rattle.std.specs.contracts.option.Option as OP
 use lib.Dec.{eqb→eq}
-use base.Logic.{emp, id⊢, via}
+use seplogic.Ra.Ura.{Ura}
+use types.Logic.{Logic, sem}
+use base.Logic.{ent, sep, emp, id⊢, via, mono_r}
 use base.Fml.{ftrue, flft, fobs, fres}
 use contract.Monad.{fact, fact_i}
 use contract.Running.{tables}
@@ -39,7 +41,7 @@ use denote.Triple.Table.{framed}
 use denote.Triple.Walked.{Stays, walk_of, says, stay_dropped, Goes-dropped, Goes-spent_ref, ends_at}
 use Rattle.bpf_machine.specs.Regions.{Image, run_at, place_of, with_bytes}
 use Rattle.bpf_machine.specs.Lending.{put}
-use Rattle.bpf_machine.proofs.Loans.{as_it_was, put_is, none_by, some_by}
+use Rattle.bpf_machine.proofs.Loans.{as_it_was, put_is, none_by, some_by, positive}
 use Rattle.bpf_machine.specs.contracts.memory.Memory.{the_row as R}
 use Rattle.bpf_machine.specs.contracts.memory.Memory.bytes_mut as f
 use Rattle.bpf_machine.specs.contracts.memory.Memory.run_or_none as g
@@ -49,6 +51,12 @@ use Rattle.bpf_machine.proofs.memory.Memory.bytes_mut.Code as code
 
 abbrev stayed : Stays f.ended.signature.params f.ended.kept
 stayed = (stay_dropped (mut_ref_to (0 ∷ []) tt (plain (λ _. R))) no, (stay_dropped (plain (λ _. u64)) yes, (stay_dropped (plain (λ _. usize)) yes, tt)))
+
+-- Two facts are shown as one.
+two_facts : {M : Type 1} {𝓤 : Ura M} (𝓛 : Logic 𝓤) (P Q : Type 0) → ent 𝓤 (fact 𝓤 (P × Q)) (sep 𝓤 (fact 𝓤 P) (fact 𝓤 Q))
+two_facts {𝓤 = 𝓤} 𝓛 P Q =
+    qed 𝓛 (raw (fact 𝓤 (P × Q)) ∷ []) ∵ heard ! _ (λ both.
+    use0 𝓛 (raw (fact 𝓤 Q)) (fact_i 𝓤 Q (emp 𝓤) both.1) $ use0 𝓛 (raw (fact 𝓤 P)) (fact_i 𝓤 P (emp 𝓤) both.0) $ done !)
 
 pub bytes_mut_spec : {M : Type 1} → statement M
 unfolding follows_by
@@ -72,8 +80,8 @@ bytes_mut_spec 𝓤 𝓛 𝓜 𝓡 wired =
     (and_then ! (get ! refl) (and_then ! (get ! refl) (and_then ! (get ! refl) (no_more !)))) (λ v.
     use1 𝓛 (later (some (λ (r : MutBor (List ℕ)). ((‵ (flft κ q) ⊛ ‵ ftrue) ⊛ ‵ (Sl.own_val r (v ∷ []))) ⊛
     some (λ (ws : Unit {0} × (Unit {0} × (Unit {0} × Unit {0}))). ‵ (lasts g.ended κs a ws) ⊛ (‵ (follows R (Array u8 0) a.0.ghost_name r.ghost_name (with_bytes m (unwrap_or (place_of m address n) 0))) ⊛
-    raw (fact 𝓤 ((if length r.now == 0 then None else Some r.now) ≡ run_at m address n))))))) (id⊢ 𝓤 _) $
-    await ! tt $ pick ! (λ r. split ! $ split ! $ split ! $ move ! (3 ∷ []) $ pick ! (λ ws. split ! $ drop ! $ split ! $ move ! (1 ∷ []) $ heard ! _ (λ is_now.
+    raw (fact 𝓤 ((if length r.now == 0 then None else Some r.now) ≡ run_at m address n)) ⊛ raw (fact 𝓤 (0 < length r.now → length r.now ≡ n))))))) (id⊢ 𝓤 _) $
+    await ! tt $ pick ! (λ r. split ! $ split ! $ split ! $ move ! (3 ∷ []) $ pick ! (λ ws. split ! $ drop ! $ split ! $ move ! (1 ∷ []) $ split ! $ heard ! _ (λ is_now. heard ! _ (λ as_long.
     -- [what memory follows; the token; nothing; the run]
     move ! (2 ∷ []) $ drop ! $ move ! (2 ∷ 0 ∷ 1 ∷ []) $ peeks ! Sl (Is Sl) (shows 𝓛 Sl) r (v ∷ []) (λ is.
     rewrite ! 0 (λ (us : List Val). ‵ (Sl.own_val r us)) is.0.0 refl $
@@ -94,7 +102,7 @@ bytes_mut_spec 𝓤 𝓛 𝓜 𝓡 wired =
     use0 𝓛 (‵ ((OP.the_row Sl).own_val None (live 0 (of_list []) ∷ []))) (none_of 𝓛 Sl) $ move ! (0 ∷ 2 ∷ 1 ∷ []) $
     suffices ! _ (ends_at 𝓛 f.ended stayed c y (live 0 (of_list [])) None (tt, (tt, (tt, tt))) (tt, (tt, (tt, tt)))) $
     nothing ! $ nothing ! $ fjoin ! $ nothing ! $ fjoin ! $ nothing ! $ fjoin ! $ join ! $ nothing ! $ move ! (2 ∷ 0 ∷ []) $ join ! $ join ! $ frame ! $
-    says ! (none_by (length r.now == 0) r.now (run_at m address n) empty is_now) $ done !)
+    suffices ! _ (mono_r 𝓤 (sem 𝓛 (fres a.0.ghost_name (R.coded.code m))) (two_facts 𝓛 _ _)) $ says ! (none_by (length r.now == 0) r.now (run_at m address n) empty is_now, tt) $ done !)
     (λ full.
     let lent : Val = slice_val r.ref_ptr (length r.now) in
     let found = some_by (length r.now == 0) r.now (run_at m address n) full is_now in
@@ -109,4 +117,4 @@ bytes_mut_spec 𝓤 𝓛 𝓜 𝓡 wired =
     use1 𝓛 (‵ ((OP.the_row Sl).own_val (Some r) (live 1 (of_list (lent ∷ [])) ∷ []))) (Some-of 𝓛 Sl r lent) $ move ! (0 ∷ 2 ∷ 1 ∷ []) $
     suffices ! _ (ends_at 𝓛 f.ended stayed c y (live 1 (of_list (lent ∷ []))) (Some r) (tt, (tt, (tt, tt))) (tt, (tt, (tt, tt)))) $
     nothing ! $ nothing ! $ fjoin ! $ nothing ! $ fjoin ! $ nothing ! $ fjoin ! $ join ! $ nothing ! $ move ! (2 ∷ 0 ∷ []) $ join ! $ join ! $ frame ! $
-    says ! found $ done !)))))))))
+    suffices ! _ (mono_r 𝓤 (sem 𝓛 (follows R (Array u8 0) a.0.ghost_name r.ghost_name (put m address n))) (two_facts 𝓛 _ _)) $ says ! (found, as_long (positive _ full)) $ done !))))))))))
