@@ -1,12 +1,12 @@
 -- The laws of memory read by address.
-use Rattle.std.proofs.Common.{◌≡◌, ◌≤◌, ◌<◌, ◌↔◌, ◌⊎◌, ℕ, zero, suc, ◌+◌, ◌-◌, ◌*◌, ◌^◌, List, [], ◌∷◌, length, Option, Some, None, refl, sym, ap, ◌∙◌, inl, inr, arith, get_or, take, drop, ◌++◌}
+use Rattle.std.proofs.Common.{◌≡◌, ◌≤◌, ◌<◌, ◌⊎◌, ℕ, zero, suc, ◌+◌, ◌-◌, ◌*◌, ◌^◌, List, [], ◌∷◌, length, Option, Some, None, refl, sym, ap, ◌∙◌, inl, inr, arith}
 use Rattle.std.specs.Prelude.{IsSome, option_map, unwrap_or, slice_index, slice_range}
 use Rattle.byteorder.specs.Endian.{little_from}
 use Rattle.std.proofs.lemmas.Bool.{cases_lt}
 use Rattle.std.proofs.lemmas.Grind.{elements}
 use Rattle.std.proofs.Math.Nat.{pow-suc}
-use Rattle.bpf_machine.specs.Platform.{frame_base, frame_len, frame_count, context_base, context_limit}
-use Rattle.bpf_machine.specs.Regions.{Image, IsImage, Region, regions, frames_from, place, place_of, number, with_bytes, paste}
+use Rattle.bpf_machine.specs.Platform.{frame_base, frame_len, frame_count, context_limit}
+use Rattle.bpf_machine.specs.Regions.{Image, IsImage, Region, regions, frames_from, place, place_of, paste}
 use Rattle.bpf_machine.specs.ByAddress.{byte_at, AllPast, AreApart, RegionsAreApart, RunsAreTheirAddresses, sum_at, NumbersAreSums, StoresAreLocal, AccessibleIsPresent}
 use Rattle.bpf_machine.proofs.Places.{place_here, place_above, place_below}
 

@@ -1,5 +1,5 @@
 -- Memory read by address: the laws that say what its regions, runs, numbers and stores mean.
-use Rattle.std.specs.Prelude.{◌≡◌, ◌≤◌, ◌<◌, ◌↔◌, ◌⊎◌, ℕ, zero, suc, ◌+◌, ◌-◌, ◌*◌, ◌^◌, List, [], ◌∷◌, length, slice_index, Option, Some, IsSome, option_map, unwrap_or}
+use Rattle.std.specs.Prelude.{◌≡◌, ◌≤◌, ◌<◌, ◌↔◌, ◌⊎◌, ℕ, zero, suc, ◌+◌, ◌*◌, ◌^◌, List, [], ◌∷◌, length, slice_index, Option, Some, IsSome, option_map, unwrap_or}
 use Rattle.bpf_machine.specs.Platform.{frame_count}
 use Rattle.bpf_machine.specs.Regions.{Image, IsImage, Region, regions, place_of, number, with_bytes}
 use Rattle.bpf_machine.specs.State.{State, IsState, accessible}

@@ -1,8 +1,7 @@
 -- `bytes_mut` lends the run where it is present, and memory follows it. The code is walked by hand, since no
 -- `Option` around a lent slice gets a generated proof.
-use Rattle.std.proofs.Common.{◌≡◌, ◌≤◌, ◌<◌, ◌^◌, ◌==◌, ℕ, List, [], ◌∷◌, length, refl, sym, ap, ◌∙◌, arith, lit<, w8, w64, MutBor, Option}
-use Rattle.std.specs.Prelude.{option_map, unwrap_or, if◌then◌else◌}
-use Rattle.std.specs.Option.{ghost_name_of}
+use Rattle.std.proofs.Common.{◌≡◌, ◌≤◌, ◌<◌, ◌^◌, ◌==◌, ℕ, List, [], ◌∷◌, length, refl, ap, lit<, w64, MutBor}
+use Rattle.std.specs.Prelude.{unwrap_or, if◌then◌else◌}
 use Rattle.std.proofs.raw_atomic.Walks.{proved}
 use Rattle.std.proofs.VecSteps.Element.{Some-of, none_of}
 use Rattle.std.specs.declared.option.Option.TheVariants.{None, Some}
@@ -11,20 +10,20 @@ use lib.Dec.{eqb→eq}
 use seplogic.Ra.Ura.{Ura}
 use types.Logic.{Logic, sem}
 use base.Logic.{ent, sep, emp, id⊢, via, mono_r}
-use base.Fml.{ftrue, flft, fobs, fres}
+use base.Fml.{ftrue, flft, fres}
 use contract.Monad.{fact, fact_i}
 use contract.Running.{tables}
 use mir.Syntax.{named}
-use mir.Val.{Val, vptr, vint, of_list}
-use types.Kit.{‵, raw, ◌⊛◌, some, later, at_ret, ◌$◌, ◌∵◌, !, qed, by, move, keep, drop, use0, use1, use2, split, join, fsplit, fsplit3, fjoin, pick, await, rewrite, suffices, frame, done}
+use mir.Val.{Val, of_list}
+use types.Kit.{‵, raw, ◌⊛◌, some, later, at_ret, ◌$◌, ◌∵◌, !, qed, move, keep, drop, use0, use1, use2, split, join, fsplit3, fjoin, pick, await, rewrite, suffices, frame, done}
 use types.Run.{enter, of_opd, bin, lit, addr, stop, fld, hop, from, no_more, and_then, first, branches, exec, returns}
 use types.ByLocal.{alloc_all, pass_all, free_all, look_at, look_in_at, get, get_in, through, sets, sets_last, lands_as, env}
 use types.Part.{agg, whole, sub}
 use types.Match.{live}
 use denote.Array.{Array}
-use denote.Builtin.{u8, u64, usize, RefMutOf}
+use denote.Builtin.{u8, u64, usize}
 use denote.Exit.{yes, no}
-use denote.Follow.{follows, follows_if, follows_by, followed}
+use denote.Follow.{follows, follows_by, followed}
 use denote.Laws.{Is, shows}
 use denote.Plain.{uint_vals, uint_Tells}
 use denote.Ref.{mut_vals, mut_Tells}
