@@ -7,6 +7,7 @@ use Rattle.std.proofs.lemmas.Bool.Decides.{nat_tests}
 use Rattle.bpf_isa.specs.declared.instruction.Insn.{Insn}
 use Rattle.bpf_isa.specs.declared.maps.MapShape.{MapShape}
 use Rattle.bpf_isa.specs.Insns.{slots_of, FallsThrough, target_of, written_of}
+use Rattle.bpf_isa.specs.Maps.{AreMaps}
 use Rattle.bpf_isa.specs.Words.{row, form_of, fields_of, IsWord}
 use Rattle.bpf_isa.specs.Checker.{is_wide_at, is_start, IsStartIn, piece_at, after, AreSlots, IsAccepted, HasNoFault, IsTarget, Lands, SparesTen}
 use Rattle.bpf_isa.specs.Flags.{IsSound, IsPiece, IsInsnAt, AreInsns}
@@ -82,7 +83,7 @@ some_of e = ap is_some e
 nothing_past : (o : Option (Option Insn)) → o ≡ None → IsSome (unwrap_or o None) → ⊥
 nothing_past o e some = cc
 
-module _ (bytes : List ℕ) (insns : List (Option Insn)) (maps : List MapShape) (n : ℕ) (size : 8 * n ≡ length bytes) (slots : AreSlots bytes) (kept : AreInsns bytes maps insns n) where
+module _ (bytes : List ℕ) (insns : List (Option Insn)) (maps : List MapShape) (n : ℕ) (size : 8 * n ≡ length bytes) (slots : AreSlots bytes) (tables : AreMaps maps) (kept : AreInsns bytes maps insns n) where
   inside : (p : ℕ) → IsSome (unwrap_or (slice_get insns p) None) → p < n
   inside p some = elim (cases_lt p (length insns)) [ inl here ↦ omega (arith, kept.slots) | inr past ↦ absurd (nothing_past _ (slice_get_past insns p past) some) ]
 
@@ -124,6 +125,7 @@ module _ (bytes : List ℕ) (insns : List (Option Insn)) (maps : List MapShape) 
     spares = λ p r i e f. spared (written_of i) r ((found p i e).1.sound.spares) f;
     helpers = λ p i e. (found p i e).1.sound.helper;
     names = λ p i e. (found p i e).1.sound.names;
+    tables = tables;
     accepted = all_clear;
     slots = omega (arith, kept.slots);
     starts = λ p. (to_start p, from_start p);

@@ -142,3 +142,11 @@ IsRefused bytes maps TooLong = 524280 < length bytes
 IsRefused bytes maps Ragged = (length bytes ≤ 524280) × (length bytes % 8 ≢ 0)
 IsRefused bytes maps (At slot fault) = IsFirstFault bytes maps slot fault
 IsRefused bytes maps Memory = AreSlots bytes
+
+-- The number of a load fault that is printed after C.
+abbrev pub load_fault_number : LoadFault → ℕ
+load_fault_number Empty = 1
+load_fault_number TooLong = 2
+load_fault_number Ragged = 3
+load_fault_number (At slot fault) = fault_number fault
+load_fault_number Memory = 13

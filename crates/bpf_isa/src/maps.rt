@@ -60,7 +60,8 @@ impl MapTable {
 
     /// The same maps.
     pub(crate) fn copied(&self) -> MapTable
-        ensures { result ≡ self.now }
+        ensures value { result ≡ self.now }
+        ensures fits { AreMaps self.now }
     {
         let mut shapes = ArrayVec::new();
         let _all = shapes.try_extend_from_slice(self.shapes.as_slice());

@@ -17,5 +17,5 @@ invariant_of-result c =
     let bytes = c.args.bytes.now in
     let slots : AreSlots bytes = search rules in
     let kept : AreInsns bytes c.args.maps.now c.in-Ok-insns_of.insns.items (length c.in-Ok.starts.items) = subst (λ starts. AreInsns bytes c.args.maps.now c.in-Ok-insns_of.insns.items (length starts)) c.deref.ensures.value c.in-Ok-insns_of.ensures.ok in
-    copied_program bytes _ _ c.args.maps.now _ c.in-Ok-from_slice.ensures.items c.copied.ensures
-      (is_program bytes c.in-Ok-insns_of.insns.items c.args.maps.now (length c.in-Ok.starts.items) c.in-Ok.ensures.slots slots kept)
+    copied_program bytes _ _ c.args.maps.now _ c.in-Ok-from_slice.ensures.items c.copied.ensures.value
+      (is_program bytes c.in-Ok-insns_of.insns.items c.args.maps.now (length c.in-Ok.starts.items) c.in-Ok.ensures.slots slots c.copied.ensures.fits kept)

@@ -1,0 +1,11 @@
+use Rattle.bpf_machine.proofs.ByAddress.{law_apart, law_runs, law_numbers, law_stores, law_accessible}
+use Rattle.bpf_machine.proofs.laws.memory_by_address.Goals as goal
+
+pub returns : goal.returns
+returns c = record {
+  apart = law_apart;
+  runs = law_runs;
+  numbers = law_numbers;
+  stores = law_stores;
+  accessible = law_accessible;
+}

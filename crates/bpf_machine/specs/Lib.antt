@@ -1,0 +1,14 @@
+pub mod Numbers
+pub mod Arithmetic
+pub mod Swaps
+pub mod Jumps
+pub mod Status
+pub mod Platform
+pub mod Regions
+pub mod ByAddress
+pub mod Lending
+pub mod State
+pub mod Opening
+pub mod Next
+pub mod Fetched
+pub mod Entries

@@ -1,0 +1,184 @@
+//! Entries: what a move replaced. Put back, an entry gives the state before its move.
+ghost use Rattle.std.specs.Prelude.{◌≡◌};
+
+use crate::byte_string::ByteString;
+use crate::status::Status;
+use bpf_isa::Reg;
+
+/// What a move replaced: the values before the move of exactly the places that it changes.
+#[derive(Drop)]
+pub enum Entry {
+    /// A step that replaces one register: arithmetic, loads, helpers that only answer.
+    Register {
+        pc: u16,
+        register: Reg,
+        value: u64,
+    },
+    /// A jump, taken or not.
+    Jump {
+        pc: u16,
+    },
+    /// A local call.
+    Call {
+        pc: u16,
+    },
+    /// A return from a local call, with r6 to r9 as the called function left them.
+    Return {
+        pc: u16,
+        saved: [u64; 4],
+    },
+    /// A store at an address, with the bytes that it overwrote.
+    Store {
+        pc: u16,
+        address: u64,
+        old: ByteString,
+    },
+    /// A store that also fetches into a register.
+    Fetch {
+        pc: u16,
+        register: Reg,
+        value: u64,
+        address: u64,
+        old: ByteString,
+    },
+    /// An update of a map's cell, which also answers in r0.
+    Cell {
+        pc: u16,
+        r0: u64,
+        address: u64,
+        old: ByteString,
+    },
+    /// A word appended to the trace list, which also answers in r0.
+    Trace {
+        pc: u16,
+        r0: u64,
+    },
+    /// A step that ends the machine: the status alone, which was running.
+    End,
+    /// An edit of a register.
+    EditRegister {
+        register: Reg,
+        value: u64,
+    },
+    /// An edit of bytes at an address.
+    EditBytes {
+        address: u64,
+        old: ByteString,
+    },
+    /// An edit of pc, which also makes the machine run.
+    EditPc {
+        pc: u16,
+        status: Status,
+    },
+}
+
+impl Entry {
+    ghost use Rattle.bpf_machine.specs.Entries.{weight as weight_of};
+
+    /// How many bytes it has in a journal: 5 to 281.
+    pub fn weight(&self) -> usize
+        ensures { result ≡ weight_of self.now }
+    {
+        match self {
+            Entry::Register {
+                pc: _,
+                register: _,
+                value: _,
+            } => 16,
+            Entry::Jump { pc: _ } | Entry::Call { pc: _ } => 7,
+            Entry::Return { pc: _, saved: _ } => 39,
+            Entry::Store {
+                pc: _,
+                address: _,
+                old,
+            } => 16 + old.len(),
+            Entry::Fetch {
+                pc: _,
+                register: _,
+                value: _,
+                address: _,
+                old,
+            } => 25 + old.len(),
+            Entry::Cell {
+                pc: _,
+                r0: _,
+                address: _,
+                old,
+            } => 23 + old.len(),
+            Entry::Trace { pc: _, r0: _ } => 15,
+            Entry::End => 5,
+            Entry::EditRegister {
+                register: _,
+                value: _,
+            } => 14,
+            Entry::EditBytes { address: _, old } => 13 + old.len(),
+            Entry::EditPc { pc: _, status: _ } => 16,
+        }
+    }
+
+    /// A copy.
+    pub fn copied(&self) -> Entry
+        ensures { result ≡ self.now }
+    {
+        match self {
+            Entry::Register {
+                pc,
+                register,
+                value,
+            } => Entry::Register {
+                pc: *pc,
+                register: *register,
+                value: *value,
+            },
+            Entry::Jump { pc } => Entry::Jump { pc: *pc },
+            Entry::Call { pc } => Entry::Call { pc: *pc },
+            Entry::Return { pc, saved } => Entry::Return {
+                pc: *pc,
+                saved: *saved,
+            },
+            Entry::Store { pc, address, old } => Entry::Store {
+                pc: *pc,
+                address: *address,
+                old: old.copied(),
+            },
+            Entry::Fetch {
+                pc,
+                register,
+                value,
+                address,
+                old,
+            } => Entry::Fetch {
+                pc: *pc,
+                register: *register,
+                value: *value,
+                address: *address,
+                old: old.copied(),
+            },
+            Entry::Cell {
+                pc,
+                r0,
+                address,
+                old,
+            } => Entry::Cell {
+                pc: *pc,
+                r0: *r0,
+                address: *address,
+                old: old.copied(),
+            },
+            Entry::Trace { pc, r0 } => Entry::Trace { pc: *pc, r0: *r0 },
+            Entry::End => Entry::End,
+            Entry::EditRegister { register, value } => Entry::EditRegister {
+                register: *register,
+                value: *value,
+            },
+            Entry::EditBytes { address, old } => Entry::EditBytes {
+                address: *address,
+                old: old.copied(),
+            },
+            Entry::EditPc { pc, status } => Entry::EditPc {
+                pc: *pc,
+                status: *status,
+            },
+        }
+    }
+}

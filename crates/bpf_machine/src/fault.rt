@@ -1,0 +1,39 @@
+//! Why a machine can't be opened.
+ghost use Rattle.std.specs.Prelude.{◌≡◌};
+
+/// Why a machine or its memory can't be opened.
+#[derive(Clone, Copy)]
+pub enum OpenFault {
+    /// The context is longer than 65,536 bytes.
+    ContextTooLong,
+    /// There is not enough memory.
+    OutOfMemory,
+    /// The machine doesn't know the instruction at this slot, the lowest such slot.
+    Unknown { slot: u16 },
+}
+
+impl OpenFault {
+    ghost use Rattle.bpf_machine.specs.Opening.{number_of, text_of};
+
+    /// The fault's number, behind the letter O.
+    pub fn number(&self) -> u8
+        ensures { result ≡ number_of self.now }
+    {
+        match self {
+            OpenFault::ContextTooLong => 1,
+            OpenFault::OutOfMemory => 2,
+            OpenFault::Unknown { slot: _ } => 3,
+        }
+    }
+
+    /// The fault's text.
+    pub fn text(&self) -> &'static str
+        ensures { result.now ≡ text_of self.now }
+    {
+        match self {
+            OpenFault::ContextTooLong => "context too long",
+            OpenFault::OutOfMemory => "out of memory",
+            OpenFault::Unknown { slot: _ } => "instruction not supported",
+        }
+    }
+}

@@ -1,0 +1,208 @@
+//! Memory: the bytes of all regions, one region after another.
+ghost use Rattle.std.specs.Prelude.{◌≡◌, ◌+◌, ◌-◌, ◌*◌, ◌≤◌, ◌<◌, ◌⊎◌, length, IfSome, IfNone, IfOk, IfErr, option_map, Some, None, if◌then◌else◌, ◌==◌, ◌++◌, replicate};
+ghost use Rattle.bpf_machine.specs.Regions.{place, frames_from};
+ghost use Rattle.bpf_machine.specs.Platform.{context_limit, frame_count, frame_len};
+
+use crate::alu::{low8, low16, low32};
+use crate::fault::OpenFault;
+use crate::platform::{
+    CONTEXT_BASE, CONTEXT_LIMIT, FRAME_BASE, FRAME_COUNT, FRAME_LEN, FRAME_STRIDE,
+};
+use bpf_isa::{MapTable, Size};
+use byteorder::{ByteOrder, LittleEndian};
+use std::alloc::{AllocError, Global};
+use std::marker::Model;
+
+/// Memory of a machine: the context and the frames.
+#[derive(Drop)]
+pub struct Memory {
+    context_len: usize,
+    bytes: Vec<u8>,
+}
+
+impl Model for Memory {
+    ghost use Rattle.bpf_machine.specs.Regions.{Image, IsImage};
+
+    ghost Value = { Image };
+
+    ghost view = { λ m. record { context_len = m.context_len; bytes = m.bytes.items } };
+
+    ghost invariant = { λ m. IsImage (record { context_len = m.context_len; bytes = m.bytes.items }) };
+}
+
+impl Memory {
+    ghost use Rattle.std.specs.Borrow.{sem};
+    ghost use Rattle.bpf_machine.specs.Numbers.{size_len};
+    ghost use Rattle.bpf_machine.specs.Regions.{regions, run, run_at, number, with_number, IsImage};
+    ghost use Rattle.bpf_machine.specs.Opening.{MemoryOpened, MemoryRefused};
+    ghost use Rattle.bpf_machine.specs.Lending.{LendsRun, LendsRunOrNone, LendsBytes};
+
+    /// Opens memory with the context's bytes and frames of zero bytes.
+    pub fn open(alloc: Global, _maps: &MapTable, context: &[u8]) -> Result<Memory, OpenFault>
+        ensures ok { IfOk result (MemoryOpened context.now) }
+        ensures err { IfErr result (MemoryRefused context.now) }
+    {
+        if context.len() > CONTEXT_LIMIT {
+            return Err(OpenFault::ContextTooLong);
+        }
+        match filled(alloc, context) {
+            Ok(bytes) => Ok(Memory {
+                context_len: context.len(),
+                bytes,
+            }),
+            Err(_) => Err(OpenFault::OutOfMemory),
+        }
+    }
+
+    /// Brings what holds of every memory into a proof.
+    pub(crate) fn known(&self)
+        ensures { IsImage self.now }
+    {
+        let _bytes = &self.bytes;
+    }
+
+    /// Where the run of n bytes at this address begins, among the context and the first `frames` frames.
+    pub(crate) fn place(&self, address: u64, n: usize, frames: usize) -> Option<usize>
+        requires some { 1 ≤ n }
+        requires within { frames ≤ frame_count }
+        ensures value { result ≡ place (regions self.now.context_len frames) address n }
+        ensures fits { IfSome result (λ at. at + n ≤ length self.now.bytes) }
+    {
+        if address < FRAME_BASE {
+            place_in(CONTEXT_BASE, self.context_len, address, n)
+        } else {
+            match frame_place(frames, address, n) {
+                Some(at) => Some(self.context_len + at),
+                None => None,
+            }
+        }
+    }
+
+    /// The n bytes from a place on.
+    pub(crate) fn run(&self, at: usize, n: usize) -> &[u8]
+        requires { at + n ≤ length self.now.bytes }
+        ensures value { result.now ≡ run self.now at n }
+        ensures fits { length result.now ≡ n }
+    {
+        &self.bytes[at..at + n]
+    }
+
+    /// The n bytes from a place on, lent for writing.
+    pub(crate) fn run_mut(&mut self, at: usize, n: usize) -> &mut [u8]
+        requires { at + n ≤ length self.old.bytes }
+        ensures* lends { sem 𝓛 (LendsRun self.entry at result) }
+        ensures value { result.now ≡ run self.old at n }
+    {
+        self.bytes.slice_mut(at..at + n)
+    }
+
+    /// The n bytes at this address, None where some of them aren't present.
+    pub(crate) fn peek(&self, address: u64, n: usize) -> Option<&[u8]>
+        requires { 1 ≤ n }
+        ensures value { option_map (λ run. run.now) result ≡ run_at self.now address n }
+        ensures fits { IfSome result (λ run. length run.now ≡ n) }
+    {
+        match self.place(address, n, FRAME_COUNT) {
+            Some(at) => Some(self.run(at, n)),
+            None => None,
+        }
+    }
+
+    /// The n bytes at this address, lent for writing; None where some of them aren't present.
+    pub fn bytes_mut(&mut self, address: u64, n: usize) -> Option<&mut [u8]>
+        requires { 1 ≤ n }
+        ensures* lends { sem 𝓛 (LendsBytes self.entry address n result) }
+        ensures value { option_map (λ run. run.now) result ≡ run_at self.old address n }
+        ensures fits { IfSome result (λ run. length run.now ≡ n) }
+    {
+        let run = self.run_or_none(address, n);
+        if run.len() == 0 { None } else { Some(run) }
+    }
+
+    /// The n bytes at this address, or no bytes where some of them aren't present.
+    fn run_or_none(&mut self, address: u64, n: usize) -> &mut [u8]
+        requires { 1 ≤ n }
+        ensures* lends { sem 𝓛 (LendsRunOrNone self.entry address n result) }
+        ensures value { (if length result.now == 0 then None else Some result.now)
+            ≡ run_at self.old address n }
+        ensures fits { 0 < length result.now → length result.now ≡ n }
+    {
+        let (at, len) = match self.place(address, n, FRAME_COUNT) {
+            Some(at) => (at, n),
+            None => (0, 0),
+        };
+        self.run_mut(at, len)
+    }
+
+    /// The number that 1, 2, 4 or 8 bytes from a place on are.
+    pub(crate) fn number(&self, at: usize, size: Size) -> u64
+        requires { at + size_len size ≤ length self.now.bytes }
+        ensures { result ≡ number self.now at (size_len size) }
+    {
+        match size {
+            Size::Byte => u64::from(self.run(at, 1)[0]),
+            Size::Half => u64::from(LittleEndian::read_u16(self.run(at, 2))),
+            Size::Word => u64::from(LittleEndian::read_u32(self.run(at, 4))),
+            Size::Double => LittleEndian::read_u64(self.run(at, 8)),
+        }
+    }
+
+    /// Writes the low 1, 2, 4 or 8 bytes of a number from a place on.
+    pub(crate) fn put(&mut self, at: usize, size: Size, value: u64)
+        requires { at + size_len size ≤ length self.old.bytes }
+        ensures { self.new ≡ with_number self.old at (size_len size) value }
+    {
+        match size {
+            Size::Byte => self.run_mut(at, 1)[0] = low8(value),
+            Size::Half => LittleEndian::write_u16(self.run_mut(at, 2), low16(value)),
+            Size::Word => LittleEndian::write_u32(self.run_mut(at, 4), low32(value)),
+            Size::Double => LittleEndian::write_u64(self.run_mut(at, 8), value),
+        }
+    }
+}
+
+/// Where the run of n bytes at an address begins in a region.
+fn place_in(base: u64, len: usize, address: u64, n: usize) -> Option<usize>
+    ensures found { IfSome result
+        (λ at. (base ≤ address) × (address + n ≤ base + len) × (at ≡ address - base)) }
+    ensures none { IfNone result ((address < base) ⊎ (base + len < address + n)) }
+{
+    if address < base || n > len {
+        return None;
+    }
+    let at = address - base;
+    if at <= (len - n) as u64 {
+        Some(at as usize)
+    } else {
+        None
+    }
+}
+
+/// Where the run of n bytes at an address begins in the first `frames` frames.
+fn frame_place(frames: usize, address: u64, n: usize) -> Option<usize>
+    requires { 1 ≤ n }
+    ensures value { result ≡ place (frames_from 0 frames) address n }
+    ensures fits { IfSome result (λ at. at + n ≤ frame_len * frames) }
+{
+    if address < FRAME_BASE {
+        return None;
+    }
+    let frame = (address - FRAME_BASE) / FRAME_STRIDE;
+    if frame >= frames as u64 {
+        return None;
+    }
+    match place_in(0, FRAME_LEN, (address - FRAME_BASE) % FRAME_STRIDE, n) {
+        Some(at) => Some(FRAME_LEN * frame as usize + at),
+        None => None,
+    }
+}
+
+fn filled(alloc: Global, context: &[u8]) -> Result<Vec<u8>, AllocError>
+    requires { length context.now ≤ context_limit }
+    ensures { IfOk result (λ bytes. bytes.items ≡ context.now ++ replicate 512 0) }
+{
+    let mut bytes = Vec::with_capacity(alloc, context.len() + FRAME_LEN * FRAME_COUNT)?;
+    bytes.extend_from_slice(context)?;
+    bytes.extend_from_slice(&[0; FRAME_LEN * FRAME_COUNT])?;
+    Ok(bytes)
+}
