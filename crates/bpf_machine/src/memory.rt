@@ -1,5 +1,5 @@
 //! Memory: the bytes of all regions, one region after another.
-ghost use Rattle.std.specs.Prelude.{◌≡◌, ◌+◌, ◌-◌, ◌*◌, ◌≤◌, ◌<◌, ◌⊎◌, length, IfSome, IfNone, IfOk, IfErr, option_map, Some, None, if◌then◌else◌, ◌==◌, ◌++◌, replicate};
+ghost use Rattle.std.specs.Prelude.{◌≡◌, ◌+◌, ◌-◌, ◌*◌, ◌≤◌, ◌<◌, ◌⊎◌, length, IfSome, IfNone, IfOk, IfErr, IsTrue, IsSome, ◌↔◌, option_map, Some, None, if◌then◌else◌, ◌==◌, ◌++◌, replicate};
 ghost use Rattle.bpf_machine.specs.Regions.{place, frames_from};
 ghost use Rattle.bpf_machine.specs.Platform.{context_limit, frame_count, frame_len};
 
@@ -33,9 +33,9 @@ impl Model for Memory {
 impl Memory {
     ghost use Rattle.std.specs.Borrow.{sem};
     ghost use Rattle.bpf_machine.specs.Numbers.{size_len};
-    ghost use Rattle.bpf_machine.specs.Regions.{regions, run, run_at, number, with_number, IsImage};
+    ghost use Rattle.bpf_machine.specs.Regions.{regions, place_of, run, run_at, number, with_number, IsImage};
     ghost use Rattle.bpf_machine.specs.Opening.{MemoryOpened, MemoryRefused};
-    ghost use Rattle.bpf_machine.specs.Lending.{LendsRun, LendsRunOrNone, LendsBytes};
+    ghost use Rattle.bpf_machine.specs.Lending.{LendsRun, LendsRunOrNone, LendsBytes, put};
 
     /// Opens memory with the context's bytes and frames of zero bytes.
     pub fn open(alloc: Global, _maps: &MapTable, context: &[u8]) -> Result<Memory, OpenFault>
@@ -119,6 +119,21 @@ impl Memory {
         if run.len() == 0 { None } else { Some(run) }
     }
 
+    /// Writes bytes at this address, and answers whether all of them are present; else nothing changes.
+    pub(crate) fn write(&mut self, address: u64, bytes: &[u8]) -> bool
+        requires { 1 ≤ length bytes.now }
+        ensures found { IsTrue result ↔ IsSome (place_of self.old address (length bytes.now)) }
+        ensures after { self.new ≡ put self.old address (length bytes.now) bytes.now }
+    {
+        match self.bytes_mut(address, bytes.len()) {
+            Some(run) => {
+                copy(run, bytes);
+                true
+            }
+            None => false,
+        }
+    }
+
     /// The n bytes at this address, or no bytes where some of them aren't present.
     fn run_or_none(&mut self, address: u64, n: usize) -> &mut [u8]
         requires { 1 ≤ n }
@@ -159,6 +174,14 @@ impl Memory {
             Size::Double => LittleEndian::write_u64(self.run_mut(at, 8), value),
         }
     }
+}
+
+/// Copies bytes into a run of as many.
+fn copy(run: &mut [u8], bytes: &[u8])
+    requires { length run.old ≡ length bytes.now }
+    ensures { run.new ≡ bytes.now }
+{
+    run.copy_from_slice(bytes);
 }
 
 /// Where the run of n bytes at an address begins in a region.
