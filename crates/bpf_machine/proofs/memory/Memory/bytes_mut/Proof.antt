@@ -37,7 +37,6 @@ use denote.Triple.Spec.{triple_of}
 use denote.Triple.Table.{framed}
 use denote.Triple.Walked.{Stays, walk_of, stay_dropped, Goes-dropped, Goes-spent_ref, ends_at}
 use Rattle.bpf_machine.specs.Regions.{Image, run_at, place_of, with_bytes}
-use Rattle.bpf_machine.specs.Lending.{put}
 use Rattle.bpf_machine.proofs.Facts.{says_both}
 use Rattle.bpf_machine.proofs.Loans.{as_it_was, put_is, none_by, some_by, positive}
 use Rattle.bpf_machine.specs.contracts.memory.Memory.{the_row as R}

@@ -1,27 +1,26 @@
 -- `write` writes through what `bytes_mut` lends. The code is walked by hand, since a generated proof learns nothing of a
 -- loan in an `Option`.
-use Rattle.std.proofs.Common.{◌≡◌, ◌≤◌, ◌<◌, ◌^◌, ℕ, List, [], ◌∷◌, ◌++◌, length, refl, sym, ap, ◌∙◌, arith, lit<, w8, w64, MutBor, Bor, Option, Bool, true, false}
+use Rattle.std.proofs.Common.{◌≡◌, ◌≤◌, ◌<◌, ◌^◌, ℕ, List, [], ◌∷◌, ◌++◌, length, refl, sym, ap, ◌∙◌, arith, lit<, w64, MutBor, Option, true, false}
 use Rattle.std.specs.declared.option.Option.TheVariants.{None, Some}
 use Rattle.std.specs.contracts.option.Option as OP
 use Rattle.std.proofs.raw_atomic.Walks.{proved}
 use seplogic.Ra.Ura.{Ura}
 use base.Fraction.{full_share}
-use base.Logic.{ent, sep, emp, id⊢, guard}
+use base.Logic.{ent, emp, id⊢, guard}
 use base.Fml.{Lft, ftrue, flft, fres}
 use contract.Monad.{fact, fact_i}
 use contract.Running.{tables}
 use mir.Syntax.{named}
 use mir.Val.{Val, vbool, of_list}
 use types.Logic.{Logic, sem}
-use types.Kit.{‵, raw, ◌⊛◌, some, later, given, at_ret, ◌$◌, ◌∵◌, !, qed, by, move, keep, drop, use0, use1, use2, use3, split, join, learn, check, fsplit, fsplit3, fjoin, fpick, feq_l, feq_i, pick, await, rewrite, suffices, frame, group, done}
+use types.Kit.{‵, raw, ◌⊛◌, some, later, given, at_ret, ◌$◌, ◌∵◌, !, qed, by, move, keep, drop, use0, use1, use2, use3, split, join, learn, check, fsplit, fpick, feq_l, feq_i, pick, await, rewrite, suffices, done}
 use types.Match.{live}
-use denote.Builtin.{u8, u64, usize, unit, bool, SliceRefOf}
+use denote.Builtin.{u8, u64, usize, unit, SliceRefOf}
 use denote.Laws.{Is, shows}
 use denote.RattleType.{RattleType}
 use denote.Slice.{MutSlice, slice_val}
 use denote.Steps.{nothing, owned, heard, peeks}
-use contract.BorrowLft.{◌⊑◌}
-use denote.Exit.{yes, no}
+use denote.Exit.{yes}
 use denote.Follow.{follows_if, follows_by, followed}
 use Rattle.std.specs.Option.{ghost_name_of}
 use Rattle.std.specs.Prelude.{option_map, IfSome}
@@ -31,7 +30,7 @@ use denote.Array.{Array}
 use denote.Plain.{uint_vals, uint_Tells, uint_Makes}
 use denote.Ref.{MutRef, mut_vals, mut_Tells}
 use denote.Signature.{plain}
-use denote.Slice.{ShrSlice, shr_slice_vals, shr_slice_Tells, finally}
+use denote.Slice.{ShrSlice, shr_slice_vals, shr_slice_Tells}
 use denote.Steps.{only}
 use Rattle.bpf_machine.proofs.Facts.{says_both}
 use Rattle.bpf_machine.proofs.Loans.{option_cases, found_yes, found_no, put_nowhere}
@@ -40,13 +39,13 @@ use denote.Triple.Call.{calls_at}
 use denote.Triple.Clauses.{lasts}
 use denote.Triple.Spec.{triple_of}
 use denote.Triple.Table.{framed}
-use denote.Triple.Walked.{Stays, walk_of, says, stay_ref, stay_dropped, Goes-ref, Goes-dropped, ends_at}
+use denote.Triple.Walked.{Stays, walk_of, stay_ref, stay_dropped, Goes-ref, Goes-dropped, ends_at}
 use types.ByLocal.{alloc_all, pass_all, free_all, look_at, look_in_at, get, get_in, get_tag, through, sets, sets_last, lands_as, env}
-use types.Match.{by_variants, vrt, in_variant, look_tag}
+use types.Match.{by_variants, vrt, in_variant}
 use types.Part.{agg, whole, sub}
 use types.Run.{enter, of_opd, addr, stop, fld, hop, from, no_more, and_then, first, exec, returns, true_lit, false_lit}
 use types.Tokens.{lft_new, lft_end}
-use Rattle.bpf_machine.specs.Regions.{Image, run_at, place_of}
+use Rattle.bpf_machine.specs.Regions.{Image, run_at}
 use Rattle.bpf_machine.specs.Lending.{put}
 use Rattle.bpf_machine.specs.contracts.memory.Memory.{the_row as R}
 use Rattle.bpf_machine.specs.contracts.memory.Memory.write as f
