@@ -63,7 +63,7 @@ impl Memory {
 
     /// Where the run of n bytes at this address begins, among the context and the first `frames` frames.
     pub(crate) fn place(&self, address: u64, n: usize, frames: usize) -> Option<usize>
-        requires some { 1 ≤ n }
+        requires only { 1 ≤ n }
         requires within { frames ≤ frame_count }
         ensures value { result ≡ place (regions self.now.context_len frames) address n }
         ensures fits { IfSome result (λ at. at + n ≤ length self.now.bytes) }
@@ -90,7 +90,7 @@ impl Memory {
     /// The n bytes from a place on, lent for writing.
     pub(crate) fn run_mut(&mut self, at: usize, n: usize) -> &mut [u8]
         requires { at + n ≤ length self.old.bytes }
-        ensures* lends { sem 𝓛 (LendsRun self.entry at result) }
+        ensures* next { sem 𝓛 (LendsRun self.entry at result) }
         ensures value { result.now ≡ run self.old at n }
     {
         self.bytes.slice_mut(at..at + n)
@@ -111,7 +111,7 @@ impl Memory {
     /// The n bytes at this address, lent for writing; None where some of them aren't present.
     pub fn bytes_mut(&mut self, address: u64, n: usize) -> Option<&mut [u8]>
         requires { 1 ≤ n }
-        ensures* lends { sem 𝓛 (LendsBytes self.entry address n result) }
+        ensures* next { sem 𝓛 (LendsBytes self.entry address n result) }
         ensures value { option_map (λ run. run.now) result ≡ run_at self.old address n }
         ensures fits { IfSome result (λ run. length run.now ≡ n) }
     {
@@ -123,7 +123,7 @@ impl Memory {
     pub(crate) fn write(&mut self, address: u64, bytes: &[u8]) -> bool
         requires { 1 ≤ length bytes.now }
         ensures found { IsTrue result ↔ IsSome (place_of self.old address (length bytes.now)) }
-        ensures after { self.new ≡ put self.old address (length bytes.now) bytes.now }
+        ensures next { self.new ≡ put self.old address (length bytes.now) bytes.now }
     {
         match self.bytes_mut(address, bytes.len()) {
             Some(run) => {
@@ -137,7 +137,7 @@ impl Memory {
     /// The n bytes at this address, or no bytes where some of them aren't present.
     fn run_or_none(&mut self, address: u64, n: usize) -> &mut [u8]
         requires { 1 ≤ n }
-        ensures* lends { sem 𝓛 (LendsRunOrNone self.entry address n result) }
+        ensures* next { sem 𝓛 (LendsRunOrNone self.entry address n result) }
         ensures value { (if length result.now == 0 then None else Some result.now)
             ≡ run_at self.old address n }
         ensures fits { 0 < length result.now → length result.now ≡ n }
