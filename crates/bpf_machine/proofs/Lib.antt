@@ -1,3 +1,4 @@
 pub mod Places
 pub mod ByAddress
+pub mod Facts
 pub mod Loans

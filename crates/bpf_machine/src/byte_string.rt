@@ -34,8 +34,7 @@ impl ByteString {
 
     /// The byte string with these bytes.
     pub fn of(bytes: &[u8]) -> ByteString
-        requires some { 1 ≤ length bytes.now }
-        requires fits { length bytes.now ≤ 256 }
+        requires { (1 ≤ length bytes.now) × (length bytes.now ≤ 256) }
         ensures { result ≡ bytes.now }
     {
         let mut items = ArrayVec::new();
@@ -54,8 +53,7 @@ impl ByteString {
     /// Its bytes.
     pub fn as_slice(&self) -> &[u8]
         ensures value { result.now ≡ self.now }
-        ensures some { 1 ≤ length result.now }
-        ensures fits { length result.now ≤ 256 }
+        ensures fits { (1 ≤ length result.now) × (length result.now ≤ 256) }
     {
         self.items.as_slice()
     }

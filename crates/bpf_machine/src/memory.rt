@@ -1,5 +1,5 @@
 //! Memory: the bytes of all regions, one region after another.
-ghost use Rattle.std.specs.Prelude.{◌≡◌, ◌+◌, ◌-◌, ◌*◌, ◌≤◌, ◌<◌, ◌⊎◌, length, IfSome, IfNone, IfOk, IfErr, option_map, Some, None, if◌then◌else◌, ◌==◌, ◌++◌, replicate};
+ghost use Rattle.std.specs.Prelude.{◌≡◌, ◌+◌, ◌-◌, ◌*◌, ◌≤◌, ◌<◌, ◌⊎◌, length, IfSome, IfNone, IfOk, IfErr, IsTrue, IsSome, ◌↔◌, option_map, Some, None, if◌then◌else◌, ◌==◌, ◌++◌, replicate};
 ghost use Rattle.bpf_machine.specs.Regions.{place, frames_from};
 ghost use Rattle.bpf_machine.specs.Platform.{context_limit, frame_count, frame_len};
 
@@ -33,9 +33,9 @@ impl Model for Memory {
 impl Memory {
     ghost use Rattle.std.specs.Borrow.{sem};
     ghost use Rattle.bpf_machine.specs.Numbers.{size_len};
-    ghost use Rattle.bpf_machine.specs.Regions.{regions, run, run_at, number, with_number, IsImage};
+    ghost use Rattle.bpf_machine.specs.Regions.{regions, place_of, run, run_at, number, with_number, IsImage};
     ghost use Rattle.bpf_machine.specs.Opening.{MemoryOpened, MemoryRefused};
-    ghost use Rattle.bpf_machine.specs.Lending.{LendsRun, LendsRunOrNone, LendsBytes};
+    ghost use Rattle.bpf_machine.specs.Lending.{LendsRun, LendsRunOrNone, LendsBytes, put};
 
     /// Opens memory with the context's bytes and frames of zero bytes.
     pub fn open(alloc: Global, _maps: &MapTable, context: &[u8]) -> Result<Memory, OpenFault>
@@ -63,7 +63,7 @@ impl Memory {
 
     /// Where the run of n bytes at this address begins, among the context and the first `frames` frames.
     pub(crate) fn place(&self, address: u64, n: usize, frames: usize) -> Option<usize>
-        requires some { 1 ≤ n }
+        requires only { 1 ≤ n }
         requires within { frames ≤ frame_count }
         ensures value { result ≡ place (regions self.now.context_len frames) address n }
         ensures fits { IfSome result (λ at. at + n ≤ length self.now.bytes) }
@@ -90,7 +90,7 @@ impl Memory {
     /// The n bytes from a place on, lent for writing.
     pub(crate) fn run_mut(&mut self, at: usize, n: usize) -> &mut [u8]
         requires { at + n ≤ length self.old.bytes }
-        ensures* lends { sem 𝓛 (LendsRun self.entry at result) }
+        ensures* next { sem 𝓛 (LendsRun self.entry at result) }
         ensures value { result.now ≡ run self.old at n }
     {
         self.bytes.slice_mut(at..at + n)
@@ -111,7 +111,7 @@ impl Memory {
     /// The n bytes at this address, lent for writing; None where some of them aren't present.
     pub fn bytes_mut(&mut self, address: u64, n: usize) -> Option<&mut [u8]>
         requires { 1 ≤ n }
-        ensures* lends { sem 𝓛 (LendsBytes self.entry address n result) }
+        ensures* next { sem 𝓛 (LendsBytes self.entry address n result) }
         ensures value { option_map (λ run. run.now) result ≡ run_at self.old address n }
         ensures fits { IfSome result (λ run. length run.now ≡ n) }
     {
@@ -119,10 +119,25 @@ impl Memory {
         if run.len() == 0 { None } else { Some(run) }
     }
 
+    /// Writes bytes at this address, and answers whether all of them are present; else nothing changes.
+    pub(crate) fn write(&mut self, address: u64, bytes: &[u8]) -> bool
+        requires { 1 ≤ length bytes.now }
+        ensures found { IsTrue result ↔ IsSome (place_of self.old address (length bytes.now)) }
+        ensures next { self.new ≡ put self.old address (length bytes.now) bytes.now }
+    {
+        match self.bytes_mut(address, bytes.len()) {
+            Some(run) => {
+                copy(run, bytes);
+                true
+            }
+            None => false,
+        }
+    }
+
     /// The n bytes at this address, or no bytes where some of them aren't present.
     fn run_or_none(&mut self, address: u64, n: usize) -> &mut [u8]
         requires { 1 ≤ n }
-        ensures* lends { sem 𝓛 (LendsRunOrNone self.entry address n result) }
+        ensures* next { sem 𝓛 (LendsRunOrNone self.entry address n result) }
         ensures value { (if length result.now == 0 then None else Some result.now)
             ≡ run_at self.old address n }
         ensures fits { 0 < length result.now → length result.now ≡ n }
@@ -159,6 +174,14 @@ impl Memory {
             Size::Double => LittleEndian::write_u64(self.run_mut(at, 8), value),
         }
     }
+}
+
+/// Copies bytes into a run of as many.
+fn copy(run: &mut [u8], bytes: &[u8])
+    requires { length run.old ≡ length bytes.now }
+    ensures { run.new ≡ bytes.now }
+{
+    run.copy_from_slice(bytes);
 }
 
 /// Where the run of n bytes at an address begins in a region.

@@ -31,7 +31,7 @@ impl Cpu {
 
     fn with_known(alloc: Global, program: Program, context: &[u8]) -> Result<Cpu, OpenFault>
         requires fits { length context.now ≤ context_limit }
-        requires known { IsKnownWhole program }
+        requires only { IsKnownWhole program }
         ensures ok { IfOk result (Opened program context.now) }
         ensures err { IfErr result (Refused program context.now) }
     {

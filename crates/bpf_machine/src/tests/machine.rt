@@ -90,6 +90,12 @@ fn lends(rt: HostRuntime) -> Result<(), Fail> {
     assert!(rt; memory.bytes_mut(0x1_0000_0000, 3).is_none());
     let run = memory.bytes_mut(0x1_0000_0000, 2).ok_or("absent")?;
     assert_eq!(rt; &*run, [1, 2].as_slice());
+    assert!(rt; memory.write(0x1_0000_0001, &[7]));
+    assert!(rt; !memory.write(0x1_0000_0001, &[8, 9]));
+    assert_eq!(rt;
+        memory.peek(0x1_0000_0000, 2).ok_or("absent")?,
+        [1, 7].as_slice()
+    );
     laws::memory_by_address();
     Ok(())
 }

@@ -7,9 +7,7 @@ use Rattle.std.proofs.VecSteps.Element.{Some-of, none_of}
 use Rattle.std.specs.declared.option.Option.TheVariants.{None, Some}
 use Rattle.std.specs.contracts.option.Option as OP
 use lib.Dec.{eqb→eq}
-use seplogic.Ra.Ura.{Ura}
-use types.Logic.{Logic, sem}
-use base.Logic.{ent, sep, emp, id⊢, via, mono_r}
+use base.Logic.{emp, id⊢, via}
 use base.Fml.{ftrue, flft, fres}
 use contract.Monad.{fact, fact_i}
 use contract.Running.{tables}
@@ -37,9 +35,9 @@ use denote.Triple.Clauses.{lasts}
 use denote.Triple.Entry.{on_entry}
 use denote.Triple.Spec.{triple_of}
 use denote.Triple.Table.{framed}
-use denote.Triple.Walked.{Stays, walk_of, says, stay_dropped, Goes-dropped, Goes-spent_ref, ends_at}
+use denote.Triple.Walked.{Stays, walk_of, stay_dropped, Goes-dropped, Goes-spent_ref, ends_at}
 use Rattle.bpf_machine.specs.Regions.{Image, run_at, place_of, with_bytes}
-use Rattle.bpf_machine.specs.Lending.{put}
+use Rattle.bpf_machine.proofs.Facts.{says_both}
 use Rattle.bpf_machine.proofs.Loans.{as_it_was, put_is, none_by, some_by, positive}
 use Rattle.bpf_machine.specs.contracts.memory.Memory.{the_row as R}
 use Rattle.bpf_machine.specs.contracts.memory.Memory.bytes_mut as f
@@ -50,12 +48,6 @@ use Rattle.bpf_machine.proofs.memory.Memory.bytes_mut.Code as code
 
 abbrev stayed : Stays f.ended.signature.params f.ended.kept
 stayed = (stay_dropped (mut_ref_to (0 ∷ []) tt (plain (λ _. R))) no, (stay_dropped (plain (λ _. u64)) yes, (stay_dropped (plain (λ _. usize)) yes, tt)))
-
--- Two facts are shown as one.
-two_facts : {M : Type 1} {𝓤 : Ura M} (𝓛 : Logic 𝓤) (P Q : Type 0) → ent 𝓤 (fact 𝓤 (P × Q)) (sep 𝓤 (fact 𝓤 P) (fact 𝓤 Q))
-two_facts {𝓤 = 𝓤} 𝓛 P Q =
-    qed 𝓛 (raw (fact 𝓤 (P × Q)) ∷ []) ∵ heard ! _ (λ both.
-    use0 𝓛 (raw (fact 𝓤 Q)) (fact_i 𝓤 Q (emp 𝓤) both.1) $ use0 𝓛 (raw (fact 𝓤 P)) (fact_i 𝓤 P (emp 𝓤) both.0) $ done !)
 
 pub bytes_mut_spec : {M : Type 1} → statement M
 unfolding follows_by
@@ -101,7 +93,7 @@ bytes_mut_spec 𝓤 𝓛 𝓜 𝓡 wired =
     use0 𝓛 (‵ ((OP.the_row Sl).own_val None (live 0 (of_list []) ∷ []))) (none_of 𝓛 Sl) $ move ! (0 ∷ 2 ∷ 1 ∷ []) $
     suffices ! _ (ends_at 𝓛 f.ended stayed c y (live 0 (of_list [])) None (tt, (tt, (tt, tt))) (tt, (tt, (tt, tt)))) $
     nothing ! $ nothing ! $ fjoin ! $ nothing ! $ fjoin ! $ nothing ! $ fjoin ! $ join ! $ nothing ! $ move ! (2 ∷ 0 ∷ []) $ join ! $ join ! $ frame ! $
-    suffices ! _ (mono_r 𝓤 (sem 𝓛 (fres a.0.ghost_name (R.coded.code m))) (two_facts 𝓛 _ _)) $ says ! (none_by (length r.now == 0) r.now (run_at m address n) empty is_now, tt) $ done !)
+    says_both ! (none_by (length r.now == 0) r.now (run_at m address n) empty is_now, tt) $ done !)
     (λ full.
     let lent : Val = slice_val r.ref_ptr (length r.now) in
     let found = some_by (length r.now == 0) r.now (run_at m address n) full is_now in
@@ -116,4 +108,4 @@ bytes_mut_spec 𝓤 𝓛 𝓜 𝓡 wired =
     use1 𝓛 (‵ ((OP.the_row Sl).own_val (Some r) (live 1 (of_list (lent ∷ [])) ∷ []))) (Some-of 𝓛 Sl r lent) $ move ! (0 ∷ 2 ∷ 1 ∷ []) $
     suffices ! _ (ends_at 𝓛 f.ended stayed c y (live 1 (of_list (lent ∷ []))) (Some r) (tt, (tt, (tt, tt))) (tt, (tt, (tt, tt)))) $
     nothing ! $ nothing ! $ fjoin ! $ nothing ! $ fjoin ! $ nothing ! $ fjoin ! $ join ! $ nothing ! $ move ! (2 ∷ 0 ∷ []) $ join ! $ join ! $ frame ! $
-    suffices ! _ (mono_r 𝓤 (sem 𝓛 (follows R (Array u8 0) a.0.ghost_name r.ghost_name (put m address n))) (two_facts 𝓛 _ _)) $ says ! (found, as_long (positive _ full)) $ done !))))))))))
+    says_both ! (found, as_long (positive _ full)) $ done !))))))))))

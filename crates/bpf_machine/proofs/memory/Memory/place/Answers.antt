@@ -8,8 +8,8 @@ returns-then-address-lt-FRAME_BASE-clause-value c =
 
 pub returns-in-Some-clause-value : goal.returns-in-Some-clause-value
 returns-in-Some-clause-value c =
-    rw (← c.self.view_is) (past_context _ _ _ _ _ c.self.invariant.short (omega arith) c.requires.some c.in-Some.ensures.value)
+    rw (← c.self.view_is) (past_context _ _ _ _ _ c.self.invariant.short (omega arith) c.requires.only c.in-Some.ensures.value)
 
 pub returns-in-None-clause-value : goal.returns-in-None-clause-value
 returns-in-None-clause-value c =
-    rw (← c.self.view_is) (past_context _ _ _ _ _ c.self.invariant.short (omega arith) c.requires.some c.in-None.ensures.value)
+    rw (← c.self.view_is) (past_context _ _ _ _ _ c.self.invariant.short (omega arith) c.requires.only c.in-None.ensures.value)
