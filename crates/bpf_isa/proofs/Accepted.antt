@@ -129,5 +129,5 @@ module _ (bytes : List ℕ) (insns : List (Option Insn)) (maps : List MapShape) 
     accepted = all_clear;
     slots = omega (arith, kept.slots);
     starts = λ p. (to_start p, from_start p);
-    words = λ p i e. (found p i e).1.whole
+    words = λ p i e. (found p i e).1.whole;
   }

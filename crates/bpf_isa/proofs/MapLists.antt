@@ -111,7 +111,7 @@ refused items k w x old fault inside value entries before least =
       shape = shape_of item;
       found = slice_get-get_or maps k (shape_of item) within ∙ ap Some (map_at items k (shape_of item) inside);
       before = subst AreMaps before.0 before.1;
-      least = subst (λ l. IsLeastMapFault l (shape_of item).value_size (shape_of item).entries fault) before.0 uncut_here
+      least = subst (λ l. IsLeastMapFault l (shape_of item).value_size (shape_of item).entries fault) before.0 uncut_here;
     }
 
 -- after the last item

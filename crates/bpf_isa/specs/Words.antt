@@ -82,7 +82,7 @@ fields_of bytes = record {
   offset = half_at bytes 2;
   imm = word_at bytes 4;
   reserved = word_at bytes 8;
-  next = word_at bytes 12
+  next = word_at bytes 12;
 }
 
 -- The opcode and the numbers that a row fixes.

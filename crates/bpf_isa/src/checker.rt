@@ -113,12 +113,7 @@ fn is_last(bytes: &[u8], slot: usize) -> bool
 }
 
 /// The instruction at a start, or its fault with the least number.
-fn piece(
-    bytes: &[u8],
-    slot: usize,
-    starts: &[bool],
-    maps: &MapTable,
-) -> Result<Insn, PieceFault>
+fn piece(bytes: &[u8], slot: usize, starts: &[bool], maps: &MapTable) -> Result<Insn, PieceFault>
     requires slots { AreSlots bytes.now }
     requires start { IsStartIn bytes.now slot }
     requires flags { AreStarts bytes.now starts.now }

@@ -174,13 +174,7 @@ fn binary_fields(op: BinaryOp, width: Width, dst: Reg, source: Source) -> Fields
 }
 
 /// The fields of a conditional jump.
-fn jump_fields(
-    condition: Condition,
-    width: Width,
-    dst: Reg,
-    source: Source,
-    offset: i16,
-) -> Fields
+fn jump_fields(condition: Condition, width: Width, dst: Reg, source: Source, offset: i16) -> Fields
     ensures codes { HasCodes (condition_row condition width (operand_of source)) result }
     ensures clean { IsClean (condition_row condition width (operand_of source)) result }
     ensures registers { HasRegisters result }

@@ -6,5 +6,4 @@ ghost use Rattle.bpf_isa.specs.Words.{HaveOneWord, NoneBeginsAnother};
 pub fn one_spelling()
     ensures only { HaveOneWord }
     ensures within { NoneBeginsAnother }
-{
-}
+{}

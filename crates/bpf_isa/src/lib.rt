@@ -18,6 +18,7 @@ mod unused;
 mod words;
 
 pub use decoder::decode;
+pub use encoder::encode;
 pub use fault::{LoadFault, MapFault, PieceFault, WordFault};
 pub use form::{Form, Operand};
 pub use instruction::{
@@ -29,3 +30,6 @@ pub use maps::{MapShape, MapTable};
 pub use program::{Program, check};
 pub use register::Reg;
 pub use words::Words;
+
+#[cfg(test)]
+mod tests;

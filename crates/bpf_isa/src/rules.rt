@@ -25,10 +25,7 @@ impl Insn {
     pub fn falls_through(&self) -> bool
         ensures { IsTrue result ↔ FallsThrough self.now }
     {
-        !matches!(
-            self,
-            Insn::Jump { .. } | Insn::JumpLong { .. } | Insn::Exit
-        )
+        !matches!(self, Insn::Jump { .. } | Insn::JumpLong { .. } | Insn::Exit)
     }
 
     /// The slot that a jump or local call at a slot names, as a whole number.

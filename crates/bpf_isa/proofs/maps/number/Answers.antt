@@ -22,5 +22,5 @@ loop-byte-preserved c =
     let before = c.loop-byte.invariant.value in
     record {
       digits = digits_more 10 c.args.digits.now c.loop-byte.byte-index c.loop-byte-test.true c.loop-byte.invariant.digits v.0;
-      value = capped _ _ _ _ _ _ _ _ before c.saturating_mul.ensures (c.saturating_add-number.ensures) v.1 more
+      value = capped _ _ _ _ _ _ _ _ before c.saturating_mul.ensures (c.saturating_add-number.ensures) v.1 more;
     }
