@@ -66,38 +66,6 @@ fn cut_off_fault(piece: &[u8]) -> PieceFault
     }
 }
 
-/// The rule that an instruction at a slot breaks.
-fn broken_rule(
-    insn: &Insn,
-    slot: usize,
-    is_last: bool,
-    starts: &[bool],
-    maps: &MapTable,
-) -> Option<PieceFault>
-    requires { slot ≤ 65535 }
-    ensures found { (bytes : List ℕ) → AreStarts bytes starts.now → (IsTrue is_last ↔ (length bytes ≤ 8 * after bytes slot))
-        → IfSome result (IsLeastBroken bytes maps.now slot insn.now) }
-    ensures none { (bytes : List ℕ) → AreStarts bytes starts.now → (IsTrue is_last ↔ (length bytes ≤ 8 * after bytes slot))
-        → IfNone result (IsSound bytes maps.now slot insn.now) }
-{
-    if !insn.spares_ten() {
-        return Some(PieceFault::WritesFramePointer);
-    }
-    if !lands(insn, slot, starts) {
-        return Some(PieceFault::NoTarget);
-    }
-    if is_last && insn.falls_through() {
-        return Some(PieceFault::RunsOff);
-    }
-    if !insn.calls_helper() {
-        return Some(PieceFault::UnknownHelper);
-    }
-    if !insn.names_map(maps) {
-        return Some(PieceFault::NoMap);
-    }
-    None
-}
-
 /// Whether no piece follows the one at a start.
 fn is_last(bytes: &[u8], slot: usize) -> bool
     requires slots { AreSlots bytes.now }
@@ -110,6 +78,38 @@ fn is_last(bytes: &[u8], slot: usize) -> bool
         slot + 1
     };
     bytes.len() <= 8 * after
+}
+
+/// The rule that an instruction at a start breaks, the one with the least number.
+fn broken_rule(
+    insn: &Insn,
+    bytes: &[u8],
+    slot: usize,
+    starts: &[bool],
+    maps: &MapTable,
+) -> Option<PieceFault>
+    requires slots { AreSlots bytes.now }
+    requires start { IsStartIn bytes.now slot }
+    requires flags { AreStarts bytes.now starts.now }
+    ensures found { IfSome result (IsLeastBroken bytes.now maps.now slot insn.now) }
+    ensures none { IfNone result (IsSound bytes.now maps.now slot insn.now) }
+{
+    if !insn.spares_ten() {
+        return Some(PieceFault::WritesFramePointer);
+    }
+    if !lands(insn, slot, starts) {
+        return Some(PieceFault::NoTarget);
+    }
+    if insn.falls_through() && is_last(bytes, slot) {
+        return Some(PieceFault::RunsOff);
+    }
+    if !insn.calls_helper() {
+        return Some(PieceFault::UnknownHelper);
+    }
+    if !insn.names_map(maps) {
+        return Some(PieceFault::NoMap);
+    }
+    None
 }
 
 /// The instruction at a start, or its fault with the least number.
@@ -126,7 +126,7 @@ fn piece(bytes: &[u8], slot: usize, starts: &[bool], maps: &MapTable) -> Result<
         Ok(insn) => insn,
         Err(fault) => return Err(word_fault(piece, fault)),
     };
-    match broken_rule(&insn, slot, is_last(bytes, slot), starts, maps) {
+    match broken_rule(&insn, bytes, slot, starts, maps) {
         Some(fault) => Err(fault),
         None => Ok(insn),
     }

@@ -1,15 +1,19 @@
 //! The instruction set of BPF (RFC 9669): words, their decoder and encoder, and the checker of programs.
 #![tactic(auto)]
 
+mod arithmetic;
 mod checker;
+mod codes;
 mod decoder;
 mod encoder;
 mod fault;
 mod fields;
 mod form;
 mod instruction;
+mod jumps;
 mod laws;
 mod maps;
+mod memory;
 mod opcode;
 mod program;
 mod register;
