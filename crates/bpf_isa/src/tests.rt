@@ -9,7 +9,7 @@ use programs::PROGRAMS;
 use refusals::REFUSALS;
 use std::alloc::Global;
 use std::test::Fail;
-use vectors::{NARROW, WIDE};
+use vectors::FORMS;
 
 const EXIT: [u8; 8] = [0x95, 0, 0, 0, 0, 0, 0, 0];
 
@@ -149,47 +149,37 @@ fn registers(rt: HostRuntime) -> Result<(), Fail> {
     Ok(())
 }
 
+/// Whether the bytes spell an instruction, and it is spelled so.
+fn is_spelled(bytes: &[u8]) -> bool {
+    match bytes.first_chunk().copied() {
+        Some(first) => match decode(first, bytes.last_chunk().copied()) {
+            Ok(insn) => encode(insn).as_slice() == bytes,
+            Err(_) => false,
+        },
+        None => false,
+    }
+}
+
 #[test]
-fn every_form(rt: HostRuntime) -> Result<(), Fail> {
-    for (name, first) in NARROW {
-        match decode(first, Some([0xff; 8])) {
-            Ok(insn) => assert_eq!(rt; encode(insn).as_slice(), first.as_slice(), "{name}"),
-            Err(fault) => assert_eq!(rt; fault.number(), 0, "{name}"),
-        }
+fn every_form(rt: HostRuntime) {
+    for (name, bytes) in FORMS {
+        assert!(rt; is_spelled(bytes), "{name}");
     }
-    for (name, first, second) in WIDE {
-        match decode(first, Some(second)) {
-            Ok(insn) => {
-                assert_eq!(rt;
-                    encode(insn).as_slice().first_chunk(),
-                    Some(&first),
-                    "{name}"
-                );
-                assert_eq!(rt;
-                    encode(insn).as_slice().last_chunk(),
-                    Some(&second),
-                    "{name}"
-                );
-            }
-            Err(fault) => assert_eq!(rt; fault.number(), 0, "{name}"),
-        }
-    }
-    Ok(())
 }
 
 #[test]
 fn every_opcode(rt: HostRuntime) {
-    let mut known = 0;
-    let mut unknown = 0;
-    for opcode in 0..=255u8 {
-        match decoded([opcode, 0, 0, 0, 0, 0, 0, 0], Some([0; 8])) {
-            0 => known += 1,
-            4 => unknown += 1,
-            other => assert_eq!(rt; other, 0, "opcode {opcode}"),
-        }
-    }
-    assert_eq!(rt; known, 116);
-    assert_eq!(rt; unknown, 140);
+    let faults = |opcode: u8| decoded([opcode, 0, 0, 0, 0, 0, 0, 0], Some([0; 8]));
+    assert_eq!(rt;
+        (0..=255).filter(|opcode| faults(*opcode) == 0).count(),
+        116,
+        "known"
+    );
+    assert_eq!(rt;
+        (0..=255).filter(|opcode| faults(*opcode) == 4).count(),
+        140,
+        "unknown"
+    );
 }
 
 #[test]
