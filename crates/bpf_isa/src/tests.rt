@@ -4,12 +4,14 @@ mod programs;
 mod refusals;
 mod vectors;
 
-use crate::{LoadFault, MapFault, MapTable, PieceFault, Reg, WordFault, check, decode, encode};
+use crate::{
+    LoadFault, MapFault, MapTable, PieceFault, Program, Reg, WordFault, check, decode, encode,
+};
 use programs::PROGRAMS;
 use refusals::REFUSALS;
 use std::alloc::Global;
 use std::test::Fail;
-use vectors::FORMS;
+use vectors::{ARITHMETIC, JUMPS, MEMORY};
 
 const EXIT: [u8; 8] = [0x95, 0, 0, 0, 0, 0, 0, 0];
 
@@ -161,10 +163,30 @@ fn is_spelled(bytes: &[u8]) -> bool {
 }
 
 #[test]
-fn every_form(rt: HostRuntime) {
-    for (name, bytes) in FORMS {
-        assert!(rt; is_spelled(bytes), "{name}");
+fn arithmetic_words(rt: HostRuntime) -> Result<(), Fail> {
+    for (name, text) in ARITHMETIC {
+        let bytes = bytes_of(rt.alloc(), text)?;
+        assert!(rt; is_spelled(&bytes), "{name}");
     }
+    Ok(())
+}
+
+#[test]
+fn jump_words(rt: HostRuntime) -> Result<(), Fail> {
+    for (name, text) in JUMPS {
+        let bytes = bytes_of(rt.alloc(), text)?;
+        assert!(rt; is_spelled(&bytes), "{name}");
+    }
+    Ok(())
+}
+
+#[test]
+fn memory_words(rt: HostRuntime) -> Result<(), Fail> {
+    for (name, text) in MEMORY {
+        let bytes = bytes_of(rt.alloc(), text)?;
+        assert!(rt; is_spelled(&bytes), "{name}");
+    }
+    Ok(())
 }
 
 #[test]
@@ -218,6 +240,14 @@ fn lengths(rt: HostRuntime) -> Result<(), Fail> {
     Ok(())
 }
 
+/// How many slots the instruction at a slot takes, 0 where none starts.
+fn slots_at(program: &Program, slot: usize) -> usize {
+    match program.insn_at(slot) {
+        Some(insn) => insn.slots(),
+        None => 0,
+    }
+}
+
 #[test]
 fn getters(rt: HostRuntime) -> Result<(), Fail> {
     let alloc = rt.alloc();
@@ -229,8 +259,7 @@ fn getters(rt: HostRuntime) -> Result<(), Fail> {
             assert_eq!(rt; program.maps().len(), 1);
             for (slot, want) in [(0, 2), (1, 0), (2, 1), (3, 0)] {
                 assert_eq!(rt; program.is_start(slot), want > 0, "start {slot}");
-                let slots = program.insn_at(slot).map_or(0, |insn| insn.slots());
-                assert_eq!(rt; slots, want, "slots at {slot}");
+                assert_eq!(rt; slots_at(&program, slot), want, "slots at {slot}");
             }
         }
         Err(fault) => assert_eq!(rt; fault.number(), 0),
