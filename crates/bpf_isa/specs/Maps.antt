@@ -39,10 +39,11 @@ pub record IsLeastMapFault (maps : List MapShape) (value entries : ℕ) (fault :
   pub applies : HasMapFault maps value entries fault
   pub least : (other : MapFault) → HasMapFault maps value entries other → map_fault_number fault ≤ map_fault_number other
 
--- A map of a list of maps: digits, an x, digits.
+-- The letter x.
 abbrev pub is_x : ℕ → Bool
 is_x byte = byte == 120
 
+-- A map in a list of maps: digits, an x, digits.
 pub record IsItem (item : List ℕ) : Type 0 where
   pub cut : position_or_len is_x item < length item
   pub value : IsNumeral 10 (before_first is_x item)

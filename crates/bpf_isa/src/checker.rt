@@ -20,7 +20,8 @@ fn piece_of(bytes: &[u8], slot: usize) -> &[u8]
     requires slots { AreSlots bytes.now }
     requires start { IsStartIn bytes.now slot }
     ensures value { result.now ≡ piece_at bytes.now slot }
-    ensures fits { (length result.now ≡ 8) ⊎ ((length result.now ≡ 16) × (slice_index result.now 0 ≡ 24)) }
+    ensures fits { (length result.now ≡ 8)
+        ⊎ ((length result.now ≡ 16) × (slice_index result.now 0 ≡ 24)) }
 {
     let from = 8 * slot;
     let to = if bytes[from] == 0x18 && from + 16 <= bytes.len() {
@@ -155,7 +156,8 @@ pub fn insns_of(
 ) -> Result<Vec<Option<Insn>>, LoadFault>
     requires slots { AreSlots bytes.now }
     requires flags { AreStarts bytes.now starts.now }
-    ensures ok { IfOk result (λ insns. AreInsns bytes.now maps.now insns.items (length starts.now)) }
+    ensures ok { IfOk result (λ insns.
+        AreInsns bytes.now maps.now insns.items (length starts.now)) }
     ensures fault { IfErr result (IsRefused bytes.now maps.now) }
 {
     let mut insns = match Vec::with_capacity(alloc, starts.len()) {

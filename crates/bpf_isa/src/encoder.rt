@@ -1,4 +1,6 @@
 //! From instructions to words.
+mod codes;
+
 ghost use Rattle.std.specs.Prelude.{◌≡◌};
 ghost use Rattle.bpf_isa.specs.Arithmetic.{binary_row, extension_row};
 ghost use Rattle.bpf_isa.specs.Bits.{IsAccess};
@@ -7,10 +9,6 @@ ghost use Rattle.bpf_isa.specs.Memory.{atomic_row};
 ghost use Rattle.bpf_isa.specs.Swaps.{swap_row};
 ghost use Rattle.bpf_isa.specs.Words.{row, form_of, operand_of, HasCodes, IsClean, HasRegisters, HasParts, HasSource, IsWord};
 
-use crate::codes::{
-    arithmetic_bits, atomic_imm, binary_code, condition_code, jump_bits, signed_size_bits,
-    size_bits,
-};
 use crate::fields::Fields;
 use crate::form::Operand;
 use crate::instruction::{
@@ -18,6 +16,10 @@ use crate::instruction::{
 };
 use crate::register::Reg;
 use crate::words::Words;
+use codes::{
+    arithmetic_bits, atomic_imm, binary_code, condition_code, jump_bits, signed_size_bits,
+    size_bits,
+};
 
 /// A slot of zeros.
 const ZERO: Fields = Fields {

@@ -1,24 +1,18 @@
-//! The instruction set of BPF (RFC 9669): words, their decoder and encoder, and the checker of programs.
+//! The instruction set of BPF (RFC 9669): words, their decoder and encoder, the checker of programs.
 #![tactic(auto)]
 
-mod arithmetic;
 mod checker;
-mod codes;
 mod decoder;
 mod encoder;
 mod fault;
 mod fields;
 mod form;
 mod instruction;
-mod jumps;
-mod laws;
 mod maps;
-mod memory;
 mod opcode;
 mod program;
 mod register;
 mod rules;
-mod unused;
 mod words;
 
 pub use decoder::decode;
@@ -29,11 +23,10 @@ pub use instruction::{
     AtomicOp, BinaryOp, ByteOrder, Condition, Extension, Insn, SignedSize, Size, Source, SwapWidth,
     Width,
 };
-pub use laws::one_spelling;
 pub use maps::{MapShape, MapTable};
 pub use program::{Program, check};
 pub use register::Reg;
-pub use words::Words;
+pub use words::{Words, one_spelling};
 
 #[cfg(test)]
 mod tests;

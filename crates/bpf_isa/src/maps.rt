@@ -1,5 +1,5 @@
 //! Map tables.
-ghost use Rattle.std.specs.Prelude.{◌≡◌, ◌↔◌, [], ◌∷◌, ◌++◌, IfErr, IfOk, IfNone, IfSome, IsSome, OnErr, OnOk, length, map, min, position, slice_get};
+ghost use Rattle.std.specs.Prelude.{◌≡◌, ◌↔◌, [], ◌∷◌, ◌++◌, IfErr, IfOk, IfNone, IfSome, IsSome, OnSome, OnErr, OnOk, length, map, min, position, slice_get};
 ghost use Rattle.std.specs.Str.Parse.{IsNumeral, digits_value};
 ghost use Rattle.bpf_isa.specs.Maps.{AreMaps, IsLeastMapFault, is_x, IsItem, shape_of, items_of, IsMapList, IsListFault};
 
@@ -71,7 +71,7 @@ impl MapTable {
 
     /// Adds a map with values of some bytes and a number of entries.
     ///
-    /// The fault is the one with the least number of those that apply, and the table is then as it was.
+    /// The fault is the one with the least number of those that apply. The table is then as it was.
     pub fn add(&mut self, value_size: u32, entries: u32) -> Result<(), MapFault>
         ensures ok { OnOk result (self.new
             ≡ self.old ++ record { value_size = value_size; entries = entries } ∷ []) }
@@ -126,7 +126,8 @@ impl MapTable {
 
 /// The number of some digits, at most 2^32 - 1, or None where they are no number.
 fn number(digits: &[u8]) -> Option<u32>
-    ensures found { IfSome result (λ n. IsNumeral 10 digits.now × (n ≡ min (digits_value 10 digits.now) 4294967295)) }
+    ensures value { IfSome result (λ n. n ≡ min (digits_value 10 digits.now) 4294967295) }
+    ensures found { OnSome result (IsNumeral 10 digits.now) }
     ensures none { IfNone result (IsNumeral 10 digits.now → ⊥) }
 {
     if digits.is_empty() {

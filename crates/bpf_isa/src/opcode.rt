@@ -1,14 +1,18 @@
 //! The form of a word, from its opcode and codes (RFC 9669, section 3).
+mod arithmetic;
+mod jumps;
+mod memory;
+
 ghost use Rattle.std.specs.Prelude.{◌≡◌, ◌/◌, ◌*◌, ◌%◌, IfSome, Some};
 ghost use Rattle.bpf_isa.specs.Words.{row, HasCodes};
 ghost use Rattle.bpf_isa.specs.Bits.{operand_bit};
 
-use crate::arithmetic::arithmetic_form;
 use crate::fields::Fields;
 use crate::form::{Form, Operand};
 use crate::instruction::Width;
-use crate::jumps::jump_form;
-use crate::memory::{load_form, store_immediate_form, store_register_form, wide_form};
+use arithmetic::arithmetic_form;
+use jumps::jump_form;
+use memory::{load_form, store_immediate_form, store_register_form, wide_form};
 
 /// The source bit of an opcode of arithmetic or of a jump.
 pub fn operand(opcode: u8) -> Operand

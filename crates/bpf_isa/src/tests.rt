@@ -1,5 +1,5 @@
-//! Worked rows of words, programs and map lists. Expected values are worked out from RFC 9669 and from the numbers of the
-//! faults.
+//! Worked rows of words, programs and map lists. Expected values are worked out from RFC 9669 and
+//! from the definitions of the faults.
 mod programs;
 mod refusals;
 mod vectors;

@@ -1,6 +1,8 @@
-//! Programs in hexadecimal, a word a slot, and what the checker says of them, by the rules of its faults and RFC 9669.
+//! Programs in hexadecimal, a word a slot, and what the checker says of them, by RFC 9669 and the
+//! definitions of the faults.
 
-/// A name, the program, its maps (none for an empty text), the number that is printed after C (0 for none), the slot.
+/// A name, the program, its maps (none for an empty text), the number that is printed after C (0
+/// for none), the slot.
 pub type Row = (&'static str, &'static str, &'static str, u8, usize);
 
 pub const PROGRAMS: [Row; 46] = [

@@ -1,4 +1,4 @@
-//! Words that are refused, and the numbers of their faults, by the rows of RFC 9669 (sections 3 to 5).
+//! Words that are refused, and the numbers of their faults, by RFC 9669 (sections 3 to 5).
 
 /// A name, the slots, and the number that is printed after C.
 pub type Refusal = (&'static str, [u8; 8], Option<[u8; 8]>, u8);

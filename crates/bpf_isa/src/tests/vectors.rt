@@ -1,5 +1,5 @@
-//! A word of each form in hexadecimal, spelled by hand from the opcode tables of RFC 9669 (sections 4 and 5), with its text
-//! in a listing.
+//! A word of each form in hexadecimal, spelled by hand from the opcode tables of RFC 9669 (sections
+//! 4 and 5), with its text in a listing.
 
 /// Sections 4.1 and 4.2.
 pub const ARITHMETIC: [(&str, &str); 72] = [

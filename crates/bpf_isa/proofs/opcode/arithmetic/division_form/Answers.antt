@@ -7,7 +7,7 @@ use Rattle.bpf_isa.specs.declared.form.Operand.{Operand}
 use Rattle.bpf_isa.specs.declared.form.Form.TheVariants.{Binary}
 use Rattle.bpf_isa.specs.Bits.{operand_bit, class_of}
 use Rattle.bpf_isa.specs.Words.{row, HasCodes}
-use Rattle.bpf_isa.proofs.arithmetic.division_form.Goals as goal
+use Rattle.bpf_isa.proofs.opcode.arithmetic.division_form.Goals as goal
 
 is_division : (form : Form) (fields : Fields) (width : Width) (operand : Operand) → fields.opcode ≡ 48 + operand_bit operand + class_of width → fields.offset ≡ 0 → HasCodes (row form) fields → Some (Binary Div width operand) ≡ Some form
 is_division form fields width operand opcode offset codes = grind arith

@@ -65,7 +65,8 @@ pub fn binary_code(op: BinaryOp) -> u8
 /// The code of a condition.
 pub fn condition_code(condition: Condition) -> u8
     ensures value { (width : Width) (operand : Operand)
-        → condition_opcode condition width operand ≡ 16 * result + (operand_bit operand + jump_class_of width) }
+        → condition_opcode condition width operand
+        ≡ 16 * result + (operand_bit operand + jump_class_of width) }
     ensures fits { result < 16 }
 {
     match condition {
