@@ -1,6 +1,6 @@
 -- Lists of maps: what one more item does to the table so far.
-use Rattle.std.proofs.Common.{◌≡◌, ◌<◌, ◌≤◌, ◌⊎◌, inl, inr, ℕ, ◌+◌, ◌*◌, min, true, false, List, [], ◌∷◌, ◌++◌, Option, Some, Result, Ok, Err, length, get_or, take, refl, sym, ap, ◌∙◌, subst, arith, rules, lit<, lit≤, length-append}
-use Rattle.std.specs.Prelude.{All, OnOk, IfErr, map, slice_get, slice_index_or}
+use Rattle.std.proofs.Common.{◌≡◌, ◌<◌, ◌≤◌, inl, inr, ℕ, ◌+◌, min, true, false, List, [], ◌∷◌, ◌++◌, Some, Result, Ok, Err, length, get_or, take, sym, ap, ◌∙◌, subst, arith, lit<, lit≤, length-append}
+use Rattle.std.specs.Prelude.{OnOk, IfErr, map}
 use Rattle.std.specs.Result.{is_ok}
 use Rattle.std.proofs.lemmas.Bool.{cases_lt}
 use Rattle.std.proofs.lemmas.List.{take_more, take_all, get_or-map}

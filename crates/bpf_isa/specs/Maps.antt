@@ -1,5 +1,5 @@
 -- Map tables. Array maps and their limits are bpfdb's own choice.
-use Rattle.std.specs.Prelude.{◌≡◌, ◌<◌, ◌≤◌, ◌⊎◌, ℕ, ◌*◌, Bool, ◌==◌, List, [], Option, Some, All, length, take, map, slice_get, slice_index_or}
+use Rattle.std.specs.Prelude.{◌≡◌, ◌<◌, ◌≤◌, ◌⊎◌, ℕ, ◌*◌, Bool, ◌==◌, List, [], Some, All, length, take, map, slice_get, slice_index_or}
 use Rattle.std.specs.List.{position_or_len, before_first, after_first, slice_split}
 use Rattle.std.specs.Str.Parse.{IsNumeral, digits_value}
 use Rattle.bpf_isa.specs.declared.maps.MapShape.{MapShape}
@@ -57,6 +57,7 @@ shape_of item = record { value_size = digits_value 10 (before_first is_x item); 
 abbrev pub items_of : List ℕ → List (List ℕ)
 items_of text = slice_split (λ byte. byte == 44) text
 
+-- A text is a list of maps when each of its items is a map.
 abbrev pub IsMapList : List ℕ → Type 0
 IsMapList text = (k : ℕ) → k < length (items_of text) → IsItem (slice_index_or (items_of text) k [])
 

@@ -1,10 +1,7 @@
-use Rattle.std.proofs.Common.{◌≡◌, ◌<◌, ◌+◌, ◌==◌, ℕ, Bool, true, false, eqb, List, [], ◌∷◌, ◌++◌, Result, Ok, Err, length, get_or, min, refl, sym, ap, ◌∙◌, subst, arith, rules, tests}
+use Rattle.std.proofs.Common.{◌≡◌, ◌<◌, ◌==◌, [], ◌∷◌, ◌++◌, length, get_or, min, refl, sym, ap, ◌∙◌, subst, rules, tests}
 use Rattle.std.specs.Prelude.{map}
-use Rattle.std.specs.Result.{is_ok}
 use Rattle.std.proofs.lemmas.List.{length_push, get_or_default}
-use Rattle.bpf_isa.specs.declared.maps.MapShape.{MapShape}
-use Rattle.bpf_isa.specs.declared.fault.MapFault.{MapFault}
-use Rattle.bpf_isa.specs.Maps.{IsItem, shape_of, items_of, IsMapList, IsFirstBadMap}
+use Rattle.bpf_isa.specs.Maps.{IsItem, shape_of, items_of}
 use Rattle.bpf_isa.proofs.MapLists.{IsOutcome, AreItems, turn_ok, turn_err, one_more_item, whole_list, all_items, list_fault}
 use Rattle.bpf_isa.proofs.SplitTurns.{split_turn, split_end}
 use Rattle.bpf_isa.proofs.maps.MapTable.parse.Goals as goal

@@ -1,4 +1,4 @@
-use Rattle.std.proofs.Common.{◌≡◌, ◌+◌, Option, Some, arith}
+use Rattle.std.proofs.Common.{◌≡◌, ◌+◌, Some, arith}
 use Rattle.bpf_isa.specs.declared.instruction.Width.{Width}
 use Rattle.bpf_isa.specs.declared.instruction.BinaryOp.TheVariants.{Div}
 use Rattle.bpf_isa.specs.declared.fields.Fields.{Fields}
