@@ -1,6 +1,6 @@
 -- What the checker's passes found makes a program.
-use Rattle.std.proofs.Common.{◌≡◌, ◌≢◌, ◌<◌, ◌≤◌, ◌⊎◌, inl, inr, ℕ, zero, suc, ℤ, pos, negsuc, ◌+◌, ◌*◌, Bool, true, false, List, Option, Some, None, length, get_or, take, drop, refl, sym, ap, ◌∙◌, subst, arith, rules, add-one, lit<, get_or-take, get_or-drop}
-use Rattle.std.specs.Prelude.{◌↔◌, IsTrue, IsSome, is_some, IfSome, not, ◌&&◌, ◌==◌, unwrap_or, slice_get, slice_index, if◌then◌else◌}
+use Rattle.std.proofs.Common.{◌≡◌, ◌≢◌, ◌<◌, ◌⊎◌, inl, inr, ℕ, ℤ, pos, negsuc, ◌+◌, ◌*◌, Bool, true, false, List, Option, Some, None, length, get_or, take, drop, refl, sym, ap, ◌∙◌, subst, arith, add-one, lit<, get_or-take, get_or-drop}
+use Rattle.std.specs.Prelude.{◌↔◌, IsTrue, IsSome, is_some, IfSome, not, ◌&&◌, unwrap_or, slice_get, if◌then◌else◌}
 use Rattle.std.proofs.lemmas.Option.{slice_get_past}
 use Rattle.std.proofs.lemmas.Bool.{cases_lt}
 use Rattle.std.proofs.lemmas.Bool.Decides.{nat_tests}
@@ -8,10 +8,10 @@ use Rattle.bpf_isa.specs.declared.instruction.Insn.{Insn}
 use Rattle.bpf_isa.specs.declared.maps.MapShape.{MapShape}
 use Rattle.bpf_isa.specs.Insns.{slots_of, FallsThrough, target_of, written_of}
 use Rattle.bpf_isa.specs.Maps.{AreMaps}
-use Rattle.bpf_isa.specs.Words.{row, form_of, fields_of, IsWord}
-use Rattle.bpf_isa.specs.Checker.{is_wide_at, is_start, IsStartIn, piece_at, after, AreSlots, IsAccepted, HasNoFault, IsTarget, Lands, SparesTen}
-use Rattle.bpf_isa.specs.Flags.{IsSound, IsPiece, IsInsnAt, AreInsns}
-use Rattle.bpf_isa.specs.Programs.{Code, insn_at, IsStart, IsStartAt, IsProgram}
+use Rattle.bpf_isa.specs.Words.{row, form_of, IsWord}
+use Rattle.bpf_isa.specs.Checker.{is_wide_at, is_start, IsStartIn, piece_at, after, AreSlots, IsAccepted, IsTarget}
+use Rattle.bpf_isa.specs.Flags.{IsPiece, IsInsnAt, AreInsns}
+use Rattle.bpf_isa.specs.Programs.{IsStartAt, IsProgram}
 use Rattle.bpf_isa.proofs.Spelling.{wide_or_not}
 
 -- the first byte of a piece is the opcode of its slot
@@ -129,5 +129,5 @@ module _ (bytes : List ℕ) (insns : List (Option Insn)) (maps : List MapShape) 
     accepted = all_clear;
     slots = omega (arith, kept.slots);
     starts = λ p. (to_start p, from_start p);
-    words = λ p i e. (found p i e).1.whole
+    words = λ p i e. (found p i e).1.whole;
   }

@@ -1,8 +1,7 @@
 -- The faults of a piece that is a word are the rules that its instruction breaks.
-use Rattle.std.proofs.Common.{◌≡◌, ◌<◌, ◌≤◌, ℕ, List, Result, Ok, Err, sym, ap, ◌∙◌, subst, arith}
+use Rattle.std.proofs.Common.{◌≡◌, ℕ, List, sym, subst, arith}
 use Rattle.bpf_isa.specs.declared.instruction.Insn.{Insn}
 use Rattle.bpf_isa.specs.declared.maps.MapShape.{MapShape}
-use Rattle.bpf_isa.specs.declared.fault.WordFault.{WordFault}
 use Rattle.bpf_isa.specs.declared.fault.WordFault.TheVariants as word
 use Rattle.bpf_isa.specs.declared.fault.PieceFault.{PieceFault}
 use Rattle.bpf_isa.specs.declared.fault.PieceFault.TheVariants.{UnknownInstruction, RegisterAboveTen, UnusedField, WritesFramePointer, NoTarget, CutOff, RunsOff, UnknownHelper, NoMap}

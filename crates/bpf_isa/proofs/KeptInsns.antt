@@ -10,7 +10,6 @@ use Rattle.bpf_isa.specs.declared.maps.MapShape.{MapShape}
 use Rattle.bpf_isa.specs.Checker.{IsStartIn, HasNoFault}
 use Rattle.bpf_isa.specs.Flags.{IsInsnAt, AreInsns}
 
-
 entry_before : (insns : List (Option Insn)) (o : Option Insn) (p : ℕ) → p < length insns → unwrap_or (slice_get insns p) None ≡ unwrap_or (slice_get (insns ++ o ∷ []) p) None
 entry_before insns o p inside = unwrap_or-slice_get insns p None ∙ sym (get_or_append_left insns (o ∷ []) None p inside) ∙ sym (unwrap_or-slice_get (insns ++ o ∷ []) p None)
 
@@ -24,5 +23,5 @@ one_more bytes maps insns o n kept here clear =
     record {
       slots = omega (arith, length-append insns (o ∷ []));
       each = below_more (λ p. IsInsnAt bytes maps p (unwrap_or (slice_get (insns ++ o ∷ []) p) None)) n (λ p below. subst (IsInsnAt bytes maps p) (entry_before insns o p (omega arith)) (kept.each p below)) (subst (IsInsnAt bytes maps n) (entry_at insns o n slots) here);
-      clear = below_more (λ p. IsStartIn bytes p → HasNoFault bytes maps p) n kept.clear clear
+      clear = below_more (λ p. IsStartIn bytes p → HasNoFault bytes maps p) n kept.clear clear;
     }

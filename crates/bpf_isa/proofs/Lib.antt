@@ -3,3 +3,5 @@ pub mod LeastFaults
 pub mod BrokenRules
 pub mod KeptInsns
 pub mod Accepted
+pub mod MapLists
+pub mod SplitTurns

@@ -7,7 +7,7 @@ use Rattle.bpf_isa.specs.declared.instruction.BinaryOp.TheVariants.{Add, Sub, Mu
 use Rattle.bpf_isa.specs.declared.instruction.Extension.{Extension}
 use Rattle.bpf_isa.specs.declared.instruction.Extension.TheVariants.{Byte64, Half64, Word64, Byte32, Half32}
 use Rattle.bpf_isa.specs.declared.form.Operand.{Operand}
-use Rattle.bpf_isa.specs.declared.form.Operand.TheVariants.{Immediate, Register}
+use Rattle.bpf_isa.specs.declared.form.Operand.TheVariants.{Register}
 use Rattle.bpf_isa.specs.Rows.{Field, unused, code, used, Row, alu, imm_of, src_of}
 
 -- ADD to ARSH, without NEG and END: the opcodes K32 X32 K64 X64.
@@ -36,6 +36,7 @@ binary_offset SignedMod operand = code 1
 binary_offset Mov Register = code 0
 binary_offset _ _ = unused
 
+-- Form K uses dst and imm, form X uses dst and src.
 abbrev pub binary_row : BinaryOp → Width → Operand → Row
 binary_row op width operand = record { opcode = binary_opcode op width operand; dst = used; src = src_of operand; offset = binary_offset op operand; imm = imm_of operand; next = unused }
 
@@ -44,6 +45,7 @@ abbrev pub negate_opcode : Width → ℕ
 negate_opcode Bits32 = 0x84
 negate_opcode Bits64 = 0x87
 
+-- The row of NEG.
 abbrev pub negate_row : Width → Row
 negate_row width = record { opcode = negate_opcode width; dst = used; src = unused; offset = unused; imm = unused; next = unused }
 

@@ -6,7 +6,7 @@ use Rattle.bpf_isa.specs.declared.instruction.Width.{Width}
 use Rattle.bpf_isa.specs.declared.instruction.Width.TheVariants.{Bits32, Bits64}
 use Rattle.bpf_isa.specs.declared.form.Operand.{Operand}
 use Rattle.bpf_isa.specs.declared.form.Operand.TheVariants.{Immediate, Register}
-use Rattle.bpf_isa.specs.declared.unused.Unused.{Unused}
+use Rattle.bpf_isa.specs.declared.decoder.unused.Unused.{Unused}
 use Rattle.bpf_isa.specs.Rows.{Field, unused, code, used, Row}
 
 -- The source bit: K is 0, X is 1, in the place of 8.

@@ -1,5 +1,5 @@
 -- The checker: which bytes are a program. What RFC 9669 leaves to a platform (helpers, maps, r10) and all numbers of faults are bpfdb's own choice.
-use Rattle.std.specs.Prelude.{◌≡◌, ◌≢◌, ◌<◌, ◌≤◌, ◌⊎◌, ℕ, zero, suc, ℤ, pos, negsuc, ◌+◌, ◌*◌, ◌%◌, Bool, true, false, not, ◌&&◌, ◌==◌, if◌then◌else◌, IsTrue, List, Option, Some, None, IfSome, MatchOption, length, take, drop, slice_index, slice_get}
+use Rattle.std.specs.Prelude.{◌≡◌, ◌≢◌, ◌<◌, ◌≤◌, ◌⊎◌, ℕ, zero, suc, ℤ, pos, negsuc, ◌+◌, ◌*◌, ◌%◌, Bool, true, not, ◌&&◌, ◌==◌, if◌then◌else◌, IsTrue, List, IfSome, MatchOption, length, take, drop, slice_index, slice_get}
 use Rattle.bpf_isa.specs.declared.instruction.Insn.{Insn}
 use Rattle.bpf_isa.specs.declared.instruction.AtomicOp.TheVariants as atomic
 use Rattle.bpf_isa.specs.declared.instruction.Insn.TheVariants.{CallHelper, LoadMap, LoadMapValue}

@@ -3,7 +3,7 @@ use Rattle.std.specs.Prelude.{◌≡◌, ◌<◌, ◌≤◌, ℕ, ◌*◌, Bool,
 use Rattle.bpf_isa.specs.declared.instruction.Insn.{Insn}
 use Rattle.bpf_isa.specs.declared.maps.MapShape.{MapShape}
 use Rattle.bpf_isa.specs.declared.fault.PieceFault.{PieceFault}
-use Rattle.bpf_isa.specs.declared.fault.PieceFault.TheVariants.{UnknownInstruction, RegisterAboveTen, UnusedField, WritesFramePointer, NoTarget, CutOff, RunsOff, UnknownHelper, NoMap}
+use Rattle.bpf_isa.specs.declared.fault.PieceFault.TheVariants.{WritesFramePointer, NoTarget, RunsOff, UnknownHelper, NoMap}
 use Rattle.bpf_isa.specs.Insns.{FallsThrough}
 use Rattle.bpf_isa.specs.Words.{IsWord}
 use Rattle.bpf_isa.specs.Checker.{is_start, IsStartIn, piece_at, after, HasNoFault, SparesTen, Lands, CallsHelper, NamesMap, fault_number}

@@ -6,10 +6,11 @@ use Rattle.bpf_isa.specs.declared.instruction.Condition.TheVariants.{Equal, Grea
 use Rattle.bpf_isa.specs.declared.form.Operand.{Operand}
 use Rattle.bpf_isa.specs.Rows.{unused, code, used, Row, jmp, imm_of, src_of}
 
--- JA: by offset in class JMP, by imm in class JMP32.
+-- JA in class JMP: by offset.
 abbrev pub jump_row : Row
 jump_row = record { opcode = 0x05; dst = unused; src = unused; offset = used; imm = unused; next = unused }
 
+-- JA in class JMP32: by imm.
 abbrev pub jump_long_row : Row
 jump_long_row = record { opcode = 0x06; dst = unused; src = unused; offset = unused; imm = used; next = unused }
 
@@ -27,13 +28,15 @@ condition_opcode LessOrEqual = jmp 0xb5 0xbd 0xb6 0xbe
 condition_opcode SignedLess = jmp 0xc5 0xcd 0xc6 0xce
 condition_opcode SignedLessOrEqual = jmp 0xd5 0xdd 0xd6 0xde
 
+-- Form K compares dst with imm, form X with src.
 abbrev pub condition_row : Condition → Width → Operand → Row
 condition_row condition width operand = record { opcode = condition_opcode condition width operand; dst = used; src = src_of operand; offset = used; imm = imm_of operand; next = unused }
 
--- CALL: src_reg 0 calls a helper by its number, src_reg 1 a local function.
+-- CALL: src_reg 0 calls a helper, imm is its number; src_reg 1 calls a local function.
 abbrev pub call_helper_row : Row
 call_helper_row = record { opcode = 0x85; dst = unused; src = code 0; offset = unused; imm = used; next = unused }
 
+-- CALL of a local function: imm is the distance.
 abbrev pub call_local_row : Row
 call_local_row = record { opcode = 0x85; dst = unused; src = code 1; offset = unused; imm = used; next = unused }
 

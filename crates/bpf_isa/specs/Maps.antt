@@ -1,5 +1,7 @@
 -- Map tables. Array maps and their limits are bpfdb's own choice.
-use Rattle.std.specs.Prelude.{◌≡◌, ◌<◌, ◌≤◌, ◌⊎◌, ℕ, ◌*◌, List, All, length}
+use Rattle.std.specs.Prelude.{◌≡◌, ◌<◌, ◌≤◌, ◌⊎◌, ℕ, ◌*◌, Bool, ◌==◌, List, [], Some, All, length, take, map, slice_get, slice_index_or}
+use Rattle.std.specs.List.{position_or_len, before_first, after_first, slice_split}
+use Rattle.std.specs.Str.Parse.{IsNumeral, digits_value}
 use Rattle.bpf_isa.specs.declared.maps.MapShape.{MapShape}
 use Rattle.bpf_isa.specs.declared.fault.MapFault.{MapFault}
 use Rattle.bpf_isa.specs.declared.fault.MapFault.TheVariants.{ValueSize, Entries, Total, Full, Malformed}
@@ -36,3 +38,38 @@ map_fault_number Malformed = 5
 pub record IsLeastMapFault (maps : List MapShape) (value entries : ℕ) (fault : MapFault) : Type 0 where
   pub applies : HasMapFault maps value entries fault
   pub least : (other : MapFault) → HasMapFault maps value entries other → map_fault_number fault ≤ map_fault_number other
+
+-- The letter x.
+abbrev pub is_x : ℕ → Bool
+is_x byte = byte == 120
+
+-- A map in a list of maps: digits, an x, digits.
+pub record IsItem (item : List ℕ) : Type 0 where
+  pub cut : position_or_len is_x item < length item
+  pub value : IsNumeral 10 (before_first is_x item)
+  pub entries : IsNumeral 10 (after_first is_x item)
+
+-- The shape that it names: the value size, then the entries, both of any size.
+abbrev pub shape_of : List ℕ → MapShape
+shape_of item = record { value_size = digits_value 10 (before_first is_x item); entries = digits_value 10 (after_first is_x item) }
+
+-- A list of maps is cut at commas. An empty text is one empty map, so it is none.
+abbrev pub items_of : List ℕ → List (List ℕ)
+items_of text = slice_split (λ byte. byte == 44) text
+
+-- A text is a list of maps when each of its items is a map.
+abbrev pub IsMapList : List ℕ → Type 0
+IsMapList text = (k : ℕ) → k < length (items_of text) → IsItem (slice_index_or (items_of text) k [])
+
+-- The first map that can't be added to those before it, and its fault with the least number.
+pub record IsFirstBadMap (maps : List MapShape) (fault : MapFault) : Type 0 where
+  pub at : ℕ
+  pub shape : MapShape
+  pub found : slice_get maps at ≡ Some shape
+  pub before : AreMaps (take at maps)
+  pub least : IsLeastMapFault (take at maps) shape.value_size shape.entries fault
+
+-- Why a text is refused: first for its form, then for its maps.
+abbrev pub IsListFault : List ℕ → MapFault → Type 0
+IsListFault text Malformed = IsMapList text → ⊥
+IsListFault text fault = IsMapList text × IsFirstBadMap (map shape_of (items_of text)) fault

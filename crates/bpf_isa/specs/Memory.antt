@@ -21,6 +21,7 @@ sizes w h b dw Double = dw
 abbrev pub load_opcode : Size → ℕ
 load_opcode = sizes 0x61 0x69 0x71 0x79
 
+-- dst takes what stands at src + offset.
 abbrev pub load_row : Size → Row
 load_row size = record { opcode = load_opcode size; dst = used; src = used; offset = used; imm = unused; next = unused }
 
@@ -30,6 +31,7 @@ load_signed_opcode SignedWord = 0x81
 load_signed_opcode SignedHalf = 0x89
 load_signed_opcode SignedByte = 0x91
 
+-- The same, with its sign extended.
 abbrev pub load_signed_row : SignedSize → Row
 load_signed_row size = record { opcode = load_signed_opcode size; dst = used; src = used; offset = used; imm = unused; next = unused }
 
@@ -37,6 +39,7 @@ load_signed_row size = record { opcode = load_signed_opcode size; dst = used; sr
 abbrev pub store_immediate_opcode : Size → ℕ
 store_immediate_opcode = sizes 0x62 0x6a 0x72 0x7a
 
+-- imm is stored at dst + offset.
 abbrev pub store_immediate_row : Size → Row
 store_immediate_row size = record { opcode = store_immediate_opcode size; dst = used; src = unused; offset = used; imm = used; next = unused }
 
@@ -44,6 +47,7 @@ store_immediate_row size = record { opcode = store_immediate_opcode size; dst = 
 abbrev pub store_register_opcode : Size → ℕ
 store_register_opcode = sizes 0x63 0x6b 0x73 0x7b
 
+-- src is stored at dst + offset.
 abbrev pub store_register_row : Size → Row
 store_register_row size = record { opcode = store_register_opcode size; dst = used; src = used; offset = used; imm = unused; next = unused }
 
@@ -65,5 +69,6 @@ atomic_code FetchXor = 0xa1
 atomic_code Exchange = 0xe1
 atomic_code CompareExchange = 0xf1
 
+-- The operation is on what stands at dst + offset, with src.
 abbrev pub atomic_row : AtomicOp → Width → Row
 atomic_row op width = record { opcode = atomic_opcode width; dst = used; src = used; offset = used; imm = code (atomic_code op); next = unused }

@@ -18,5 +18,6 @@ swap_bits Bits16 = 16
 swap_bits Bits32 = 32
 swap_bits Bits64 = 64
 
+-- A swap uses dst alone.
 abbrev pub swap_row : ByteOrder → SwapWidth → Row
 swap_row order width = record { opcode = swap_opcode order; dst = used; src = unused; offset = unused; imm = code (swap_bits width); next = unused }

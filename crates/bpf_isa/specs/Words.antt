@@ -1,5 +1,5 @@
 -- Words: the 8 or 16 bytes that spell an instruction (RFC 9669, section 3).
-use Rattle.std.specs.Prelude.{◌≡◌, ◌<◌, ◌≤◌, ◌==◌, if◌then◌else◌, ℕ, ◌+◌, ◌*◌, ◌/◌, ◌%◌, List, [], ◌++◌, Option, Some, None, All, length, slice_index}
+use Rattle.std.specs.Prelude.{◌≡◌, ◌<◌, ◌≤◌, ℕ, ◌+◌, ◌*◌, ◌/◌, ◌%◌, List, [], ◌++◌, All, length, slice_index}
 use Rattle.std.specs.Int.{w16, w32, cast_signed}
 use Rattle.bpf_isa.specs.declared.instruction.Insn.{Insn}
 use Rattle.bpf_isa.specs.declared.instruction.Source.{Source}
@@ -15,7 +15,7 @@ use Rattle.bpf_isa.specs.Arithmetic.{binary_row, negate_row, extension_row}
 use Rattle.bpf_isa.specs.Swaps.{swap_row}
 use Rattle.bpf_isa.specs.Jumps.{jump_row, jump_long_row, condition_row, call_helper_row, call_local_row, exit_row}
 use Rattle.bpf_isa.specs.Memory.{load_row, load_signed_row, store_immediate_row, store_register_row, atomic_row}
-use Rattle.bpf_isa.specs.WideLoads.{wide_opcode, load_number_row, load_map_row, load_map_value_row}
+use Rattle.bpf_isa.specs.WideLoads.{load_number_row, load_map_row, load_map_value_row}
 use Rattle.bpf_isa.specs.Insns.{slots_of}
 
 -- The row of a form.
@@ -82,7 +82,7 @@ fields_of bytes = record {
   offset = half_at bytes 2;
   imm = word_at bytes 4;
   reserved = word_at bytes 8;
-  next = word_at bytes 12
+  next = word_at bytes 12;
 }
 
 -- The opcode and the numbers that a row fixes.

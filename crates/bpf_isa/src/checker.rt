@@ -20,7 +20,8 @@ fn piece_of(bytes: &[u8], slot: usize) -> &[u8]
     requires slots { AreSlots bytes.now }
     requires start { IsStartIn bytes.now slot }
     ensures value { result.now ≡ piece_at bytes.now slot }
-    ensures fits { (length result.now ≡ 8) ⊎ ((length result.now ≡ 16) × (slice_index result.now 0 ≡ 24)) }
+    ensures fits { (length result.now ≡ 8)
+        ⊎ ((length result.now ≡ 16) × (slice_index result.now 0 ≡ 24)) }
 {
     let from = 8 * slot;
     let to = if bytes[from] == 0x18 && from + 16 <= bytes.len() {
@@ -66,38 +67,6 @@ fn cut_off_fault(piece: &[u8]) -> PieceFault
     }
 }
 
-/// The rule that an instruction at a slot breaks.
-fn broken_rule(
-    insn: &Insn,
-    slot: usize,
-    is_last: bool,
-    starts: &[bool],
-    maps: &MapTable,
-) -> Option<PieceFault>
-    requires { slot ≤ 65535 }
-    ensures found { (bytes : List ℕ) → AreStarts bytes starts.now → (IsTrue is_last ↔ (length bytes ≤ 8 * after bytes slot))
-        → IfSome result (IsLeastBroken bytes maps.now slot insn.now) }
-    ensures none { (bytes : List ℕ) → AreStarts bytes starts.now → (IsTrue is_last ↔ (length bytes ≤ 8 * after bytes slot))
-        → IfNone result (IsSound bytes maps.now slot insn.now) }
-{
-    if !insn.spares_ten() {
-        return Some(PieceFault::WritesFramePointer);
-    }
-    if !lands(insn, slot, starts) {
-        return Some(PieceFault::NoTarget);
-    }
-    if is_last && insn.falls_through() {
-        return Some(PieceFault::RunsOff);
-    }
-    if !insn.calls_helper() {
-        return Some(PieceFault::UnknownHelper);
-    }
-    if !insn.names_map(maps) {
-        return Some(PieceFault::NoMap);
-    }
-    None
-}
-
 /// Whether no piece follows the one at a start.
 fn is_last(bytes: &[u8], slot: usize) -> bool
     requires slots { AreSlots bytes.now }
@@ -112,13 +81,40 @@ fn is_last(bytes: &[u8], slot: usize) -> bool
     bytes.len() <= 8 * after
 }
 
-/// The instruction at a start, or its fault with the least number.
-fn piece(
+/// The rule that an instruction at a start breaks, the one with the least number.
+fn broken_rule(
+    insn: &Insn,
     bytes: &[u8],
     slot: usize,
     starts: &[bool],
     maps: &MapTable,
-) -> Result<Insn, PieceFault>
+) -> Option<PieceFault>
+    requires slots { AreSlots bytes.now }
+    requires start { IsStartIn bytes.now slot }
+    requires flags { AreStarts bytes.now starts.now }
+    ensures found { IfSome result (IsLeastBroken bytes.now maps.now slot insn.now) }
+    ensures none { IfNone result (IsSound bytes.now maps.now slot insn.now) }
+{
+    if !insn.spares_ten() {
+        return Some(PieceFault::WritesFramePointer);
+    }
+    if !lands(insn, slot, starts) {
+        return Some(PieceFault::NoTarget);
+    }
+    if insn.falls_through() && is_last(bytes, slot) {
+        return Some(PieceFault::RunsOff);
+    }
+    if !insn.calls_helper() {
+        return Some(PieceFault::UnknownHelper);
+    }
+    if !insn.names_map(maps) {
+        return Some(PieceFault::NoMap);
+    }
+    None
+}
+
+/// The instruction at a start, or its fault with the least number.
+fn piece(bytes: &[u8], slot: usize, starts: &[bool], maps: &MapTable) -> Result<Insn, PieceFault>
     requires slots { AreSlots bytes.now }
     requires start { IsStartIn bytes.now slot }
     requires flags { AreStarts bytes.now starts.now }
@@ -131,7 +127,7 @@ fn piece(
         Ok(insn) => insn,
         Err(fault) => return Err(word_fault(piece, fault)),
     };
-    match broken_rule(&insn, slot, is_last(bytes, slot), starts, maps) {
+    match broken_rule(&insn, bytes, slot, starts, maps) {
         Some(fault) => Err(fault),
         None => Ok(insn),
     }
@@ -160,7 +156,8 @@ pub fn insns_of(
 ) -> Result<Vec<Option<Insn>>, LoadFault>
     requires slots { AreSlots bytes.now }
     requires flags { AreStarts bytes.now starts.now }
-    ensures ok { IfOk result (λ insns. AreInsns bytes.now maps.now insns.items (length starts.now)) }
+    ensures ok { IfOk result (λ insns.
+        AreInsns bytes.now maps.now insns.items (length starts.now)) }
     ensures fault { IfErr result (IsRefused bytes.now maps.now) }
 {
     let mut insns = match Vec::with_capacity(alloc, starts.len()) {

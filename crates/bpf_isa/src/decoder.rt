@@ -1,4 +1,6 @@
 //! From words to instructions.
+mod unused;
+
 ghost use Rattle.std.specs.Prelude.{◌≡◌, ◌⊎◌, IfOk, OnOk, IfErr, Ok, ◌++◌, length, slice_index};
 ghost use Rattle.bpf_isa.specs.Words.{operand_of, form_of, HasRegisters, HasSource, HasParts, HasOneForm, IsWord};
 ghost use Rattle.bpf_isa.specs.WordFaults.{HasNoWordFault, IsLeastWordFault, joined};
@@ -9,7 +11,7 @@ use crate::form::{Form, Operand};
 use crate::instruction::{Insn, Source};
 use crate::opcode::form_of;
 use crate::register::Reg;
-use crate::unused::is_clean;
+use unused::is_clean;
 
 /// The second operand.
 fn source_of(operand: Operand, fields: Fields) -> Source
@@ -139,7 +141,8 @@ pub(crate) fn word(bytes: &[u8]) -> Result<Insn, WordFault>
     Ok(insn_of(form, fields))
 }
 
-/// The instruction that the slots spell. The second is looked at only after the opcode of the wide loads, 0x18.
+/// The instruction that the slots spell. The second is looked at only after the opcode of the
+/// wide loads, 0x18.
 ///
 /// The fault is the one with the least number of those that apply.
 pub fn decode(first: [u8; 8], second: Option<[u8; 8]>) -> Result<Insn, WordFault>

@@ -1,136 +1,25 @@
 //! From instructions to words.
-ghost use Rattle.std.specs.Prelude.{◌≡◌, ◌<◌, ◌+◌, ◌*◌, All, ℕ};
-ghost use Rattle.bpf_isa.specs.Arithmetic.{binary_opcode, binary_row, extension_row};
-ghost use Rattle.bpf_isa.specs.Bits.{operand_bit, class_of, jump_class_of, IsAccess};
-ghost use Rattle.bpf_isa.specs.Jumps.{condition_opcode, condition_row};
-ghost use Rattle.bpf_isa.specs.Memory.{sizes, load_signed_opcode, atomic_code, atomic_row};
+mod codes;
+
+ghost use Rattle.std.specs.Prelude.{◌≡◌};
+ghost use Rattle.bpf_isa.specs.Arithmetic.{binary_row, extension_row};
+ghost use Rattle.bpf_isa.specs.Bits.{IsAccess};
+ghost use Rattle.bpf_isa.specs.Jumps.{condition_row};
+ghost use Rattle.bpf_isa.specs.Memory.{atomic_row};
 ghost use Rattle.bpf_isa.specs.Swaps.{swap_row};
-ghost use Rattle.bpf_isa.specs.Words.{row, form_of, operand_of, fields_of, HasCodes, IsClean, HasRegisters, HasParts, HasSource, IsWord};
+ghost use Rattle.bpf_isa.specs.Words.{row, form_of, operand_of, HasCodes, IsClean, HasRegisters, HasParts, HasSource, IsWord};
 
 use crate::fields::Fields;
 use crate::form::Operand;
 use crate::instruction::{
-    AtomicOp, BinaryOp, ByteOrder, Condition, Extension, Insn, SignedSize, Size, Source, SwapWidth,
-    Width,
+    AtomicOp, BinaryOp, ByteOrder, Condition, Extension, Insn, Source, SwapWidth, Width,
 };
 use crate::register::Reg;
 use crate::words::Words;
-
-/// The class and source bit of arithmetic.
-fn arithmetic_bits(width: Width, operand: Operand) -> u8
-    ensures { result ≡ operand_bit operand + class_of width }
-{
-    let class = match width {
-        Width::Bits32 => 4,
-        Width::Bits64 => 7,
-    };
-    class + source_bit(operand)
-}
-
-/// The source bit.
-fn source_bit(operand: Operand) -> u8
-    ensures { result ≡ operand_bit operand }
-{
-    match operand {
-        Operand::Immediate => 0,
-        Operand::Register => 8,
-    }
-}
-
-/// The class and source bit of a conditional jump.
-fn jump_bits(width: Width, operand: Operand) -> u8
-    ensures { result ≡ operand_bit operand + jump_class_of width }
-{
-    let class = match width {
-        Width::Bits32 => 6,
-        Width::Bits64 => 5,
-    };
-    class + source_bit(operand)
-}
-
-/// The code of an operation of arithmetic.
-fn binary_code(op: BinaryOp) -> u8
-    ensures value { (width : Width) (operand : Operand)
-        → binary_opcode op width operand ≡ 16 * result + (operand_bit operand + class_of width) }
-    ensures fits { result < 16 }
-{
-    match op {
-        BinaryOp::Add => 0,
-        BinaryOp::Sub => 1,
-        BinaryOp::Mul => 2,
-        BinaryOp::Div | BinaryOp::SignedDiv => 3,
-        BinaryOp::Or => 4,
-        BinaryOp::And => 5,
-        BinaryOp::LeftShift => 6,
-        BinaryOp::RightShift => 7,
-        BinaryOp::Mod | BinaryOp::SignedMod => 9,
-        BinaryOp::Xor => 10,
-        BinaryOp::Mov => 11,
-        BinaryOp::SignedRightShift => 12,
-    }
-}
-
-/// The code of a condition.
-fn condition_code(condition: Condition) -> u8
-    ensures value { (width : Width) (operand : Operand)
-        → condition_opcode condition width operand ≡ 16 * result + (operand_bit operand + jump_class_of width) }
-    ensures fits { result < 16 }
-{
-    match condition {
-        Condition::Equal => 1,
-        Condition::Greater => 2,
-        Condition::GreaterOrEqual => 3,
-        Condition::BitsSet => 4,
-        Condition::NotEqual => 5,
-        Condition::SignedGreater => 6,
-        Condition::SignedGreaterOrEqual => 7,
-        Condition::Less => 10,
-        Condition::LessOrEqual => 11,
-        Condition::SignedLess => 12,
-        Condition::SignedLessOrEqual => 13,
-    }
-}
-
-/// The size and mode of an access, in the bits above the class.
-fn size_bits(size: Size) -> u8
-    ensures { result ≡ sizes 0x60 0x68 0x70 0x78 size }
-{
-    match size {
-        Size::Word => 0x60,
-        Size::Half => 0x68,
-        Size::Byte => 0x70,
-        Size::Double => 0x78,
-    }
-}
-
-/// The size and mode of a load that extends the sign, in the bits above the class.
-fn signed_size_bits(size: SignedSize) -> u8
-    ensures { load_signed_opcode size ≡ result + 1 }
-{
-    match size {
-        SignedSize::Word => 0x80,
-        SignedSize::Half => 0x88,
-        SignedSize::Byte => 0x90,
-    }
-}
-
-/// The imm of an atomic operation.
-fn atomic_imm(op: AtomicOp) -> u32
-    ensures { result ≡ atomic_code op }
-{
-    match op {
-        AtomicOp::Add => 0x00,
-        AtomicOp::Or => 0x40,
-        AtomicOp::And => 0x50,
-        AtomicOp::Xor => 0xa0,
-        AtomicOp::FetchAdd => 0x01,
-        AtomicOp::FetchOr => 0x41,
-        AtomicOp::FetchAnd => 0x51,
-        AtomicOp::FetchXor => 0xa1,
-        AtomicOp::Exchange => 0xe1,
-        AtomicOp::CompareExchange => 0xf1,
-    }
-}
+use codes::{
+    arithmetic_bits, atomic_imm, binary_code, condition_code, jump_bits, signed_size_bits,
+    size_bits,
+};
 
 /// A slot of zeros.
 const ZERO: Fields = Fields {
@@ -174,13 +63,7 @@ fn binary_fields(op: BinaryOp, width: Width, dst: Reg, source: Source) -> Fields
 }
 
 /// The fields of a conditional jump.
-fn jump_fields(
-    condition: Condition,
-    width: Width,
-    dst: Reg,
-    source: Source,
-    offset: i16,
-) -> Fields
+fn jump_fields(condition: Condition, width: Width, dst: Reg, source: Source, offset: i16) -> Fields
     ensures codes { HasCodes (condition_row condition width (operand_of source)) result }
     ensures clean { IsClean (condition_row condition width (operand_of source)) result }
     ensures registers { HasRegisters result }

@@ -47,10 +47,7 @@ pub enum LoadFault {
     /// The length is no multiple of 8.
     Ragged,
     /// The lowest slot with a fault, and its fault with the least number.
-    At {
-        slot: usize,
-        fault: PieceFault,
-    },
+    At { slot: usize, fault: PieceFault },
     /// Memory ran out.
     Memory,
 }

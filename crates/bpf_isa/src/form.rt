@@ -71,7 +71,10 @@ impl Insn {
     {
         match *self {
             Insn::Binary {
-                op, width, source, ..
+                op,
+                width,
+                source,
+                ..
             } => Form::Binary {
                 op,
                 width,

@@ -108,7 +108,7 @@ pub enum AtomicOp {
     CompareExchange,
 }
 
-/// An instruction. Offsets of jumps count slots from the next slot, offsets of accesses count bytes.
+/// An instruction. Offsets of jumps count slots from the next slot, those of accesses count bytes.
 #[derive(Clone, Copy)]
 pub enum Insn {
     /// `dst = dst op source`, or `dst = source` for a move.

@@ -1,6 +1,7 @@
 //! Map tables.
-ghost use Rattle.std.specs.Prelude.{◌≡◌, [], ◌∷◌, ◌++◌, IfErr, OnErr, OnOk, length, slice_get};
-ghost use Rattle.bpf_isa.specs.Maps.{AreMaps, IsLeastMapFault};
+ghost use Rattle.std.specs.Prelude.{◌≡◌, ◌↔◌, [], ◌∷◌, ◌++◌, IfErr, IfOk, IfNone, IfSome, IsSome, OnSome, OnErr, OnOk, length, map, min, position, slice_get};
+ghost use Rattle.std.specs.Str.Parse.{IsNumeral, digits_value};
+ghost use Rattle.bpf_isa.specs.Maps.{AreMaps, IsLeastMapFault, is_x, IsItem, shape_of, items_of, IsMapList, IsListFault};
 
 use crate::fault::MapFault;
 use arrayvec::ArrayVec;
@@ -70,10 +71,11 @@ impl MapTable {
 
     /// Adds a map with values of some bytes and a number of entries.
     ///
-    /// The fault is the one with the least number of those that apply, and the table is then as it was.
+    /// The fault is the one with the least number of those that apply. The table is then as it was.
     pub fn add(&mut self, value_size: u32, entries: u32) -> Result<(), MapFault>
         ensures ok { OnOk result (self.new
             ≡ self.old ++ record { value_size = value_size; entries = entries } ∷ []) }
+        ensures fits { OnOk result (AreMaps self.new) }
         ensures fault { IfErr result (IsLeastMapFault self.old value_size entries) }
         ensures same { OnErr result (self.new ≡ self.old) }
     {
@@ -94,5 +96,76 @@ impl MapTable {
             entries,
         });
         Ok(())
+    }
+
+    /// The maps of a text `VxN,VxN`: value sizes and entries in decimal.
+    ///
+    /// The fault is that of the text's form, or else of the first map that can't be added.
+    pub fn parse(text: &[u8]) -> Result<MapTable, MapFault>
+        ensures ok { OnOk result (IsMapList text.now) }
+        ensures value { IfOk result (λ maps. maps ≡ map shape_of (items_of text.now)) }
+        ensures fault { IfErr result (IsListFault text.now) }
+    {
+        let mut maps = MapTable::empty();
+        let mut outcome = Ok(());
+        for item in text.split(|byte| *byte == b',') {
+            let (value_size, entries) = match shape_in(item) {
+                Some(shape) => shape,
+                None => return Err(MapFault::Malformed),
+            };
+            if outcome.is_ok() {
+                outcome = maps.add(value_size, entries);
+            }
+        }
+        match outcome {
+            Ok(()) => Ok(maps),
+            Err(fault) => Err(fault),
+        }
+    }
+}
+
+/// The number of some digits, at most 2^32 - 1, or None where they are no number.
+fn number(digits: &[u8]) -> Option<u32>
+    ensures value { IfSome result (λ n. n ≡ min (digits_value 10 digits.now) 4294967295) }
+    ensures found { OnSome result (IsNumeral 10 digits.now) }
+    ensures none { IfNone result (IsNumeral 10 digits.now → ⊥) }
+{
+    if digits.is_empty() {
+        return None;
+    }
+    let mut number = 0u32;
+    for byte in digits {
+        match (*byte as char).to_digit(10) {
+            Some(digit) => number = number.saturating_mul(10).saturating_add(digit),
+            None => return None,
+        }
+    }
+    Some(number)
+}
+
+/// Where the first x stands.
+fn x_in(item: &[u8]) -> Option<usize>
+    ensures { result ≡ position is_x item.now }
+{
+    item.iter().position(|byte| *byte == b'x')
+}
+
+/// The numbers on both sides of an x.
+fn shape_in(item: &[u8]) -> Option<(u32, u32)>
+    ensures item { IsSome result ↔ IsItem item.now }
+    ensures value { IfSome result (λ m. m.0 ≡ min (shape_of item.now).value_size 4294967295) }
+    ensures entries { IfSome result (λ m. m.1 ≡ min (shape_of item.now).entries 4294967295) }
+{
+    let at = match x_in(item) {
+        Some(at) => at,
+        None => return None,
+    };
+    let value_size = match number(&item[..at]) {
+        Some(value_size) => value_size,
+        None => return None,
+    };
+    match number(&item[at + 1..]) {
+        Some(entries) => Some((value_size, entries)),
+        None => None,
     }
 }

@@ -68,11 +68,12 @@ impl Program {
 
 /// The program of the bytes with a map table.
 ///
-/// A piece's fault is that of the lowest slot, and there the one with the least number. Takes time in proportion to
-/// the length.
+/// A piece's fault is that of the lowest slot, and there the one with the least number. Takes time
+/// in proportion to the length.
 pub fn check(alloc: Global, bytes: &[u8], maps: &MapTable) -> Result<Program, LoadFault>
     ensures ok { OnOk result (IsAccepted bytes.now maps.now) }
-    ensures value { IfOk result (λ program. (program.bytes ≡ bytes.now) × (program.maps ≡ maps.now)) }
+    ensures value { IfOk result (λ program.
+        (program.bytes ≡ bytes.now) × (program.maps ≡ maps.now)) }
     ensures fault { IfErr result (IsRefused bytes.now maps.now) }
 {
     if bytes.is_empty() {

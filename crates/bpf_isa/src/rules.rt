@@ -25,10 +25,7 @@ impl Insn {
     pub fn falls_through(&self) -> bool
         ensures { IsTrue result ↔ FallsThrough self.now }
     {
-        !matches!(
-            self,
-            Insn::Jump { .. } | Insn::JumpLong { .. } | Insn::Exit
-        )
+        !matches!(self, Insn::Jump { .. } | Insn::JumpLong { .. } | Insn::Exit)
     }
 
     /// The slot that a jump or local call at a slot names, as a whole number.
@@ -121,7 +118,8 @@ impl AtomicOp {
 /// Whether what a jump or local call at a slot names is a start.
 pub fn lands(insn: &Insn, slot: usize, starts: &[bool]) -> bool
     requires { slot ≤ 65535 }
-    ensures { (bytes : List ℕ) → AreStarts bytes starts.now → (IsTrue result ↔ Lands bytes slot insn.now) }
+    ensures { (bytes : List ℕ) → AreStarts bytes starts.now
+        → (IsTrue result ↔ Lands bytes slot insn.now) }
 {
     match insn.target(slot) {
         Some(target) => match usize::try_from(target) {

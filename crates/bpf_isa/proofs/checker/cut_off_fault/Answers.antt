@@ -1,4 +1,4 @@
-use Rattle.std.proofs.Common.{◌≡◌, ◌≢◌, ap, sym, ◌∙◌, subst}
+use Rattle.std.proofs.Common.{◌≡◌, ◌≢◌, sym, subst}
 use Rattle.bpf_isa.specs.declared.fields.Fields.{Fields}
 use Rattle.bpf_isa.specs.declared.form.Form.{Form}
 use Rattle.bpf_isa.specs.Words.{row, fields_of, HasCodes}

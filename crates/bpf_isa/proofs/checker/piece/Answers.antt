@@ -1,4 +1,4 @@
-use Rattle.std.proofs.Common.{◌≡◌, List, ℕ, Result, Ok, Err, sym, ap, ◌∙◌, subst, arith}
+use Rattle.std.proofs.Common.{◌≡◌, List, ℕ, Result, Ok, sym, subst}
 use Rattle.bpf_isa.specs.declared.instruction.Insn.{Insn}
 use Rattle.bpf_isa.specs.declared.fault.WordFault.{WordFault}
 use Rattle.bpf_isa.specs.Words.{HasOneForm, IsWord}
@@ -27,15 +27,15 @@ pub returns-in-Some-clause-fault : goal.returns-in-Some-clause-fault
 returns-in-Some-clause-fault c =
     let here : Decoded c.piece_of-piece.result.now c.in-Ok.insn = record { whole = c.in-Ok.ensures.ok; clear = c.in-Ok.ensures.clear; one = c.in-Ok.ensures.form; only = λ other w. same_insn c.in-Ok.insn other (c.in-Ok.ensures.only other w) } in
     let d = decoded_at _ (piece_at c.args.bytes.now c.args.slot) c.in-Ok.insn c.piece_of-piece.ensures.value here in
-    least_fault c.args.bytes.now c.args.maps.now c.args.slot c.in-Ok.insn d.whole d.clear d.one d.only c.in-Some.fault (c.in-Some.ensures.found c.args.bytes.now c.requires.flags c.is_last.ensures)
+    least_fault c.args.bytes.now c.args.maps.now c.args.slot c.in-Ok.insn d.whole d.clear d.one d.only c.in-Some.fault c.in-Some.ensures.found
 
 pub returns-in-None-clause-clear : goal.returns-in-None-clause-clear
 returns-in-None-clause-clear c =
     let here : Decoded c.piece_of-piece.result.now c.in-Ok.insn = record { whole = c.in-Ok.ensures.ok; clear = c.in-Ok.ensures.clear; one = c.in-Ok.ensures.form; only = λ other w. same_insn c.in-Ok.insn other (c.in-Ok.ensures.only other w) } in
     let d = decoded_at _ (piece_at c.args.bytes.now c.args.slot) c.in-Ok.insn c.piece_of-piece.ensures.value here in
-    no_fault c.args.bytes.now c.args.maps.now c.args.slot c.in-Ok.insn d.whole d.clear d.one d.only (c.in-None.ensures.none c.args.bytes.now c.requires.flags c.is_last.ensures)
+    no_fault c.args.bytes.now c.args.maps.now c.args.slot c.in-Ok.insn d.whole d.clear d.one d.only c.in-None.ensures.none
 
 pub returns-in-None-clause-ok : goal.returns-in-None-clause-ok
 returns-in-None-clause-ok c =
     let whole : IsWord c.in-Ok.insn (piece_at c.args.bytes.now c.args.slot) = subst (IsWord c.in-Ok.insn) c.piece_of-piece.ensures.value c.in-Ok.ensures.ok in
-    record { whole = whole; sound = c.in-None.ensures.none c.args.bytes.now c.requires.flags c.is_last.ensures }
+    record { whole = whole; sound = c.in-None.ensures.none }

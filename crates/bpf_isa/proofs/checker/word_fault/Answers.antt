@@ -1,4 +1,3 @@
-use Rattle.std.proofs.Common.{arith}
 use Rattle.bpf_isa.proofs.LeastFaults.{register_fault, unused_fault}
 use Rattle.bpf_isa.proofs.checker.word_fault.Goals as goal
 

@@ -1,4 +1,4 @@
-use Rattle.std.proofs.Common.{◌≡◌, ◌≢◌, ℕ, Option, Some, None, arith}
+use Rattle.std.proofs.Common.{◌≡◌, arith}
 use Rattle.bpf_isa.specs.declared.instruction.Width.{Width}
 use Rattle.bpf_isa.specs.declared.instruction.AtomicOp.{AtomicOp}
 use Rattle.bpf_isa.specs.declared.fields.Fields.{Fields}
@@ -6,7 +6,7 @@ use Rattle.bpf_isa.specs.declared.form.Form.{Form}
 use Rattle.bpf_isa.specs.declared.form.Form.TheVariants.{Atomic}
 use Rattle.bpf_isa.specs.Memory.{atomic_opcode, atomic_code}
 use Rattle.bpf_isa.specs.Words.{row, HasCodes}
-use Rattle.bpf_isa.proofs.opcode.atomic_form.Goals as goal
+use Rattle.bpf_isa.proofs.opcode.memory.atomic_form.Goals as goal
 
 -- a form with an atomic opcode is an atomic form
 is_atomic : (form : Form) (fields : Fields) (width : Width) → fields.opcode ≡ atomic_opcode width → HasCodes (row form) fields → (op : AtomicOp) × (form ≡ Atomic op width) × (fields.imm ≡ atomic_code op)

@@ -134,7 +134,8 @@ impl Unused {
 
     /// Whether a field that may be unused is zero then.
     fn is_clear(unused: bool, value: u32) -> bool
-        ensures { (field : Field) → unused ≡ is_unused field → (IsTrue result ↔ IsClear field value) }
+        ensures { (field : Field) → unused ≡ is_unused field
+            → (IsTrue result ↔ IsClear field value) }
     {
         !unused || value == 0
     }

@@ -1,0 +1,121 @@
+//! The forms of arithmetic and byte swaps (RFC 9669, sections 4.1 and 4.2).
+ghost use Rattle.std.specs.Prelude.{◌≡◌, ◌%◌, ◌+◌, IfSome, Some};
+ghost use Rattle.bpf_isa.specs.Words.{row, HasCodes};
+ghost use Rattle.bpf_isa.specs.Bits.{class_of, operand_bit};
+
+use crate::fields::Fields;
+use crate::form::{Form, Operand};
+use crate::instruction::{BinaryOp, ByteOrder, Extension, SwapWidth, Width};
+use crate::opcode::operand;
+
+/// DIV and SDIV, told apart by the offset.
+fn division_form(fields: Fields, width: Width, operand: Operand) -> Option<Form>
+    requires { fields.opcode ≡ 48 + operand_bit operand + class_of width }
+    ensures found { IfSome result (λ form. HasCodes (row form) fields) }
+    ensures only { (form : Form) → HasCodes (row form) fields → result ≡ Some form }
+{
+    let op = match fields.offset {
+        0 => BinaryOp::Div,
+        1 => BinaryOp::SignedDiv,
+        _ => return None,
+    };
+    Some(Form::Binary { op, width, operand })
+}
+
+/// MOD and SMOD, told apart by the offset.
+fn modulo_form(fields: Fields, width: Width, operand: Operand) -> Option<Form>
+    requires { fields.opcode ≡ 144 + operand_bit operand + class_of width }
+    ensures found { IfSome result (λ form. HasCodes (row form) fields) }
+    ensures only { (form : Form) → HasCodes (row form) fields → result ≡ Some form }
+{
+    let op = match fields.offset {
+        0 => BinaryOp::Mod,
+        1 => BinaryOp::SignedMod,
+        _ => return None,
+    };
+    Some(Form::Binary { op, width, operand })
+}
+
+/// NEG, which has no form X.
+fn negate_form(fields: Fields, width: Width, operand: Operand) -> Option<Form>
+    requires { fields.opcode ≡ 128 + operand_bit operand + class_of width }
+    ensures found { IfSome result (λ form. HasCodes (row form) fields) }
+    ensures only { (form : Form) → HasCodes (row form) fields → result ≡ Some form }
+{
+    match operand {
+        Operand::Immediate => Some(Form::Negate { width }),
+        Operand::Register => None,
+    }
+}
+
+/// MOV and MOVSX, told apart by the offset in form X.
+fn move_form(fields: Fields, width: Width, operand: Operand) -> Option<Form>
+    requires { fields.opcode ≡ 176 + operand_bit operand + class_of width }
+    ensures found { IfSome result (λ form. HasCodes (row form) fields) }
+    ensures only { (form : Form) → HasCodes (row form) fields → result ≡ Some form }
+{
+    let extension = match (operand, fields.offset, width) {
+        (Operand::Immediate, _, _) | (Operand::Register, 0, _) => {
+            return Some(Form::Binary {
+                op: BinaryOp::Mov,
+                width,
+                operand,
+            });
+        }
+        (Operand::Register, 8, Width::Bits64) => Extension::Byte64,
+        (Operand::Register, 16, Width::Bits64) => Extension::Half64,
+        (Operand::Register, 32, Width::Bits64) => Extension::Word64,
+        (Operand::Register, 8, Width::Bits32) => Extension::Byte32,
+        (Operand::Register, 16, Width::Bits32) => Extension::Half32,
+        _ => return None,
+    };
+    Some(Form::SignExtend { extension })
+}
+
+/// END: byte swaps, whose width is imm.
+fn swap_form(fields: Fields, width: Width, operand: Operand) -> Option<Form>
+    requires { fields.opcode ≡ 208 + operand_bit operand + class_of width }
+    ensures found { IfSome result (λ form. HasCodes (row form) fields) }
+    ensures only { (form : Form) → HasCodes (row form) fields → result ≡ Some form }
+{
+    let order = match (width, operand) {
+        (Width::Bits32, Operand::Immediate) => ByteOrder::Little,
+        (Width::Bits32, Operand::Register) => ByteOrder::Big,
+        (Width::Bits64, Operand::Immediate) => ByteOrder::Swap,
+        (Width::Bits64, Operand::Register) => return None,
+    };
+    let width = match fields.imm {
+        16 => SwapWidth::Bits16,
+        32 => SwapWidth::Bits32,
+        64 => SwapWidth::Bits64,
+        _ => return None,
+    };
+    Some(Form::SwapBytes { order, width })
+}
+
+/// Classes ALU and ALU64.
+pub fn arithmetic_form(fields: Fields, width: Width) -> Option<Form>
+    requires { fields.opcode % 8 ≡ class_of width }
+    ensures found { IfSome result (λ form. HasCodes (row form) fields) }
+    ensures only { (form : Form) → HasCodes (row form) fields → result ≡ Some form }
+{
+    let operand = operand(fields.opcode);
+    let op = match fields.opcode / 16 {
+        0 => BinaryOp::Add,
+        1 => BinaryOp::Sub,
+        2 => BinaryOp::Mul,
+        3 => return division_form(fields, width, operand),
+        4 => BinaryOp::Or,
+        5 => BinaryOp::And,
+        6 => BinaryOp::LeftShift,
+        7 => BinaryOp::RightShift,
+        8 => return negate_form(fields, width, operand),
+        9 => return modulo_form(fields, width, operand),
+        10 => BinaryOp::Xor,
+        11 => return move_form(fields, width, operand),
+        12 => BinaryOp::SignedRightShift,
+        13 => return swap_form(fields, width, operand),
+        _ => return None,
+    };
+    Some(Form::Binary { op, width, operand })
+}
