@@ -1,4 +1,6 @@
 pub mod Appending
+pub mod Cutting
 pub mod HexDigits
 pub mod Listings
 pub mod Offsets
+pub mod Saturating

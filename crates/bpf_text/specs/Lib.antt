@@ -1,6 +1,9 @@
 pub mod Canonical
 pub mod Counted
+pub mod Cuts
+pub mod Faults
 pub mod Mnemonics
 pub mod Operands
 pub mod Reading
+pub mod Tokens
 pub mod Writing

@@ -2,6 +2,7 @@
 #![tactic(auto)]
 
 mod counted;
+mod cut;
 mod disassembler;
 mod fault;
 mod hexadecimal;
@@ -12,11 +13,12 @@ mod operand;
 mod reading;
 #[cfg(test)]
 mod tests;
+mod token;
 mod writing;
 
 pub use counted::Counted;
 pub use disassembler::disassemble;
-pub use fault::{ReadFault, WriteFault};
+pub use fault::{AsmFault, LineFault, OperandFault, ReadFault, WriteFault};
 pub use hexadecimal::put_hexadecimal;
 pub use insn::{put_insn, put_label, write_insn};
 pub use mnemonic::Mnemonic;
