@@ -5,5 +5,6 @@ pub mod Faults
 pub mod Mnemonics
 pub mod Operands
 pub mod Reading
+pub mod Statements
 pub mod Tokens
 pub mod Writing

@@ -118,6 +118,6 @@ is_bracketed s = slice_index s 0 == 91 && position_or_len (λ b. b == 93) s + 1 
 abbrev pub memory : List ℕ → Reading (ℕ × ℤ)
 memory s = if is_bracketed s then place (before 93 (drop 1 s)) else Err Wrong
 
--- A name.
-abbrev pub name : List ℕ → Reading (List ℕ)
-name s = if is_name s then Ok s else Err Wrong
+-- A name, whose label is looked up later.
+abbrev pub name : List ℕ → Reading (Unit {0})
+name s = if is_name s then Ok tt else Err Wrong

@@ -11,6 +11,7 @@ mod mnemonic;
 mod names;
 mod operand;
 mod reading;
+mod statement;
 #[cfg(test)]
 mod tests;
 mod token;

@@ -3,9 +3,9 @@ ghost use Rattle.std.specs.Prelude.{◌≡◌, ◌==◌, ◌<◌, ◌≤◌, ◌
 ghost use Rattle.std.specs.List.{list_all, position_or_len};
 ghost use Rattle.std.specs.Str.Parse.{digits_value};
 ghost use Rattle.std.specs.Char.{digit_value};
-ghost use Rattle.bpf_text.specs.Tokens.{both, register, numeral, has_prefix, number, is_negative, magnitude, unsigned, immediate, wide, source, offset, place, memory, is_sign, is_bracketed};
+ghost use Rattle.bpf_text.specs.Tokens.{both, register, numeral, has_prefix, number, is_negative, magnitude, unsigned, immediate, wide, source, offset, place, memory, name, is_sign, is_bracketed};
 
-use crate::cut::{before, find, trim};
+use crate::cut::{before, find, is_name, trim};
 use crate::fault::OperandFault;
 use bpf_isa::{Reg, Source};
 
@@ -229,6 +229,17 @@ fn place(text: &[u8]) -> Result<(Reg, i16), OperandFault>
     ensures { result ≡ place text.now }
 {
     both(register(trim(&text[..find_sign(text)])), offset(text))
+}
+
+/// A name.
+pub fn name(text: &[u8]) -> Result<(), OperandFault>
+    ensures { result ≡ name text.now }
+{
+    if is_name(text) {
+        Ok(())
+    } else {
+        Err(OperandFault::Wrong)
+    }
 }
 
 /// Memory: a register and an offset in brackets.
