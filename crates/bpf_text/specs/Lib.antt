@@ -3,6 +3,7 @@ pub mod Counted
 pub mod Cuts
 pub mod Faults
 pub mod Mnemonics
+pub mod Named
 pub mod Operands
 pub mod Reading
 pub mod Statements

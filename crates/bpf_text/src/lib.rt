@@ -12,6 +12,7 @@ mod names;
 mod operand;
 mod reading;
 mod statement;
+mod table;
 #[cfg(test)]
 mod tests;
 mod token;
