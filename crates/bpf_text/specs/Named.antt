@@ -6,5 +6,5 @@ use Rattle.bpf_text.specs.declared.table.TheConstants.{MNEMONICS}
 use Rattle.bpf_text.specs.Mnemonics.{name_of}
 
 -- The mnemonic of a name, if there is one. `MNEMONICS` has each once.
-abbrev pub named : List ℕ → Option Mnemonic
+unfoldable pub named : List ℕ → Option Mnemonic
 named name = find (λ m. bytes_eq (name_of m) name) MNEMONICS

@@ -7,6 +7,7 @@ mod disassembler;
 mod fault;
 mod hexadecimal;
 mod insn;
+mod line;
 mod mnemonic;
 mod names;
 mod operand;

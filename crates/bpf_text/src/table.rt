@@ -121,6 +121,7 @@ pub const MNEMONICS: [Mnemonic; 109] = [
 ];
 
 /// The mnemonic of this name, if there is one.
+#[tactic(auto, unfolding(crate::specs::Named::named))]
 pub fn named(name: &[u8]) -> Option<Mnemonic>
     ensures { result ≡ named name.now }
 {

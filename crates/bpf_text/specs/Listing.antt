@@ -1,0 +1,78 @@
+-- A listing: its lines, its faults in two rounds, and its bytes. It is bpfdb's own choice.
+use Rattle.std.specs.Prelude.{ℕ, ℤ, pos, ◌≡◌, ◌+◌, ◌-ℤ◌, ◌^◌, Bool, true, false, not, nat_le, is_some, if◌then◌else◌, List, [], ◌∷◌, ◌++◌, Option, Some, None, Result, Ok, Err, ⊤}
+use Rattle.std.specs.List.{list_all}
+use Rattle.std.specs.Str.{bytes_eq}
+use Rattle.bpf_isa.specs.declared.instruction.Insn.{Insn}
+use Rattle.bpf_isa.specs.declared.instruction.Insn.TheVariants.{JumpIf, Jump, JumpLong, CallLocal}
+use Rattle.bpf_isa.specs.Programs.{slots_of}
+use Rattle.bpf_text.specs.declared.fault.OperandFault.{OperandFault}
+use Rattle.bpf_text.specs.declared.fault.OperandFault.TheVariants as operand
+use Rattle.bpf_text.specs.declared.fault.LineFault.{LineFault}
+use Rattle.bpf_text.specs.declared.fault.LineFault.TheVariants.{UnknownMnemonic, WrongOperands, OutOfRange, LabelTwice, UnknownLabel, NotText, TooManySlots}
+use Rattle.bpf_text.specs.declared.fault.AsmFault.{AsmFault}
+use Rattle.bpf_text.specs.declared.fault.AsmFault.TheVariants.{Line, Memory}
+use Rattle.bpf_text.specs.declared.mnemonic.Mnemonic.{Mnemonic}
+use Rattle.bpf_text.specs.Cuts.{is_text, lines, code_of, label_of, body_of, mnemonic_text, operands_text}
+use Rattle.bpf_text.specs.Named.{named}
+use Rattle.bpf_text.specs.Statements.{instruction, target_name}
+use Rattle.bpf_text.specs.Tokens.{Reading}
+
+-- What reading a line gives.
+abbrev pub LineReading : Type 0 → Type 0
+LineReading A = Result A LineFault
+
+-- The instruction of a line, if it has one. The distance of its target is still 0.
+abbrev pub read_insn : Reading Insn → LineReading (Option Insn)
+read_insn (Ok insn) = Ok (Some insn)
+read_insn (Err operand.Wrong) = Err WrongOperands
+read_insn (Err operand.OutOfRange) = Err OutOfRange
+
+abbrev pub insn_of_mnemonic : Option Mnemonic → List ℕ → LineReading (Option Insn)
+insn_of_mnemonic None operands = Err UnknownMnemonic
+insn_of_mnemonic (Some mnemonic) operands = read_insn (instruction mnemonic operands)
+
+abbrev pub insn_of_body : List ℕ → LineReading (Option Insn)
+insn_of_body [] = Ok None
+insn_of_body (b ∷ s) = insn_of_mnemonic (named (mnemonic_text (b ∷ s))) (operands_text (b ∷ s))
+
+abbrev pub insn_of : List ℕ → LineReading (Option Insn)
+insn_of line = insn_of_body (body_of line)
+
+-- Where labels stand: the slot of a name.
+abbrev pub Labels : Type 0
+Labels = List ℕ → Option ℕ
+
+abbrev pub no_label : Labels
+no_label name = None
+
+-- The labels before, and one more.
+abbrev pub labels_with : Labels → ℕ → Option (List ℕ) → Labels
+labels_with labels slot None = labels
+labels_with labels slot (Some name) = λ q. if bytes_eq name q then Some slot else labels q
+
+abbrev pub is_defined : Labels → Option (List ℕ) → Bool
+is_defined labels None = false
+is_defined labels (Some name) = is_some (labels name)
+
+-- The slot after an instruction, which can't pass slot 65,534.
+abbrev pub slot_after : ℕ → LineReading (Option Insn) → LineReading ℕ
+slot_after slot (Err fault) = Err fault
+slot_after slot (Ok None) = Ok slot
+slot_after slot (Ok (Some insn)) = if nat_le (slot + slots_of insn) 65535 then Ok (slot + slots_of insn) else Err TooManySlots
+
+-- The first round at a line: the slot after it, or its first fault.
+abbrev pub line_end : Labels → ℕ → List ℕ → LineReading ℕ
+line_end labels slot line =
+    if not (list_all is_text (code_of line)) then Err NotText
+    else if is_defined labels (label_of line) then Err LabelTwice
+    else slot_after slot (insn_of line)
+
+-- The first round over the lines from a slot and a line number on: all labels, or the first fault.
+abbrev pub line_or : {A B : Type 0} → LineReading A → ℕ → (A → Result B AsmFault) → Result B AsmFault
+line_or (Err fault) number next = Err (Line fault number)
+line_or (Ok value) number next = next value
+
+abbrev pub first_round : Labels → ℕ → ℕ → List (List ℕ) → Result Labels AsmFault
+first_round labels slot number [] = Ok labels
+first_round labels slot number (line ∷ rest) = line_or (line_end labels slot line) number
+    (λ next. first_round (labels_with labels slot (label_of line)) next (number + 1) rest)
