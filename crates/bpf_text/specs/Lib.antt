@@ -6,6 +6,7 @@ pub mod Listing
 pub mod Mnemonics
 pub mod Named
 pub mod Operands
+pub mod Placed
 pub mod Reading
 pub mod Statements
 pub mod Tokens

@@ -76,3 +76,8 @@ abbrev pub first_round : Labels → ℕ → ℕ → List (List ℕ) → Result L
 first_round labels slot number [] = Ok labels
 first_round labels slot number (line ∷ rest) = line_or (line_end labels slot line) number
     (λ next. first_round (labels_with labels slot (label_of line)) next (number + 1) rest)
+
+-- Want of memory may be answered instead of a fault; else it is this one.
+abbrev pub IsFaultOf : {A : Type 0} → Result A AsmFault → AsmFault → Type 0
+IsFaultOf reading Memory = ⊤
+IsFaultOf reading (Line fault number) = reading ≡ Err (Line fault number)

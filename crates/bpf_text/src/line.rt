@@ -1,5 +1,5 @@
 //! The lines of a listing.
-ghost use Rattle.std.specs.Prelude.{◌≡◌, ◌≤◌, option_map, Ok, Err, nat_le, ◌+◌, if◌then◌else◌};
+ghost use Rattle.std.specs.Prelude.{◌≡◌, ◌≤◌, option_map, Ok, Err, nat_le, IfOk, ◌+◌, if◌then◌else◌};
 ghost use Rattle.std.specs.List.{list_all};
 ghost use Rattle.bpf_isa.specs.Programs.{slots_of};
 ghost use Rattle.bpf_text.specs.Cuts.{code_of, label_of, body_of, is_text, is_labelled, mnemonic_text, operands_text};
@@ -104,7 +104,8 @@ fn read_insn(insn: Result<Insn, OperandFault>) -> Result<Option<Insn>, LineFault
 /// The slot after a line, which can't pass slot 65,534.
 pub fn slot_after(slot: usize, line: &[u8]) -> Result<usize, LineFault>
     requires { slot ≤ 65535 }
-    ensures { result ≡ slot_after slot (insn_of line.now) }
+    ensures value { result ≡ slot_after slot (insn_of line.now) }
+    ensures within { IfOk result (λ next. next ≤ 65535) }
 {
     match insn_of(line) {
         Err(fault) => Err(fault),
@@ -116,7 +117,8 @@ pub fn slot_after(slot: usize, line: &[u8]) -> Result<usize, LineFault>
 fn slot_after_insn(slot: usize, count: usize) -> Result<usize, LineFault>
     requires within { slot ≤ 65535 }
     requires few { count ≤ 2 }
-    ensures { result ≡ (if nat_le (slot + count) 65535 then Ok (slot + count) else Err LineFault.TooManySlots) }
+    ensures within { IfOk result (λ next. next ≤ 65535) }
+    ensures value { result ≡ (if nat_le (slot + count) 65535 then Ok (slot + count) else Err LineFault.TooManySlots) }
 {
     let next = slot + count;
     if next <= 65535 {
