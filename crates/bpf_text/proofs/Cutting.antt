@@ -1,10 +1,10 @@
 -- Where a text is cut.
-use Rattle.std.proofs.Common.{ℕ, ◌≡◌, ◌<◌, ◌≤◌, ◌+◌, ◌-◌, Bool, true, false, not, List, [], ◌∷◌, ◌++◌, take, length, get_or, Some, None, unwrap_or, cond, refl, ap, sym, ◌∙◌, arith, nat_lt}
+use Rattle.std.proofs.Common.{ℕ, suc, ◌==◌, length-drop, ◌≡◌, ◌<◌, ◌≤◌, ◌+◌, ◌-◌, Bool, true, false, not, List, [], ◌∷◌, ◌++◌, take, length, get_or, Some, None, unwrap_or, cond, refl, ap, sym, ◌∙◌, arith, nat_lt}
 use Rattle.std.specs.List.{position, position_or_len}
 use Rattle.std.proofs.lemmas.List.Sums.{prefix_len-le-length}
 use Rattle.std.proofs.lemmas.List.{take_more}
 use Rattle.std.proofs.lemmas.Bool.Decides.{nat_tests}
-use Rattle.bpf_text.specs.Cuts.{is_blank, onto_trimmed, trim_end}
+use Rattle.bpf_text.specs.Cuts.{is_blank, onto_trimmed, trim_end, lines, onto_line, before, after}
 
 -- the place of an element, or the length
 pub unwrap_or-position : (p : ℕ → Bool) (xs : List ℕ) → unwrap_or (position p xs) (length xs) ≡ position_or_len p xs
@@ -48,3 +48,27 @@ trim_end-stop xs end h most e =
 -- nothing is left
 pub trim_end-empty : (xs : List ℕ) (end : ℕ) → end ≤ 0 → take end xs ≡ trim_end (take end xs)
 trim_end-empty xs end h = let none : end ≡ 0 = omega arith in rw none refl
+
+-- the lines of a byte that is no line feed and of what follows it
+onto_line-lines : (b : ℕ) (s : List ℕ) → (0 < length s → lines s ≡ before 10 s ∷ lines (after 10 s))
+    → onto_line b (lines s) ≡ (b ∷ before 10 s) ∷ lines (after 10 s)
+onto_line-lines b [] rest = refl
+onto_line-lines b (c ∷ s) rest = rw (rest (omega arith)) refl
+
+-- the lines of a byte and of what follows it
+lines-byte : (b : ℕ) (s : List ℕ) (t : Bool) → (b == 10) ≡ t → (0 < length s → lines s ≡ before 10 s ∷ lines (after 10 s))
+    → lines (b ∷ s) ≡ before 10 (b ∷ s) ∷ lines (after 10 (b ∷ s))
+lines-byte b s true e rest = rw e refl
+lines-byte b s false e rest =
+    let place : 1 + position_or_len (λ x. x == 10) s ≡ suc (position_or_len (λ x. x == 10) s) = omega arith in
+    let next : suc (position_or_len (λ x. x == 10) s) + 1 ≡ suc (position_or_len (λ x. x == 10) s + 1) = omega arith in
+    rw (e, place, next) (onto_line-lines b s rest)
+
+-- the first line and the others
+pub lines-cut : (s : List ℕ) → 0 < length s → lines s ≡ before 10 s ∷ lines (after 10 s)
+lines-cut [] h = absurd (omega arith)
+lines-cut (b ∷ s) h = lines-byte b s (b == 10) refl (lines-cut s)
+
+-- fewer bytes are left
+pub length-after : (byte : ℕ) (s : List ℕ) → 0 < length s → length (after byte s) < length s
+length-after byte s h = omega (arith, length-drop (position_or_len (λ x. x == byte) s + 1) s)

@@ -3,4 +3,5 @@ pub mod Cutting
 pub mod HexDigits
 pub mod Listings
 pub mod Offsets
+pub mod Rounds
 pub mod Saturating

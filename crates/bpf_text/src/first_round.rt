@@ -25,10 +25,10 @@ pub fn first_round<'a>(alloc: Global, text: &'a [u8]) -> Result<HashMap<&'a [u8]
         let line = before(rest, b'\n');
         match line_end(&labels, slot, line) {
             Ok(next) => {
-                if put_labels(&mut labels, label_of(line), slot).is_err() {
-                    return Err(AsmFault::Memory);
+                match put_labels(&mut labels, label_of(line), slot) {
+                    Ok(()) => slot = next,
+                    Err(_) => return Err(AsmFault::Memory),
                 }
-                slot = next;
             }
             Err(fault) => return Err(AsmFault::Line(fault, number)),
         }
