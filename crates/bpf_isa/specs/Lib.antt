@@ -1,1 +1,14 @@
+pub mod Rows
+pub mod Arithmetic
+pub mod Swaps
+pub mod Jumps
+pub mod Memory
+pub mod WideLoads
+pub mod Maps
+pub mod Insns
+pub mod Words
+pub mod WordFaults
+pub mod Checker
+pub mod Flags
 pub mod Programs
+pub mod Bits

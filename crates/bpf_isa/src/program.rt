@@ -1,16 +1,13 @@
 //! Programs that the checker accepted.
-ghost use Rattle.std.specs.Prelude.{◌≡◌, ◌↔◌, IsTrue, length};
+ghost use Rattle.std.specs.Prelude.{◌≡◌, ◌↔◌, IsTrue, OnOk, IfOk, IfErr, length};
+ghost use Rattle.bpf_isa.specs.Checker.{IsAccepted, IsRefused};
 
+use crate::checker::{insns_of, starts_of};
+use crate::fault::LoadFault;
 use crate::instruction::Insn;
-use crate::maps::{MapShape, MapTable};
+use crate::maps::MapTable;
 use std::alloc::Global;
 use std::marker::Model;
-
-/// Why a program is refused. (So far only for want of memory.)
-#[derive(Drop)]
-pub enum LoadFault {
-    Memory,
-}
 
 /// A checked program: its bytes, the instruction of each slot, and its maps.
 #[derive(Drop)]
@@ -69,7 +66,38 @@ impl Program {
     }
 }
 
-/// Checks a program. (So far it only answers want of memory.)
-pub fn check(_alloc: Global, _bytes: &[u8], _maps: &MapTable) -> Result<Program, LoadFault> {
-    Err(LoadFault::Memory)
+/// The program of the bytes with a map table.
+///
+/// A piece's fault is that of the lowest slot, and there the one with the least number. Takes time in proportion to
+/// the length.
+pub fn check(alloc: Global, bytes: &[u8], maps: &MapTable) -> Result<Program, LoadFault>
+    ensures ok { OnOk result (IsAccepted bytes.now maps.now) }
+    ensures value { IfOk result (λ program. (program.bytes ≡ bytes.now) × (program.maps ≡ maps.now)) }
+    ensures fault { IfErr result (IsRefused bytes.now maps.now) }
+{
+    if bytes.is_empty() {
+        return Err(LoadFault::Empty);
+    }
+    if bytes.len() > 524280 {
+        return Err(LoadFault::TooLong);
+    }
+    if bytes.len() % 8 != 0 {
+        return Err(LoadFault::Ragged);
+    }
+    let starts = match starts_of(alloc, bytes) {
+        Ok(starts) => starts,
+        Err(_) => return Err(LoadFault::Memory),
+    };
+    let insns = match insns_of(alloc, bytes, &starts, maps) {
+        Ok(insns) => insns,
+        Err(fault) => return Err(fault),
+    };
+    match Vec::from_slice(alloc, bytes) {
+        Ok(bytes) => Ok(Program {
+            bytes,
+            insns,
+            maps: maps.copied(),
+        }),
+        Err(_) => Err(LoadFault::Memory),
+    }
 }

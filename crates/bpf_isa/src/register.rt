@@ -34,6 +34,14 @@ impl Reg {
         }
     }
 
+    /// The register of a number that is known to be at most 10.
+    pub(crate) fn of(number: u8) -> Reg
+        requires { number ≤ 10 }
+        ensures { result ≡ number }
+    {
+        Reg { number }
+    }
+
     /// The register's number, 0 to 10.
     pub fn number(&self) -> u8
         ensures value { result ≡ self.now }

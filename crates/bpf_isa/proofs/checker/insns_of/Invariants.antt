@@ -1,0 +1,5 @@
+use Rattle.bpf_isa.specs.Flags.{AreInsns}
+use Rattle.bpf_isa.proofs.checker.insns_of.Given as goal
+
+abbrev pub invariant-loop-slot : goal.invariant-loop-slot
+invariant-loop-slot l = AreInsns l.bytes l.maps l.insns.items l.slot

@@ -1,0 +1,56 @@
+-- Arithmetic instructions (RFC 9669, section 4.1): one line a row, in the table's order.
+use Rattle.std.specs.Prelude.{ℕ}
+use Rattle.bpf_isa.specs.declared.instruction.Width.{Width}
+use Rattle.bpf_isa.specs.declared.instruction.Width.TheVariants.{Bits32, Bits64}
+use Rattle.bpf_isa.specs.declared.instruction.BinaryOp.{BinaryOp}
+use Rattle.bpf_isa.specs.declared.instruction.BinaryOp.TheVariants.{Add, Sub, Mul, Div, SignedDiv, Or, And, LeftShift, RightShift, Mod, SignedMod, Xor, Mov, SignedRightShift}
+use Rattle.bpf_isa.specs.declared.instruction.Extension.{Extension}
+use Rattle.bpf_isa.specs.declared.instruction.Extension.TheVariants.{Byte64, Half64, Word64, Byte32, Half32}
+use Rattle.bpf_isa.specs.declared.form.Operand.{Operand}
+use Rattle.bpf_isa.specs.declared.form.Operand.TheVariants.{Immediate, Register}
+use Rattle.bpf_isa.specs.Rows.{Field, unused, code, used, Row, alu, imm_of, src_of}
+
+-- ADD to ARSH, without NEG and END: the opcodes K32 X32 K64 X64.
+abbrev pub binary_opcode : BinaryOp → Width → Operand → ℕ
+binary_opcode Add = alu 0x04 0x0c 0x07 0x0f
+binary_opcode Sub = alu 0x14 0x1c 0x17 0x1f
+binary_opcode Mul = alu 0x24 0x2c 0x27 0x2f
+binary_opcode Div = alu 0x34 0x3c 0x37 0x3f
+binary_opcode SignedDiv = alu 0x34 0x3c 0x37 0x3f
+binary_opcode Or = alu 0x44 0x4c 0x47 0x4f
+binary_opcode And = alu 0x54 0x5c 0x57 0x5f
+binary_opcode LeftShift = alu 0x64 0x6c 0x67 0x6f
+binary_opcode RightShift = alu 0x74 0x7c 0x77 0x7f
+binary_opcode Mod = alu 0x94 0x9c 0x97 0x9f
+binary_opcode SignedMod = alu 0x94 0x9c 0x97 0x9f
+binary_opcode Xor = alu 0xa4 0xac 0xa7 0xaf
+binary_opcode Mov = alu 0xb4 0xbc 0xb7 0xbf
+binary_opcode SignedRightShift = alu 0xc4 0xcc 0xc7 0xcf
+
+-- The offset tells signed division and modulo, and the extending moves.
+abbrev pub binary_offset : BinaryOp → Operand → Field
+binary_offset Div operand = code 0
+binary_offset SignedDiv operand = code 1
+binary_offset Mod operand = code 0
+binary_offset SignedMod operand = code 1
+binary_offset Mov Register = code 0
+binary_offset _ _ = unused
+
+abbrev pub binary_row : BinaryOp → Width → Operand → Row
+binary_row op width operand = record { opcode = binary_opcode op width operand; dst = used; src = src_of operand; offset = binary_offset op operand; imm = imm_of operand; next = unused }
+
+-- NEG uses dst alone.
+abbrev pub negate_opcode : Width → ℕ
+negate_opcode Bits32 = 0x84
+negate_opcode Bits64 = 0x87
+
+abbrev pub negate_row : Width → Row
+negate_row width = record { opcode = negate_opcode width; dst = used; src = unused; offset = unused; imm = unused; next = unused }
+
+-- MOVSX: an opcode, and in offset how many low bits of src count.
+abbrev pub extension_row : Extension → Row
+extension_row Byte64 = record { opcode = 0xbf; dst = used; src = used; offset = code 8; imm = unused; next = unused }
+extension_row Half64 = record { opcode = 0xbf; dst = used; src = used; offset = code 16; imm = unused; next = unused }
+extension_row Word64 = record { opcode = 0xbf; dst = used; src = used; offset = code 32; imm = unused; next = unused }
+extension_row Byte32 = record { opcode = 0xbc; dst = used; src = used; offset = code 8; imm = unused; next = unused }
+extension_row Half32 = record { opcode = 0xbc; dst = used; src = used; offset = code 16; imm = unused; next = unused }

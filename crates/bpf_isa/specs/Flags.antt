@@ -1,0 +1,52 @@
+-- How the checker keeps the starts of a program, one flag a slot, and what it asks of an instruction by itself.
+use Rattle.std.specs.Prelude.{◌≡◌, ◌<◌, ◌≤◌, ℕ, ◌*◌, Bool, true, false, List, Option, Some, None, length, unwrap_or, slice_get}
+use Rattle.bpf_isa.specs.declared.instruction.Insn.{Insn}
+use Rattle.bpf_isa.specs.declared.maps.MapShape.{MapShape}
+use Rattle.bpf_isa.specs.declared.fault.PieceFault.{PieceFault}
+use Rattle.bpf_isa.specs.declared.fault.PieceFault.TheVariants.{UnknownInstruction, RegisterAboveTen, UnusedField, WritesFramePointer, NoTarget, CutOff, RunsOff, UnknownHelper, NoMap}
+use Rattle.bpf_isa.specs.Insns.{FallsThrough}
+use Rattle.bpf_isa.specs.Words.{IsWord}
+use Rattle.bpf_isa.specs.Checker.{is_start, IsStartIn, piece_at, after, HasNoFault, SparesTen, Lands, CallsHelper, NamesMap, fault_number}
+
+-- The flags are the starts.
+pub record AreStarts (bytes : List ℕ) (starts : List Bool) : Type 0 where
+  pub slots : 8 * length starts ≡ length bytes
+  pub flags : (p : ℕ) → p < length starts → slice_get starts p ≡ Some (is_start bytes p)
+
+-- A rule that a whole instruction breaks at a slot.
+abbrev pub Breaks : List ℕ → List MapShape → ℕ → Insn → PieceFault → Type 0
+Breaks bytes maps p insn WritesFramePointer = SparesTen insn → ⊥
+Breaks bytes maps p insn NoTarget = Lands bytes p insn → ⊥
+Breaks bytes maps p insn RunsOff = (length bytes ≤ 8 * after bytes p) × FallsThrough insn
+Breaks bytes maps p insn UnknownHelper = CallsHelper insn → ⊥
+Breaks bytes maps p insn NoMap = NamesMap maps insn → ⊥
+Breaks bytes maps p insn _ = ⊥
+
+-- The broken rule with the least number.
+pub record IsLeastBroken (bytes : List ℕ) (maps : List MapShape) (p : ℕ) (insn : Insn) (fault : PieceFault) : Type 0 where
+  pub applies : Breaks bytes maps p insn fault
+  pub least : (other : PieceFault) → Breaks bytes maps p insn other → fault_number fault ≤ fault_number other
+
+-- An instruction at a slot breaks no rule.
+pub record IsSound (bytes : List ℕ) (maps : List MapShape) (p : ℕ) (insn : Insn) : Type 0 where
+  pub spares : SparesTen insn
+  pub lands : Lands bytes p insn
+  pub falls : FallsThrough insn → 8 * after bytes p < length bytes
+  pub helper : CallsHelper insn
+  pub names : NamesMap maps insn
+
+-- The piece at a slot is a word whose instruction breaks no rule.
+pub record IsPiece (bytes : List ℕ) (maps : List MapShape) (p : ℕ) (insn : Insn) : Type 0 where
+  pub whole : IsWord insn (piece_at bytes p)
+  pub sound : IsSound bytes maps p insn
+
+-- What the checker keeps at a slot: the instruction of a start, and nothing at another slot.
+abbrev pub IsInsnAt : List ℕ → List MapShape → ℕ → Option Insn → Type 0
+IsInsnAt bytes maps p None = is_start bytes p ≡ false
+IsInsnAt bytes maps p (Some insn) = (is_start bytes p ≡ true) × IsPiece bytes maps p insn
+
+-- The first n slots were found without fault, and their instructions are kept.
+pub record AreInsns (bytes : List ℕ) (maps : List MapShape) (insns : List (Option Insn)) (n : ℕ) : Type 0 where
+  pub slots : length insns ≡ n
+  pub each : (p : ℕ) → p < n → IsInsnAt bytes maps p (unwrap_or (slice_get insns p) None)
+  pub clear : (p : ℕ) → p < n → IsStartIn bytes p → HasNoFault bytes maps p

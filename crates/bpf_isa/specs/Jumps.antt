@@ -1,0 +1,42 @@
+-- Jump instructions, calls and exit (RFC 9669, section 4.3): one line a row, in the table's order.
+use Rattle.std.specs.Prelude.{ℕ}
+use Rattle.bpf_isa.specs.declared.instruction.Width.{Width}
+use Rattle.bpf_isa.specs.declared.instruction.Condition.{Condition}
+use Rattle.bpf_isa.specs.declared.instruction.Condition.TheVariants.{Equal, Greater, GreaterOrEqual, BitsSet, NotEqual, SignedGreater, SignedGreaterOrEqual, Less, LessOrEqual, SignedLess, SignedLessOrEqual}
+use Rattle.bpf_isa.specs.declared.form.Operand.{Operand}
+use Rattle.bpf_isa.specs.Rows.{unused, code, used, Row, jmp, imm_of, src_of}
+
+-- JA: by offset in class JMP, by imm in class JMP32.
+abbrev pub jump_row : Row
+jump_row = record { opcode = 0x05; dst = unused; src = unused; offset = used; imm = unused; next = unused }
+
+abbrev pub jump_long_row : Row
+jump_long_row = record { opcode = 0x06; dst = unused; src = unused; offset = unused; imm = used; next = unused }
+
+-- JEQ to JSGE and JLT to JSLE: the opcodes K64 X64 K32 X32.
+abbrev pub condition_opcode : Condition → Width → Operand → ℕ
+condition_opcode Equal = jmp 0x15 0x1d 0x16 0x1e
+condition_opcode Greater = jmp 0x25 0x2d 0x26 0x2e
+condition_opcode GreaterOrEqual = jmp 0x35 0x3d 0x36 0x3e
+condition_opcode BitsSet = jmp 0x45 0x4d 0x46 0x4e
+condition_opcode NotEqual = jmp 0x55 0x5d 0x56 0x5e
+condition_opcode SignedGreater = jmp 0x65 0x6d 0x66 0x6e
+condition_opcode SignedGreaterOrEqual = jmp 0x75 0x7d 0x76 0x7e
+condition_opcode Less = jmp 0xa5 0xad 0xa6 0xae
+condition_opcode LessOrEqual = jmp 0xb5 0xbd 0xb6 0xbe
+condition_opcode SignedLess = jmp 0xc5 0xcd 0xc6 0xce
+condition_opcode SignedLessOrEqual = jmp 0xd5 0xdd 0xd6 0xde
+
+abbrev pub condition_row : Condition → Width → Operand → Row
+condition_row condition width operand = record { opcode = condition_opcode condition width operand; dst = used; src = src_of operand; offset = used; imm = imm_of operand; next = unused }
+
+-- CALL: src_reg 0 calls a helper by its number, src_reg 1 a local function.
+abbrev pub call_helper_row : Row
+call_helper_row = record { opcode = 0x85; dst = unused; src = code 0; offset = unused; imm = used; next = unused }
+
+abbrev pub call_local_row : Row
+call_local_row = record { opcode = 0x85; dst = unused; src = code 1; offset = unused; imm = used; next = unused }
+
+-- EXIT uses nothing.
+abbrev pub exit_row : Row
+exit_row = record { opcode = 0x95; dst = unused; src = unused; offset = unused; imm = unused; next = unused }

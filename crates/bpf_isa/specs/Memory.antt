@@ -1,0 +1,69 @@
+-- Loads, stores and atomic operations (RFC 9669, sections 5.1 to 5.3).
+use Rattle.std.specs.Prelude.{ℕ}
+use Rattle.bpf_isa.specs.declared.instruction.Width.{Width}
+use Rattle.bpf_isa.specs.declared.instruction.Width.TheVariants.{Bits32, Bits64}
+use Rattle.bpf_isa.specs.declared.instruction.Size.{Size}
+use Rattle.bpf_isa.specs.declared.instruction.Size.TheVariants.{Word, Half, Byte, Double}
+use Rattle.bpf_isa.specs.declared.instruction.SignedSize.{SignedSize}
+use Rattle.bpf_isa.specs.declared.instruction.SignedSize.TheVariants.{Word as SignedWord, Half as SignedHalf, Byte as SignedByte}
+use Rattle.bpf_isa.specs.declared.instruction.AtomicOp.{AtomicOp}
+use Rattle.bpf_isa.specs.declared.instruction.AtomicOp.TheVariants.{Add, Or, And, Xor, FetchAdd, FetchOr, FetchAnd, FetchXor, Exchange, CompareExchange}
+use Rattle.bpf_isa.specs.Rows.{unused, code, used, Row}
+
+-- The opcodes of the sizes W, H, B, DW.
+abbrev pub sizes : ℕ → ℕ → ℕ → ℕ → Size → ℕ
+sizes w h b dw Word = w
+sizes w h b dw Half = h
+sizes w h b dw Byte = b
+sizes w h b dw Double = dw
+
+-- MEM in class LDX.
+abbrev pub load_opcode : Size → ℕ
+load_opcode = sizes 0x61 0x69 0x71 0x79
+
+abbrev pub load_row : Size → Row
+load_row size = record { opcode = load_opcode size; dst = used; src = used; offset = used; imm = unused; next = unused }
+
+-- MEMSX in class LDX.
+abbrev pub load_signed_opcode : SignedSize → ℕ
+load_signed_opcode SignedWord = 0x81
+load_signed_opcode SignedHalf = 0x89
+load_signed_opcode SignedByte = 0x91
+
+abbrev pub load_signed_row : SignedSize → Row
+load_signed_row size = record { opcode = load_signed_opcode size; dst = used; src = used; offset = used; imm = unused; next = unused }
+
+-- MEM in class ST.
+abbrev pub store_immediate_opcode : Size → ℕ
+store_immediate_opcode = sizes 0x62 0x6a 0x72 0x7a
+
+abbrev pub store_immediate_row : Size → Row
+store_immediate_row size = record { opcode = store_immediate_opcode size; dst = used; src = unused; offset = used; imm = used; next = unused }
+
+-- MEM in class STX.
+abbrev pub store_register_opcode : Size → ℕ
+store_register_opcode = sizes 0x63 0x6b 0x73 0x7b
+
+abbrev pub store_register_row : Size → Row
+store_register_row size = record { opcode = store_register_opcode size; dst = used; src = used; offset = used; imm = unused; next = unused }
+
+-- ATOMIC in class STX, of 4 and 8 bytes.
+abbrev pub atomic_opcode : Width → ℕ
+atomic_opcode Bits32 = 0xc3
+atomic_opcode Bits64 = 0xdb
+
+-- imm tells the operation.
+abbrev pub atomic_code : AtomicOp → ℕ
+atomic_code Add = 0x00
+atomic_code Or = 0x40
+atomic_code And = 0x50
+atomic_code Xor = 0xa0
+atomic_code FetchAdd = 0x01
+atomic_code FetchOr = 0x41
+atomic_code FetchAnd = 0x51
+atomic_code FetchXor = 0xa1
+atomic_code Exchange = 0xe1
+atomic_code CompareExchange = 0xf1
+
+abbrev pub atomic_row : AtomicOp → Width → Row
+atomic_row op width = record { opcode = atomic_opcode width; dst = used; src = used; offset = used; imm = code (atomic_code op); next = unused }

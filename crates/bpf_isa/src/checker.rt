@@ -1,0 +1,185 @@
+//! The checker: the first fault of the bytes, or a program.
+ghost use Rattle.std.specs.Prelude.{◌≡◌, ◌≤◌, ◌<◌, ◌⊎◌, ◌*◌, ◌↔◌, IsTrue, IfSome, IfNone, IfOk, OnOk, IfErr, List, ℕ, length, slice_index};
+ghost use Rattle.bpf_isa.specs.Checker.{IsStartIn, AreSlots, piece_at, after, HasFault, HasNoFault, IsLeastFault, IsFirstFault, IsAccepted, IsRefused};
+ghost use Rattle.bpf_isa.specs.Flags.{AreStarts, AreInsns, IsLeastBroken, IsPiece, IsSound};
+ghost use Rattle.bpf_isa.specs.WordFaults.{IsLeastWordFault};
+ghost use Rattle.bpf_isa.specs.Words.{IsWord};
+ghost use Rattle.bpf_isa.specs.declared.maps.MapShape.{MapShape};
+
+use crate::decoder::word;
+use crate::fault::{LoadFault, PieceFault, WordFault};
+use crate::fields::read;
+use crate::instruction::Insn;
+use crate::maps::MapTable;
+use crate::opcode::form_of;
+use crate::rules::lands;
+use std::alloc::{AllocError, Global};
+
+/// The bytes of the piece at a start.
+fn piece_of(bytes: &[u8], slot: usize) -> &[u8]
+    requires slots { AreSlots bytes.now }
+    requires start { IsStartIn bytes.now slot }
+    ensures value { result.now ≡ piece_at bytes.now slot }
+    ensures fits { (length result.now ≡ 8) ⊎ ((length result.now ≡ 16) × (slice_index result.now 0 ≡ 24)) }
+{
+    let from = 8 * slot;
+    let to = if bytes[from] == 0x18 && from + 16 <= bytes.len() {
+        from + 16
+    } else {
+        from + 8
+    };
+    &bytes[from..to]
+}
+
+/// The fault of a piece that is no word.
+fn word_fault(piece: &[u8], fault: WordFault) -> PieceFault
+    requires size { (length piece.now ≡ 8) ⊎ (length piece.now ≡ 16) }
+    requires least { IsLeastWordFault piece.now fault }
+    ensures { (bytes : List ℕ) (maps : List MapShape) (slot : ℕ)
+        → piece_at bytes slot ≡ piece.now → IsLeastFault bytes maps slot result }
+{
+    match fault {
+        WordFault::UnknownInstruction => PieceFault::UnknownInstruction,
+        WordFault::RegisterAboveTen => PieceFault::RegisterAboveTen,
+        WordFault::UnusedField => PieceFault::UnusedField,
+        WordFault::CutOff => cut_off_fault(piece),
+    }
+}
+
+/// The fault of a wide instruction without its second slot, which may write r10.
+fn cut_off_fault(piece: &[u8]) -> PieceFault
+    requires size { (length piece.now ≡ 8) ⊎ (length piece.now ≡ 16) }
+    requires least { IsLeastWordFault piece.now WordFault.CutOff }
+    ensures { (bytes : List ℕ) (maps : List MapShape) (slot : ℕ)
+        → piece_at bytes slot ≡ piece.now → IsLeastFault bytes maps slot result }
+{
+    let fields = read(piece);
+    match form_of(fields) {
+        Some(_) => {
+            if fields.dst == 10 {
+                PieceFault::WritesFramePointer
+            } else {
+                PieceFault::CutOff
+            }
+        }
+        None => PieceFault::CutOff,
+    }
+}
+
+/// The rule that an instruction at a slot breaks.
+fn broken_rule(
+    insn: &Insn,
+    slot: usize,
+    is_last: bool,
+    starts: &[bool],
+    maps: &MapTable,
+) -> Option<PieceFault>
+    requires { slot ≤ 65535 }
+    ensures found { (bytes : List ℕ) → AreStarts bytes starts.now → (IsTrue is_last ↔ (length bytes ≤ 8 * after bytes slot))
+        → IfSome result (IsLeastBroken bytes maps.now slot insn.now) }
+    ensures none { (bytes : List ℕ) → AreStarts bytes starts.now → (IsTrue is_last ↔ (length bytes ≤ 8 * after bytes slot))
+        → IfNone result (IsSound bytes maps.now slot insn.now) }
+{
+    if !insn.spares_ten() {
+        return Some(PieceFault::WritesFramePointer);
+    }
+    if !lands(insn, slot, starts) {
+        return Some(PieceFault::NoTarget);
+    }
+    if is_last && insn.falls_through() {
+        return Some(PieceFault::RunsOff);
+    }
+    if !insn.calls_helper() {
+        return Some(PieceFault::UnknownHelper);
+    }
+    if !insn.names_map(maps) {
+        return Some(PieceFault::NoMap);
+    }
+    None
+}
+
+/// Whether no piece follows the one at a start.
+fn is_last(bytes: &[u8], slot: usize) -> bool
+    requires slots { AreSlots bytes.now }
+    requires start { IsStartIn bytes.now slot }
+    ensures { IsTrue result ↔ (length bytes.now ≤ 8 * after bytes.now slot) }
+{
+    let after = if bytes[8 * slot] == 0x18 {
+        slot + 2
+    } else {
+        slot + 1
+    };
+    bytes.len() <= 8 * after
+}
+
+/// The instruction at a start, or its fault with the least number.
+fn piece(
+    bytes: &[u8],
+    slot: usize,
+    starts: &[bool],
+    maps: &MapTable,
+) -> Result<Insn, PieceFault>
+    requires slots { AreSlots bytes.now }
+    requires start { IsStartIn bytes.now slot }
+    requires flags { AreStarts bytes.now starts.now }
+    ensures ok { IfOk result (IsPiece bytes.now maps.now slot) }
+    ensures clear { OnOk result (HasNoFault bytes.now maps.now slot) }
+    ensures fault { IfErr result (IsLeastFault bytes.now maps.now slot) }
+{
+    let piece = piece_of(bytes, slot);
+    let insn = match word(piece) {
+        Ok(insn) => insn,
+        Err(fault) => return Err(word_fault(piece, fault)),
+    };
+    match broken_rule(&insn, slot, is_last(bytes, slot), starts, maps) {
+        Some(fault) => Err(fault),
+        None => Ok(insn),
+    }
+}
+
+/// The starts, one flag a slot.
+pub fn starts_of(alloc: Global, bytes: &[u8]) -> Result<Vec<bool>, AllocError>
+    requires { AreSlots bytes.now }
+    ensures { IfOk result (λ starts. AreStarts bytes.now starts.items) }
+{
+    let mut starts = Vec::with_capacity(alloc, bytes.len() / 8)?;
+    let mut is_start = true;
+    for slot in 0..bytes.len() / 8 {
+        starts.push(is_start)?;
+        is_start = !(is_start && bytes[8 * slot] == 0x18);
+    }
+    Ok(starts)
+}
+
+/// The instructions at the starts, or the first fault.
+pub fn insns_of(
+    alloc: Global,
+    bytes: &[u8],
+    starts: &[bool],
+    maps: &MapTable,
+) -> Result<Vec<Option<Insn>>, LoadFault>
+    requires slots { AreSlots bytes.now }
+    requires flags { AreStarts bytes.now starts.now }
+    ensures ok { IfOk result (λ insns. AreInsns bytes.now maps.now insns.items (length starts.now)) }
+    ensures fault { IfErr result (IsRefused bytes.now maps.now) }
+{
+    let mut insns = match Vec::with_capacity(alloc, starts.len()) {
+        Ok(insns) => insns,
+        Err(_) => return Err(LoadFault::Memory),
+    };
+    for slot in 0..starts.len() {
+        if starts[slot] {
+            match piece(bytes, slot, starts, maps) {
+                Ok(insn) => {
+                    if insns.push(Some(insn)).is_err() {
+                        return Err(LoadFault::Memory);
+                    }
+                }
+                Err(fault) => return Err(LoadFault::At { slot, fault }),
+            }
+        } else if insns.push(None).is_err() {
+            return Err(LoadFault::Memory);
+        }
+    }
+    Ok(insns)
+}

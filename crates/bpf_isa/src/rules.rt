@@ -1,0 +1,133 @@
+//! What the checker asks of an instruction by itself.
+ghost use Rattle.std.specs.Prelude.{◌≡◌, ◌≤◌, ◌↔◌, IsTrue, List, ℕ};
+ghost use Rattle.bpf_isa.specs.Checker.{SparesTen, CallsHelper, NamesMap, Lands};
+ghost use Rattle.bpf_isa.specs.Flags.{AreStarts};
+
+use crate::instruction::{AtomicOp, Insn};
+use crate::maps::MapTable;
+use crate::register::Reg;
+
+impl Insn {
+    ghost use Rattle.bpf_isa.specs.Insns.{slots_of, FallsThrough, target_of, written_of};
+    ghost use Rattle.bpf_isa.specs.Words.{form_of};
+
+    /// How many slots it takes, 1 or 2.
+    pub fn slots(&self) -> usize
+        ensures { result ≡ slots_of self.now }
+    {
+        match self {
+            Insn::LoadNumber { .. } | Insn::LoadMap { .. } | Insn::LoadMapValue { .. } => 2,
+            _ => 1,
+        }
+    }
+
+    /// Whether the instruction after it may be the next to run.
+    pub fn falls_through(&self) -> bool
+        ensures { IsTrue result ↔ FallsThrough self.now }
+    {
+        !matches!(
+            self,
+            Insn::Jump { .. } | Insn::JumpLong { .. } | Insn::Exit
+        )
+    }
+
+    /// The slot that a jump or local call at a slot names, as a whole number.
+    pub fn target(&self, slot: usize) -> Option<i64>
+        requires { slot ≤ 65535 }
+        ensures { result ≡ target_of slot self.now }
+    {
+        let next = slot as i64 + 1;
+        match self {
+            Insn::JumpIf { offset, .. } | Insn::Jump { offset } => Some(next + i64::from(*offset)),
+            Insn::JumpLong { distance } | Insn::CallLocal { distance } => {
+                Some(next + i64::from(*distance))
+            }
+            _ => None,
+        }
+    }
+
+    /// The register that it replaces itself.
+    pub fn written(&self) -> Option<Reg>
+        ensures { result ≡ written_of self.now }
+    {
+        match self {
+            Insn::Binary { dst, .. }
+            | Insn::Negate { dst, .. }
+            | Insn::SignExtend { dst, .. }
+            | Insn::SwapBytes { dst, .. }
+            | Insn::Load { dst, .. }
+            | Insn::LoadSigned { dst, .. }
+            | Insn::LoadNumber { dst, .. }
+            | Insn::LoadMap { dst, .. }
+            | Insn::LoadMapValue { dst, .. } => Some(*dst),
+            Insn::Atomic { op, src, .. } => op.replaced(*src),
+            Insn::CallHelper { .. } => Some(Reg::of(0)),
+            _ => None,
+        }
+    }
+
+    /// Whether it leaves r10 as it is.
+    pub fn spares_ten(&self) -> bool
+        ensures { IsTrue result ↔ SparesTen self.now }
+    {
+        match self.written() {
+            Some(register) => register.number() < 10,
+            None => true,
+        }
+    }
+
+    /// Whether a helper that it calls exists.
+    pub fn calls_helper(&self) -> bool
+        ensures { IsTrue result ↔ CallsHelper self.now }
+    {
+        match self {
+            Insn::CallHelper { helper } => matches!(*helper, 1 | 2 | 64),
+            _ => true,
+        }
+    }
+
+    /// Whether a map that it names exists, and has the byte that it names.
+    pub fn names_map(&self, maps: &MapTable) -> bool
+        ensures { IsTrue result ↔ NamesMap maps.now self.now }
+    {
+        match self {
+            Insn::LoadMap { map, .. } => (*map as usize) < maps.len(),
+            Insn::LoadMapValue { map, offset, .. } => match maps.shape(*map as usize) {
+                Some(shape) => {
+                    u64::from(*offset) < u64::from(shape.value_size) * u64::from(shape.entries)
+                }
+                None => false,
+            },
+            _ => true,
+        }
+    }
+}
+
+impl AtomicOp {
+    ghost use Rattle.bpf_isa.specs.Insns.{replaced_by};
+
+    /// The register that it replaces by what it fetched.
+    pub fn replaced(self, src: Reg) -> Option<Reg>
+        ensures { result ≡ replaced_by self src }
+    {
+        match self {
+            AtomicOp::Add | AtomicOp::Or | AtomicOp::And | AtomicOp::Xor => None,
+            AtomicOp::CompareExchange => Some(Reg::of(0)),
+            _ => Some(src),
+        }
+    }
+}
+
+/// Whether what a jump or local call at a slot names is a start.
+pub fn lands(insn: &Insn, slot: usize, starts: &[bool]) -> bool
+    requires { slot ≤ 65535 }
+    ensures { (bytes : List ℕ) → AreStarts bytes starts.now → (IsTrue result ↔ Lands bytes slot insn.now) }
+{
+    match insn.target(slot) {
+        Some(target) => match usize::try_from(target) {
+            Ok(target) => starts.get(target).copied().unwrap_or(false),
+            Err(_) => false,
+        },
+        None => true,
+    }
+}

@@ -1,0 +1,51 @@
+//! The bytes of a word.
+ghost use Rattle.std.specs.Prelude.{◌≡◌, ◌<◌, All, ℕ};
+ghost use Rattle.bpf_isa.specs.Words.{fields_of};
+
+use crate::fields::{Fields, written};
+use std::marker::Model;
+
+/// The bytes of a word: 8, or 16 of a wide instruction.
+#[derive(Drop)]
+pub struct Words {
+    bytes: [u8; 16],
+    is_wide: bool,
+}
+
+impl Model for Words {
+    ghost use Rattle.std.specs.Prelude.{List, ℕ, take, if◌then◌else◌};
+
+    ghost Value = { List ℕ };
+
+    ghost view = { λ w. take (if w.is_wide then 16 else 8) w.bytes };
+}
+
+impl Words {
+    ghost use Rattle.std.specs.Prelude.{◌⊎◌, ◌≢◌, length};
+
+    /// The bytes of the fields.
+    pub(crate) fn of(fields: Fields) -> Words
+        requires registers { (fields.dst < 16) × (fields.src < 16) }
+        requires narrow { (fields.opcode ≡ 24) ⊎ ((fields.next ≡ 0) × (fields.reserved ≡ 0)) }
+        ensures value { fields_of result ≡ fields }
+        ensures within { All (λ byte. byte < 256) result }
+        ensures wide { fields.opcode ≡ 24 → length result ≡ 16 }
+        ensures short { fields.opcode ≢ 24 → length result ≡ 8 }
+    {
+        Words {
+            bytes: written(fields),
+            is_wide: fields.opcode == 0x18,
+        }
+    }
+
+    /// The bytes.
+    pub fn as_slice(&self) -> &[u8]
+        ensures { result.now ≡ self.now }
+    {
+        if self.is_wide {
+            &self.bytes
+        } else {
+            &self.bytes[..8]
+        }
+    }
+}
