@@ -18,6 +18,7 @@ mod unused;
 mod words;
 
 pub use decoder::decode;
+pub use encoder::encode;
 pub use fault::{LoadFault, MapFault, PieceFault, WordFault};
 pub use form::{Form, Operand};
 pub use instruction::{

@@ -22,6 +22,6 @@ pub first_round-Ok : (labels found : Labels) (slot number : ℕ) (rest line left
     → first_round found next (number + 1) (lines left) ≡ first_round labels slot number (lines rest)
 first_round-Ok labels found slot number rest line left label next h first others name e put =
     let same : found ≡ labels_with labels slot (label_of (before 10 rest)) =
-      fun_ext put ∙ ap (labels_with labels slot) (name ∙ ap label_of first) in
+    fun_ext put ∙ ap (labels_with labels slot) (name ∙ ap label_of first) in
     let end : line_end labels slot (before 10 rest) ≡ Ok next = ap (line_end labels slot) (sym first) ∙ e in
     rw (lines-cut rest h, end, others, same) refl

@@ -12,7 +12,7 @@ use std::alloc::Global;
 use std::collections::HashMap;
 
 /// The slot of each label of a listing, or its first fault of the first round.
-pub fn first_round<'a>(alloc: Global, text: &'a [u8]) -> Result<HashMap<&'a [u8], usize>, AsmFault>
+pub fn first_round<'a>(alloc: Global, text: &'a [u8]) -> Result<HashMap<&'a [u8], u16>, AsmFault>
     ensures ok { IfOk result (λ labels.
         first_round no_label 0 1 (lines text.now) ≡ Ok (places labels)) }
     ensures err { IfErr result (IsFaultOf (first_round no_label 0 1 (lines text.now))) }
@@ -25,7 +25,7 @@ pub fn first_round<'a>(alloc: Global, text: &'a [u8]) -> Result<HashMap<&'a [u8]
         let line = before(rest, b'\n');
         match line_end(&labels, slot, line) {
             Ok(next) => {
-                match put_labels(&mut labels, label_of(line), slot) {
+                match put_labels(&mut labels, label_of(line), slot as u16) {
                     Ok(()) => slot = next,
                     Err(_) => return Err(AsmFault::Memory),
                 }
@@ -39,7 +39,7 @@ pub fn first_round<'a>(alloc: Global, text: &'a [u8]) -> Result<HashMap<&'a [u8]
 }
 
 // The slot after a line, or its first fault.
-fn line_end(labels: &HashMap<&[u8], usize>, slot: usize, line: &[u8]) -> Result<usize, LineFault>
+fn line_end(labels: &HashMap<&[u8], u16>, slot: usize, line: &[u8]) -> Result<usize, LineFault>
     requires { slot ≤ 65535 }
     ensures value { result ≡ line_end (places labels.now) slot line.now }
     ensures within { IfOk result (λ next. next ≤ 65535) }

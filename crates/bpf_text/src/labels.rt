@@ -7,7 +7,7 @@ use std::alloc::{AllocError, Global};
 use std::collections::HashMap;
 
 /// No label.
-pub fn no_labels<'a>(alloc: Global) -> HashMap<&'a [u8], usize>
+pub fn no_labels<'a>(alloc: Global) -> HashMap<&'a [u8], u16>
     ensures { (name : List ℕ) → places result name ≡ None }
 {
     HashMap::new(alloc)
@@ -15,9 +15,9 @@ pub fn no_labels<'a>(alloc: Global) -> HashMap<&'a [u8], usize>
 
 /// Puts a line's label, if it has one, at a slot.
 pub fn put_labels<'a>(
-    labels: &mut HashMap<&'a [u8], usize>,
+    labels: &mut HashMap<&'a [u8], u16>,
     label: Option<&'a [u8]>,
-    slot: usize,
+    slot: u16,
 ) -> Result<(), AllocError>
     ensures { OnOk result ((q : List ℕ) → places labels.new q
         ≡ labels_with (places labels.old) slot (option_map (λ r. r.now) label.entry) q) }
@@ -29,7 +29,7 @@ pub fn put_labels<'a>(
 }
 
 /// Whether a line's label is there already.
-pub fn is_defined(labels: &HashMap<&[u8], usize>, label: Option<&[u8]>) -> bool
+pub fn is_defined(labels: &HashMap<&[u8], u16>, label: Option<&[u8]>) -> bool
     ensures { result ≡ is_defined (places labels.now) (option_map (λ r. r.now) label.entry) }
 {
     match label {
@@ -39,9 +39,9 @@ pub fn is_defined(labels: &HashMap<&[u8], usize>, label: Option<&[u8]>) -> bool
 }
 
 fn put_label<'a>(
-    labels: &mut HashMap<&'a [u8], usize>,
+    labels: &mut HashMap<&'a [u8], u16>,
     name: &'a [u8],
-    slot: usize,
+    slot: u16,
 ) -> Result<(), AllocError>
     ensures { OnOk result ((q : List ℕ) → places labels.new q
         ≡ labels_with (places labels.old) slot (Some name.now) q) }
@@ -53,7 +53,7 @@ fn put_label<'a>(
 }
 
 /// The slot of a label, if there is one.
-pub fn slot_of(labels: &HashMap<&[u8], usize>, name: &[u8]) -> Option<usize>
+pub fn slot_of(labels: &HashMap<&[u8], u16>, name: &[u8]) -> Option<u16>
     ensures { result ≡ places labels.now name.now }
 {
     labels.get(name).copied()

@@ -14,6 +14,7 @@ mod mnemonic;
 mod names;
 mod operand;
 mod reading;
+mod second_round;
 mod statement;
 mod table;
 #[cfg(test)]

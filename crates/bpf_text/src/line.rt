@@ -3,11 +3,11 @@ ghost use Rattle.std.specs.Prelude.{◌≡◌, ◌≤◌, option_map, Ok, Err, n
 ghost use Rattle.std.specs.List.{list_all};
 ghost use Rattle.bpf_isa.specs.Programs.{slots_of};
 ghost use Rattle.bpf_text.specs.Cuts.{code_of, label_of, body_of, is_text, is_labelled, mnemonic_text, operands_text};
-ghost use Rattle.bpf_text.specs.Listing.{insn_of, insn_of_body, read_insn, slot_after};
+ghost use Rattle.bpf_text.specs.Listing.{insn_of, insn_of_body, read_insn, slot_after, target_of_line, target_of_body};
 
 use crate::cut::{after, before, find, find_blank, is_name, is_text, trim, trim_start};
 use crate::fault::{LineFault, OperandFault};
-use crate::statement::instruction;
+use crate::statement::{instruction, target_name};
 use crate::table::named;
 use bpf_isa::Insn;
 
@@ -114,7 +114,7 @@ pub fn slot_after(slot: usize, line: &[u8]) -> Result<usize, LineFault>
     }
 }
 
-fn slot_after_insn(slot: usize, count: usize) -> Result<usize, LineFault>
+pub fn slot_after_insn(slot: usize, count: usize) -> Result<usize, LineFault>
     requires within { slot ≤ 65535 }
     requires few { count ≤ 2 }
     ensures within { IfOk result (λ next. next ≤ 65535) }
@@ -136,5 +136,24 @@ pub fn slots_of(insn: &Insn) -> usize
     match *insn {
         Insn::LoadNumber { .. } | Insn::LoadMap { .. } | Insn::LoadMapValue { .. } => 2,
         _ => 1,
+    }
+}
+
+/// The name of the instruction's target, if it has one.
+pub fn target_of(line: &[u8]) -> Option<&[u8]>
+    ensures { option_map (λ r. r.now) result ≡ target_of_line line.now }
+{
+    target_of_body(body_of(line))
+}
+
+fn target_of_body(body: &[u8]) -> Option<&[u8]>
+    ensures { option_map (λ r. r.now) result ≡ target_of_body body.now }
+{
+    if body.is_empty() {
+        return None;
+    }
+    match named(mnemonic_text(body)) {
+        None => None,
+        Some(mnemonic) => target_name(mnemonic, operands_text(body)),
     }
 }

@@ -10,8 +10,8 @@ pub returns-in-Err-clause-err : goal.returns-in-Err-clause-err
 returns-in-Err-clause-err c =
     let more : 0 < length c.loop-rest.rest.now = grind (arith, common_steps) in
     sym c.loop-rest.invariant.round
-      ∙ first_round-Err (places c.loop-rest.labels) c.loop-rest.slot c.loop-rest.number c.loop-rest.rest.now _ _ more
-        c.before-line.ensures (sym c.in-Err.ensures.value)
+    ∙ first_round-Err (places c.loop-rest.labels) c.loop-rest.slot c.loop-rest.number c.loop-rest.rest.now _ _ more
+    c.before-line.ensures (sym c.in-Err.ensures.value)
 
 pub loop-rest-preserved : goal.loop-rest-preserved
 loop-rest-preserved c =
@@ -22,5 +22,5 @@ loop-rest-preserved c =
       round = first_round-Ok (places c.loop-rest.labels) (places c.put_labels.new.labels) c.loop-rest.slot c.loop-rest.number
           c.loop-rest.rest.now _ _ _ c.in-Ok.next more c.before-line.ensures c.after-rest.ensures c.label_of.ensures
           (sym c.in-Ok.ensures.value) c.in-Ok-put_labels.ensures
-        ∙ c.loop-rest.invariant.round;
+          ∙ c.loop-rest.invariant.round;
     }

@@ -8,7 +8,7 @@ abbrev pub invariant-loop-rest : goal.invariant-loop-rest
 invariant-loop-rest l = record {
   within : l.slot ≤ 65535;
   count : l.number + length l.rest ≤ length l.text + 1;
-  round : first_round (places l.labels) l.slot l.number (lines l.rest) ≡ first_round no_label 0 1 (lines l.text)
+  round : first_round (places l.labels) l.slot l.number (lines l.rest) ≡ first_round no_label 0 1 (lines l.text);
 }
 
 abbrev pub decreases-loop-rest : goal.decreases-loop-rest
