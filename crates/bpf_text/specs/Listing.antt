@@ -1,12 +1,11 @@
 -- A listing: its lines, its faults in two rounds, and its bytes. It is bpfdb's own choice.
-use Rattle.std.specs.Prelude.{ℕ, ℤ, pos, negsuc, ◌≡◌, ◌+◌, ◌-ℤ◌, ◌^◌, Bool, true, false, not, nat_le, nat_lt, is_some, if◌then◌else◌, List, [], ◌∷◌, ◌++◌, Option, Some, None, Result, Ok, Err, ⊤}
+use Rattle.std.specs.Prelude.{ℕ, ℤ, pos, negsuc, ◌≡◌, ◌+◌, ◌-ℤ◌, Bool, true, false, not, nat_le, nat_lt, is_some, if◌then◌else◌, List, [], ◌∷◌, ◌++◌, Option, Some, None, Result, Ok, Err, ⊤}
 use Rattle.std.specs.List.{list_all}
 use Rattle.std.specs.Str.{bytes_eq}
 use Rattle.bpf_isa.specs.declared.instruction.Insn.{Insn}
 use Rattle.bpf_isa.specs.declared.instruction.Insn.TheVariants.{JumpIf, Jump, JumpLong, CallLocal}
 use Rattle.bpf_isa.specs.Programs.{slots_of}
 use Rattle.bpf_isa.specs.Words.{IsWord}
-use Rattle.bpf_text.specs.declared.fault.OperandFault.{OperandFault}
 use Rattle.bpf_text.specs.declared.fault.OperandFault.TheVariants as operand
 use Rattle.bpf_text.specs.declared.fault.LineFault.{LineFault}
 use Rattle.bpf_text.specs.declared.fault.LineFault.TheVariants.{UnknownMnemonic, WrongOperands, OutOfRange, LabelTwice, UnknownLabel, NotText, TooManySlots}
@@ -150,6 +149,11 @@ Spells (Ok (Some insn)) slot bytes Follows = (word rest : List ℕ) × (bytes �
 abbrev pub AreBytes : Labels → ℕ → List (List ℕ) → List ℕ → Type 0
 AreBytes labels slot [] bytes = bytes ≡ []
 AreBytes labels slot (line ∷ rest) bytes = Spells (resolved labels slot line) slot bytes (λ next more. AreBytes labels next rest more)
+
+-- Bytes that grew by those of an instruction, if there is one.
+abbrev pub AppendsWord : LineReading (Option Insn) → List ℕ → List ℕ → Type 0
+AppendsWord (Ok (Some insn)) old new = (word : List ℕ) × (new ≡ old ++ word) × IsWord insn word
+AppendsWord reading old new = new ≡ old
 
 -- A listing without a fault, and its bytes.
 pub record IsListing (text bytes : List ℕ) : Type 0 where

@@ -1,6 +1,7 @@
 //! The texts of BPF programs: the assembler and the disassembler, over readers and writers that count.
 #![tactic(auto)]
 
+mod assembler;
 mod counted;
 mod cut;
 mod disassembler;
@@ -22,6 +23,7 @@ mod tests;
 mod token;
 mod writing;
 
+pub use assembler::assemble;
 pub use counted::Counted;
 pub use disassembler::disassemble;
 pub use fault::{AsmFault, LineFault, OperandFault, ReadFault, WriteFault};

@@ -1,5 +1,5 @@
 -- Each turn is a step of the round.
-use Rattle.std.proofs.Common.{◌≡◌, ◌<◌, ◌∙◌, length, ap, sym, arith}
+use Rattle.std.proofs.Common.{◌<◌, ◌∙◌, length, ap, sym, arith}
 use Rattle.std.proofs.lemmas.Grind.{common_steps}
 use Rattle.bpf_text.proofs.Cutting.{length-after}
 use Rattle.bpf_text.proofs.Rounds.{first_round-Err, first_round-Ok}
