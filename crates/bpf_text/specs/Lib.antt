@@ -1,6 +1,13 @@
 pub mod Canonical
 pub mod Counted
+pub mod Cuts
+pub mod Faults
+pub mod Listing
 pub mod Mnemonics
+pub mod Named
 pub mod Operands
+pub mod Placed
 pub mod Reading
+pub mod Statements
+pub mod Tokens
 pub mod Writing

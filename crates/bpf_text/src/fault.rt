@@ -1,4 +1,6 @@
-// What reading and writing a text can answer.
+//! What reading, writing and assembling a text can answer.
+ghost use Rattle.std.specs.Prelude.{◌≡◌};
+ghost use Rattle.bpf_text.specs.Faults.{fault_number, fault_line};
 
 /// A reader answered an error.
 #[derive(Clone, Copy)]
@@ -7,3 +9,86 @@ pub struct ReadFault;
 /// A writer took no more: it answered an error, or no byte of a piece that isn't empty.
 #[derive(Clone, Copy)]
 pub struct WriteFault;
+
+/// What is wrong with operands.
+#[derive(Clone, Copy)]
+pub enum OperandFault {
+    /// They are not of the mnemonic's form.
+    Wrong,
+    /// They are, and a number is out of its range.
+    OutOfRange,
+}
+
+/// What is wrong with a line of a listing.
+#[derive(Clone, Copy)]
+pub enum LineFault {
+    /// A1: no instruction has this mnemonic.
+    UnknownMnemonic,
+    /// A2: the operands are not of the mnemonic's form.
+    WrongOperands,
+    /// A3: a number, or the distance of a target, is out of its range.
+    OutOfRange,
+    /// A4: an earlier line has the label.
+    LabelTwice,
+    /// A5: no line has the label that a target names.
+    UnknownLabel,
+    /// A6: a byte that may only stand in comments.
+    NotText,
+    /// A8: the instruction would pass slot 65,534.
+    TooManySlots,
+}
+
+/// Why a listing isn't assembled.
+#[derive(Clone, Copy)]
+pub enum AsmFault {
+    /// The first fault, and its line, counted from 1.
+    Line(LineFault, usize),
+    /// A7: out of memory.
+    Memory,
+}
+
+impl AsmFault {
+    /// Its number: 1 for A1 and so on.
+    pub fn number(&self) -> u8
+        ensures { result ≡ fault_number self.now }
+    {
+        match *self {
+            AsmFault::Line(fault, _) => match fault {
+                LineFault::UnknownMnemonic => 1,
+                LineFault::WrongOperands => 2,
+                LineFault::OutOfRange => 3,
+                LineFault::LabelTwice => 4,
+                LineFault::UnknownLabel => 5,
+                LineFault::NotText => 6,
+                LineFault::TooManySlots => 8,
+            },
+            AsmFault::Memory => 7,
+        }
+    }
+
+    /// Its text.
+    pub fn text(&self) -> &'static str {
+        match *self {
+            AsmFault::Line(fault, _) => match fault {
+                LineFault::UnknownMnemonic => "unknown mnemonic",
+                LineFault::WrongOperands => "wrong operands",
+                LineFault::OutOfRange => "number out of range",
+                LineFault::LabelTwice => "label defined twice",
+                LineFault::UnknownLabel => "unknown label",
+                LineFault::NotText => "byte outside ASCII text",
+                LineFault::TooManySlots => "too many slots",
+            },
+            AsmFault::Memory => "out of memory",
+        }
+    }
+
+    /// The line of the fault, counted from 1; none for want of memory.
+    pub fn line(&self) -> Option<usize>
+        ensures { result ≡ fault_line self.now }
+    {
+        match *self {
+            AsmFault::Line(_, line) => Some(line),
+            AsmFault::Memory => None,
+        }
+    }
+}

@@ -1,22 +1,32 @@
 //! The texts of BPF programs: the assembler and the disassembler, over readers and writers that count.
 #![tactic(auto)]
 
+mod assembler;
 mod counted;
+mod cut;
 mod disassembler;
 mod fault;
+mod first_round;
 mod hexadecimal;
 mod insn;
+mod labels;
+mod line;
 mod mnemonic;
 mod names;
 mod operand;
 mod reading;
+mod second_round;
+mod statement;
+mod table;
 #[cfg(test)]
 mod tests;
+mod token;
 mod writing;
 
+pub use assembler::assemble;
 pub use counted::Counted;
 pub use disassembler::disassemble;
-pub use fault::{ReadFault, WriteFault};
+pub use fault::{AsmFault, LineFault, OperandFault, ReadFault, WriteFault};
 pub use hexadecimal::put_hexadecimal;
 pub use insn::{put_insn, put_label, write_insn};
 pub use mnemonic::Mnemonic;

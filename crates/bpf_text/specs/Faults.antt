@@ -1,0 +1,26 @@
+-- The faults of listings and their numbers. They are bpfdb's own choice.
+use Rattle.std.specs.Prelude.{ℕ, Option, Some, None}
+use Rattle.bpf_text.specs.declared.fault.LineFault.{LineFault}
+use Rattle.bpf_text.specs.declared.fault.LineFault.TheVariants.{UnknownMnemonic, WrongOperands, OutOfRange, LabelTwice, UnknownLabel, NotText, TooManySlots}
+use Rattle.bpf_text.specs.declared.fault.AsmFault.{AsmFault}
+use Rattle.bpf_text.specs.declared.fault.AsmFault.TheVariants.{Line, Memory}
+
+-- The number of a fault of a line.
+abbrev pub line_fault_number : LineFault → ℕ
+line_fault_number UnknownMnemonic = 1
+line_fault_number WrongOperands = 2
+line_fault_number OutOfRange = 3
+line_fault_number LabelTwice = 4
+line_fault_number UnknownLabel = 5
+line_fault_number NotText = 6
+line_fault_number TooManySlots = 8
+
+-- The number of a fault.
+abbrev pub fault_number : AsmFault → ℕ
+fault_number (Line fault line) = line_fault_number fault
+fault_number Memory = 7
+
+-- The line of a fault.
+abbrev pub fault_line : AsmFault → Option ℕ
+fault_line (Line fault line) = Some line
+fault_line Memory = None

@@ -1,0 +1,163 @@
+-- A listing: its lines, its faults in two rounds, and its bytes. It is bpfdb's own choice.
+use Rattle.std.specs.Prelude.{ℕ, ℤ, pos, negsuc, ◌≡◌, ◌+◌, ◌-ℤ◌, Bool, true, false, not, nat_le, nat_lt, is_some, if◌then◌else◌, List, [], ◌∷◌, ◌++◌, Option, Some, None, Result, Ok, Err, ⊤}
+use Rattle.std.specs.List.{list_all}
+use Rattle.std.specs.Str.{bytes_eq}
+use Rattle.bpf_isa.specs.declared.instruction.Insn.{Insn}
+use Rattle.bpf_isa.specs.declared.instruction.Insn.TheVariants.{JumpIf, Jump, JumpLong, CallLocal}
+use Rattle.bpf_isa.specs.Programs.{slots_of}
+use Rattle.bpf_isa.specs.Words.{IsWord}
+use Rattle.bpf_text.specs.declared.fault.OperandFault.TheVariants as operand
+use Rattle.bpf_text.specs.declared.fault.LineFault.{LineFault}
+use Rattle.bpf_text.specs.declared.fault.LineFault.TheVariants.{UnknownMnemonic, WrongOperands, OutOfRange, LabelTwice, UnknownLabel, NotText, TooManySlots}
+use Rattle.bpf_text.specs.declared.fault.AsmFault.{AsmFault}
+use Rattle.bpf_text.specs.declared.fault.AsmFault.TheVariants.{Line, Memory}
+use Rattle.bpf_text.specs.declared.mnemonic.Mnemonic.{Mnemonic}
+use Rattle.bpf_text.specs.Cuts.{is_text, lines, code_of, label_of, body_of, mnemonic_text, operands_text}
+use Rattle.bpf_text.specs.Named.{named}
+use Rattle.bpf_text.specs.Statements.{instruction, target_name}
+use Rattle.bpf_text.specs.Tokens.{Reading}
+
+-- What reading a line gives.
+abbrev pub LineReading : Type 0 → Type 0
+LineReading A = Result A LineFault
+
+-- The instruction of a line, if it has one. The distance of its target is still 0.
+abbrev pub read_insn : Reading Insn → LineReading (Option Insn)
+read_insn (Ok insn) = Ok (Some insn)
+read_insn (Err operand.Wrong) = Err WrongOperands
+read_insn (Err operand.OutOfRange) = Err OutOfRange
+
+abbrev pub insn_of_mnemonic : Option Mnemonic → List ℕ → LineReading (Option Insn)
+insn_of_mnemonic None operands = Err UnknownMnemonic
+insn_of_mnemonic (Some mnemonic) operands = read_insn (instruction mnemonic operands)
+
+abbrev pub insn_of_body : List ℕ → LineReading (Option Insn)
+insn_of_body [] = Ok None
+insn_of_body (b ∷ s) = insn_of_mnemonic (named (mnemonic_text (b ∷ s))) (operands_text (b ∷ s))
+
+abbrev pub insn_of : List ℕ → LineReading (Option Insn)
+insn_of line = insn_of_body (body_of line)
+
+-- Where labels stand: the slot of a name.
+abbrev pub Labels : Type 0
+Labels = List ℕ → Option ℕ
+
+abbrev pub no_label : Labels
+no_label name = None
+
+-- The labels before, and one more.
+abbrev pub labels_with : Labels → ℕ → Option (List ℕ) → Labels
+labels_with labels slot None = labels
+labels_with labels slot (Some name) = λ q. if bytes_eq name q then Some slot else labels q
+
+abbrev pub is_defined : Labels → Option (List ℕ) → Bool
+is_defined labels None = false
+is_defined labels (Some name) = is_some (labels name)
+
+-- The slot after an instruction, which can't pass slot 65,534.
+abbrev pub slot_after : ℕ → LineReading (Option Insn) → LineReading ℕ
+slot_after slot (Err fault) = Err fault
+slot_after slot (Ok None) = Ok slot
+slot_after slot (Ok (Some insn)) = if nat_le (slot + slots_of insn) 65535 then Ok (slot + slots_of insn) else Err TooManySlots
+
+-- The first round at a line: the slot after it, or its first fault.
+abbrev pub line_end : Labels → ℕ → List ℕ → LineReading ℕ
+line_end labels slot line =
+    if not (list_all is_text (code_of line)) then Err NotText
+    else if is_defined labels (label_of line) then Err LabelTwice
+    else slot_after slot (insn_of line)
+
+-- The first round over the lines from a slot and a line number on: all labels, or the first fault.
+abbrev pub line_or : {A B : Type 0} → LineReading A → ℕ → (A → Result B AsmFault) → Result B AsmFault
+line_or (Err fault) number next = Err (Line fault number)
+line_or (Ok value) number next = next value
+
+abbrev pub first_round : Labels → ℕ → ℕ → List (List ℕ) → Result Labels AsmFault
+first_round labels slot number [] = Ok labels
+first_round labels slot number (line ∷ rest) = line_or (line_end labels slot line) number
+    (λ next. first_round (labels_with labels slot (label_of line)) next (number + 1) rest)
+
+-- Want of memory may be answered instead of a fault; else it is this one.
+abbrev pub IsFaultOf : {A : Type 0} → Result A AsmFault → AsmFault → Type 0
+IsFaultOf reading Memory = ⊤
+IsFaultOf reading (Line fault number) = reading ≡ Err (Line fault number)
+
+-- The name of a line's target, if its instruction has one.
+abbrev pub target_of_mnemonic : Option Mnemonic → List ℕ → Option (List ℕ)
+target_of_mnemonic None operands = None
+target_of_mnemonic (Some mnemonic) operands = target_name mnemonic operands
+
+abbrev pub target_of_body : List ℕ → Option (List ℕ)
+target_of_body [] = None
+target_of_body (b ∷ s) = target_of_mnemonic (named (mnemonic_text (b ∷ s))) (operands_text (b ∷ s))
+
+abbrev pub target_of_line : List ℕ → Option (List ℕ)
+target_of_line line = target_of_body (body_of line)
+
+-- Whether a distance fits the offset of ja and of a conditional jump, of 16 bits.
+abbrev pub fits_offset : ℤ → Bool
+fits_offset (pos n) = nat_lt n 32768
+fits_offset (negsuc n) = nat_lt n 32768
+
+-- An instruction with the distance of its target.
+abbrev pub fitting : Bool → Insn → LineReading (Option Insn)
+fitting true insn = Ok (Some insn)
+fitting false insn = Err OutOfRange
+
+abbrev pub with_distance : Insn → ℤ → LineReading (Option Insn)
+with_distance (JumpIf condition width dst source offset) distance =
+    fitting (fits_offset distance) (JumpIf condition width dst source distance)
+with_distance (Jump offset) distance = fitting (fits_offset distance) (Jump distance)
+with_distance (JumpLong old) distance = Ok (Some (JumpLong distance))
+with_distance (CallLocal old) distance = Ok (Some (CallLocal distance))
+with_distance insn distance = Ok (Some insn)
+
+-- The instruction in a slot whose target is a label: the distance is counted from the next slot.
+abbrev pub with_label : ℕ → Insn → Option ℕ → LineReading (Option Insn)
+with_label slot insn None = Err UnknownLabel
+with_label slot insn (Some target) = with_distance insn (pos target -ℤ pos (slot + 1))
+
+abbrev pub with_target : Labels → ℕ → LineReading (Option Insn) → Option (List ℕ) → LineReading (Option Insn)
+with_target labels slot (Ok (Some insn)) (Some name) = with_label slot insn (labels name)
+with_target labels slot reading target = reading
+
+-- The instruction of a line in a slot, its label replaced by the distance, or the fault of the second round.
+abbrev pub resolved : Labels → ℕ → List ℕ → LineReading (Option Insn)
+resolved labels slot line = with_target labels slot (insn_of line) (target_of_line line)
+
+-- The second round over the lines from a slot and a line number on.
+abbrev pub second_round : Labels → ℕ → ℕ → List (List ℕ) → Result (Unit {0}) AsmFault
+second_round labels slot number [] = Ok tt
+second_round labels slot number (line ∷ rest) = line_or (slot_after slot (resolved labels slot line)) number
+    (λ next. second_round labels next (number + 1) rest)
+
+-- Both rounds.
+abbrev pub after_first_round : Result Labels AsmFault → List (List ℕ) → Result (Unit {0}) AsmFault
+after_first_round (Ok labels) text = second_round labels 0 1 text
+after_first_round (Err fault) text = Err fault
+
+abbrev pub rounds : List ℕ → Result (Unit {0}) AsmFault
+rounds text = after_first_round (first_round no_label 0 1 (lines text)) (lines text)
+
+-- The bytes of an instruction in a slot, and those of what follows it.
+abbrev pub Spells : LineReading (Option Insn) → ℕ → List ℕ → (ℕ → List ℕ → Type 0) → Type 0
+Spells (Err fault) slot bytes Follows = ⊥
+Spells (Ok None) slot bytes Follows = Follows slot bytes
+Spells (Ok (Some insn)) slot bytes Follows = (word rest : List ℕ) × (bytes ≡ word ++ rest) × IsWord insn word × Follows (slot + slots_of insn) rest
+
+-- The bytes of lines from a slot on.
+abbrev pub AreBytes : Labels → ℕ → List (List ℕ) → List ℕ → Type 0
+AreBytes labels slot [] bytes = bytes ≡ []
+AreBytes labels slot (line ∷ rest) bytes = Spells (resolved labels slot line) slot bytes (λ next more. AreBytes labels next rest more)
+
+-- Bytes that grew by those of an instruction, if there is one.
+abbrev pub AppendsWord : LineReading (Option Insn) → List ℕ → List ℕ → Type 0
+AppendsWord (Ok (Some insn)) old new = (word : List ℕ) × (new ≡ old ++ word) × IsWord insn word
+AppendsWord reading old new = new ≡ old
+
+-- A listing without a fault, and its bytes.
+pub record IsListing (text bytes : List ℕ) : Type 0 where
+  pub labels : Labels
+  pub found : first_round no_label 0 1 (lines text) ≡ Ok labels
+  pub clear : rounds text ≡ Ok tt
+  pub spelled : AreBytes labels 0 (lines text) bytes

@@ -1,0 +1,124 @@
+//! Cuts of lines into labels, mnemonics and operands.
+ghost use Rattle.std.specs.Prelude.{◌≡◌, ◌==◌, ◌≤◌, not, length, take, IfSome, option_map, drop, position};
+ghost use Rattle.std.specs.List.{position_or_len, after_first, before_first, list_all};
+ghost use Rattle.bpf_text.specs.Cuts.{is_blank, is_text, before, after, trim_start, trim_end, trim, is_name, is_name_byte, is_letter};
+
+/// Whether a byte is a blank.
+pub fn is_blank(byte: u8) -> bool
+    ensures { result ≡ is_blank byte }
+{
+    matches!(byte, b' ' | b'\t' | b'\r')
+}
+
+/// Whether a byte may stand outside comments.
+pub fn is_text(byte: u8) -> bool
+    ensures { result ≡ is_text byte }
+{
+    matches!(byte, 32..=126) || is_blank(byte)
+}
+
+/// Where the byte first stands, or the length.
+pub fn find(text: &[u8], byte: u8) -> usize
+    ensures value { result ≡ position_or_len (λ b. b == byte) text.now }
+    ensures within { result ≤ length text.now }
+{
+    position(text, byte).unwrap_or(text.len())
+}
+
+fn position(text: &[u8], byte: u8) -> Option<usize>
+    ensures { result ≡ position (λ b. b == byte) text.now }
+{
+    text.iter().position(|b| *b == byte)
+}
+
+/// Where a blank first stands, or the length.
+pub fn find_blank(text: &[u8]) -> usize
+    ensures value { result ≡ position_or_len is_blank text.now }
+    ensures within { result ≤ length text.now }
+{
+    blank_position(text).unwrap_or(text.len())
+}
+
+fn blank_position(text: &[u8]) -> Option<usize>
+    ensures { result ≡ position is_blank text.now }
+{
+    text.iter().position(|b| is_blank(*b))
+}
+
+/// The text before the first such byte, or all of it.
+pub fn before(text: &[u8], byte: u8) -> &[u8]
+    ensures { result.now ≡ before byte text.now }
+{
+    &text[..find(text, byte)]
+}
+
+/// The text after the first such byte, or nothing.
+pub fn after(text: &[u8], byte: u8) -> &[u8]
+    ensures { result.now ≡ after byte text.now }
+{
+    let end = find(text, byte);
+    if end < text.len() {
+        &text[end + 1..]
+    } else {
+        &[]
+    }
+}
+
+/// The text without the blanks in front.
+pub fn trim_start(text: &[u8]) -> &[u8]
+    ensures { result.now ≡ trim_start text.now }
+{
+    &text[start_position(text).unwrap_or(text.len())..]
+}
+
+fn start_position(text: &[u8]) -> Option<usize>
+    ensures { result ≡ position (λ b. not (is_blank b)) text.now }
+{
+    text.iter().position(|b| !is_blank(*b))
+}
+
+/// The text without the blanks at its end.
+pub fn trim_end(text: &[u8]) -> &[u8]
+    ensures { result.now ≡ trim_end text.now }
+{
+    let mut end = text.len();
+    while end > 0 && is_blank(text[end - 1]) {
+        end -= 1;
+    }
+    &text[..end]
+}
+
+/// The text without the blanks on both sides.
+pub fn trim(text: &[u8]) -> &[u8]
+    ensures { result.now ≡ trim text.now }
+{
+    trim_end(trim_start(text))
+}
+
+/// Whether a text is a name.
+pub fn is_name(text: &[u8]) -> bool
+    ensures { result ≡ is_name text.now }
+{
+    match text {
+        [] => false,
+        [first, rest @ ..] => is_letter(*first) && are_name_bytes(rest),
+    }
+}
+
+fn is_letter(byte: u8) -> bool
+    ensures { result ≡ is_letter byte }
+{
+    matches!(byte, b'A'..=b'Z' | b'a'..=b'z' | b'_')
+}
+
+fn is_name_byte(byte: u8) -> bool
+    ensures { result ≡ is_name_byte byte }
+{
+    is_letter(byte) || matches!(byte, b'0'..=b'9')
+}
+
+fn are_name_bytes(text: &[u8]) -> bool
+    ensures { result ≡ list_all is_name_byte text.now }
+{
+    text.iter().all(|b| is_name_byte(*b))
+}
