@@ -1,7 +1,11 @@
 pub mod Appending
 pub mod Cutting
 pub mod HexDigits
+pub mod InsnTexts
 pub mod Listings
+pub mod MnemonicNames
 pub mod Offsets
+pub mod PlainTexts
 pub mod Rounds
 pub mod Saturating
+pub mod TokenTexts
