@@ -130,11 +130,11 @@ abbrev pub TargetFits : Option ℤ → Type 0
 TargetFits None = Unit {0}
 TargetFits (Some z) = IsSlot z
 
-source-fits : (s : Source) → SourceFits s → OperandFits (operand_of s)
+pub source-fits : (s : Source) → SourceFits s → OperandFits (operand_of s)
 source-fits (source_is.Immediate value) fits = fits
 source-fits (source_is.Register r) fits = fits
 
-target-fits : (z : ℤ) → IsSlot z → OperandFits (target_operand z)
+pub target-fits : (z : ℤ) → IsSlot z → OperandFits (target_operand z)
 target-fits (pos p) h = h
 target-fits (negsuc n) h = absurd h
 
@@ -142,10 +142,10 @@ name-target : (z : ℤ) → IsSlot z → name (operand_text (target_operand z)) 
 name-target (pos p) h = name-label p (omega arith)
 name-target (negsuc n) h = absurd h
 
-snug-operand : (o : Operand) → OperandFits o → Snug (operand_text o)
+pub snug-operand : (o : Operand) → OperandFits o → Snug (operand_text o)
 snug-operand o fits = let p = plain-operand o fits in Snug-plain (operand_text o) p.1 p.0
 
-snug-joined : (a b : Operand) → OperandFits a → OperandFits b → Snug (joined (operand_text a) (operand_text b))
+pub snug-joined : (a b : Operand) → OperandFits a → OperandFits b → Snug (joined (operand_text a) (operand_text b))
 snug-joined a b p q = Snug-append (operand_text a) (44 ∷ 32 ∷ []) (operand_text b) (snug-operand a p) (snug-operand b q)
 
 -- two operands of an instruction

@@ -1,7 +1,10 @@
 pub mod Appending
+pub mod CanonicalLines
+pub mod CanonicalRounds
 pub mod Cutting
 pub mod HexDigits
 pub mod InsnTexts
+pub mod LineTexts
 pub mod Listings
 pub mod MnemonicNames
 pub mod Offsets

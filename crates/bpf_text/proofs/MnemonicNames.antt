@@ -1,5 +1,6 @@
 -- Each mnemonic is found by its name.
-use Rattle.std.proofs.Common.{ℕ, ◌≡◌, List, Option, Some, refl}
+use Rattle.std.proofs.Common.{ℕ, ◌≡◌, ◌<◌, ◌++◌, true, length, length-append, codes, arith, List, Option, Some, refl}
+use Rattle.bpf_text.proofs.PlainTexts.{is_plain, are_plain, list_all-append}
 use Rattle.bpf_isa.specs.declared.instruction.Width.{Width}
 use Rattle.bpf_isa.specs.declared.instruction.Width.TheVariants.{Bits32, Bits64}
 use Rattle.bpf_isa.specs.declared.instruction.Size.{Size}
@@ -20,7 +21,7 @@ use Rattle.bpf_isa.specs.declared.instruction.AtomicOp.{AtomicOp}
 use Rattle.bpf_isa.specs.declared.instruction.AtomicOp.TheVariants as atomic
 use Rattle.bpf_text.specs.declared.mnemonic.Mnemonic.{Mnemonic}
 use Rattle.bpf_text.specs.declared.mnemonic.Mnemonic.TheVariants.{Binary, Negate, SignExtend, SwapBytes, JumpIf, Jump, JumpLong, CallHelper, CallLocal, Exit, Load, LoadSigned, StoreImmediate, StoreRegister, Atomic, LoadNumber, LoadMap, LoadMapValue}
-use Rattle.bpf_text.specs.Mnemonics.{name_of}
+use Rattle.bpf_text.specs.Mnemonics.{name_of, binary_name, width_suffix, condition_name, atomic_name}
 use Rattle.bpf_text.specs.Named.{named}
 
 -- arithmetic
@@ -98,3 +99,45 @@ named-name_of (StoreRegister size) = named-store_register size
 named-name_of (Atomic op width) = named-atomic width op
 named-name_of Jump = refl
 named-name_of m = refl
+
+-- names are plain, and not empty
+plain-binary : (op : BinaryOp) → (are_plain (binary_name op) ≡ true) × (0 < length (binary_name op))
+plain-binary binary.Add = (refl, omega arith)
+plain-binary op = (refl, omega arith)
+
+plain-width : (width : Width) → are_plain (width_suffix width) ≡ true
+plain-width Bits32 = refl
+plain-width Bits64 = refl
+
+plain-condition : (c : Condition) → (are_plain (condition_name c) ≡ true) × (0 < length (condition_name c))
+plain-condition condition.Equal = (refl, omega arith)
+plain-condition c = (refl, omega arith)
+
+plain-atomic : (op : AtomicOp) → (are_plain (atomic_name op) ≡ true) × (0 < length (atomic_name op))
+plain-atomic atomic.Add = (refl, omega arith)
+plain-atomic op = (refl, omega arith)
+
+plain-join : (s t : List ℕ) → (are_plain s ≡ true) × (0 < length s) → are_plain t ≡ true
+    → (are_plain (s ++ t) ≡ true) × (0 < length (s ++ t))
+plain-join s t p q = (list_all-append is_plain s t p.0 q, omega (arith, p.1, length-append s t))
+
+pub plain-name_of : (m : Mnemonic) → (are_plain (name_of m) ≡ true) × (0 < length (name_of m))
+plain-name_of (Binary op width) = plain-join (binary_name op) (width_suffix width) (plain-binary op) (plain-width width)
+plain-name_of (Negate Bits32) = (refl, omega arith)
+plain-name_of (Negate Bits64) = (refl, omega arith)
+plain-name_of (SignExtend Byte64) = (refl, omega arith)
+plain-name_of (SignExtend Half64) = (refl, omega arith)
+plain-name_of (SignExtend Word64) = (refl, omega arith)
+plain-name_of (SignExtend Byte32) = (refl, omega arith)
+plain-name_of (SignExtend Half32) = (refl, omega arith)
+plain-name_of (SwapBytes Little swap.Bits16) = (refl, omega arith)
+plain-name_of (SwapBytes Big swap.Bits16) = (refl, omega arith)
+plain-name_of (SwapBytes Swap swap.Bits16) = (refl, omega arith)
+plain-name_of (JumpIf c width) = plain-join (condition_name c) (width_suffix width) (plain-condition c) (plain-width width)
+plain-name_of (Load Word) = (refl, omega arith)
+plain-name_of (LoadSigned signed.Word) = (refl, omega arith)
+plain-name_of (StoreImmediate Word) = (refl, omega arith)
+plain-name_of (StoreRegister Word) = (refl, omega arith)
+plain-name_of (Atomic op Bits32) = plain-join (atomic_name op) (codes "32") (plain-atomic op) refl
+plain-name_of (Atomic op Bits64) = plain-join (atomic_name op) (codes "64") (plain-atomic op) refl
+plain-name_of m = (refl, omega arith)

@@ -18,11 +18,11 @@ abbrev pub are_plain : List ℕ → Bool
 are_plain s = list_all is_plain s
 
 -- both of two facts
-and-both : (a b : Bool) → (a && b) ≡ true → (a ≡ true) × (b ≡ true)
+pub and-both : (a b : Bool) → (a && b) ≡ true → (a ≡ true) × (b ≡ true)
 and-both true b h = (refl, h)
 and-both false b h = cc
 
-and-join : (a b : Bool) → a ≡ true → b ≡ true → (a && b) ≡ true
+pub and-join : (a b : Bool) → a ≡ true → b ≡ true → (a && b) ≡ true
 and-join a b p q = rw (p, q) refl
 
 -- two texts of bytes of one kind
