@@ -191,7 +191,7 @@ with_target-canonical labels p (insn.CallLocal d) fits reach =
     with_target-at labels p (insn.CallLocal (pos 0)) (pos (p + 1) +ℤ d) reach ∙ rw (distance-back p d) refl
 with_target-canonical labels p i fits reach = refl
 
-reaches-fits : (labels : Labels) (o : Option ℤ) → Reaches labels o → TargetFits o
+pub reaches-fits : (labels : Labels) (o : Option ℤ) → Reaches labels o → TargetFits o
 reaches-fits labels None reach = tt
 reaches-fits labels (Some (pos t)) reach = reach.0
 reaches-fits labels (Some (negsuc n)) reach = absurd reach

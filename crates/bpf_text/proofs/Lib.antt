@@ -1,4 +1,5 @@
 pub mod Appending
+pub mod CanonicalLaw
 pub mod CanonicalLines
 pub mod CanonicalRounds
 pub mod Cutting
@@ -9,6 +10,7 @@ pub mod Listings
 pub mod MnemonicNames
 pub mod Offsets
 pub mod PlainTexts
+pub mod ProgramParts
 pub mod Rounds
 pub mod Saturating
 pub mod TokenTexts
