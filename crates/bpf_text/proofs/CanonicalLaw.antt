@@ -2,6 +2,7 @@
 use Rattle.std.proofs.Common.{ℕ, ℤ, pos, negsuc, suc, zero, ◌≡◌, ◌<◌, ◌≤◌, ◌+◌, ◌*◌, ◌^◌, ◌==◌, ◌||◌, ◌&&◌, not, Bool, true, false, List, [], ◌∷◌, ◌++◌, take, drop, length, refl, ap, sym, ◌∙◌, arith, subst, Option, Some, None, Ok, IsSome, is_some, unwrap_or, slice_get, if◌then◌else◌, add-one, IsTrue, ◌⊎◌, inl, inr, get_or, lit<, length-take, length-drop, drop-drop, zero-add}
 use Rattle.std.proofs.lemmas.Bool.Decides.{nat_tests}
 use Rattle.bpf_isa.proofs.Spelling.{wide_or_not}
+use Rattle.std.proofs.Math.ListN.{drop_of_length-le}
 use Rattle.std.proofs.lemmas.Bool.{eq-eqb}
 use Rattle.std.proofs.lemmas.List.{take-append-drop, get_or-take, get_or-drop}
 use Rattle.bpf_isa.specs.declared.instruction.Insn.{Insn}
@@ -237,6 +238,38 @@ slot-first [] h = refl
 slot-first (Some i ∷ rest) h = refl
 slot-first (None ∷ rest) h = cc
 
+-- nothing follows the last slot
+program-end : (code : Code) → IsProgram code → drop (8 * (0 + length code.insns)) code.bytes ≡ []
+program-end code known =
+    let slots = known.slots in
+    drop_of_length-le code.bytes {i = 8 * (0 + length code.insns)} (omega (arith, slots))
+
 -- the law
 pub canonical-listing : (code : Code) → IsProgram code → IsListing (canon code) code.bytes
-canonical-listing code known = ?
+canonical-listing code known =
+    let insns = code.insns in
+    let f = is_target 0 insns in
+    let labels = program_labels code in
+    let short = known.short in
+    let room : 0 + length insns ≤ 65535 = rw (zero-add (length insns)) short in
+    let reach : AllReach labels 0 insns = all-reach labels 0 insns (λ k i e. rw (zero-add k) (program-reach code known k i e)) in
+    let fits : AllFit 0 insns = all-fit 0 insns (λ k i e. rw (zero-add k)
+      (IsWord-fits i (piece_at code.bytes k) (known.words k i e), reaches-fits labels (target_of k i) (program-reach code known k i e))) in
+    let cut = well-cut code.bytes 0 insns (program-cut code known) in
+    let spelled : AllSpell code.bytes 0 insns = all-spell code.bytes 0 insns
+      (λ k i e. rw (zero-add k) (spells-at code.bytes k i (known.words k i e)))
+      (program-end code known) in
+    let text : lines (canon code) ≡ line_list f 0 insns = lines-listing f 0 insns (omega (arith, room)) fits in
+    let zero_first = slot-first insns known.first in
+    let First : ℕ → Type 0 = λ s. first_round no_label s 1 (line_list f 0 insns) ≡ Ok labels in
+    let Second : ℕ → Type 0 = λ s. second_round labels s 1 (line_list f 0 insns) ≡ Ok tt in
+    let Bytes : ℕ → Type 0 = λ s. AreBytes labels s (line_list f 0 insns) (drop (8 * s) code.bytes) in
+    let found = subst First zero_first (first_round-canonical f no_label 0 1 insns room fits cut (λ q low high. refl)) in
+    let clear = subst Second zero_first (second_round-canonical f labels 0 1 insns room fits cut reach) in
+    let bytes = subst Bytes zero_first (AreBytes-canonical f labels code.bytes 0 insns room fits cut reach spelled) in
+    record {
+      labels = labels;
+      found = rw text found;
+      clear = rw (text, found) clear;
+      spelled = rw text bytes;
+    }
