@@ -1,19 +1,18 @@
 -- The canonical listing of a checked program has no fault, and its bytes are the program's.
-use Rattle.std.proofs.Common.{ℕ, ℤ, pos, negsuc, suc, zero, ◌≡◌, ◌<◌, ◌≤◌, ◌+◌, ◌*◌, ◌^◌, ◌==◌, ◌||◌, ◌&&◌, not, Bool, true, false, List, [], ◌∷◌, ◌++◌, take, drop, length, refl, ap, sym, ◌∙◌, arith, subst, Option, Some, None, Ok, IsSome, is_some, unwrap_or, slice_get, if◌then◌else◌, add-one, IsTrue, ◌⊎◌, inl, inr, get_or, lit<, length-take, length-drop, drop-drop, zero-add}
+use Rattle.std.proofs.Common.{ℕ, ℤ, pos, negsuc, suc, zero, ◌≡◌, ◌<◌, ◌≤◌, ◌+◌, ◌*◌, ◌||◌, ◌&&◌, not, Bool, true, false, List, [], ◌∷◌, ◌++◌, take, drop, length, refl, ap, sym, ◌∙◌, arith, subst, Option, Some, None, Ok, IsSome, is_some, unwrap_or, slice_get, if◌then◌else◌, add-one, ◌⊎◌, inl, inr, get_or, lit<, length-take, length-drop, drop-drop, zero-add}
 use Rattle.std.proofs.lemmas.Bool.Decides.{nat_tests}
 use Rattle.bpf_isa.proofs.Spelling.{wide_or_not}
 use Rattle.std.proofs.Math.ListN.{drop_of_length-le}
 use Rattle.std.proofs.lemmas.Bool.{eq-eqb}
 use Rattle.std.proofs.lemmas.List.{take-append-drop, get_or-take, get_or-drop}
 use Rattle.bpf_isa.specs.declared.instruction.Insn.{Insn}
-use Rattle.bpf_isa.specs.Programs.{Code, IsProgram, insn_at, IsStart, IsStartAt, target_of, slots_of}
-use Rattle.bpf_isa.specs.Checker.{is_start, is_wide_at, piece_at, IsStartIn}
+use Rattle.bpf_isa.specs.Programs.{Code, IsProgram, target_of, slots_of}
+use Rattle.bpf_isa.specs.Checker.{is_start, is_wide_at, piece_at}
 use Rattle.bpf_isa.specs.Words.{IsWord, row, form_of}
 use Rattle.bpf_text.specs.Cuts.{lines}
-use Rattle.bpf_text.specs.Canonical.{is_target, goes_to, lines_from, canon}
-use Rattle.bpf_text.specs.Listing.{Labels, no_label, first_round, second_round, rounds, after_first_round, AreBytes, IsListing}
+use Rattle.bpf_text.specs.Canonical.{is_target, goes_to, canon}
+use Rattle.bpf_text.specs.Listing.{Labels, no_label, first_round, second_round, AreBytes, IsListing}
 use Rattle.bpf_text.proofs.Listings.{start-within}
-use Rattle.bpf_text.proofs.InsnTexts.{InsnFits, TargetFits}
 use Rattle.bpf_text.proofs.CanonicalLines.{EntryFits, AllFit, lines-listing, line_list}
 use Rattle.bpf_text.proofs.CanonicalRounds.{slot_of, WellCut, labels_after, Reaches, AllReach, EntryReaches, AllSpell, EntrySpells, labels_after-has, first_round-canonical, second_round-canonical, AreBytes-canonical, reaches-fits}
 use Rattle.bpf_text.proofs.ProgramParts.{IsWord-fits}
@@ -32,27 +31,29 @@ is_target-true p zero t (x ∷ rest) i e g =
 is_target-true p (suc k) t (x ∷ rest) i e g =
     let next : p + suc k ≡ p + 1 + k = omega arith in
     rw (is_target-true (p + 1) k t rest i e (rw next at g)) (or-true (goes_to p x t)) where
-  or-true : (b : Bool) → (b || true) ≡ true
-  or-true true = refl
-  or-true false = refl
+      or-true : (b : Bool) → (b || true) ≡ true
+      or-true true = refl
+      or-true false = refl
 
 -- from each slot to the recursions over all
 all-fit : (p : ℕ) (rest : List (Option Insn)) → ((k : ℕ) (i : Insn) → entry rest k ≡ Some i → EntryFits (p + k) (Some i)) → AllFit p rest
 all-fit p [] known = tt
 all-fit p (None ∷ rest) known =
     (tt, all-fit (p + 1) rest (λ k i e. let next : p + suc k ≡ p + 1 + k = omega arith in rw next at (known (suc k) i e)))
-all-fit p (Some i ∷ rest) known =
-    (let here : p + 0 ≡ p = omega arith in rw here at (known 0 i refl),
-     all-fit (p + 1) rest (λ k j e. let next : p + suc k ≡ p + 1 + k = omega arith in rw next at (known (suc k) j e)))
+all-fit p (Some i ∷ rest) known = (
+  let here : p + 0 ≡ p = omega arith in rw here at (known 0 i refl),
+  all-fit (p + 1) rest (λ k j e. let next : p + suc k ≡ p + 1 + k = omega arith in rw next at (known (suc k) j e)),
+)
 
 all-reach : (labels : Labels) (p : ℕ) (rest : List (Option Insn))
     → ((k : ℕ) (i : Insn) → entry rest k ≡ Some i → EntryReaches labels (p + k) (Some i)) → AllReach labels p rest
 all-reach labels p [] known = tt
 all-reach labels p (None ∷ rest) known =
     (tt, all-reach labels (p + 1) rest (λ k i e. let next : p + suc k ≡ p + 1 + k = omega arith in rw next at (known (suc k) i e)))
-all-reach labels p (Some i ∷ rest) known =
-    (let here : p + 0 ≡ p = omega arith in rw here at (known 0 i refl),
-     all-reach labels (p + 1) rest (λ k j e. let next : p + suc k ≡ p + 1 + k = omega arith in rw next at (known (suc k) j e)))
+all-reach labels p (Some i ∷ rest) known = (
+  let here : p + 0 ≡ p = omega arith in rw here at (known 0 i refl),
+  all-reach labels (p + 1) rest (λ k j e. let next : p + suc k ≡ p + 1 + k = omega arith in rw next at (known (suc k) j e)),
+)
 
 all-spell : (bytes : List ℕ) (p : ℕ) (rest : List (Option Insn))
     → ((k : ℕ) (i : Insn) → entry rest k ≡ Some i → EntrySpells bytes (p + k) (Some i))
@@ -62,9 +63,10 @@ all-spell bytes p (None ∷ rest) known end =
     let more : p + suc (length rest) ≡ p + 1 + length rest = omega arith in
     (tt, all-spell bytes (p + 1) rest (λ k i e. let next : p + suc k ≡ p + 1 + k = omega arith in rw next at (known (suc k) i e)) (rw more at end))
 all-spell bytes p (Some i ∷ rest) known end =
-    let more : p + suc (length rest) ≡ p + 1 + length rest = omega arith in
-    (let here : p + 0 ≡ p = omega arith in rw here at (known 0 i refl),
-     all-spell bytes (p + 1) rest (λ k j e. let next : p + suc k ≡ p + 1 + k = omega arith in rw next at (known (suc k) j e)) (rw more at end))
+    let more : p + suc (length rest) ≡ p + 1 + length rest = omega arith in (
+      let here : p + 0 ≡ p = omega arith in rw here at (known 0 i refl),
+      all-spell bytes (p + 1) rest (λ k j e. let next : p + suc k ≡ p + 1 + k = omega arith in rw next at (known (suc k) j e)) (rw more at end),
+    )
 
 -- how many slots an instruction takes, by its first byte
 opcode-take : (n k : ℕ) (bytes : List ℕ) → 0 < n → get_or (take n (drop k bytes)) 0 0 ≡ get_or bytes k 0
@@ -86,10 +88,10 @@ TakesSlots wide n = ((wide ≡ true) × (n ≡ 2)) ⊎ ((wide ≡ false) × (n �
 takes-slots : (bytes : List ℕ) (p : ℕ) (i : Insn) → IsWord i (piece_at bytes p) → TakesSlots (is_wide_at bytes p) (slots_of i)
 takes-slots bytes p i whole =
     let opcode : get_or bytes (8 * p) 0 ≡ (row (form_of i)).opcode =
-      sym (opcode-piece (is_wide_at bytes p) (8 * p) bytes) ∙ whole.codes.opcode in
+    sym (opcode-piece (is_wide_at bytes p) (8 * p) bytes) ∙ whole.codes.opcode in
     elim (wide_or_not i) [
-      inl wide ↦ inl (wide-at bytes p (opcode ∙ wide.0), wide.1)
-    | inr narrow ↦ inr (narrow-at bytes p (λ e. narrow.0 (sym opcode ∙ e)), narrow.1)
+      | inl wide ↦ inl (wide-at bytes p (opcode ∙ wide.0), wide.1)
+      | inr narrow ↦ inr (narrow-at bytes p (λ e. narrow.0 (sym opcode ∙ e)), narrow.1)
     ]
 
 -- the bytes of an instruction, and what follows them
@@ -113,14 +115,14 @@ piece-within : (wide : Bool) (n p : ℕ) (bytes : List ℕ) → TakesSlots wide 
     → length (take (if wide then 16 else 8) (drop (8 * p) bytes)) ≡ 8 * n → 8 * p + 8 * n ≤ length bytes
 piece-within true n p bytes t e =
     omega (arith, length-take 16 (drop (8 * p) bytes), length-drop (8 * p) bytes, e, some-slots true n t) where
-  some-slots : (wide : Bool) (n : ℕ) → TakesSlots wide n → 1 ≤ n
-  some-slots wide n (inl t) = omega (arith, t.1)
-  some-slots wide n (inr t) = omega (arith, t.1)
+      some-slots : (wide : Bool) (n : ℕ) → TakesSlots wide n → 1 ≤ n
+      some-slots wide n (inl t) = omega (arith, t.1)
+      some-slots wide n (inr t) = omega (arith, t.1)
 piece-within false n p bytes t e =
     omega (arith, length-take 8 (drop (8 * p) bytes), length-drop (8 * p) bytes, e, some-slots false n t) where
-  some-slots : (wide : Bool) (n : ℕ) → TakesSlots wide n → 1 ≤ n
-  some-slots wide n (inl t) = omega (arith, t.1)
-  some-slots wide n (inr t) = omega (arith, t.1)
+      some-slots : (wide : Bool) (n : ℕ) → TakesSlots wide n → 1 ≤ n
+      some-slots wide n (inl t) = omega (arith, t.1)
+      some-slots wide n (inr t) = omega (arith, t.1)
 
 -- the cut of the bytes is that of the instructions
 pub record IsCut (bytes : List ℕ) (p : ℕ) (rest : List (Option Insn)) : Type 0 where
@@ -171,8 +173,8 @@ slot-after-insn p i (o ∷ rest) bytes known =
     let takes : TakesSlots (is_wide_at bytes p) (slots_of i) = rw here at (known.slots 0 i refl) in
     let first : is_start bytes p ≡ true = rw here at (known.starts 0 (omega arith)) in
     slot-by p (slots_of i) o rest (is_start bytes (p + 1))
-      (cut-first (is_start bytes p) (is_wide_at bytes p) (is_start bytes (p + 1)) (slots_of i) first (start-next bytes p) takes)
-      (known.starts 1 (omega arith))
+    (cut-first (is_start bytes p) (is_wide_at bytes p) (is_start bytes (p + 1)) (slots_of i) first (start-next bytes p) takes)
+    (known.starts 1 (omega arith))
 
 slot-after-none : (p : ℕ) (rest : List (Option Insn)) (bytes : List ℕ) → IsCut bytes p (None ∷ rest)
     → slot_of (p + 1) rest ≡ p + 1
@@ -183,9 +185,9 @@ slot-after-none p (None ∷ rest) bytes known =
     let first : is_start bytes p ≡ false = rw here at (known.starts 0 (omega arith)) in
     let second : is_start bytes (p + 1) ≡ false = known.starts 1 (omega arith) in
     absurd (apart (is_start bytes p) (is_wide_at bytes p) (is_start bytes (p + 1)) first (start-next bytes p) second) where
-  apart : (a w b : Bool) → a ≡ false → b ≡ not (a && w) → b ≡ false → ⊥
-  apart true w b p q r = cc
-  apart false w b p q r = cc
+      apart : (a w b : Bool) → a ≡ false → b ≡ not (a && w) → b ≡ false → ⊥
+      apart true w b p q r = cc
+      apart false w b p q r = cc
 
 well-cut : (bytes : List ℕ) (p : ℕ) (rest : List (Option Insn)) → IsCut bytes p rest → WellCut p rest
 well-cut bytes p [] known = tt
@@ -204,13 +206,13 @@ agree false false p q = refl
 program-cut : (code : Code) → IsProgram code → IsCut code.bytes 0 code.insns
 program-cut code known = record {
   starts = λ k h. rw (zero-add k) (agree (is_some (entry code.insns k)) (is_start code.bytes k)
-    (λ s. ((known.starts k).0 s).1)
-    (λ s. (known.starts k).1 (let slots = known.slots in omega (arith, slots, h), s)));
+      (λ s. ((known.starts k).0 s).1)
+      (λ s. (known.starts k).1 (let slots = known.slots in omega (arith, slots, h), s)));
   slots = λ k i e. rw (zero-add k) (takes-slots code.bytes k i (known.words k i e));
   within = λ k i e.
-    let whole = known.words k i e in
-    let slots = known.slots in
-    omega (arith, slots, piece-within (is_wide_at code.bytes k) (slots_of i) k code.bytes (takes-slots code.bytes k i whole) whole.size);
+      let whole = known.words k i e in
+      let slots = known.slots in
+      omega (arith, slots, piece-within (is_wide_at code.bytes k) (slots_of i) k code.bytes (takes-slots code.bytes k i whole) whole.size);
 }
 
 -- the labels of a program
@@ -230,7 +232,7 @@ program-reach code known k i e = go (target_of k i) refl where
       let short = known.short in
       let goes = is_target-true 0 k t code.insns i e (rw (zero-add k) g) in
       let found = labels_after-has (is_target 0 code.insns) no_label 0 t code.insns (rw (zero-add (length code.insns)) short) start
-        (rw (zero-add t) goes) in
+      (rw (zero-add t) goes) in
       (omega (arith, within, short), rw (zero-add t) at found)
 
 slot-first : (insns : List (Option Insn)) → IsSome (entry insns 0) → slot_of 0 insns ≡ 0
@@ -254,11 +256,11 @@ canonical-listing code known =
     let room : 0 + length insns ≤ 65535 = rw (zero-add (length insns)) short in
     let reach : AllReach labels 0 insns = all-reach labels 0 insns (λ k i e. rw (zero-add k) (program-reach code known k i e)) in
     let fits : AllFit 0 insns = all-fit 0 insns (λ k i e. rw (zero-add k)
-      (IsWord-fits i (piece_at code.bytes k) (known.words k i e), reaches-fits labels (target_of k i) (program-reach code known k i e))) in
+    (IsWord-fits i (piece_at code.bytes k) (known.words k i e), reaches-fits labels (target_of k i) (program-reach code known k i e))) in
     let cut = well-cut code.bytes 0 insns (program-cut code known) in
     let spelled : AllSpell code.bytes 0 insns = all-spell code.bytes 0 insns
-      (λ k i e. rw (zero-add k) (spells-at code.bytes k i (known.words k i e)))
-      (program-end code known) in
+    (λ k i e. rw (zero-add k) (spells-at code.bytes k i (known.words k i e)))
+    (program-end code known) in
     let text : lines (canon code) ≡ line_list f 0 insns = lines-listing f 0 insns (omega (arith, room)) fits in
     let zero_first = slot-first insns known.first in
     let First : ℕ → Type 0 = λ s. first_round no_label s 1 (line_list f 0 insns) ≡ Ok labels in

@@ -1,15 +1,15 @@
 -- The lines of the canonical listing.
-use Rattle.std.proofs.Common.{ℕ, ℤ, pos, ◌≡◌, ◌<◌, ◌≤◌, ◌+◌, ◌^◌, ◌==◌, Bool, true, false, not, List, [], ◌∷◌, ◌++◌, length, refl, ap, sym, ◌∙◌, arith, codes, Option, Some, None, length-append, append_assoc}
+use Rattle.std.proofs.Common.{ℕ, ◌≡◌, ◌<◌, ◌+◌, ◌^◌, ◌==◌, Bool, true, false, not, List, [], ◌∷◌, ◌++◌, length, refl, ap, ◌∙◌, arith, codes, Option, Some, None, length-append, append_assoc}
 use Rattle.std.specs.List.{list_all}
 use Rattle.bpf_isa.specs.declared.instruction.Insn.{Insn}
 use Rattle.bpf_isa.specs.Programs.{target_of}
-use Rattle.bpf_text.specs.Cuts.{lines, before, after}
+use Rattle.bpf_text.specs.Cuts.{lines, after}
 use Rattle.bpf_text.specs.Operands.{text_of_insn, label_text}
-use Rattle.bpf_text.specs.Canonical.{label_line, slot_lines, lines_from}
+use Rattle.bpf_text.specs.Canonical.{slot_lines, lines_from}
 use Rattle.bpf_text.proofs.PlainTexts.{before_first-at, after_first-at}
 use Rattle.bpf_text.proofs.Cutting.{lines-cut}
 use Rattle.bpf_text.proofs.InsnTexts.{InsnFits, TargetFits}
-use Rattle.bpf_text.proofs.LineTexts.{Reads, Reads-insn, Reads-label}
+use Rattle.bpf_text.proofs.LineTexts.{Reads-insn, Reads-label}
 
 -- the line of a label, if there is one
 abbrev pub label_lines : Bool → ℕ → List (List ℕ)
@@ -40,13 +40,13 @@ lines-feed : (line rest : List ℕ) → list_all (λ b. not (b == 10)) line ≡ 
 lines-feed line rest p =
     let none = λ (b : ℕ) (h : not (b == 10) ≡ true). not-feed b h in
     lines-cut (line ++ 10 ∷ rest) (omega (arith, length-append line (10 ∷ rest)))
-      ∙ ap (λ l. l ∷ lines (after 10 (line ++ 10 ∷ rest))) (before_first-at (λ b. b == 10) (λ b. not (b == 10)) line 10 rest none refl p)
-      ∙ ap (λ l. line ∷ lines l) (after_first-at (λ b. b == 10) (λ b. not (b == 10)) line 10 rest none refl p) where
-  not-feed : (b : ℕ) → not (b == 10) ≡ true → (b == 10) ≡ false
-  not-feed b h = go (b == 10) h where
-    go : (t : Bool) → not t ≡ true → t ≡ false
-    go true h = cc
-    go false h = refl
+    ∙ ap (λ l. l ∷ lines (after 10 (line ++ 10 ∷ rest))) (before_first-at (λ b. b == 10) (λ b. not (b == 10)) line 10 rest none refl p)
+    ∙ ap (λ l. line ∷ lines l) (after_first-at (λ b. b == 10) (λ b. not (b == 10)) line 10 rest none refl p) where
+      not-feed : (b : ℕ) → not (b == 10) ≡ true → (b == 10) ≡ false
+      not-feed b h = go (b == 10) h where
+        go : (t : Bool) → not t ≡ true → t ≡ false
+        go true h = cc
+        go false h = refl
 
 -- two line feeds
 feeds : (label text rest : List ℕ)
@@ -66,8 +66,8 @@ lines-slot true p (Some i) rest h fits =
     let text = text_of_insn p i in
     let label = label_text p ++ codes ":" in
     ap lines (feeds (label_text p) text rest)
-      ∙ lines-feed label (text ++ 10 ∷ rest) named.feedless
-      ∙ ap (λ l. label ∷ l) (lines-feed text rest read.feedless)
+    ∙ lines-feed label (text ++ 10 ∷ rest) named.feedless
+    ∙ ap (λ l. label ∷ l) (lines-feed text rest read.feedless)
 
 -- the lines of all slots
 pub lines-listing : (f : ℕ → Bool) (p : ℕ) (insns : List (Option Insn)) → p + length insns < 2 ^ 64 → AllFit p insns
@@ -75,4 +75,4 @@ pub lines-listing : (f : ℕ → Bool) (p : ℕ) (insns : List (Option Insn)) �
 lines-listing f p [] h fits = refl
 lines-listing f p (i ∷ rest) h fits =
     lines-slot (f p) p i (lines_from f (p + 1) rest) (omega arith) fits.0
-      ∙ ap (λ l. slot_list (f p) p i ++ l) (lines-listing f (p + 1) rest (omega arith) fits.1)
+    ∙ ap (λ l. slot_list (f p) p i ++ l) (lines-listing f (p + 1) rest (omega arith) fits.1)

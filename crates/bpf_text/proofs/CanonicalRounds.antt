@@ -1,10 +1,9 @@
 -- The two rounds over the canonical listing.
-use Rattle.std.proofs.Common.{ℕ, ℤ, pos, negsuc, suc, zero, ◌≡◌, ◌<◌, ◌≤◌, ◌+◌, ◌*◌, ◌^◌, ◌==◌, ◌+ℤ◌, ◌-ℤ◌, Bool, true, false, not, nat_le, List, [], ◌∷◌, ◌++◌, drop, length, refl, ap, sym, ◌∙◌, arith, codes, subst, Option, Some, None, Ok, Err, Result, is_some, w16, SFits, if◌then◌else◌, decimal, IsSome, unwrap_or, slice_get, add-zero}
+use Rattle.std.proofs.Common.{ℕ, ℤ, pos, negsuc, suc, zero, ◌≡◌, ◌<◌, ◌≤◌, ◌+◌, ◌*◌, ◌+ℤ◌, ◌-ℤ◌, Bool, true, false, nat_le, List, [], ◌∷◌, ◌++◌, drop, length, refl, ap, sym, ◌∙◌, arith, codes, subst, Option, Some, None, Ok, Result, w16, SFits, decimal, IsSome, unwrap_or, slice_get}
 use Rattle.std.specs.Cmp.Lexicographic.{same_text}
 use Rattle.std.proofs.lemmas.Bool.{eq-eqb}
 use Rattle.std.proofs.lemmas.Int.{ints}
 use Rattle.bpf_text.specs.declared.fault.AsmFault.{AsmFault}
-use Rattle.std.specs.List.{list_all}
 use Rattle.std.specs.Str.{bytes_eq}
 use Rattle.std.proofs.lemmas.Bool.Decides.{nat_tests}
 use Rattle.std.proofs.lemmas.Fmt.{decimal_injective}
@@ -12,12 +11,11 @@ use Rattle.bpf_isa.specs.declared.instruction.Insn.{Insn}
 use Rattle.bpf_isa.specs.declared.instruction.Insn.TheVariants as insn
 use Rattle.bpf_isa.specs.Programs.{target_of, slots_of}
 use Rattle.bpf_isa.specs.Words.{IsWord}
-use Rattle.bpf_text.specs.Cuts.{is_text, code_of, label_of}
 use Rattle.bpf_text.specs.Operands.{text_of_insn, label_text}
-use Rattle.bpf_text.specs.Listing.{Labels, labels_with, is_defined, slot_after, line_end, line_or, first_round, second_round, resolved, with_target, with_distance, fits_offset, insn_of, target_of_line, AreBytes, Spells}
+use Rattle.bpf_text.specs.Listing.{Labels, labels_with, slot_after, line_end, first_round, second_round, resolved, with_target, with_distance, fits_offset, AreBytes}
 use Rattle.bpf_text.proofs.InsnTexts.{InsnFits, TargetFits, unplaced, target_text}
-use Rattle.bpf_text.proofs.LineTexts.{Reads, Reads-insn, Reads-label}
-use Rattle.bpf_text.proofs.CanonicalLines.{label_lines, slot_list, line_list, EntryFits, AllFit}
+use Rattle.bpf_text.proofs.LineTexts.{Reads-insn, Reads-label}
+use Rattle.bpf_text.proofs.CanonicalLines.{slot_list, line_list, AllFit}
 
 -- the slot of the next instruction from slot p on
 abbrev pub slot_of : ℕ → List (Option Insn) → ℕ
@@ -115,9 +113,9 @@ first_round-canonical f labels p number (None ∷ rest) h fits cut fresh =
 first_round-canonical f labels p number (Some i ∷ rest) h fits cut fresh =
     let most = slot_of-le (p + 1) rest in
     first_round-slot (f p) labels p number (slot_of (p + 1) rest) i (line_list f (p + 1) rest) _ (omega arith) fresh
-      fits.0.0 fits.0.1 (omega (arith, cut.0, most)) cut.0
-      (λ count. first_round-canonical f (labels_at (f p) labels p) (p + 1) count rest (omega arith) fits.1 cut.1
-        (Fresh-next (f p) labels p (omega arith) fresh))
+    fits.0.0 fits.0.1 (omega (arith, cut.0, most)) cut.0
+    (λ count. first_round-canonical f (labels_at (f p) labels p) (p + 1) count rest (omega arith) fits.1 cut.1
+    (Fresh-next (f p) labels p (omega arith) fresh))
 
 -- earlier labels stay
 labels_after-keeps : (f : ℕ → Bool) (labels : Labels) (p t : ℕ) (rest : List (Option Insn)) → p + length rest ≤ 65535 → t < p
@@ -126,9 +124,9 @@ labels_after-keeps f labels p t [] h less = refl
 labels_after-keeps f labels p t (None ∷ rest) h less = labels_after-keeps f labels (p + 1) t rest (omega arith) (omega arith)
 labels_after-keeps f labels p t (Some i ∷ rest) h less =
     labels_after-keeps f (labels_at (f p) labels p) (p + 1) t rest (omega arith) (omega arith) ∙ one (f p) where
-  one : (b : Bool) → labels_at b labels p (label_text t) ≡ labels (label_text t)
-  one false = refl
-  one true = rw (label-other p t (omega arith) (omega arith) (λ e. absurd (omega arith))) refl
+      one : (b : Bool) → labels_at b labels p (label_text t) ≡ labels (label_text t)
+      one false = refl
+      one true = rw (label-other p t (omega arith) (omega arith) (λ e. absurd (omega arith))) refl
 
 -- a labelled slot has its label
 pub labels_after-has : (f : ℕ → Bool) (labels : Labels) (p k : ℕ) (rest : List (Option Insn)) → p + length rest ≤ 65535
@@ -140,7 +138,7 @@ labels_after-has f labels p zero (Some i ∷ rest) h start on =
     let here : p + 0 ≡ p = omega arith in
     let labelled : f p ≡ true = rw here at on in
     rw here (labels_after-keeps f (labels_at (f p) labels p) (p + 1) p rest (omega arith) (omega arith)
-      ∙ ap (λ b. labels_at b labels p (label_text p)) labelled ∙ rw (bytes_eq-self (label_text p)) refl)
+    ∙ ap (λ b. labels_at b labels p (label_text p)) labelled ∙ rw (bytes_eq-self (label_text p)) refl)
 labels_after-has f labels p (suc k) (None ∷ rest) h start on =
     let next : p + suc k ≡ p + 1 + k = omega arith in
     rw next (labels_after-has f labels (p + 1) k rest (omega arith) start (rw next at on))
@@ -181,10 +179,10 @@ with_target-canonical : (labels : Labels) (p : ℕ) (i : Insn) → InsnFits i �
     → with_target labels p (Ok (Some (unplaced i))) (target_text (target_of p i)) ≡ Ok (Some i)
 with_target-canonical labels p (insn.JumpIf c width dst s o) fits reach =
     with_target-at labels p (insn.JumpIf c width dst s (pos 0)) (pos (p + 1) +ℤ o) reach
-      ∙ rw (distance-back p o, fits-offset o fits.2) refl
+    ∙ rw (distance-back p o, fits-offset o fits.2) refl
 with_target-canonical labels p (insn.Jump o) fits reach =
     with_target-at labels p (insn.Jump (pos 0)) (pos (p + 1) +ℤ o) reach
-      ∙ rw (distance-back p o, fits-offset o fits) refl
+    ∙ rw (distance-back p o, fits-offset o fits) refl
 with_target-canonical labels p (insn.JumpLong d) fits reach =
     with_target-at labels p (insn.JumpLong (pos 0)) (pos (p + 1) +ℤ d) reach ∙ rw (distance-back p d) refl
 with_target-canonical labels p (insn.CallLocal d) fits reach =
@@ -229,8 +227,8 @@ second_round-canonical f labels p number (None ∷ rest) h fits cut reach =
 second_round-canonical f labels p number (Some i ∷ rest) h fits cut reach =
     let most = slot_of-le (p + 1) rest in
     second_round-slot (f p) labels p number (slot_of (p + 1) rest) i (line_list f (p + 1) rest) (omega arith)
-      fits.0.0 reach.0 (omega (arith, cut.0, most)) cut.0
-      (λ count. second_round-canonical f labels (p + 1) count rest (omega arith) fits.1 cut.1 reach.1)
+    fits.0.0 reach.0 (omega (arith, cut.0, most)) cut.0
+    (λ count. second_round-canonical f labels (p + 1) count rest (omega arith) fits.1 cut.1 reach.1)
 
 -- the bytes of the instructions from slot p on
 abbrev pub EntrySpells : List ℕ → ℕ → Option Insn → Type 0
@@ -248,7 +246,7 @@ AreBytes-insn : (labels : Labels) (bytes : List ℕ) (p next : ℕ) (i : Insn) (
 AreBytes-insn labels bytes p next i tail fits reach spelled e follows =
     let F : ℕ → Type 0 = λ s. AreBytes labels s tail (drop (8 * s) bytes) in
     rw (resolved-insn labels p i fits reach)
-      (spelled.0, drop (8 * (p + slots_of i)) bytes, spelled.1, spelled.2, subst F e follows)
+    (spelled.0, drop (8 * (p + slots_of i)) bytes, spelled.1, spelled.2, subst F e follows)
 
 AreBytes-slot : (b : Bool) (labels : Labels) (bytes : List ℕ) (p next : ℕ) (i : Insn) (tail : List (List ℕ))
     → p ≤ 65535 → InsnFits i → Reaches labels (target_of p i) → EntrySpells bytes p (Some i) → next ≡ p + slots_of i
@@ -268,4 +266,4 @@ AreBytes-canonical f labels bytes p (None ∷ rest) h fits cut reach spelled =
     subst S cut.0 (AreBytes-canonical f labels bytes (p + 1) rest (omega arith) fits.1 cut.1 reach.1 spelled.1)
 AreBytes-canonical f labels bytes p (Some i ∷ rest) h fits cut reach spelled =
     AreBytes-slot (f p) labels bytes p (slot_of (p + 1) rest) i (line_list f (p + 1) rest) (omega arith) fits.0.0 reach.0
-      spelled.0 cut.0 (AreBytes-canonical f labels bytes (p + 1) rest (omega arith) fits.1 cut.1 reach.1 spelled.1)
+    spelled.0 cut.0 (AreBytes-canonical f labels bytes (p + 1) rest (omega arith) fits.1 cut.1 reach.1 spelled.1)

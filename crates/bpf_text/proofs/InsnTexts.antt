@@ -1,8 +1,7 @@
 -- The canonical operands of an instruction are read back.
-use Rattle.std.proofs.Common.{ℕ, ℤ, pos, negsuc, zero, suc, ◌≡◌, ◌<◌, ◌≤◌, ◌+◌, ◌+ℤ◌, ◌^◌, ◌==◌, Bool, true, false, ◌&&◌, List, [], ◌∷◌, ◌++◌, length, refl, ap, sym, ◌∙◌, arith, codes, Option, Some, None, Ok, Err, w16, w32, w64, SFits, decimal, length-append, if◌then◌else◌, ◌/◌, ◌%◌}
-use Rattle.std.specs.List.{list_all, before_first, after_first}
+use Rattle.std.proofs.Common.{ℕ, ℤ, pos, negsuc, zero, suc, ◌≡◌, ◌<◌, ◌≤◌, ◌+◌, ◌+ℤ◌, ◌^◌, ◌==◌, Bool, true, false, List, [], ◌∷◌, ◌++◌, length, refl, ap, ◌∙◌, arith, codes, Option, Some, None, Ok, w16, w32, SFits, decimal, if◌then◌else◌, ◌/◌, ◌%◌}
 use Rattle.std.specs.Fmt.{digits, digits_onto, digit_glyph}
-use Rattle.std.proofs.lemmas.Fmt.{decimal_nonempty, digits_is_IsNumeral}
+use Rattle.std.proofs.lemmas.Fmt.{decimal_nonempty}
 use Rattle.std.proofs.lemmas.Bool.Decides.{nat_tests}
 use Rattle.bpf_isa.specs.declared.instruction.Insn.{Insn}
 use Rattle.bpf_isa.specs.declared.instruction.Insn.TheVariants as insn
@@ -13,12 +12,12 @@ use Rattle.bpf_text.specs.declared.operand.Operand.{Operand}
 use Rattle.bpf_text.specs.declared.operand.Operand.TheVariants.{Register, Signed, Unsigned, Hexadecimal, Memory, Target}
 use Rattle.bpf_text.specs.declared.operand.Operands.{Operands}
 use Rattle.bpf_text.specs.declared.operand.Operands.TheVariants.{Nothing, One, Two, Three}
-use Rattle.bpf_text.specs.Cuts.{first_operand, other_operands, before, after, trim}
+use Rattle.bpf_text.specs.Cuts.{first_operand, other_operands}
 use Rattle.bpf_text.specs.Mnemonics.{mnemonic_of}
-use Rattle.bpf_text.specs.Operands.{operand_text, operands_text, operands_of, operand_of, register_text, label_text, target_operand, IsSlot}
-use Rattle.bpf_text.specs.Tokens.{Reading, both, register, source, memory, name, immediate, unsigned, wide}
+use Rattle.bpf_text.specs.Operands.{operand_text, operands_of, operand_of, register_text, target_operand, IsSlot}
+use Rattle.bpf_text.specs.Tokens.{Reading, register, source, memory, name, immediate, unsigned, wide}
 use Rattle.bpf_text.specs.Statements.{two, instruction, target_name}
-use Rattle.bpf_text.proofs.PlainTexts.{is_plain, are_plain, plain-comma, before_first-at, after_first-at, trim-plain, list_all-append, are_plain-decimal, Snug, Snug-plain, Snug-append, Snug-trim, Snug-trim-blank}
+use Rattle.bpf_text.proofs.PlainTexts.{is_plain, are_plain, plain-comma, before_first-at, after_first-at, trim-plain, list_all-append, are_plain-decimal, Snug, Snug-plain, Snug-append, Snug-trim-blank}
 use Rattle.bpf_text.proofs.TokenTexts.{register-text, unsigned-decimal, immediate-signed, wide-hexadecimal, name-label, source-text, SourceFits, memory-text}
 
 -- operands, each after a comma and a blank
@@ -57,10 +56,10 @@ glyphs-onto zero n acc p = p
 glyphs-onto (suc k) n acc p =
     let more : are_plain (digit_glyph false (n % 16) ∷ acc) ≡ true = rw (glyph (n % 16) (omega arith), p) refl in
     choose (n / 16 == 0) (digit_glyph false (n % 16) ∷ acc) (digits_onto k 16 false (n / 16) (digit_glyph false (n % 16) ∷ acc))
-      more (glyphs-onto k (n / 16) (digit_glyph false (n % 16) ∷ acc) more) where
-  choose : (b : Bool) (x y : List ℕ) → are_plain x ≡ true → are_plain y ≡ true → are_plain (if b then x else y) ≡ true
-  choose true x y h i = h
-  choose false x y h i = i
+    more (glyphs-onto k (n / 16) (digit_glyph false (n % 16) ∷ acc) more) where
+      choose : (b : Bool) (x y : List ℕ) → are_plain x ≡ true → are_plain y ≡ true → are_plain (if b then x else y) ≡ true
+      choose true x y h i = h
+      choose false x y h i = i
 
 glyphs : (n : ℕ) → are_plain (digits 16 false n) ≡ true
 unfolding digits
@@ -71,8 +70,8 @@ plain-memory : (r sign n : ℕ) → r ≤ 10 → n < 2 ^ 64 → is_plain sign �
     → are_plain (register_text r ++ sign ∷ decimal n ++ codes "]") ≡ true
 plain-memory r sign n low h e =
     list_all-append is_plain (register_text r ++ sign ∷ decimal n) (codes "]")
-      (list_all-append is_plain (register_text r) (sign ∷ decimal n) (are_plain-decimal r (omega arith)) (rw (e, are_plain-decimal n h) refl))
-      refl
+    (list_all-append is_plain (register_text r) (sign ∷ decimal n) (are_plain-decimal r (omega arith)) (rw (e, are_plain-decimal n h) refl))
+    refl
 
 -- the text of an operand is plain
 pub plain-operand : (o : Operand) → OperandFits o → (are_plain (operand_text o) ≡ true) × (0 < length (operand_text o))
@@ -162,23 +161,23 @@ pub three-operands : {A B C : Type 0} (first : List ℕ → Reading A) (second :
     → two first (two second third) (joined (operand_text a) (joined (operand_text b) (operand_text c))) ≡ Ok (x, (y, z))
 three-operands first second third a b c x y z p q r e f g =
     two-at first (two second third) (operand_text a) (joined (operand_text b) (operand_text c)) x (y, z) (plain-operand a p).0
-      (snug-joined b c q r) e (two-operands second third b c y z q r f g)
+    (snug-joined b c q r) e (two-operands second third b c y z q r f g)
 
 -- each instruction is read back from its canonical operands
 pub instruction-text : (p : ℕ) (i : Insn) → InsnFits i → TargetFits (target_of p i)
     → instruction (mnemonic_of i) (operands_of_text (operands_of p i)) ≡ Ok (unplaced i)
 instruction-text p (insn.Binary op width dst s) fits t =
     rw (two-operands register source (Register dst) (operand_of s) dst s fits.0 (source-fits s fits.1)
-      (register-text dst fits.0) (source-text s fits.1)) refl
+    (register-text dst fits.0) (source-text s fits.1)) refl
 instruction-text p (insn.Negate width dst) fits t = rw (register-text dst fits) refl
 instruction-text p (insn.SignExtend e dst src) fits t =
     rw (two-operands register register (Register dst) (Register src) dst src fits.0 fits.1
-      (register-text dst fits.0) (register-text src fits.1)) refl
+    (register-text dst fits.0) (register-text src fits.1)) refl
 instruction-text p (insn.SwapBytes order width dst) fits t = rw (register-text dst fits) refl
 instruction-text p (insn.JumpIf c width dst s o) fits t =
     let target = target_operand (pos (p + 1) +ℤ o) in
     rw (three-operands register source name (Register dst) (operand_of s) target dst s tt fits.0 (source-fits s fits.1)
-      (target-fits (pos (p + 1) +ℤ o) t) (register-text dst fits.0) (source-text s fits.1) (name-target (pos (p + 1) +ℤ o) t)) refl
+    (target-fits (pos (p + 1) +ℤ o) t) (register-text dst fits.0) (source-text s fits.1) (name-target (pos (p + 1) +ℤ o) t)) refl
 instruction-text p (insn.Jump o) fits t = rw (name-target (pos (p + 1) +ℤ o) t) refl
 instruction-text p (insn.JumpLong d) fits t = rw (name-target (pos (p + 1) +ℤ d) t) refl
 instruction-text p (insn.CallHelper h) fits t = rw (unsigned-decimal h fits) refl
@@ -186,28 +185,28 @@ instruction-text p (insn.CallLocal d) fits t = rw (name-target (pos (p + 1) +ℤ
 instruction-text p insn.Exit fits t = refl
 instruction-text p (insn.Load size dst src o) fits t =
     rw (two-operands register memory (Register dst) (Memory src o) dst (src, o) fits.0 (fits.1, fits.2)
-      (register-text dst fits.0) (memory-text src o fits.1 fits.2)) refl
+    (register-text dst fits.0) (memory-text src o fits.1 fits.2)) refl
 instruction-text p (insn.LoadSigned size dst src o) fits t =
     rw (two-operands register memory (Register dst) (Memory src o) dst (src, o) fits.0 (fits.1, fits.2)
-      (register-text dst fits.0) (memory-text src o fits.1 fits.2)) refl
+    (register-text dst fits.0) (memory-text src o fits.1 fits.2)) refl
 instruction-text p (insn.StoreImmediate size dst o value) fits t =
     rw (two-operands memory immediate (Memory dst o) (Signed value) (dst, o) value (fits.0, fits.1) fits.2
-      (memory-text dst o fits.0 fits.1) (immediate-signed value fits.2)) refl
+    (memory-text dst o fits.0 fits.1) (immediate-signed value fits.2)) refl
 instruction-text p (insn.StoreRegister size dst src o) fits t =
     rw (two-operands memory register (Memory dst o) (Register src) (dst, o) src (fits.0, fits.2) fits.1
-      (memory-text dst o fits.0 fits.2) (register-text src fits.1)) refl
+    (memory-text dst o fits.0 fits.2) (register-text src fits.1)) refl
 instruction-text p (insn.Atomic op width dst src o) fits t =
     rw (two-operands memory register (Memory dst o) (Register src) (dst, o) src (fits.0, fits.2) fits.1
-      (memory-text dst o fits.0 fits.2) (register-text src fits.1)) refl
+    (memory-text dst o fits.0 fits.2) (register-text src fits.1)) refl
 instruction-text p (insn.LoadNumber dst value) fits t =
     rw (two-operands register wide (Register dst) (Hexadecimal value) dst value fits.0 fits.1
-      (register-text dst fits.0) (wide-hexadecimal value fits.1)) refl
+    (register-text dst fits.0) (wide-hexadecimal value fits.1)) refl
 instruction-text p (insn.LoadMap dst m) fits t =
     rw (two-operands register unsigned (Register dst) (Unsigned m) dst m fits.0 fits.1
-      (register-text dst fits.0) (unsigned-decimal m fits.1)) refl
+    (register-text dst fits.0) (unsigned-decimal m fits.1)) refl
 instruction-text p (insn.LoadMapValue dst m o) fits t =
     rw (three-operands register unsigned unsigned (Register dst) (Unsigned m) (Unsigned o) dst m o fits.0 fits.1 fits.2
-      (register-text dst fits.0) (unsigned-decimal m fits.1) (unsigned-decimal o fits.2)) refl
+    (register-text dst fits.0) (unsigned-decimal m fits.1) (unsigned-decimal o fits.2)) refl
 
 -- the text of a target, if there is one
 abbrev pub target_text : Option ℤ → Option (List ℕ)
@@ -221,9 +220,9 @@ target-text p (insn.JumpIf c width dst s o) fits t =
     let target = target_operand (pos (p + 1) +ℤ o) in
     let far = target-fits (pos (p + 1) +ℤ o) t in
     let others = other_operands-at (register_text dst) (joined (operand_text (operand_of s)) (operand_text target))
-      (plain-operand (Register dst) fits.0).0 (snug-joined (operand_of s) target (source-fits s fits.1) far) in
+    (plain-operand (Register dst) fits.0).0 (snug-joined (operand_of s) target (source-fits s fits.1) far) in
     let last = other_operands-at (operand_text (operand_of s)) (operand_text target)
-      (plain-operand (operand_of s) (source-fits s fits.1)).0 (snug-operand target far) in
+    (plain-operand (operand_of s) (source-fits s fits.1)).0 (snug-operand target far) in
     ap (λ x. Some (other_operands x)) others ∙ ap Some last
 target-text p (insn.Jump o) fits t = refl
 target-text p (insn.JumpLong d) fits t = refl

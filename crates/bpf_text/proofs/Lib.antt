@@ -9,6 +9,7 @@ pub mod LineTexts
 pub mod Listings
 pub mod MnemonicNames
 pub mod Offsets
+pub mod OneAssembly
 pub mod PlainTexts
 pub mod ProgramParts
 pub mod Rounds

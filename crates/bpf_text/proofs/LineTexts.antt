@@ -1,9 +1,8 @@
 -- The canonical lines are read back.
-use Rattle.std.proofs.Common.{ℕ, ℤ, pos, negsuc, zero, suc, ◌≡◌, ◌<◌, ◌≤◌, ◌+◌, ◌+ℤ◌, ◌^◌, ◌==◌, Bool, true, false, ◌&&◌, not, nat_lt, nat_le, List, [], ◌∷◌, ◌++◌, length, refl, ap, sym, ◌∙◌, arith, codes, if◌then◌else◌, Option, Some, None, Ok, Err, length-append, append_assoc}
-use Rattle.std.specs.List.{list_all, position_or_len, before_first, after_first}
+use Rattle.std.proofs.Common.{ℕ, pos, ◌≡◌, ◌<◌, ◌+◌, ◌+ℤ◌, ◌^◌, ◌==◌, Bool, true, false, ◌&&◌, not, nat_lt, nat_le, List, [], ◌∷◌, ◌++◌, length, refl, ap, ◌∙◌, arith, codes, if◌then◌else◌, Option, Some, None, Ok, Err, length-append, append_assoc}
+use Rattle.std.specs.List.{list_all, position_or_len}
 use Rattle.std.proofs.lemmas.Bool.Decides.{nat_tests}
 use Rattle.std.proofs.lemmas.List.{append-nil}
-use Rattle.std.proofs.Math.Seq.{take-append_seam}
 use Rattle.bpf_isa.specs.declared.instruction.Insn.{Insn}
 use Rattle.bpf_isa.specs.declared.instruction.Insn.TheVariants as insn
 use Rattle.bpf_isa.specs.Programs.{target_of}
@@ -93,16 +92,16 @@ line-operands name (One a) p some fits =
     line-some name (operand_text a) p some (code-operand a fits) (snug-operand a fits)
 line-operands name (Two a b) p some fits =
     line-some name (joined (operand_text a) (operand_text b)) p some
-      (code-joined (operand_text a) (operand_text b) (code-operand a fits.0) (code-operand b fits.1))
-      (snug-joined a b fits.0 fits.1)
+    (code-joined (operand_text a) (operand_text b) (code-operand a fits.0) (code-operand b fits.1))
+    (snug-joined a b fits.0 fits.1)
 line-operands name (Three a b c) p some fits =
     let inner = joined (operand_text b) (operand_text c) in
     let whole = joined (operand_text a) inner in
     let code = code-joined (operand_text a) inner (code-operand a fits.0)
-      (code-joined (operand_text b) (operand_text c) (code-operand b fits.1) (code-operand c fits.2)) in
+    (code-joined (operand_text b) (operand_text c) (code-operand b fits.1) (code-operand c fits.2)) in
     let snug = Snug-append (operand_text a) (44 ∷ 32 ∷ []) inner (snug-operand a fits.0) (snug-joined b c fits.1 fits.2) in
     rw (append_assoc (operand_text a) (44 ∷ 32 ∷ operand_text b) (44 ∷ 32 ∷ operand_text c))
-      (line-some name whole p some code snug)
+    (line-some name whole p some code snug)
 
 -- the operands of an instruction are in their ranges
 operands-fit : (p : ℕ) (i : Insn) → InsnFits i → TargetFits (target_of p i) → OperandsFit (operands_of p i)
@@ -177,9 +176,9 @@ Reads-insn p i fits t =
       clean = rw cut.0 (list_all-weaken is_code is_text line code-text known.code);
       label = rw (cut.0, cut.2, cut.1) refl;
       insn = ap insn_of_body body ∙ insn_of_body-some line known.snug.some
-        ∙ rw (known.mnemonic, known.operands, named-name_of m, instruction-text p i fits t) refl;
+          ∙ rw (known.mnemonic, known.operands, named-name_of m, instruction-text p i fits t) refl;
       target = ap target_of_body body ∙ target_of_body-some line known.snug.some
-        ∙ rw (known.mnemonic, known.operands, named-name_of m) (target-text p i fits t);
+          ∙ rw (known.mnemonic, known.operands, named-name_of m) (target-text p i fits t);
     }
 
 -- the line of a label
@@ -216,17 +215,17 @@ Reads-label p h =
     let line = label ++ 58 ∷ [] in
     let plain = are_plain-decimal p h in
     let code : code_of line ≡ line = before_first-none (λ b. b == 59) (λ b. not (b == 59)) line not-semicolon
-      (list_all-append (λ b. not (b == 59)) label (58 ∷ []) (list_all-weaken is_plain (λ b. not (b == 59)) label plain-semicolon plain) refl) in
+    (list_all-append (λ b. not (b == 59)) label (58 ∷ []) (list_all-weaken is_plain (λ b. not (b == 59)) label plain-semicolon plain) refl) in
     let snug = Snug-plain label (omega arith) plain in
     let start : trim_start line ≡ line = snug.start (58 ∷ []) in
     let here = position_or_len-at (λ b. b == 58) is_plain label 58 [] plain-colon refl plain in
     let front = before_first-at (λ b. b == 58) is_plain label 58 [] plain-colon refl plain in
     let back = after_first-at (λ b. b == 58) is_plain label 58 [] plain-colon refl plain in
     let within = ap (λ n. nat_lt n (length line)) here
-      ∙ less-true (length label) (length line) (omega (arith, length-append label (58 ∷ []))) in
+    ∙ less-true (length label) (length line) (omega (arith, length-append label (58 ∷ []))) in
     let labelled : is_labelled line ≡ true =
-      and-join (nat_lt (position_or_len (λ b. b == 58) line) (length line)) (is_name (before 58 line)) within
-        (ap is_name front ∙ name-true label (name-label p h)) in
+    and-join (nat_lt (position_or_len (λ b. b == 58) line) (length line)) (is_name (before 58 line)) within
+    (ap is_name front ∙ name-true label (name-label p h)) in
     let body : body_of line ≡ [] = rw (code, start, labelled) (ap trim back) in
     record {
       feedless = list_all-append (λ b. not (b == 10)) label (58 ∷ []) (list_all-weaken is_plain (λ b. not (b == 10)) label plain-feed plain) refl;

@@ -1,10 +1,10 @@
 -- Each mnemonic is found by its name.
-use Rattle.std.proofs.Common.{ℕ, ◌≡◌, ◌<◌, ◌++◌, true, length, length-append, codes, arith, List, Option, Some, refl}
+use Rattle.std.proofs.Common.{ℕ, ◌≡◌, ◌<◌, ◌++◌, true, length, length-append, codes, arith, List, Some, refl}
 use Rattle.bpf_text.proofs.PlainTexts.{is_plain, are_plain, list_all-append}
 use Rattle.bpf_isa.specs.declared.instruction.Width.{Width}
 use Rattle.bpf_isa.specs.declared.instruction.Width.TheVariants.{Bits32, Bits64}
 use Rattle.bpf_isa.specs.declared.instruction.Size.{Size}
-use Rattle.bpf_isa.specs.declared.instruction.Size.TheVariants.{Word, Half, Byte, Double}
+use Rattle.bpf_isa.specs.declared.instruction.Size.TheVariants.{Word}
 use Rattle.bpf_isa.specs.declared.instruction.SignedSize.{SignedSize}
 use Rattle.bpf_isa.specs.declared.instruction.SignedSize.TheVariants as signed
 use Rattle.bpf_isa.specs.declared.instruction.BinaryOp.{BinaryOp}
@@ -20,7 +20,7 @@ use Rattle.bpf_isa.specs.declared.instruction.Condition.TheVariants as condition
 use Rattle.bpf_isa.specs.declared.instruction.AtomicOp.{AtomicOp}
 use Rattle.bpf_isa.specs.declared.instruction.AtomicOp.TheVariants as atomic
 use Rattle.bpf_text.specs.declared.mnemonic.Mnemonic.{Mnemonic}
-use Rattle.bpf_text.specs.declared.mnemonic.Mnemonic.TheVariants.{Binary, Negate, SignExtend, SwapBytes, JumpIf, Jump, JumpLong, CallHelper, CallLocal, Exit, Load, LoadSigned, StoreImmediate, StoreRegister, Atomic, LoadNumber, LoadMap, LoadMapValue}
+use Rattle.bpf_text.specs.declared.mnemonic.Mnemonic.TheVariants.{Binary, Negate, SignExtend, SwapBytes, JumpIf, Jump, Load, LoadSigned, StoreImmediate, StoreRegister, Atomic}
 use Rattle.bpf_text.specs.Mnemonics.{name_of, binary_name, width_suffix, condition_name, atomic_name}
 use Rattle.bpf_text.specs.Named.{named}
 

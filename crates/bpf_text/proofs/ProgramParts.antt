@@ -1,5 +1,5 @@
 -- What a checked program's words say of its instructions.
-use Rattle.std.proofs.Common.{ℕ, ℤ, pos, suc, zero, ◌≡◌, ◌<◌, ◌≤◌, ◌+◌, ◌*◌, ◌^◌, List, [], ◌∷◌, length, refl, ap, sym, ◌∙◌, arith, subst, slice_index, w16, w32, SFits, Fits, All, inl, inr}
+use Rattle.std.proofs.Common.{ℕ, ℤ, ◌≡◌, ◌<◌, ◌≤◌, ◌+◌, ◌^◌, List, length, arith, subst, slice_index, w16, w32, SFits, All, inl, inr}
 use Rattle.std.proofs.lemmas.Bool.Decides.{leb_tells}
 use Rattle.std.proofs.lemmas.List.{get_or_past}
 use Rattle.std.specs.Int.{cast_signed}
@@ -15,9 +15,9 @@ use Rattle.bpf_text.proofs.InsnTexts.{InsnFits}
 -- a byte
 small-at : (s : List ℕ) (k : ℕ) → All (λ b. b < 256) s → slice_index s k < 256
 small-at s k p = elim (leb_tells (length s) k) [
-    inl t ↦ let none : slice_index s k ≡ 0 = get_or_past s k 0 t.1 in omega arith
+  | inl t ↦ let none : slice_index s k ≡ 0 = get_or_past s k 0 t.1 in omega arith
   | inr t ↦ p k 0 t.1
-  ]
+]
 
 half-small : (s : List ℕ) (k : ℕ) → All (λ b. b < 256) s → half_at s k < 2 ^ 16
 half-small s k p = omega (arith, small-at s k p, small-at s (k + 1) p)

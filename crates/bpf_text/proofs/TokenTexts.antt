@@ -1,23 +1,23 @@
 -- Canonical operands are read back.
-use Rattle.std.proofs.Common.{ℕ, ℤ, pos, negsuc, zero, suc, ◌≡◌, ◌<◌, ◌≤◌, ◌+◌, ◌-◌, ◌/◌, ◌%◌, ◌^◌, ◌==◌, ◌||◌, Bool, true, false, ◌&&◌, not, min, List, [], ◌∷◌, ◌++◌, take, drop, length, refl, ap, sym, ◌∙◌, arith, inl, inr, lit<, lit≤, nat_lt, nat_le, codes, Some, Ok, Err, w32, w16, SFits, slice_index, subst, length-append}
+use Rattle.std.proofs.Common.{ℕ, ℤ, pos, negsuc, zero, suc, ◌≡◌, ◌<◌, ◌≤◌, ◌+◌, ◌-◌, ◌%◌, ◌^◌, ◌==◌, Bool, true, false, ◌&&◌, not, min, List, [], ◌∷◌, ◌++◌, length, refl, ap, ◌∙◌, arith, inl, inr, lit<, lit≤, nat_lt, nat_le, Some, Ok, Err, w32, w16, SFits, slice_index, length-append}
 use Rattle.std.proofs.Math.Seq.{get_or-append_seam, drop-append-add, take-append_seam}
 use Rattle.std.proofs.lemmas.Bool.{eq-eqb}
 use Rattle.bpf_text.specs.declared.operand.Operand.TheVariants.{Memory}
-use Rattle.std.specs.List.{list_all, position_or_len}
+use Rattle.std.specs.List.{list_all}
 use Rattle.std.specs.Fmt.{decimal, digits, signed_decimal}
 use Rattle.std.specs.Str.Parse.{AllDigits, IsNumeral, digits_value}
 use Rattle.std.specs.Char.{digit_value}
-use Rattle.std.proofs.lemmas.Fmt.{decimal_by_steps, decimal_digit, decimal_step, decimal_is_IsNumeral, digits_is_IsNumeral, decimal_nonempty}
+use Rattle.std.proofs.lemmas.Fmt.{decimal_by_steps, decimal_digit, decimal_step, decimal_is_IsNumeral, digits_is_IsNumeral}
 use Rattle.std.proofs.lemmas.Bool.Decides.{nat_tests, leb_tells}
 use Rattle.std.proofs.lemmas.Int.{to_z_pos}
-use Rattle.bpf_text.specs.declared.fault.OperandFault.TheVariants.{Wrong, OutOfRange}
+use Rattle.bpf_text.specs.declared.fault.OperandFault.TheVariants.{Wrong}
 use Rattle.bpf_isa.specs.declared.instruction.Source.{Source}
 use Rattle.bpf_isa.specs.declared.instruction.Source.TheVariants as source_is
-use Rattle.bpf_text.specs.Cuts.{is_name, is_letter, is_name_byte, trim}
-use Rattle.bpf_text.specs.Tokens.{register, numeral, number, has_prefix, is_negative, magnitude, unsigned, immediate, wide, source, name, memory, place, offset, offset_of, is_sign}
+use Rattle.bpf_text.specs.Cuts.{is_name_byte}
+use Rattle.bpf_text.specs.Tokens.{register, numeral, number, has_prefix, is_negative, unsigned, immediate, wide, source, name, memory, place, offset, offset_of, is_sign}
 use Rattle.bpf_text.specs.Writing.{hexadecimal}
 use Rattle.bpf_text.specs.Operands.{register_text, label_text, operand_of, operand_text}
-use Rattle.bpf_text.proofs.PlainTexts.{is_plain, are_plain, list_all-append, list_all-weaken, are_plain-decimal, position_or_len-at, before_first-at, trim-plain}
+use Rattle.bpf_text.proofs.PlainTexts.{are_plain, list_all-append, list_all-weaken, are_plain-decimal, position_or_len-at, before_first-at, trim-plain}
 
 -- a decimal digit
 abbrev pub is_decimal : ℕ → Bool
@@ -58,13 +58,13 @@ register-ten s e = rw e refl
 
 pub register-text : (r : ℕ) → r ≤ 10 → register (register_text r) ≡ Ok r
 register-text r h = elim (leb_tells 10 r) [
-    inl t ↦
+  | inl t ↦
       let ten : r ≡ 10 = omega (arith, t.1) in
       rw ten (register-ten (decimal 10) (decimal_step 10 (lit≤ tt) (lit< tt) ∙ ap (λ d. d ++ 48 ∷ []) (decimal_digit 1 (lit< tt))))
   | inr t ↦
       let back : 48 + r - 48 ≡ r = omega arith in
       rw (decimal_digit r t.1) (register-digit (48 + r) (is_decimal-digit r t.1) ∙ ap Ok back)
-  ]
+]
 
 -- digits as a number
 list_all-AllDigits : (radix : ℕ) (s : List ℕ) → AllDigits radix s → list_all (λ d. nat_lt (digit_value d) radix) s ≡ true
@@ -72,8 +72,8 @@ list_all-AllDigits radix [] p = refl
 list_all-AllDigits radix (b ∷ s) p =
     let here : nat_lt (digit_value b) radix ≡ true = less (digit_value b) radix p.0 in
     rw (here, list_all-AllDigits radix s p.1) refl where
-  less : (a b : ℕ) → a < b → nat_lt a b ≡ true
-  less a b h = grind (arith, nat_tests)
+      less : (a b : ℕ) → a < b → nat_lt a b ≡ true
+      less a b h = grind (arith, nat_tests)
 
 pub numeral-digits : (radix n : ℕ) (s : List ℕ) → IsNumeral radix s → digits_value radix s ≡ n → n < 2 ^ 64
     → numeral radix s ≡ Some n
@@ -87,9 +87,9 @@ numeral-digits radix n (c ∷ s) known e h =
 has_prefix-decimal : (s : List ℕ) → list_all is_decimal s ≡ true → has_prefix s ≡ false
 has_prefix-decimal s p = and-false (slice_index s 0 == 48) (slice_index s 1 == 120)
     (slice_index-other is_decimal 120 s 1 (λ b d. grind (arith, nat_tests)) refl p) where
-  and-false : (a b : Bool) → b ≡ false → (a && b) ≡ false
-  and-false true b h = h
-  and-false false b h = refl
+      and-false : (a b : Bool) → b ≡ false → (a && b) ≡ false
+      and-false true b h = h
+      and-false false b h = refl
 
 pub number-decimal : (n : ℕ) → n < 2 ^ 64 → number (decimal n) ≡ Some n
 number-decimal n h =
@@ -188,8 +188,13 @@ offset-at : (reg : List ℕ) (sign : ℕ) (number_text : List ℕ) → list_all 
 offset-at reg sign number_text none e plain =
     let here = position_or_len-at is_sign no_sign reg sign number_text no_sign-sign e none in
     let within : length reg < length (reg ++ sign ∷ number_text) = omega (arith, length-append reg (sign ∷ number_text)) in
-    rw (here, less-eqb (length reg) (length (reg ++ sign ∷ number_text)) within, get_or-append_seam reg sign number_text 0,
-      drop-append-add reg (sign ∷ number_text) 1, trim-plain number_text plain) refl
+    rw (
+      here,
+      less-eqb (length reg) (length (reg ++ sign ∷ number_text)) within,
+      get_or-append_seam reg sign number_text 0,
+      drop-append-add reg (sign ∷ number_text) 1,
+      trim-plain number_text plain,
+    ) refl
 
 place-at : (reg : List ℕ) (r sign : ℕ) (number_text : List ℕ) (o : ℤ) → list_all no_sign reg ≡ true → is_sign sign ≡ true
     → are_plain reg ≡ true → are_plain number_text ≡ true → register reg ≡ Ok r
@@ -218,8 +223,8 @@ memory-signed r sign n o low h e f known =
     let number_open = list_all-weaken is_decimal is_open (decimal n) decimal-open digits_n in
     let inner_open = list_all-append is_open (decimal r) (sign ∷ decimal n) reg_open (rw (f, number_open) refl) in
     memory-at (register_text r ++ sign ∷ decimal n) r o inner_open
-      (place-at (register_text r) r sign (decimal n) o reg_no_sign e (are_plain-decimal r (omega arith)) (are_plain-decimal n h)
-        (register-text r low) (ap (offset_of (sign == 45)) (number-decimal n h) ∙ known))
+    (place-at (register_text r) r sign (decimal n) o reg_no_sign e (are_plain-decimal r (omega arith)) (are_plain-decimal n h)
+    (register-text r low) (ap (offset_of (sign == 45)) (number-decimal n h) ∙ known))
 
 pub memory-text : (r : ℕ) (o : ℤ) → r ≤ 10 → SFits w16 o → memory (operand_text (Memory r o)) ≡ Ok (r, o)
 memory-text r (pos n) low fits =
