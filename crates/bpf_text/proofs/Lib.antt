@@ -1,7 +1,17 @@
 pub mod Appending
+pub mod CanonicalLaw
+pub mod CanonicalLines
+pub mod CanonicalRounds
 pub mod Cutting
 pub mod HexDigits
+pub mod InsnTexts
+pub mod LineTexts
 pub mod Listings
+pub mod MnemonicNames
 pub mod Offsets
+pub mod OneAssembly
+pub mod PlainTexts
+pub mod ProgramParts
 pub mod Rounds
 pub mod Saturating
+pub mod TokenTexts

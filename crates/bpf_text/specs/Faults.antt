@@ -1,5 +1,5 @@
 -- The faults of listings and their numbers. They are bpfdb's own choice.
-use Rattle.std.specs.Prelude.{ℕ, Option, Some, None}
+use Rattle.std.specs.Prelude.{ℕ, List, Option, Some, None, codes}
 use Rattle.bpf_text.specs.declared.fault.LineFault.{LineFault}
 use Rattle.bpf_text.specs.declared.fault.LineFault.TheVariants.{UnknownMnemonic, WrongOperands, OutOfRange, LabelTwice, UnknownLabel, NotText, TooManySlots}
 use Rattle.bpf_text.specs.declared.fault.AsmFault.{AsmFault}
@@ -19,6 +19,20 @@ line_fault_number TooManySlots = 8
 abbrev pub fault_number : AsmFault → ℕ
 fault_number (Line fault line) = line_fault_number fault
 fault_number Memory = 7
+
+-- The text of a fault.
+abbrev pub line_fault_text : LineFault → List ℕ
+line_fault_text UnknownMnemonic = codes "unknown mnemonic"
+line_fault_text WrongOperands = codes "wrong operands"
+line_fault_text OutOfRange = codes "number out of range"
+line_fault_text LabelTwice = codes "label defined twice"
+line_fault_text UnknownLabel = codes "unknown label"
+line_fault_text NotText = codes "byte outside ASCII text"
+line_fault_text TooManySlots = codes "too many slots"
+
+abbrev pub fault_text : AsmFault → List ℕ
+fault_text (Line fault line) = line_fault_text fault
+fault_text Memory = codes "out of memory"
 
 -- The line of a fault.
 abbrev pub fault_line : AsmFault → Option ℕ

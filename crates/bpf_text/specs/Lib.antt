@@ -2,6 +2,7 @@ pub mod Canonical
 pub mod Counted
 pub mod Cuts
 pub mod Faults
+pub mod Laws
 pub mod Listing
 pub mod Mnemonics
 pub mod Named

@@ -1,6 +1,6 @@
 //! What reading, writing and assembling a text can answer.
 ghost use Rattle.std.specs.Prelude.{◌≡◌};
-ghost use Rattle.bpf_text.specs.Faults.{fault_number, fault_line};
+ghost use Rattle.bpf_text.specs.Faults.{fault_number, fault_line, fault_text};
 
 /// A reader answered an error.
 #[derive(Clone, Copy)]
@@ -67,7 +67,9 @@ impl AsmFault {
     }
 
     /// Its text.
-    pub fn text(&self) -> &'static str {
+    pub fn text(&self) -> &'static str
+        ensures { result.now ≡ fault_text self.now }
+    {
         match *self {
             AsmFault::Line(fault, _) => match fault {
                 LineFault::UnknownMnemonic => "unknown mnemonic",

@@ -1,4 +1,4 @@
-//! The texts of BPF programs: the assembler and the disassembler, over readers and writers that count.
+//! Listings of BPF programs: the assembler and the disassembler, over counted readers and writers.
 #![tactic(auto)]
 
 mod assembler;
@@ -10,6 +10,7 @@ mod first_round;
 mod hexadecimal;
 mod insn;
 mod labels;
+mod laws;
 mod line;
 mod mnemonic;
 mod names;
@@ -26,10 +27,9 @@ mod writing;
 pub use assembler::assemble;
 pub use counted::Counted;
 pub use disassembler::disassemble;
-pub use fault::{AsmFault, LineFault, OperandFault, ReadFault, WriteFault};
+pub use fault::{AsmFault, LineFault, ReadFault, WriteFault};
 pub use hexadecimal::put_hexadecimal;
 pub use insn::{put_insn, put_label, write_insn};
-pub use mnemonic::Mnemonic;
-pub use operand::{Operand, Operands, operands_of, target_of};
+pub use laws::{canonical_listing, one_reading};
 pub use reading::read_byte;
 pub use writing::{put, put_decimal, put_signed, write_text};

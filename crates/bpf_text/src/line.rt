@@ -118,7 +118,8 @@ pub fn slot_after_insn(slot: usize, count: usize) -> Result<usize, LineFault>
     requires within { slot ≤ 65535 }
     requires few { count ≤ 2 }
     ensures within { IfOk result (λ next. next ≤ 65535) }
-    ensures value { result ≡ (if nat_le (slot + count) 65535 then Ok (slot + count) else Err LineFault.TooManySlots) }
+    ensures value { result ≡ (if nat_le (slot + count) 65535 then Ok (slot + count)
+        else Err LineFault.TooManySlots) }
 {
     let next = slot + count;
     if next <= 65535 {

@@ -18,8 +18,10 @@ pub fn second_round(
     text: &[u8],
     labels: &HashMap<&[u8], u16>,
 ) -> Result<Vec<u8>, AsmFault>
-    ensures ok { IfOk result (λ bytes. second_round (places labels.now) 0 1 (lines text.now) ≡ Ok tt) }
-    ensures value { IfOk result (λ bytes. AreBytes (places labels.now) 0 (lines text.now) bytes.items) }
+    ensures ok { OnOk result
+        (second_round (places labels.now) 0 1 (lines text.now) ≡ Ok tt) }
+    ensures value { IfOk result (λ bytes.
+        AreBytes (places labels.now) 0 (lines text.now) bytes.items) }
     ensures err { IfErr result (IsFaultOf (second_round (places labels.now) 0 1 (lines text.now))) }
 {
     let mut bytes = Vec::new(alloc);

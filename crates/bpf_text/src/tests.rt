@@ -262,23 +262,34 @@ fn long(alloc: Global, first: &str, count: usize, last: &str) -> Result<String, 
     Ok(text)
 }
 
-#[test]
-fn keeps_the_limits(rt: HostRuntime) -> Result<(), Fail> {
-    for (first, count, last, number, line) in [
-        ("", 65535, "", 0, 0),
-        ("", 65535, "exit", 8, 65536),
-        ("", 65534, "lddw r0, 0", 8, 65535),
-        ("ja x\n", 32767, "x: exit", 0, 0),
-        ("ja x\n", 32768, "x: exit", 3, 1),
-        ("ja32 x\n", 32768, "x: exit", 0, 0),
-    ] {
-        let text = long(rt.alloc(), first, count, last)?;
-        let found = match assemble(rt.alloc(), text.as_bytes()) {
-            Ok(_) => (0, 0),
-            Err(fault) => (fault.number(), fault.line().unwrap_or(0)),
-        };
-        assert_eq!(rt; found, (number, line), "{first}{count}{last}");
+// The number and the line of the fault of many lines, or zeros.
+fn limit(alloc: Global, first: &str, count: usize, last: &str) -> Result<(u8, usize), Fail> {
+    let text = long(alloc, first, count, last)?;
+    match assemble(alloc, text.as_bytes()) {
+        Ok(_) => Ok((0, 0)),
+        Err(fault) => Ok((fault.number(), fault.line().unwrap_or(0))),
     }
+}
+
+#[test]
+fn fills_the_last_slot(rt: HostRuntime) -> Result<(), Fail> {
+    assert_eq!(rt; limit(rt.alloc(), "", 65535, "")?, (0, 0));
+    assert_eq!(rt; limit(rt.alloc(), "", 65535, "exit")?, (8, 65536));
+    Ok(())
+}
+
+#[test]
+fn keeps_a_wide_load_whole(rt: HostRuntime) -> Result<(), Fail> {
+    assert_eq!(rt; limit(rt.alloc(), "", 65533, "lddw r0, 0")?, (0, 0));
+    assert_eq!(rt; limit(rt.alloc(), "", 65534, "lddw r0, 0")?, (8, 65535));
+    Ok(())
+}
+
+#[test]
+fn reaches_far_targets(rt: HostRuntime) -> Result<(), Fail> {
+    assert_eq!(rt; limit(rt.alloc(), "ja x\n", 32767, "x: exit")?, (0, 0));
+    assert_eq!(rt; limit(rt.alloc(), "ja x\n", 32768, "x: exit")?, (3, 1));
+    assert_eq!(rt; limit(rt.alloc(), "ja32 x\n", 32768, "x: exit")?, (0, 0));
     Ok(())
 }
 

@@ -1,0 +1,269 @@
+-- The two rounds over the canonical listing.
+use Rattle.std.proofs.Common.{ℕ, ℤ, pos, negsuc, suc, zero, ◌≡◌, ◌<◌, ◌≤◌, ◌+◌, ◌*◌, ◌+ℤ◌, ◌-ℤ◌, Bool, true, false, nat_le, List, [], ◌∷◌, ◌++◌, drop, length, refl, ap, sym, ◌∙◌, arith, codes, subst, Option, Some, None, Ok, Result, w16, SFits, decimal, IsSome, unwrap_or, slice_get}
+use Rattle.std.specs.Cmp.Lexicographic.{same_text}
+use Rattle.std.proofs.lemmas.Bool.{eq-eqb}
+use Rattle.std.proofs.lemmas.Int.{ints}
+use Rattle.bpf_text.specs.declared.fault.AsmFault.{AsmFault}
+use Rattle.std.specs.Str.{bytes_eq}
+use Rattle.std.proofs.lemmas.Bool.Decides.{nat_tests}
+use Rattle.std.proofs.lemmas.Fmt.{decimal_injective}
+use Rattle.bpf_isa.specs.declared.instruction.Insn.{Insn}
+use Rattle.bpf_isa.specs.declared.instruction.Insn.TheVariants as insn
+use Rattle.bpf_isa.specs.Programs.{target_of, slots_of}
+use Rattle.bpf_isa.specs.Words.{IsWord}
+use Rattle.bpf_text.specs.Operands.{text_of_insn, label_text}
+use Rattle.bpf_text.specs.Listing.{Labels, labels_with, slot_after, line_end, first_round, second_round, resolved, with_target, with_distance, fits_offset, AreBytes}
+use Rattle.bpf_text.proofs.InsnTexts.{InsnFits, TargetFits, unplaced, target_text}
+use Rattle.bpf_text.proofs.LineTexts.{Reads-insn, Reads-label}
+use Rattle.bpf_text.proofs.CanonicalLines.{slot_list, line_list, AllFit}
+
+-- the slot of the next instruction from slot p on
+abbrev pub slot_of : ℕ → List (Option Insn) → ℕ
+slot_of p [] = p
+slot_of p (Some i ∷ rest) = p
+slot_of p (None ∷ rest) = p + 1
+
+-- each instruction takes its slots
+abbrev pub WellCut : ℕ → List (Option Insn) → Type 0
+WellCut p [] = Unit {0}
+WellCut p (Some i ∷ rest) = (slot_of (p + 1) rest ≡ p + slots_of i) × WellCut (p + 1) rest
+WellCut p (None ∷ rest) = (slot_of (p + 1) rest ≡ p + 1) × WellCut (p + 1) rest
+
+slot_of-le : (p : ℕ) (rest : List (Option Insn)) → slot_of p rest ≤ p + length rest
+slot_of-le p [] = omega arith
+slot_of-le p (Some i ∷ rest) = omega arith
+slot_of-le p (None ∷ rest) = omega arith
+
+-- the labels after the slots from p on
+abbrev pub labels_at : Bool → Labels → ℕ → Labels
+labels_at false labels p = labels
+labels_at true labels p = labels_with labels p (Some (label_text p))
+
+abbrev pub labels_after : (ℕ → Bool) → Labels → ℕ → List (Option Insn) → Labels
+labels_after f labels p [] = labels
+labels_after f labels p (None ∷ rest) = labels_after f labels (p + 1) rest
+labels_after f labels p (Some i ∷ rest) = labels_after f (labels_at (f p) labels p) (p + 1) rest
+
+-- no slot from p on is labelled
+abbrev pub Fresh : Labels → ℕ → Type 0
+Fresh labels p = (q : ℕ) → p ≤ q → q ≤ 65535 → labels (label_text q) ≡ None
+
+slots_of-unplaced : (i : Insn) → slots_of (unplaced i) ≡ slots_of i
+slots_of-unplaced (insn.JumpIf c width dst s o) = refl
+slots_of-unplaced (insn.Jump o) = refl
+slots_of-unplaced (insn.JumpLong d) = refl
+slots_of-unplaced (insn.CallLocal d) = refl
+slots_of-unplaced i = refl
+
+-- the first round at an instruction's line
+line_end-insn : (labels : Labels) (p : ℕ) (i : Insn) → InsnFits i → TargetFits (target_of p i) → p + slots_of i ≤ 65535
+    → line_end labels p (text_of_insn p i) ≡ Ok (p + slots_of i)
+line_end-insn labels p i fits t room =
+    let read = Reads-insn p i fits t in
+    let within : nat_le (p + slots_of i) 65535 ≡ true = grind (arith, nat_tests) in
+    rw (read.clean, read.label, read.insn, slots_of-unplaced i, within) refl
+
+-- the first round at a label's line
+line_end-label : (labels : Labels) (p : ℕ) → p ≤ 65535 → labels (label_text p) ≡ None
+    → line_end labels p (label_text p ++ codes ":") ≡ Ok p
+line_end-label labels p h none =
+    let read = Reads-label p (omega arith) in
+    rw (read.clean, read.label, none, read.insn) refl
+
+-- a label differs from those of other slots
+label-other : (p q : ℕ) → p ≤ 65535 → q ≤ 65535 → (p ≡ q → ⊥) → bytes_eq (label_text p) (label_text q) ≡ false
+label-other p q h i apart = go (bytes_eq (decimal p) (decimal q)) refl where
+  go : (b : Bool) → bytes_eq (decimal p) (decimal q) ≡ b → bytes_eq (label_text p) (label_text q) ≡ false
+  go true e = absurd (apart (decimal_injective p q (omega arith) (omega arith) (same_text (decimal p) (decimal q) (sym e))))
+  go false e = e
+
+bytes_eq-self : (s : List ℕ) → bytes_eq s s ≡ true
+bytes_eq-self [] = refl
+bytes_eq-self (b ∷ s) = rw (eq-eqb b b refl) (bytes_eq-self s)
+
+-- after a label further slots have none
+Fresh-next : (b : Bool) (labels : Labels) (p : ℕ) → p ≤ 65535 → Fresh labels p → Fresh (labels_at b labels p) (p + 1)
+Fresh-next false labels p h fresh q more most = fresh q (omega arith) most
+Fresh-next true labels p h fresh q more most =
+    rw (label-other p q h most (λ e. absurd (omega arith))) (fresh q (omega arith) most)
+
+-- the first round at a slot, and over all
+first_round-slot : (b : Bool) (labels : Labels) (p number next : ℕ) (i : Insn) (tail : List (List ℕ)) (result : Result Labels AsmFault)
+    → p ≤ 65535 → Fresh labels p → InsnFits i → TargetFits (target_of p i) → p + slots_of i ≤ 65535
+    → next ≡ p + slots_of i
+    → ((count : ℕ) → first_round (labels_at b labels p) next count tail ≡ result)
+    → first_round labels p number (slot_list b p (Some i) ++ tail) ≡ result
+first_round-slot false labels p number next i tail result h fresh fits t room e follows =
+    let read = Reads-insn p i fits t in
+    rw (line_end-insn labels p i fits t room, read.label, ← e) (follows (number + 1))
+first_round-slot true labels p number next i tail result h fresh fits t room e follows =
+    let named = Reads-label p (omega arith) in
+    let read = Reads-insn p i fits t in
+    let here = line_end-label labels p h (fresh p (omega arith) h) in
+    let there = line_end-insn (labels_with labels p (Some (label_text p))) p i fits t room in
+    rw (here, named.label, there, read.label, ← e) (follows (number + 1 + 1))
+
+pub first_round-canonical : (f : ℕ → Bool) (labels : Labels) (p number : ℕ) (rest : List (Option Insn))
+    → p + length rest ≤ 65535 → AllFit p rest → WellCut p rest → Fresh labels p
+    → first_round labels (slot_of p rest) number (line_list f p rest) ≡ Ok (labels_after f labels p rest)
+first_round-canonical f labels p number [] h fits cut fresh = refl
+first_round-canonical f labels p number (None ∷ rest) h fits cut fresh =
+    let S : ℕ → Type 0 = λ s. first_round labels s number (line_list f (p + 1) rest) ≡ Ok (labels_after f labels (p + 1) rest) in
+    subst S cut.0 (first_round-canonical f labels (p + 1) number rest (omega arith) fits.1 cut.1 (λ q more most. fresh q (omega arith) most))
+first_round-canonical f labels p number (Some i ∷ rest) h fits cut fresh =
+    let most = slot_of-le (p + 1) rest in
+    first_round-slot (f p) labels p number (slot_of (p + 1) rest) i (line_list f (p + 1) rest) _ (omega arith) fresh
+    fits.0.0 fits.0.1 (omega (arith, cut.0, most)) cut.0
+    (λ count. first_round-canonical f (labels_at (f p) labels p) (p + 1) count rest (omega arith) fits.1 cut.1
+    (Fresh-next (f p) labels p (omega arith) fresh))
+
+-- earlier labels stay
+labels_after-keeps : (f : ℕ → Bool) (labels : Labels) (p t : ℕ) (rest : List (Option Insn)) → p + length rest ≤ 65535 → t < p
+    → labels_after f labels p rest (label_text t) ≡ labels (label_text t)
+labels_after-keeps f labels p t [] h less = refl
+labels_after-keeps f labels p t (None ∷ rest) h less = labels_after-keeps f labels (p + 1) t rest (omega arith) (omega arith)
+labels_after-keeps f labels p t (Some i ∷ rest) h less =
+    labels_after-keeps f (labels_at (f p) labels p) (p + 1) t rest (omega arith) (omega arith) ∙ one (f p) where
+      one : (b : Bool) → labels_at b labels p (label_text t) ≡ labels (label_text t)
+      one false = refl
+      one true = rw (label-other p t (omega arith) (omega arith) (λ e. absurd (omega arith))) refl
+
+-- a labelled slot has its label
+pub labels_after-has : (f : ℕ → Bool) (labels : Labels) (p k : ℕ) (rest : List (Option Insn)) → p + length rest ≤ 65535
+    → IsSome (unwrap_or (slice_get rest k) None) → f (p + k) ≡ true
+    → labels_after f labels p rest (label_text (p + k)) ≡ Some (p + k)
+labels_after-has f labels p k [] h start on = cc
+labels_after-has f labels p zero (None ∷ rest) h start on = cc
+labels_after-has f labels p zero (Some i ∷ rest) h start on =
+    let here : p + 0 ≡ p = omega arith in
+    let labelled : f p ≡ true = rw here at on in
+    rw here (labels_after-keeps f (labels_at (f p) labels p) (p + 1) p rest (omega arith) (omega arith)
+    ∙ ap (λ b. labels_at b labels p (label_text p)) labelled ∙ rw (bytes_eq-self (label_text p)) refl)
+labels_after-has f labels p (suc k) (None ∷ rest) h start on =
+    let next : p + suc k ≡ p + 1 + k = omega arith in
+    rw next (labels_after-has f labels (p + 1) k rest (omega arith) start (rw next at on))
+labels_after-has f labels p (suc k) (Some i ∷ rest) h start on =
+    let next : p + suc k ≡ p + 1 + k = omega arith in
+    rw next (labels_after-has f (labels_at (f p) labels p) (p + 1) k rest (omega arith) start (rw next at on))
+
+-- each target has its label
+abbrev pub Reaches : Labels → Option ℤ → Type 0
+Reaches labels None = Unit {0}
+Reaches labels (Some (pos t)) = (t ≤ 65535) × (labels (label_text t) ≡ Some t)
+Reaches labels (Some (negsuc n)) = ⊥
+
+abbrev pub EntryReaches : Labels → ℕ → Option Insn → Type 0
+EntryReaches labels p None = Unit {0}
+EntryReaches labels p (Some i) = Reaches labels (target_of p i)
+
+abbrev pub AllReach : Labels → ℕ → List (Option Insn) → Type 0
+AllReach labels p [] = Unit {0}
+AllReach labels p (i ∷ rest) = EntryReaches labels p i × AllReach labels (p + 1) rest
+
+-- the distance of a target is the offset
+distance-back : (p : ℕ) (o : ℤ) → (pos (p + 1) +ℤ o) -ℤ pos (p + 1) ≡ o
+distance-back p o = omega (arith, ints)
+
+fits-offset : (o : ℤ) → SFits w16 o → fits_offset o ≡ true
+fits-offset (pos n) fits = let h : n < 32768 = fits.sfits in grind (arith, nat_tests)
+fits-offset (negsuc n) fits = let h : n < 32768 = fits.sfits in grind (arith, nat_tests)
+
+-- the label of a target is found
+with_target-at : (labels : Labels) (p : ℕ) (i : Insn) (z : ℤ) → Reaches labels (Some z)
+    → with_target labels p (Ok (Some i)) (target_text (Some z)) ≡ with_distance i (z -ℤ pos (p + 1))
+with_target-at labels p i (pos t) reach = rw reach.1 refl
+with_target-at labels p i (negsuc n) reach = absurd reach
+
+-- an instruction gets its target back
+with_target-canonical : (labels : Labels) (p : ℕ) (i : Insn) → InsnFits i → Reaches labels (target_of p i)
+    → with_target labels p (Ok (Some (unplaced i))) (target_text (target_of p i)) ≡ Ok (Some i)
+with_target-canonical labels p (insn.JumpIf c width dst s o) fits reach =
+    with_target-at labels p (insn.JumpIf c width dst s (pos 0)) (pos (p + 1) +ℤ o) reach
+    ∙ rw (distance-back p o, fits-offset o fits.2) refl
+with_target-canonical labels p (insn.Jump o) fits reach =
+    with_target-at labels p (insn.Jump (pos 0)) (pos (p + 1) +ℤ o) reach
+    ∙ rw (distance-back p o, fits-offset o fits) refl
+with_target-canonical labels p (insn.JumpLong d) fits reach =
+    with_target-at labels p (insn.JumpLong (pos 0)) (pos (p + 1) +ℤ d) reach ∙ rw (distance-back p d) refl
+with_target-canonical labels p (insn.CallLocal d) fits reach =
+    with_target-at labels p (insn.CallLocal (pos 0)) (pos (p + 1) +ℤ d) reach ∙ rw (distance-back p d) refl
+with_target-canonical labels p i fits reach = refl
+
+pub reaches-fits : (labels : Labels) (o : Option ℤ) → Reaches labels o → TargetFits o
+reaches-fits labels None reach = tt
+reaches-fits labels (Some (pos t)) reach = reach.0
+reaches-fits labels (Some (negsuc n)) reach = absurd reach
+
+-- the second round at an instruction's line, and at a label's
+resolved-insn : (labels : Labels) (p : ℕ) (i : Insn) → InsnFits i → Reaches labels (target_of p i)
+    → resolved labels p (text_of_insn p i) ≡ Ok (Some i)
+resolved-insn labels p i fits reach =
+    let read = Reads-insn p i fits (reaches-fits labels (target_of p i) reach) in
+    rw (read.insn, read.target) (with_target-canonical labels p i fits reach)
+
+resolved-label : (labels : Labels) (p : ℕ) → p ≤ 65535 → resolved labels p (label_text p ++ codes ":") ≡ Ok None
+resolved-label labels p h = let read = Reads-label p (omega arith) in rw read.insn refl
+
+slot_after-insn : (p : ℕ) (i : Insn) → p + slots_of i ≤ 65535 → slot_after p (Ok (Some i)) ≡ Ok (p + slots_of i)
+slot_after-insn p i room = let within : nat_le (p + slots_of i) 65535 ≡ true = grind (arith, nat_tests) in rw within refl
+
+-- the second round at a slot, and over all
+second_round-slot : (b : Bool) (labels : Labels) (p number next : ℕ) (i : Insn) (tail : List (List ℕ))
+    → p ≤ 65535 → InsnFits i → Reaches labels (target_of p i) → p + slots_of i ≤ 65535 → next ≡ p + slots_of i
+    → ((count : ℕ) → second_round labels next count tail ≡ Ok tt)
+    → second_round labels p number (slot_list b p (Some i) ++ tail) ≡ Ok tt
+second_round-slot false labels p number next i tail h fits reach room e follows =
+    rw (resolved-insn labels p i fits reach, slot_after-insn p i room, ← e) (follows (number + 1))
+second_round-slot true labels p number next i tail h fits reach room e follows =
+    rw (resolved-label labels p h, resolved-insn labels p i fits reach, slot_after-insn p i room, ← e) (follows (number + 1 + 1))
+
+pub second_round-canonical : (f : ℕ → Bool) (labels : Labels) (p number : ℕ) (rest : List (Option Insn))
+    → p + length rest ≤ 65535 → AllFit p rest → WellCut p rest → AllReach labels p rest
+    → second_round labels (slot_of p rest) number (line_list f p rest) ≡ Ok tt
+second_round-canonical f labels p number [] h fits cut reach = refl
+second_round-canonical f labels p number (None ∷ rest) h fits cut reach =
+    let S : ℕ → Type 0 = λ s. second_round labels s number (line_list f (p + 1) rest) ≡ Ok tt in
+    subst S cut.0 (second_round-canonical f labels (p + 1) number rest (omega arith) fits.1 cut.1 reach.1)
+second_round-canonical f labels p number (Some i ∷ rest) h fits cut reach =
+    let most = slot_of-le (p + 1) rest in
+    second_round-slot (f p) labels p number (slot_of (p + 1) rest) i (line_list f (p + 1) rest) (omega arith)
+    fits.0.0 reach.0 (omega (arith, cut.0, most)) cut.0
+    (λ count. second_round-canonical f labels (p + 1) count rest (omega arith) fits.1 cut.1 reach.1)
+
+-- the bytes of the instructions from slot p on
+abbrev pub EntrySpells : List ℕ → ℕ → Option Insn → Type 0
+EntrySpells bytes p None = Unit {0}
+EntrySpells bytes p (Some i) = (word : List ℕ) × (drop (8 * p) bytes ≡ word ++ drop (8 * (p + slots_of i)) bytes) × IsWord i word
+
+abbrev pub AllSpell : List ℕ → ℕ → List (Option Insn) → Type 0
+AllSpell bytes p [] = drop (8 * p) bytes ≡ []
+AllSpell bytes p (i ∷ rest) = EntrySpells bytes p i × AllSpell bytes (p + 1) rest
+
+AreBytes-insn : (labels : Labels) (bytes : List ℕ) (p next : ℕ) (i : Insn) (tail : List (List ℕ))
+    → InsnFits i → Reaches labels (target_of p i) → EntrySpells bytes p (Some i) → next ≡ p + slots_of i
+    → AreBytes labels next tail (drop (8 * next) bytes)
+    → AreBytes labels p (text_of_insn p i ∷ tail) (drop (8 * p) bytes)
+AreBytes-insn labels bytes p next i tail fits reach spelled e follows =
+    let F : ℕ → Type 0 = λ s. AreBytes labels s tail (drop (8 * s) bytes) in
+    rw (resolved-insn labels p i fits reach)
+    (spelled.0, drop (8 * (p + slots_of i)) bytes, spelled.1, spelled.2, subst F e follows)
+
+AreBytes-slot : (b : Bool) (labels : Labels) (bytes : List ℕ) (p next : ℕ) (i : Insn) (tail : List (List ℕ))
+    → p ≤ 65535 → InsnFits i → Reaches labels (target_of p i) → EntrySpells bytes p (Some i) → next ≡ p + slots_of i
+    → AreBytes labels next tail (drop (8 * next) bytes)
+    → AreBytes labels p (slot_list b p (Some i) ++ tail) (drop (8 * p) bytes)
+AreBytes-slot false labels bytes p next i tail h fits reach spelled e follows =
+    AreBytes-insn labels bytes p next i tail fits reach spelled e follows
+AreBytes-slot true labels bytes p next i tail h fits reach spelled e follows =
+    rw (resolved-label labels p h) (AreBytes-insn labels bytes p next i tail fits reach spelled e follows)
+
+pub AreBytes-canonical : (f : ℕ → Bool) (labels : Labels) (bytes : List ℕ) (p : ℕ) (rest : List (Option Insn))
+    → p + length rest ≤ 65535 → AllFit p rest → WellCut p rest → AllReach labels p rest → AllSpell bytes p rest
+    → AreBytes labels (slot_of p rest) (line_list f p rest) (drop (8 * slot_of p rest) bytes)
+AreBytes-canonical f labels bytes p [] h fits cut reach spelled = spelled
+AreBytes-canonical f labels bytes p (None ∷ rest) h fits cut reach spelled =
+    let S : ℕ → Type 0 = λ s. AreBytes labels s (line_list f (p + 1) rest) (drop (8 * s) bytes) in
+    subst S cut.0 (AreBytes-canonical f labels bytes (p + 1) rest (omega arith) fits.1 cut.1 reach.1 spelled.1)
+AreBytes-canonical f labels bytes p (Some i ∷ rest) h fits cut reach spelled =
+    AreBytes-slot (f p) labels bytes p (slot_of (p + 1) rest) i (line_list f (p + 1) rest) (omega arith) fits.0.0 reach.0
+    spelled.0 cut.0 (AreBytes-canonical f labels bytes (p + 1) rest (omega arith) fits.1 cut.1 reach.1 spelled.1)

@@ -1,0 +1,237 @@
+-- Canonical operands are read back.
+use Rattle.std.proofs.Common.{ℕ, ℤ, pos, negsuc, zero, suc, ◌≡◌, ◌<◌, ◌≤◌, ◌+◌, ◌-◌, ◌%◌, ◌^◌, ◌==◌, Bool, true, false, ◌&&◌, not, min, List, [], ◌∷◌, ◌++◌, length, refl, ap, ◌∙◌, arith, inl, inr, lit<, lit≤, nat_lt, nat_le, Some, Ok, Err, w32, w16, SFits, slice_index, length-append}
+use Rattle.std.proofs.Math.Seq.{get_or-append_seam, drop-append-add, take-append_seam}
+use Rattle.std.proofs.lemmas.Bool.{eq-eqb}
+use Rattle.bpf_text.specs.declared.operand.Operand.TheVariants.{Memory}
+use Rattle.std.specs.List.{list_all}
+use Rattle.std.specs.Fmt.{decimal, digits, signed_decimal}
+use Rattle.std.specs.Str.Parse.{AllDigits, IsNumeral, digits_value}
+use Rattle.std.specs.Char.{digit_value}
+use Rattle.std.proofs.lemmas.Fmt.{decimal_by_steps, decimal_digit, decimal_step, decimal_is_IsNumeral, digits_is_IsNumeral}
+use Rattle.std.proofs.lemmas.Bool.Decides.{nat_tests, leb_tells}
+use Rattle.std.proofs.lemmas.Int.{to_z_pos}
+use Rattle.bpf_text.specs.declared.fault.OperandFault.TheVariants.{Wrong}
+use Rattle.bpf_isa.specs.declared.instruction.Source.{Source}
+use Rattle.bpf_isa.specs.declared.instruction.Source.TheVariants as source_is
+use Rattle.bpf_text.specs.Cuts.{is_name_byte}
+use Rattle.bpf_text.specs.Tokens.{register, numeral, number, has_prefix, is_negative, unsigned, immediate, wide, source, name, memory, place, offset, offset_of, is_sign}
+use Rattle.bpf_text.specs.Writing.{hexadecimal}
+use Rattle.bpf_text.specs.Operands.{register_text, label_text, operand_of, operand_text}
+use Rattle.bpf_text.proofs.PlainTexts.{are_plain, list_all-append, list_all-weaken, are_plain-decimal, position_or_len-at, before_first-at, trim-plain}
+
+-- a decimal digit
+abbrev pub is_decimal : ℕ → Bool
+is_decimal b = nat_le 48 b && nat_le b 57
+
+is_decimal-digit : (d : ℕ) → d < 10 → is_decimal (48 + d) ≡ true
+is_decimal-digit d h = grind (arith, nat_tests)
+
+-- decimal digits
+pub are_decimal : (n : ℕ) → n < 2 ^ 64 → list_all is_decimal (decimal n) ≡ true
+are_decimal = decimal_by_steps (λ n ds. list_all is_decimal ds ≡ true)
+    (λ n h. rw (is_decimal-digit n h) refl)
+    (λ n ds h p. list_all-append is_decimal ds ((48 + n % 10) ∷ []) p (rw (is_decimal-digit (n % 10) (omega arith)) refl))
+
+-- both of two facts
+and-first : (a b : Bool) → (a && b) ≡ true → a ≡ true
+and-first true b h = refl
+and-first false b h = cc
+
+and-second : (a b : Bool) → (a && b) ≡ true → b ≡ true
+and-second true b h = h
+and-second false b h = cc
+
+-- a byte that no byte of a text is, and that isn't 0
+pub slice_index-other : (test : ℕ → Bool) (c : ℕ) (s : List ℕ) (i : ℕ)
+    → ((b : ℕ) → test b ≡ true → (b == c) ≡ false) → (0 == c) ≡ false → list_all test s ≡ true
+    → (slice_index s i == c) ≡ false
+slice_index-other test c [] i none z p = z
+slice_index-other test c (b ∷ s) zero none z p = none b (and-first (test b) (list_all test s) p)
+slice_index-other test c (b ∷ s) (suc i) none z p = slice_index-other test c s i none z (and-second (test b) (list_all test s) p)
+
+-- registers
+register-digit : (b : ℕ) → is_decimal b ≡ true → register (114 ∷ b ∷ []) ≡ Ok (b - 48)
+register-digit b p = rw p refl
+
+register-ten : (s : List ℕ) → s ≡ 49 ∷ 48 ∷ [] → register (114 ∷ s) ≡ Ok 10
+register-ten s e = rw e refl
+
+pub register-text : (r : ℕ) → r ≤ 10 → register (register_text r) ≡ Ok r
+register-text r h = elim (leb_tells 10 r) [
+  | inl t ↦
+      let ten : r ≡ 10 = omega (arith, t.1) in
+      rw ten (register-ten (decimal 10) (decimal_step 10 (lit≤ tt) (lit< tt) ∙ ap (λ d. d ++ 48 ∷ []) (decimal_digit 1 (lit< tt))))
+  | inr t ↦
+      let back : 48 + r - 48 ≡ r = omega arith in
+      rw (decimal_digit r t.1) (register-digit (48 + r) (is_decimal-digit r t.1) ∙ ap Ok back)
+]
+
+-- digits as a number
+list_all-AllDigits : (radix : ℕ) (s : List ℕ) → AllDigits radix s → list_all (λ d. nat_lt (digit_value d) radix) s ≡ true
+list_all-AllDigits radix [] p = refl
+list_all-AllDigits radix (b ∷ s) p =
+    let here : nat_lt (digit_value b) radix ≡ true = less (digit_value b) radix p.0 in
+    rw (here, list_all-AllDigits radix s p.1) refl where
+      less : (a b : ℕ) → a < b → nat_lt a b ≡ true
+      less a b h = grind (arith, nat_tests)
+
+pub numeral-digits : (radix n : ℕ) (s : List ℕ) → IsNumeral radix s → digits_value radix s ≡ n → n < 2 ^ 64
+    → numeral radix s ≡ Some n
+numeral-digits radix n [] known e h = absurd (omega (arith, known.0))
+numeral-digits radix n (c ∷ s) known e h =
+    let whole = list_all-AllDigits radix (c ∷ s) known.1 in
+    let short : min n (2 ^ 64) ≡ n = omega arith in
+    rw (whole, e) (ap Some short)
+
+-- a decimal number
+has_prefix-decimal : (s : List ℕ) → list_all is_decimal s ≡ true → has_prefix s ≡ false
+has_prefix-decimal s p = and-false (slice_index s 0 == 48) (slice_index s 1 == 120)
+    (slice_index-other is_decimal 120 s 1 (λ b d. grind (arith, nat_tests)) refl p) where
+      and-false : (a b : Bool) → b ≡ false → (a && b) ≡ false
+      and-false true b h = h
+      and-false false b h = refl
+
+pub number-decimal : (n : ℕ) → n < 2 ^ 64 → number (decimal n) ≡ Some n
+number-decimal n h =
+    let known = decimal_is_IsNumeral n h in
+    rw (has_prefix-decimal (decimal n) (are_decimal n h)) (numeral-digits 10 n (decimal n) known.0 known.1 h)
+
+-- a number with a minus or none
+is_negative-decimal : (s : List ℕ) → list_all is_decimal s ≡ true → is_negative s ≡ false
+is_negative-decimal s p = slice_index-other is_decimal 45 s 0 (λ b d. grind (arith, nat_tests)) refl p
+
+-- a number below 2^32
+pub unsigned-decimal : (n : ℕ) → n < 2 ^ 32 → unsigned (decimal n) ≡ Ok n
+unsigned-decimal n h =
+    let less : nat_lt n (2 ^ 32) ≡ true = grind (arith, nat_tests) in
+    rw (number-decimal n (omega arith), less) refl
+
+-- a signed number of 32 bits
+pub immediate-signed : (z : ℤ) → SFits w32 z → immediate (signed_decimal z) ≡ Ok z
+immediate-signed (pos n) fits =
+    let small : n < 2 ^ 31 = fits.sfits in
+    let plus = is_negative-decimal (decimal n) (are_decimal n (omega arith)) in
+    let less : nat_lt n (2 ^ 32) ≡ true = grind (arith, nat_tests) in
+    rw (plus, number-decimal n (omega arith), less) (ap Ok (to_z_pos w32 n small))
+immediate-signed (negsuc n) fits =
+    let small : n < 2 ^ 31 = fits.sfits in
+    let less : nat_le (suc n) (2 ^ 31) ≡ true = grind (arith, nat_tests) in
+    rw (number-decimal (suc n) (omega arith), less) refl
+
+-- a number of 64 bits in hexadecimal
+pub wide-hexadecimal : (n : ℕ) → n < 2 ^ 64 → wide (hexadecimal n) ≡ Ok n
+wide-hexadecimal n h =
+    let known = digits_is_IsNumeral 16 false (lit≤ tt) (lit≤ tt) n (omega arith) in
+    let less : nat_lt n (2 ^ 64) ≡ true = grind (arith, nat_tests) in
+    rw (numeral-digits 16 n (digits 16 false n) known.0 known.1 h, less) refl
+
+-- a name
+pub name-label : (p : ℕ) → p < 2 ^ 64 → name (label_text p) ≡ Ok tt
+name-label p h =
+    let all = list_all-weaken is_decimal is_name_byte (decimal p) (λ b d. grind (arith, nat_tests)) (are_decimal p h) in
+    rw all refl
+
+-- what doesn't begin with r is no register
+register-other : (s : List ℕ) → (slice_index s 0 == 114) ≡ false → register s ≡ Err Wrong
+register-other [] e = refl
+register-other (a ∷ []) e = refl
+register-other (a ∷ b ∷ []) e = rw e refl
+register-other (a ∷ b ∷ c ∷ []) e = rw e refl
+register-other (a ∷ b ∷ c ∷ d ∷ s) e = refl
+
+signed-other : (z : ℤ) → SFits w32 z → (slice_index (signed_decimal z) 0 == 114) ≡ false
+signed-other (pos n) fits =
+    let small : n < 2 ^ 31 = fits.sfits in
+    slice_index-other is_decimal 114 (decimal n) 0 (λ b d. grind (arith, nat_tests)) refl (are_decimal n (omega arith))
+signed-other (negsuc n) fits = refl
+
+-- a second operand
+abbrev pub SourceFits : Source → Type 0
+SourceFits (source_is.Immediate value) = SFits w32 value
+SourceFits (source_is.Register reg) = reg ≤ 10
+
+pub source-text : (s : Source) → SourceFits s → source (operand_text (operand_of s)) ≡ Ok s
+source-text (source_is.Immediate value) fits =
+    rw (register-other (signed_decimal value) (signed-other value fits), immediate-signed value fits) refl
+source-text (source_is.Register reg) fits = rw (register-text reg fits) refl
+
+-- a byte that closes no bracket, and one that is no sign
+abbrev pub is_open : ℕ → Bool
+is_open b = not (b == 93)
+
+abbrev pub no_sign : ℕ → Bool
+no_sign b = not (is_sign b)
+
+decimal-open : (b : ℕ) → is_decimal b ≡ true → is_open b ≡ true
+decimal-open b d = grind (arith, nat_tests)
+
+decimal-no_sign : (b : ℕ) → is_decimal b ≡ true → no_sign b ≡ true
+decimal-no_sign b d = grind (arith, nat_tests)
+
+open-close : (b : ℕ) → is_open b ≡ true → (b == 93) ≡ false
+open-close b d = grind (arith, nat_tests)
+
+no_sign-sign : (b : ℕ) → no_sign b ≡ true → is_sign b ≡ false
+no_sign-sign b d = grind (arith, nat_tests)
+
+-- numbers that are the same, and numbers that are not
+same-eqb : (a b : ℕ) → a ≡ b → (a == b) ≡ true
+same-eqb a b e = eq-eqb a b e
+
+less-eqb : (a b : ℕ) → a < b → (a == b) ≡ false
+less-eqb a b h = grind (arith, nat_tests)
+
+-- an offset behind a register
+offset-at : (reg : List ℕ) (sign : ℕ) (number_text : List ℕ) → list_all no_sign reg ≡ true → is_sign sign ≡ true
+    → are_plain number_text ≡ true
+    → offset (reg ++ sign ∷ number_text) ≡ offset_of (sign == 45) (number number_text)
+offset-at reg sign number_text none e plain =
+    let here = position_or_len-at is_sign no_sign reg sign number_text no_sign-sign e none in
+    let within : length reg < length (reg ++ sign ∷ number_text) = omega (arith, length-append reg (sign ∷ number_text)) in
+    rw (
+      here,
+      less-eqb (length reg) (length (reg ++ sign ∷ number_text)) within,
+      get_or-append_seam reg sign number_text 0,
+      drop-append-add reg (sign ∷ number_text) 1,
+      trim-plain number_text plain,
+    ) refl
+
+place-at : (reg : List ℕ) (r sign : ℕ) (number_text : List ℕ) (o : ℤ) → list_all no_sign reg ≡ true → is_sign sign ≡ true
+    → are_plain reg ≡ true → are_plain number_text ≡ true → register reg ≡ Ok r
+    → offset_of (sign == 45) (number number_text) ≡ Ok o → place (reg ++ sign ∷ number_text) ≡ Ok (r, o)
+place-at reg r sign number_text o none e plain digits_plain read known =
+    let moved = offset-at reg sign number_text none e digits_plain in
+    let front = before_first-at is_sign no_sign reg sign number_text no_sign-sign e none in
+    rw (front, trim-plain reg plain, read, moved, known) refl
+
+memory-at : (inner : List ℕ) (r : ℕ) (o : ℤ) → list_all is_open inner ≡ true → place inner ≡ Ok (r, o)
+    → memory (91 ∷ (inner ++ 93 ∷ [])) ≡ Ok (r, o)
+memory-at inner r o none read =
+    let here = position_or_len-at (λ b. b == 93) is_open inner 93 [] open-close refl none in
+    let end : 1 + length inner + 1 ≡ suc (length (inner ++ 93 ∷ [])) = omega (arith, length-append inner (93 ∷ [])) in
+    rw (here, same-eqb (1 + length inner + 1) (suc (length (inner ++ 93 ∷ []))) end, take-append_seam inner (93 ∷ [])) read
+
+-- memory at a register and an offset
+memory-signed : (r sign n : ℕ) (o : ℤ) → r ≤ 10 → n < 2 ^ 64 → is_sign sign ≡ true → is_open sign ≡ true
+    → offset_of (sign == 45) (Some n) ≡ Ok o
+    → memory (91 ∷ ((register_text r ++ sign ∷ decimal n) ++ 93 ∷ [])) ≡ Ok (r, o)
+memory-signed r sign n o low h e f known =
+    let reg_digits = are_decimal r (omega arith) in
+    let digits_n = are_decimal n h in
+    let reg_no_sign = list_all-weaken is_decimal no_sign (decimal r) decimal-no_sign reg_digits in
+    let reg_open = list_all-weaken is_decimal is_open (decimal r) decimal-open reg_digits in
+    let number_open = list_all-weaken is_decimal is_open (decimal n) decimal-open digits_n in
+    let inner_open = list_all-append is_open (decimal r) (sign ∷ decimal n) reg_open (rw (f, number_open) refl) in
+    memory-at (register_text r ++ sign ∷ decimal n) r o inner_open
+    (place-at (register_text r) r sign (decimal n) o reg_no_sign e (are_plain-decimal r (omega arith)) (are_plain-decimal n h)
+    (register-text r low) (ap (offset_of (sign == 45)) (number-decimal n h) ∙ known))
+
+pub memory-text : (r : ℕ) (o : ℤ) → r ≤ 10 → SFits w16 o → memory (operand_text (Memory r o)) ≡ Ok (r, o)
+memory-text r (pos n) low fits =
+    let small : n < 32768 = fits.sfits in
+    let less : nat_lt n 32768 ≡ true = grind (arith, nat_tests) in
+    memory-signed r 43 n (pos n) low (omega arith) refl refl (rw less refl)
+memory-text r (negsuc n) low fits =
+    let small : n < 32768 = fits.sfits in
+    let less : nat_le (suc n) 32768 ≡ true = grind (arith, nat_tests) in
+    memory-signed r 45 (suc n) (negsuc n) low (omega arith) refl refl (rw less refl)

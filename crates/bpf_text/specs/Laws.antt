@@ -1,0 +1,14 @@
+-- Laws of listings.
+use Rattle.std.specs.Prelude.{ℕ, ◌≡◌, List, Some}
+use Rattle.bpf_text.specs.declared.mnemonic.Mnemonic.{Mnemonic}
+use Rattle.bpf_text.specs.Mnemonics.{name_of}
+use Rattle.bpf_text.specs.Named.{named}
+use Rattle.bpf_text.specs.Listing.{IsListing}
+
+-- A mnemonic is the one that its name finds: so no two have one name.
+abbrev pub HaveOneMnemonic : Type 0
+HaveOneMnemonic = (mnemonic : Mnemonic) → named (name_of mnemonic) ≡ Some mnemonic
+
+-- A listing has the bytes of one program at most.
+abbrev pub HaveOneAssembly : Type 0
+HaveOneAssembly = (text a b : List ℕ) → IsListing text a → IsListing text b → a ≡ b

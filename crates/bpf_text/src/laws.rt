@@ -1,0 +1,21 @@
+//! Laws of listings.
+ghost use Rattle.std.specs.Prelude.{◌≡◌, Some};
+ghost use Rattle.bpf_text.specs.Canonical.{canon};
+ghost use Rattle.bpf_text.specs.Laws.{HaveOneMnemonic, HaveOneAssembly};
+ghost use Rattle.bpf_text.specs.Listing.{IsListing};
+
+use bpf_isa::Program;
+
+/// The canonical listing of a checked program has no fault, and its bytes are the program's.
+pub fn canonical_listing(program: &Program)
+    ensures { IsListing (canon program.now) program.now.bytes }
+{
+    program.known();
+}
+
+/// Each mnemonic is the one that its name finds, and a listing has one assembly at most.
+#[tactic(none)]
+pub fn one_reading()
+    ensures value { HaveOneMnemonic }
+    ensures only { HaveOneAssembly }
+{}
