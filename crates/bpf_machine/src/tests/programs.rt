@@ -172,7 +172,7 @@ const RESULTS: [(&str, &[u64], u64); 25] = [
 ];
 
 // a load from the context f1 f2 .. f8, and r0 after it
-const LOADS: [(&str, u64, u64); 9] = [
+const LOADS: [(&str, u64, u64); 10] = [
     ("ldxb [r1+0]", 0x7110_0000_0000_0000, 0xf1),
     ("ldxb [r1+7]", 0x7110_0700_0000_0000, 0xf8),
     ("ldxh [r1+1]", 0x6910_0100_0000_0000, 0xf3f2),
@@ -182,6 +182,7 @@ const LOADS: [(&str, u64, u64); 9] = [
     ("ldxsh [r1+1]", 0x8910_0100_0000_0000, 0xffff_ffff_ffff_f3f2),
     ("ldxsw [r1+1]", 0x8110_0100_0000_0000, 0xffff_ffff_f5f4_f3f2),
     ("ldxb [r10-512]", 0x71a0_00fe_0000_0000, 0),
+    ("ldxb [r10-1]", 0x71a0_ffff_0000_0000, 0),
 ];
 
 // a store into that context, and its eight bytes after it
