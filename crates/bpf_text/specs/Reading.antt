@@ -3,7 +3,7 @@ use Rattle.std.specs.Prelude.{ℕ, ◌≡◌, ◌+◌, ◌<◌, List, [], ◌∷
 use Rattle.std.specs.Io.KnownBytes.{Consumes, IsAtEnd, Keeps}
 use Rattle.bpf_text.specs.Counted.{Tally, one_more, last_count}
 
--- a byte is the first of those that remain, none comes at their end; an error is one failure, and takes no byte
+-- A byte is the first of those that remain, none comes at their end; an error is one failure, and takes no byte.
 pub record ReadsByte {T E : Type 0} (remaining : T → Option (List ℕ)) (old new : Tally T)
     (result : Result (Option ℕ) E) : Type 0 where
   pub value : IfOk result (λ byte. MatchOption byte (IsAtEnd (remaining old.inner) × Keeps (remaining old.inner) (remaining new.inner))
