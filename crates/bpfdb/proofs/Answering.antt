@@ -1,7 +1,7 @@
 -- How a command is shown to obey its meaning.
 use Rattle.std.proofs.Common.{◌≡◌, ◌<◌, ◌≤◌, ℕ, List, Option, None, Result, sym, ap, subst, ◌∙◌, refl, arith}
 use Rattle.bpfdb.specs.Machine.{State}
-use Rattle.bpfdb.specs.History.{Record, Kept, StandsFor}
+use Rattle.bpfdb.specs.History.{Kept, StandsFor}
 use Rattle.bpfdb.specs.Outcomes.{Outcome, Obeys, last_refusal}
 use Rattle.bpfdb.specs.declared.reply.Reply.{Reply}
 use Rattle.bpfdb.specs.declared.refusal.Refusal.{Refusal}

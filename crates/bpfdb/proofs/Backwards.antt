@@ -1,10 +1,10 @@
 -- A backward command's loop: after k turns the machine is at the state before the k-th last move.
-use Rattle.std.proofs.Common.{◌≡◌, ◌+◌, ◌<◌, ◌≤◌, ℕ, zero, suc, Bool, true, false, List, [], ◌∷◌, Option, Some, None, Result, Ok, length, drop, min, refl, sym, ap, subst, ◌∙◌, arith, add-one}
+use Rattle.std.proofs.Common.{◌≡◌, ◌+◌, ◌<◌, ◌≤◌, ℕ, zero, suc, Bool, true, false, List, [], ◌∷◌, Some, Ok, length, drop, min, refl, sym, ap, subst, ◌∙◌, arith, add-one}
 use Rattle.std.specs.Prelude.{if◌then◌else◌, nat_le, slice_get}
 use Rattle.std.proofs.lemmas.Bool.Decides.{nat_tests}
 use Rattle.bpfdb.specs.Machine.{State}
 use Rattle.bpfdb.specs.History.{Record, Kept, StandsFor, GoesBack}
-use Rattle.bpfdb.specs.Outcomes.{Outcome, Obeys, refused}
+use Rattle.bpfdb.specs.Outcomes.{Obeys, refused}
 use Rattle.bpfdb.specs.Backward.{before_last, gone_back, backward}
 use Rattle.bpfdb.proofs.Answering.{obeys-whole}
 use Rattle.bpfdb.specs.declared.reply.Why.{Why}

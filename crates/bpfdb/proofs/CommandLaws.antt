@@ -1,17 +1,16 @@
 -- The laws of the meaning of commands.
-use Rattle.std.proofs.Common.{◌≡◌, ◌+◌, ◌-◌, ◌<◌, ◌≤◌, ℕ, zero, suc, Bool, true, false, List, [], ◌∷◌, Option, Some, None, Result, Ok, Err, is_some, unwrap_or, length, drop, refl, sym, ap, subst, ◌∙◌, arith, IsSome, IsNone}
+use Rattle.std.proofs.Common.{◌≡◌, ◌+◌, ◌<◌, ◌≤◌, ℕ, zero, suc, Bool, true, false, List, [], ◌∷◌, Option, Some, None, Ok, Err, is_some, unwrap_or, length, drop, refl, sym, ap, ◌∙◌, arith, IsNone}
 use Rattle.std.specs.Prelude.{if◌then◌else◌, nat_lt, nat_le, ◌==◌, slice_get}
 use Rattle.std.specs.Option.{option_map_or}
 use Rattle.std.proofs.lemmas.Bool.Decides.{nat_tests}
 use Rattle.bpfdb.specs.Machine.{State, has_ended}
-use Rattle.bpfdb.specs.History.{Record, step, keep}
-use Rattle.bpfdb.specs.Outcomes.{Outcome, refused, shown}
+use Rattle.bpfdb.specs.History.{Record, step}
+use Rattle.bpfdb.specs.Outcomes.{refused}
 use Rattle.bpfdb.specs.Forward.{after, kept, stop, stop_in, least, steps, taken, cut, forward}
-use Rattle.bpfdb.specs.Backward.{before_last, gone_back, backward}
+use Rattle.bpfdb.specs.Backward.{gone_back, backward}
 use Rattle.bpfdb.specs.Meaning.{does}
 use Rattle.bpfdb.proofs.Forwards.{least-from}
-use Rattle.bpfdb.specs.Laws.{Leaves, IsLeastStop, RefusedChangesNothing, UndoingGivesBack, StepsAreLeast}
-use Rattle.bpfdb.specs.declared.command.Command.{Command}
+use Rattle.bpfdb.specs.Laws.{Leaves, RefusedChangesNothing, UndoingGivesBack, StepsAreLeast}
 use Rattle.bpfdb.specs.declared.command.Command.TheVariants.{Step, ReverseStep, InfoRegisters, Quit}
 use Rattle.bpfdb.specs.declared.reply.Why.{Why}
 use Rattle.bpfdb.specs.declared.reply.Why.TheVariants.{Done, End, Limit, Memory, Start}

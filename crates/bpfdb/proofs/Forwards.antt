@@ -1,20 +1,18 @@
 -- A forward command's loop: what holds after k steps, and what each exit comes to.
-use Rattle.std.proofs.Common.{◌≡◌, ◌≢◌, ◌+◌, ◌-◌, ◌<◌, ◌≤◌, ◌^◌, ◌==◌, ℕ, zero, suc, Bool, true, false, cond, List, Option, Some, None, Result, Ok, Err, is_some, unwrap_or, refl, sym, ap, subst, ◌∙◌, arith, rules, add-one, min}
+use Rattle.std.proofs.Common.{◌≡◌, ◌≢◌, ◌+◌, ◌-◌, ◌<◌, ◌≤◌, ◌==◌, ℕ, zero, suc, Bool, true, false, List, Some, None, Ok, Err, is_some, refl, sym, ap, subst, ◌∙◌, arith, add-one, min}
 use Rattle.std.proofs.lemmas.Bool.Decides.{nat_tests}
 use Rattle.std.specs.Prelude.{if◌then◌else◌, nat_lt}
-use Rattle.bpfdb.specs.Machine.{State, Leads, next, has_ended}
+use Rattle.bpfdb.specs.Machine.{State, next, has_ended}
 use Rattle.bpfdb.specs.History.{Record, Kept, StandsFor, Steps, Stays, keep, step}
 use Rattle.bpfdb.specs.Outcomes.{Outcome, Obeys, refused, last_refusal}
-use Rattle.bpfdb.specs.Forward.{after, kept, stop, stop_in, least, steps, taken, cut, forward}
+use Rattle.bpfdb.specs.Forward.{after, kept, stop, stop_in, least, steps, taken, forward}
 use Rattle.bpfdb.proofs.Answering.{obeys-as}
 use Rattle.bpfdb.specs.declared.machine.Status.{Status}
 use Rattle.bpfdb.specs.declared.machine.Status.TheVariants.{Running, Exited}
 use Rattle.bpfdb.specs.declared.reply.Why.{Why}
 use Rattle.bpfdb.specs.declared.reply.Why.TheVariants.{End, Done, Limit, Memory}
-use Rattle.bpfdb.specs.declared.reply.Reply.{Reply}
 use Rattle.bpfdb.specs.declared.reply.Reply.TheVariants as replies
-use Rattle.bpfdb.specs.declared.refusal.Refusal.{Refusal}
-use Rattle.bpfdb.specs.declared.refusal.Refusal.TheVariants.{MachineEnded, OutOfMemory}
+use Rattle.bpfdb.specs.declared.refusal.Refusal.TheVariants.{OutOfMemory}
 
 -- the test of a number of steps
 abbrev pub stops : ℕ → ℕ → State → ℕ → Bool

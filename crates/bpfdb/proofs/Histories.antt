@@ -1,7 +1,7 @@
 -- What a keeper gives back is the entry of the newest record.
-use Rattle.std.proofs.Common.{◌≡◌, List, [], ◌∷◌, Bool, true, false, refl, sym, ap, ◌∙◌, subst, map}
+use Rattle.std.proofs.Common.{◌≡◌, List, [], ◌∷◌, Bool, refl, sym, ap, ◌∙◌, subst, map}
 use Rattle.bpfdb.specs.Machine.{State, Leads, overwritten, IsUndoable}
-use Rattle.bpfdb.specs.History.{Move, step, LeadsBy, overwritten_by, Record, IsRun, Kept, entry_of, keep, StandsFor, HasHistory, GoesBack}
+use Rattle.bpfdb.specs.History.{Move, step, LeadsBy, overwritten_by, Record, IsRun, Kept, entry_of, keep, StandsFor, HasHistory}
 use Rattle.bpfdb.specs.declared.machine.Entry.{Entry}
 
 pub Leads-by : (x y : State) (m : Move) → LeadsBy x m y → Leads x y

@@ -1,9 +1,9 @@
 -- Texts that were written in pieces, one after another.
-use Rattle.std.proofs.Common.{◌≡◌, ◌+◌, ◌-◌, ◌<◌, ℕ, zero, suc, List, [], ◌∷◌, ◌++◌, Option, Some, None, Result, Ok, Err, refl, sym, ap, subst, ◌∙◌, append_assoc, arith}
+use Rattle.std.proofs.Common.{◌≡◌, ◌+◌, ◌-◌, ◌<◌, ℕ, suc, List, [], ◌++◌, Option, Some, None, Result, Ok, Err, refl, sym, ap, subst, ◌∙◌, append_assoc, arith}
 use Rattle.std.proofs.lemmas.List.{append-nil}
 use Rattle.std.specs.Io.KnownBytes.{Appends, Keeps}
 use Rattle.bpf_text.specs.Counted.{Tally, one_more}
-use Rattle.bpf_text.specs.Writing.{Writes, WritesAfter, AppendsBeginning}
+use Rattle.bpf_text.specs.Writing.{Writes, WritesAfter}
 use Rattle.bpf_text.proofs.Appending.{Appends-Keeps}
 use Rattle.bpfdb.specs.Machine.{State}
 use Rattle.bpfdb.specs.Replies.{text_of_register, registers_from, text_of_registers}

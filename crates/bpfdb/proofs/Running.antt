@@ -1,21 +1,20 @@
 -- A run's loop: what was printed so far and what the rest prints make up what the script prints.
-use Rattle.std.proofs.Common.{◌≡◌, ◌<◌, ◌≤◌, ◌+◌, ◌-◌, ◌^◌, ℕ, Bool, true, false, not, List, [], ◌∷◌, ◌++◌, Option, Some, None, Result, Ok, Err, refl, sym, ap, subst, ◌∙◌, arith, append_assoc}
+use Rattle.std.proofs.Common.{◌≡◌, ◌<◌, ◌≤◌, ℕ, Bool, true, false, not, List, [], ◌∷◌, ◌++◌, Option, Some, None, Ok, Err, refl, sym, ap, subst, ◌∙◌, arith, append_assoc}
 use Rattle.std.proofs.lemmas.List.{append-nil}
 use Rattle.std.specs.Io.KnownBytes.{Appends}
-use Rattle.std.specs.Prelude.{if◌then◌else◌, nat_lt, ◌==◌, ◌⊎◌}
+use Rattle.std.specs.Prelude.{nat_lt, ◌==◌, ◌⊎◌}
 use Rattle.std.proofs.Common.{inl, inr}
 use Rattle.std.proofs.lemmas.Bool.Decides.{nat_tests}
-use Rattle.bpf_text.specs.Counted.{Tally, one_more}
-use Rattle.bpf_text.specs.Writing.{Writes, AppendsBeginning}
+use Rattle.bpf_text.specs.Counted.{Tally}
 use Rattle.bpfdb.specs.Machine.{State}
-use Rattle.bpfdb.specs.History.{Record, Kept, StandsFor}
+use Rattle.bpfdb.specs.History.{Record, Kept}
 use Rattle.bpfdb.specs.Outcomes.{last_refusal}
 use Rattle.bpfdb.specs.Sessions.{Standing, HasPast}
 use Rattle.bpfdb.specs.Script.{lines}
 use Rattle.bpfdb.specs.Commands.{Answer, command_of}
 use Rattle.bpfdb.specs.Output.{is_quit}
 use Rattle.bpfdb.specs.Output.{Point, Effect, effect, first_gap, later_gaps, out, final, ends, unread}
-use Rattle.bpfdb.specs.Scripts.{Buffer, Holds, CutsLine, ReadsLine, point_of, StandsAt, ObeysLine, Prints, PrintsBeginning, LeavesUnread}
+use Rattle.bpfdb.specs.Scripts.{Buffer, Holds, ReadsLine, point_of, StandsAt, ObeysLine, Prints, PrintsBeginning, LeavesUnread}
 
 -- what a writer holds after a text
 appended : (before after : Option (List ℕ)) (xs ys : List ℕ) → before ≡ Some xs → Appends before after ys → after ≡ Some (xs ++ ys)

@@ -1,5 +1,5 @@
 -- Slots of a program, and what its jumps name, are below 65,536.
-use Rattle.std.proofs.Common.{◌≡◌, ◌≤◌, ◌<◌, ℕ, ℤ, Option, Some, None, IfSome, length, arith, refl}
+use Rattle.std.proofs.Common.{◌≡◌, ◌≤◌, ℕ, ℤ, Option, Some, None, IfSome, arith, refl}
 use Rattle.std.specs.Prelude.{pos, negsuc}
 use Rattle.bpf_isa.specs.Programs.{Code, insn_at, IsProgram, IsStart, IsStartAt, target_of}
 use Rattle.bpf_isa.specs.declared.instruction.Insn.{Insn}

@@ -1,16 +1,15 @@
 -- A step leaves a state, and what it replaced is enough to take it back.
-use Rattle.std.proofs.Common.{◌≡◌, ◌<◌, ◌≤◌, ◌+◌, ◌^◌, ℕ, zero, suc, List, [], ◌∷◌, Option, Some, None, IsSome, length, slice_index, slice_set, unwrap_or, refl, sym, ap, ◌∙◌, arith, rules, get_or-set_other, get_or-set_same}
+use Rattle.std.proofs.Common.{◌≡◌, ◌<◌, ◌+◌, ◌^◌, ℕ, zero, suc, List, [], ◌∷◌, Option, Some, None, IsSome, length, slice_index, slice_set, unwrap_or, refl, sym, ap, ◌∙◌, arith}
 use Rattle.std.specs.Prelude.{slice_get}
 use Rattle.std.proofs.lemmas.List.{length-set}
 use Rattle.std.proofs.lemmas.Bool.Decides.{nat_tests}
-use Rattle.std.proofs.lemmas.Grind.{common_steps, get_or-set_at}
 use Rattle.bpf_isa.specs.Programs.{Code, insn_at, IsProgram, IsStart}
 use Rattle.bpf_isa.specs.declared.instruction.Insn.{Insn}
-use Rattle.bpf_isa.specs.declared.instruction.Insn.TheVariants.{Binary, Exit}
+use Rattle.bpf_isa.specs.declared.instruction.Insn.TheVariants.{Binary}
 use Rattle.bpf_isa.specs.declared.instruction.Width.{Width}
 use Rattle.bpf_isa.specs.declared.instruction.BinaryOp.{BinaryOp}
 use Rattle.bpf_isa.specs.declared.instruction.Source.{Source}
-use Rattle.bpfdb.specs.Machine.{State, IsState, IsUndoable, Leads, next, overwritten, executed, replaced, number_in}
+use Rattle.bpfdb.specs.Machine.{State, IsState, IsUndoable, Leads, overwritten, executed, replaced, number_in}
 use Rattle.bpfdb.specs.declared.machine.Status.TheVariants.{Running}
 use Rattle.bpfdb.specs.declared.machine.Entry.{Entry}
 use Rattle.bpfdb.specs.declared.machine.Entry.TheVariants as entries

@@ -1,5 +1,5 @@
 -- A forward command takes the least number of steps, at least one, after which a stop holds.
-use Rattle.std.specs.Prelude.{◌≡◌, ◌+◌, ℕ, zero, suc, Bool, true, false, List, Option, Some, None, Result, Ok, Err, is_some, unwrap_or, if◌then◌else◌, ◌==◌, nat_lt}
+use Rattle.std.specs.Prelude.{◌+◌, ℕ, zero, suc, Bool, List, Option, Some, None, Ok, is_some, unwrap_or, if◌then◌else◌, ◌==◌, nat_lt}
 use Rattle.bpfdb.specs.Machine.{State, next, has_ended}
 use Rattle.bpfdb.specs.History.{Record, step, keep}
 use Rattle.bpfdb.specs.Outcomes.{Outcome, refused}

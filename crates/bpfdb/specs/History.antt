@@ -1,6 +1,5 @@
 -- A history keeps whole states: what a debugger would hold that never takes anything back, but looks it up.
-use Rattle.std.specs.Prelude.{◌≡◌, ◌+◌, ◌-◌, ◌^◌, ◌<◌, ℕ, Bool, true, false, List, [], ◌∷◌, Option, Some, None, Result, Ok, Err, min, map}
-use Rattle.std.specs.declared.alloc.AllocError.{AllocError}
+use Rattle.std.specs.Prelude.{◌≡◌, ◌+◌, ◌-◌, ◌^◌, ℕ, Bool, true, false, List, [], ◌∷◌, Result, Ok, Err, min, map}
 use Rattle.bpfdb.specs.Machine.{State, Leads, overwritten}
 use Rattle.bpfdb.specs.declared.machine.Entry.{Entry}
 

@@ -1,5 +1,5 @@
 -- The machine between two steps (RFC 9669, sections 2 and 4), for the instructions that it has so far: ADD and MOV of class ALU64, and EXIT.
-use Rattle.std.specs.Prelude.{◌≡◌, ◌<◌, ◌+◌, ◌%◌, ◌^◌, ◌==◌, ℕ, List, [], ◌∷◌, Option, Some, None, length, slice_index, slice_set, if◌then◌else◌, Bool, true, false}
+use Rattle.std.specs.Prelude.{◌≡◌, ◌<◌, ◌+◌, ◌^◌, ◌==◌, ℕ, List, [], ◌∷◌, Some, None, length, slice_index, slice_set, if◌then◌else◌, Bool, true, false}
 use Rattle.std.specs.Int.{cast_unsigned, w64}
 use Rattle.bpf_isa.specs.Programs.{Code, insn_at, IsProgram, IsStart}
 use Rattle.bpf_isa.specs.declared.instruction.Insn.{Insn}

@@ -1,5 +1,5 @@
 -- What a script prints, in a debugger that keeps whole states, and where it ends.
-use Rattle.std.specs.Prelude.{ℕ, Bool, true, false, List, [], ◌∷◌, ◌++◌, Option, Some, None, Result, Ok, Err, if◌then◌else◌}
+use Rattle.std.specs.Prelude.{ℕ, Bool, true, false, List, [], ◌∷◌, ◌++◌, Option, Some, None, Ok, Err, if◌then◌else◌}
 use Rattle.bpfdb.specs.Machine.{State}
 use Rattle.bpfdb.specs.History.{Record}
 use Rattle.bpfdb.specs.Outcomes.{Outcome}

@@ -1,5 +1,5 @@
 -- The refusals of command lines, with the numbers and texts that bpfdb prints (its own choice).
-use Rattle.std.specs.Prelude.{ℕ, List, [], ◌∷◌, ◌++◌}
+use Rattle.std.specs.Prelude.{ℕ, List, ◌++◌}
 use lib.Chars.{codes}
 use Rattle.std.specs.Fmt.{decimal}
 use Rattle.bpfdb.specs.declared.refusal.Refusal.{Refusal}

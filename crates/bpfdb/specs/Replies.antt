@@ -1,5 +1,5 @@
 -- The texts of replies (bpfdb's own choice).
-use Rattle.std.specs.Prelude.{ℕ, zero, suc, ◌+◌, List, [], ◌∷◌, ◌++◌, Result, Ok, Err, decimal}
+use Rattle.std.specs.Prelude.{ℕ, zero, suc, ◌+◌, List, [], ◌++◌, Result, Ok, Err, decimal}
 use lib.Chars.{codes}
 use Rattle.std.specs.Option.{option_map_or}
 use Rattle.bpf_isa.specs.Programs.{insn_at}

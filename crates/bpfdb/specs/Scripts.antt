@@ -2,13 +2,12 @@
 use Rattle.std.specs.Prelude.{◌≡◌, ◌<◌, ◌≤◌, ◌-◌, ◌^◌, ℕ, Bool, true, false, List, [], ◌∷◌, ◌++◌, Option, Some, None, Result, Ok, Err, IfOk, OnOk, OnErr, length}
 use Rattle.bpf_text.specs.Counted.{Tally, one_more}
 use Rattle.bpf_text.specs.Writing.{Writes, AppendsBeginning}
-use Rattle.bpfdb.specs.Machine.{State}
 use Rattle.bpfdb.specs.History.{Record, Kept, StandsFor}
 use Rattle.bpfdb.specs.Outcomes.{last_refusal}
-use Rattle.bpfdb.specs.Sessions.{Standing, HasPast}
+use Rattle.bpfdb.specs.Sessions.{Standing}
 use Rattle.bpfdb.specs.Script.{lines}
 use Rattle.bpfdb.specs.Commands.{command_of}
-use Rattle.bpfdb.specs.Output.{Point, Effect, effect, out, final, unread}
+use Rattle.bpfdb.specs.Output.{Point, effect, out, final, unread}
 use Rattle.bpfdb.specs.declared.script.RunFault.{RunFault}
 use Rattle.bpfdb.specs.declared.script.RunFault.TheVariants.{Read, Write}
 

@@ -1,5 +1,5 @@
-use Rattle.std.proofs.Common.{◌≡◌, ◌<◌, min, sym, ap, subst, ◌∙◌, arith, refl}
-use Rattle.bpfdb.proofs.Backwards.{Receding, Receding-step, Receding-end}
+use Rattle.std.proofs.Common.{◌≡◌, min, arith, refl}
+use Rattle.bpfdb.proofs.Backwards.{Receding-step, Receding-end}
 use Rattle.bpfdb.proofs.backward.go_back.Goals as goal
 
 pub loop-init : goal.loop-init

@@ -1,4 +1,4 @@
-use Rattle.std.proofs.Common.{◌≡◌, Err, sym, ap, ◌∙◌}
+use Rattle.std.proofs.Common.{Err, sym, ap, ◌∙◌}
 use Rattle.bpfdb.proofs.Forwards.{not-both, Going-step, Going-stop, Going-cut}
 use Rattle.bpfdb.proofs.forward.go_forward.Goals as goal
 

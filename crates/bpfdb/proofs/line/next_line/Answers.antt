@@ -1,5 +1,4 @@
-use Rattle.std.proofs.Common.{◌≡◌, Ok, Some, None, ap, subst, ◌∙◌}
-use Rattle.bpf_text.specs.Reading.{ReadsByte}
+use Rattle.std.proofs.Common.{Ok, ap, ◌∙◌}
 use Rattle.bpfdb.proofs.Readings.{Reading-more, Reading-line, Reading-end}
 use Rattle.bpfdb.proofs.line.next_line.Goals as goal
 

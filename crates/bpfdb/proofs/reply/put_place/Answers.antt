@@ -1,4 +1,4 @@
-use Rattle.std.proofs.Common.{codes, arith, sym, ◌∙◌}
+use Rattle.std.proofs.Common.{codes, sym, ◌∙◌}
 use Rattle.std.specs.Prelude.{decimal}
 use Rattle.bpf_text.specs.Writing.{hexadecimal}
 use Rattle.bpfdb.specs.Machine.{number_in}

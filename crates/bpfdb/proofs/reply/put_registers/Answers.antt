@@ -1,4 +1,4 @@
-use Rattle.std.proofs.Common.{codes, ◌++◌, append_assoc, refl, subst, List, ℕ, arith, ◌≡◌}
+use Rattle.std.proofs.Common.{codes, ◌++◌, append_assoc, refl, subst, arith, ◌≡◌}
 use Rattle.bpf_text.specs.Writing.{Writes, hexadecimal}
 use Rattle.bpfdb.specs.Replies.{text_of_registers}
 use Rattle.bpfdb.specs.Machine.{number_in}

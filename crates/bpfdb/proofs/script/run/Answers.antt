@@ -1,4 +1,4 @@
-use Rattle.std.proofs.Common.{◌≡◌, true, false, Ok, Err, sym, ap, ◌∙◌}
+use Rattle.std.proofs.Common.{Ok, ap, ◌∙◌}
 use Rattle.bpfdb.proofs.Running.{Running-start, Running-step, Running-end, Running-quit, Running-unread, Running-unwritten}
 use Rattle.bpfdb.proofs.script.run.Goals as goal
 

@@ -1,5 +1,5 @@
-use Rattle.std.proofs.Common.{◌≡◌, arith, sym, ◌∙◌, subst}
-use Rattle.bpfdb.specs.Machine.{State, IsState, IsUndoable}
+use Rattle.std.proofs.Common.{arith, sym, ◌∙◌, subst}
+use Rattle.bpfdb.specs.Machine.{IsState}
 use Rattle.bpfdb.proofs.Undoing.{undone, undone-next, undone-below}
 use Rattle.bpfdb.proofs.machine.Cpu.revert.Goals as goal
 
