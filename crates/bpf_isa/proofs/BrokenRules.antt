@@ -10,7 +10,7 @@ use Rattle.bpf_isa.specs.declared.form.Form.{Form}
 use Rattle.bpf_isa.specs.Insns.{FallsThrough}
 use Rattle.bpf_isa.specs.Words.{form_of, fields_of, HasParts, HasRegisters, HasOneForm, IsWord}
 use Rattle.bpf_isa.specs.WordFaults.{HasNoWordFault}
-use Rattle.bpf_isa.specs.Checker.{piece_at, HasFault, HasNoFault, IsLeastFault, SparesTen, CallsHelper, NamesMap, Lands, WritesTen}
+use Rattle.bpf_isa.specs.Checker.{piece_at, HasFault, HasNoFault, IsLeastFault, SparesTen, HelperExists, MapExists, Lands, WritesTen}
 use Rattle.bpf_isa.specs.Flags.{Breaks, IsLeastBroken, IsSound}
 
 writes_ten : (insn : Insn) (fields : Fields) → HasParts insn fields → HasRegisters fields → (SparesTen insn → ⊥) → WritesTen (form_of insn) fields
@@ -39,8 +39,8 @@ module _ (bytes : List ℕ) (maps : List MapShape) (p : ℕ) (insn : Insn) (whol
   from_fault NoTarget has = λ lands. has.2 (subst (Lands bytes p) (sym (only has.0 has.1)) lands)
   from_fault CutOff has = clear.none word.CutOff has
   from_fault RunsOff has = (has.0, has.1 insn whole)
-  from_fault UnknownHelper has = λ calls. has.2 (subst CallsHelper (sym (only has.0 has.1)) calls)
-  from_fault NoMap has = λ names. has.2 (subst (NamesMap maps) (sym (only has.0 has.1)) names)
+  from_fault UnknownHelper has = λ calls. has.2 (subst HelperExists (sym (only has.0 has.1)) calls)
+  from_fault NoMap has = λ names. has.2 (subst (MapExists maps) (sym (only has.0 has.1)) names)
 
   pub least_fault : (fault : PieceFault) → IsLeastBroken bytes maps p insn fault → IsLeastFault bytes maps p fault
   least_fault fault broken = record { applies = to_fault fault broken.applies; least = λ other has. broken.least other (from_fault other has) }

@@ -74,15 +74,15 @@ abbrev pub IsHelper : ℕ → Type 0
 IsHelper helper = (helper ≡ 1) ⊎ ((helper ≡ 2) ⊎ (helper ≡ 64))
 
 -- A call's helper exists.
-abbrev pub CallsHelper : Insn → Type 0
-CallsHelper (CallHelper helper) = IsHelper helper
-CallsHelper _ = Unit {0}
+abbrev pub HelperExists : Insn → Type 0
+HelperExists (CallHelper helper) = IsHelper helper
+HelperExists _ = Unit {0}
 
 -- A wide load's map exists, and the byte that it names lies in the map's values.
-abbrev pub NamesMap : List MapShape → Insn → Type 0
-NamesMap maps (LoadMap dst map) = map < length maps
-NamesMap maps (LoadMapValue dst map offset) = MatchOption (slice_get maps map) ⊥ (λ shape. offset < shape.value_size * shape.entries)
-NamesMap maps _ = Unit {0}
+abbrev pub MapExists : List MapShape → Insn → Type 0
+MapExists maps (LoadMap dst map) = map < length maps
+MapExists maps (LoadMapValue dst map offset) = MatchOption (slice_get maps map) ⊥ (λ shape. offset < shape.value_size * shape.entries)
+MapExists maps _ = Unit {0}
 
 -- A fault of the piece at a slot, in the order of their numbers.
 abbrev pub HasFault : List ℕ → List MapShape → ℕ → PieceFault → Type 0
@@ -93,8 +93,8 @@ HasFault bytes maps p WritesFramePointer = (form : Form) × HasCodes (row form) 
 HasFault bytes maps p NoTarget = (insn : Insn) × IsWord insn (piece_at bytes p) × (Lands bytes p insn → ⊥)
 HasFault bytes maps p CutOff = HasWordFault (piece_at bytes p) word.CutOff
 HasFault bytes maps p RunsOff = (length bytes ≤ 8 * after bytes p) × ((insn : Insn) → IsWord insn (piece_at bytes p) → FallsThrough insn)
-HasFault bytes maps p UnknownHelper = (insn : Insn) × IsWord insn (piece_at bytes p) × (CallsHelper insn → ⊥)
-HasFault bytes maps p NoMap = (insn : Insn) × IsWord insn (piece_at bytes p) × (NamesMap maps insn → ⊥)
+HasFault bytes maps p UnknownHelper = (insn : Insn) × IsWord insn (piece_at bytes p) × (HelperExists insn → ⊥)
+HasFault bytes maps p NoMap = (insn : Insn) × IsWord insn (piece_at bytes p) × (MapExists maps insn → ⊥)
 
 -- The number that is printed after C.
 abbrev pub fault_number : PieceFault → ℕ

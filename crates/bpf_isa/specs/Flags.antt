@@ -6,7 +6,7 @@ use Rattle.bpf_isa.specs.declared.fault.PieceFault.{PieceFault}
 use Rattle.bpf_isa.specs.declared.fault.PieceFault.TheVariants.{WritesFramePointer, NoTarget, RunsOff, UnknownHelper, NoMap}
 use Rattle.bpf_isa.specs.Insns.{FallsThrough}
 use Rattle.bpf_isa.specs.Words.{IsWord}
-use Rattle.bpf_isa.specs.Checker.{is_start, IsStartIn, piece_at, after, HasNoFault, SparesTen, Lands, CallsHelper, NamesMap, fault_number}
+use Rattle.bpf_isa.specs.Checker.{is_start, IsStartIn, piece_at, after, HasNoFault, SparesTen, Lands, HelperExists, MapExists, fault_number}
 
 -- The flags are the starts.
 pub record AreStarts (bytes : List ℕ) (starts : List Bool) : Type 0 where
@@ -18,8 +18,8 @@ abbrev pub Breaks : List ℕ → List MapShape → ℕ → Insn → PieceFault �
 Breaks bytes maps p insn WritesFramePointer = SparesTen insn → ⊥
 Breaks bytes maps p insn NoTarget = Lands bytes p insn → ⊥
 Breaks bytes maps p insn RunsOff = (length bytes ≤ 8 * after bytes p) × FallsThrough insn
-Breaks bytes maps p insn UnknownHelper = CallsHelper insn → ⊥
-Breaks bytes maps p insn NoMap = NamesMap maps insn → ⊥
+Breaks bytes maps p insn UnknownHelper = HelperExists insn → ⊥
+Breaks bytes maps p insn NoMap = MapExists maps insn → ⊥
 Breaks bytes maps p insn _ = ⊥
 
 -- The broken rule with the least number.
@@ -32,8 +32,8 @@ pub record IsSound (bytes : List ℕ) (maps : List MapShape) (p : ℕ) (insn : I
   pub spares : SparesTen insn
   pub lands : Lands bytes p insn
   pub falls : FallsThrough insn → 8 * after bytes p < length bytes
-  pub helper : CallsHelper insn
-  pub names : NamesMap maps insn
+  pub helper : HelperExists insn
+  pub names : MapExists maps insn
 
 -- The piece at a slot is a word whose instruction breaks no rule.
 pub record IsPiece (bytes : List ℕ) (maps : List MapShape) (p : ℕ) (insn : Insn) : Type 0 where

@@ -104,10 +104,10 @@ fn broken_rule(
     if insn.falls_through() && is_last(bytes, slot) {
         return Some(PieceFault::RunsOff);
     }
-    if !insn.calls_helper() {
+    if !insn.helper_exists() {
         return Some(PieceFault::UnknownHelper);
     }
-    if !insn.names_map(maps) {
+    if !insn.map_exists(maps) {
         return Some(PieceFault::NoMap);
     }
     None

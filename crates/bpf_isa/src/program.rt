@@ -18,9 +18,9 @@ pub struct Program {
 }
 
 impl Model for Program {
-    ghost use Rattle.bpf_isa.specs.Programs.{Code, IsProgram};
+    ghost use Rattle.bpf_isa.specs.Programs.{Checked, IsProgram};
 
-    ghost Value = { Code };
+    ghost Value = { Checked };
 
     ghost view = { λ p. record { bytes = p.bytes.items; insns = p.insns.items; maps = p.maps } };
 
@@ -59,7 +59,7 @@ impl Program {
     }
 
     /// Brings what holds of every checked program into a proof.
-    pub fn known(&self)
+    pub fn invariant(&self)
         ensures { IsProgram self.now }
     {
         let _bytes = &self.bytes;

@@ -1,6 +1,6 @@
 //! What the checker asks of an instruction by itself.
 ghost use Rattle.std.specs.Prelude.{◌≡◌, ◌≤◌, ◌↔◌, IsTrue, List, ℕ};
-ghost use Rattle.bpf_isa.specs.Checker.{SparesTen, CallsHelper, NamesMap, Lands};
+ghost use Rattle.bpf_isa.specs.Checker.{SparesTen, HelperExists, MapExists, Lands};
 ghost use Rattle.bpf_isa.specs.Flags.{AreStarts};
 
 use crate::instruction::{AtomicOp, Insn};
@@ -74,8 +74,8 @@ impl Insn {
     }
 
     /// Whether a helper that it calls exists.
-    pub fn calls_helper(&self) -> bool
-        ensures { IsTrue result ↔ CallsHelper self.now }
+    pub fn helper_exists(&self) -> bool
+        ensures { IsTrue result ↔ HelperExists self.now }
     {
         match self {
             Insn::CallHelper { helper } => matches!(*helper, 1 | 2 | 64),
@@ -84,8 +84,8 @@ impl Insn {
     }
 
     /// Whether a map that it names exists, and has the byte that it names.
-    pub fn names_map(&self, maps: &MapTable) -> bool
-        ensures { IsTrue result ↔ NamesMap maps.now self.now }
+    pub fn map_exists(&self, maps: &MapTable) -> bool
+        ensures { IsTrue result ↔ MapExists maps.now self.now }
     {
         match self {
             Insn::LoadMap { map, .. } => (*map as usize) < maps.len(),

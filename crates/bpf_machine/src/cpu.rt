@@ -28,13 +28,13 @@ pub struct Cpu {
 impl Model for Cpu {
     ghost use Rattle.std.specs.Prelude.{◌≡◌, ℕ, []};
     ghost use Rattle.bpf_isa.specs.Programs.{IsStart};
-    ghost use Rattle.bpf_machine.specs.State.{State, IsKnownAt};
+    ghost use Rattle.bpf_machine.specs.State.{State, IsSupportedAt};
 
     ghost Value = { State };
 
     ghost view = { λ c. record { program = c.program; pc = c.pc; registers = c.registers; frames = c.frames.items; memory = c.memory; status = c.status; trace = c.trace.items } };
 
-    ghost invariant = { λ c. record { start : IsStart c.program c.pc; knows : (p : ℕ) → IsKnownAt c.program p; outermost : c.frames.items ≡ [] } };
+    ghost invariant = { λ c. record { start : IsStart c.program c.pc; knows : (p : ℕ) → IsSupportedAt c.program p; outermost : c.frames.items ≡ [] } };
 }
 
 impl Cpu {
@@ -43,11 +43,11 @@ impl Cpu {
     ghost use Rattle.bpf_machine.specs.Next.{changed};
 
     /// Brings what holds of every machine into a proof.
-    pub fn known(&self)
+    pub fn invariant(&self)
         ensures { IsState self.now }
     {
-        self.program.known();
-        self.memory.known();
+        self.program.invariant();
+        self.memory.invariant();
         are_ten(&self.registers);
         let _trace = self.trace();
     }

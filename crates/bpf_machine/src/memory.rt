@@ -55,7 +55,7 @@ impl Memory {
     }
 
     /// Brings what holds of every memory into a proof.
-    pub(crate) fn known(&self)
+    pub(crate) fn invariant(&self)
         ensures { IsImage self.now }
     {
         let _bytes = &self.bytes;

@@ -6,7 +6,7 @@ use Rattle.std.proofs.Math.ListN.{drop_of_length-le}
 use Rattle.std.proofs.lemmas.Bool.{eq-eqb}
 use Rattle.std.proofs.lemmas.List.{take-append-drop, get_or-take, get_or-drop}
 use Rattle.bpf_isa.specs.declared.instruction.Insn.{Insn}
-use Rattle.bpf_isa.specs.Programs.{Code, IsProgram, target_of, slots_of}
+use Rattle.bpf_isa.specs.Programs.{Checked, IsProgram, target_of, slots_of}
 use Rattle.bpf_isa.specs.Checker.{is_start, is_wide_at, piece_at}
 use Rattle.bpf_isa.specs.Words.{IsWord, row, form_of}
 use Rattle.bpf_text.specs.Cuts.{lines}
@@ -203,7 +203,7 @@ agree false true p q = sym (q refl)
 agree false false p q = refl
 
 -- the cut of a program
-program-cut : (code : Code) → IsProgram code → IsCut code.bytes 0 code.insns
+program-cut : (code : Checked) → IsProgram code → IsCut code.bytes 0 code.insns
 program-cut code known = record {
   starts = λ k h. rw (zero-add k) (agree (is_some (entry code.insns k)) (is_start code.bytes k)
       (λ s. ((known.starts k).0 s).1)
@@ -216,11 +216,11 @@ program-cut code known = record {
 }
 
 -- the labels of a program
-abbrev pub program_labels : Code → Labels
+abbrev pub program_labels : Checked → Labels
 program_labels code = labels_after (is_target 0 code.insns) no_label 0 code.insns
 
 -- each target of a program has its label
-program-reach : (code : Code) → IsProgram code → (k : ℕ) (i : Insn) → entry code.insns k ≡ Some i
+program-reach : (code : Checked) → IsProgram code → (k : ℕ) (i : Insn) → entry code.insns k ≡ Some i
     → Reaches (program_labels code) (target_of k i)
 program-reach code known k i e = go (target_of k i) refl where
   go : (o : Option ℤ) → target_of k i ≡ o → Reaches (program_labels code) o
@@ -241,13 +241,13 @@ slot-first (Some i ∷ rest) h = refl
 slot-first (None ∷ rest) h = cc
 
 -- nothing follows the last slot
-program-end : (code : Code) → IsProgram code → drop (8 * (0 + length code.insns)) code.bytes ≡ []
+program-end : (code : Checked) → IsProgram code → drop (8 * (0 + length code.insns)) code.bytes ≡ []
 program-end code known =
     let slots = known.slots in
     drop_of_length-le code.bytes {i = 8 * (0 + length code.insns)} (omega (arith, slots))
 
 -- the law
-pub canonical-listing : (code : Code) → IsProgram code → IsListing (canon code) code.bytes
+pub canonical-listing : (code : Checked) → IsProgram code → IsListing (canon code) code.bytes
 canonical-listing code known =
     let insns = code.insns in
     let f = is_target 0 insns in

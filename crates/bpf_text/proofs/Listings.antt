@@ -4,7 +4,7 @@ use Rattle.std.proofs.lemmas.List.{append-nil, take_more, length-take-le, get_or
 use Rattle.std.proofs.lemmas.Bool.{eqb-true, eq-eqb}
 use Rattle.std.proofs.lemmas.Option.{unwrap_or-slice_get, slice_get_within, slice_get-get_or}
 use Rattle.bpf_isa.specs.declared.instruction.Insn.{Insn}
-use Rattle.bpf_isa.specs.Programs.{Code, IsProgram, IsStart, IsStartAt, insn_at, target_of}
+use Rattle.bpf_isa.specs.Programs.{Checked, IsProgram, IsStart, IsStartAt, insn_at, target_of}
 use Rattle.bpf_text.specs.Operands.{IsSlot}
 use Rattle.bpf_text.specs.Canonical.{goes_to, is_target, slot_lines, lines_from}
 
@@ -106,14 +106,14 @@ flags-set insns flags slot target h sized inside goes known t within = rw (is_ta
       rw (or-false (is_target 0 (take slot insns) t)) (slice_get-set_other flags target t (λ x. not-eqb target t e x) ∙ known t within)
 
 -- what names a slot at which an instruction starts names a slot of the program
-pub start-within : (code : Code) (p : ℕ) → IsStart code p → p < length code.insns
+pub start-within : (code : Checked) (p : ℕ) → IsStart code p → p < length code.insns
 start-within code p start = within (slice_get code.insns p) refl start where
   within : (o : Option (Option Insn)) → slice_get code.insns p ≡ o → IsSome (unwrap_or o None) → p < length code.insns
   within None e h = cc
   within (Some x) e h = slice_get_within code.insns p x e
 
 -- the target of an instruction of a program is a slot
-pub target-IsSlot : (code : Code) → IsProgram code → (p : ℕ) (i : Insn) → insn_at code p ≡ Some i
+pub target-IsSlot : (code : Checked) → IsProgram code → (p : ℕ) (i : Insn) → insn_at code p ≡ Some i
     → IfSome (target_of p i) IsSlot
 target-IsSlot code known p i e = IfSome-IsSlot (target_of p i) (λ t. known.lands p t i e) where
   IfSome-IsSlot : (o : Option ℤ) → ((t : ℤ) → o ≡ Some t → IsStartAt code t) → IfSome o IsSlot

@@ -1,7 +1,7 @@
 -- The canonical listing of a program. It is bpfdb's own choice.
 use Rattle.std.specs.Prelude.{ℕ, ℤ, pos, negsuc, ◌+◌, ◌==◌, ◌||◌, Bool, true, false, List, [], ◌∷◌, ◌++◌, Option, Some, None, codes}
 use Rattle.bpf_isa.specs.declared.instruction.Insn.{Insn}
-use Rattle.bpf_isa.specs.Programs.{Code, target_of}
+use Rattle.bpf_isa.specs.Programs.{Checked, target_of}
 use Rattle.bpf_text.specs.Operands.{label_text, text_of_insn}
 
 -- Whether a target is this slot.
@@ -36,5 +36,5 @@ lines_from labelled p [] = []
 lines_from labelled p (i ∷ rest) = slot_lines (labelled p) p i ++ lines_from labelled (p + 1) rest
 
 -- The canonical listing of a program.
-abbrev pub canon : Code → List ℕ
+abbrev pub canon : Checked → List ℕ
 canon code = lines_from (is_target 0 code.insns) 0 code.insns

@@ -18,7 +18,7 @@ use std::io::Write;
 pub fn disassemble(alloc: Global, program: &Program) -> Result<Vec<u8>, AllocError>
     ensures { IfOk result (λ text. text.items ≡ canon program.now) }
 {
-    program.known();
+    program.invariant();
     let labelled = targets(alloc, program)?;
     let mut writer = Counted::new(Vec::new(alloc));
     let mut so_far = Ok(());
@@ -74,7 +74,7 @@ fn targets(alloc: Global, program: &Program) -> Result<Vec<bool>, AllocError>
     ensures value { IfOk result (λ flags. (t : ℕ) → t < length program.now.insns
         → slice_get flags.items t ≡ Some (is_target 0 program.now.insns t)) }
 {
-    program.known();
+    program.invariant();
     let mut flags = vec![in alloc; false; program.len()]?;
     for slot in 0..program.len() {
         if let Some(insn) = program.insn_at(slot) {

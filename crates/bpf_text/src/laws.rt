@@ -10,7 +10,7 @@ use bpf_isa::Program;
 pub fn canonical_listing(program: &Program)
     ensures { IsListing (canon program.now) program.now.bytes }
 {
-    program.known();
+    program.invariant();
 }
 
 /// Each mnemonic is the one that its name finds, and a listing has one assembly at most.

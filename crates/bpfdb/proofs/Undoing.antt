@@ -3,7 +3,7 @@ use Rattle.std.proofs.Common.{◌≡◌, ◌<◌, ◌+◌, ◌^◌, ℕ, zero, s
 use Rattle.std.specs.Prelude.{slice_get}
 use Rattle.std.proofs.lemmas.List.{length-set}
 use Rattle.std.proofs.lemmas.Bool.Decides.{nat_tests}
-use Rattle.bpf_isa.specs.Programs.{Code, insn_at, IsProgram, IsStart}
+use Rattle.bpf_isa.specs.Programs.{Checked, insn_at, IsProgram, IsStart}
 use Rattle.bpf_isa.specs.declared.instruction.Insn.{Insn}
 use Rattle.bpf_isa.specs.declared.instruction.Insn.TheVariants.{Binary}
 use Rattle.bpf_isa.specs.declared.instruction.Width.{Width}
@@ -20,7 +20,7 @@ below-length [] p h = cc
 below-length (x ∷ xs) zero h = omega arith
 below-length (x ∷ xs) (suc p) h = omega (arith, below-length xs p h)
 
-pub pc-below : (code : Code) (p : ℕ) → IsProgram code → IsStart code p → p < 65535
+pub pc-below : (code : Checked) (p : ℕ) → IsProgram code → IsStart code p → p < 65535
 pc-below code p h s = omega (arith, h.short, below-length code.insns p s)
 
 pub dst-below : (x : State) (op : BinaryOp) (width : Width) (dst : ℕ) (source : Source) → IsState x → insn_at x.program x.pc ≡ Some (Binary op width dst source) → dst < 10
@@ -62,7 +62,7 @@ unfolding undone replaced executed
 undone-executed x (Binary op width dst source) h e r = rw (number_in-below x dst (dst-below x op width dst source h e)) (ap (λ rs. record x { registers = rs }) (set-back x.registers dst _))
 undone-executed x i h e r = ap (λ s. record x { status = s }) (sym r)
 
-no-start : (code : Code) (p : ℕ) → IsStart code p → insn_at code p ≡ None → ⊥
+no-start : (code : Checked) (p : ℕ) → IsStart code p → insn_at code p ≡ None → ⊥
 no-start code p h e = let gone = rw e at h in cc
 
 -- the instruction at pc, seen as an option, as the definitions of a step look at it

@@ -1,6 +1,6 @@
 -- What the debugger answers for a program and a script.
 use Rattle.std.specs.Prelude.{◌≡◌, ℕ, List, [], ◌++◌, Option, Some}
-use Rattle.bpf_isa.specs.Programs.{Code, IsProgram}
+use Rattle.bpf_isa.specs.Programs.{Checked, IsProgram}
 use Rattle.bpf_isa.specs.Checker.{IsRefused}
 use Rattle.bpf_text.specs.Counted.{Tally}
 use Rattle.bpf_text.specs.Writing.{AppendsBeginning}
@@ -13,20 +13,20 @@ use Rattle.bpfdb.specs.declared.debug.DebugFault.{DebugFault}
 use Rattle.bpfdb.specs.declared.debug.DebugFault.TheVariants.{Load, Open, Run}
 
 -- The bytes are an accepted program without maps, all of whose instructions the machine has.
-pub record Loads (bytes : List ℕ) (code : Code) : Type 0 where
+pub record Loads (bytes : List ℕ) (code : Checked) : Type 0 where
   pub accepted : IsProgram code
   pub same : code.bytes ≡ bytes
   pub unmapped : code.maps ≡ []
   pub known : HasAll code
 
 -- Where a session over a program begins: no history, slot 0.
-abbrev pub opening : Code → Point
+abbrev pub opening : Checked → Point
 opening code = record { history = []; state = initial code }
 
 -- The bytes after those that were told before are those that the script prints, where the keeper refused what the gaps say;
 -- what follows `quit` is left unread.
 pub record Debugs (limit : ℕ) (bytes script told : List ℕ) (after left : Option (List ℕ)) : Type 0 where
-  pub code : Code
+  pub code : Checked
   pub loads : Loads bytes code
   pub gaps : List (Option ℕ)
   pub written : after ≡ Some (told ++ out gaps limit (lines script) (opening code))
@@ -34,7 +34,7 @@ pub record Debugs (limit : ℕ) (bytes script told : List ℕ) (after left : Opt
 
 -- The bytes after those that were told before are a beginning of those that the script prints.
 pub record DebugsBeginning (limit : ℕ) (bytes script told : List ℕ) (after : Option (List ℕ)) : Type 0 where
-  pub code : Code
+  pub code : Checked
   pub loads : Loads bytes code
   pub gaps : List (Option ℕ)
   pub written : AppendsBeginning (Some told) after (out gaps limit (lines script) (opening code))
@@ -43,5 +43,5 @@ pub record DebugsBeginning (limit : ℕ) (bytes script told : List ℕ) (after :
 abbrev pub Stops : {R W : Type 0} → List ℕ → DebugFault → Tally R → Tally R → Tally W → Tally W → Type 0
 Stops bytes (Load fault) reader reader' writer writer' = IsRefused bytes [] fault × (reader' ≡ reader) × (writer' ≡ writer)
 Stops bytes (Open fault) reader reader' writer writer' =
-    (code : Code) × IsProgram code × (code.bytes ≡ bytes) × machine.IsRefused code fault × (reader' ≡ reader) × (writer' ≡ writer)
+    (code : Checked) × IsProgram code × (code.bytes ≡ bytes) × machine.IsRefused code fault × (reader' ≡ reader) × (writer' ≡ writer)
 Stops bytes (Run fault) reader reader' writer writer' = Fails fault reader reader' writer writer'

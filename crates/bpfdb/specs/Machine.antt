@@ -1,7 +1,7 @@
 -- The machine between two steps (RFC 9669, sections 2 and 4), for the instructions that it has so far: ADD and MOV of class ALU64, and EXIT.
 use Rattle.std.specs.Prelude.{◌≡◌, ◌<◌, ◌+◌, ◌^◌, ◌==◌, ℕ, List, [], ◌∷◌, Some, None, length, slice_index, slice_set, if◌then◌else◌, Bool, true, false}
 use Rattle.std.specs.Int.{cast_unsigned, w64}
-use Rattle.bpf_isa.specs.Programs.{Code, insn_at, IsProgram, IsStart}
+use Rattle.bpf_isa.specs.Programs.{Checked, insn_at, IsProgram, IsStart}
 use Rattle.bpf_isa.specs.declared.instruction.Insn.{Insn}
 use Rattle.bpf_isa.specs.declared.instruction.Insn.TheVariants.{Binary, Exit}
 use Rattle.bpf_isa.specs.declared.instruction.Width.TheVariants.{Bits64}
@@ -18,7 +18,7 @@ use Rattle.bpfdb.specs.declared.machine.Entry.TheVariants as entries
 
 -- A state: the program, the slot of the instruction to run, the numbers in r0 to r9, and whether the machine runs.
 pub record State : Type 0 where
-  pub program : Code
+  pub program : Checked
   pub pc : ℕ
   pub registers : List ℕ
   pub status : Status
@@ -36,22 +36,22 @@ abbrev pub has_ended : State → Bool
 has_ended x = elim x.status [ Running ↦ false | Exited ↦ true ]
 
 -- The instructions that the machine has.
-abbrev pub IsKnown : Insn → Type 0
-IsKnown (Binary Add Bits64 dst source) = Unit {0}
-IsKnown (Binary Mov Bits64 dst source) = Unit {0}
-IsKnown Exit = Unit {0}
-IsKnown _ = ⊥
+abbrev pub IsSupported : Insn → Type 0
+IsSupported (Binary Add Bits64 dst source) = Unit {0}
+IsSupported (Binary Mov Bits64 dst source) = Unit {0}
+IsSupported Exit = Unit {0}
+IsSupported _ = ⊥
 
 -- What every state meets.
 pub record IsState (x : State) : Type 0 where
   pub program : IsProgram x.program
-  pub known : (p : ℕ) (i : Insn) → insn_at x.program p ≡ Some i → IsKnown i
+  pub known : (p : ℕ) (i : Insn) → insn_at x.program p ≡ Some i → IsSupported i
   pub start : IsStart x.program x.pc
   pub ten : length x.registers ≡ 10
   pub fits : (r : ℕ) → slice_index x.registers r < 2 ^ 64
 
 -- Where a program begins: slot 0, with 0 in r0 to r9 (bpfdb's own choice of numbers).
-abbrev pub initial : Code → State
+abbrev pub initial : Checked → State
 initial code = record { program = code; pc = 0; registers = 0 ∷ 0 ∷ 0 ∷ 0 ∷ 0 ∷ 0 ∷ 0 ∷ 0 ∷ 0 ∷ 0 ∷ []; status = Running }
 
 -- The second operand in class ALU64: imm with its sign extended (K), or a register (X).
@@ -91,16 +91,16 @@ pub record IsUndoable (y : State) (entry : Entry) : Type 0 where
   pub held : overwritten x ≡ entry
 
 -- Every instruction of the program is one that the machine has.
-abbrev pub HasAll : Code → Type 0
-HasAll code = (p : ℕ) (i : Insn) → insn_at code p ≡ Some i → IsKnown i
+abbrev pub HasAll : Checked → Type 0
+HasAll code = (p : ℕ) (i : Insn) → insn_at code p ≡ Some i → IsSupported i
 
 -- The lowest slot of an instruction that the machine lacks.
-pub record IsFirstLacking (code : Code) (slot : ℕ) : Type 0 where
+pub record IsFirstLacking (code : Checked) (slot : ℕ) : Type 0 where
   pub insn : Insn
   pub there : insn_at code slot ≡ Some insn
-  pub lacks : IsKnown insn → ⊥
-  pub before : (p : ℕ) (i : Insn) → p < slot → insn_at code p ≡ Some i → IsKnown i
+  pub lacks : IsSupported insn → ⊥
+  pub before : (p : ℕ) (i : Insn) → p < slot → insn_at code p ≡ Some i → IsSupported i
 
 -- Why a program is refused.
-abbrev pub IsRefused : Code → OpenFault → Type 0
+abbrev pub IsRefused : Checked → OpenFault → Type 0
 IsRefused code (Unsupported slot) = IsFirstLacking code slot

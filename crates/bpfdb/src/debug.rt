@@ -51,7 +51,7 @@ pub fn debug<R: Read, W: Write>(
         Ok(code) => code,
         Err(fault) => return Err(DebugFault::Load(fault)),
     };
-    code.known();
+    code.invariant();
     let cpu = match Cpu::open(code) {
         Ok(cpu) => cpu,
         Err(fault) => return Err(DebugFault::Open(fault)),

@@ -2,7 +2,7 @@
 ghost use Rattle.std.specs.Prelude.{◌≡◌, ◌↔◌, IsTrue, IsOk, IfOk, IfErr, IfSome, IfNone, OnErr, Some};
 ghost use Rattle.bpf_isa.specs.Programs.{insn_at};
 ghost use Rattle.bpfdb.specs.Alu.{result_of};
-ghost use Rattle.bpfdb.specs.Machine.{IsFirstLacking, HasAll, IsKnown};
+ghost use Rattle.bpfdb.specs.Machine.{IsFirstLacking, HasAll, IsSupported};
 
 use bpf_isa::{BinaryOp, Insn, Program, Reg, Source, Width};
 use std::marker::Model;
@@ -61,7 +61,7 @@ impl Cpu {
     ghost use Rattle.bpfdb.specs.Machine.{IsState, number_in};
 
     /// Brings what every state meets into a proof.
-    pub fn known(&self)
+    pub fn invariant(&self)
         ensures { IsState self.now }
     {
         let _pc = &self.pc;
@@ -105,7 +105,7 @@ impl Cpu {
         if let Some(slot) = lacking(&program) {
             return Err(OpenFault::Unsupported(slot));
         }
-        program.known();
+        program.invariant();
         Ok(Cpu {
             program,
             pc: 0,
@@ -229,7 +229,7 @@ fn lacking(program: &Program) -> Option<usize>
 {
     for slot in 0..program.len() {
         if let Some(insn) = program.insn_at(slot) {
-            if !is_known(&insn) {
+            if !is_supported(&insn) {
                 return Some(slot);
             }
         }
@@ -238,8 +238,8 @@ fn lacking(program: &Program) -> Option<usize>
 }
 
 /// Whether the machine has an instruction.
-fn is_known(insn: &Insn) -> bool
-    ensures { IsTrue result ↔ IsKnown insn.now }
+fn is_supported(insn: &Insn) -> bool
+    ensures { IsTrue result ↔ IsSupported insn.now }
 {
     match insn {
         Insn::Binary {

@@ -106,7 +106,7 @@ pub fn put_place<W: Write>(
 {
     match cpu.status() {
         Status::Running => {
-            cpu.known();
+            cpu.invariant();
             let at = put(writer, so_far, b"at ");
             let slot = put_decimal(writer, at, cpu.pc() as u64);
             let parted = put(writer, slot, b": ");

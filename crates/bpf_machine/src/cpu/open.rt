@@ -1,8 +1,8 @@
 //! Opening a machine.
 ghost use Rattle.std.specs.Prelude.{◌≤◌, ◌↔◌, IsTrue, IfOk, IfErr, IfSome, IfNone, length};
-ghost use Rattle.bpf_machine.specs.State.{IsKnown, IsKnownAt};
+ghost use Rattle.bpf_machine.specs.State.{IsSupported, IsSupportedAt};
 ghost use Rattle.bpf_machine.specs.Platform.{context_limit};
-ghost use Rattle.bpf_machine.specs.Opening.{Opened, Refused, IsKnownWhole, IsFirstUnknown};
+ghost use Rattle.bpf_machine.specs.Opening.{Opened, Refused, IsSupportedWhole, IsFirstUnsupported};
 
 use super::Cpu;
 use crate::fault::OpenFault;
@@ -23,19 +23,19 @@ impl Cpu {
         if context.len() > CONTEXT_LIMIT {
             return Err(OpenFault::ContextTooLong);
         }
-        match first_unknown(&program) {
+        match first_unsupported(&program) {
             Some(slot) => Err(OpenFault::Unknown { slot }),
-            None => Cpu::with_known(alloc, program, context),
+            None => Cpu::with_supported(alloc, program, context),
         }
     }
 
-    fn with_known(alloc: Global, program: Program, context: &[u8]) -> Result<Cpu, OpenFault>
+    fn with_supported(alloc: Global, program: Program, context: &[u8]) -> Result<Cpu, OpenFault>
         requires fits { length context.now ≤ context_limit }
-        requires only { IsKnownWhole program }
+        requires only { IsSupportedWhole program }
         ensures ok { IfOk result (Opened program context.now) }
         ensures err { IfErr result (Refused program context.now) }
     {
-        program.known();
+        program.invariant();
         let memory = match Memory::open(alloc, program.maps(), context) {
             Ok(memory) => memory,
             Err(fault) => return Err(fault),
@@ -54,13 +54,13 @@ impl Cpu {
 }
 
 /// The lowest slot of a word that the machine lacks.
-fn first_unknown(program: &Program) -> Option<u16>
-    ensures found { IfSome result (IsFirstUnknown program.now) }
-    ensures none { IfNone result (IsKnownWhole program.now) }
+fn first_unsupported(program: &Program) -> Option<u16>
+    ensures found { IfSome result (IsFirstUnsupported program.now) }
+    ensures none { IfNone result (IsSupportedWhole program.now) }
 {
-    program.known();
+    program.invariant();
     for slot in 0..program.len() {
-        if !is_known_at(program, slot) {
+        if !is_supported_at(program, slot) {
             return Some(slot as u16);
         }
     }
@@ -68,18 +68,18 @@ fn first_unknown(program: &Program) -> Option<u16>
 }
 
 /// Whether the machine knows the word at a slot.
-fn is_known_at(program: &Program, slot: usize) -> bool
-    ensures { IsTrue result ↔ IsKnownAt program.now slot }
+fn is_supported_at(program: &Program, slot: usize) -> bool
+    ensures { IsTrue result ↔ IsSupportedAt program.now slot }
 {
     match program.insn_at(slot) {
-        Some(insn) => is_known(&insn),
+        Some(insn) => is_supported(&insn),
         None => true,
     }
 }
 
 /// Whether the machine knows a word.
-fn is_known(insn: &Insn) -> bool
-    ensures { IsTrue result ↔ IsKnown insn.now }
+fn is_supported(insn: &Insn) -> bool
+    ensures { IsTrue result ↔ IsSupported insn.now }
 {
     match insn {
         Insn::CallHelper { helper: _ } => false,

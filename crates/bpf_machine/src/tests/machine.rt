@@ -7,7 +7,7 @@ use std::test::Fail;
 #[test]
 fn reads(rt: HostRuntime) -> Result<(), Fail> {
     let cpu = machine(rt.alloc(), &[0x79a1_f8ff_0000_0000, EXIT])?;
-    cpu.known();
+    cpu.invariant();
     assert_eq!(rt; cpu.pc(), 0);
     assert_eq!(rt; cpu.reg(Reg::new(2).ok_or("r2")?), 8);
     assert_eq!(rt; cpu.depth(), 0);

@@ -165,7 +165,7 @@ fn a_session_by_calls(rt: HostRuntime) -> Result<(), Fail> {
     let code = check(rt.alloc(), ANSWER, &MapTable::empty())
         .ok()
         .ok_or("refused")?;
-    code.known();
+    code.invariant();
     let cpu = Cpu::open(code).ok().ok_or("not opened")?;
     let mut session = Session::open(cpu, ListKeeper::new(rt.alloc()), 10);
     let count = Count::new(1).ok_or("no count")?;

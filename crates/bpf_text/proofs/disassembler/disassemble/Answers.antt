@@ -10,7 +10,7 @@ use Rattle.bpf_text.proofs.disassembler.disassemble.Goals.{in-Some, in_default}
 
 pub put_lines-so_far-requires-clause-target : goal.put_lines-so_far-requires-clause-target
 put_lines-so_far-requires-clause-target c =
-    target-IsSlot c.args.program.now c.known.ensures c.loop-slot.slot c.in-Some.insn (sym c.in-Some.ensures)
+    target-IsSlot c.args.program.now c.invariant.ensures c.loop-slot.slot c.in-Some.insn (sym c.in-Some.ensures)
 
 pub loop-slot-preserved : goal.loop-slot-preserved
 loop-slot-preserved c =

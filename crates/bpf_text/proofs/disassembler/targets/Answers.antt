@@ -7,11 +7,11 @@ use Rattle.bpf_text.proofs.disassembler.targets.Goals.{in-Some+in-Some-target_of
 
 pub target_of-requires-clause-target : goal.target_of-requires-clause-target
 target_of-requires-clause-target c =
-    target-IsSlot c.args.program.now c.known.ensures c.loop-slot.slot c.in-Some.insn (sym c.in-Some.ensures)
+    target-IsSlot c.args.program.now c.invariant.ensures c.loop-slot.slot c.in-Some.insn (sym c.in-Some.ensures)
 
 pub index_mut-requires : goal.index_mut-requires
 index_mut-requires c =
-    let lands = c.known.ensures.lands c.loop-slot.slot (pos c.in-Some-target_of.target) c.in-Some.insn
+    let lands = c.invariant.ensures.lands c.loop-slot.slot (pos c.in-Some-target_of.target) c.in-Some.insn
     (sym c.in-Some.ensures) c.in-Some-target_of.ensures.found in
     omega (arith, start-within c.args.program.now c.in-Some-target_of.target lands, c.loop-slot.invariant.sized, c.loop-slot.flags.ok.0)
 
@@ -23,7 +23,7 @@ loop-slot-preserved c =
     elim c.match-insn_at.branch [
       | in-Some+in-Some-target_of w ↦
           let goes = w.in-Some-target_of.ensures.found in
-          let lands = c.known.ensures.lands c.loop-slot.slot (pos w.in-Some-target_of.target) w.in-Some.insn (sym w.in-Some.ensures) goes in
+          let lands = c.invariant.ensures.lands c.loop-slot.slot (pos w.in-Some-target_of.target) w.in-Some.insn (sym w.in-Some.ensures) goes in
           rw w.flags-is (record {
             sized = length-set c.loop-slot.flags.items w.in-Some-target_of.target true ∙ old.sized;
             so_far = flags-set insns c.loop-slot.flags.items c.loop-slot.slot w.in-Some-target_of.target within old.sized

@@ -3,4 +3,4 @@ use Rattle.bpf_text.proofs.CanonicalLaw.{canonical-listing}
 use Rattle.bpf_text.proofs.laws.canonical_listing.Goals as goal
 
 pub returns : goal.returns
-returns c = canonical-listing c.args.program.now c.known.ensures
+returns c = canonical-listing c.args.program.now c.invariant.ensures

@@ -1,6 +1,6 @@
 use Rattle.std.proofs.Common.{◌≡◌, List, [], ◌++◌, ℕ, Option, Some, ap, subst, ◌∙◌}
 use Rattle.bpfdb.specs.Machine.{State, initial}
-use Rattle.bpf_isa.specs.Programs.{Code}
+use Rattle.bpf_isa.specs.Programs.{Checked}
 use Rattle.bpf_text.specs.Writing.{AppendsBeginning}
 use Rattle.bpfdb.specs.Debug.{Loads, Debugs, DebugsBeginning}
 use Rattle.bpfdb.specs.Script.{lines}
@@ -9,7 +9,7 @@ use Rattle.bpfdb.specs.Scripts.{LeavesUnread}
 use Rattle.bpfdb.proofs.debug.debug.Goals as goal
 
 -- what was printed from the machine's state was printed from the opening one
-from-opening : (limit : ℕ) (bytes script told : List ℕ) (after left : Option (List ℕ)) (code : Code) (x : State) (gaps : List (Option ℕ)) → Loads bytes code → x ≡ initial code → after ≡ Some (told ++ out gaps limit (lines script) (record { history = []; state = x })) → LeavesUnread script left → Debugs limit bytes script told after left
+from-opening : (limit : ℕ) (bytes script told : List ℕ) (after left : Option (List ℕ)) (code : Checked) (x : State) (gaps : List (Option ℕ)) → Loads bytes code → x ≡ initial code → after ≡ Some (told ++ out gaps limit (lines script) (record { history = []; state = x })) → LeavesUnread script left → Debugs limit bytes script told after left
 from-opening limit bytes script told after left code x gaps loads opened written next = record {
   code = code;
   loads = loads;
@@ -19,7 +19,7 @@ from-opening limit bytes script told after left code x gaps loads opened written
 }
 
 -- the same of a beginning
-begun-from-opening : (limit : ℕ) (bytes script told : List ℕ) (after : Option (List ℕ)) (code : Code) (x : State) (gaps : List (Option ℕ)) → Loads bytes code → x ≡ initial code → AppendsBeginning (Some told) after (out gaps limit (lines script) (record { history = []; state = x })) → DebugsBeginning limit bytes script told after
+begun-from-opening : (limit : ℕ) (bytes script told : List ℕ) (after : Option (List ℕ)) (code : Checked) (x : State) (gaps : List (Option ℕ)) → Loads bytes code → x ≡ initial code → AppendsBeginning (Some told) after (out gaps limit (lines script) (record { history = []; state = x })) → DebugsBeginning limit bytes script told after
 begun-from-opening limit bytes script told after code x gaps loads opened written = record {
   code = code;
   loads = loads;
@@ -33,7 +33,7 @@ returns-in-Ok-answer-clause-value g c = λ script told left held.
     let p = r [] script told (c.new.ensures.empty, tt) left held in
     let o = c.in-Ok-open.ensures.ok in
     from-opening _ _ script told _ _ c.in-Ok.code c.in-Ok-open.cpu p.gaps
-    (record { accepted = c.known.ensures; same = c.in-Ok.ensures.value.0; unmapped = c.in-Ok.ensures.value.1 ∙ c.empty.ensures; known = o.1 })
+    (record { accepted = c.invariant.ensures; same = c.in-Ok.ensures.value.0; unmapped = c.in-Ok.ensures.value.1 ∙ c.empty.ensures; known = o.1 })
     o.0 p.written p.next
 
 pub returns-in-Err-answer-clause-fault : goal.returns-in-Err-answer-clause-fault
@@ -42,5 +42,5 @@ returns-in-Err-answer-clause-fault g c = λ why script told is left held.
     let p = r [] script told (c.new.ensures.empty, tt) left held in
     let o = c.in-Ok-open.ensures.ok in
     begun-from-opening _ _ script told _ c.in-Ok.code c.in-Ok-open.cpu p.gaps
-    (record { accepted = c.known.ensures; same = c.in-Ok.ensures.value.0; unmapped = c.in-Ok.ensures.value.1 ∙ c.empty.ensures; known = o.1 })
+    (record { accepted = c.invariant.ensures; same = c.in-Ok.ensures.value.0; unmapped = c.in-Ok.ensures.value.1 ∙ c.empty.ensures; known = o.1 })
     o.0 p.written

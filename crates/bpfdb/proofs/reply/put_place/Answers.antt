@@ -29,7 +29,7 @@ returns-in-Exited g c = λ first front known.
     rw (sym c.status.ensures ∙ c.in-Exited.is) (joined4 _ _ _ _ front (codes "exited at ") (decimal x.pc) (codes ": r0 ") (hexadecimal (number_in x 0)) told)
 
 pub put_insn-requires-clause-slot : goal.put_insn-requires-clause-slot
-put_insn-requires-clause-slot g c = rw c.pc-in-Running.ensures (slot-fits _ _ c.known.ensures.program c.known.ensures.start)
+put_insn-requires-clause-slot g c = rw c.pc-in-Running.ensures (slot-fits _ _ c.invariant.ensures.program c.invariant.ensures.start)
 
 pub put_insn-requires-clause-target : goal.put_insn-requires-clause-target
-put_insn-requires-clause-target g c = rw c.pc-in-Running.ensures (target-fits _ _ _ c.known.ensures.program c.insn.ensures)
+put_insn-requires-clause-target g c = rw c.pc-in-Running.ensures (target-fits _ _ _ c.invariant.ensures.program c.insn.ensures)
