@@ -12,3 +12,4 @@ pub mod Checker
 pub mod Flags
 pub mod Programs
 pub mod Bits
+pub mod Sizes

@@ -1,4 +1,6 @@
 //! Instructions (RFC 9669, sections 3 to 5): a few shapes over small tables of operations.
+ghost use Rattle.std.specs.Prelude.{◌≡◌, ◌≤◌};
+
 use crate::register::Reg;
 
 /// The width of an operation: the classes ALU and JMP32, and ALU64 and JMP.
@@ -23,6 +25,39 @@ pub enum SignedSize {
     Word,
     Half,
     Byte,
+}
+
+impl Size {
+    ghost use Rattle.bpf_isa.specs.Sizes.{size_len};
+
+    /// How many bytes an access of this size has, 1 to 8.
+    pub fn len(self) -> usize
+        ensures value { result ≡ size_len self }
+        ensures fits { (1 ≤ result) × (result ≤ 8) }
+    {
+        match self {
+            Size::Word => 4,
+            Size::Half => 2,
+            Size::Byte => 1,
+            Size::Double => 8,
+        }
+    }
+}
+
+impl SignedSize {
+    ghost use Rattle.bpf_isa.specs.Sizes.{signed_len};
+
+    /// How many bytes a load of this size has, 1 to 4.
+    pub fn len(self) -> usize
+        ensures value { result ≡ signed_len self }
+        ensures fits { (1 ≤ result) × (result ≤ 4) }
+    {
+        match self {
+            SignedSize::Word => 4,
+            SignedSize::Half => 2,
+            SignedSize::Byte => 1,
+        }
+    }
 }
 
 /// Arithmetic of two operands, in the order of RFC 9669, section 4.1.
