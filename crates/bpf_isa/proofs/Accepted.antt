@@ -10,7 +10,7 @@ use Rattle.bpf_isa.specs.Insns.{slots_of, FallsThrough, target_of, written_of}
 use Rattle.bpf_isa.specs.Maps.{AreMaps}
 use Rattle.bpf_isa.specs.Words.{row, form_of, IsWord}
 use Rattle.bpf_isa.specs.Checker.{is_wide_at, is_start, IsStartIn, piece_at, after, AreSlots, IsAccepted, IsTarget}
-use Rattle.bpf_isa.specs.Flags.{IsPiece, IsInsnAt, AreInsns}
+use Rattle.bpf_isa.specs.Scaffolding.Checking.{IsPiece, IsInsnAt, AreInsns}
 use Rattle.bpf_isa.specs.Programs.{IsStartAt, IsProgram}
 use Rattle.bpf_isa.proofs.Spelling.{wide_or_not}
 

@@ -2,16 +2,17 @@
 use Rattle.std.proofs.Common.{◌≡◌, ℕ, List, sym, subst, arith}
 use Rattle.bpf_isa.specs.declared.instruction.Insn.{Insn}
 use Rattle.bpf_isa.specs.declared.maps.MapShape.{MapShape}
-use Rattle.bpf_isa.specs.declared.fault.WordFault.TheVariants as word
+use Rattle.bpf_isa.specs.declared.fault.WordFault.TheVariants as word_fault
 use Rattle.bpf_isa.specs.declared.fault.PieceFault.{PieceFault}
 use Rattle.bpf_isa.specs.declared.fault.PieceFault.TheVariants.{UnknownInstruction, RegisterAboveTen, UnusedField, WritesFramePointer, NoTarget, CutOff, RunsOff, UnknownHelper, NoMap}
 use Rattle.bpf_isa.specs.declared.fields.Fields.{Fields}
 use Rattle.bpf_isa.specs.declared.form.Form.{Form}
 use Rattle.bpf_isa.specs.Insns.{FallsThrough}
-use Rattle.bpf_isa.specs.Words.{form_of, fields_of, HasParts, HasRegisters, HasOneForm, IsWord}
+use Rattle.bpf_isa.specs.Words.{form_of, fields_of, HasParts, HasRegisters, IsWord}
+use Rattle.bpf_isa.specs.Scaffolding.Codec.{HasOneForm}
 use Rattle.bpf_isa.specs.WordFaults.{HasNoWordFault}
-use Rattle.bpf_isa.specs.Checker.{piece_at, HasFault, HasNoFault, IsLeastFault, SparesTen, HelperExists, MapExists, Lands, WritesTen}
-use Rattle.bpf_isa.specs.Flags.{Breaks, IsLeastBroken, IsSound}
+use Rattle.bpf_isa.specs.Checker.{piece_at, HasFault, HasNoFault, IsLeastFault, HelperExists, MapExists, Lands, WritesTen}
+use Rattle.bpf_isa.specs.Scaffolding.Checking.{Breaks, IsLeastBroken, IsSound, SparesTen}
 
 writes_ten : (insn : Insn) (fields : Fields) → HasParts insn fields → HasRegisters fields → (SparesTen insn → ⊥) → WritesTen (form_of insn) fields
 writes_ten insn fields parts registers written = grind arith
@@ -32,12 +33,12 @@ module _ (bytes : List ℕ) (maps : List MapShape) (p : ℕ) (insn : Insn) (whol
   to_fault NoMap b = (insn, whole, b)
 
   from_fault : (fault : PieceFault) → HasFault bytes maps p fault → Breaks bytes maps p insn fault
-  from_fault UnknownInstruction has = clear.none word.UnknownInstruction has
-  from_fault RegisterAboveTen has = clear.none word.RegisterAboveTen has
-  from_fault UnusedField has = clear.none word.UnusedField has
+  from_fault UnknownInstruction has = clear.none word_fault.UnknownInstruction has
+  from_fault RegisterAboveTen has = clear.none word_fault.RegisterAboveTen has
+  from_fault UnusedField has = clear.none word_fault.UnusedField has
   from_fault WritesFramePointer has = spares_not insn (fields_of (piece_at bytes p)) whole.parts (subst (λ (form : Form). WritesTen form (fields_of (piece_at bytes p))) (one has.0 has.1) has.2)
   from_fault NoTarget has = λ lands. has.2 (subst (Lands bytes p) (sym (only has.0 has.1)) lands)
-  from_fault CutOff has = clear.none word.CutOff has
+  from_fault CutOff has = clear.none word_fault.CutOff has
   from_fault RunsOff has = (has.0, has.1 insn whole)
   from_fault UnknownHelper has = λ calls. has.2 (subst HelperExists (sym (only has.0 has.1)) calls)
   from_fault NoMap has = λ names. has.2 (subst (MapExists maps) (sym (only has.0 has.1)) names)

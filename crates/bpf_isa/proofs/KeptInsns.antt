@@ -8,7 +8,7 @@ use borrow.Author.Count.{below_more}
 use Rattle.bpf_isa.specs.declared.instruction.Insn.{Insn}
 use Rattle.bpf_isa.specs.declared.maps.MapShape.{MapShape}
 use Rattle.bpf_isa.specs.Checker.{IsStartIn, HasNoFault}
-use Rattle.bpf_isa.specs.Flags.{IsInsnAt, AreInsns}
+use Rattle.bpf_isa.specs.Scaffolding.Checking.{IsInsnAt, AreInsns}
 
 entry_before : (insns : List (Option Insn)) (o : Option Insn) (p : ℕ) → p < length insns → unwrap_or (slice_get insns p) None ≡ unwrap_or (slice_get (insns ++ o ∷ []) p) None
 entry_before insns o p inside = unwrap_or-slice_get insns p None ∙ sym (get_or_append_left insns (o ∷ []) None p inside) ∙ sym (unwrap_or-slice_get (insns ++ o ∷ []) p None)

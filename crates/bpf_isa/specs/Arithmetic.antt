@@ -6,12 +6,12 @@ use Rattle.bpf_isa.specs.declared.instruction.BinaryOp.{BinaryOp}
 use Rattle.bpf_isa.specs.declared.instruction.BinaryOp.TheVariants.{Add, Sub, Mul, Div, SignedDiv, Or, And, LeftShift, RightShift, Mod, SignedMod, Xor, Mov, SignedRightShift}
 use Rattle.bpf_isa.specs.declared.instruction.Extension.{Extension}
 use Rattle.bpf_isa.specs.declared.instruction.Extension.TheVariants.{Byte64, Half64, Word64, Byte32, Half32}
-use Rattle.bpf_isa.specs.declared.form.Operand.{Operand}
-use Rattle.bpf_isa.specs.declared.form.Operand.TheVariants.{Register}
+use Rattle.bpf_isa.specs.declared.form.SourceKind.{SourceKind}
+use Rattle.bpf_isa.specs.declared.form.SourceKind.TheVariants.{Register}
 use Rattle.bpf_isa.specs.Rows.{Field, unused, code, used, Row, alu, imm_of, src_of}
 
 -- ADD to ARSH, without NEG and END: the opcodes K32 X32 K64 X64.
-abbrev pub binary_opcode : BinaryOp → Width → Operand → ℕ
+abbrev pub binary_opcode : BinaryOp → Width → SourceKind → ℕ
 binary_opcode Add = alu 0x04 0x0c 0x07 0x0f
 binary_opcode Sub = alu 0x14 0x1c 0x17 0x1f
 binary_opcode Mul = alu 0x24 0x2c 0x27 0x2f
@@ -28,17 +28,17 @@ binary_opcode Mov = alu 0xb4 0xbc 0xb7 0xbf
 binary_opcode SignedRightShift = alu 0xc4 0xcc 0xc7 0xcf
 
 -- The offset tells signed division and modulo, and the extending moves.
-abbrev pub binary_offset : BinaryOp → Operand → Field
-binary_offset Div operand = code 0
-binary_offset SignedDiv operand = code 1
-binary_offset Mod operand = code 0
-binary_offset SignedMod operand = code 1
+abbrev pub binary_offset : BinaryOp → SourceKind → Field
+binary_offset Div source = code 0
+binary_offset SignedDiv source = code 1
+binary_offset Mod source = code 0
+binary_offset SignedMod source = code 1
 binary_offset Mov Register = code 0
 binary_offset _ _ = unused
 
 -- Form K uses dst and imm, form X uses dst and src.
-abbrev pub binary_row : BinaryOp → Width → Operand → Row
-binary_row op width operand = record { opcode = binary_opcode op width operand; dst = used; src = src_of operand; offset = binary_offset op operand; imm = imm_of operand; next = unused }
+abbrev pub binary_row : BinaryOp → Width → SourceKind → Row
+binary_row op width source = record { opcode = binary_opcode op width source; dst = used; src = src_of source; offset = binary_offset op source; imm = imm_of source; next = unused }
 
 -- NEG uses dst alone.
 abbrev pub negate_opcode : Width → ℕ

@@ -4,7 +4,7 @@ use Rattle.bpf_isa.specs.declared.instruction.Insn.{Insn}
 use Rattle.bpf_isa.specs.declared.instruction.AtomicOp.TheVariants as atomic
 use Rattle.bpf_isa.specs.declared.instruction.Insn.TheVariants.{CallHelper, LoadMap, LoadMapValue}
 use Rattle.bpf_isa.specs.declared.maps.MapShape.{MapShape}
-use Rattle.bpf_isa.specs.declared.fault.WordFault.TheVariants as word
+use Rattle.bpf_isa.specs.declared.fault.WordFault.TheVariants as word_fault
 use Rattle.bpf_isa.specs.declared.fault.PieceFault.{PieceFault}
 use Rattle.bpf_isa.specs.declared.fault.PieceFault.TheVariants.{UnknownInstruction, RegisterAboveTen, UnusedField, WritesFramePointer, NoTarget, CutOff, RunsOff, UnknownHelper, NoMap}
 use Rattle.bpf_isa.specs.declared.fault.LoadFault.{LoadFault}
@@ -13,7 +13,7 @@ use Rattle.bpf_isa.specs.declared.form.Form.{Form}
 use Rattle.bpf_isa.specs.declared.form.Form.TheVariants as form
 use Rattle.bpf_isa.specs.declared.fields.Fields.{Fields}
 use Rattle.bpf_isa.specs.WideLoads.{wide_opcode}
-use Rattle.bpf_isa.specs.Insns.{FallsThrough, target_of, written_of}
+use Rattle.bpf_isa.specs.Insns.{FallsThrough, target_of}
 use Rattle.bpf_isa.specs.Words.{row, fields_of, HasCodes, IsWord}
 use Rattle.bpf_isa.specs.WordFaults.{HasWordFault}
 
@@ -40,7 +40,7 @@ after bytes p = if is_wide_at bytes p then p + 2 else p + 1
 
 -- The word writes r10: as dst of arithmetic, byte swaps, loads and wide loads, as src of a fetch or exchange.
 abbrev pub WritesTen : Form → Fields → Type 0
-WritesTen (form.Binary op width operand) fields = fields.dst ≡ 10
+WritesTen (form.Binary op width source) fields = fields.dst ≡ 10
 WritesTen (form.Negate width) fields = fields.dst ≡ 10
 WritesTen (form.SignExtend extension) fields = fields.dst ≡ 10
 WritesTen (form.SwapBytes order width) fields = fields.dst ≡ 10
@@ -55,10 +55,6 @@ WritesTen form.LoadNumber fields = fields.dst ≡ 10
 WritesTen form.LoadMap fields = fields.dst ≡ 10
 WritesTen form.LoadMapValue fields = fields.dst ≡ 10
 WritesTen _ fields = ⊥
-
--- The instruction replaces no register, or one of r0 to r9.
-abbrev pub SparesTen : Insn → Type 0
-SparesTen insn = IfSome (written_of insn) (λ r. r < 10)
 
 -- A whole number that is a start.
 abbrev pub IsTarget : List ℕ → ℤ → Type 0
@@ -86,12 +82,12 @@ MapExists maps _ = Unit {0}
 
 -- A fault of the piece at a slot, in the order of their numbers.
 abbrev pub HasFault : List ℕ → List MapShape → ℕ → PieceFault → Type 0
-HasFault bytes maps p UnknownInstruction = HasWordFault (piece_at bytes p) word.UnknownInstruction
-HasFault bytes maps p RegisterAboveTen = HasWordFault (piece_at bytes p) word.RegisterAboveTen
-HasFault bytes maps p UnusedField = HasWordFault (piece_at bytes p) word.UnusedField
+HasFault bytes maps p UnknownInstruction = HasWordFault (piece_at bytes p) word_fault.UnknownInstruction
+HasFault bytes maps p RegisterAboveTen = HasWordFault (piece_at bytes p) word_fault.RegisterAboveTen
+HasFault bytes maps p UnusedField = HasWordFault (piece_at bytes p) word_fault.UnusedField
 HasFault bytes maps p WritesFramePointer = (form : Form) × HasCodes (row form) (fields_of (piece_at bytes p)) × WritesTen form (fields_of (piece_at bytes p))
 HasFault bytes maps p NoTarget = (insn : Insn) × IsWord insn (piece_at bytes p) × (Lands bytes p insn → ⊥)
-HasFault bytes maps p CutOff = HasWordFault (piece_at bytes p) word.CutOff
+HasFault bytes maps p CutOff = HasWordFault (piece_at bytes p) word_fault.CutOff
 HasFault bytes maps p RunsOff = (length bytes ≤ 8 * after bytes p) × ((insn : Insn) → IsWord insn (piece_at bytes p) → FallsThrough insn)
 HasFault bytes maps p UnknownHelper = (insn : Insn) × IsWord insn (piece_at bytes p) × (HelperExists insn → ⊥)
 HasFault bytes maps p NoMap = (insn : Insn) × IsWord insn (piece_at bytes p) × (MapExists maps insn → ⊥)

@@ -3,7 +3,7 @@ use Rattle.std.specs.Prelude.{ℕ}
 use Rattle.bpf_isa.specs.declared.instruction.Width.{Width}
 use Rattle.bpf_isa.specs.declared.instruction.Condition.{Condition}
 use Rattle.bpf_isa.specs.declared.instruction.Condition.TheVariants.{Equal, Greater, GreaterOrEqual, BitsSet, NotEqual, SignedGreater, SignedGreaterOrEqual, Less, LessOrEqual, SignedLess, SignedLessOrEqual}
-use Rattle.bpf_isa.specs.declared.form.Operand.{Operand}
+use Rattle.bpf_isa.specs.declared.form.SourceKind.{SourceKind}
 use Rattle.bpf_isa.specs.Rows.{unused, code, used, Row, jmp, imm_of, src_of}
 
 -- JA in class JMP: by offset.
@@ -15,7 +15,7 @@ abbrev pub jump_long_row : Row
 jump_long_row = record { opcode = 0x06; dst = unused; src = unused; offset = unused; imm = used; next = unused }
 
 -- JEQ to JSGE and JLT to JSLE: the opcodes K64 X64 K32 X32.
-abbrev pub condition_opcode : Condition → Width → Operand → ℕ
+abbrev pub condition_opcode : Condition → Width → SourceKind → ℕ
 condition_opcode Equal = jmp 0x15 0x1d 0x16 0x1e
 condition_opcode Greater = jmp 0x25 0x2d 0x26 0x2e
 condition_opcode GreaterOrEqual = jmp 0x35 0x3d 0x36 0x3e
@@ -29,8 +29,8 @@ condition_opcode SignedLess = jmp 0xc5 0xcd 0xc6 0xce
 condition_opcode SignedLessOrEqual = jmp 0xd5 0xdd 0xd6 0xde
 
 -- Form K compares dst with imm, form X with src.
-abbrev pub condition_row : Condition → Width → Operand → Row
-condition_row condition width operand = record { opcode = condition_opcode condition width operand; dst = used; src = src_of operand; offset = used; imm = imm_of operand; next = unused }
+abbrev pub condition_row : Condition → Width → SourceKind → Row
+condition_row condition width source = record { opcode = condition_opcode condition width source; dst = used; src = src_of source; offset = used; imm = imm_of source; next = unused }
 
 -- CALL: src_reg 0 calls a helper, imm is its number; src_reg 1 calls a local function.
 abbrev pub call_helper_row : Row

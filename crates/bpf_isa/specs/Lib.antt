@@ -9,7 +9,6 @@ pub mod Insns
 pub mod Words
 pub mod WordFaults
 pub mod Checker
-pub mod Flags
 pub mod Programs
-pub mod Bits
 pub mod Sizes
+pub mod Scaffolding

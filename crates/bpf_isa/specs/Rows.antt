@@ -2,8 +2,8 @@
 use Rattle.std.specs.Prelude.{◌≡◌, ℕ}
 use Rattle.bpf_isa.specs.declared.instruction.Width.{Width}
 use Rattle.bpf_isa.specs.declared.instruction.Width.TheVariants.{Bits32, Bits64}
-use Rattle.bpf_isa.specs.declared.form.Operand.{Operand}
-use Rattle.bpf_isa.specs.declared.form.Operand.TheVariants.{Immediate, Register}
+use Rattle.bpf_isa.specs.declared.form.SourceKind.{SourceKind}
+use Rattle.bpf_isa.specs.declared.form.SourceKind.TheVariants.{Immediate, Register}
 
 -- A field is unused and zero, or holds a number of the row, or holds a part of the instruction.
 pub data Field : Type 0 where
@@ -33,22 +33,22 @@ IsClear (code k) n = Unit {0}
 IsClear used n = Unit {0}
 
 -- The four opcodes of a row of arithmetic: K32, X32, K64, X64.
-abbrev pub alu : ℕ → ℕ → ℕ → ℕ → Width → Operand → ℕ
+abbrev pub alu : ℕ → ℕ → ℕ → ℕ → Width → SourceKind → ℕ
 alu k32 x32 k64 x64 Bits32 Immediate = k32
 alu k32 x32 k64 x64 Bits32 Register = x32
 alu k32 x32 k64 x64 Bits64 Immediate = k64
 alu k32 x32 k64 x64 Bits64 Register = x64
 
 -- The four opcodes of a row of jumps: K64, X64, K32, X32.
-abbrev pub jmp : ℕ → ℕ → ℕ → ℕ → Width → Operand → ℕ
-jmp k64 x64 k32 x32 width operand = alu k32 x32 k64 x64 width operand
+abbrev pub jmp : ℕ → ℕ → ℕ → ℕ → Width → SourceKind → ℕ
+jmp k64 x64 k32 x32 width source = alu k32 x32 k64 x64 width source
 
 -- The form K uses imm.
-abbrev pub imm_of : Operand → Field
+abbrev pub imm_of : SourceKind → Field
 imm_of Immediate = used
 imm_of Register = unused
 
 -- The form X uses src.
-abbrev pub src_of : Operand → Field
+abbrev pub src_of : SourceKind → Field
 src_of Immediate = unused
 src_of Register = used

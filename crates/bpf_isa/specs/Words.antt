@@ -7,8 +7,8 @@ use Rattle.bpf_isa.specs.declared.instruction.Insn.TheVariants.{Binary, Negate, 
 use Rattle.bpf_isa.specs.declared.instruction.Source.TheVariants.{Immediate, Register}
 use Rattle.bpf_isa.specs.declared.form.Form.{Form}
 use Rattle.bpf_isa.specs.declared.form.Form.TheVariants as form
-use Rattle.bpf_isa.specs.declared.form.Operand.{Operand}
-use Rattle.bpf_isa.specs.declared.form.Operand.TheVariants as operand
+use Rattle.bpf_isa.specs.declared.form.SourceKind.{SourceKind}
+use Rattle.bpf_isa.specs.declared.form.SourceKind.TheVariants as kind
 use Rattle.bpf_isa.specs.declared.fields.Fields.{Fields}
 use Rattle.bpf_isa.specs.Rows.{Row, HasCode, IsClear}
 use Rattle.bpf_isa.specs.Arithmetic.{binary_row, negate_row, extension_row}
@@ -40,17 +40,17 @@ row form.LoadMap = load_map_row
 row form.LoadMapValue = load_map_value_row
 
 -- K for an immediate, X for a register.
-abbrev pub operand_of : Source → Operand
-operand_of (Immediate value) = operand.Immediate
-operand_of (Register src) = operand.Register
+abbrev pub kind_of : Source → SourceKind
+kind_of (Immediate value) = kind.Immediate
+kind_of (Register src) = kind.Register
 
 -- The form of an instruction.
 abbrev pub form_of : Insn → Form
-form_of (Binary op width dst source) = form.Binary op width (operand_of source)
+form_of (Binary op width dst source) = form.Binary op width (kind_of source)
 form_of (Negate width dst) = form.Negate width
 form_of (SignExtend extension dst src) = form.SignExtend extension
 form_of (SwapBytes order width dst) = form.SwapBytes order width
-form_of (JumpIf condition width dst source offset) = form.JumpIf condition width (operand_of source)
+form_of (JumpIf condition width dst source offset) = form.JumpIf condition width (kind_of source)
 form_of (Jump offset) = form.Jump
 form_of (JumpLong distance) = form.JumpLong
 form_of (CallHelper helper) = form.CallHelper
@@ -66,12 +66,12 @@ form_of (LoadMap dst map) = form.LoadMap
 form_of (LoadMapValue dst map offset) = form.LoadMapValue
 
 -- Two bytes as a number, the low one first.
-abbrev pub half_at : List ℕ → ℕ → ℕ
-half_at bytes i = slice_index bytes i + 256 * slice_index bytes (i + 1)
+abbrev pub u16_at : List ℕ → ℕ → ℕ
+u16_at bytes i = slice_index bytes i + 256 * slice_index bytes (i + 1)
 
 -- Four bytes as a number, the low one first.
-abbrev pub word_at : List ℕ → ℕ → ℕ
-word_at bytes i = half_at bytes i + 65536 * half_at bytes (i + 2)
+abbrev pub u32_at : List ℕ → ℕ → ℕ
+u32_at bytes i = u16_at bytes i + 65536 * u16_at bytes (i + 2)
 
 -- The fields of a slot, and of the one after it where there are 16 bytes. Absent bytes read as 0.
 abbrev pub fields_of : List ℕ → Fields
@@ -79,10 +79,10 @@ fields_of bytes = record {
   opcode = slice_index bytes 0;
   dst = slice_index bytes 1 % 16;
   src = slice_index bytes 1 / 16;
-  offset = half_at bytes 2;
-  imm = word_at bytes 4;
-  reserved = word_at bytes 8;
-  next = word_at bytes 12;
+  offset = u16_at bytes 2;
+  imm = u32_at bytes 4;
+  reserved = u32_at bytes 8;
+  next = u32_at bytes 12;
 }
 
 -- The opcode and the numbers that a row fixes.
@@ -140,10 +140,6 @@ pub record IsWord (insn : Insn) (bytes : List ℕ) : Type 0 where
   pub clean : IsClean (row (form_of insn)) (fields_of bytes)
   pub registers : HasRegisters (fields_of bytes)
   pub parts : HasParts insn (fields_of bytes)
-
--- The form of the instruction is the only one whose opcode and numbers stand in the bytes.
-abbrev pub HasOneForm : List ℕ → Insn → Type 0
-HasOneForm bytes insn = (other : Form) → HasCodes (row other) (fields_of bytes) → other ≡ form_of insn
 
 -- An instruction has at most one word.
 abbrev pub HaveOneWord : Type 0

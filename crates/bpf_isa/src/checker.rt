@@ -1,17 +1,17 @@
 //! The checker: the first fault of the bytes, or a program.
 ghost use Rattle.std.specs.Prelude.{◌≡◌, ◌≤◌, ◌<◌, ◌⊎◌, ◌*◌, ◌↔◌, IsTrue, IfSome, IfNone, IfOk, OnOk, IfErr, List, ℕ, length, slice_index};
 ghost use Rattle.bpf_isa.specs.Checker.{IsStartIn, AreSlots, piece_at, after, HasFault, HasNoFault, IsLeastFault, IsFirstFault, IsAccepted, IsRefused};
-ghost use Rattle.bpf_isa.specs.Flags.{AreStarts, AreInsns, IsLeastBroken, IsPiece, IsSound};
+ghost use Rattle.bpf_isa.specs.Scaffolding.Checking.{AreStarts, AreInsns, IsLeastBroken, IsPiece, IsSound};
 ghost use Rattle.bpf_isa.specs.WordFaults.{IsLeastWordFault};
 ghost use Rattle.bpf_isa.specs.Words.{IsWord};
 ghost use Rattle.bpf_isa.specs.declared.maps.MapShape.{MapShape};
 
-use crate::decoder::word;
+use crate::decoder::decode_word;
 use crate::fault::{LoadFault, PieceFault, WordFault};
 use crate::fields::read;
 use crate::instruction::Insn;
 use crate::maps::MapTable;
-use crate::opcode::form_of;
+use crate::opcode::find_form;
 use crate::rules::lands;
 use std::alloc::{AllocError, Global};
 
@@ -55,7 +55,7 @@ fn cut_off_fault(piece: &[u8]) -> PieceFault
         → piece_at bytes slot ≡ piece.now → IsLeastFault bytes maps slot result }
 {
     let fields = read(piece);
-    match form_of(fields) {
+    match find_form(fields) {
         Some(_) => {
             if fields.dst == 10 {
                 PieceFault::WritesFramePointer
@@ -123,7 +123,7 @@ fn piece(bytes: &[u8], slot: usize, starts: &[bool], maps: &MapTable) -> Result<
     ensures fault { IfErr result (IsLeastFault bytes.now maps.now slot) }
 {
     let piece = piece_of(bytes, slot);
-    let insn = match word(piece) {
+    let insn = match decode_word(piece) {
         Ok(insn) => insn,
         Err(fault) => return Err(word_fault(piece, fault)),
     };

@@ -2,26 +2,27 @@
 mod unused;
 
 ghost use Rattle.std.specs.Prelude.{◌≡◌, ◌⊎◌, IfOk, OnOk, IfErr, Ok, ◌++◌, length, slice_index};
-ghost use Rattle.bpf_isa.specs.Words.{operand_of, form_of, HasRegisters, HasSource, HasParts, HasOneForm, IsWord};
+ghost use Rattle.bpf_isa.specs.Words.{kind_of, form_of, HasRegisters, HasSource, HasParts, IsWord};
+ghost use Rattle.bpf_isa.specs.Scaffolding.Codec.{HasOneForm};
 ghost use Rattle.bpf_isa.specs.WordFaults.{HasNoWordFault, IsLeastWordFault, joined};
 
 use crate::fault::WordFault;
 use crate::fields::{Fields, read};
-use crate::form::{Form, Operand};
+use crate::form::{Form, SourceKind};
 use crate::instruction::{Insn, Source};
-use crate::opcode::form_of;
+use crate::opcode::find_form;
 use crate::register::Reg;
 use unused::is_clean;
 
 /// The second operand.
-fn source_of(operand: Operand, fields: Fields) -> Source
+fn source_of(kind: SourceKind, fields: Fields) -> Source
     requires { HasRegisters fields }
-    ensures operand { operand_of result ≡ operand }
+    ensures kind { kind_of result ≡ kind }
     ensures value { HasSource result fields }
 {
-    match operand {
-        Operand::Immediate => Source::Immediate(fields.imm.cast_signed()),
-        Operand::Register => Source::Register(Reg::of(fields.src)),
+    match kind {
+        SourceKind::Immediate => Source::Immediate(fields.imm.cast_signed()),
+        SourceKind::Register => Source::Register(Reg::of(fields.src)),
     }
 }
 
@@ -35,11 +36,11 @@ fn insn_of(form: Form, fields: Fields) -> Insn
     let src = Reg::of(fields.src);
     let offset = fields.offset.cast_signed();
     match form {
-        Form::Binary { op, width, operand } => Insn::Binary {
+        Form::Binary { op, width, source } => Insn::Binary {
             op,
             width,
             dst,
-            source: source_of(operand, fields),
+            source: source_of(source, fields),
         },
         Form::Negate { width } => Insn::Negate { width, dst },
         Form::SignExtend { extension } => Insn::SignExtend {
@@ -51,12 +52,12 @@ fn insn_of(form: Form, fields: Fields) -> Insn
         Form::JumpIf {
             condition,
             width,
-            operand,
+            source,
         } => Insn::JumpIf {
             condition,
             width,
             dst,
-            source: source_of(operand, fields),
+            source: source_of(source, fields),
             offset,
         },
         Form::Jump => Insn::Jump { offset },
@@ -116,7 +117,7 @@ fn insn_of(form: Form, fields: Fields) -> Insn
 }
 
 /// The instruction that 8 bytes spell, or 16 that begin with the wide opcode.
-pub(crate) fn word(bytes: &[u8]) -> Result<Insn, WordFault>
+pub(crate) fn decode_word(bytes: &[u8]) -> Result<Insn, WordFault>
     requires { (length bytes.now ≡ 8) ⊎ ((length bytes.now ≡ 16) × (slice_index bytes.now 0 ≡ 24)) }
     ensures ok { IfOk result (λ insn. IsWord insn bytes.now) }
     ensures clear { OnOk result (HasNoWordFault bytes.now) }
@@ -125,7 +126,7 @@ pub(crate) fn word(bytes: &[u8]) -> Result<Insn, WordFault>
     ensures only { (insn : Insn) → IsWord insn bytes.now → result ≡ Ok insn }
 {
     let fields = read(bytes);
-    let form = match form_of(fields) {
+    let form = match find_form(fields) {
         Some(form) => form,
         None => return Err(WordFault::UnknownInstruction),
     };
@@ -154,12 +155,12 @@ pub fn decode(first: [u8; 8], second: Option<[u8; 8]>) -> Result<Insn, WordFault
     match second {
         Some(second) => {
             if first[0] == 0x18 {
-                word(&both(first, second))
+                decode_word(&both(first, second))
             } else {
-                word(&first)
+                decode_word(&first)
             }
         }
-        None => word(&first),
+        None => decode_word(&first),
     }
 }
 

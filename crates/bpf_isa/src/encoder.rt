@@ -3,14 +3,14 @@ mod codes;
 
 ghost use Rattle.std.specs.Prelude.{◌≡◌};
 ghost use Rattle.bpf_isa.specs.Arithmetic.{binary_row, extension_row};
-ghost use Rattle.bpf_isa.specs.Bits.{IsAccess};
+ghost use Rattle.bpf_isa.specs.Scaffolding.Codec.{IsAccess};
 ghost use Rattle.bpf_isa.specs.Jumps.{condition_row};
 ghost use Rattle.bpf_isa.specs.Memory.{atomic_row};
 ghost use Rattle.bpf_isa.specs.Swaps.{swap_row};
-ghost use Rattle.bpf_isa.specs.Words.{row, form_of, operand_of, HasCodes, IsClean, HasRegisters, HasParts, HasSource, IsWord};
+ghost use Rattle.bpf_isa.specs.Words.{row, form_of, kind_of, HasCodes, IsClean, HasRegisters, HasParts, HasSource, IsWord};
 
 use crate::fields::Fields;
-use crate::form::Operand;
+use crate::form::SourceKind;
 use crate::instruction::{
     AtomicOp, BinaryOp, ByteOrder, Condition, Extension, Insn, Source, SwapWidth, Width,
 };
@@ -34,8 +34,8 @@ const ZERO: Fields = Fields {
 
 /// The fields of an arithmetic instruction.
 fn binary_fields(op: BinaryOp, width: Width, dst: Reg, source: Source) -> Fields
-    ensures codes { HasCodes (binary_row op width (operand_of source)) result }
-    ensures clean { IsClean (binary_row op width (operand_of source)) result }
+    ensures codes { HasCodes (binary_row op width (kind_of source)) result }
+    ensures clean { IsClean (binary_row op width (kind_of source)) result }
     ensures registers { HasRegisters result }
     ensures parts { (result.dst ≡ dst) × HasSource source result }
 {
@@ -46,14 +46,14 @@ fn binary_fields(op: BinaryOp, width: Width, dst: Reg, source: Source) -> Fields
     let code = binary_code(op);
     match source {
         Source::Immediate(value) => Fields {
-            opcode: 16 * code + arithmetic_bits(width, Operand::Immediate),
+            opcode: 16 * code + arithmetic_bits(width, SourceKind::Immediate),
             dst: dst.number(),
             offset,
             imm: value.cast_unsigned(),
             ..ZERO
         },
         Source::Register(src) => Fields {
-            opcode: 16 * code + arithmetic_bits(width, Operand::Register),
+            opcode: 16 * code + arithmetic_bits(width, SourceKind::Register),
             dst: dst.number(),
             src: src.number(),
             offset,
@@ -64,22 +64,22 @@ fn binary_fields(op: BinaryOp, width: Width, dst: Reg, source: Source) -> Fields
 
 /// The fields of a conditional jump.
 fn jump_fields(condition: Condition, width: Width, dst: Reg, source: Source, offset: i16) -> Fields
-    ensures codes { HasCodes (condition_row condition width (operand_of source)) result }
-    ensures clean { IsClean (condition_row condition width (operand_of source)) result }
+    ensures codes { HasCodes (condition_row condition width (kind_of source)) result }
+    ensures clean { IsClean (condition_row condition width (kind_of source)) result }
     ensures registers { HasRegisters result }
     ensures parts { HasParts (Insn.JumpIf condition width dst source offset) result }
 {
     let code = condition_code(condition);
     match source {
         Source::Immediate(value) => Fields {
-            opcode: 16 * code + jump_bits(width, Operand::Immediate),
+            opcode: 16 * code + jump_bits(width, SourceKind::Immediate),
             dst: dst.number(),
             offset: offset.cast_unsigned(),
             imm: value.cast_unsigned(),
             ..ZERO
         },
         Source::Register(src) => Fields {
-            opcode: 16 * code + jump_bits(width, Operand::Register),
+            opcode: 16 * code + jump_bits(width, SourceKind::Register),
             dst: dst.number(),
             src: src.number(),
             offset: offset.cast_unsigned(),
@@ -165,7 +165,7 @@ fn fields_with(insn: Insn) -> Fields
             source,
         } => binary_fields(op, width, dst, source),
         Insn::Negate { width, dst } => Fields {
-            opcode: 0x80 + arithmetic_bits(width, Operand::Immediate),
+            opcode: 0x80 + arithmetic_bits(width, SourceKind::Immediate),
             dst: dst.number(),
             ..ZERO
         },

@@ -18,7 +18,6 @@ mod words;
 pub use decoder::decode;
 pub use encoder::encode;
 pub use fault::{LoadFault, MapFault, PieceFault, WordFault};
-pub use form::{Form, Operand};
 pub use instruction::{
     AtomicOp, BinaryOp, ByteOrder, Condition, Extension, Insn, SignedSize, Size, Source, SwapWidth,
     Width,

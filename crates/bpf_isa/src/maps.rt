@@ -124,8 +124,8 @@ impl MapTable {
     }
 }
 
-/// The number of some digits, at most 2^32 - 1, or None where they are no number.
-fn number(digits: &[u8]) -> Option<u32>
+/// The value of a numeral, at most 2^32 - 1, or None where the digits are no numeral.
+fn numeral_value(digits: &[u8]) -> Option<u32>
     ensures value { IfSome result (λ n. n ≡ min (digits_value 10 digits.now) 4294967295) }
     ensures found { OnSome result (IsNumeral 10 digits.now) }
     ensures none { IfNone result (IsNumeral 10 digits.now → ⊥) }
@@ -133,14 +133,14 @@ fn number(digits: &[u8]) -> Option<u32>
     if digits.is_empty() {
         return None;
     }
-    let mut number = 0u32;
+    let mut value = 0u32;
     for byte in digits {
         match (*byte as char).to_digit(10) {
-            Some(digit) => number = number.saturating_mul(10).saturating_add(digit),
+            Some(digit) => value = value.saturating_mul(10).saturating_add(digit),
             None => return None,
         }
     }
-    Some(number)
+    Some(value)
 }
 
 /// Where the first x stands.
@@ -160,11 +160,11 @@ fn shape_in(item: &[u8]) -> Option<(u32, u32)>
         Some(at) => at,
         None => return None,
     };
-    let value_size = match number(&item[..at]) {
+    let value_size = match numeral_value(&item[..at]) {
         Some(value_size) => value_size,
         None => return None,
     };
-    match number(&item[at + 1..]) {
+    match numeral_value(&item[at + 1..]) {
         Some(entries) => Some((value_size, entries)),
         None => None,
     }

@@ -5,28 +5,28 @@ mod memory;
 
 ghost use Rattle.std.specs.Prelude.{◌≡◌, ◌/◌, ◌*◌, ◌%◌, IfSome, Some};
 ghost use Rattle.bpf_isa.specs.Words.{row, HasCodes};
-ghost use Rattle.bpf_isa.specs.Bits.{operand_bit};
+ghost use Rattle.bpf_isa.specs.Scaffolding.Codec.{source_bit_of};
 
 use crate::fields::Fields;
-use crate::form::{Form, Operand};
+use crate::form::{Form, SourceKind};
 use crate::instruction::Width;
 use arithmetic::arithmetic_form;
 use jumps::jump_form;
 use memory::{load_form, store_immediate_form, store_register_form, wide_form};
 
-/// The source bit of an opcode of arithmetic or of a jump.
-pub fn operand(opcode: u8) -> Operand
-    ensures { operand_bit result ≡ opcode / 8 % 2 * 8 }
+/// The kind of source that the bit in an opcode of arithmetic or of a jump tells.
+pub fn source_kind(opcode: u8) -> SourceKind
+    ensures { source_bit_of result ≡ opcode / 8 % 2 * 8 }
 {
     if opcode / 8 % 2 == 0 {
-        Operand::Immediate
+        SourceKind::Immediate
     } else {
-        Operand::Register
+        SourceKind::Register
     }
 }
 
 /// The form whose row has the opcode and the codes of a word.
-pub fn form_of(fields: Fields) -> Option<Form>
+pub fn find_form(fields: Fields) -> Option<Form>
     ensures found { IfSome result (λ form. HasCodes (row form) fields) }
     ensures only { (form : Form) → HasCodes (row form) fields → result ≡ Some form }
 {

@@ -1,35 +1,24 @@
 //! What the checker asks of an instruction by itself.
 ghost use Rattle.std.specs.Prelude.{◌≡◌, ◌≤◌, ◌↔◌, IsTrue, List, ℕ};
-ghost use Rattle.bpf_isa.specs.Checker.{SparesTen, HelperExists, MapExists, Lands};
-ghost use Rattle.bpf_isa.specs.Flags.{AreStarts};
+ghost use Rattle.bpf_isa.specs.Checker.{HelperExists, MapExists, Lands};
+ghost use Rattle.bpf_isa.specs.Scaffolding.Checking.{AreStarts, SparesTen};
 
 use crate::instruction::{AtomicOp, Insn};
 use crate::maps::MapTable;
 use crate::register::Reg;
 
 impl Insn {
-    ghost use Rattle.bpf_isa.specs.Insns.{slots_of, FallsThrough, target_of, written_of};
-    ghost use Rattle.bpf_isa.specs.Words.{form_of};
-
-    /// How many slots it takes, 1 or 2.
-    pub fn slots(&self) -> usize
-        ensures { result ≡ slots_of self.now }
-    {
-        match self {
-            Insn::LoadNumber { .. } | Insn::LoadMap { .. } | Insn::LoadMapValue { .. } => 2,
-            _ => 1,
-        }
-    }
+    ghost use Rattle.bpf_isa.specs.Insns.{FallsThrough, target_of, written_of};
 
     /// Whether the instruction after it may be the next to run.
-    pub fn falls_through(&self) -> bool
+    pub(crate) fn falls_through(&self) -> bool
         ensures { IsTrue result ↔ FallsThrough self.now }
     {
         !matches!(self, Insn::Jump { .. } | Insn::JumpLong { .. } | Insn::Exit)
     }
 
     /// The slot that a jump or local call at a slot names, as a whole number.
-    pub fn target(&self, slot: usize) -> Option<i64>
+    pub(crate) fn target(&self, slot: usize) -> Option<i64>
         requires { slot ≤ 65535 }
         ensures { result ≡ target_of slot self.now }
     {
@@ -44,7 +33,7 @@ impl Insn {
     }
 
     /// The register that it replaces itself.
-    pub fn written(&self) -> Option<Reg>
+    pub(crate) fn written(&self) -> Option<Reg>
         ensures { result ≡ written_of self.now }
     {
         match self {
@@ -64,7 +53,7 @@ impl Insn {
     }
 
     /// Whether it leaves r10 as it is.
-    pub fn spares_ten(&self) -> bool
+    pub(crate) fn spares_ten(&self) -> bool
         ensures { IsTrue result ↔ SparesTen self.now }
     {
         match self.written() {
@@ -74,7 +63,7 @@ impl Insn {
     }
 
     /// Whether a helper that it calls exists.
-    pub fn helper_exists(&self) -> bool
+    pub(crate) fn helper_exists(&self) -> bool
         ensures { IsTrue result ↔ HelperExists self.now }
     {
         match self {
@@ -84,7 +73,7 @@ impl Insn {
     }
 
     /// Whether a map that it names exists, and has the byte that it names.
-    pub fn map_exists(&self, maps: &MapTable) -> bool
+    pub(crate) fn map_exists(&self, maps: &MapTable) -> bool
         ensures { IsTrue result ↔ MapExists maps.now self.now }
     {
         match self {
@@ -104,7 +93,7 @@ impl AtomicOp {
     ghost use Rattle.bpf_isa.specs.Insns.{replaced_by};
 
     /// The register that it replaces by what it fetched.
-    pub fn replaced(self, src: Reg) -> Option<Reg>
+    pub(crate) fn replaced(self, src: Reg) -> Option<Reg>
         ensures { result ≡ replaced_by self src }
     {
         match self {

@@ -8,7 +8,7 @@ use Rattle.bpf_isa.specs.declared.instruction.Insn.{Insn}
 use Rattle.bpf_isa.specs.declared.instruction.Insn.TheVariants as insn
 use Rattle.bpf_isa.specs.declared.instruction.Source.{Source}
 use Rattle.bpf_isa.specs.declared.instruction.Source.TheVariants as source_is
-use Rattle.bpf_isa.specs.Words.{IsWord, fields_of, half_at, word_at, HasSource}
+use Rattle.bpf_isa.specs.Words.{IsWord, fields_of, u16_at as half_at, u32_at as word_at, HasSource}
 use Rattle.bpf_text.proofs.TokenTexts.{SourceFits}
 use Rattle.bpf_text.proofs.InsnTexts.{InsnFits}
 

@@ -3,7 +3,7 @@ ghost use Rattle.std.specs.Prelude.{◌≡◌, ◌↔◌, IsTrue};
 ghost use Rattle.bpf_isa.specs.Words.{row, IsClean};
 
 use crate::fields::Fields;
-use crate::form::{Form, Operand};
+use crate::form::{Form, SourceKind};
 use crate::instruction::BinaryOp;
 
 /// Which fields a row leaves unused.
@@ -34,16 +34,16 @@ const USED: Unused = Unused {
     next: false,
 };
 
-impl Operand {
-    ghost use Rattle.bpf_isa.specs.declared.form.Operand.TheVariants.{Register};
+impl SourceKind {
+    ghost use Rattle.bpf_isa.specs.declared.form.SourceKind.TheVariants.{Register};
 
     /// Whether the second operand is a register.
     fn is_register(self) -> bool
         ensures { IsTrue result ↔ (self ≡ Register) }
     {
         match self {
-            Operand::Immediate => false,
-            Operand::Register => true,
+            SourceKind::Immediate => false,
+            SourceKind::Register => true,
         }
     }
 }
@@ -51,15 +51,15 @@ impl Operand {
 impl Unused {
     ghost use Rattle.bpf_isa.specs.Rows.{Field, Row, IsClear};
     ghost use Rattle.bpf_isa.specs.Arithmetic.{binary_offset};
-    ghost use Rattle.bpf_isa.specs.Bits.{is_unused, AreUnused};
+    ghost use Rattle.bpf_isa.specs.Scaffolding.Codec.{is_unused, AreUnused};
 
     /// Whether a row of arithmetic leaves the offset unused.
-    fn offset_of(op: BinaryOp, operand: Operand) -> bool
-        ensures { result ≡ is_unused (binary_offset op operand) }
+    fn offset_of(op: BinaryOp, source: SourceKind) -> bool
+        ensures { result ≡ is_unused (binary_offset op source) }
     {
-        match (op, operand) {
+        match (op, source) {
             (BinaryOp::Div | BinaryOp::SignedDiv | BinaryOp::Mod | BinaryOp::SignedMod, _)
-            | (BinaryOp::Mov, Operand::Register) => false,
+            | (BinaryOp::Mov, SourceKind::Register) => false,
             _ => true,
         }
     }
@@ -69,11 +69,11 @@ impl Unused {
         ensures { AreUnused (row form) result }
     {
         match form {
-            Form::Binary { op, operand, .. } => Unused {
+            Form::Binary { op, source, .. } => Unused {
                 dst: false,
-                src: !operand.is_register(),
-                offset: Unused::offset_of(op, operand),
-                imm: operand.is_register(),
+                src: !source.is_register(),
+                offset: Unused::offset_of(op, source),
+                imm: source.is_register(),
                 ..NONE
             },
             Form::Negate { .. } => Unused { dst: false, ..NONE },
@@ -88,11 +88,11 @@ impl Unused {
                 imm: false,
                 ..NONE
             },
-            Form::JumpIf { operand, .. } => Unused {
+            Form::JumpIf { source, .. } => Unused {
                 dst: false,
-                src: !operand.is_register(),
+                src: !source.is_register(),
                 offset: false,
-                imm: operand.is_register(),
+                imm: source.is_register(),
                 ..NONE
             },
             Form::Jump => Unused {

@@ -1,49 +1,49 @@
 //! The codes of operations in an opcode or an imm (RFC 9669, sections 4 and 5).
 ghost use Rattle.std.specs.Prelude.{◌≡◌, ◌<◌, ◌+◌, ◌*◌};
 ghost use Rattle.bpf_isa.specs.Arithmetic.{binary_opcode};
-ghost use Rattle.bpf_isa.specs.Bits.{operand_bit, class_of, jump_class_of};
+ghost use Rattle.bpf_isa.specs.Scaffolding.Codec.{source_bit_of, class_of, jump_class_of};
 ghost use Rattle.bpf_isa.specs.Jumps.{condition_opcode};
 ghost use Rattle.bpf_isa.specs.Memory.{sizes, load_signed_opcode, atomic_code};
 
-use crate::form::Operand;
+use crate::form::SourceKind;
 use crate::instruction::{AtomicOp, BinaryOp, Condition, SignedSize, Size, Width};
 
 /// The class and source bit of arithmetic.
-pub fn arithmetic_bits(width: Width, operand: Operand) -> u8
-    ensures { result ≡ operand_bit operand + class_of width }
+pub fn arithmetic_bits(width: Width, source: SourceKind) -> u8
+    ensures { result ≡ source_bit_of source + class_of width }
 {
     let class = match width {
         Width::Bits32 => 4,
         Width::Bits64 => 7,
     };
-    class + source_bit(operand)
+    class + source_bit(source)
 }
 
 /// The source bit.
-pub fn source_bit(operand: Operand) -> u8
-    ensures { result ≡ operand_bit operand }
+pub fn source_bit(source: SourceKind) -> u8
+    ensures { result ≡ source_bit_of source }
 {
-    match operand {
-        Operand::Immediate => 0,
-        Operand::Register => 8,
+    match source {
+        SourceKind::Immediate => 0,
+        SourceKind::Register => 8,
     }
 }
 
 /// The class and source bit of a conditional jump.
-pub fn jump_bits(width: Width, operand: Operand) -> u8
-    ensures { result ≡ operand_bit operand + jump_class_of width }
+pub fn jump_bits(width: Width, source: SourceKind) -> u8
+    ensures { result ≡ source_bit_of source + jump_class_of width }
 {
     let class = match width {
         Width::Bits32 => 6,
         Width::Bits64 => 5,
     };
-    class + source_bit(operand)
+    class + source_bit(source)
 }
 
 /// The code of an operation of arithmetic.
 pub fn binary_code(op: BinaryOp) -> u8
-    ensures value { (width : Width) (operand : Operand)
-        → binary_opcode op width operand ≡ 16 * result + (operand_bit operand + class_of width) }
+    ensures value { (width : Width) (source : SourceKind)
+        → binary_opcode op width source ≡ 16 * result + (source_bit_of source + class_of width) }
     ensures fits { result < 16 }
 {
     match op {
@@ -64,9 +64,9 @@ pub fn binary_code(op: BinaryOp) -> u8
 
 /// The code of a condition.
 pub fn condition_code(condition: Condition) -> u8
-    ensures value { (width : Width) (operand : Operand)
-        → condition_opcode condition width operand
-        ≡ 16 * result + (operand_bit operand + jump_class_of width) }
+    ensures value { (width : Width) (source : SourceKind)
+        → condition_opcode condition width source
+        ≡ 16 * result + (source_bit_of source + jump_class_of width) }
     ensures fits { result < 16 }
 {
     match condition {

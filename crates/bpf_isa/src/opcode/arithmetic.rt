@@ -1,16 +1,16 @@
 //! The forms of arithmetic and byte swaps (RFC 9669, sections 4.1 and 4.2).
 ghost use Rattle.std.specs.Prelude.{◌≡◌, ◌%◌, ◌+◌, IfSome, Some};
 ghost use Rattle.bpf_isa.specs.Words.{row, HasCodes};
-ghost use Rattle.bpf_isa.specs.Bits.{class_of, operand_bit};
+ghost use Rattle.bpf_isa.specs.Scaffolding.Codec.{class_of, source_bit_of};
 
 use crate::fields::Fields;
-use crate::form::{Form, Operand};
+use crate::form::{Form, SourceKind};
 use crate::instruction::{BinaryOp, ByteOrder, Extension, SwapWidth, Width};
-use crate::opcode::operand;
+use crate::opcode::source_kind;
 
 /// DIV and SDIV, told apart by the offset.
-fn division_form(fields: Fields, width: Width, operand: Operand) -> Option<Form>
-    requires { fields.opcode ≡ 48 + operand_bit operand + class_of width }
+fn division_form(fields: Fields, width: Width, source: SourceKind) -> Option<Form>
+    requires { fields.opcode ≡ 48 + source_bit_of source + class_of width }
     ensures found { IfSome result (λ form. HasCodes (row form) fields) }
     ensures only { (form : Form) → HasCodes (row form) fields → result ≡ Some form }
 {
@@ -19,12 +19,12 @@ fn division_form(fields: Fields, width: Width, operand: Operand) -> Option<Form>
         1 => BinaryOp::SignedDiv,
         _ => return None,
     };
-    Some(Form::Binary { op, width, operand })
+    Some(Form::Binary { op, width, source })
 }
 
 /// MOD and SMOD, told apart by the offset.
-fn modulo_form(fields: Fields, width: Width, operand: Operand) -> Option<Form>
-    requires { fields.opcode ≡ 144 + operand_bit operand + class_of width }
+fn modulo_form(fields: Fields, width: Width, source: SourceKind) -> Option<Form>
+    requires { fields.opcode ≡ 144 + source_bit_of source + class_of width }
     ensures found { IfSome result (λ form. HasCodes (row form) fields) }
     ensures only { (form : Form) → HasCodes (row form) fields → result ≡ Some form }
 {
@@ -33,56 +33,56 @@ fn modulo_form(fields: Fields, width: Width, operand: Operand) -> Option<Form>
         1 => BinaryOp::SignedMod,
         _ => return None,
     };
-    Some(Form::Binary { op, width, operand })
+    Some(Form::Binary { op, width, source })
 }
 
 /// NEG, which has no form X.
-fn negate_form(fields: Fields, width: Width, operand: Operand) -> Option<Form>
-    requires { fields.opcode ≡ 128 + operand_bit operand + class_of width }
+fn negate_form(fields: Fields, width: Width, source: SourceKind) -> Option<Form>
+    requires { fields.opcode ≡ 128 + source_bit_of source + class_of width }
     ensures found { IfSome result (λ form. HasCodes (row form) fields) }
     ensures only { (form : Form) → HasCodes (row form) fields → result ≡ Some form }
 {
-    match operand {
-        Operand::Immediate => Some(Form::Negate { width }),
-        Operand::Register => None,
+    match source {
+        SourceKind::Immediate => Some(Form::Negate { width }),
+        SourceKind::Register => None,
     }
 }
 
 /// MOV and MOVSX, told apart by the offset in form X.
-fn move_form(fields: Fields, width: Width, operand: Operand) -> Option<Form>
-    requires { fields.opcode ≡ 176 + operand_bit operand + class_of width }
+fn move_form(fields: Fields, width: Width, source: SourceKind) -> Option<Form>
+    requires { fields.opcode ≡ 176 + source_bit_of source + class_of width }
     ensures found { IfSome result (λ form. HasCodes (row form) fields) }
     ensures only { (form : Form) → HasCodes (row form) fields → result ≡ Some form }
 {
-    let extension = match (operand, fields.offset, width) {
-        (Operand::Immediate, _, _) | (Operand::Register, 0, _) => {
+    let extension = match (source, fields.offset, width) {
+        (SourceKind::Immediate, _, _) | (SourceKind::Register, 0, _) => {
             return Some(Form::Binary {
                 op: BinaryOp::Mov,
                 width,
-                operand,
+                source,
             });
         }
-        (Operand::Register, 8, Width::Bits64) => Extension::Byte64,
-        (Operand::Register, 16, Width::Bits64) => Extension::Half64,
-        (Operand::Register, 32, Width::Bits64) => Extension::Word64,
-        (Operand::Register, 8, Width::Bits32) => Extension::Byte32,
-        (Operand::Register, 16, Width::Bits32) => Extension::Half32,
+        (SourceKind::Register, 8, Width::Bits64) => Extension::Byte64,
+        (SourceKind::Register, 16, Width::Bits64) => Extension::Half64,
+        (SourceKind::Register, 32, Width::Bits64) => Extension::Word64,
+        (SourceKind::Register, 8, Width::Bits32) => Extension::Byte32,
+        (SourceKind::Register, 16, Width::Bits32) => Extension::Half32,
         _ => return None,
     };
     Some(Form::SignExtend { extension })
 }
 
 /// END: byte swaps, whose width is imm.
-fn swap_form(fields: Fields, width: Width, operand: Operand) -> Option<Form>
-    requires { fields.opcode ≡ 208 + operand_bit operand + class_of width }
+fn swap_form(fields: Fields, width: Width, source: SourceKind) -> Option<Form>
+    requires { fields.opcode ≡ 208 + source_bit_of source + class_of width }
     ensures found { IfSome result (λ form. HasCodes (row form) fields) }
     ensures only { (form : Form) → HasCodes (row form) fields → result ≡ Some form }
 {
-    let order = match (width, operand) {
-        (Width::Bits32, Operand::Immediate) => ByteOrder::Little,
-        (Width::Bits32, Operand::Register) => ByteOrder::Big,
-        (Width::Bits64, Operand::Immediate) => ByteOrder::Swap,
-        (Width::Bits64, Operand::Register) => return None,
+    let order = match (width, source) {
+        (Width::Bits32, SourceKind::Immediate) => ByteOrder::Little,
+        (Width::Bits32, SourceKind::Register) => ByteOrder::Big,
+        (Width::Bits64, SourceKind::Immediate) => ByteOrder::Swap,
+        (Width::Bits64, SourceKind::Register) => return None,
     };
     let width = match fields.imm {
         16 => SwapWidth::Bits16,
@@ -99,23 +99,23 @@ pub fn arithmetic_form(fields: Fields, width: Width) -> Option<Form>
     ensures found { IfSome result (λ form. HasCodes (row form) fields) }
     ensures only { (form : Form) → HasCodes (row form) fields → result ≡ Some form }
 {
-    let operand = operand(fields.opcode);
+    let source = source_kind(fields.opcode);
     let op = match fields.opcode / 16 {
         0 => BinaryOp::Add,
         1 => BinaryOp::Sub,
         2 => BinaryOp::Mul,
-        3 => return division_form(fields, width, operand),
+        3 => return division_form(fields, width, source),
         4 => BinaryOp::Or,
         5 => BinaryOp::And,
         6 => BinaryOp::LeftShift,
         7 => BinaryOp::RightShift,
-        8 => return negate_form(fields, width, operand),
-        9 => return modulo_form(fields, width, operand),
+        8 => return negate_form(fields, width, source),
+        9 => return modulo_form(fields, width, source),
         10 => BinaryOp::Xor,
-        11 => return move_form(fields, width, operand),
+        11 => return move_form(fields, width, source),
         12 => BinaryOp::SignedRightShift,
-        13 => return swap_form(fields, width, operand),
+        13 => return swap_form(fields, width, source),
         _ => return None,
     };
-    Some(Form::Binary { op, width, operand })
+    Some(Form::Binary { op, width, source })
 }

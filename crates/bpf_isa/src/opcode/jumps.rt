@@ -1,47 +1,47 @@
 //! The forms of jumps, calls and exit (RFC 9669, section 4.3).
 ghost use Rattle.std.specs.Prelude.{◌≡◌, ◌%◌, ◌+◌, IfSome, Some};
 ghost use Rattle.bpf_isa.specs.Words.{row, HasCodes};
-ghost use Rattle.bpf_isa.specs.Bits.{jump_class_of, operand_bit};
+ghost use Rattle.bpf_isa.specs.Scaffolding.Codec.{jump_class_of, source_bit_of};
 
 use crate::fields::Fields;
-use crate::form::{Form, Operand};
+use crate::form::{Form, SourceKind};
 use crate::instruction::{Condition, Width};
-use crate::opcode::operand;
+use crate::opcode::source_kind;
 
 /// JA, by offset or by imm.
-fn always_form(fields: Fields, width: Width, operand: Operand) -> Option<Form>
-    requires { fields.opcode ≡ operand_bit operand + jump_class_of width }
+fn always_form(fields: Fields, width: Width, source: SourceKind) -> Option<Form>
+    requires { fields.opcode ≡ source_bit_of source + jump_class_of width }
     ensures found { IfSome result (λ form. HasCodes (row form) fields) }
     ensures only { (form : Form) → HasCodes (row form) fields → result ≡ Some form }
 {
-    match (width, operand) {
-        (Width::Bits64, Operand::Immediate) => Some(Form::Jump),
-        (Width::Bits32, Operand::Immediate) => Some(Form::JumpLong),
+    match (width, source) {
+        (Width::Bits64, SourceKind::Immediate) => Some(Form::Jump),
+        (Width::Bits32, SourceKind::Immediate) => Some(Form::JumpLong),
         _ => None,
     }
 }
 
 /// CALL, of a helper or of a local function by the source register.
-fn call_form(fields: Fields, width: Width, operand: Operand) -> Option<Form>
-    requires { fields.opcode ≡ 128 + operand_bit operand + jump_class_of width }
+fn call_form(fields: Fields, width: Width, source: SourceKind) -> Option<Form>
+    requires { fields.opcode ≡ 128 + source_bit_of source + jump_class_of width }
     ensures found { IfSome result (λ form. HasCodes (row form) fields) }
     ensures only { (form : Form) → HasCodes (row form) fields → result ≡ Some form }
 {
-    match (width, operand, fields.src) {
-        (Width::Bits64, Operand::Immediate, 0) => Some(Form::CallHelper),
-        (Width::Bits64, Operand::Immediate, 1) => Some(Form::CallLocal),
+    match (width, source, fields.src) {
+        (Width::Bits64, SourceKind::Immediate, 0) => Some(Form::CallHelper),
+        (Width::Bits64, SourceKind::Immediate, 1) => Some(Form::CallLocal),
         _ => None,
     }
 }
 
 /// EXIT.
-fn exit_form(fields: Fields, width: Width, operand: Operand) -> Option<Form>
-    requires { fields.opcode ≡ 144 + operand_bit operand + jump_class_of width }
+fn exit_form(fields: Fields, width: Width, source: SourceKind) -> Option<Form>
+    requires { fields.opcode ≡ 144 + source_bit_of source + jump_class_of width }
     ensures found { IfSome result (λ form. HasCodes (row form) fields) }
     ensures only { (form : Form) → HasCodes (row form) fields → result ≡ Some form }
 {
-    match (width, operand) {
-        (Width::Bits64, Operand::Immediate) => Some(Form::Exit),
+    match (width, source) {
+        (Width::Bits64, SourceKind::Immediate) => Some(Form::Exit),
         _ => None,
     }
 }
@@ -52,9 +52,9 @@ pub fn jump_form(fields: Fields, width: Width) -> Option<Form>
     ensures found { IfSome result (λ form. HasCodes (row form) fields) }
     ensures only { (form : Form) → HasCodes (row form) fields → result ≡ Some form }
 {
-    let operand = operand(fields.opcode);
+    let source = source_kind(fields.opcode);
     let condition = match fields.opcode / 16 {
-        0 => return always_form(fields, width, operand),
+        0 => return always_form(fields, width, source),
         1 => Condition::Equal,
         2 => Condition::Greater,
         3 => Condition::GreaterOrEqual,
@@ -62,8 +62,8 @@ pub fn jump_form(fields: Fields, width: Width) -> Option<Form>
         5 => Condition::NotEqual,
         6 => Condition::SignedGreater,
         7 => Condition::SignedGreaterOrEqual,
-        8 => return call_form(fields, width, operand),
-        9 => return exit_form(fields, width, operand),
+        8 => return call_form(fields, width, source),
+        9 => return exit_form(fields, width, source),
         10 => Condition::Less,
         11 => Condition::LessOrEqual,
         12 => Condition::SignedLess,
@@ -73,6 +73,6 @@ pub fn jump_form(fields: Fields, width: Width) -> Option<Form>
     Some(Form::JumpIf {
         condition,
         width,
-        operand,
+        source,
     })
 }

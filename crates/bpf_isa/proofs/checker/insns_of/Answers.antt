@@ -4,7 +4,7 @@ use Rattle.std.specs.Result.{is_ok, is_err}
 use Rattle.std.proofs.lemmas.Option.{get_or_from_slice_get}
 use Rattle.bpf_isa.specs.declared.instruction.Insn.{Insn}
 use Rattle.bpf_isa.specs.Checker.{is_start}
-use Rattle.bpf_isa.specs.Flags.{AreInsns}
+use Rattle.bpf_isa.specs.Scaffolding.Checking.{AreInsns}
 use Rattle.bpf_isa.proofs.KeptInsns.{one_more}
 use Rattle.bpf_isa.proofs.checker.insns_of.Goals as goal
 use Rattle.bpf_isa.proofs.checker.insns_of.Goals.{then-starts-slot+in-Ok-piece+else-is_err, else-starts-slot+else-is_err-2}

@@ -1,4 +1,4 @@
-use Rattle.bpf_isa.specs.Flags.{AreInsns}
+use Rattle.bpf_isa.specs.Scaffolding.Checking.{AreInsns}
 use Rattle.bpf_isa.proofs.checker.insns_of.Given as goal
 
 abbrev pub invariant-loop-slot : goal.invariant-loop-slot

@@ -1,7 +1,8 @@
 use Rattle.std.proofs.Common.{◌≡◌, List, ℕ, Result, Ok, sym, subst}
 use Rattle.bpf_isa.specs.declared.instruction.Insn.{Insn}
 use Rattle.bpf_isa.specs.declared.fault.WordFault.{WordFault}
-use Rattle.bpf_isa.specs.Words.{HasOneForm, IsWord}
+use Rattle.bpf_isa.specs.Words.{IsWord}
+use Rattle.bpf_isa.specs.Scaffolding.Codec.{HasOneForm}
 use Rattle.bpf_isa.specs.WordFaults.{HasNoWordFault}
 use Rattle.bpf_isa.specs.Checker.{piece_at}
 use Rattle.bpf_isa.proofs.BrokenRules.{least_fault, no_fault}

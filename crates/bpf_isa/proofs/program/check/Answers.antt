@@ -2,7 +2,7 @@ use Rattle.std.proofs.Common.{◌≡◌, ℕ, List, Option, length, sym, subst, 
 use Rattle.bpf_isa.specs.declared.instruction.Insn.{Insn}
 use Rattle.bpf_isa.specs.declared.maps.MapShape.{MapShape}
 use Rattle.bpf_isa.specs.Checker.{AreSlots}
-use Rattle.bpf_isa.specs.Flags.{AreInsns}
+use Rattle.bpf_isa.specs.Scaffolding.Checking.{AreInsns}
 use Rattle.bpf_isa.specs.Programs.{IsProgram}
 use Rattle.bpf_isa.proofs.Accepted.{is_program}
 use Rattle.bpf_isa.proofs.program.check.Goals as goal

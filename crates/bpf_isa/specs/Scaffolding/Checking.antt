@@ -1,17 +1,21 @@
--- How the checker keeps the starts of a program, one flag a slot, and what it asks of an instruction by itself.
-use Rattle.std.specs.Prelude.{◌≡◌, ◌<◌, ◌≤◌, ℕ, ◌*◌, Bool, true, false, List, Option, Some, None, length, unwrap_or, slice_get}
+-- Scaffolding: no public contract cites this. What the checker keeps of a program, slot by slot, and what it asks of an instruction by itself.
+use Rattle.std.specs.Prelude.{◌≡◌, ◌<◌, ◌≤◌, ℕ, ◌*◌, Bool, true, false, List, Option, Some, None, IfSome, length, unwrap_or, slice_get}
 use Rattle.bpf_isa.specs.declared.instruction.Insn.{Insn}
 use Rattle.bpf_isa.specs.declared.maps.MapShape.{MapShape}
 use Rattle.bpf_isa.specs.declared.fault.PieceFault.{PieceFault}
 use Rattle.bpf_isa.specs.declared.fault.PieceFault.TheVariants.{WritesFramePointer, NoTarget, RunsOff, UnknownHelper, NoMap}
-use Rattle.bpf_isa.specs.Insns.{FallsThrough}
+use Rattle.bpf_isa.specs.Insns.{FallsThrough, written_of}
 use Rattle.bpf_isa.specs.Words.{IsWord}
-use Rattle.bpf_isa.specs.Checker.{is_start, IsStartIn, piece_at, after, HasNoFault, SparesTen, Lands, HelperExists, MapExists, fault_number}
+use Rattle.bpf_isa.specs.Checker.{is_start, IsStartIn, piece_at, after, HasNoFault, Lands, HelperExists, MapExists, fault_number}
 
 -- The flags are the starts.
 pub record AreStarts (bytes : List ℕ) (starts : List Bool) : Type 0 where
   pub slots : 8 * length starts ≡ length bytes
   pub flags : (p : ℕ) → p < length starts → slice_get starts p ≡ Some (is_start bytes p)
+
+-- The instruction replaces no register, or one of r0 to r9.
+abbrev pub SparesTen : Insn → Type 0
+SparesTen insn = IfSome (written_of insn) (λ r. r < 10)
 
 -- A rule that a whole instruction breaks at a slot.
 abbrev pub Breaks : List ℕ → List MapShape → ℕ → Insn → PieceFault → Type 0

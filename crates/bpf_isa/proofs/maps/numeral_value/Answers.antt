@@ -2,7 +2,7 @@ use Rattle.std.proofs.Common.{◌≡◌, ◌<◌, ◌+◌, ◌*◌, ℕ, zero, s
 use Rattle.std.specs.Char.{digit_value}
 use Rattle.std.specs.Str.Parse.{AllDigits}
 use Rattle.std.proofs.lemmas.Int.Digits.{digits_more, digits_value_more}
-use Rattle.bpf_isa.proofs.maps.number.Goals as goal
+use Rattle.bpf_isa.proofs.maps.numeral_value.Goals as goal
 
 digit_small : (ds : List ℕ) (i : ℕ) → AllDigits 10 ds → i < length ds → digit_value (get_or ds i 0) < 10
 digit_small [] i all inside = absurd (omega arith)
@@ -22,5 +22,5 @@ loop-byte-preserved c =
     let before = c.loop-byte.invariant.value in
     record {
       digits = digits_more 10 c.args.digits.now c.loop-byte.byte-index c.loop-byte-test.true c.loop-byte.invariant.digits v.0;
-      value = capped _ _ _ _ _ _ _ _ before c.saturating_mul.ensures (c.saturating_add-number.ensures) v.1 more;
+      value = capped _ _ _ _ _ _ _ _ before c.saturating_mul.ensures (c.saturating_add-value.ensures) v.1 more;
     }

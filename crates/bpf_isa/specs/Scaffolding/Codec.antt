@@ -1,18 +1,21 @@
--- The parts of an opcode: class and source bit (RFC 9669, sections 3.1 and 4); and which fields a row leaves unused.
-use Rattle.std.specs.Prelude.{◌≡◌, ℕ, ℤ, Bool, true, false}
+-- Scaffolding: no public contract cites this. The parts of an opcode (RFC 9669, sections 3.1 and 4), and what the decoder and the encoder ask of their own functions.
+use Rattle.std.specs.Prelude.{◌≡◌, ℕ, ℤ, Bool, true, false, List}
 use Rattle.std.specs.Int.{w16, cast_signed}
 use Rattle.bpf_isa.specs.declared.fields.Fields.{Fields}
 use Rattle.bpf_isa.specs.declared.instruction.Width.{Width}
 use Rattle.bpf_isa.specs.declared.instruction.Width.TheVariants.{Bits32, Bits64}
-use Rattle.bpf_isa.specs.declared.form.Operand.{Operand}
-use Rattle.bpf_isa.specs.declared.form.Operand.TheVariants.{Immediate, Register}
+use Rattle.bpf_isa.specs.declared.form.SourceKind.{SourceKind}
+use Rattle.bpf_isa.specs.declared.form.SourceKind.TheVariants.{Immediate, Register}
 use Rattle.bpf_isa.specs.declared.decoder.unused.Unused.{Unused}
+use Rattle.bpf_isa.specs.declared.instruction.Insn.{Insn}
+use Rattle.bpf_isa.specs.declared.form.Form.{Form}
 use Rattle.bpf_isa.specs.Rows.{Field, unused, code, used, Row}
+use Rattle.bpf_isa.specs.Words.{row, form_of, fields_of, HasCodes}
 
 -- The source bit: K is 0, X is 1, in the place of 8.
-abbrev pub operand_bit : Operand → ℕ
-operand_bit Immediate = 0
-operand_bit Register = 8
+abbrev pub source_bit_of : SourceKind → ℕ
+source_bit_of Immediate = 0
+source_bit_of Register = 8
 
 -- The classes ALU and ALU64.
 abbrev pub class_of : Width → ℕ
@@ -47,3 +50,7 @@ pub record IsAccess (opcode dst src : ℕ) (offset : ℤ) (fields : Fields) : Ty
   pub imm : fields.imm ≡ 0
   pub reserved : fields.reserved ≡ 0
   pub next : fields.next ≡ 0
+
+-- The form of the instruction is the only one whose opcode and numbers stand in the bytes.
+abbrev pub HasOneForm : List ℕ → Insn → Type 0
+HasOneForm bytes insn = (other : Form) → HasCodes (row other) (fields_of bytes) → other ≡ form_of insn

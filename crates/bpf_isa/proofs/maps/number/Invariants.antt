@@ -1,6 +1,0 @@
-use Rattle.std.proofs.Common.{◌≡◌, take, min}
-use Rattle.std.specs.Str.Parse.{AllDigits, digits_value}
-use Rattle.bpf_isa.proofs.maps.number.Given as goal
-
-abbrev pub invariant-loop-byte : goal.invariant-loop-byte
-invariant-loop-byte l = record { digits : AllDigits 10 (take l.byte-index l.digits); value : l.number ≡ min (digits_value 10 (take l.byte-index l.digits)) 4294967295 }
