@@ -10,5 +10,6 @@ pub mod Words
 pub mod WordFaults
 pub mod Checker
 pub mod Programs
+pub mod FaultTexts
 pub mod Sizes
 pub mod Scaffolding

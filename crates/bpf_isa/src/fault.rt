@@ -69,6 +69,7 @@ pub enum MapFault {
 
 impl WordFault {
     ghost use Rattle.bpf_isa.specs.WordFaults.{word_fault_number};
+    ghost use Rattle.bpf_isa.specs.FaultTexts.{word_fault_text};
 
     /// The number that is printed after C.
     pub fn number(self) -> u8
@@ -83,7 +84,9 @@ impl WordFault {
     }
 
     /// The text that is printed after the number.
-    pub fn text(self) -> &'static str {
+    pub fn text(self) -> &'static str
+        ensures { result.now ≡ word_fault_text self }
+    {
         match self {
             WordFault::UnknownInstruction => "unknown instruction",
             WordFault::RegisterAboveTen => "register above 10",
@@ -95,6 +98,7 @@ impl WordFault {
 
 impl PieceFault {
     ghost use Rattle.bpf_isa.specs.Checker.{fault_number};
+    ghost use Rattle.bpf_isa.specs.FaultTexts.{piece_fault_text};
 
     /// The number that is printed after C.
     pub fn number(self) -> u8
@@ -114,7 +118,9 @@ impl PieceFault {
     }
 
     /// The text that is printed after the number.
-    pub fn text(self) -> &'static str {
+    pub fn text(self) -> &'static str
+        ensures { result.now ≡ piece_fault_text self }
+    {
         match self {
             PieceFault::UnknownInstruction => "unknown instruction",
             PieceFault::RegisterAboveTen => "register above 10",
@@ -131,6 +137,7 @@ impl PieceFault {
 
 impl LoadFault {
     ghost use Rattle.bpf_isa.specs.Checker.{load_fault_number};
+    ghost use Rattle.bpf_isa.specs.FaultTexts.{load_fault_text};
 
     /// The number that is printed after C.
     pub fn number(self) -> u8
@@ -146,7 +153,9 @@ impl LoadFault {
     }
 
     /// The text that is printed after the number.
-    pub fn text(self) -> &'static str {
+    pub fn text(self) -> &'static str
+        ensures { result.now ≡ load_fault_text self }
+    {
         match self {
             LoadFault::Empty => "empty program",
             LoadFault::TooLong => "program too long",
@@ -159,6 +168,7 @@ impl LoadFault {
 
 impl MapFault {
     ghost use Rattle.bpf_isa.specs.Maps.{map_fault_number};
+    ghost use Rattle.bpf_isa.specs.FaultTexts.{map_fault_text};
 
     /// The number that is printed after M.
     pub fn number(self) -> u8
@@ -174,7 +184,9 @@ impl MapFault {
     }
 
     /// The text that is printed after the number.
-    pub fn text(self) -> &'static str {
+    pub fn text(self) -> &'static str
+        ensures { result.now ≡ map_fault_text self }
+    {
         match self {
             MapFault::ValueSize => "value size not 1 to 256",
             MapFault::Entries => "entries not 1 to 4096",
