@@ -2,122 +2,75 @@
 //! from the definitions of the faults.
 mod programs;
 mod refusals;
+mod rendering;
 mod vectors;
 
-use crate::{LoadFault, MapFault, MapTable, PieceFault, Reg, WordFault, check, decode, encode};
+use crate::{
+    LoadFault, MapFault, MapTable, PieceFault, Reg, SignedSize, Size, WordFault, check, decode,
+    encode,
+};
 use programs::PROGRAMS;
 use refusals::REFUSALS;
+use rendering::rendered;
 use std::alloc::Global;
 use std::test::Fail;
-use vectors::{ARITHMETIC, JUMPS, MEMORY};
+use vectors::{EDGES, FORMS};
 
 const EXIT: [u8; 8] = [0x95, 0, 0, 0, 0, 0, 0, 0];
 
-/// Lists of maps, and the number that is printed after M, 0 for none.
-const MAP_LISTS: [(&str, u8); 20] = [
-    ("8x2", 0),
-    ("256x256", 0),
-    ("0008x00000000000000000002,1x4096", 0),
-    ("0x1", 1),
-    ("257x4097", 1),
-    ("99999999999x1", 1),
-    ("4294967304x2", 1),
-    ("1x0", 2),
-    ("1x4097", 2),
-    ("1x4294967297", 2),
-    ("256x257", 3),
-    ("8x2,256x257,0x0", 3),
-    (
-        "1x1,1x1,1x1,1x1,1x1,1x1,1x1,1x1,1x1,1x1,1x1,1x1,1x1,1x1,1x1,1x1,1x1",
-        4,
-    ),
-    ("", 5),
-    ("8x2,", 5),
-    ("0x0,8", 5),
-    ("8x", 5),
-    ("8x2x2", 5),
-    ("8X2", 5),
-    ("8x-2", 5),
-];
+/// The maps of a list, or the fault, and the list.
+const MAP_LISTS: &str = "\
+8x2; 8x2\n\
+256x256; 256x256\n\
+8x2 1x4096; 0008x00000000000000000002,1x4096\n\
+M1; 0x1\n\
+M1; 257x4097\n\
+M1; 99999999999x1\n\
+M1; 4294967304x2\n\
+M1; 8x2,0x0\n\
+M2; 1x0\n\
+M2; 1x4097\n\
+M2; 1x4294967297\n\
+M3; 256x257\n\
+M3; 17x4096\n\
+M3; 8x2,256x257,0x0\n\
+M4; 1x1,1x1,1x1,1x1,1x1,1x1,1x1,1x1,1x1,1x1,1x1,1x1,1x1,1x1,1x1,1x1,1x1\n\
+M5; \n\
+M5; 8x2,\n\
+M5; ,8x2\n\
+M5; 0x0,8\n\
+M5; 8x\n\
+M5; x2\n\
+M5; 8x2x2\n\
+M5; 8X2\n\
+M5; 8x-2\n\
+M5; +8x2\n\
+M5; 8 x2\n\
+M5; 8x2;8x2\n\
+M5; ax2\n\
+";
 
-/// The texts of the faults of a program, by number.
-const LOAD_FAULTS: [(LoadFault, &str); 13] = [
-    (LoadFault::Empty, "empty program"),
-    (LoadFault::TooLong, "program too long"),
-    (LoadFault::Ragged, "length is no multiple of 8"),
-    (
-        LoadFault::At {
-            slot: 7,
-            fault: PieceFault::UnknownInstruction,
-        },
-        "unknown instruction",
-    ),
-    (
-        LoadFault::At {
-            slot: 7,
-            fault: PieceFault::RegisterAboveTen,
-        },
-        "register above 10",
-    ),
-    (
-        LoadFault::At {
-            slot: 7,
-            fault: PieceFault::UnusedField,
-        },
-        "unused field is not zero",
-    ),
-    (
-        LoadFault::At {
-            slot: 7,
-            fault: PieceFault::WritesFramePointer,
-        },
-        "write to r10",
-    ),
-    (
-        LoadFault::At {
-            slot: 7,
-            fault: PieceFault::NoTarget,
-        },
-        "target is no instruction",
-    ),
-    (
-        LoadFault::At {
-            slot: 7,
-            fault: PieceFault::CutOff,
-        },
-        "wide instruction cut off",
-    ),
-    (
-        LoadFault::At {
-            slot: 7,
-            fault: PieceFault::RunsOff,
-        },
-        "program runs off its end",
-    ),
-    (
-        LoadFault::At {
-            slot: 7,
-            fault: PieceFault::UnknownHelper,
-        },
-        "unknown helper",
-    ),
-    (
-        LoadFault::At {
-            slot: 7,
-            fault: PieceFault::NoMap,
-        },
-        "no such map or offset",
-    ),
-    (LoadFault::Memory, "out of memory"),
-];
-
-/// The number of the fault, 0 for none.
-fn decoded(first: [u8; 8], second: Option<[u8; 8]>) -> u8 {
-    match decode(first, second) {
-        Ok(_) => 0,
-        Err(fault) => fault.number(),
-    }
-}
+/// The faults: what is printed before a number, the number, the text.
+const FAULTS: &str = "\
+C1 empty program\n\
+C2 program too long\n\
+C3 length is no multiple of 8\n\
+C4 unknown instruction\n\
+C5 register above 10\n\
+C6 unused field is not zero\n\
+C7 write to r10\n\
+C8 target is no instruction\n\
+C9 wide instruction cut off\n\
+C10 program runs off its end\n\
+C11 unknown helper\n\
+C12 no such map or offset\n\
+C13 out of memory\n\
+M1 value size not 1 to 256\n\
+M2 entries not 1 to 4096\n\
+M3 map larger than 65536 bytes\n\
+M4 more than 16 maps\n\
+M5 malformed map list\n\
+";
 
 /// The bytes of hexadecimal words with blanks between them.
 fn bytes_of(alloc: Global, text: &str) -> Result<Vec<u8>, Fail> {
@@ -129,24 +82,18 @@ fn bytes_of(alloc: Global, text: &str) -> Result<Vec<u8>, Fail> {
     Ok(bytes)
 }
 
-/// The number and the slot of the fault, 0 for none.
-fn checked(alloc: Global, bytes: &[u8], maps: &MapTable) -> (u8, usize) {
-    match check(alloc, bytes, maps) {
-        Ok(_) => (0, 0),
-        Err(LoadFault::At { slot, fault }) => (fault.number(), slot),
-        Err(fault) => (fault.number(), 0),
+/// The instruction of one or two slots, or the number of the fault.
+fn decoded(alloc: Global, bytes: &[u8]) -> Result<String, Fail> {
+    let first = bytes.first_chunk().copied().ok_or("no slot")?;
+    let second = if bytes.len() > 8 {
+        bytes.last_chunk().copied()
+    } else {
+        None
+    };
+    match decode(first, second) {
+        Ok(insn) => Ok(rendered(alloc, insn)?),
+        Err(fault) => Ok(format!(in alloc; "C{}", fault.number())?),
     }
-}
-
-#[test]
-fn registers(rt: HostRuntime) -> Result<(), Fail> {
-    for number in 0..=255u8 {
-        match Reg::new(number) {
-            Some(register) => assert_eq!(rt; register.number(), number),
-            None => assert!(rt; number > 10, "r{number}"),
-        }
-    }
-    Ok(())
 }
 
 /// Whether the bytes spell an instruction, and it is spelled so.
@@ -160,36 +107,103 @@ fn is_spelled(bytes: &[u8]) -> bool {
     }
 }
 
+/// `ok`, or the fault and its slot.
+fn checked(alloc: Global, bytes: &[u8], maps: &MapTable) -> Result<String, Fail> {
+    Ok(match check(alloc, bytes, maps) {
+        Ok(_) => format!(in alloc; "ok")?,
+        Err(LoadFault::At { slot, fault }) => format!(in alloc; "C{} at {slot}", fault.number())?,
+        Err(fault) => format!(in alloc; "C{}", fault.number())?,
+    })
+}
+
+/// The maps of a list with a blank between them, or the fault.
+fn parsed(alloc: Global, list: &str) -> Result<String, Fail> {
+    let maps = match MapTable::parse(list.as_bytes()) {
+        Ok(maps) => maps,
+        Err(fault) => return Ok(format!(in alloc; "M{}", fault.number())?),
+    };
+    let mut text = String::new(alloc);
+    for map in 0..maps.len() {
+        if let Some(shape) = maps.shape(map) {
+            let blank = if map == 0 { "" } else { " " };
+            text = format!(in alloc; "{text}{blank}{}x{}", shape.value_size, shape.entries)?;
+        }
+    }
+    Ok(text)
+}
+
 #[test]
-fn arithmetic_words(rt: HostRuntime) -> Result<(), Fail> {
-    for (name, text) in ARITHMETIC {
-        let bytes = bytes_of(rt.alloc(), text)?;
-        assert!(rt; is_spelled(&bytes), "{name}");
+fn registers(rt: HostRuntime) -> Result<(), Fail> {
+    for number in 0..=255u8 {
+        match Reg::new(number) {
+            Some(register) => assert_eq!(rt; register.number(), number),
+            None => assert!(rt; number > 10, "r{number}"),
+        }
     }
     Ok(())
 }
 
 #[test]
-fn jump_words(rt: HostRuntime) -> Result<(), Fail> {
-    for (name, text) in JUMPS {
-        let bytes = bytes_of(rt.alloc(), text)?;
-        assert!(rt; is_spelled(&bytes), "{name}");
+fn forms(rt: HostRuntime) -> Result<(), Fail> {
+    let alloc = rt.alloc();
+    for row in FORMS.lines() {
+        let (word, want) = row.split_once(' ').ok_or("no blank")?;
+        let bytes = bytes_of(alloc, word)?;
+        let text = decoded(alloc, &bytes)?;
+        assert_eq!(rt; text.as_str(), want, "{row}");
+        assert!(rt; is_spelled(&bytes), "{row}");
+    }
+    assert_eq!(rt; FORMS.lines().count(), 159);
+    Ok(())
+}
+
+#[test]
+fn edges(rt: HostRuntime) -> Result<(), Fail> {
+    let alloc = rt.alloc();
+    for row in EDGES.lines() {
+        let (word, want) = row.split_once(' ').ok_or("no blank")?;
+        let bytes = bytes_of(alloc, word)?;
+        let text = decoded(alloc, &bytes)?;
+        assert_eq!(rt; text.as_str(), want, "{row}");
+        assert!(rt; is_spelled(&bytes), "{row}");
     }
     Ok(())
 }
 
 #[test]
-fn memory_words(rt: HostRuntime) -> Result<(), Fail> {
-    for (name, text) in MEMORY {
-        let bytes = bytes_of(rt.alloc(), text)?;
-        assert!(rt; is_spelled(&bytes), "{name}");
-    }
+fn second_slot_of_an_exit(rt: HostRuntime) -> Result<(), Fail> {
+    let alloc = rt.alloc();
+    let bytes = bytes_of(alloc, "9500000000000000 ffffffffffffffff")?;
+    let text = decoded(alloc, &bytes)?;
+    assert_eq!(rt; text.as_str(), "Exit stops");
     Ok(())
+}
+
+#[test]
+fn sizes(rt: HostRuntime) {
+    for (size, want) in [
+        (Size::Word, 4),
+        (Size::Half, 2),
+        (Size::Byte, 1),
+        (Size::Double, 8),
+    ] {
+        assert_eq!(rt; size.len(), want);
+    }
+    for (size, want) in [
+        (SignedSize::Word, 4),
+        (SignedSize::Half, 2),
+        (SignedSize::Byte, 1),
+    ] {
+        assert_eq!(rt; size.len(), want);
+    }
 }
 
 #[test]
 fn every_opcode(rt: HostRuntime) {
-    let faults = |opcode: u8| decoded([opcode, 0, 0, 0, 0, 0, 0, 0], Some([0; 8]));
+    let faults = |opcode: u8| match decode([opcode, 0, 0, 0, 0, 0, 0, 0], Some([0; 8])) {
+        Ok(_) => 0,
+        Err(fault) => fault.number(),
+    };
     assert_eq!(rt;
         (0..=255).filter(|opcode| faults(*opcode) == 0).count(),
         116,
@@ -203,22 +217,32 @@ fn every_opcode(rt: HostRuntime) {
 }
 
 #[test]
-fn refused_words(rt: HostRuntime) {
-    for (name, first, second, want) in REFUSALS {
-        assert_eq!(rt; decoded(first, second), want, "{name}");
+fn refused_words(rt: HostRuntime) -> Result<(), Fail> {
+    let alloc = rt.alloc();
+    for row in REFUSALS.lines() {
+        let (want, rest) = row.split_once(' ').ok_or("no fault")?;
+        let (word, _) = rest.split_once(' ').ok_or("no name")?;
+        let bytes = bytes_of(alloc, word)?;
+        let text = decoded(alloc, &bytes)?;
+        assert_eq!(rt; text.as_str(), want, "{row}");
     }
+    Ok(())
 }
 
 #[test]
 fn checked_programs(rt: HostRuntime) -> Result<(), Fail> {
     let alloc = rt.alloc();
-    for (name, text, list, number, slot) in PROGRAMS {
+    for row in PROGRAMS.lines() {
+        let (want, rest) = row.split_once("; ").ok_or("no answer")?;
+        let (list, rest) = rest.split_once("; ").ok_or("no maps")?;
+        let (program, _) = rest.split_once("; ").ok_or("no name")?;
         let maps = match list {
-            "" => MapTable::empty(),
+            "-" => MapTable::empty(),
             _ => MapTable::parse(list.as_bytes()).unwrap_or(MapTable::empty()),
         };
-        let bytes = bytes_of(alloc, text)?;
-        assert_eq!(rt; checked(alloc, &bytes, &maps), (number, slot), "{name}");
+        let bytes = bytes_of(alloc, program)?;
+        let text = checked(alloc, &bytes, &maps)?;
+        assert_eq!(rt; text.as_str(), want, "{row}");
     }
     Ok(())
 }
@@ -228,13 +252,16 @@ fn lengths(rt: HostRuntime) -> Result<(), Fail> {
     let alloc = rt.alloc();
     let maps = MapTable::empty();
     let mut bytes = Vec::new(alloc);
-    assert_eq!(rt; checked(alloc, &bytes, &maps), (1, 0), "no bytes");
+    let none = checked(alloc, &bytes, &maps)?;
+    assert_eq!(rt; none.as_str(), "C1", "no bytes");
     for _ in 0..65535 {
         bytes.extend_from_slice(&EXIT)?;
     }
-    assert_eq!(rt; checked(alloc, &bytes, &maps), (0, 0), "65,535 slots");
+    let full = checked(alloc, &bytes, &maps)?;
+    assert_eq!(rt; full.as_str(), "ok", "65,535 slots");
     bytes.push(0)?;
-    assert_eq!(rt; checked(alloc, &bytes, &maps), (2, 0), "one byte more");
+    let over = checked(alloc, &bytes, &maps)?;
+    assert_eq!(rt; over.as_str(), "C2", "one byte more");
     Ok(())
 }
 
@@ -259,12 +286,11 @@ fn getters(rt: HostRuntime) -> Result<(), Fail> {
 
 #[test]
 fn map_lists(rt: HostRuntime) -> Result<(), Fail> {
-    for (text, want) in MAP_LISTS {
-        let number = match MapTable::parse(text.as_bytes()) {
-            Ok(_) => 0,
-            Err(fault) => fault.number(),
-        };
-        assert_eq!(rt; number, want, "{text}");
+    let alloc = rt.alloc();
+    for row in MAP_LISTS.lines() {
+        let (want, list) = row.split_once("; ").ok_or("no answer")?;
+        let text = parsed(alloc, list)?;
+        assert_eq!(rt; text.as_str(), want, "{row}");
     }
     Ok(())
 }
@@ -300,26 +326,77 @@ fn added_maps(rt: HostRuntime) {
     assert!(rt; maps.shape(16).is_none());
 }
 
+/// The fault of a piece by its number.
+fn piece_fault(number: usize) -> PieceFault {
+    match number {
+        4 => PieceFault::UnknownInstruction,
+        5 => PieceFault::RegisterAboveTen,
+        6 => PieceFault::UnusedField,
+        7 => PieceFault::WritesFramePointer,
+        8 => PieceFault::NoTarget,
+        9 => PieceFault::CutOff,
+        10 => PieceFault::RunsOff,
+        11 => PieceFault::UnknownHelper,
+        _ => PieceFault::NoMap,
+    }
+}
+
+/// The number and the text of a line of the table of faults, counted from 1.
+fn fault_line(alloc: Global, line: usize) -> Result<String, Fail> {
+    let fault = match line {
+        1 => LoadFault::Empty,
+        2 => LoadFault::TooLong,
+        3 => LoadFault::Ragged,
+        4..=12 => LoadFault::At {
+            slot: 7,
+            fault: piece_fault(line),
+        },
+        13 => LoadFault::Memory,
+        _ => return map_fault_line(alloc, line),
+    };
+    Ok(format!(in alloc; "C{} {}", fault.number(), fault.text())?)
+}
+
+/// The same of the faults of maps, which stand from line 14 on.
+fn map_fault_line(alloc: Global, line: usize) -> Result<String, Fail> {
+    let fault = match line {
+        14 => MapFault::ValueSize,
+        15 => MapFault::Entries,
+        16 => MapFault::Total,
+        17 => MapFault::Full,
+        _ => MapFault::Malformed,
+    };
+    Ok(format!(in alloc; "M{} {}", fault.number(), fault.text())?)
+}
+
 #[test]
-fn fault_texts(rt: HostRuntime) {
-    for (fault, want) in LOAD_FAULTS {
-        assert_eq!(rt; fault.text(), want, "C{}", fault.number());
+fn faults(rt: HostRuntime) -> Result<(), Fail> {
+    let alloc = rt.alloc();
+    for (index, want) in FAULTS.lines().enumerate() {
+        let text = fault_line(alloc, index + 1)?;
+        assert_eq!(rt; text.as_str(), want);
+        if index >= 3 && index < 12 {
+            let fault = piece_fault(index + 1);
+            let text = format!(in alloc; "C{} {}", fault.number(), fault.text())?;
+            assert_eq!(rt; text.as_str(), want);
+        }
     }
-    for (fault, want) in [
-        (MapFault::ValueSize, "value size not 1 to 256"),
-        (MapFault::Entries, "entries not 1 to 4096"),
-        (MapFault::Total, "map larger than 65536 bytes"),
-        (MapFault::Full, "more than 16 maps"),
-        (MapFault::Malformed, "malformed map list"),
+    assert_eq!(rt; FAULTS.lines().count(), 18);
+    Ok(())
+}
+
+#[test]
+fn faults_of_words(rt: HostRuntime) -> Result<(), Fail> {
+    let alloc = rt.alloc();
+    for (fault, line) in [
+        (WordFault::UnknownInstruction, 4),
+        (WordFault::RegisterAboveTen, 5),
+        (WordFault::UnusedField, 6),
+        (WordFault::CutOff, 9),
     ] {
-        assert_eq!(rt; fault.text(), want, "M{}", fault.number());
+        let text = format!(in alloc; "C{} {}", fault.number(), fault.text())?;
+        let want = FAULTS.lines().nth(line - 1).ok_or("no line")?;
+        assert_eq!(rt; text.as_str(), want);
     }
-    for (fault, want) in [
-        (WordFault::UnknownInstruction, "unknown instruction"),
-        (WordFault::RegisterAboveTen, "register above 10"),
-        (WordFault::UnusedField, "unused field is not zero"),
-        (WordFault::CutOff, "wide instruction cut off"),
-    ] {
-        assert_eq!(rt; fault.text(), want, "C{}", fault.number());
-    }
+    Ok(())
 }
