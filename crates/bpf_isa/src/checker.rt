@@ -8,7 +8,7 @@ ghost use Rattle.bpf_isa.specs.declared.maps.MapShape.{MapShape};
 
 use crate::decoder::decode_word;
 use crate::fault::{LoadFault, PieceFault, WordFault};
-use crate::fields::read;
+use crate::fields::{Fields, read};
 use crate::instruction::Insn;
 use crate::maps::MapTable;
 use crate::opcode::find_form;
@@ -57,7 +57,7 @@ fn cut_off_fault(piece: &[u8]) -> PieceFault
     let fields = read(piece);
     match find_form(fields) {
         Some(_) => {
-            if fields.dst == 10 {
+            if is_to_ten(fields) {
                 PieceFault::WritesFramePointer
             } else {
                 PieceFault::CutOff
@@ -65,6 +65,13 @@ fn cut_off_fault(piece: &[u8]) -> PieceFault
         }
         None => PieceFault::CutOff,
     }
+}
+
+/// Whether the register that a wide load replaces is r10.
+fn is_to_ten(fields: Fields) -> bool
+    ensures { IsTrue result ↔ (fields.dst ≡ 10) }
+{
+    fields.dst == 10
 }
 
 /// Whether no piece follows the one at a start.

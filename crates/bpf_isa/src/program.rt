@@ -1,6 +1,7 @@
 //! Programs that the checker accepted.
-ghost use Rattle.std.specs.Prelude.{◌≡◌, ◌↔◌, IsTrue, OnOk, IfOk, IfErr, length};
-ghost use Rattle.bpf_isa.specs.Checker.{IsAccepted, IsRefused};
+ghost use Rattle.std.specs.Prelude.{◌≡◌, ◌↔◌, IsTrue, OnOk, IfOk, IfErr, IfSome, IfNone, List, length};
+ghost use Rattle.bpf_isa.specs.Checker.{AreSlots, IsAccepted, IsRefused};
+ghost use Rattle.bpf_isa.specs.declared.maps.MapShape.{MapShape};
 
 use crate::checker::{insns_of, starts_of};
 use crate::fault::LoadFault;
@@ -66,6 +67,23 @@ impl Program {
     }
 }
 
+/// The fault of a length that no program has.
+fn length_fault(bytes: &[u8]) -> Option<LoadFault>
+    ensures found { IfSome result (λ fault. (maps : List MapShape) → IsRefused bytes.now maps fault) }
+    ensures none { IfNone result (AreSlots bytes.now) }
+{
+    if bytes.is_empty() {
+        return Some(LoadFault::Empty);
+    }
+    if bytes.len() > 524280 {
+        return Some(LoadFault::TooLong);
+    }
+    if bytes.len() % 8 != 0 {
+        return Some(LoadFault::Ragged);
+    }
+    None
+}
+
 /// The program of the bytes with a map table.
 ///
 /// A piece's fault is that of the lowest slot, and there the one with the least number. Takes time
@@ -76,14 +94,9 @@ pub fn check(alloc: Global, bytes: &[u8], maps: &MapTable) -> Result<Program, Lo
         (program.bytes ≡ bytes.now) × (program.maps ≡ maps.now)) }
     ensures fault { IfErr result (IsRefused bytes.now maps.now) }
 {
-    if bytes.is_empty() {
-        return Err(LoadFault::Empty);
-    }
-    if bytes.len() > 524280 {
-        return Err(LoadFault::TooLong);
-    }
-    if bytes.len() % 8 != 0 {
-        return Err(LoadFault::Ragged);
+    match length_fault(bytes) {
+        Some(fault) => return Err(fault),
+        None => {}
     }
     let starts = match starts_of(alloc, bytes) {
         Ok(starts) => starts,
