@@ -1,14 +1,17 @@
 -- The laws of memory read by address.
 use Rattle.std.proofs.Common.{◌≡◌, ◌≤◌, ◌<◌, ◌⊎◌, ℕ, zero, suc, ◌+◌, ◌-◌, ◌*◌, ◌^◌, List, [], ◌∷◌, length, Option, Some, None, refl, sym, ap, ◌∙◌, inl, inr, arith}
-use Rattle.std.specs.Prelude.{IsSome, option_map, unwrap_or, slice_index, slice_range}
+use Rattle.std.specs.Prelude.{Bool, true, false, IsSome, option_map, unwrap_or, slice_index, slice_range, replicate, if◌then◌else◌, ◌++◌}
 use Rattle.byteorder.specs.Endian.{little_from}
 use Rattle.std.proofs.lemmas.Bool.{cases_lt}
+use Rattle.std.proofs.lemmas.Bool.Decides.{nat_tests}
+use Rattle.std.proofs.lemmas.List.{get_or_append_left, get_or-append-add, get_or-replicate}
 use Rattle.std.proofs.lemmas.Grind.{elements}
 use Rattle.std.proofs.Math.Nat.{pow-suc}
-use Rattle.bpf_machine.specs.Platform.{frame_base, frame_len, frame_count, context_limit}
-use Rattle.bpf_machine.specs.Regions.{Image, IsImage, Region, regions, frames_from, place, place_of, paste}
-use Rattle.bpf_machine.specs.ByAddress.{byte_at, AllPast, AreApart, RegionsAreApart, RunsAreTheirAddresses, sum_at, NumbersAreSums, StoresAreLocal, AccessibleIsPresent}
-use Rattle.bpf_machine.proofs.Places.{place_here, place_above, place_below}
+use Rattle.bpf_machine.specs.Platform.{context_base, context_limit, frame_base, frame_len, frame_count}
+use Rattle.bpf_machine.specs.Regions.{Image, IsImage, Region, regions, frames_from, index_in, index_of, is_from_frame, paste}
+use Rattle.bpf_machine.specs.State.{depth}
+use Rattle.bpf_machine.specs.ByAddress.{byte_at, AllPast, AreApart, RegionsAreApart, RunsAreTheirAddresses, sum_at, NumbersAreSums, StoresAreLocal, IsInFrame, AccessibleIsBelow, OpenedByAddress}
+use Rattle.bpf_machine.proofs.Indices.{index_here, index_above, index_below, frames_in}
 
 -- Frames from frame i on lie past every address below frame i.
 frames_past : (a i n : ℕ) → a < frame_base i → AllPast a (frames_from i n)
@@ -21,20 +24,17 @@ unfolding frames_from
 frames_apart i zero = tt
 frames_apart i (suc n) = (frames_past _ (suc i) n (omega arith), frames_apart (suc i) n)
 
-regions_apart : (len n : ℕ) → len ≤ context_limit → AreApart (regions len n)
-regions_apart len n h = (frames_past _ 0 n (omega arith), frames_apart 0 n)
-
 pub law_apart : RegionsAreApart
-law_apart m h = regions_apart m.context_len frame_count h.short
+law_apart m h = let short = h.short in (frames_past _ 0 frame_count (omega (arith, short)), frames_apart 0 frame_count)
 
 -- A run is in the first region, or it is sought in the others.
-place_split : (r : Region) (rs : List Region) (a n : ℕ) → ((r.base ≤ a) × (a + n ≤ r.base + r.len) × (place (r ∷ rs) a n ≡ Some (a - r.base))) ⊎ (((a < r.base) ⊎ (r.base + r.len < a + n)) × (place (r ∷ rs) a n ≡ option_map (λ at. r.len + at) (place rs a n)))
-place_split r rs a n =
+index_split : (r : Region) (rs : List Region) (a n : ℕ) → ((r.base ≤ a) × (a + n ≤ r.base + r.len) × (index_in (r ∷ rs) a n ≡ Some (a - r.base))) ⊎ (((a < r.base) ⊎ (r.base + r.len < a + n)) × (index_in (r ∷ rs) a n ≡ option_map (λ at. r.len + at) (index_in rs a n)))
+index_split r rs a n =
     elim (cases_lt a r.base) [
-      | inl below ↦ inr (inl below, place_below r rs a n below)
+      | inl below ↦ inr (inl below, index_below r rs a n below)
       | inr from ↦ elim (cases_lt (r.base + r.len) (a + n)) [
-        | inl above ↦ inr (inr above, place_above r rs a n above)
-        | inr within ↦ inl (from, within, place_here r rs a n from within)
+        | inl above ↦ inr (inr above, index_above r rs a n above)
+        | inr within ↦ inl (from, within, index_here r rs a n from within)
       ]
     ]
 
@@ -43,27 +43,27 @@ some_from_map k y None e = cc
 some_from_map k y (Some x) e = (x, refl, cc)
 
 -- A run of regions that all begin past an address lies past it.
-place_past : (k : ℕ) (rs : List Region) (a n at : ℕ) → AllPast k rs → place rs a n ≡ Some at → k < a
-unfolding place
-place_past k [] a n at h e = cc
-place_past k (r ∷ rs) a n at h e = elim (place_split r rs a n) [
+index_past : (k : ℕ) (rs : List Region) (a n at : ℕ) → AllPast k rs → index_in rs a n ≡ Some at → k < a
+unfolding index_in
+index_past k [] a n at h e = cc
+index_past k (r ∷ rs) a n at h e = elim (index_split r rs a n) [
   | inl here ↦ omega (arith, here.0, h.0)
-  | inr other ↦ let found = some_from_map _ _ _ (sym other.1 ∙ e) in place_past k rs a n found.0 h.1 found.1
+  | inr other ↦ let found = some_from_map _ _ _ (sym other.1 ∙ e) in index_past k rs a n found.0 h.1 found.1
 ]
 
--- Each address of a run stands at its place.
-place_within : (rs : List Region) → AreApart rs → (a n at j : ℕ) → place rs a n ≡ Some at → j < n → place rs (a + j) 1 ≡ Some (at + j)
-unfolding place
-place_within [] h a n at j e low = cc
-place_within (r ∷ rs) h a n at j e low = elim (place_split r rs a n) [
+-- Each address of a run stands at its index.
+index_within : (rs : List Region) → AreApart rs → (a n at j : ℕ) → index_in rs a n ≡ Some at → j < n → index_in rs (a + j) 1 ≡ Some (at + j)
+unfolding index_in
+index_within [] h a n at j e low = cc
+index_within (r ∷ rs) h a n at j e low = elim (index_split r rs a n) [
   | inl here ↦
       let same : a - r.base ≡ at = cc (here.2) in
-      place_here r rs (a + j) 1 (omega (arith, here.0)) (omega (arith, here.1)) ∙ ap Some (omega (arith, here.0))
+      index_here r rs (a + j) 1 (omega (arith, here.0)) (omega (arith, here.1)) ∙ ap Some (omega (arith, here.0))
   | inr other ↦
       let found = some_from_map _ _ _ (sym other.1 ∙ e) in
-      let past : r.base + r.len < a = place_past _ rs a n found.0 h.0 found.1 in
-      place_above r rs (a + j) 1 (omega arith)
-      ∙ ap (option_map (λ at. r.len + at)) (place_within rs h.1 a n found.0 j found.1 low)
+      let past : r.base + r.len < a = index_past _ rs a n found.0 h.0 found.1 in
+      index_above r rs (a + j) 1 (omega arith)
+      ∙ ap (option_map (λ at. r.len + at)) (index_within rs h.1 a n found.0 j found.1 low)
       ∙ ap Some (omega (arith, found.2))
 ]
 
@@ -72,22 +72,22 @@ total : List Region → ℕ
 total [] = 0
 total (r ∷ rs) = r.len + total rs
 
-place_fits : (rs : List Region) (a n at : ℕ) → place rs a n ≡ Some at → at + n ≤ total rs
-unfolding place total
-place_fits [] a n at e = cc
-place_fits (r ∷ rs) a n at e = elim (place_split r rs a n) [
+index_fits : (rs : List Region) (a n at : ℕ) → index_in rs a n ≡ Some at → at + n ≤ total rs
+unfolding index_in total
+index_fits [] a n at e = cc
+index_fits (r ∷ rs) a n at e = elim (index_split r rs a n) [
   | inl here ↦ let same : a - r.base ≡ at = cc (here.2) in omega (arith, here.0, here.1)
   | inr other ↦
-      let found : (x : ℕ) × (place rs a n ≡ Some x) × (at ≡ r.len + x) = some_from_map _ _ _ (sym other.1 ∙ e) in
-      omega (arith, place_fits rs a n found.0 found.1, found.2)
+      let found : (x : ℕ) × (index_in rs a n ≡ Some x) × (at ≡ r.len + x) = some_from_map _ _ _ (sym other.1 ∙ e) in
+      omega (arith, index_fits rs a n found.0 found.1, found.2)
 ]
 
 -- Addresses outside a run stand at places outside it.
-place_apart : (rs : List Region) (a n at b k : ℕ) → place rs a n ≡ Some at → place rs b 1 ≡ Some k → (b < a) ⊎ (a + n ≤ b) → (k < at) ⊎ (at + n ≤ k)
-unfolding place
-place_apart [] a n at b k e f h = cc
-place_apart (r ∷ rs) a n at b k e f h = elim (place_split r rs a n) [
-  | inl here ↦ elim (place_split r rs b 1) [
+index_apart : (rs : List Region) (a n at b k : ℕ) → index_in rs a n ≡ Some at → index_in rs b 1 ≡ Some k → (b < a) ⊎ (a + n ≤ b) → (k < at) ⊎ (at + n ≤ k)
+unfolding index_in
+index_apart [] a n at b k e f h = cc
+index_apart (r ∷ rs) a n at b k e f h = elim (index_split r rs a n) [
+  | inl here ↦ elim (index_split r rs b 1) [
     | inl there ↦
         let same : a - r.base ≡ at = cc (here.2) in
         let also : b - r.base ≡ k = cc (there.2) in
@@ -99,45 +99,45 @@ place_apart (r ∷ rs) a n at b k e f h = elim (place_split r rs a n) [
   ]
   | inr other ↦
       let found = some_from_map _ _ _ (sym other.1 ∙ e) in
-      elim (place_split r rs b 1) [
+      elim (index_split r rs b 1) [
         | inl there ↦
             let also : b - r.base ≡ k = cc (there.2) in
             inl (omega (arith, there.0, there.1, found.2))
         | inr later ↦
             let behind = some_from_map _ _ _ (sym later.1 ∙ f) in
-            elim (place_apart rs a n found.0 b behind.0 found.1 behind.1 h) [
+            elim (index_apart rs a n found.0 b behind.0 found.1 behind.1 h) [
               | inl below ↦ inl (omega (arith, found.2, behind.2))
               | inr above ↦ inr (omega (arith, found.2, behind.2))
             ]
       ]
 ]
 
-later_place : (r : Region) (rs : List Region) (a j : ℕ) → r.base + r.len ≤ a → (x : ℕ) × (place (r ∷ rs) (a + j) 1 ≡ Some x) → (x : ℕ) × (place rs (a + j) 1 ≡ Some x)
-later_place r rs a j past found =
-    let there = some_from_map _ _ _ (sym (place_above r rs (a + j) 1 (omega arith)) ∙ found.1) in
+later_index : (r : Region) (rs : List Region) (a j : ℕ) → r.base + r.len ≤ a → (x : ℕ) × (index_in (r ∷ rs) (a + j) 1 ≡ Some x) → (x : ℕ) × (index_in rs (a + j) 1 ≡ Some x)
+later_index r rs a j past found =
+    let there = some_from_map _ _ _ (sym (index_above r rs (a + j) 1 (omega arith)) ∙ found.1) in
     (there.0, there.1)
 
 -- A run whose addresses are all present is present.
-place_whole : (rs : List Region) → AreApart rs → (a n : ℕ) → 1 ≤ n → ((j : ℕ) → j < n → (x : ℕ) × (place rs (a + j) 1 ≡ Some x)) → (at : ℕ) × (place rs a n ≡ Some at)
-unfolding place
-place_whole [] h a n some each = let first = each 0 (omega arith) in cc (first.1)
-place_whole (r ∷ rs) h a n some each = elim (place_split r rs a n) [
+index_whole : (rs : List Region) → AreApart rs → (a n : ℕ) → 1 ≤ n → ((j : ℕ) → j < n → (x : ℕ) × (index_in rs (a + j) 1 ≡ Some x)) → (at : ℕ) × (index_in rs a n ≡ Some at)
+unfolding index_in
+index_whole [] h a n some each = let first = each 0 (omega arith) in cc (first.1)
+index_whole (r ∷ rs) h a n some each = elim (index_split r rs a n) [
   | inl here ↦ (a - r.base, here.2)
   | inr (side, rest) ↦ elim side [
     | inl below ↦
         let first = each 0 (omega arith) in
-        let found = some_from_map _ _ _ (sym (place_below r rs (a + 0) 1 (omega arith)) ∙ first.1) in
-        let past : r.base + r.len < a + 0 = place_past _ rs (a + 0) 1 found.0 h.0 found.1 in
+        let found = some_from_map _ _ _ (sym (index_below r rs (a + 0) 1 (omega arith)) ∙ first.1) in
+        let past : r.base + r.len < a + 0 = index_past _ rs (a + 0) 1 found.0 h.0 found.1 in
         absurd (omega arith)
     | inr above ↦ elim (cases_lt a (r.base + r.len)) [
       | inl over ↦
           let last : a + (r.base + r.len - a) ≡ r.base + r.len = omega arith in
           let gap = each (r.base + r.len - a) (omega arith) in
-          let found = some_from_map _ _ _ (sym (place_above r rs (a + (r.base + r.len - a)) 1 (omega arith)) ∙ gap.1) in
-          let past : r.base + r.len < a + (r.base + r.len - a) = place_past _ rs _ 1 found.0 h.0 found.1 in
+          let found = some_from_map _ _ _ (sym (index_above r rs (a + (r.base + r.len - a)) 1 (omega arith)) ∙ gap.1) in
+          let past : r.base + r.len < a + (r.base + r.len - a) = index_past _ rs _ 1 found.0 h.0 found.1 in
           absurd (omega arith)
       | inr past ↦
-          let later = place_whole rs h.1 a n some (λ j low. later_place r rs a j past (each j low)) in
+          let later = index_whole rs h.1 a n some (λ j low. later_index r rs a j past (each j low)) in
           (r.len + later.0, rest ∙ ap (option_map (λ at. r.len + at)) later.1)
     ]
   ]
@@ -156,9 +156,9 @@ is_some_map : {X Y : Type 0} (f : X → Y) (o : Option X) → IsSome (option_map
 is_some_map f None h = cc
 is_some_map f (Some x) h = (x, refl)
 
-byte_within : (m : Image) → IsImage m → (a n at j : ℕ) → place_of m a n ≡ Some at → j < n → byte_at m (a + j) ≡ Some (slice_index m.bytes (at + j))
+byte_within : (m : Image) → IsImage m → (a n at j : ℕ) → index_of m a n ≡ Some at → j < n → byte_at m (a + j) ≡ Some (slice_index m.bytes (at + j))
 byte_within m h a n at j e low =
-    ap (option_map (λ k. slice_index m.bytes k)) (place_within (regions m.context_len frame_count) (law_apart m h) a n at j e low)
+    ap (option_map (λ k. slice_index m.bytes k)) (index_within (regions m) (law_apart m h) a n at j e low)
 
 pub law_runs : RunsAreTheirAddresses
 law_runs m h a n some = (
@@ -166,7 +166,7 @@ law_runs m h a n some = (
       let found = is_some _ present in
       is_some_from _ _ (byte_within m h a n found.0 j found.1 low)),
   (λ each.
-      let found = place_whole (regions m.context_len frame_count) (law_apart m h) a n some (λ j low. is_some_map _ _ (each j low)) in
+      let found = index_whole (regions m) (law_apart m h) a n some (λ j low. is_some_map _ _ (each j low)) in
       is_some_from _ _ found.1),
 )
 
@@ -190,10 +190,10 @@ unfolding total frames_from
 total_frames i zero = refl
 total_frames i (suc n) = omega (arith, total_frames (suc i) n)
 
-fits_within : (m : Image) → IsImage m → (a n at : ℕ) → place_of m a n ≡ Some at → at + n ≤ length m.bytes
+pub fits_within : (m : Image) → IsImage m → (a n at : ℕ) → index_of m a n ≡ Some at → at + n ≤ length m.bytes
 unfolding total
 fits_within m h a n at e =
-    omega (arith, h.whole, place_fits (regions m.context_len frame_count) a n at e, total_frames 0 frame_count)
+    omega (arith, h.whole, index_fits (regions m) a n at e, total_frames 0 frame_count)
 
 same_byte : (o : Option ℕ) (xs ys : List ℕ) → ((k : ℕ) → o ≡ Some k → slice_index xs k ≡ slice_index ys k) → option_map (λ k. slice_index xs k) o ≡ option_map (λ k. slice_index ys k) o
 same_byte None xs ys h = refl
@@ -202,12 +202,12 @@ same_byte (Some k) xs ys h = ap Some (h k refl)
 pub law_stores : StoresAreLocal
 law_stores m h a at new e = (
   (λ j low.
-      ap (option_map (λ k. slice_index (paste m.bytes at new) k)) (place_within (regions m.context_len frame_count) (law_apart m h) a (length new) at j e low)
+      ap (option_map (λ k. slice_index (paste m.bytes at new) k)) (index_within (regions m) (law_apart m h) a (length new) at j e low)
       ∙ ap Some (paste_in m.bytes new at j (fits_within m h a (length new) at e) low)),
   (λ b outside.
-      same_byte (place_of m b 1) (paste m.bytes at new) m.bytes (λ k found.
+      same_byte (index_of m b 1) (paste m.bytes at new) m.bytes (λ k found.
       paste_out m.bytes new at k (fits_within m h a (length new) at e) (omega (arith, fits_within m h b 1 k found))
-      (place_apart (regions m.context_len frame_count) a (length new) at b k e found outside))),
+      (index_apart (regions m) a (length new) at b k e found outside))),
 )
 
 -- The law of numbers.
@@ -222,10 +222,13 @@ little_more i (suc n) xs =
     let power = ap (λ p. slice_index xs (i + suc n) * p) (pow-suc 256 n) in
     omega (arith, little_more (suc i) n xs, same, power)
 
+pub length-run : (bytes : List ℕ) (at n : ℕ) → at + n ≤ length bytes → length (slice_range bytes at (at + n)) ≡ n
+length-run bytes at n fits = grind (arith, elements)
+
 run_reads : (bytes : List ℕ) (at n j : ℕ) → j < n → slice_index (slice_range bytes at (at + n)) j ≡ slice_index bytes (at + j)
 run_reads bytes at n j low = grind (arith, elements)
 
-sum_to : (m : Image) → IsImage m → (a n at : ℕ) → place_of m a n ≡ Some at → (k : ℕ) → k ≤ n → little_from 0 k (slice_range m.bytes at (at + n)) ≡ sum_at m a k
+sum_to : (m : Image) → IsImage m → (a n at : ℕ) → index_of m a n ≡ Some at → (k : ℕ) → k ≤ n → little_from 0 k (slice_range m.bytes at (at + n)) ≡ sum_at m a k
 sum_to m h a n at e zero low = refl
 sum_to m h a n at e (suc k) low =
     let byte = ap (λ b. unwrap_or b 0 * 256 ^ k) (byte_within m h a n at k e (omega arith)) in
@@ -238,6 +241,93 @@ sum_to m h a n at e (suc k) low =
 pub law_numbers : NumbersAreSums
 law_numbers m h a n at e = sum_to m h a n at e n (omega arith)
 
--- The law of accessible runs: no local call is open, so the frames up to the depth are all that there are.
-pub law_accessible : AccessibleIsPresent
-law_accessible x h a n at e = rw h.outermost at e
+-- A run that is present lies in the context or in one frame.
+abbrev InContext : ℕ → ℕ → Type 0
+InContext a n = a + n ≤ context_base + context_limit
+
+abbrev InFrame : ℕ → ℕ → ℕ → Type 0
+InFrame i a n = (i < frame_count) × (frame_base i ≤ a) × (a + n ≤ frame_base i + frame_len)
+
+frame_of : (k m a n at : ℕ) → index_in (frames_from k m) a n ≡ Some at → (i : ℕ) × (i < k + m) × (frame_base i ≤ a) × (a + n ≤ frame_base i + frame_len)
+unfolding frames_from index_in
+frame_of k zero a n at e = cc
+frame_of k (suc m) a n at e = elim (index_split (record { base = frame_base k; len = frame_len }) (frames_from (suc k) m) a n) [
+  | inl here ↦ (k, omega arith, here.0, here.1)
+  | inr other ↦
+      let found = some_from_map _ _ _ (sym other.1 ∙ e) in
+      let later = frame_of (suc k) m a n found.0 found.1 in
+      (later.0, omega (arith, later.1), later.2, later.3)
+]
+
+place_of : (m : Image) → IsImage m → (a n at : ℕ) → index_of m a n ≡ Some at → InContext a n ⊎ ((i : ℕ) × InFrame i a n)
+place_of m h a n at e = elim (index_split (record { base = context_base; len = m.context_len }) (frames_from 0 frame_count) a n) [
+  | inl here ↦ let short = h.short in inl (omega (arith, here.1, short))
+  | inr other ↦
+      let found = some_from_map _ _ _ (sym other.1 ∙ e) in
+      let there = frame_of 0 frame_count a n found.0 found.1 in
+      inr (there.0, (omega (arith, there.1), there.2, there.3))
+]
+
+-- What a test of an address says of the frames.
+unhidden : (b : Bool) (found : Option ℕ) → IsSome (if b then None else found) → (b ≡ false) × IsSome found
+unhidden true found h = cc
+unhidden false found h = (refl, h)
+
+shown : (b : Bool) (found : Option ℕ) → b ≡ false → IsSome found → IsSome (if b then None else found)
+shown true found e h = cc
+shown false found e h = h
+
+outside_frames : (i a : ℕ) → is_from_frame i a ≡ false → (a < frame_base i) ⊎ (frame_base frame_count ≤ a)
+outside_frames i a e = grind (arith, nat_tests)
+
+below_frames : (i a : ℕ) → a < frame_base i → is_from_frame i a ≡ false
+below_frames i a h = grind (arith, nat_tests)
+
+past_frames : (i a : ℕ) → frame_base frame_count ≤ a → is_from_frame i a ≡ false
+past_frames i a h = grind (arith, nat_tests)
+
+-- No address of a run that is accessible at a depth lies in a frame above it.
+no_address : (d a n i j : ℕ) → InContext a n ⊎ ((k : ℕ) × InFrame k a n) → (a < frame_base (d + 1)) ⊎ (frame_base frame_count ≤ a) → d < i → i < frame_count → j < n → IsInFrame i (a + j) → ⊥
+no_address d a n i j (inl context) side above there low within = omega (arith, within.0)
+no_address d a n i j (inr place) (inl below) above there low within = omega (arith, place.1.1, place.1.2, within.0)
+no_address d a n i j (inr place) (inr past) above there low within = omega (arith, place.1.0, place.1.2)
+
+-- A run with no address in a frame above a depth begins below those frames or past them.
+begins_below : (d a n : ℕ) → 1 ≤ n → InContext a n ⊎ ((k : ℕ) × InFrame k a n) → ((i j : ℕ) → d < i → i < frame_count → j < n → IsInFrame i (a + j) → ⊥) → is_from_frame (d + 1) a ≡ false
+begins_below d a n some (inl context) h = below_frames (d + 1) a (omega arith)
+begins_below d a n some (inr place) h = elim (cases_lt a (frame_base (d + 1))) [
+  | inl below ↦ below_frames (d + 1) a below
+  | inr from ↦
+      absurd (h place.0 0 (omega (arith, place.1.2)) place.1.0 some (omega (arith, place.1.1), omega (arith, place.1.2)))
+]
+
+pub law_accessible : AccessibleIsBelow
+law_accessible x is a n some = (
+  (λ seen.
+      let parts = unhidden (is_from_frame (depth x + 1) a) (index_of x.memory a n) seen in
+      let found = is_some _ parts.1 in
+      let place = place_of x.memory is.image a n found.0 found.1 in
+      (parts.1, λ i j. no_address (depth x) a n i j place (outside_frames (depth x + 1) a parts.0))),
+  (λ given.
+      let found = is_some _ given.0 in
+      let place = place_of x.memory is.image a n found.0 found.1 in
+      shown (is_from_frame (depth x + 1) a) (index_of x.memory a n) (begins_below (depth x) a n some place given.1) given.0),
+)
+
+-- The law of opening.
+pub law_opened : OpenedByAddress
+law_opened program context short = (
+  (λ j low.
+      let bytes : List ℕ = context ++ replicate (frame_len * frame_count) 0 in
+      let place : context_base + j - context_base ≡ j = omega arith in
+      ap (option_map (λ at. slice_index bytes at)) (index_here (record { base = context_base; len = length context }) (frames_from 0 frame_count) (context_base + j) 1 (omega arith) (omega arith))
+      ∙ ap (λ at. Some (slice_index bytes at)) place
+      ∙ ap Some (get_or_append_left context (replicate (frame_len * frame_count) 0) 0 j low)),
+  (λ i j there low.
+      let bytes : List ℕ = context ++ replicate (frame_len * frame_count) 0 in
+      let region : Region = record { base = context_base; len = length context } in
+      let a : ℕ = frame_base i + j in
+      ap (option_map (λ at. slice_index bytes at)) (index_above region (frames_from 0 frame_count) a 1 (omega arith) ∙ ap (option_map (λ at. length context + at)) (frames_in 0 frame_count i j a 1 (omega arith) (omega arith) there))
+      ∙ ap Some (get_or-append-add context (replicate (frame_len * frame_count) 0) (512 * i + j) 0)
+      ∙ ap Some (get_or-replicate (frame_len * frame_count) (512 * i + j) 0 0 (omega arith))),
+)

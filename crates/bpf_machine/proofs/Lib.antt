@@ -1,4 +1,10 @@
-pub mod Places
+pub mod Indices
 pub mod ByAddress
 pub mod Facts
 pub mod Loans
+pub mod Codes
+pub mod EntryParts
+pub mod Undoing
+pub mod Restoring
+pub mod StepLaws
+pub mod Fields

@@ -1,12 +1,13 @@
 -- Memory read by address: the laws that say what its regions, runs, numbers and stores mean.
 use Rattle.std.specs.Prelude.{◌≡◌, ◌≤◌, ◌<◌, ◌↔◌, ◌⊎◌, ℕ, zero, suc, ◌+◌, ◌*◌, ◌^◌, List, [], ◌∷◌, length, slice_index, Option, Some, IsSome, option_map, unwrap_or}
-use Rattle.bpf_machine.specs.Platform.{frame_count}
-use Rattle.bpf_machine.specs.Regions.{Image, IsImage, Region, regions, place_of, number, with_bytes}
-use Rattle.bpf_machine.specs.State.{State, IsState, accessible}
+use Rattle.bpf_isa.specs.Programs.{Checked}
+use Rattle.bpf_machine.specs.Platform.{context_base, context_limit, frame_base, frame_len, frame_count}
+use Rattle.bpf_machine.specs.Regions.{Image, IsImage, Region, regions, index_of, number_at, with_bytes}
+use Rattle.bpf_machine.specs.State.{State, IsState, depth, accessible, initial}
 
 -- The byte at an address, None where there is none.
 abbrev pub byte_at : Image → ℕ → Option ℕ
-byte_at m a = option_map (λ at. slice_index m.bytes at) (place_of m a 1)
+byte_at m a = option_map (λ at. slice_index m.bytes at) (index_of m a 1)
 
 -- Each region begins past this address.
 abbrev pub AllPast : ℕ → List Region → Type 0
@@ -19,13 +20,13 @@ AreApart [] = Unit {0}
 AreApart (r ∷ rs) = AllPast (r.base + r.len) rs × AreApart rs
 
 abbrev pub RegionsAreApart : Type 0
-RegionsAreApart = (m : Image) → IsImage m → AreApart (regions m.context_len frame_count)
+RegionsAreApart = (m : Image) → IsImage m → AreApart (regions m)
 
 -- A run is present exactly when each of its addresses has a byte.
 abbrev pub RunsAreTheirAddresses : Type 0
 RunsAreTheirAddresses =
     (m : Image) → IsImage m → (a n : ℕ) → 1 ≤ n →
-    IsSome (place_of m a n) ↔ ((j : ℕ) → j < n → IsSome (byte_at m (a + j)))
+    IsSome (index_of m a n) ↔ ((j : ℕ) → j < n → IsSome (byte_at m (a + j)))
 
 -- The sum of the byte at a + j times 256^j, for j below n.
 abbrev pub sum_at : Image → ℕ → ℕ → ℕ
@@ -35,16 +36,29 @@ sum_at m a (suc n) = sum_at m a n + unwrap_or (byte_at m (a + n)) 0 * 256 ^ n
 -- A number in memory is that sum.
 abbrev pub NumbersAreSums : Type 0
 NumbersAreSums =
-    (m : Image) → IsImage m → (a n at : ℕ) → place_of m a n ≡ Some at → number m at n ≡ sum_at m a n
+    (m : Image) → IsImage m → (a n at : ℕ) → index_of m a n ≡ Some at → number_at m at n ≡ sum_at m a n
 
 -- After a store the new bytes stand in the run, and each other address has the byte that it had.
 abbrev pub StoresAreLocal : Type 0
 StoresAreLocal =
-    (m : Image) → IsImage m → (a at : ℕ) (new : List ℕ) → place_of m a (length new) ≡ Some at →
+    (m : Image) → IsImage m → (a at : ℕ) (new : List ℕ) → index_of m a (length new) ≡ Some at →
     ((j : ℕ) → j < length new → byte_at (with_bytes m at new) (a + j) ≡ Some (slice_index new j))
     × ((b : ℕ) → (b < a) ⊎ (a + length new ≤ b) → byte_at (with_bytes m at new) b ≡ byte_at m b)
 
--- An accessible run is present, at the same place.
-abbrev pub AccessibleIsPresent : Type 0
-AccessibleIsPresent =
-    (x : State) → IsState x → (a n at : ℕ) → accessible x a n ≡ Some at → place_of x.memory a n ≡ Some at
+-- An address in a frame.
+abbrev pub IsInFrame : ℕ → ℕ → Type 0
+IsInFrame i a = (frame_base i ≤ a) × (a < frame_base i + frame_len)
+
+-- A run is accessible exactly when it is present and none of its addresses lies in a frame above the depth.
+abbrev pub AccessibleIsBelow : Type 0
+AccessibleIsBelow =
+    (x : State) → IsState x → (a n : ℕ) → 1 ≤ n →
+    IsSome (accessible x a n)
+    ↔ (IsSome (index_of x.memory a n) × ((i j : ℕ) → depth x < i → i < frame_count → j < n → IsInFrame i (a + j) → ⊥))
+
+-- At opening the context's bytes stand from its base on, and the bytes of frames are zero.
+abbrev pub OpenedByAddress : Type 0
+OpenedByAddress =
+    (program : Checked) (context : List ℕ) → length context ≤ context_limit →
+    ((j : ℕ) → j < length context → byte_at (initial program context).memory (context_base + j) ≡ Some (slice_index context j))
+    × ((i j : ℕ) → i < frame_count → j < frame_len → byte_at (initial program context).memory (frame_base i + j) ≡ Some 0)

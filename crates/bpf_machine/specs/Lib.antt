@@ -11,4 +11,10 @@ pub mod State
 pub mod Opening
 pub mod Next
 pub mod Fetched
+pub mod Codes
 pub mod Entries
+pub mod Edits
+pub mod Moves
+pub mod Undoing
+pub mod StepLaws
+pub mod Fields

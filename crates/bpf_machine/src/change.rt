@@ -16,10 +16,10 @@ pub enum Change {
     Go {
         next: u16,
     },
-    /// The low bytes of a number are stored at an address, which is at this place of memory.
-    Put {
+    /// The low bytes of a number are stored at an address, whose bytes begin at this index of memory's bytes.
+    Store {
         address: u64,
-        place: usize,
+        index: usize,
         size: Size,
         value: u64,
         next: u16,

@@ -1,11 +1,15 @@
 //! The machine: its state, and the doing of a change.
-ghost use Rattle.std.specs.Prelude.{◌≡◌, length};
+ghost use Rattle.std.specs.Prelude.{◌≡◌, ◌<◌, ◌^◌, All, length, false};
+ghost use Rattle.bpf_machine.specs.Status.{has_ended};
 
+mod edit;
 mod open;
 mod reads;
+mod revert;
 mod step;
 
 use crate::change::Change;
+use crate::code::Code;
 use crate::frame::Frame;
 use crate::memory::Memory;
 use crate::status::Status;
@@ -17,8 +21,11 @@ use std::marker::Model;
 #[derive(Drop)]
 pub struct Cpu {
     program: Program,
+    /// The program's instructions in the machine's own form, slot by slot.
+    code: Vec<Code>,
     pc: u16,
-    registers: [u64; 10],
+    /// r0 to r9, and the frame pointer, which follows from the depth.
+    registers: [u64; 11],
     frames: ArrayVec<Frame, 7>,
     memory: Memory,
     status: Status,
@@ -26,21 +33,29 @@ pub struct Cpu {
 }
 
 impl Model for Cpu {
-    ghost use Rattle.std.specs.Prelude.{◌≡◌, ℕ, []};
+    ghost use Rattle.std.specs.Prelude.{◌≡◌, ℕ, [], take, length, slice_index};
     ghost use Rattle.bpf_isa.specs.Programs.{IsStart};
+    ghost use Rattle.bpf_machine.specs.Codes.{codes_of};
+    ghost use Rattle.bpf_machine.specs.Platform.{frame_pointer};
     ghost use Rattle.bpf_machine.specs.State.{State, IsSupportedAt};
 
     ghost Value = { State };
 
-    ghost view = { λ c. record { program = c.program; pc = c.pc; registers = c.registers; frames = c.frames.items; memory = c.memory; status = c.status; trace = c.trace.items } };
+    ghost view = { λ c. record { program = c.program; pc = c.pc; registers = take 10 c.registers; frames = c.frames.items; memory = c.memory; status = c.status; trace = c.trace.items } };
 
-    ghost invariant = { λ c. record { start : IsStart c.program c.pc; knows : (p : ℕ) → IsSupportedAt c.program p; outermost : c.frames.items ≡ [] } };
+    ghost invariant = { λ c. record {
+      start : IsStart c.program c.pc;
+      supports : (p : ℕ) → IsSupportedAt c.program p;
+      coded : c.code.items ≡ codes_of c.program;
+      pointer : slice_index c.registers 10 ≡ frame_pointer (length c.frames.items);
+      outermost : c.frames.items ≡ [];
+    } };
 }
 
 impl Cpu {
     ghost use Rattle.bpf_machine.specs.State.{IsState};
     ghost use Rattle.bpf_machine.specs.Fetched.{Fits};
-    ghost use Rattle.bpf_machine.specs.Next.{changed};
+    ghost use Rattle.bpf_machine.specs.Next.{changed, change as change_in, next};
 
     /// Brings what holds of every machine into a proof.
     pub fn invariant(&self)
@@ -48,8 +63,19 @@ impl Cpu {
     {
         self.program.invariant();
         self.memory.invariant();
-        are_ten(&self.registers);
-        let _trace = self.trace();
+        are_registers(&self.registers);
+        are_words(self.trace());
+        self.status.invariant();
+    }
+
+    /// Does what `look` answered of this state: the second half of a step.
+    pub fn finish(&mut self, change: &Change)
+        requires runs { has_ended self.old.status ≡ false }
+        requires looked { change.now ≡ change_in self.old }
+        ensures { self.new ≡ next self.old }
+    {
+        self.invariant();
+        self.apply(change);
     }
 
     /// Does a change.
@@ -68,14 +94,14 @@ impl Cpu {
                 self.pc = next;
             }
             Change::Go { next } => self.pc = next,
-            Change::Put {
+            Change::Store {
                 address: _,
-                place,
+                index,
                 size,
                 value,
                 next,
             } => {
-                self.memory.put(place, size, value);
+                self.memory.store(index, size, value);
                 self.pc = next;
             }
             Change::Stop { status } => self.status = status,
@@ -83,9 +109,16 @@ impl Cpu {
     }
 }
 
-/// Brings the number of the registers into a proof.
-fn are_ten(registers: &[u64; 10])
-    ensures { length registers.now ≡ 10 }
+/// Brings the number and the range of the registers into a proof.
+fn are_registers(registers: &[u64; 11])
+    ensures count { length registers.now ≡ 11 }
+    ensures range { All (λ number. number < 2 ^ 64) registers.now }
 {
-    let _slice: &[u64] = registers;
+    let registers: &[u64] = registers;
+    are_words(registers);
 }
+
+/// Brings the range of numbers into a proof.
+fn are_words(words: &[u64])
+    ensures { All (λ word. word < 2 ^ 64) words.now }
+{}

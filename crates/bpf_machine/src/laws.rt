@@ -1,5 +1,7 @@
 //! Laws of the definitions, each proved as the contract of a function that does nothing.
-ghost use Rattle.bpf_machine.specs.ByAddress.{RegionsAreApart, RunsAreTheirAddresses, NumbersAreSums, StoresAreLocal, AccessibleIsPresent};
+ghost use Rattle.bpf_machine.specs.ByAddress.{RegionsAreApart, RunsAreTheirAddresses, NumbersAreSums, StoresAreLocal, AccessibleIsBelow, OpenedByAddress};
+ghost use Rattle.bpf_machine.specs.Fields.{EntriesFit};
+ghost use Rattle.bpf_machine.specs.StepLaws.{StepsKeepRegisters, StepsKeepBytes, StepsKeepTheRest, EndsKeepAllElse};
 
 /// Memory read by address: what regions, runs, numbers and stores mean.
 #[tactic(none)]
@@ -8,5 +10,22 @@ pub fn memory_by_address()
     ensures runs { RunsAreTheirAddresses }
     ensures numbers { NumbersAreSums }
     ensures stores { StoresAreLocal }
-    ensures accessible { AccessibleIsPresent }
+    ensures accessible { AccessibleIsBelow }
+    ensures opened { OpenedByAddress }
+{}
+
+/// Steps are local: a step changes the register that its instruction names, the run that it stores to, pc and the status,
+/// and one that ends the machine the status alone.
+#[tactic(none)]
+pub fn steps_are_local()
+    ensures registers { StepsKeepRegisters }
+    ensures bytes { StepsKeepBytes }
+    ensures rest { StepsKeepTheRest }
+    ensures ends { EndsKeepAllElse }
+{}
+
+/// The parts of each entry fit their fields in a journal.
+#[tactic(none)]
+pub fn entries_fit()
+    ensures { EntriesFit }
 {}

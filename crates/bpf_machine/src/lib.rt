@@ -4,21 +4,29 @@
 mod alu;
 mod byte_string;
 mod change;
+mod code;
+mod compact;
 mod cpu;
+mod edit;
 mod entry;
 mod fault;
 mod frame;
 pub mod laws;
 mod memory;
+mod moves;
 mod platform;
 mod status;
 #[cfg(test)]
 mod tests;
 
 pub use byte_string::ByteString;
+pub use change::Change;
+pub use compact::CompactEntry;
 pub use cpu::Cpu;
+pub use edit::{Edit, EditFault};
 pub use entry::Entry;
 pub use fault::OpenFault;
 pub use frame::Frame;
 pub use memory::Memory;
+pub use moves::Move;
 pub use status::{Ended, Fault, Status};

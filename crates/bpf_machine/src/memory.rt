@@ -1,6 +1,6 @@
 //! Memory: the bytes of all regions, one region after another.
-ghost use Rattle.std.specs.Prelude.{◌≡◌, ◌+◌, ◌-◌, ◌*◌, ◌≤◌, ◌<◌, ◌⊎◌, length, IfSome, IfNone, IfOk, IfErr, IsTrue, IsSome, ◌↔◌, option_map, Some, None, if◌then◌else◌, ◌==◌, ◌++◌, replicate};
-ghost use Rattle.bpf_machine.specs.Regions.{place, frames_from};
+ghost use Rattle.std.specs.Prelude.{◌≡◌, All, ◌+◌, ◌-◌, ◌*◌, ◌≤◌, ◌<◌, ◌⊎◌, length, IfSome, IfNone, IfOk, IfErr, IsTrue, IsSome, ◌↔◌, option_map, Some, None, if◌then◌else◌, ◌==◌, ◌++◌, replicate};
+ghost use Rattle.bpf_machine.specs.Regions.{index_in, frames_from, is_from_frame};
 ghost use Rattle.bpf_machine.specs.Platform.{context_limit, frame_count, frame_len};
 
 use crate::alu::{low8, low16, low32};
@@ -32,10 +32,11 @@ impl Model for Memory {
 
 impl Memory {
     ghost use Rattle.std.specs.Borrow.{sem};
-    ghost use Rattle.bpf_machine.specs.Numbers.{size_len};
-    ghost use Rattle.bpf_machine.specs.Regions.{regions, place_of, run, run_at, number, with_number, IsImage};
+    ghost use Rattle.byteorder.specs.Endian.{little_bytes};
+    ghost use Rattle.bpf_isa.specs.Sizes.{size_len};
+    ghost use Rattle.bpf_machine.specs.Regions.{index_of, run, run_at, number_at, with_number, put, IsImage};
     ghost use Rattle.bpf_machine.specs.Opening.{MemoryOpened, MemoryRefused};
-    ghost use Rattle.bpf_machine.specs.Lending.{LendsRun, LendsRunOrNone, LendsBytes, put};
+    ghost use Rattle.bpf_machine.specs.Lending.{LendsRun, LendsRunOrNone, LendsBytes};
 
     /// Opens memory with the context's bytes and frames of zero bytes.
     pub fn open(alloc: Global, _maps: &MapTable, context: &[u8]) -> Result<Memory, OpenFault>
@@ -56,29 +57,31 @@ impl Memory {
 
     /// Brings what holds of every memory into a proof.
     pub(crate) fn invariant(&self)
-        ensures { IsImage self.now }
+        ensures image { IsImage self.now }
+        ensures bytes { All (λ byte. byte < 256) self.now.bytes }
     {
-        let _bytes = &self.bytes;
+        are_bytes(&self.bytes);
     }
 
-    /// Where the run of n bytes at this address begins, among the context and the first `frames` frames.
-    pub(crate) fn place(&self, address: u64, n: usize, frames: usize) -> Option<usize>
+    /// Where the run of n bytes at this address begins, None where some of them aren't present or lie in a frame from
+    /// `frames` on.
+    pub(crate) fn index(&self, address: u64, n: usize, frames: usize) -> Option<usize>
         requires only { 1 ≤ n }
         requires within { frames ≤ frame_count }
-        ensures value { result ≡ place (regions self.now.context_len frames) address n }
+        ensures value { result ≡ (if is_from_frame frames address then None else index_of self.now address n) }
         ensures fits { IfSome result (λ at. at + n ≤ length self.now.bytes) }
     {
         if address < FRAME_BASE {
-            place_in(CONTEXT_BASE, self.context_len, address, n)
+            region_index(CONTEXT_BASE, self.context_len, address, n)
         } else {
-            match frame_place(frames, address, n) {
+            match frame_index(frames, address, n) {
                 Some(at) => Some(self.context_len + at),
                 None => None,
             }
         }
     }
 
-    /// The n bytes from a place on.
+    /// The n bytes from an index on.
     pub(crate) fn run(&self, at: usize, n: usize) -> &[u8]
         requires { at + n ≤ length self.now.bytes }
         ensures value { result.now ≡ run self.now at n }
@@ -87,7 +90,7 @@ impl Memory {
         &self.bytes[at..at + n]
     }
 
-    /// The n bytes from a place on, lent for writing.
+    /// The n bytes from an index on, lent for writing.
     pub(crate) fn run_mut(&mut self, at: usize, n: usize) -> &mut [u8]
         requires { at + n ≤ length self.old.bytes }
         ensures* next { sem 𝓛 (LendsRun self.entry at result) }
@@ -102,7 +105,7 @@ impl Memory {
         ensures value { option_map (λ run. run.now) result ≡ run_at self.now address n }
         ensures fits { IfSome result (λ run. length run.now ≡ n) }
     {
-        match self.place(address, n, FRAME_COUNT) {
+        match self.index(address, n, FRAME_COUNT) {
             Some(at) => Some(self.run(at, n)),
             None => None,
         }
@@ -122,7 +125,7 @@ impl Memory {
     /// Writes bytes at this address, and answers whether all of them are present; else nothing changes.
     pub(crate) fn write(&mut self, address: u64, bytes: &[u8]) -> bool
         requires { 1 ≤ length bytes.now }
-        ensures found { IsTrue result ↔ IsSome (place_of self.old address (length bytes.now)) }
+        ensures found { IsTrue result ↔ IsSome (index_of self.old address (length bytes.now)) }
         ensures next { self.new ≡ put self.old address (length bytes.now) bytes.now }
     {
         match self.bytes_mut(address, bytes.len()) {
@@ -134,6 +137,25 @@ impl Memory {
         }
     }
 
+    /// Writes bytes at this address where all of them are present; else nothing changes.
+    pub(crate) fn put(&mut self, address: u64, bytes: &[u8])
+        requires { 1 ≤ length bytes.now }
+        ensures { self.new ≡ put self.old address (length bytes.now) bytes.now }
+    {
+        if let Some(at) = self.index(address, bytes.len(), FRAME_COUNT) {
+            copy(self.run_mut(at, bytes.len()), bytes);
+        }
+    }
+
+    /// Stores the low bytes of a number at this address where all of them are present; else nothing changes.
+    pub(crate) fn put_number(&mut self, address: u64, size: Size, value: u64)
+        ensures { self.new ≡ put self.old address (size_len size) (little_bytes (size_len size) value) }
+    {
+        if let Some(at) = self.index(address, size.len(), FRAME_COUNT) {
+            self.store(at, size, value);
+        }
+    }
+
     /// The n bytes at this address, or no bytes where some of them aren't present.
     fn run_or_none(&mut self, address: u64, n: usize) -> &mut [u8]
         requires { 1 ≤ n }
@@ -142,17 +164,17 @@ impl Memory {
             ≡ run_at self.old address n }
         ensures fits { 0 < length result.now → length result.now ≡ n }
     {
-        let (at, len) = match self.place(address, n, FRAME_COUNT) {
+        let (at, len) = match self.index(address, n, FRAME_COUNT) {
             Some(at) => (at, n),
             None => (0, 0),
         };
         self.run_mut(at, len)
     }
 
-    /// The number that 1, 2, 4 or 8 bytes from a place on are.
+    /// The number that 1, 2, 4 or 8 bytes from an index on are, the lowest byte first.
     pub(crate) fn number(&self, at: usize, size: Size) -> u64
         requires { at + size_len size ≤ length self.now.bytes }
-        ensures { result ≡ number self.now at (size_len size) }
+        ensures { result ≡ number_at self.now at (size_len size) }
     {
         match size {
             Size::Byte => u64::from(self.run(at, 1)[0]),
@@ -162,8 +184,8 @@ impl Memory {
         }
     }
 
-    /// Writes the low 1, 2, 4 or 8 bytes of a number from a place on.
-    pub(crate) fn put(&mut self, at: usize, size: Size, value: u64)
+    /// Stores the low 1, 2, 4 or 8 bytes of a number from an index on, the lowest byte first.
+    pub(crate) fn store(&mut self, at: usize, size: Size, value: u64)
         requires { at + size_len size ≤ length self.old.bytes }
         ensures { self.new ≡ with_number self.old at (size_len size) value }
     {
@@ -185,7 +207,7 @@ fn copy(run: &mut [u8], bytes: &[u8])
 }
 
 /// Where the run of n bytes at an address begins in a region.
-fn place_in(base: u64, len: usize, address: u64, n: usize) -> Option<usize>
+fn region_index(base: u64, len: usize, address: u64, n: usize) -> Option<usize>
     ensures found { IfSome result
         (λ at. (base ≤ address) × (address + n ≤ base + len) × (at ≡ address - base)) }
     ensures none { IfNone result ((address < base) ⊎ (base + len < address + n)) }
@@ -201,25 +223,31 @@ fn place_in(base: u64, len: usize, address: u64, n: usize) -> Option<usize>
     }
 }
 
-/// Where the run of n bytes at an address begins in the first `frames` frames.
-fn frame_place(frames: usize, address: u64, n: usize) -> Option<usize>
-    requires { 1 ≤ n }
-    ensures value { result ≡ place (frames_from 0 frames) address n }
-    ensures fits { IfSome result (λ at. at + n ≤ frame_len * frames) }
+/// Where the run of n bytes at an address from frame 0 on begins in the frames below frame `frames`.
+fn frame_index(frames: usize, address: u64, n: usize) -> Option<usize>
+    requires only { 1 ≤ n }
+    requires within { frames ≤ frame_count }
+    requires past { FRAME_BASE ≤ address }
+    ensures value { result ≡ (if is_from_frame frames address then None
+        else index_in (frames_from 0 frame_count) address n) }
+    ensures fits { IfSome result (λ at. at + n ≤ frame_len * frame_count) }
 {
-    if address < FRAME_BASE {
-        return None;
-    }
     let frame = (address - FRAME_BASE) / FRAME_STRIDE;
     if frame >= frames as u64 {
         return None;
     }
-    match place_in(0, FRAME_LEN, (address - FRAME_BASE) % FRAME_STRIDE, n) {
+    match region_index(0, FRAME_LEN, (address - FRAME_BASE) % FRAME_STRIDE, n) {
         Some(at) => Some(FRAME_LEN * frame as usize + at),
         None => None,
     }
 }
 
+/// Brings the range of bytes into a proof.
+fn are_bytes(bytes: &[u8])
+    ensures { All (λ byte. byte < 256) bytes.now }
+{}
+
+/// The bytes of memory at opening.
 fn filled(alloc: Global, context: &[u8]) -> Result<Vec<u8>, AllocError>
     requires { length context.now ≤ context_limit }
     ensures { IfOk result (λ bytes. bytes.items ≡ context.now ++ replicate 512 0) }

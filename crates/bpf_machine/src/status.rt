@@ -1,6 +1,6 @@
 //! Whether a machine runs, and how it ended.
 ghost use Rattle.std.specs.Prelude.{◌≡◌};
-ghost use Rattle.bpf_machine.specs.Status.{has_ended as has_ended_of};
+ghost use Rattle.bpf_machine.specs.Status.{has_ended as has_ended_of, FitsStatus};
 
 /// Whether a machine runs or how it ended.
 #[derive(Clone, Copy)]
@@ -25,6 +25,23 @@ pub enum Fault {
 }
 
 impl Status {
+    /// Brings the range of its number into a proof.
+    pub(crate) fn invariant(&self)
+        ensures { FitsStatus self.now }
+    {
+        if let Status::Faulted(fault) = self {
+            match fault {
+                Fault::Access { address } => {
+                    let _address = *address;
+                }
+                Fault::Token { token } => {
+                    let _token = *token;
+                }
+                Fault::Depth => {}
+            }
+        }
+    }
+
     /// Whether the machine has exited or faulted.
     pub fn has_ended(&self) -> bool
         ensures { result ≡ has_ended_of self.now }

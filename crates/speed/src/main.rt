@@ -1,9 +1,10 @@
-//! How many steps a second the machine takes. Without arguments it prints nothing; with a number of millions of steps
-//! it runs a counting loop and a loop over memory for that long, with the entry of each step and without.
+//! How fast the machine takes steps. Without arguments it prints nothing. With a number of millions of steps it runs each loop
+//! for that long in five rounds, plain and recorded by turns, and prints the best of each in nanoseconds a step and as a
+//! ratio to plain steps. What is timed is used: the last line is a sum over the entries and the states that came out.
 #![tactic(auto)]
 
-use bpf_isa::{MapTable, check};
-use bpf_machine::Cpu;
+use bpf_isa::{MapTable, Reg, check};
+use bpf_machine::{CompactEntry, Cpu, Ended};
 use std::alloc::Global;
 use std::time::Instant;
 use std::{env, io};
@@ -20,6 +21,9 @@ const MEMORY: [u8; 32] = [
     0, 0x05, 0, 0xfc, 0xff, 0, 0, 0, 0,
 ];
 
+/// How many entries are kept at a time.
+const KEPT: usize = 65_536;
+
 fn main(rt: HostRuntime) -> io::Result<()> {
     let mut millions = 0u64;
     for word in env::args(&rt)?.skip(1) {
@@ -28,60 +32,135 @@ fn main(rt: HostRuntime) -> io::Result<()> {
     if millions == 0 || millions > 1000 {
         return Ok(());
     }
+    let mut sum = 0;
     for (name, program) in [
         ("counting loop", COUNTING.as_slice()),
         ("memory loop", MEMORY.as_slice()),
     ] {
-        show(
-            &rt,
-            name,
-            "with entries",
-            measure(&rt, program, millions * 1_000_000, true)?,
-            millions,
-        )?;
-        show(
-            &rt,
-            name,
-            "without",
-            measure(&rt, program, millions * 1_000_000, false)?,
-            millions,
-        )?;
+        let mut plain = u128::MAX;
+        let mut recorded = u128::MAX;
+        let mut whole = u128::MAX;
+        for _ in 0..5 {
+            plain = plain.min(timed(&rt, program, millions, Way::Plain, &mut sum)?);
+            recorded = recorded.min(timed(&rt, program, millions, Way::Recorded, &mut sum)?);
+            whole = whole.min(timed(&rt, program, millions, Way::Whole, &mut sum)?);
+        }
+        show(&rt, name, "plain", plain, plain, millions)?;
+        show(&rt, name, "recorded", recorded, plain, millions)?;
+        show(&rt, name, "with the whole entry", whole, plain, millions)?;
     }
-    Ok(())
+    println!(rt; "sum {sum}")
 }
 
-/// Prints nanoseconds a step.
+/// Prints nanoseconds a step, and how often the plain step's time that is.
 fn show(
     rt: &HostRuntime,
     name: &str,
     way: &str,
     nanoseconds: u128,
+    plain: u128,
     millions: u64,
 ) -> io::Result<()> {
     let tenths = nanoseconds / 100_000 / u128::from(millions.max(1));
-    println!(rt; "{name}, {way}: {}.{} ns a step", tenths / 10, tenths % 10)
+    let ratio = nanoseconds / (plain / 100).max(1);
+    println!(rt;
+        "{name}, {way}: {}.{} ns a step, {}.{}{} times plain",
+        tenths / 10,
+        tenths % 10,
+        ratio / 100,
+        ratio / 10 % 10,
+        ratio % 10
+    )
 }
 
-/// How many nanoseconds so many steps take.
-fn measure(rt: &HostRuntime, program: &[u8], steps: u64, with_entries: bool) -> io::Result<u128> {
+/// How a step is taken.
+#[derive(Clone, Copy)]
+enum Way {
+    /// The step alone.
+    Plain,
+    /// Its compact entry is kept before it is done.
+    Recorded,
+    /// It answers its whole entry.
+    Whole,
+}
+
+/// How many nanoseconds so many millions of steps take. What came out goes into the sum.
+fn timed(
+    rt: &HostRuntime,
+    program: &[u8],
+    millions: u64,
+    way: Way,
+    sum: &mut u64,
+) -> io::Result<u128> {
     let Some(mut cpu) = opened(rt.alloc(), program) else {
         return Ok(0);
     };
+    let Ok(mut kept) = vec![in rt.alloc(); CompactEntry::End; KEPT] else {
+        return Ok(0);
+    };
+    let steps = millions.min(1000) * 1_000_000;
     let start = Instant::now(rt)?;
-    if with_entries {
-        for _ in 0..steps {
-            if cpu.step().is_err() {
-                break;
-            }
+    let weights = match way {
+        Way::Plain => run_plain(&mut cpu, steps),
+        Way::Recorded => run_recorded(&mut cpu, &mut kept, steps),
+        Way::Whole => run_whole(&mut cpu, steps),
+    };
+    let elapsed = start.elapsed(rt)?.as_nanos();
+    *sum = sum.wrapping_add(weights).wrapping_add(used(&cpu));
+    for entry in &kept {
+        *sum = sum.wrapping_add(entry.weight() as u64);
+    }
+    Ok(elapsed)
+}
+
+/// Steps alone.
+fn run_plain(cpu: &mut Cpu, steps: u64) -> u64 {
+    for step in 0..steps {
+        if cpu.advance().is_err() {
+            return step;
         }
-    } else {
-        for _ in 0..steps {
-            if cpu.advance().is_err() {
-                break;
+    }
+    steps
+}
+
+/// Steps whose compact entries are kept, the newest in place of the oldest.
+fn run_recorded(cpu: &mut Cpu, kept: &mut [CompactEntry], steps: u64) -> u64 {
+    for step in 0..steps {
+        match cpu.look() {
+            Err(Ended) => return step,
+            Ok(change) => {
+                let slot = (step % 65_536) as usize;
+                if slot < kept.len() {
+                    kept[slot] = cpu.compact(&change);
+                }
+                cpu.finish(&change);
             }
         }
     }
-    Ok(start.elapsed(rt)?.as_nanos())
+    steps
+}
+
+/// Steps that answer their whole entries, whose weights are added up.
+fn run_whole(cpu: &mut Cpu, steps: u64) -> u64 {
+    let mut weights = 0u64;
+    for _ in 0..steps {
+        match cpu.step() {
+            Err(Ended) => return weights,
+            Ok(entry) => weights = weights.wrapping_add(entry.weight() as u64),
+        }
+    }
+    weights
+}
+
+/// A number that depends on the registers and the pc.
+fn used(cpu: &Cpu) -> u64 {
+    let mut sum = u64::from(cpu.pc());
+    for number in 0..10u8 {
+        if let Some(register) = Reg::new(number) {
+            sum = sum.wrapping_add(cpu.reg(register));
+        }
+    }
+    sum
 }
 
 /// A machine on the program, if memory suffices.

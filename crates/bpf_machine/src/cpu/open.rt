@@ -5,9 +5,10 @@ ghost use Rattle.bpf_machine.specs.Platform.{context_limit};
 ghost use Rattle.bpf_machine.specs.Opening.{Opened, Refused, IsSupportedWhole, IsFirstUnsupported};
 
 use super::Cpu;
+use crate::code::codes_of;
 use crate::fault::OpenFault;
 use crate::memory::Memory;
-use crate::platform::{CONTEXT_BASE, CONTEXT_LIMIT};
+use crate::platform::{CONTEXT_BASE, CONTEXT_LIMIT, frame_pointer};
 use crate::status::Status;
 use arrayvec::ArrayVec;
 use bpf_isa::{Insn, Program};
@@ -41,10 +42,27 @@ impl Cpu {
             Err(fault) => return Err(fault),
         };
         let base = if context.is_empty() { 0 } else { CONTEXT_BASE };
+        let code = match codes_of(alloc, &program) {
+            Ok(code) => code,
+            Err(_) => return Err(OpenFault::OutOfMemory),
+        };
         Ok(Cpu {
             program,
+            code,
             pc: 0,
-            registers: [0, base, context.len() as u64, 0, 0, 0, 0, 0, 0, 0],
+            registers: [
+                0,
+                base,
+                context.len() as u64,
+                0,
+                0,
+                0,
+                0,
+                0,
+                0,
+                0,
+                frame_pointer(0),
+            ],
             frames: ArrayVec::new(),
             memory,
             status: Status::Running,

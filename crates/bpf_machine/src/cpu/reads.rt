@@ -3,7 +3,6 @@ ghost use Rattle.std.specs.Prelude.{◌≡◌, ◌≤◌, ◌↔◌, IsTrue, IsS
 
 use super::Cpu;
 use crate::frame::Frame;
-use crate::platform::frame_pointer;
 use crate::status::Status;
 use bpf_isa::{Program, Reg};
 
@@ -22,12 +21,7 @@ impl Cpu {
     pub fn reg(&self, register: Reg) -> u64
         ensures { result ≡ register_of self.now register }
     {
-        let number = usize::from(register.number());
-        if number < 10 {
-            self.registers[number]
-        } else {
-            frame_pointer(self.frames.len())
-        }
+        self.registers[usize::from(register.number())]
     }
 
     /// A pushed frame, 0 the innermost; None past the outermost.
@@ -88,7 +82,7 @@ impl Cpu {
         ensures { IsTrue result ↔ IsSome (accessible self.now address n) }
     {
         self.memory
-            .place(address, n, self.frames.len() + 1)
+            .index(address, n, self.frames.len() + 1)
             .is_some()
     }
 }

@@ -1,4 +1,4 @@
-use Rattle.bpf_machine.proofs.ByAddress.{law_apart, law_runs, law_numbers, law_stores, law_accessible}
+use Rattle.bpf_machine.proofs.ByAddress.{law_apart, law_runs, law_numbers, law_stores, law_accessible, law_opened}
 use Rattle.bpf_machine.proofs.laws.memory_by_address.Goals as goal
 
 pub returns : goal.returns
@@ -8,4 +8,5 @@ returns c = record {
   numbers = law_numbers;
   stores = law_stores;
   accessible = law_accessible;
+  opened = law_opened;
 }

@@ -36,7 +36,7 @@ use denote.Triple.Entry.{on_entry}
 use denote.Triple.Spec.{triple_of}
 use denote.Triple.Table.{framed}
 use denote.Triple.Walked.{Stays, walk_of, stay_dropped, Goes-dropped, Goes-spent_ref, ends_at}
-use Rattle.bpf_machine.specs.Regions.{Image, run_at, place_of, with_bytes}
+use Rattle.bpf_machine.specs.Regions.{Image, run_at, index_of, with_bytes}
 use Rattle.bpf_machine.proofs.Facts.{says_both}
 use Rattle.bpf_machine.proofs.Loans.{as_it_was, put_is, none_by, some_by, positive}
 use Rattle.bpf_machine.specs.contracts.memory.Memory.{the_row as R}
@@ -60,7 +60,7 @@ bytes_mut_spec 𝓤 𝓛 𝓜 𝓡 wired =
     let G = triple_of 𝓛 g.signature (g.spec 𝓛 𝓜.mem 𝓡.returns) in
     let y : W.Ghost = ((κs, qs, bounds, a, (mut_vals a.0, (uint_vals w64 address, (uint_vals w64 n, tt)))), tt) in
     let z : G.Ghost = ((κs, qs, bounds, a, (mut_vals a.0, (uint_vals w64 address, (uint_vals w64 n, tt)))), tt) in
-    let there = with_bytes m (unwrap_or (place_of m address n) 0) in
+    let there = with_bytes m (unwrap_or (index_of m address n) 0) in
     let Sl : RattleType = MutSlice (named 0) κ u8 in
     qed 𝓛 (raw (on_entry 𝓛 f.signature κs qs a y.0.4) ∷ raw (fact 𝓤 (1 ≤ n)) ∷ []) ∵ move ! (1 ∷ []) $ heard ! _ (λ some_bytes.
     use0 𝓛 (raw (fact 𝓤 (1 ≤ n))) (fact_i 𝓤 _ (emp 𝓤) some_bytes) $ move ! (1 ∷ 0 ∷ []) $ join ! $ use1 𝓛 (raw (G.pre z)) (id⊢ 𝓤 _) $
@@ -70,7 +70,7 @@ bytes_mut_spec 𝓤 𝓛 𝓜 𝓡 wired =
     calls_at ! (framed 𝓤 𝓛.H 𝓜 𝓣) G (met 𝓤 𝓛 𝓜 𝓡 (code.calls-bpf_machine::memory::Memory::run_or_none 𝓡.env wired)) z
     (and_then ! (get ! refl) (and_then ! (get ! refl) (and_then ! (get ! refl) (no_more !)))) (λ v.
     use1 𝓛 (later (some (λ (r : MutBor (List ℕ)). ((‵ (flft κ q) ⊛ ‵ ftrue) ⊛ ‵ (Sl.own_val r (v ∷ []))) ⊛
-    some (λ (ws : Unit {0} × (Unit {0} × (Unit {0} × Unit {0}))). ‵ (lasts g.ended κs a ws) ⊛ (‵ (follows R (Array u8 0) a.0.ghost_name r.ghost_name (with_bytes m (unwrap_or (place_of m address n) 0))) ⊛
+    some (λ (ws : Unit {0} × (Unit {0} × (Unit {0} × Unit {0}))). ‵ (lasts g.ended κs a ws) ⊛ (‵ (follows R (Array u8 0) a.0.ghost_name r.ghost_name (with_bytes m (unwrap_or (index_of m address n) 0))) ⊛
     raw (fact 𝓤 ((if length r.now == 0 then None else Some r.now) ≡ run_at m address n)) ⊛ raw (fact 𝓤 (0 < length r.now → length r.now ≡ n))))))) (id⊢ 𝓤 _) $
     await ! tt $ pick ! (λ r. split ! $ split ! $ split ! $ move ! (3 ∷ []) $ pick ! (λ ws. split ! $ drop ! $ split ! $ move ! (1 ∷ []) $ split ! $ heard ! _ (λ is_now. heard ! _ (λ as_long.
     -- [what memory follows; the token; nothing; the run]
@@ -88,7 +88,7 @@ bytes_mut_spec 𝓤 𝓛 𝓜 𝓡 wired =
     fsplit3 ! $ drop ! $ use1 𝓛 (‵ (finally u8 r.ghost_name r.now)) (via 𝓤 _ (𝓛.names.obs-res r.ghost_name _) (res-finally 𝓛 (named 0) κ u8 r.ghost_name r.now)) $
     use1 𝓛 (‵ (fres r.ghost_name ((Array u8 0).coded.code r.now))) (finally-res 𝓛 u8 r.ghost_name r.now) $
     move ! (2 ∷ 0 ∷ []) $ use2 𝓛 (‵ (fres a.0.ghost_name (R.coded.code (there r.now)))) (followed 𝓛 R (Array u8 0) there a.0.ghost_name r.ghost_name r.now) $
-    rewrite ! 0 (λ (w : Image). ‵ (fres a.0.ghost_name (R.coded.code w))) (as_it_was m (unwrap_or (place_of m address n) 0) r.now (eqb→eq (length r.now) 0 empty)) refl $
+    rewrite ! 0 (λ (w : Image). ‵ (fres a.0.ghost_name (R.coded.code w))) (as_it_was m (unwrap_or (index_of m address n) 0) r.now (eqb→eq (length r.now) 0 empty)) refl $
     keep ! (0 ∷ 2 ∷ []) $
     use0 𝓛 (‵ ((OP.the_row Sl).own_val None (live 0 (of_list []) ∷ []))) (none_of 𝓛 Sl) $ move ! (0 ∷ 2 ∷ 1 ∷ []) $
     suffices ! _ (ends_at 𝓛 f.ended stayed c y (live 0 (of_list [])) None (tt, (tt, (tt, tt))) (tt, (tt, (tt, tt)))) $

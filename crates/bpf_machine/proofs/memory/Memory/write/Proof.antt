@@ -46,7 +46,7 @@ use types.Part.{agg, whole, sub}
 use types.Run.{enter, of_opd, addr, stop, fld, hop, from, no_more, and_then, first, exec, returns, true_lit, false_lit}
 use types.Tokens.{lft_new, lft_end}
 use Rattle.bpf_machine.specs.Regions.{Image, run_at}
-use Rattle.bpf_machine.specs.Lending.{put}
+use Rattle.bpf_machine.specs.Regions.{put}
 use Rattle.bpf_machine.specs.contracts.memory.Memory.{the_row as R}
 use Rattle.bpf_machine.specs.contracts.memory.Memory.write as f
 use Rattle.bpf_machine.specs.contracts.memory.Memory.bytes_mut as g

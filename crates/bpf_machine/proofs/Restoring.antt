@@ -1,0 +1,43 @@
+-- An entry of a move can be put back: its slot starts an instruction of the program, and its register is not r10.
+use Rattle.std.proofs.Common.{◌≡◌, refl, sym, subst, ap, ◌∙◌}
+use Rattle.bpf_machine.specs.declared.change.Change.{Change}
+use Rattle.bpf_machine.specs.declared.change.Change.TheVariants.{Set, Go, Store, Stop}
+use Rattle.bpf_machine.specs.declared.edit.Edit.{Edit}
+use Rattle.bpf_machine.specs.declared.edit.Edit.TheVariants as edit
+use Rattle.bpf_machine.specs.declared.moves.Move.{Move}
+use Rattle.bpf_machine.specs.declared.moves.Move.TheVariants as move
+use Rattle.bpf_machine.specs.declared.entry.Entry.{Entry}
+use Rattle.bpf_machine.specs.State.{State, IsState}
+use Rattle.bpf_machine.specs.Fetched.{Fits}
+use Rattle.bpf_machine.specs.Next.{change, changed}
+use Rattle.bpf_machine.specs.Entries.{entry_of}
+use Rattle.bpf_machine.specs.Edits.{IsEditable, edited, edit_entry}
+use Rattle.bpf_machine.specs.Moves.{Leads, HasCome, IsMovable, moved, overwritten}
+use Rattle.bpf_machine.specs.Undoing.{undone, Restores}
+use Rattle.bpf_machine.proofs.Codes.{change_fits}
+use Rattle.bpf_machine.proofs.Undoing.{undoing}
+
+restores_change : (x : State) (c : Change) → IsState x → Fits x c → Restores (changed x c) (entry_of x c)
+unfolding changed entry_of
+restores_change x (Set r value after) is fits = (fits.0, is.start)
+restores_change x (Go after) is fits = is.start
+restores_change x (Store a at size value after) is fits = is.start
+restores_change x (Stop status) is fits = tt
+
+restores_edit : (x : State) (e : Edit) → IsState x → IsEditable x e → Restores (edited x e) (edit_entry x e)
+unfolding edited edit_entry
+restores_edit x (edit.Register r value) is able = able
+restores_edit x (edit.Bytes a bytes) is able = tt
+restores_edit x (edit.Pc slot) is able = is.start
+
+restores_move : (x : State) (m : Move) → IsState x → IsMovable x m → Restores (moved x m) (overwritten x m)
+restores_move x move.Step is able = restores_change x (change x) is (change_fits x is)
+restores_move x (move.Edit e) is able = restores_edit x e is able
+
+pub restores : (y : State) (entry : Entry) → HasCome y entry → Restores y entry
+restores y entry h =
+    subst (Restores y) h.held (subst (λ s. Restores s (overwritten h.x h.m)) (sym h.leads.after) (restores_move h.x h.m h.leads.before h.leads.movable))
+
+-- What is put back is the state before the move.
+pub is_before : (y z : State) (entry : Entry) → z ≡ undone entry y → (x : State) (m : Move) → Leads x m y → overwritten x m ≡ entry → z ≡ x
+is_before y z entry e x m leads held = e ∙ ap (λ en. undone en y) (sym held) ∙ undoing x m y leads

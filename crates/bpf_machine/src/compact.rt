@@ -1,0 +1,99 @@
+//! Compact entries: what a step replaced, where its old bytes are a number of at most 8 bytes.
+ghost use Rattle.std.specs.Prelude.{◌≡◌};
+ghost use Rattle.byteorder.specs.Endian.{little_bytes};
+ghost use Rattle.bpf_isa.specs.Sizes.{size_len};
+
+use crate::byte_string::ByteString;
+use crate::entry::Entry;
+use bpf_isa::{Reg, Size};
+use byteorder::{ByteOrder, LittleEndian};
+
+/// An entry that is copied for nothing: 32 bytes at most. It means the `Entry` of the same name, and is what a step makes while
+/// nothing looks at it. `old` of a store is the number that stood there, the lowest byte first.
+#[derive(Clone, Copy)]
+pub enum CompactEntry {
+    /// A step that replaces one register.
+    Register {
+        register: Reg,
+        pc: u16,
+        value: u64,
+    },
+    /// A jump, taken or not.
+    Jump {
+        pc: u16,
+    },
+    /// A store at an address.
+    Store {
+        size: Size,
+        pc: u16,
+        address: u64,
+        old: u64,
+    },
+    /// A step that ends the machine.
+    End,
+}
+
+impl CompactEntry {
+    ghost use Rattle.bpf_machine.specs.Entries.{expanded as expanded_of, weight as weight_of};
+
+    /// The entry that it means.
+    #[tactic(auto, unfolding(crate::specs::Entries::expanded))]
+    pub fn expanded(&self) -> Entry
+        ensures { result ≡ expanded_of self.now }
+    {
+        match *self {
+            CompactEntry::Register {
+                register,
+                pc,
+                value,
+            } => Entry::Register {
+                pc,
+                register,
+                value,
+            },
+            CompactEntry::Jump { pc } => Entry::Jump { pc },
+            CompactEntry::Store {
+                size,
+                pc,
+                address,
+                old,
+            } => Entry::Store {
+                pc,
+                address,
+                old: low_bytes(size, old),
+            },
+            CompactEntry::End => Entry::End,
+        }
+    }
+
+    /// How many bytes it has in a journal: 5 to 24.
+    #[tactic(auto, unfolding(crate::specs::Entries::expanded))]
+    pub fn weight(&self) -> usize
+        ensures { result ≡ weight_of (expanded_of self.now) }
+    {
+        match *self {
+            CompactEntry::Register {
+                register: _,
+                pc: _,
+                value: _,
+            } => 16,
+            CompactEntry::Jump { pc: _ } => 7,
+            CompactEntry::Store {
+                size,
+                pc: _,
+                address: _,
+                old: _,
+            } => 16 + size.len(),
+            CompactEntry::End => 5,
+        }
+    }
+}
+
+/// The low bytes of a number, the lowest first.
+fn low_bytes(size: Size, number: u64) -> ByteString
+    ensures { result ≡ little_bytes (size_len size) number }
+{
+    let mut bytes = [0; 8];
+    LittleEndian::write_u64(&mut bytes, number);
+    ByteString::of(&bytes[..size.len()])
+}

@@ -1,0 +1,26 @@
+//! Edits: what a user changes in a machine by hand.
+
+use crate::byte_string::ByteString;
+use bpf_isa::Reg;
+
+/// A change by hand. It is made in every status, and counts as a move.
+#[derive(Drop)]
+pub enum Edit {
+    /// A register gets a value.
+    Register { register: Reg, value: u64 },
+    /// The run at an address gets other bytes.
+    Bytes { address: u64, bytes: ByteString },
+    /// Another instruction is the next to run, and the machine runs.
+    Pc { slot: u64 },
+}
+
+/// Why an edit is refused. A refused edit changes nothing.
+#[derive(Clone, Copy)]
+pub enum EditFault {
+    /// Some byte of the run isn't present, or it lies in two regions.
+    AddressNotPresent,
+    /// r10 is read-only.
+    RegisterNotWritable,
+    /// No instruction of the program starts at the slot.
+    NoStart,
+}
