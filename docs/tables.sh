@@ -1,0 +1,138 @@
+#!/bin/sh
+# The tables of crates and files in README.md and docs/ARCHITECTURE.md, made from crates.txt and from the first sentence
+# of each file. 'docs/tables.sh' writes them anew; 'docs/tables.sh --check' fails where a page and the files differ.
+#
+# A table stands between the lines '<!-- docs/tables.sh: NAME -->' and '<!-- docs/tables.sh: end -->' of a page. A file of
+# specs/ whose first sentence begins with the word Scaffolding stands in a table of its own.
+set -u
+cd "$(dirname "$0")/.." || exit 1
+LC_ALL=C
+export LC_ALL
+work=$(mktemp -d) || exit 1
+trap 'rm -rf "$work"' EXIT
+: > "$work/faults"
+
+# fault TEXT: says what is wrong with a file; the run fails at its end.
+fault() {
+    echo "docs/tables.sh: $1" | tee -a "$work/faults" >&2
+}
+
+# crates: the names of the crates, in the order of crates.txt.
+crates() {
+    sed 's/#.*//; s/:.*//' crates.txt | awk 'NF { print $1 }'
+}
+
+# uses CRATE: the libraries that it uses, as crates.txt lists them.
+uses() {
+    sed 's/#.*//' crates.txt | awk -v crate="$1" -F: '$1 ~ "^[ \t]*" crate "([ \t]|$)" {
+        n = split($2, names, " ")
+        for (i = 1; i <= n; i++) printf "%s`%s`", (i > 1 ? ", " : ""), names[i]
+    }'
+}
+
+# sentence FILE: the first sentence of the comment at the file's head, without its full stop.
+sentence() {
+    awk '
+        !/^(\/\/!?|--)( |$)/ { exit }
+        { sub(/^(\/\/!?|--) ?/, ""); text = text (text == "" ? "" : " ") $0 }
+        match(text " ", /\. /) { print substr(text, 1, RSTART - 1); found = 1; exit }
+        END { if (!found) exit 1 }
+    ' "$1" | sed 's/|/\\|/g'
+}
+
+# names FOLDER ENDING: the files below a folder that are rows of a table, without folder and ending, in order.
+names() {
+    [ -d "$1" ] || return 0
+    (cd "$1" && find . -name "*$2" -type f) | sed "s|^\./||; s|\\$2\$||" | grep -v -x -e lib -e Lib | sort
+}
+
+# rows FOLDER ENDING: 'NAME<tab>SENTENCE' for each of these files. (Deeper files of proofs/ belong to a function each.)
+rows() {
+    names "$1" "$2" | case $1 in */proofs) grep -v / ;; *) cat ;; esac | while read -r name; do
+        text=$(sentence "$1/$name$2")
+        [ -n "$text" ] || fault "$1/$name$2: the comment at its head begins with no sentence"
+        printf '%s\t%s\n' "$name" "$text"
+    done
+}
+
+# table TITLE: a table of the rows that come in, if there are any.
+table() {
+    awk -F '\t' -v title="$1" '
+        NR == 1 { printf "| %s | |\n|---|---|\n", title }
+        { printf "| `%s` | %s |\n", $1, $2 }
+        END { if (NR) print "" }
+    '
+}
+
+# list_crates: the table of crates, each with the first sentence of its root file and the libraries that it uses.
+list_crates() {
+    printf '| Crate | What it is | Uses |\n|---|---|---|\n'
+    for crate in $(crates); do
+        root=crates/$crate/src/lib.rt
+        [ -f "$root" ] || root=crates/$crate/src/main.rt
+        [ -f "$root" ] || fault "crates.txt lists $crate, but there is no $root"
+        printf '| `%s` | %s | %s |\n' "$crate" "$(sentence "$root" 2> /dev/null)" "$(uses "$crate")"
+    done
+}
+
+# list_files: for each crate the tables of its code, definitions, scaffolding and lemmas.
+list_files() {
+    for crate in $(crates); do
+        printf '### %s\n\n' "$crate"
+        rows "crates/$crate/src" .rt | table Code
+        rows "crates/$crate/specs" .antt > "$work/specs"
+        awk -F '\t' '$2 !~ /^Scaffolding/' "$work/specs" | table Definitions
+        awk -F '\t' -v OFS='\t' '$2 ~ /^Scaffolding/ {
+            if (sub(/^Scaffolding *[:,.] */, "", $2)) $2 = toupper(substr($2, 1, 1)) substr($2, 2)
+            print $1, $2
+        }' "$work/specs" | table Scaffolding
+        rows "crates/$crate/proofs" .antt | table Lemmas
+    done
+}
+
+# stands_apart: no definition outside the scaffolding, and no other crate, may name a file of the scaffolding.
+stands_apart() {
+    for crate in $(crates); do
+        rows "crates/$crate/specs" .antt | awk -F '\t' '$2 ~ /^Scaffolding/ { print $1 }' > "$work/scaffolding"
+        while read -r name; do
+            path=Rattle.$crate.specs.$(echo "$name" | tr / .)
+            find crates -path '*/out' -prune -o -type f \( -name '*.rt' -o -name '*.antt' \) -print |
+                grep -e '/specs/' -e '/src/' | grep -v -e "^crates/$crate/src/" -e '/specs/Lib.antt$' |
+                xargs grep -l -F -e "$path." -e "$path;" /dev/null | while read -r file; do
+                case $file in
+                "crates/$crate/specs/"*) sentence "$file" | grep -q '^Scaffolding' && continue ;;
+                esac
+                fault "$file names $path, which is scaffolding"
+            done
+        done < "$work/scaffolding"
+    done
+}
+
+# page FILE: the page with its tables as they are to be.
+page() {
+    awk -v work="$work" '
+        /^<!-- docs\/tables\.sh: end -->$/ { inside = 0 }
+        !inside { print }
+        /^<!-- docs\/tables\.sh: (crates|files) -->$/ {
+            inside = 1
+            while ((getline line < (work "/" $3)) > 0) print line
+            close(work "/" $3)
+        }
+        END { if (inside) exit 1 }
+    ' "$1" || fault "$1: a table has no end"
+}
+
+list_crates > "$work/crates"
+{ echo; list_files; } > "$work/files"
+stands_apart
+for file in README.md docs/ARCHITECTURE.md; do
+    page "$file" > "$work/page"
+    if [ "${1:-}" = --check ]; then
+        diff "$file" "$work/page" > "$work/diff" && continue
+        fault "$file differs from the files ('docs/tables.sh' writes its tables anew):"
+        cat "$work/diff" >&2
+    else
+        cmp -s "$file" "$work/page" || cp "$work/page" "$file"
+    fi
+done
+[ ! -s "$work/faults" ]
