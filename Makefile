@@ -1,14 +1,19 @@
-# bpfdb: run, test and fmt. The toolchain's command is rt; nothing else is needed.
-.PHONY: run test fmt
+# bpfdb: run, test, pages and fmt. The toolchain's command is rt; beside it only a POSIX shell is needed.
+.PHONY: run test pages fmt
 
-# Builds and proves the debugger, and prints the session of its first program.
+# Proves and builds the debugger, where that is not done yet, and shows the session of crates/bpfdb/stdin.
 run:
-	@cd crates/bpfdb && rt run < stdin
+	@sh tests/session.sh
 
-# The whole gate: every proof from nothing, must-fail edits and tests; then the built program from outside.
+# The whole gate: the pages, rt ci (every proof from nothing, the must-fail edits, the crates' tests), and the built
+# program from outside.
 test:
-	rt ci
-	sh tests/program.sh
+	@sh tests/gate.sh
+
+# Makes the tables of the pages anew, and holds the pages against the repository.
+pages:
+	@sh docs/tables.sh
+	@sh tests/pages.sh
 
 # Lays every crate out.
 fmt:

@@ -1,111 +1,184 @@
 #!/bin/sh
-# Tests of the built program from outside: its output, its exit statuses and its standard error, with input and output
-# that fail, and with memory refused. Each expected text is written out here or stands in crates/bpfdb/stdout.
+# Tests of the built program from outside: its output, its standard error and its exit status, with input and output that
+# fail, and with each request for memory refused in turn. A test that passes prints nothing; one that fails names itself
+# and shows what differs. Expected texts are written out here, by the table of
+# commands in README.md, or stand in crates/bpfdb/stdout.
 set -u
+sh "$(dirname "$0")/build.sh" || exit 1
 cd "$(dirname "$0")/../crates/bpfdb" || exit 1
 work=$(mktemp -d) || exit 1
 trap 'rm -rf "$work"' EXIT
-passed=0
-failed=0
+program=$PWD/out/bpfdb
+count=0
+failures=0
 
-# check NAME STATUS: compares what the program printed, its standard error and its status with what was wanted.
-check() {
-    if [ "$2" = "$(cat "$work/status")" ] && cmp -s "$work/wanted" "$work/out" && cmp -s "$work/complaint" "$work/err"; then
-        passed=$((passed + 1))
-    else
-        failed=$((failed + 1))
-        echo "FAILED: $1 (status $(cat "$work/status"), wanted $2)"
-        diff "$work/wanted" "$work/out"
-        diff "$work/complaint" "$work/err"
-    fi
+# complain NAME: counts a test that failed and says so.
+complain() {
+    failures=$((failures + 1))
+    echo "FAILED: $1"
 }
 
-# run INPUT: runs the program on a file.
+# run ARGUMENT..: runs the program on the script that stands in the work folder.
 run() {
-    "$program" < "$1" > "$work/out" 2> "$work/err"
+    "$program" "$@" < "$work/script" > "$work/out" 2> "$work/err"
     echo $? > "$work/status"
 }
 
-rt run < stdin > "$work/built" 2> "$work/log" || { cat "$work/log"; exit 1; }
-program=$PWD/out/bpfdb
+# check NAME STATUS OUTPUT ERRORS: holds the last run against what was wanted; the texts are as printf's %b reads them.
+check() {
+    count=$((count + 1))
+    printf '%b' "$3" > "$work/wanted-out"
+    printf '%b' "$4" > "$work/wanted-err"
+    echo "$2" > "$work/wanted-status"
+    for part in status out err; do
+        diff "$work/wanted-$part" "$work/$part" > "$work/diff-$part" || :
+    done
+    [ -s "$work/diff-status" ] || [ -s "$work/diff-out" ] || [ -s "$work/diff-err" ] || return 0
+    complain "$1"
+    for part in status out err; do
+        [ -s "$work/diff-$part" ] && { echo "  $part ('<' wanted, '>' found):"; cat "$work/diff-$part"; }
+    done
+    return 1
+}
 
-cp stdout "$work/wanted"
-: > "$work/complaint"
-run stdin
-check "the first session" 0
+# row NAME STATUS SCRIPT OUTPUT ERRORS [ARGUMENT..]: runs the program with the arguments on the script, and checks it.
+row() {
+    printf '%b' "$3" > "$work/script"
+    name=$1 status=$2 output=$4 errors=$5
+    shift 5
+    run "$@"
+    check "$name" "$status" "$output" "$errors"
+}
 
-: > "$work/wanted"
-run /dev/null
-check "an empty script" 0
+exit_at_1='1 forward; done; at 1: exit\n'
+mov_at_0='1 back; start; at 0: mov r0, 42\n'
+q1='refused Q1: unknown command\n'
+q2='refused Q2: wrong argument\n'
+q12='refused Q12: line too long\n'
+session=$(sed 's/$/\\n/' stdout | tr -d '\n')
 
-printf 'quit' > "$work/script"
-run "$work/script"
-check "quit without a line feed" 0
-
-printf 'stepi\r\n\n \t\nquit now\nreverse-stepi 0x2' > "$work/script"
-printf '1 forward; done; at 1: exit\nrefused Q2: wrong argument\n1 back; start; at 0: mov r0, 42\n' > "$work/wanted"
-run "$work/script"
-check "blanks, empty lines and a last line without a line feed" 0
-
-printf '\377\nstepi\0\nset\n' > "$work/script"
-printf 'refused Q1: unknown command\nrefused Q1: unknown command\nrefused Q1: unknown command\n' > "$work/wanted"
-run "$work/script"
-check "bytes that are no text" 0
+# The table.
+row 'the first session' 0 "$(sed 's/$/\\n/' stdin | tr -d '\n')" "$session" ''
+row 'an empty script' 0 '' '' ''
+row 'quit without a line feed' 0 'quit' '' ''
+row 'nothing behind quit is obeyed' 0 'stepi\nquit\nstepi\n' "$exit_at_1" ''
+row 'blanks, empty lines and a last line without a line feed' 0 \
+    'stepi\r\n\n \t\nquit now\nreverse-stepi 0x2' "$exit_at_1$q2$mov_at_0" ''
+row 'bytes that are no text' 0 '\0377\nstepi\0000\nset\n' "$q1$q1$q1" ''
+row 'arguments are not looked at' 0 'stepi\n' "$exit_at_1" '' stepi --help
 
 head -c 100000 /dev/zero > "$work/script"
-printf 'refused Q12: line too long\n' > "$work/wanted"
-run "$work/script"
-check "a line of 100,000 zero bytes" 0
+run
+check 'a line of 100,000 zero bytes' 0 "$q12" ''
 
-printf 'stepi\n' | "$program" stepi --help > "$work/out" 2> "$work/err"
+# Many commands: there and back 5,000 times.
+awk 'BEGIN { for (i = 0; i < 5000; i++) print "stepi\nreverse-stepi" }' > "$work/script"
+run
+check 'ten thousand commands' 0 "$(awk 'BEGIN { for (i = 0; i < 5000; i++)
+    printf "1 forward; done; at 1: exit\\n1 back; done; at 0: mov r0, 42\\n" }')" ''
+
+# Input and output that fail.
+failed='debug failed\n'
+cp stdin "$work/script"
+
+"$program" < . > "$work/out" 2> "$work/err"
 echo $? > "$work/status"
-printf '1 forward; done; at 1: exit\n' > "$work/wanted"
-check "arguments are not looked at" 0
+check "input that can't be read" 2 '' "$failed"
 
-echo 'debug failed' > "$work/complaint"
-: > "$work/wanted"
-run .
-check "input that can't be read" 2
+"$program" <&- > "$work/out" 2> "$work/err"
+echo $? > "$work/status"
+check 'closed input' 2 '' "$failed"
 
-if [ -w /dev/full ]; then
-    "$program" < stdin > /dev/full 2> "$work/err"
-    echo $? > "$work/status"
-    : > "$work/out"
-    check "output that can't be written" 2
-fi
+: > "$work/out"
+[ -c /dev/full ] && "$program" < "$work/script" > /dev/full 2> "$work/err"
+echo $? > "$work/status"
+check 'a full device' 2 '' "$failed"
 
-# Memory: each request for it is refused in turn, until a run meets no refusal. A run ends with the fault, or refuses the
-# first step, which is then taken back.
-printf 'refused Q15: out of memory\n' > "$work/q15"
-printf 'r0=0x0 r1=0x0 r2=0x0 r3=0x0 r4=0x0 r5=0x0 r6=0x0 r7=0x0 r8=0x0 r9=0x0 r10=0x200000200\n' >> "$work/q15"
-printf 'at 0: mov r0, 42\nrefused Q4: no kept step\n' >> "$work/q15"
-printf '2 forward; end; exited at 1: r0 0x2a\nrefused Q3: the machine has ended\n' >> "$work/q15"
+"$program" < "$work/script" >&- 2> "$work/err"
+echo $? > "$work/status"
+check 'closed output' 2 '' "$failed"
+
 : > "$work/err"
-: > "$work/complaint"
+"$program" < "$work/script" >&- 2>&-
+echo $? > "$work/status"
+check 'closed output and closed standard error' 2 '' ''
+
+# feed SCRIPT: the script, and one more step once the reader of the replies has left, for which it waits 10 seconds at most.
+feed() {
+    printf '%b' "$1"
+    waited=0
+    until [ -e "$work/left" ] || [ "$waited" -ge 10 ]; do
+        sleep 1
+        waited=$((waited + 1))
+    done
+    echo stepi
+}
+
+# obey: runs the program between two pipes.
+obey() {
+    "$program" 2> "$work/err"
+    echo $? > "$work/status"
+}
+
+feed '' | obey | {
+    exec <&-
+    : > "$work/left"
+}
+check 'a reader that leaves at once' 2 '' "$failed"
+
+# (the first reply comes while the program waits for the next line, so it was flushed)
+rm "$work/left"
+feed 'stepi\n' | obey | {
+    read -r reply
+    echo "$reply" > "$work/out"
+    exec <&-
+    : > "$work/left"
+}
+check 'a reader that leaves after the first reply' 2 "$exit_at_1" "$failed"
+
+# Memory: each request for it is refused in turn, alone and with all later ones, until a run meets no refusal. A run ends
+# with the fault, or the first step is refused: alone, it can be taken by a later command.
+kit=$(dirname "$(rt doc)")
+"$kit/toolchain/bin/clang" -fuse-ld=lld -shared -fPIC -O1 -nostdlib -o "$work/refuse.so" ../../tests/refuse.c ||
+    complain "tests/refuse.c can't be compiled by the clang of the kit, $kit"
+q15='refused Q15: out of memory\n'
+start='r0=0x0 r1=0x0 r2=0x0 r3=0x0 r4=0x0 r5=0x0 r6=0x0 r7=0x0 r8=0x0 r9=0x0 r10=0x200000200\nat 0: mov r0, 42\n'
+q4='refused Q4: no kept step\n'
+end='2 forward; end; exited at 1: r0 0x2a\nrefused Q3: the machine has ended\n'
+
+# refuse NUMBER [ALL]: runs the program with that request refused, and with ALL each later one.
+refuse() (
+    REFUSED=$1
+    export REFUSED
+    [ -z "${2:-}" ] || export REFUSED_ALL="$2"
+    LD_PRELOAD=$work/refuse.so
+    export LD_PRELOAD
+    run
+)
+
 faults=0
 refusals=0
-n=1
-while [ "$n" -le 40 ]; do
-    rt try --fail-alloc "$n" < stdin > "$work/out" 2> "$work/log"
-    echo $? > "$work/status"
+number=1
+while [ "$number" -le 40 ]; do
+    refuse "$number"
     if cmp -s "$work/out" stdout; then
         break
     elif [ -s "$work/out" ]; then
         refusals=$((refusals + 1))
-        cp "$work/q15" "$work/wanted"
-        check "request $n for memory refused: the first step" 0
+        check "request $number for memory refused: the first step" 0 "$q15$start$q4$end" ''
+        refuse "$number" all
+        check "requests from $number on refused: each step" 0 "$q15$start$q4$q15$q15" ''
     else
         faults=$((faults + 1))
-        : > "$work/wanted"
-        grep -q '^debug failed$' "$work/log" || echo missing > "$work/wanted"
-        check "request $n for memory refused: nothing is debugged" 2
+        check "request $number for memory refused: nothing is debugged" 2 '' "$failed"
+        refuse "$number" all
+        check "requests from $number on refused: nothing is debugged" 2 '' "$failed"
     fi
-    n=$((n + 1))
+    number=$((number + 1))
 done
-echo "$faults $refusals" > "$work/out"
-echo 0 > "$work/status"
-[ "$n" -le 40 ] && [ "$refusals" -eq 1 ] && [ "$faults" -gt 0 ] && cp "$work/out" "$work/wanted"
-check "requests for memory were refused, the keeper's among them" 0
+check 'the first run in which no request is refused' 0 "$session" ''
+[ "$faults" -gt 0 ] && [ "$refusals" -eq 1 ] ||
+    complain "requests for memory were refused: $faults that the program needs to begin, $refusals of the first step"
 
-echo "program: $passed passed, $failed failed"
-[ "$failed" -eq 0 ]
+echo "tests of the program: $count, of which $failures failed"
+[ "$failures" -eq 0 ]

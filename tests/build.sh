@@ -1,0 +1,16 @@
+#!/bin/sh
+# Proves and builds crates/bpfdb/out/bpfdb, unless it stands there and is newer than each source, as after rt ci.
+set -u
+cd "$(dirname "$0")/.." || exit 1
+mkdir -p out || exit 1
+program=crates/bpfdb/out/bpfdb
+log=$PWD/out/build.log
+if [ -x "$program" ]; then
+    newer=$(find crates.txt crates -name out -prune -o -name must-fail -prune -o -type f -newer "$program" -print)
+    [ -n "$newer" ] || exit 0
+fi
+echo "Proving crates/bpfdb and the crates below it, and building it: some 3 minutes on four cores the first time, without a word (out/build.log has the prover's)."
+(cd crates/bpfdb && rt run < stdin) > "$log" 2>&1 && exit 0
+tail -n 20 "$log"
+echo "FAILED: out/build.log has what the prover said."
+exit 1

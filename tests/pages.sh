@@ -1,0 +1,114 @@
+#!/bin/sh
+# What README.md and docs/ say of the repository, held against it: the tables made from the files, the files, functions,
+# clauses and definitions that a page names, the session that README shows, and the toolchain that it names.
+set -u
+cd "$(dirname "$0")/.." || exit 1
+work=$(mktemp -d) || exit 1
+trap 'rm -rf "$work"' EXIT
+: > "$work/faults"
+
+# fault TEXT: says what a page has wrong; the run fails at its end.
+fault() {
+    echo "tests/pages.sh: $1" | tee -a "$work/faults"
+}
+
+# spread: each 'a/{b,c}' that comes in, as the lines 'a/b' and 'a/c'.
+spread() {
+    awk '{
+        if (!match($0, /\{[^}]*\}/)) { print; next }
+        n = split(substr($0, RSTART + 1, RLENGTH - 2), parts, ",")
+        for (i = 1; i <= n; i++) print substr($0, 1, RSTART - 1) parts[i] substr($0, RSTART + RLENGTH)
+    }'
+}
+
+# quoted: what stands between backquotes on the lines that come in, a line each.
+quoted() {
+    awk -F '`' '{ for (i = 2; i <= NF; i += 2) print $i }'
+}
+
+# files: each file of the repository that a page may name.
+files() {
+    find . \( -name out -o -name .git \) -prune -o -type f -print | sed 's|^\./||'
+}
+
+# names_of_files: each name of a file between backquotes on a page is one, or the end of one's path.
+names_of_files() {
+    files > "$work/files"
+    for page in README.md CHANGELOG.md docs/*.md; do
+        quoted < "$page" | grep -E '^[^ ]*\.(rt|antt|md|sh|txt)$' | spread | sort -u | while read -r name; do
+            awk -v name="$name" '
+                $0 == name || substr($0, length($0) - length(name)) == "/" name { found = 1 }
+                END { exit !found }
+            ' "$work/files" || fault "$page names $name, and no file is called so"
+        done
+    done
+}
+
+# clauses CRATE: 'FUNCTION LABEL' for each labelled clause of the crate, and 'NAME' for each function and type.
+clauses() {
+    find "crates/$1/src" -name '*.rt' -exec awk '
+        match($0, /(fn|struct|enum|trait|type|const) [A-Za-z_0-9]+/) && !/^ *\/\// {
+            split(substr($0, RSTART, RLENGTH), words, " ")
+            name = words[2]
+            print name
+        }
+        match($0, /ensures\*? [a-z_]+ \{/) {
+            split(substr($0, RSTART, RLENGTH), words, " ")
+            print name, words[2]
+        }
+    ' {} \;
+}
+
+# contracts: each function and clause in the second column of the tables under '### CRATE' in README's '## What is proved'.
+contracts() {
+    awk -F ' *\\| *' '
+        /^## / { inside = $0 ~ /What is proved/ }
+        /^### / { crate = substr($0, 5) }
+        inside && NF > 3 && $3 ~ /`/ {
+            n = split($3, parts, ";")
+            for (i = 1; i <= n; i++) {
+                labels = parts[i] ~ /^ *`[^`]*`:/
+                m = split(parts[i], names, "`")
+                owner = ""
+                for (j = 2; j <= m; j += 2) {
+                    name = names[j]
+                    sub(/.*::/, "", name)
+                    if (owner == "" || !labels) { owner = name; print crate, name } else print crate, owner, name
+                }
+            }
+        }
+    ' README.md | while read -r crate name; do
+        [ -f "$work/clauses-$crate" ] || clauses "$crate" > "$work/clauses-$crate"
+        grep -q -x "$name" "$work/clauses-$crate" || fault "README.md names the contract '$name' of $crate, which has none"
+    done
+}
+
+# definitions: each definition in the table of docs/ARCHITECTURE.md stands in one of the files beside it.
+definitions() {
+    awk -F ' *\\| *' '/^## / { inside = $0 ~ /Where each definition stands/ } inside && NF > 4 && $4 ~ /`/ { print $3 "|" $4 }' \
+        docs/ARCHITECTURE.md | while IFS='|' read -r names places; do
+        echo "$places" | tr -d '`' | spread | sed 's|^|crates/|; s|$|.antt|' > "$work/places"
+        while read -r place; do
+            [ -f "$place" ] || fault "docs/ARCHITECTURE.md names $place, which is no file"
+        done < "$work/places"
+        for name in $(echo "$names" | quoted); do
+            xargs grep -q -E "^((abbrev|unfoldable|opaque|pub|data|record) )*$name( |$)" /dev/null < "$work/places" 2> /dev/null ||
+                fault "docs/ARCHITECTURE.md says that $name is defined in $places"
+        done
+    done
+}
+
+# session: README's session has the commands of crates/bpfdb/stdin and the replies of crates/bpfdb/stdout.
+session() {
+    awk '/^\$ make run$/ { inside = 1; next } /^```$/ { inside = 0 } inside' README.md > "$work/session"
+    sed -n 's/^> //p' "$work/session" | cmp -s - crates/bpfdb/stdin || fault "README.md's session has other commands than crates/bpfdb/stdin"
+    grep -v '^> ' "$work/session" | cmp -s - crates/bpfdb/stdout || fault "README.md's session has other replies than crates/bpfdb/stdout"
+}
+
+sh docs/tables.sh --check || fault 'tables of files'
+names_of_files
+contracts
+definitions
+session
+grep -q -F "$(rt version)" README.md || fault "README.md does not name the toolchain, $(rt version)"
+[ ! -s "$work/faults" ]

@@ -1,0 +1,28 @@
+/* Refuses requests for memory of a program that it is loaded into before the C library (LD_PRELOAD): the one whose number
+   REFUSED gives, from 1 on, and where REFUSED_ALL is set each later one too. Part of no program: tests/program.sh uses it. */
+extern void *__libc_malloc(unsigned long size);
+extern void *__libc_calloc(unsigned long count, unsigned long size);
+extern void *__libc_realloc(void *old, unsigned long size);
+extern void *__libc_memalign(unsigned long alignment, unsigned long size);
+extern char *getenv(const char *name);
+extern int atoi(const char *text);
+
+static int requests;
+
+static int refused(void) {
+    const char *number = getenv("REFUSED");
+    requests++;
+    return number && (getenv("REFUSED_ALL") ? requests >= atoi(number) : requests == atoi(number));
+}
+
+void *malloc(unsigned long size) { return refused() ? 0 : __libc_malloc(size); }
+void *calloc(unsigned long count, unsigned long size) { return refused() ? 0 : __libc_calloc(count, size); }
+void *realloc(void *old, unsigned long size) { return refused() ? 0 : __libc_realloc(old, size); }
+void *aligned_alloc(unsigned long alignment, unsigned long size) { return refused() ? 0 : __libc_memalign(alignment, size); }
+int posix_memalign(void **made, unsigned long alignment, unsigned long size) {
+    void *at = aligned_alloc(alignment, size);
+    if (!at)
+        return 12; /* ENOMEM */
+    *made = at;
+    return 0;
+}
