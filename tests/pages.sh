@@ -56,7 +56,7 @@ clauses() {
             split(substr($0, RSTART, RLENGTH), words, " ")
             print name, words[2]
         }
-    ' {} \;
+    ' {} +
 }
 
 # contracts: each function and clause in the second column of the tables under '### CRATE' in README's '## What is proved'.
