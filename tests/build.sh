@@ -6,10 +6,10 @@ mkdir -p out || exit 1
 program=crates/bpfdb/out/bpfdb
 log=$PWD/out/build.log
 if [ -x "$program" ]; then
-    newer=$(find crates.txt crates -name out -prune -o -name must-fail -prune -o -type f -newer "$program" -print)
+    newer=$(find crates.txt crates -name out -prune -o \( -name '*.rt' -o -name '*.antt' -o -name crates.txt \) -newer "$program" -print)
     [ -n "$newer" ] || exit 0
 fi
-echo "Proving crates/bpfdb and the crates below it, and building it: some 3 minutes on four cores the first time, without a word (out/build.log has the prover's)."
+echo "Proving and building everything once: about 3 minutes on four cores. The prover's words go to out/build.log."
 (cd crates/bpfdb && rt run < stdin) > "$log" 2>&1 && exit 0
 tail -n 20 "$log"
 echo "FAILED: out/build.log has what the prover said."

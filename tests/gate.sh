@@ -1,6 +1,6 @@
 #!/bin/sh
-# The gate: each part in turn, with a line that says how it ended and how long it took. It ends with the first part that
-# fails, the shortest first. Its last line, where all passed, is that of rt ci.
+# The gate: each part in turn, with a line that says how it ended and how long it took. The first part that fails ends it.
+# Its last line, where all passed, is that of rt ci.
 set -u
 cd "$(dirname "$0")/.." || exit 1
 exec < /dev/null

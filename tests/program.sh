@@ -67,7 +67,7 @@ row 'blanks, empty lines and a last line without a line feed' 0 \
 row 'bytes that are no text' 0 '\0377\nstepi\0000\nset\n' "$q1$q1$q1" ''
 row 'arguments are not looked at' 0 'stepi\n' "$exit_at_1" '' stepi --help
 
-head -c 100000 /dev/zero > "$work/script"
+dd if=/dev/zero of="$work/script" bs=1000 count=100 2> "$work/err"
 run
 check 'a line of 100,000 zero bytes' 0 "$q12" ''
 
