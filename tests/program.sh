@@ -1,8 +1,8 @@
 #!/bin/sh
 # Tests of the built program from outside: its output, its standard error and its exit status, with input and output that
 # fail, and with each request for memory refused in turn. A test that passes prints nothing; one that fails names itself
-# and shows what differs. Expected texts are written out here, by the table of
-# commands in README.md, or stand in crates/bpfdb/stdout.
+# and shows what differs. Expected texts are written out here, by README's table of commands, or stand in
+# crates/bpfdb/stdout.
 set -u
 sh "$(dirname "$0")/build.sh" || exit 1
 cd "$(dirname "$0")/../crates/bpfdb" || exit 1
