@@ -30,11 +30,13 @@ uses() {
     }'
 }
 
-# sentence FILE: the first sentence of the comment at the file's head, without its full stop.
+# sentence FILE: the first sentence of the comment at the file's head, without its full stop. Where that says only that no
+# public contract cites the file, the next one stands for it.
 sentence() {
     awk '
         !/^(\/\/!?|--)( |$)/ { exit }
         { sub(/^(\/\/!?|--) ?/, ""); text = text (text == "" ? "" : " ") $0 }
+        { sub(/^Scaffolding: no public contract cites [a-z ]*\. /, "Scaffolding: ", text) }
         match(text " ", /\. /) { print substr(text, 1, RSTART - 1); found = 1; exit }
         END { if (!found) exit 1 }
     ' "$1" | sed 's/|/\\|/g'
