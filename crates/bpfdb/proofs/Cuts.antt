@@ -8,7 +8,7 @@ use Rattle.std.proofs.lemmas.Bool.{lt-ltb, ltb-false, cases_lt}
 use Rattle.std.proofs.lemmas.List.{take_all, drop_all, drop_more, length-drop, length-take-le}
 use Rattle.std.proofs.lemmas.List.Sums.{prefix_len-le-length, fails_before_first, passes_at_first}
 use Rattle.std.proofs.lemmas.List.Splits.{slice_split-cons_yes, slice_split_none, slice_split_first}
-use Rattle.bpfdb.specs.Script.{is_blank, words}
+use Rattle.bpfdb.specs.Lines.{is_blank, words}
 
 unwrap_or-tested : (n len : ℕ) (v : Bool) → ltb n len ≡ v → n ≤ len → unwrap_or (cond v (Some n) None) len ≡ n
 unwrap_or-tested n len true inside h = refl

@@ -9,7 +9,7 @@ use Rattle.std.proofs.lemmas.List.{take_all}
 use Rattle.std.proofs.lemmas.List.Folds.{list_all_at, list_all_more}
 use Rattle.std.proofs.lemmas.Str.Parse.{digits_value-take-le}
 use Rattle.std.proofs.Math.Bool.{and-false}
-use Rattle.bpfdb.specs.Script.{is_numeral, numeral}
+use Rattle.bpfdb.specs.Lines.{is_numeral, numeral}
 
 -- the first i bytes are digits of the base, and write this value
 pub record ReadsDigits (base : ℕ) (bytes : List ℕ) (i n : ℕ) : Type 0 where

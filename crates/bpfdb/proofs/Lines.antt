@@ -5,7 +5,7 @@ use Rattle.std.specs.List.{All}
 use Rattle.std.proofs.lemmas.List.Splits.{slice_split_at, slice_split_none, length-slice_split}
 use Rattle.std.proofs.lemmas.List.Elements.{All-push}
 use Rattle.std.proofs.lemmas.Bool.{ne_eqb, lt-ltb}
-use Rattle.bpfdb.specs.Script.{lines, without_empty_last}
+use Rattle.bpfdb.specs.Lines.{lines, without_empty_last}
 use Rattle.bpfdb.specs.Commands.{command_of}
 use Rattle.bpfdb.specs.declared.refusal.Refusal.TheVariants.{LineTooLong}
 

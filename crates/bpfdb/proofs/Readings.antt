@@ -4,8 +4,8 @@ use Rattle.std.proofs.lemmas.List.{append-nil}
 use Rattle.std.specs.Io.KnownBytes.{Consumes, IsAtEnd, Keeps}
 use Rattle.bpf_text.specs.Counted.{Tally, one_more}
 use Rattle.bpf_text.specs.Reading.{ReadsByte}
-use Rattle.bpfdb.specs.Script.{lines}
-use Rattle.bpfdb.specs.Scripts.{Buffer, Holds, CutsLine, ReadsLine}
+use Rattle.bpfdb.specs.Lines.{lines}
+use Rattle.bpfdb.specs.Runs.{Buffer, Holds, CutsLine, ReadsLine}
 use Rattle.bpfdb.proofs.Lines.{HasNoLineFeed, HasNoLineFeed-empty, HasNoLineFeed-push, lines-empty, lines-last, lines-first}
 
 -- what a consumed byte leaves

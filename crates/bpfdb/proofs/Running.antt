@@ -9,12 +9,15 @@ use Rattle.bpf_text.specs.Counted.{Tally}
 use Rattle.bpfdb.specs.Machine.{State}
 use Rattle.bpfdb.specs.History.{Record, Kept}
 use Rattle.bpfdb.specs.Outcomes.{last_refusal}
-use Rattle.bpfdb.specs.Sessions.{Standing, HasPast}
-use Rattle.bpfdb.specs.Script.{lines}
+use Rattle.bpfdb.specs.Sessions.{SessionValue, HasPast}
+use Rattle.bpfdb.specs.Lines.{lines}
 use Rattle.bpfdb.specs.Commands.{Answer, command_of}
 use Rattle.bpfdb.specs.Output.{is_quit}
 use Rattle.bpfdb.specs.Output.{Point, Effect, effect, first_gap, later_gaps, out, final, ends, unread}
-use Rattle.bpfdb.specs.Scripts.{Buffer, Holds, ReadsLine, point_of, StandsAt, ObeysLine, Prints, PrintsBeginning, LeavesUnread}
+use Rattle.bpfdb.specs.Runs.{Buffer, Holds, ReadsLine, point_of, StandsAt, ObeysLine, Prints, WritesObeyed, BreaksOff, LeavesUnread}
+use Rattle.bpfdb.specs.declared.script.RunFault.{RunFault}
+use Rattle.bpfdb.specs.declared.script.RunFault.TheVariants.{Read, Write}
+use Rattle.bpf_text.specs.Writing.{AppendsBeginning}
 
 -- what a writer holds after a text
 appended : (before after : Option (List ℕ)) (xs ys : List ℕ) → before ≡ Some xs → Appends before after ys → after ≡ Some (xs ++ ys)
@@ -57,6 +60,21 @@ out-begins gaps limit line more p e is = elim-on e.goes_on refl
     elim-on true on = (out (later_gaps gaps) limit more e.point, rw (is, on) refl)
     elim-on false off = ([], rw (is, off) (sym (append-nil e.text)))
 
+-- a line alone
+out-one : (gaps : List (Option ℕ)) (limit : ℕ) (line : List ℕ) (p : Point) (e : Effect) → effect (first_gap gaps) limit (command_of line) p ≡ e → out gaps limit (line ∷ []) p ≡ e.text
+out-one gaps limit line p e is = elim-on e.goes_on refl
+  where
+    elim-on : (on : Bool) → e.goes_on ≡ on → out gaps limit (line ∷ []) p ≡ e.text
+    elim-on true on = rw (is, on) (append-nil e.text)
+    elim-on false off = rw (is, off) refl
+
+final-one : (gaps : List (Option ℕ)) (limit : ℕ) (line : List ℕ) (p : Point) (e : Effect) → effect (first_gap gaps) limit (command_of line) p ≡ e → final gaps limit (line ∷ []) p ≡ e.point
+final-one gaps limit line p e is = elim-on e.goes_on refl
+  where
+    elim-on : (on : Bool) → e.goes_on ≡ on → final gaps limit (line ∷ []) p ≡ e.point
+    elim-on true on = rw (is, on) refl
+    elim-on false off = rw (is, off) refl
+
 -- a session ends at `quit` and goes on after each other line
 ends-when : (gap : Option ℕ) (limit : ℕ) (answer : Answer) (p : Point) (on : Bool) → (effect gap limit answer p).goes_on ≡ on → ends answer ≡ not on
 ends-when gap limit (Ok None) p on e = ap not e
@@ -83,8 +101,9 @@ refused-or-not m n = elim-on (nat_lt m last_refusal) (n == m) refl refl
     elim-on low false l s = inr (λ a b. absurd (grind (arith, nat_tests)))
 
 module _ {K R W : Type 0} (holds : K → List Kept → Type 0) (refusals : K → ℕ) (remaining : R → Option (List ℕ)) (contents : W → Option (List ℕ)) where
-  -- the lines behind us: their gaps, what they printed, the point after them, and the bytes that are left
-  pub record Behind (old now : Standing K) (writer : Tally W) (reader : Tally R) (h : List Record) (script told : List ℕ) : Type 0 where
+  -- the lines behind us, their gaps, what they printed, the point after them, and the bytes that are left
+  pub record Behind (old now : SessionValue K) (writer : Tally W) (reader : Tally R) (h : List Record) (script told : List ℕ) : Type 0 where
+    pub done : List (List ℕ)
     pub gaps : List (Option ℕ)
     pub printed : List ℕ
     pub point : Point
@@ -92,27 +111,29 @@ module _ {K R W : Type 0} (holds : K → List Kept → Type 0) (refusals : K →
     pub left : remaining reader.inner ≡ Some rest
     pub written : contents writer.inner ≡ Some (told ++ printed)
     pub stands : StandsAt holds now point
-    pub out_is : (later : List (Option ℕ)) → out (gaps ++ later) old.limit (lines script) (point_of old h) ≡ printed ++ out later old.limit (lines rest) point
-    pub final_is : (later : List (Option ℕ)) → final (gaps ++ later) old.limit (lines script) (point_of old h) ≡ final later old.limit (lines rest) point
+    pub split : lines script ≡ done ++ lines rest
+    pub out_is : (later : List (Option ℕ)) (more : List (List ℕ)) → out (gaps ++ later) old.limit (done ++ more) (point_of old h) ≡ printed ++ out later old.limit more point
+    pub final_is : (later : List (Option ℕ)) (more : List (List ℕ)) → final (gaps ++ later) old.limit (done ++ more) (point_of old h) ≡ final later old.limit more point
     pub next_is : unread (lines script) ≡ unread (lines rest)
     pub counted : refusals old.timeline.1 ≤ last_refusal → (refusals old.timeline.1 ≤ refusals now.timeline.1) × (refusals now.timeline.1 ≤ last_refusal)
-    pub out_whole : refusals old.timeline.1 < last_refusal → refusals now.timeline.1 ≡ refusals old.timeline.1 → out [] old.limit (lines script) (point_of old h) ≡ printed ++ out [] old.limit (lines rest) point
-    pub final_whole : refusals old.timeline.1 < last_refusal → refusals now.timeline.1 ≡ refusals old.timeline.1 → final [] old.limit (lines script) (point_of old h) ≡ final [] old.limit (lines rest) point
+    pub out_whole : refusals old.timeline.1 < last_refusal → refusals now.timeline.1 ≡ refusals old.timeline.1 → (more : List (List ℕ)) → out [] old.limit (done ++ more) (point_of old h) ≡ printed ++ out [] old.limit more point
+    pub final_whole : refusals old.timeline.1 < last_refusal → refusals now.timeline.1 ≡ refusals old.timeline.1 → (more : List (List ℕ)) → final [] old.limit (done ++ more) (point_of old h) ≡ final [] old.limit more point
 
   -- what holds in front of each line
-  pub record Running (old now : Standing K) (reader0 reader : Tally R) (writer0 writer : Tally W) : Type 0 where
+  pub record Running (old now : SessionValue K) (reader0 reader : Tally R) (writer0 writer : Tally W) : Type 0 where
     pub read : reader.failures ≡ reader0.failures
     pub wrote : writer.failures ≡ writer0.failures
     pub limit : now.limit ≡ old.limit
     pub behind : (h : List Record) (script told : List ℕ) → HasPast holds old h → remaining reader0.inner ≡ Some script → contents writer0.inner ≡ Some told → Behind old now writer reader h script told
 
   -- before the first line
-  pub Running-start : (old : Standing K) (reader : Tally R) (writer : Tally W) → Running old old reader reader writer writer
+  pub Running-start : (old : SessionValue K) (reader : Tally R) (writer : Tally W) → Running old old reader reader writer writer
   Running-start old reader writer = record {
     read = refl;
     wrote = refl;
     limit = refl;
     behind = λ h script told past left held. record {
+      done = [];
       gaps = [];
       printed = [];
       point = point_of old h;
@@ -120,16 +141,17 @@ module _ {K R W : Type 0} (holds : K → List Kept → Type 0) (refusals : K →
       left = left;
       written = held ∙ ap (λ (v : List ℕ). Some v) (sym (append-nil told));
       stands = (refl, past);
-      out_is = λ later. refl;
-      final_is = λ later. refl;
+      split = refl;
+      out_is = λ later more. refl;
+      final_is = λ later more. refl;
       next_is = refl;
       counted = λ b. (omega arith, b);
-      out_whole = λ a b. refl;
-      final_whole = λ a b. refl;
+      out_whole = λ a b more. refl;
+      final_whole = λ a b more. refl;
     };
   }
 
-  module _ (old now new : Standing K) (reader0 reader reader' : Tally R) (writer0 writer writer' : Tally W) (buffer : Buffer) where
+  module _ (old now new : SessionValue K) (reader0 reader reader' : Tally R) (writer0 writer writer' : Tally W) (buffer : Buffer) where
     -- what a line did, seen from the point in front of it
     record Turn (b : Point) (rest told : List ℕ) (more : Bool) : Type 0 where
       pub gap : Option ℕ
@@ -187,6 +209,7 @@ module _ {K R W : Type 0} (holds : K → List Kept → Type 0) (refusals : K →
     -- one more line, after which the session goes on
     Behind-step : (h : List Record) (script told : List ℕ) (b : Behind old now writer reader h script told) → Turn b.point b.rest (told ++ b.printed) true → Behind old new writer' reader' h script told
     Behind-step h script told b t = record {
+      done = b.done ++ t.line ∷ [];
       gaps = b.gaps ++ t.gap ∷ [];
       printed = b.printed ++ t.e.text;
       point = t.e.point;
@@ -194,28 +217,33 @@ module _ {K R W : Type 0} (holds : K → List Kept → Type 0) (refusals : K →
       left = t.left;
       written = t.written ∙ ap (λ (v : List ℕ). Some v) (append_assoc told b.printed t.e.text);
       stands = t.stands;
-      out_is = λ later.
-          ap (λ (g : List (Option ℕ)). out g old.limit (lines script) (point_of old h)) (append_assoc b.gaps (t.gap ∷ []) later)
-          ∙ b.out_is (t.gap ∷ later)
-          ∙ ap (λ (v : List ℕ). b.printed ++ v) (ap (λ (ls : List (List ℕ)). out (t.gap ∷ later) old.limit ls b.point) t.cut ∙ out-line t.gap later old.limit t.line (lines t.ahead) b.point t.e t.is (sym t.on))
+      split = b.split ∙ ap (λ (ls : List (List ℕ)). b.done ++ ls) t.cut ∙ sym (append_assoc b.done (t.line ∷ []) (lines t.ahead));
+      out_is = λ later more.
+          ap (λ (g : List (Option ℕ)). out g old.limit ((b.done ++ t.line ∷ []) ++ more) (point_of old h)) (append_assoc b.gaps (t.gap ∷ []) later)
+          ∙ ap (λ (ls : List (List ℕ)). out (b.gaps ++ t.gap ∷ later) old.limit ls (point_of old h)) (append_assoc b.done (t.line ∷ []) more)
+          ∙ b.out_is (t.gap ∷ later) (t.line ∷ more)
+          ∙ ap (λ (v : List ℕ). b.printed ++ v) (out-line t.gap later old.limit t.line more b.point t.e t.is (sym t.on))
           ∙ sym (append_assoc b.printed t.e.text _);
-      final_is = λ later.
-          ap (λ (g : List (Option ℕ)). final g old.limit (lines script) (point_of old h)) (append_assoc b.gaps (t.gap ∷ []) later)
-          ∙ b.final_is (t.gap ∷ later)
-          ∙ ap (λ (ls : List (List ℕ)). final (t.gap ∷ later) old.limit ls b.point) t.cut ∙ final-line t.gap later old.limit t.line (lines t.ahead) b.point t.e t.is (sym t.on);
+      final_is = λ later more.
+          ap (λ (g : List (Option ℕ)). final g old.limit ((b.done ++ t.line ∷ []) ++ more) (point_of old h)) (append_assoc b.gaps (t.gap ∷ []) later)
+          ∙ ap (λ (ls : List (List ℕ)). final (b.gaps ++ t.gap ∷ later) old.limit ls (point_of old h)) (append_assoc b.done (t.line ∷ []) more)
+          ∙ b.final_is (t.gap ∷ later) (t.line ∷ more)
+          ∙ final-line t.gap later old.limit t.line more b.point t.e t.is (sym t.on);
       next_is = b.next_is ∙ ap unread t.cut ∙ unread-line t.line (lines t.ahead) (ends-of b.point b.rest (told ++ b.printed) true t);
       counted = λ low. let y = b.counted low in let z = t.counted y.1 in (omega arith, z.1);
-      out_whole = λ low same.
+      out_whole = λ low same more.
           let q = quiet-before refl low same b.counted t.counted in
           let n = none-is b.point b.rest (told ++ b.printed) true t (omega arith) (same ∙ sym q) in
-          b.out_whole low q
-          ∙ ap (λ (v : List ℕ). b.printed ++ v) (ap (λ (ls : List (List ℕ)). out [] old.limit ls b.point) t.cut ∙ out-none old.limit t.line (lines t.ahead) b.point t.e n (sym t.on))
+          ap (λ (ls : List (List ℕ)). out [] old.limit ls (point_of old h)) (append_assoc b.done (t.line ∷ []) more)
+          ∙ b.out_whole low q (t.line ∷ more)
+          ∙ ap (λ (v : List ℕ). b.printed ++ v) (out-none old.limit t.line more b.point t.e n (sym t.on))
           ∙ sym (append_assoc b.printed t.e.text _);
-      final_whole = λ low same.
+      final_whole = λ low same more.
           let q = quiet-before refl low same b.counted t.counted in
           let n = none-is b.point b.rest (told ++ b.printed) true t (omega arith) (same ∙ sym q) in
-          b.final_whole low q
-          ∙ ap (λ (ls : List (List ℕ)). final [] old.limit ls b.point) t.cut ∙ final-none old.limit t.line (lines t.ahead) b.point t.e n (sym t.on);
+          ap (λ (ls : List (List ℕ)). final [] old.limit ls (point_of old h)) (append_assoc b.done (t.line ∷ []) more)
+          ∙ b.final_whole low q (t.line ∷ more)
+          ∙ final-none old.limit t.line more b.point t.e n (sym t.on);
     }
 
     pub Running-step : {E F : Type 0} → Running old now reader0 reader writer0 writer → ReadsLine {E = E} remaining reader reader' buffer (Ok true) → ((h : List Record) (text : List ℕ) → HasPast holds now h → Holds buffer text → ObeysLine {E = F} holds refusals contents now new writer writer' h text (Ok true)) → writer'.failures ≡ writer.failures → new.limit ≡ now.limit → Running old new reader0 reader' writer0 writer'
@@ -228,8 +256,35 @@ module _ {K R W : Type 0} (holds : K → List Kept → Type 0) (refusals : K →
           Behind-step h script told b (turn-of b.point b.rest (told ++ b.printed) true b.stands b.left b.written i.limit r obey);
     }
 
+  module _ (old now : SessionValue K) (writer : Tally W) (reader : Tally R) (h : List Record) (script told : List ℕ) (b : Behind old now writer reader h script told) where
+    -- the whole script, from here on
+    out-all : (later : List (Option ℕ)) → out (b.gaps ++ later) old.limit (lines script) (point_of old h) ≡ b.printed ++ out later old.limit (lines b.rest) b.point
+    out-all later = ap (λ (ls : List (List ℕ)). out (b.gaps ++ later) old.limit ls (point_of old h)) b.split ∙ b.out_is later (lines b.rest)
+
+    final-all : (later : List (Option ℕ)) → final (b.gaps ++ later) old.limit (lines script) (point_of old h) ≡ final later old.limit (lines b.rest) b.point
+    final-all later = ap (λ (ls : List (List ℕ)). final (b.gaps ++ later) old.limit ls (point_of old h)) b.split ∙ b.final_is later (lines b.rest)
+
+    out-all-none : refusals old.timeline.1 < last_refusal → refusals now.timeline.1 ≡ refusals old.timeline.1 → out [] old.limit (lines script) (point_of old h) ≡ b.printed ++ out [] old.limit (lines b.rest) b.point
+    out-all-none low same = ap (λ (ls : List (List ℕ)). out [] old.limit ls (point_of old h)) b.split ∙ b.out_whole low same (lines b.rest)
+
+    final-all-none : refusals old.timeline.1 < last_refusal → refusals now.timeline.1 ≡ refusals old.timeline.1 → final [] old.limit (lines script) (point_of old h) ≡ final [] old.limit (lines b.rest) b.point
+    final-all-none low same = ap (λ (ls : List (List ℕ)). final [] old.limit ls (point_of old h)) b.split ∙ b.final_whole low same (lines b.rest)
+
+    -- the lines behind us alone
+    out-done : (later : List (Option ℕ)) → out (b.gaps ++ later) old.limit b.done (point_of old h) ≡ b.printed
+    out-done later = ap (λ (ls : List (List ℕ)). out (b.gaps ++ later) old.limit ls (point_of old h)) (sym (append-nil b.done)) ∙ b.out_is later [] ∙ append-nil b.printed
+
+    final-done : (later : List (Option ℕ)) → final (b.gaps ++ later) old.limit b.done (point_of old h) ≡ b.point
+    final-done later = ap (λ (ls : List (List ℕ)). final (b.gaps ++ later) old.limit ls (point_of old h)) (sym (append-nil b.done)) ∙ b.final_is later []
+
+    out-done-none : refusals old.timeline.1 < last_refusal → refusals now.timeline.1 ≡ refusals old.timeline.1 → out [] old.limit b.done (point_of old h) ≡ b.printed
+    out-done-none low same = ap (λ (ls : List (List ℕ)). out [] old.limit ls (point_of old h)) (sym (append-nil b.done)) ∙ b.out_whole low same [] ∙ append-nil b.printed
+
+    final-done-none : refusals old.timeline.1 < last_refusal → refusals now.timeline.1 ≡ refusals old.timeline.1 → final [] old.limit b.done (point_of old h) ≡ b.point
+    final-done-none low same = ap (λ (ls : List (List ℕ)). final [] old.limit ls (point_of old h)) (sym (append-nil b.done)) ∙ b.final_whole low same []
+
   -- what is printed in all, for some gaps, and for none where no push was refused
-  prints-as : (old new : Standing K) (h : List Record) (script told total : List ℕ) (after left : Option (List ℕ)) (p : Point) (gaps : List (Option ℕ)) → LeavesUnread script left → after ≡ Some (told ++ total) → StandsAt holds new p → out gaps old.limit (lines script) (point_of old h) ≡ total → final gaps old.limit (lines script) (point_of old h) ≡ p → (refusals old.timeline.1 < last_refusal → refusals new.timeline.1 ≡ refusals old.timeline.1 → (out [] old.limit (lines script) (point_of old h) ≡ total) × (final [] old.limit (lines script) (point_of old h) ≡ p)) → Prints holds refusals old new h script told after left
+  prints-as : (old new : SessionValue K) (h : List Record) (script told total : List ℕ) (after left : Option (List ℕ)) (p : Point) (gaps : List (Option ℕ)) → LeavesUnread script left → after ≡ Some (told ++ total) → StandsAt holds new p → out gaps old.limit (lines script) (point_of old h) ≡ total → final gaps old.limit (lines script) (point_of old h) ≡ p → (refusals old.timeline.1 < last_refusal → refusals new.timeline.1 ≡ refusals old.timeline.1 → (out [] old.limit (lines script) (point_of old h) ≡ total) × (final [] old.limit (lines script) (point_of old h) ≡ p)) → Prints holds refusals old new h script told after left
   prints-as old new h script told total after left p gaps next held st o f whole =
       elim (refused-or-not (refusals old.timeline.1) (refusals new.timeline.1)) [
         | inl q ↦
@@ -252,7 +307,7 @@ module _ {K R W : Type 0} (holds : K → List Kept → Type 0) (refusals : K →
       ]
 
   -- no line is left
-  pub Running-end : {E : Type 0} (old now : Standing K) (reader0 reader reader' : Tally R) (writer0 writer : Tally W) (buffer : Buffer) → Running old now reader0 reader writer0 writer → ReadsLine {E = E} remaining reader reader' buffer (Ok false) → (h : List Record) (script told : List ℕ) → HasPast holds old h → remaining reader0.inner ≡ Some script → contents writer0.inner ≡ Some told → Prints holds refusals old now h script told (contents writer.inner) (remaining reader'.inner)
+  pub Running-end : {E : Type 0} (old now : SessionValue K) (reader0 reader reader' : Tally R) (writer0 writer : Tally W) (buffer : Buffer) → Running old now reader0 reader writer0 writer → ReadsLine {E = E} remaining reader reader' buffer (Ok false) → (h : List Record) (script told : List ℕ) → HasPast holds old h → remaining reader0.inner ≡ Some script → contents writer0.inner ≡ Some told → Prints holds refusals old now h script told (contents writer.inner) (remaining reader'.inner)
   Running-end old now reader0 reader reader' writer0 writer buffer i r h script told past left held =
       let b = i.behind h script told past left held in
       let k = r.cut b.rest b.left in
@@ -260,10 +315,10 @@ module _ {K R W : Type 0} (holds : K → List Kept → Type 0) (refusals : K →
       let next : LeavesUnread script (remaining reader'.inner) = (k.0, k.1, ap lines k.2.1 ∙ sym (b.next_is ∙ ap unread none)) in
       let o : (later : List (Option ℕ)) → b.printed ++ out later old.limit (lines b.rest) b.point ≡ b.printed = λ later. ap (λ (ls : List (List ℕ)). b.printed ++ out later old.limit ls b.point) none ∙ append-nil b.printed in
       let f : (later : List (Option ℕ)) → final later old.limit (lines b.rest) b.point ≡ b.point = λ later. ap (λ (ls : List (List ℕ)). final later old.limit ls b.point) none in
-      prints-as old now h script told b.printed _ _ b.point (b.gaps ++ []) next b.written b.stands (b.out_is [] ∙ o []) (b.final_is [] ∙ f []) (λ low same. (b.out_whole low same ∙ o [], b.final_whole low same ∙ f []))
+      prints-as old now h script told b.printed _ _ b.point (b.gaps ++ []) next b.written b.stands (out-all old now writer reader h script told b [] ∙ o []) (final-all old now writer reader h script told b [] ∙ f []) (λ low same. (out-all-none old now writer reader h script told b low same ∙ o [], final-all-none old now writer reader h script told b low same ∙ f []))
 
   -- a line that ends the session
-  pub Running-quit : {E F : Type 0} (old now new : Standing K) (reader0 reader reader' : Tally R) (writer0 writer writer' : Tally W) (buffer : Buffer) → Running old now reader0 reader writer0 writer → ReadsLine {E = E} remaining reader reader' buffer (Ok true) → ((h : List Record) (text : List ℕ) → HasPast holds now h → Holds buffer text → ObeysLine {E = F} holds refusals contents now new writer writer' h text (Ok false)) → (h : List Record) (script told : List ℕ) → HasPast holds old h → remaining reader0.inner ≡ Some script → contents writer0.inner ≡ Some told → Prints holds refusals old new h script told (contents writer'.inner) (remaining reader'.inner)
+  pub Running-quit : {E F : Type 0} (old now new : SessionValue K) (reader0 reader reader' : Tally R) (writer0 writer writer' : Tally W) (buffer : Buffer) → Running old now reader0 reader writer0 writer → ReadsLine {E = E} remaining reader reader' buffer (Ok true) → ((h : List Record) (text : List ℕ) → HasPast holds now h → Holds buffer text → ObeysLine {E = F} holds refusals contents now new writer writer' h text (Ok false)) → (h : List Record) (script told : List ℕ) → HasPast holds old h → remaining reader0.inner ≡ Some script → contents writer0.inner ≡ Some told → Prints holds refusals old new h script told (contents writer'.inner) (remaining reader'.inner)
   Running-quit old now new reader0 reader reader' writer0 writer writer' buffer i r obey h script told past left held =
       let b = i.behind h script told past left held in
       let t = turn-of old now new reader0 reader reader' writer0 writer writer' buffer b.point b.rest (told ++ b.printed) false b.stands b.left b.written i.limit r obey in
@@ -271,37 +326,72 @@ module _ {K R W : Type 0} (holds : K → List Kept → Type 0) (refusals : K →
       let next : LeavesUnread script (remaining reader'.inner) = (t.ahead, t.left, sym (b.next_is ∙ ap unread t.cut ∙ unread-quit t.line (lines t.ahead) (ends-of old now new reader0 reader reader' writer0 writer writer' buffer b.point b.rest (told ++ b.printed) false t))) in
       let o : b.printed ++ out (t.gap ∷ []) old.limit (lines b.rest) b.point ≡ total = ap (λ (v : List ℕ). b.printed ++ v) (ap (λ (ls : List (List ℕ)). out (t.gap ∷ []) old.limit ls b.point) t.cut ∙ out-stop t.gap [] old.limit t.line (lines t.ahead) b.point t.e t.is (sym t.on)) in
       let f : final (t.gap ∷ []) old.limit (lines b.rest) b.point ≡ t.e.point = ap (λ (ls : List (List ℕ)). final (t.gap ∷ []) old.limit ls b.point) t.cut ∙ final-stop t.gap [] old.limit t.line (lines t.ahead) b.point t.e t.is (sym t.on) in
-      prints-as old new h script told total _ _ t.e.point (b.gaps ++ t.gap ∷ []) next (t.written ∙ ap (λ (v : List ℕ). Some v) (append_assoc told b.printed t.e.text)) t.stands (b.out_is (t.gap ∷ []) ∙ o) (b.final_is (t.gap ∷ []) ∙ f)
+      prints-as old new h script told total _ _ t.e.point (b.gaps ++ t.gap ∷ []) next (t.written ∙ ap (λ (v : List ℕ). Some v) (append_assoc told b.printed t.e.text)) t.stands (out-all old now writer reader h script told b (t.gap ∷ []) ∙ o) (final-all old now writer reader h script told b (t.gap ∷ []) ∙ f)
       (λ low same.
       let q = quiet-before old now new reader0 reader reader' writer0 writer writer' buffer refl low same b.counted t.counted in
       let n = none-is old now new reader0 reader reader' writer0 writer writer' buffer b.point b.rest (told ++ b.printed) false t (omega arith) (same ∙ sym q) in (
-        b.out_whole low q ∙ ap (λ (v : List ℕ). b.printed ++ v) (ap (λ (ls : List (List ℕ)). out [] old.limit ls b.point) t.cut ∙ out-stop-none old.limit t.line (lines t.ahead) b.point t.e n (sym t.on)),
-        b.final_whole low q ∙ ap (λ (ls : List (List ℕ)). final [] old.limit ls b.point) t.cut ∙ final-stop-none old.limit t.line (lines t.ahead) b.point t.e n (sym t.on),
+        out-all-none old now writer reader h script told b low q ∙ ap (λ (v : List ℕ). b.printed ++ v) (ap (λ (ls : List (List ℕ)). out [] old.limit ls b.point) t.cut ∙ out-stop-none old.limit t.line (lines t.ahead) b.point t.e n (sym t.on)),
+        final-all-none old now writer reader h script told b low q ∙ ap (λ (ls : List (List ℕ)). final [] old.limit ls b.point) t.cut ∙ final-stop-none old.limit t.line (lines t.ahead) b.point t.e n (sym t.on),
       ))
 
-  -- a beginning of what is printed, for some gaps, and for none where no push was refused
-  begins-as : (old new : Standing K) (h : List Record) (script told front : List ℕ) (after : Option (List ℕ)) (gaps : List (Option ℕ)) → after ≡ Some (told ++ front) → ((rest : List ℕ) × (out gaps old.limit (lines script) (point_of old h) ≡ front ++ rest)) → (refusals old.timeline.1 < last_refusal → refusals new.timeline.1 ≡ refusals old.timeline.1 → (rest : List ℕ) × (out [] old.limit (lines script) (point_of old h) ≡ front ++ rest)) → PrintsBeginning refusals old new h script told after
-  begins-as old new h script told front after gaps held o whole =
-      let grown : Appends (Some told) after front = subst (λ (v : Option (List ℕ)). Appends (Some told) v front) (sym held) refl in
+  -- what a run that broke off obeyed and wrote, where the gaps are these
+  record Broken (old new : SessionValue K) (why : RunFault) (h : List Record) (script told : List ℕ) (after : Option (List ℕ)) (obeyed : List (List ℕ)) (gaps : List (Option ℕ)) : Type 0 where
+    pub stands : StandsAt holds new (final gaps old.limit obeyed (point_of old h))
+    pub written : WritesObeyed why gaps old.limit obeyed (point_of old h) told after
+    pub begins : AppendsBeginning (Some told) after (out gaps old.limit (lines script) (point_of old h))
+
+  -- for some gaps, and for none where no push was refused
+  breaks-as : (old new : SessionValue K) (why : RunFault) (h : List Record) (script told : List ℕ) (after : Option (List ℕ)) (obeyed ahead : List (List ℕ)) (gaps : List (Option ℕ)) → lines script ≡ obeyed ++ ahead → Broken old new why h script told after obeyed gaps → (refusals old.timeline.1 < last_refusal → refusals new.timeline.1 ≡ refusals old.timeline.1 → Broken old new why h script told after obeyed []) → BreaksOff holds refusals old new why h script told after
+  breaks-as old new why h script told after obeyed ahead gaps split some none =
       elim (refused-or-not (refusals old.timeline.1) (refusals new.timeline.1)) [
         | inl q ↦
-            let w = whole q.0 q.1 in
-            record { gaps = []; whole = λ a b. refl; written = (front, w.0, w.1, grown) }
-        | inr q ↦ record { gaps = gaps; whole = λ a b. absurd (q a b); written = (front, o.0, o.1, grown) }
+            let w = none q.0 q.1 in
+            record { gaps = []; whole = λ a b. refl; obeyed = obeyed; ahead = ahead; split = split; stands = w.stands; written = w.written; begins = w.begins }
+        | inr q ↦
+            record { gaps = gaps; whole = λ a b. absurd (q a b); obeyed = obeyed; ahead = ahead; split = split; stands = some.stands; written = some.written; begins = some.begins }
       ]
 
+  -- a beginning that was written, of a longer text
+  begins-as : (told front rest text : List ℕ) (after : Option (List ℕ)) → after ≡ Some (told ++ front) → text ≡ front ++ rest → AppendsBeginning (Some told) after text
+  begins-as told front rest text after held e = (front, rest, e, subst (λ (v : Option (List ℕ)). Appends (Some told) v front) (sym held) refl)
+
+  -- all that was printed up to a line
+  unread-as : (old new : SessionValue K) (h : List Record) (script told printed tail : List ℕ) (after : Option (List ℕ)) (obeyed : List (List ℕ)) (p : Point) (gaps : List (Option ℕ)) → StandsAt holds new p → final gaps old.limit obeyed (point_of old h) ≡ p → after ≡ Some (told ++ printed) → out gaps old.limit obeyed (point_of old h) ≡ printed → out gaps old.limit (lines script) (point_of old h) ≡ printed ++ tail → Broken old new Read h script told after obeyed gaps
+  unread-as old new h script told printed tail after obeyed p gaps st f held o all = record {
+    stands = subst (StandsAt holds new) (sym f) st;
+    written = held ∙ ap (λ (v : List ℕ). Some (told ++ v)) (sym o);
+    begins = begins-as told printed tail _ after held all;
+  }
+
   -- what was printed up to a line
-  pub Running-unread : (old now : Standing K) (reader0 reader : Tally R) (writer0 writer : Tally W) → Running old now reader0 reader writer0 writer → (h : List Record) (script told : List ℕ) → HasPast holds old h → remaining reader0.inner ≡ Some script → contents writer0.inner ≡ Some told → PrintsBeginning refusals old now h script told (contents writer.inner)
+  pub Running-unread : (old now : SessionValue K) (reader0 reader : Tally R) (writer0 writer : Tally W) → Running old now reader0 reader writer0 writer → (h : List Record) (script told : List ℕ) → HasPast holds old h → remaining reader0.inner ≡ Some script → contents writer0.inner ≡ Some told → BreaksOff holds refusals old now Read h script told (contents writer.inner)
   Running-unread old now reader0 reader writer0 writer i h script told past left held =
       let b = i.behind h script told past left held in
-      begins-as old now h script told b.printed _ (b.gaps ++ []) b.written (out [] old.limit (lines b.rest) b.point, b.out_is []) (λ low same. (out [] old.limit (lines b.rest) b.point, b.out_whole low same))
+      breaks-as old now Read h script told (contents writer.inner) b.done (lines b.rest) (b.gaps ++ []) b.split
+      (unread-as old now h script told b.printed _ (contents writer.inner) b.done b.point (b.gaps ++ []) b.stands (final-done old now writer reader h script told b []) b.written (out-done old now writer reader h script told b []) (out-all old now writer reader h script told b []))
+      (λ low same. unread-as old now h script told b.printed _ (contents writer.inner) b.done b.point [] b.stands (final-done-none old now writer reader h script told b low same) b.written (out-done-none old now writer reader h script told b low same) (out-all-none old now writer reader h script told b low same))
 
   -- one text after another, of which the second is a beginning of a third that begins a fourth
   begins-on : (printed text front rest tail : List ℕ) → text ≡ front ++ rest → printed ++ (text ++ tail) ≡ (printed ++ front) ++ (rest ++ tail)
   begins-on printed text front rest tail e = ap (λ (v : List ℕ). printed ++ (v ++ tail)) e ∙ simp append_assoc
 
+  -- all that was printed up to a line, and a beginning of the line's text
+  unwritten-as : (old new : SessionValue K) (h : List Record) (script told printed text front rest tail : List ℕ) (after : Option (List ℕ)) (done : List (List ℕ)) (line : List ℕ) (p : Point) (gaps : List (Option ℕ)) → StandsAt holds new p → final gaps old.limit (done ++ line ∷ []) (point_of old h) ≡ p → after ≡ Some ((told ++ printed) ++ front) → text ≡ front ++ rest → out gaps old.limit done (point_of old h) ≡ printed → out gaps old.limit (done ++ line ∷ []) (point_of old h) ≡ printed ++ text → out gaps old.limit (lines script) (point_of old h) ≡ printed ++ (text ++ tail) → Broken old new Write h script told after (done ++ line ∷ []) gaps
+  unwritten-as old new h script told printed text front rest tail after done line p gaps st f held cut before with-it all = record {
+    stands = subst (StandsAt holds new) (sym f) st;
+    written = record {
+      earlier = done;
+      last = line;
+      text = text;
+      split = refl;
+      printed = with-it ∙ ap (λ (v : List ℕ). v ++ text) (sym before);
+      written = begins-as _ front rest text after (held ∙ ap (λ (v : List ℕ). Some ((told ++ v) ++ front)) (sym before)) cut;
+    };
+    begins = begins-as told (printed ++ front) (rest ++ tail) _ after (held ∙ ap (λ (v : List ℕ). Some v) (append_assoc told printed front)) (all ∙ begins-on printed text front rest tail cut);
+  }
+
   -- a line whose text was not written to its end
-  pub Running-unwritten : {E F : Type 0} (fault : F) (old now new : Standing K) (reader0 reader reader' : Tally R) (writer0 writer writer' : Tally W) (buffer : Buffer) → Running old now reader0 reader writer0 writer → ReadsLine {E = E} remaining reader reader' buffer (Ok true) → ((h : List Record) (text : List ℕ) → HasPast holds now h → Holds buffer text → ObeysLine {E = F} holds refusals contents now new writer writer' h text (Err fault)) → (h : List Record) (script told : List ℕ) → HasPast holds old h → remaining reader0.inner ≡ Some script → contents writer0.inner ≡ Some told → PrintsBeginning refusals old new h script told (contents writer'.inner)
+  pub Running-unwritten : {E F : Type 0} (fault : F) (old now new : SessionValue K) (reader0 reader reader' : Tally R) (writer0 writer writer' : Tally W) (buffer : Buffer) → Running old now reader0 reader writer0 writer → ReadsLine {E = E} remaining reader reader' buffer (Ok true) → ((h : List Record) (text : List ℕ) → HasPast holds now h → Holds buffer text → ObeysLine {E = F} holds refusals contents now new writer writer' h text (Err fault)) → (h : List Record) (script told : List ℕ) → HasPast holds old h → remaining reader0.inner ≡ Some script → contents writer0.inner ≡ Some told → BreaksOff holds refusals old new Write h script told (contents writer'.inner)
   Running-unwritten fault old now new reader0 reader reader' writer0 writer writer' buffer i r obey h script told past left held =
       let b = i.behind h script told past left held in
       let k = r.cut b.rest b.left in
@@ -311,18 +401,23 @@ module _ {K R W : Type 0} (holds : K → List Kept → Type 0) (refusals : K →
       let e = effect o.gap now.limit (command_of c.0) (point_of now b.point.history) in
       let is : effect o.gap old.limit (command_of c.0) b.point ≡ e = sym (ap (λ (l : ℕ). effect o.gap l (command_of c.0) (point_of now b.point.history)) i.limit ∙ ap (effect o.gap old.limit (command_of c.0)) here) in
       let w = o.written.err in
+      let after : contents writer'.inner ≡ Some ((told ++ b.printed) ++ w.0) = appended _ _ (told ++ b.printed) w.0 b.written w.3 in
+      let split : lines script ≡ (b.done ++ c.0 ∷ []) ++ lines k.0 = b.split ∙ ap (λ (ls : List (List ℕ)). b.done ++ ls) c.1 ∙ sym (append_assoc b.done (c.0 ∷ []) (lines k.0)) in
       let all = out-begins (o.gap ∷ []) old.limit c.0 (lines k.0) b.point e is in
-      let total : out (b.gaps ++ o.gap ∷ []) old.limit (lines script) (point_of old h) ≡ (b.printed ++ w.0) ++ (w.1 ++ all.0) =
-      b.out_is (o.gap ∷ [])
-      ∙ ap (λ (v : List ℕ). b.printed ++ v) (ap (λ (ls : List (List ℕ)). out (o.gap ∷ []) old.limit ls b.point) c.1 ∙ all.1)
-      ∙ begins-on b.printed e.text w.0 w.1 all.0 w.2 in
-      begins-as old new h script told (b.printed ++ w.0) _ (b.gaps ++ o.gap ∷ []) (appended _ _ (told ++ b.printed) w.0 b.written w.3 ∙ ap (λ (v : List ℕ). Some v) (append_assoc told b.printed w.0)) (w.1 ++ all.0, total)
+      breaks-as old new Write h script told (contents writer'.inner) (b.done ++ c.0 ∷ []) (lines k.0) (b.gaps ++ o.gap ∷ []) split
+      (unwritten-as old new h script told b.printed e.text w.0 w.1 all.0 (contents writer'.inner) b.done c.0 e.point (b.gaps ++ o.gap ∷ []) o.stands
+      (b.final_is (o.gap ∷ []) (c.0 ∷ []) ∙ final-one (o.gap ∷ []) old.limit c.0 b.point e is)
+      after w.2
+      (out-done old now writer reader h script told b (o.gap ∷ []))
+      (b.out_is (o.gap ∷ []) (c.0 ∷ []) ∙ ap (λ (v : List ℕ). b.printed ++ v) (out-one (o.gap ∷ []) old.limit c.0 b.point e is))
+      (out-all old now writer reader h script told b (o.gap ∷ []) ∙ ap (λ (v : List ℕ). b.printed ++ v) (ap (λ (ls : List (List ℕ)). out (o.gap ∷ []) old.limit ls b.point) c.1 ∙ all.1)))
       (λ low same.
       let q = quiet-before old now new reader0 reader reader' writer0 writer writer' buffer refl low same b.counted o.counted in
       let n : effect None old.limit (command_of c.0) b.point ≡ e = ap (λ (g : Option ℕ). effect g old.limit (command_of c.0) b.point) (sym (o.whole (omega arith) (same ∙ sym q))) ∙ is in
-      let none = out-begins [] old.limit c.0 (lines k.0) b.point e n in (
-        w.1 ++ none.0,
-        b.out_whole low q
-            ∙ ap (λ (v : List ℕ). b.printed ++ v) (ap (λ (ls : List (List ℕ)). out [] old.limit ls b.point) c.1 ∙ none.1)
-            ∙ begins-on b.printed e.text w.0 w.1 none.0 w.2,
-      ))
+      let none = out-begins [] old.limit c.0 (lines k.0) b.point e n in
+      unwritten-as old new h script told b.printed e.text w.0 w.1 none.0 (contents writer'.inner) b.done c.0 e.point [] o.stands
+      (b.final_whole low q (c.0 ∷ []) ∙ final-one [] old.limit c.0 b.point e n)
+      after w.2
+      (out-done-none old now writer reader h script told b low q)
+      (b.out_whole low q (c.0 ∷ []) ∙ ap (λ (v : List ℕ). b.printed ++ v) (out-one [] old.limit c.0 b.point e n))
+      (out-all-none old now writer reader h script told b low q ∙ ap (λ (v : List ℕ). b.printed ++ v) (ap (λ (ls : List (List ℕ)). out [] old.limit ls b.point) c.1 ∙ none.1)))

@@ -3,7 +3,8 @@ use Rattle.std.specs.Prelude.{ℕ, List, [], ◌∷◌, length, Option, Some, No
 use lib.Chars.{codes}
 use Rattle.std.specs.Option.{option_map, option_and_then, ok_or}
 use Rattle.std.specs.Str.{bytes_eq}
-use Rattle.bpfdb.specs.Script.{words, number}
+use Rattle.bpfdb.specs.Limits.{greatest_count, longest_line}
+use Rattle.bpfdb.specs.Lines.{words, number}
 use Rattle.bpfdb.specs.declared.command.Command.{Command}
 use Rattle.bpfdb.specs.declared.command.Command.TheVariants.{Step, ReverseStep, InfoRegisters, Quit}
 use Rattle.bpfdb.specs.declared.refusal.Refusal.{Refusal}
@@ -18,10 +19,10 @@ abbrev pub bare : Command → Arguments
 bare command [] = Some command
 bare command (word ∷ more) = None
 
--- a number from 1 to 1,000,000,000
+-- a number from 1 to the greatest
 abbrev pub count : List ℕ → Option ℕ
 count word =
-    option_and_then (λ n. if nat_le 1 n && nat_le n 1_000_000_000 then Some n else None) (number word)
+    option_and_then (λ n. if nat_le 1 n && nat_le n greatest_count then Some n else None) (number word)
 
 -- a count, which is 1 where it is left out
 abbrev pub optional_count : List (List ℕ) → Option ℕ
@@ -84,6 +85,6 @@ abbrev pub command_of_words : List (List ℕ) → Answer
 command_of_words [] = Ok None
 command_of_words (name ∷ more) = as_answer (command_named name more)
 
--- a line of more than 1,024 bytes is refused, whatever its words
+-- a line that is too long is refused, whatever its words
 unfoldable pub command_of : List ℕ → Answer
-command_of line = if nat_lt 1024 (length line) then Err LineTooLong else command_of_words (words line)
+command_of line = if nat_lt longest_line (length line) then Err LineTooLong else command_of_words (words line)

@@ -2,7 +2,8 @@ pub mod Alu
 pub mod Machine
 pub mod History
 pub mod Steps
-pub mod Script
+pub mod Limits
+pub mod Lines
 pub mod Refusals
 pub mod Commands
 pub mod Outcomes
@@ -12,6 +13,6 @@ pub mod Meaning
 pub mod Replies
 pub mod Sessions
 pub mod Output
-pub mod Scripts
+pub mod Runs
 pub mod Debug
 pub mod Laws

@@ -1,7 +1,11 @@
 //! Counts of steps and moves.
 ghost use Rattle.std.specs.Prelude.{◌≡◌, ◌≤◌, ◌↔◌, IfSome, IsSome};
+ghost use Rattle.bpfdb.specs.Limits.{greatest_count};
 
 use std::marker::Model;
+
+/// The greatest count, which is also the greatest limit of steps that a session may have.
+pub const GREATEST_COUNT: u64 = 1_000_000_000;
 
 /// How many steps or moves a command asks for: 1 to 1,000,000,000.
 #[derive(Clone, Copy)]
@@ -11,12 +15,13 @@ pub struct Count {
 
 impl Model for Count {
     ghost use Rattle.std.specs.Prelude.{ℕ, ◌≤◌};
+    ghost use Rattle.bpfdb.specs.Limits.{greatest_count};
 
     ghost Value = { ℕ };
 
     ghost view = { λ count. count.value };
 
-    ghost invariant = { λ count. (1 ≤ count.value) × (count.value ≤ 1_000_000_000) };
+    ghost invariant = { λ count. (1 ≤ count.value) × (count.value ≤ greatest_count) };
 
     ghost inverse = { λ n. record { value = n } };
 }
@@ -27,10 +32,10 @@ impl Count {
 
     /// The count of this value, None for 0 and above 1,000,000,000.
     pub fn new(value: u64) -> Option<Count>
-        ensures found { IsSome result ↔ ((1 ≤ value) × (value ≤ 1_000_000_000)) }
+        ensures found { IsSome result ↔ ((1 ≤ value) × (value ≤ greatest_count)) }
         ensures value { IfSome result (λ count. count ≡ value) }
     {
-        if (1..=1_000_000_000).contains(&value) {
+        if (1..=GREATEST_COUNT).contains(&value) {
             Some(Count { value })
         } else {
             None
@@ -40,7 +45,7 @@ impl Count {
     /// The count's value, 1 to 1,000,000,000.
     pub fn get(&self) -> u64
         ensures value { result ≡ self.now }
-        ensures fits { (1 ≤ result) × (result ≤ 1_000_000_000) }
+        ensures fits { (1 ≤ result) × (result ≤ greatest_count) }
     {
         self.value
     }

@@ -1,6 +1,7 @@
 //! The debugger of one program.
 ghost use Rattle.std.specs.Prelude.{◌≡◌, List, ℕ, OnOk, IfErr, Some, Err};
 ghost use Rattle.bpfdb.specs.Debug.{Debugs, DebugsBeginning, Stops};
+ghost use Rattle.bpfdb.specs.Limits.{default_limit};
 
 use crate::history::ListKeeper;
 use crate::machine::{Cpu, OpenFault};
@@ -11,8 +12,8 @@ use bpf_text::Counted;
 use std::alloc::Global;
 use std::io::{Read, Write};
 
-/// The most steps of a command.
-pub const STEP_LIMIT: u64 = 1_000_000;
+/// The most steps of a command of `debug`.
+pub const DEFAULT_LIMIT: u64 = 1_000_000;
 
 /// Why a program was not debugged to the end of its script.
 #[derive(Drop)]
@@ -38,12 +39,13 @@ pub fn debug<R: Read, W: Write>(
     // What is printed is what the script prints in a debugger that keeps whole states; what follows `quit`
     // is left unread.
     ensures value { OnOk result ((script told : List ℕ) → R.remaining reader.old.inner ≡ Some script →
-        W.contents writer.old.inner ≡ Some told → Debugs STEP_LIMIT program.now script told
+        W.contents writer.old.inner ≡ Some told → Debugs default_limit program.now script told
         (W.contents writer.new.inner) (R.remaining reader.new.inner)) }
-    // Where a read or a write fails, a beginning of that was printed.
+    // After a failed read all that the lines before it print was written, after a failed write all but the end of the
+    // last one's reply.
     ensures fault { (why : RunFault) (script told : List ℕ) → result ≡ Err (DebugFault.Run why) →
         R.remaining reader.old.inner ≡ Some script → W.contents writer.old.inner ≡ Some told →
-        DebugsBeginning STEP_LIMIT program.now script told (W.contents writer.new.inner) }
+        DebugsBeginning default_limit program.now why script told (W.contents writer.new.inner) }
     ensures err { IfErr result (λ fault. Stops program.now fault reader.old reader.new writer.old writer.new) }
     ensures ok { OnOk result ((reader.new.failures ≡ reader.old.failures) × (writer.new.failures ≡ writer.old.failures)) }
 {
@@ -56,7 +58,7 @@ pub fn debug<R: Read, W: Write>(
         Ok(cpu) => cpu,
         Err(fault) => return Err(DebugFault::Open(fault)),
     };
-    let mut session = Session::open(cpu, ListKeeper::new(alloc), STEP_LIMIT);
+    let mut session = Session::open(cpu, ListKeeper::new(alloc), DEFAULT_LIMIT);
     let answer = run(&mut session, reader, writer);
     session.close();
     match answer {

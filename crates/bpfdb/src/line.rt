@@ -2,7 +2,7 @@
 ghost use Rattle.std.specs.Prelude.{◌≡◌, ◌++◌, ◌∷◌, [], ◌↔◌, IsTrue, List, ℕ, false};
 ghost use Rattle.bpf_text.specs.Counted.{Tally};
 ghost use Rattle.bpfdb.specs.Commands.{command_of};
-ghost use Rattle.bpfdb.specs.Scripts.{Holds, ReadsLine};
+ghost use Rattle.bpfdb.specs.Runs.{Holds, ReadsLine};
 
 use crate::command::{Command, LONGEST_LINE, parse_command};
 use crate::refusal::Refusal;
@@ -19,7 +19,7 @@ pub struct Line {
 }
 
 impl Model for Line {
-    ghost use Rattle.bpfdb.specs.Scripts.{Buffer};
+    ghost use Rattle.bpfdb.specs.Runs.{Buffer};
 
     ghost Value = { Buffer };
 

@@ -1,7 +1,7 @@
 //! Numbers in command lines.
 ghost use Rattle.std.specs.Prelude.{◌≡◌, ◌≤◌, ◌<◌, ◌+◌, ◌*◌, ◌^◌, ◌↔◌, IsSome, IfSome};
 ghost use Rattle.std.specs.Char.{digit_value};
-ghost use Rattle.bpfdb.specs.Script.{number, numeral};
+ghost use Rattle.bpfdb.specs.Lines.{number, numeral};
 
 const HEXADECIMAL_PREFIX: &[u8] = b"0x";
 

@@ -5,7 +5,7 @@ ghost use Rattle.bpfdb.specs.History.{Record};
 ghost use Rattle.bpfdb.specs.Output.{is_quit};
 ghost use Rattle.bpfdb.specs.Refusals.{refusal_text};
 ghost use Rattle.bpfdb.specs.Replies.{text_of_answer};
-ghost use Rattle.bpfdb.specs.Scripts.{Fails, FailsOnce, Holds, ObeysLine, Prints, PrintsBeginning};
+ghost use Rattle.bpfdb.specs.Runs.{BreaksOff, Fails, FailsOnce, Holds, ObeysLine, Prints};
 ghost use Rattle.bpfdb.specs.Sessions.{HasPast};
 
 use crate::command::Command;
@@ -108,10 +108,11 @@ pub fn run<K: Keeper, R: Read, W: Write>(
         (W.contents writer.new.inner) (R.remaining reader.new.inner)) }
     ensures ok { OnOk result ((reader.new.failures ≡ reader.old.failures) × (writer.new.failures ≡ writer.old.failures)) }
     ensures err { IfErr result (λ fault. Fails fault reader.old reader.new writer.old writer.new) }
-    // Where a read or a write fails, a beginning of that was printed.
-    ensures fault { OnErr result ((h : List Record) (script told : List ℕ) → HasPast K.holds session.old h →
+    // Where a read or a write fails, the session stands behind the lines that it obeyed. After a failed read all that
+    // they print was written, after a failed write all but the end of the last one's reply.
+    ensures fault { IfErr result (λ why. (h : List Record) (script told : List ℕ) → HasPast K.holds session.old h →
         R.remaining reader.old.inner ≡ Some script → W.contents writer.old.inner ≡ Some told →
-        PrintsBeginning K.refused session.old session.new h script told (W.contents writer.new.inner)) }
+        BreaksOff K.holds K.refused session.old session.new why h script told (W.contents writer.new.inner)) }
     ensures same { session.new.limit ≡ session.old.limit }
 {
     let mut line = Line::new();

@@ -2,6 +2,7 @@
 ghost use Rattle.std.specs.Prelude.{◌≡◌, ◌≤◌, List};
 ghost use Rattle.bpf_text.specs.Writing.{Writes};
 ghost use Rattle.bpfdb.specs.History.{HasHistory, Record};
+ghost use Rattle.bpfdb.specs.Limits.{greatest_count};
 ghost use Rattle.bpfdb.specs.Meaning.{does};
 ghost use Rattle.bpfdb.specs.Outcomes.{Obeys};
 ghost use Rattle.bpfdb.specs.Replies.{text_of_reply};
@@ -19,9 +20,6 @@ use bpf_text::{Counted, WriteFault};
 use std::io::Write;
 use std::marker::Model;
 
-/// The most steps that the limit of a command may be.
-pub const GREATEST_LIMIT: u64 = 1_000_000_000;
-
 /// A session of commands.
 #[derive(Drop)]
 pub struct Session<K: Keeper> {
@@ -31,9 +29,9 @@ pub struct Session<K: Keeper> {
 
 impl<K: Keeper> Model for Session<K> {
     ghost use Rattle.std.specs.Prelude.{◌≤◌};
-    ghost use Rattle.bpfdb.specs.Sessions.{Standing};
+    ghost use Rattle.bpfdb.specs.Sessions.{SessionValue};
 
-    ghost Value = { Standing K };
+    ghost Value = { SessionValue K };
 
     ghost view = { λ s. record { timeline = s.timeline; limit = s.limit } };
 
@@ -45,7 +43,7 @@ impl<K: Keeper> Session<K> {
     /// `limit` is the most steps of a command, 1 to 1,000,000,000.
     pub fn open(cpu: Cpu, keeper: K, limit: u64) -> Session<K>
         requires past { HasHistory K.holds keeper cpu }
-        requires limit { (1 ≤ limit) × (limit ≤ GREATEST_LIMIT) }
+        requires limit { (1 ≤ limit) × (limit ≤ greatest_count) }
         ensures { result ≡ record { timeline = (cpu, keeper); limit = limit } }
     {
         Session {

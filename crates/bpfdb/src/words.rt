@@ -1,7 +1,7 @@
 //! The words of a line.
 ghost use Rattle.std.specs.Prelude.{◌≡◌, [], ◌∷◌, drop, not, IfNone, IsOk, IfErr, MatchOption, ◌↔◌};
 ghost use Rattle.std.specs.List.{position_or_len};
-ghost use Rattle.bpfdb.specs.Script.{is_blank, words};
+ghost use Rattle.bpfdb.specs.Lines.{is_blank, words};
 
 use crate::refusal::Refusal;
 use std::marker::Model;
@@ -14,7 +14,7 @@ pub(crate) struct Words<'a> {
 
 impl<'a> Model for Words<'a> {
     ghost use Rattle.std.specs.Prelude.{ℕ, List};
-    ghost use Rattle.bpfdb.specs.Script.{words};
+    ghost use Rattle.bpfdb.specs.Lines.{words};
 
     ghost Value = { List (List ℕ) };
 

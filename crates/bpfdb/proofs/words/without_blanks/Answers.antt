@@ -5,7 +5,7 @@ use Rattle.std.specs.List.{position_or_len}
 use Rattle.std.proofs.lemmas.List.{take_all, length-drop}
 use Rattle.std.proofs.lemmas.Iterator.{YieldsList-from_slice}
 use Rattle.std.proofs.lemmas.Iterator.Search.{position_from_yields_List}
-use Rattle.bpfdb.specs.Script.{is_blank}
+use Rattle.bpfdb.specs.Lines.{is_blank}
 use Rattle.bpfdb.proofs.Cuts.{unwrap_or-position}
 use Rattle.bpfdb.proofs.words.without_blanks.Goals as goal
 

@@ -2,7 +2,7 @@ use Rattle.std.proofs.Common.{ap, ◌∙◌, length, rules, tests}
 use Rattle.std.specs.Option.{unwrap_or}
 use Rattle.std.proofs.lemmas.Iterator.{YieldsList-from_slice}
 use Rattle.std.proofs.lemmas.Iterator.Search.{position_from_yields_List}
-use Rattle.bpfdb.specs.Script.{is_blank}
+use Rattle.bpfdb.specs.Lines.{is_blank}
 use Rattle.bpfdb.proofs.Cuts.{unwrap_or-position}
 use Rattle.bpfdb.proofs.words.word_len.Goals as goal
 

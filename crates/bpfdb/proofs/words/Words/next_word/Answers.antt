@@ -1,7 +1,7 @@
 use Rattle.std.proofs.Common.{◌≡◌, ◌<◌, ap, sym, ◌∙◌, length, refl, arith, rules, tests}
 use Rattle.std.specs.Prelude.{not}
 use Rattle.std.proofs.lemmas.List.Sums.{prefix_len-le-length}
-use Rattle.bpfdb.specs.Script.{is_blank, words}
+use Rattle.bpfdb.specs.Lines.{is_blank, words}
 use Rattle.bpfdb.proofs.Cuts.{words-drop_blanks, words-first, first-word_byte, words-empty}
 use Rattle.bpfdb.proofs.words.Words.next_word.Goals as goal
 

@@ -1,4 +1,4 @@
--- Scripts: how a text is cut into lines and a line into words, and which words are numbers (bpfdb's own choice).
+-- The lines of a script: how a text is cut into lines and a line into words, and which words are numbers (bpfdb's own choice).
 use Rattle.std.specs.Prelude.{ℕ, ◌^◌, Bool, ◌&&◌, ◌||◌, List, [], ◌∷◌, length, take, drop, Option, Some, None, if◌then◌else◌, nat_lt, ◌==◌}
 use lib.Chars.{codes}
 use Rattle.std.specs.Char.{is_digit}
