@@ -26,7 +26,8 @@ pub fn go_forward<K: Keeper>(
         return Err(Refusal::MachineEnded);
     }
     for k in 0..limit {
-        match timeline.step(k == 0) {
+        let is_first = k == 0;
+        match timeline.step(is_first) {
             Ok(()) => {}
             Err(StepFault::Ended) => unreachable!(),
             Err(StepFault::Memory) => return cut_short(k),
