@@ -7,6 +7,7 @@ mod count;
 mod debug;
 mod forward;
 mod history;
+mod input;
 mod laws;
 mod line;
 mod machine;
@@ -22,6 +23,7 @@ mod words;
 
 use bpf_text::Counted;
 use debug::debug;
+use input::Input;
 use std::io;
 use std::io::{BufReader, BufWriter};
 use std::process::ExitCode;
@@ -42,9 +44,9 @@ fn main(rt: HostRuntime) -> ExitCode {
     }
 }
 
-/// Debugs the program with the script from standard input.
+/// Debugs the program with the script from standard input. Where that is closed, the script is empty.
 fn debug_standard_input(rt: &HostRuntime) -> Result<(), ()> {
-    let input = BufReader::new(rt.alloc(), rt.reader()).map_err(|_| ())?;
+    let input = BufReader::new(rt.alloc(), Input::new(rt.reader())).map_err(|_| ())?;
     let output = BufWriter::new(rt.alloc(), io::writer(rt)).map_err(|_| ())?;
     let mut reader = Counted::new(input);
     let mut writer = Counted::new(output);
