@@ -2,3 +2,4 @@
 mod faults;
 mod lines;
 mod sessions;
+mod transcripts;
