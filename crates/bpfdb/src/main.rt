@@ -45,6 +45,9 @@ fn main(rt: HostRuntime) -> ExitCode {
 }
 
 /// Debugs the program with the script from standard input. Where that is closed, the script is empty.
+///
+/// The input is read in large pieces, so a program that reads on behind `quit` in the same pipe finds less than the script
+/// left there, mostly nothing.
 fn debug_standard_input(rt: &HostRuntime) -> Result<(), ()> {
     let input = BufReader::new(rt.alloc(), Input::new(rt.reader())).map_err(|_| ())?;
     let output = BufWriter::new(rt.alloc(), io::writer(rt)).map_err(|_| ())?;

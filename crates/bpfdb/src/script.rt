@@ -116,7 +116,7 @@ pub fn run<K: Keeper, R: Read, W: Write>(
     ensures same { session.new.limit ≡ session.old.limit }
 {
     let mut line = Line::new();
-    loop {
+    'lines: loop {
         match next_line(reader, &mut line) {
             Err(_) => return Err(RunFault::Read),
             Ok(more) => {

@@ -2,9 +2,9 @@ use Rattle.std.proofs.Common.{◌-◌, ◌^◌}
 use Rattle.bpfdb.proofs.Running.{Running}
 use Rattle.bpfdb.proofs.script.run.Given as goal
 
-abbrev pub invariant-loop-more : goal.invariant-loop-more
-invariant-loop-more g l = Running g.K.Keeper.holds g.K.Keeper.refused g.R.Read.remaining g.W.Write.contents l.fn.session l.session l.fn.reader l.reader l.fn.writer l.writer
+abbrev pub invariant-lines : goal.invariant-lines
+invariant-lines g l = Running g.K.Keeper.holds g.K.Keeper.refused g.R.Read.remaining g.W.Write.contents l.fn.session l.session l.fn.reader l.reader l.fn.writer l.writer
 
 -- the reads that are left
-abbrev pub decreases-loop-more : goal.decreases-loop-more
-decreases-loop-more g l = 2 ^ 64 - 1 - l.reader.reads
+abbrev pub decreases-lines : goal.decreases-lines
+decreases-lines g l = 2 ^ 64 - 1 - l.reader.reads
