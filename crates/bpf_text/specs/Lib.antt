@@ -2,13 +2,14 @@ pub mod Canonical
 pub mod Counted
 pub mod Cuts
 pub mod Faults
+pub mod LabelMap
 pub mod Laws
 pub mod Listing
 pub mod Mnemonics
 pub mod Named
 pub mod Operands
-pub mod Placed
 pub mod Reading
 pub mod Statements
+pub mod TextKey
 pub mod Tokens
 pub mod Writing

@@ -2,22 +2,21 @@
 ghost use Rattle.std.specs.Prelude.{◌≡◌, ◌≤◌, IfOk, IfErr, Ok, Err, OnOk, List, ℕ, option_map};
 ghost use Rattle.bpf_text.specs.Cuts.{lines, label_of};
 ghost use Rattle.bpf_text.specs.Listing.{first_round, line_end, labels_with, no_label, line_or, IsFaultOf};
-ghost use Rattle.bpf_text.specs.Placed.{places};
+ghost use Rattle.bpf_text.specs.LabelMap.{labels_in};
 
 use crate::cut::{after, before};
 use crate::fault::{AsmFault, LineFault};
-use crate::labels::{is_defined, no_labels, put_labels};
+use crate::labels::{LabelMap, is_defined, no_labels, put_labels};
 use crate::line::{is_clean, label_of, slot_after};
 use std::alloc::Global;
-use std::collections::HashMap;
 
 /// The slot of each label of a listing, or its first fault of the first round.
-pub fn first_round<'a>(alloc: Global, text: &'a [u8]) -> Result<HashMap<&'a [u8], u16>, AsmFault>
+pub fn first_round<'a>(alloc: Global, text: &'a [u8]) -> Result<LabelMap<'a>, AsmFault>
     ensures ok { IfOk result (λ labels.
-        first_round no_label 0 1 (lines text.now) ≡ Ok (places labels)) }
+        first_round no_label 0 1 (lines text.now) ≡ Ok (labels_in labels)) }
     ensures err { IfErr result (IsFaultOf (first_round no_label 0 1 (lines text.now))) }
 {
-    let mut labels = no_labels(alloc);
+    let mut labels = no_labels(alloc, text);
     let mut slot = 0;
     let mut number = 1;
     let mut rest = text;
@@ -39,9 +38,9 @@ pub fn first_round<'a>(alloc: Global, text: &'a [u8]) -> Result<HashMap<&'a [u8]
 }
 
 // The slot after a line, or its first fault.
-fn line_end(labels: &HashMap<&[u8], u16>, slot: usize, line: &[u8]) -> Result<usize, LineFault>
+fn line_end(labels: &LabelMap<'_>, slot: usize, line: &[u8]) -> Result<usize, LineFault>
     requires { slot ≤ 65535 }
-    ensures value { result ≡ line_end (places labels.now) slot line.now }
+    ensures value { result ≡ line_end (labels_in labels.now) slot line.now }
     ensures within { IfOk result (λ next. next ≤ 65535) }
 {
     if !is_clean(line) {

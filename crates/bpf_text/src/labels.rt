@@ -1,26 +1,30 @@
 //! Where labels stand.
 ghost use Rattle.std.specs.Prelude.{◌≡◌, ℕ, List, Some, None, OnOk, option_map};
 ghost use Rattle.bpf_text.specs.Listing.{labels_with, is_defined};
-ghost use Rattle.bpf_text.specs.Placed.{places};
+ghost use Rattle.bpf_text.specs.LabelMap.{labels_in};
 
+use crate::text_key::TextKey;
+use indexmap::IndexMap;
 use std::alloc::{AllocError, Global};
-use std::collections::HashMap;
 
-/// No label.
-pub fn no_labels<'a>(alloc: Global) -> HashMap<&'a [u8], u16>
-    ensures { (name : List ℕ) → places result name ≡ None }
+/// The slot of each label that was met, in the order of the labels' lines.
+pub type LabelMap<'a> = IndexMap<&'a [u8], u16, TextKey>;
+
+/// No label, in a map that hashes by this text.
+pub fn no_labels<'a>(alloc: Global, text: &[u8]) -> LabelMap<'a>
+    ensures { (name : List ℕ) → labels_in result name ≡ None }
 {
-    HashMap::new(alloc)
+    IndexMap::with_hasher(alloc, TextKey::of(text))
 }
 
 /// Puts a line's label, if it has one, at a slot.
 pub fn put_labels<'a>(
-    labels: &mut HashMap<&'a [u8], u16>,
+    labels: &mut LabelMap<'a>,
     label: Option<&'a [u8]>,
     slot: u16,
 ) -> Result<(), AllocError>
-    ensures { OnOk result ((q : List ℕ) → places labels.new q
-        ≡ labels_with (places labels.old) slot (option_map (λ r. r.now) label.entry) q) }
+    ensures { OnOk result ((q : List ℕ) → labels_in labels.new q
+        ≡ labels_with (labels_in labels.old) slot (option_map (λ r. r.now) label.entry) q) }
 {
     match label {
         Some(name) => put_label(labels, name, slot),
@@ -29,8 +33,8 @@ pub fn put_labels<'a>(
 }
 
 /// Whether a line's label is there already.
-pub fn is_defined(labels: &HashMap<&[u8], u16>, label: Option<&[u8]>) -> bool
-    ensures { result ≡ is_defined (places labels.now) (option_map (λ r. r.now) label.entry) }
+pub fn is_defined(labels: &LabelMap<'_>, label: Option<&[u8]>) -> bool
+    ensures { result ≡ is_defined (labels_in labels.now) (option_map (λ r. r.now) label.entry) }
 {
     match label {
         Some(name) => slot_of(labels, name).is_some(),
@@ -38,13 +42,9 @@ pub fn is_defined(labels: &HashMap<&[u8], u16>, label: Option<&[u8]>) -> bool
     }
 }
 
-fn put_label<'a>(
-    labels: &mut HashMap<&'a [u8], u16>,
-    name: &'a [u8],
-    slot: u16,
-) -> Result<(), AllocError>
-    ensures { OnOk result ((q : List ℕ) → places labels.new q
-        ≡ labels_with (places labels.old) slot (Some name.now) q) }
+fn put_label<'a>(labels: &mut LabelMap<'a>, name: &'a [u8], slot: u16) -> Result<(), AllocError>
+    ensures { OnOk result ((q : List ℕ) → labels_in labels.new q
+        ≡ labels_with (labels_in labels.old) slot (Some name.now) q) }
 {
     match labels.insert(name, slot) {
         Ok(_) => Ok(()),
@@ -53,8 +53,8 @@ fn put_label<'a>(
 }
 
 /// The slot of a label, if there is one.
-pub fn slot_of(labels: &HashMap<&[u8], u16>, name: &[u8]) -> Option<u16>
-    ensures { result ≡ places labels.now name.now }
+pub fn slot_of(labels: &LabelMap<'_>, name: &[u8]) -> Option<u16>
+    ensures { result ≡ labels_in labels.now name.now }
 {
     labels.get(name).copied()
 }

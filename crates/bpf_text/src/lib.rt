@@ -21,6 +21,7 @@ mod statement;
 mod table;
 #[cfg(test)]
 mod tests;
+mod text_key;
 mod token;
 mod writing;
 

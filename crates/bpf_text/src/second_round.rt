@@ -2,27 +2,22 @@
 ghost use Rattle.std.specs.Prelude.{◌≡◌, ◌≤◌, ◌+◌, ◌≤ℤ◌, ◌-ℤ◌, pos, IfOk, IfErr, OnOk, Ok, Err, Some, if◌then◌else◌, ℕ, List, option_map};
 ghost use Rattle.bpf_text.specs.Cuts.{lines};
 ghost use Rattle.bpf_text.specs.Listing.{resolved, with_distance, with_label, with_target, second_round, slot_after, AreBytes, AppendsWord, IsFaultOf, fits_offset};
-ghost use Rattle.bpf_text.specs.Placed.{places};
+ghost use Rattle.bpf_text.specs.LabelMap.{labels_in};
 
 use crate::cut::{after, before};
 use crate::fault::{AsmFault, LineFault};
-use crate::labels::slot_of;
+use crate::labels::{LabelMap, slot_of};
 use crate::line::{insn_of, slot_after_insn, slots_of, target_of};
 use bpf_isa::{Insn, encode};
 use std::alloc::{AllocError, Global};
-use std::collections::HashMap;
 
 /// The bytes of a listing that met no fault in the first round, or its first fault of the second.
-pub fn second_round(
-    alloc: Global,
-    text: &[u8],
-    labels: &HashMap<&[u8], u16>,
-) -> Result<Vec<u8>, AsmFault>
+pub fn second_round(alloc: Global, text: &[u8], labels: &LabelMap<'_>) -> Result<Vec<u8>, AsmFault>
     ensures ok { OnOk result
-        (second_round (places labels.now) 0 1 (lines text.now) ≡ Ok tt) }
+        (second_round (labels_in labels.now) 0 1 (lines text.now) ≡ Ok tt) }
     ensures value { IfOk result (λ bytes.
-        AreBytes (places labels.now) 0 (lines text.now) bytes.items) }
-    ensures err { IfErr result (IsFaultOf (second_round (places labels.now) 0 1 (lines text.now))) }
+        AreBytes (labels_in labels.now) 0 (lines text.now) bytes.items) }
+    ensures err { IfErr result (IsFaultOf (second_round (labels_in labels.now) 0 1 (lines text.now))) }
 {
     let mut bytes = Vec::new(alloc);
     let mut slot = 0;
@@ -68,13 +63,9 @@ fn put_word(bytes: &mut Vec<u8>, insn: Result<Option<Insn>, LineFault>) -> Resul
 }
 
 // The instruction of a line in a slot, its label replaced by the distance.
-fn resolved(
-    labels: &HashMap<&[u8], u16>,
-    slot: usize,
-    line: &[u8],
-) -> Result<Option<Insn>, LineFault>
+fn resolved(labels: &LabelMap<'_>, slot: usize, line: &[u8]) -> Result<Option<Insn>, LineFault>
     requires { slot ≤ 65535 }
-    ensures { result ≡ resolved (places labels.now) slot line.now }
+    ensures { result ≡ resolved (labels_in labels.now) slot line.now }
 {
     match insn_of(line) {
         Err(fault) => Err(fault),
@@ -84,13 +75,13 @@ fn resolved(
 }
 
 fn with_target(
-    labels: &HashMap<&[u8], u16>,
+    labels: &LabelMap<'_>,
     slot: usize,
     insn: Insn,
     target: Option<&[u8]>,
 ) -> Result<Option<Insn>, LineFault>
     requires { slot ≤ 65535 }
-    ensures { result ≡ with_target (places labels.now) slot (Ok (Some insn))
+    ensures { result ≡ with_target (labels_in labels.now) slot (Ok (Some insn))
         (option_map (λ r. r.now) target.entry) }
 {
     match target {

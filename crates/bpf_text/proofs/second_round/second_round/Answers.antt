@@ -3,7 +3,7 @@ use Rattle.std.proofs.Common.{◌≡◌, ◌<◌, ◌∙◌, length, ap, sym, ar
 use Rattle.std.proofs.lemmas.Grind.{common_steps}
 use Rattle.bpf_text.specs.Cuts.{lines}
 use Rattle.bpf_text.specs.Listing.{AreBytes}
-use Rattle.bpf_text.specs.Placed.{places}
+use Rattle.bpf_text.specs.LabelMap.{labels_in}
 use Rattle.bpf_text.proofs.Cutting.{length-after}
 use Rattle.bpf_text.proofs.Rounds.{second_round-Err, second_round-Ok, AreBytes-more, AreBytes-end}
 use Rattle.bpf_text.proofs.second_round.second_round.Goals as goal
@@ -12,13 +12,13 @@ pub returns-in-Err-clause-err : goal.returns-in-Err-clause-err
 returns-in-Err-clause-err c =
     let more : 0 < length c.loop-rest.rest.now = grind (arith, common_steps) in
     sym c.loop-rest.invariant.round
-    ∙ second_round-Err (places c.args.labels.now) c.loop-rest.slot c.loop-rest.number c.loop-rest.rest.now _ _ _ more
+    ∙ second_round-Err (labels_in c.args.labels.now) c.loop-rest.slot c.loop-rest.number c.loop-rest.rest.now _ _ _ more
     c.before-line.ensures c.resolved-insn.ensures (sym c.in-Err.ensures.value)
 
 pub loop-rest-preserved : goal.loop-rest-preserved
 loop-rest-preserved c =
     let more : 0 < length c.loop-rest.rest.now = grind (arith, common_steps) in
-    let labels = places c.args.labels.now in
+    let labels = labels_in c.args.labels.now in
     record {
       within = c.in-Ok.ensures.within;
       count = omega (arith, length-after 10 c.loop-rest.rest.now more, ap length c.after-rest.ensures);
@@ -33,5 +33,5 @@ loop-rest-preserved c =
 pub returns-clause-value : goal.returns-clause-value
 returns-clause-value c =
     let none : length c.loop-rest.rest.now ≡ 0 = grind (arith, common_steps) in
-    AreBytes-end (places c.args.labels.now) c.loop-rest.slot c.loop-rest.rest.now c.loop-rest.bytes.items
-    (AreBytes (places c.args.labels.now) 0 (lines c.args.text.now)) none c.loop-rest.invariant.spelled
+    AreBytes-end (labels_in c.args.labels.now) c.loop-rest.slot c.loop-rest.rest.now c.loop-rest.bytes.items
+    (AreBytes (labels_in c.args.labels.now) 0 (lines c.args.text.now)) none c.loop-rest.invariant.spelled

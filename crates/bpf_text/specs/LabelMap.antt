@@ -1,0 +1,9 @@
+-- The labels that a map holds.
+use Rattle.std.specs.Prelude.{ℕ, List}
+use Rattle.std.specs.Str.{bytes_eq}
+use Rattle.indexmap.specs.IndexMap.{IndexMap, get_by}
+use Rattle.std.specs.Borrow.{Bor}
+use Rattle.bpf_text.specs.Listing.{Labels}
+
+abbrev pub labels_in : {S : Type 0} → IndexMap (Bor (List ℕ)) ℕ S → Labels
+labels_in map = λ q. get_by (λ name. bytes_eq q name.now) map
