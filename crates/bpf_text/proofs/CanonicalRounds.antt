@@ -88,31 +88,31 @@ Fresh-next true labels p h fresh q more most =
     rw (label-other p q h most (λ e. absurd (omega arith))) (fresh q (omega arith) most)
 
 -- the first round at a slot, and over all
-first_round-slot : (b : Bool) (labels : Labels) (p number next : ℕ) (i : Insn) (tail : List (List ℕ)) (result : Result Labels AsmFault)
+first_round-slot : (b : Bool) (labels : Labels) (p line_number next : ℕ) (i : Insn) (tail : List (List ℕ)) (result : Result Labels AsmFault)
     → p ≤ 65535 → Fresh labels p → InsnFits i → TargetFits (target_of p i) → p + slots_of i ≤ 65535
     → next ≡ p + slots_of i
     → ((count : ℕ) → first_round (labels_at b labels p) next count tail ≡ result)
-    → first_round labels p number (slot_list b p (Some i) ++ tail) ≡ result
-first_round-slot false labels p number next i tail result h fresh fits t room e follows =
+    → first_round labels p line_number (slot_list b p (Some i) ++ tail) ≡ result
+first_round-slot false labels p line_number next i tail result h fresh fits t room e follows =
     let read = Reads-insn p i fits t in
-    rw (line_end-insn labels p i fits t room, read.label, ← e) (follows (number + 1))
-first_round-slot true labels p number next i tail result h fresh fits t room e follows =
+    rw (line_end-insn labels p i fits t room, read.label, ← e) (follows (line_number + 1))
+first_round-slot true labels p line_number next i tail result h fresh fits t room e follows =
     let named = Reads-label p (omega arith) in
     let read = Reads-insn p i fits t in
     let here = line_end-label labels p h (fresh p (omega arith) h) in
     let there = line_end-insn (labels_with labels p (Some (label_text p))) p i fits t room in
-    rw (here, named.label, there, read.label, ← e) (follows (number + 1 + 1))
+    rw (here, named.label, there, read.label, ← e) (follows (line_number + 1 + 1))
 
-pub first_round-canonical : (f : ℕ → Bool) (labels : Labels) (p number : ℕ) (rest : List (Option Insn))
+pub first_round-canonical : (f : ℕ → Bool) (labels : Labels) (p line_number : ℕ) (rest : List (Option Insn))
     → p + length rest ≤ 65535 → AllFit p rest → WellCut p rest → Fresh labels p
-    → first_round labels (slot_of p rest) number (line_list f p rest) ≡ Ok (labels_after f labels p rest)
-first_round-canonical f labels p number [] h fits cut fresh = refl
-first_round-canonical f labels p number (None ∷ rest) h fits cut fresh =
-    let S : ℕ → Type 0 = λ s. first_round labels s number (line_list f (p + 1) rest) ≡ Ok (labels_after f labels (p + 1) rest) in
-    subst S cut.0 (first_round-canonical f labels (p + 1) number rest (omega arith) fits.1 cut.1 (λ q more most. fresh q (omega arith) most))
-first_round-canonical f labels p number (Some i ∷ rest) h fits cut fresh =
+    → first_round labels (slot_of p rest) line_number (line_list f p rest) ≡ Ok (labels_after f labels p rest)
+first_round-canonical f labels p line_number [] h fits cut fresh = refl
+first_round-canonical f labels p line_number (None ∷ rest) h fits cut fresh =
+    let S : ℕ → Type 0 = λ s. first_round labels s line_number (line_list f (p + 1) rest) ≡ Ok (labels_after f labels (p + 1) rest) in
+    subst S cut.0 (first_round-canonical f labels (p + 1) line_number rest (omega arith) fits.1 cut.1 (λ q more most. fresh q (omega arith) most))
+first_round-canonical f labels p line_number (Some i ∷ rest) h fits cut fresh =
     let most = slot_of-le (p + 1) rest in
-    first_round-slot (f p) labels p number (slot_of (p + 1) rest) i (line_list f (p + 1) rest) _ (omega arith) fresh
+    first_round-slot (f p) labels p line_number (slot_of (p + 1) rest) i (line_list f (p + 1) rest) _ (omega arith) fresh
     fits.0.0 fits.0.1 (omega (arith, cut.0, most)) cut.0
     (λ count. first_round-canonical f (labels_at (f p) labels p) (p + 1) count rest (omega arith) fits.1 cut.1
     (Fresh-next (f p) labels p (omega arith) fresh))
@@ -208,25 +208,25 @@ slot_after-insn : (p : ℕ) (i : Insn) → p + slots_of i ≤ 65535 → slot_aft
 slot_after-insn p i room = let within : nat_le (p + slots_of i) 65535 ≡ true = grind (arith, nat_tests) in rw within refl
 
 -- the second round at a slot, and over all
-second_round-slot : (b : Bool) (labels : Labels) (p number next : ℕ) (i : Insn) (tail : List (List ℕ))
+second_round-slot : (b : Bool) (labels : Labels) (p line_number next : ℕ) (i : Insn) (tail : List (List ℕ))
     → p ≤ 65535 → InsnFits i → Reaches labels (target_of p i) → p + slots_of i ≤ 65535 → next ≡ p + slots_of i
     → ((count : ℕ) → second_round labels next count tail ≡ Ok tt)
-    → second_round labels p number (slot_list b p (Some i) ++ tail) ≡ Ok tt
-second_round-slot false labels p number next i tail h fits reach room e follows =
-    rw (resolved-insn labels p i fits reach, slot_after-insn p i room, ← e) (follows (number + 1))
-second_round-slot true labels p number next i tail h fits reach room e follows =
-    rw (resolved-label labels p h, resolved-insn labels p i fits reach, slot_after-insn p i room, ← e) (follows (number + 1 + 1))
+    → second_round labels p line_number (slot_list b p (Some i) ++ tail) ≡ Ok tt
+second_round-slot false labels p line_number next i tail h fits reach room e follows =
+    rw (resolved-insn labels p i fits reach, slot_after-insn p i room, ← e) (follows (line_number + 1))
+second_round-slot true labels p line_number next i tail h fits reach room e follows =
+    rw (resolved-label labels p h, resolved-insn labels p i fits reach, slot_after-insn p i room, ← e) (follows (line_number + 1 + 1))
 
-pub second_round-canonical : (f : ℕ → Bool) (labels : Labels) (p number : ℕ) (rest : List (Option Insn))
+pub second_round-canonical : (f : ℕ → Bool) (labels : Labels) (p line_number : ℕ) (rest : List (Option Insn))
     → p + length rest ≤ 65535 → AllFit p rest → WellCut p rest → AllReach labels p rest
-    → second_round labels (slot_of p rest) number (line_list f p rest) ≡ Ok tt
-second_round-canonical f labels p number [] h fits cut reach = refl
-second_round-canonical f labels p number (None ∷ rest) h fits cut reach =
-    let S : ℕ → Type 0 = λ s. second_round labels s number (line_list f (p + 1) rest) ≡ Ok tt in
-    subst S cut.0 (second_round-canonical f labels (p + 1) number rest (omega arith) fits.1 cut.1 reach.1)
-second_round-canonical f labels p number (Some i ∷ rest) h fits cut reach =
+    → second_round labels (slot_of p rest) line_number (line_list f p rest) ≡ Ok tt
+second_round-canonical f labels p line_number [] h fits cut reach = refl
+second_round-canonical f labels p line_number (None ∷ rest) h fits cut reach =
+    let S : ℕ → Type 0 = λ s. second_round labels s line_number (line_list f (p + 1) rest) ≡ Ok tt in
+    subst S cut.0 (second_round-canonical f labels (p + 1) line_number rest (omega arith) fits.1 cut.1 reach.1)
+second_round-canonical f labels p line_number (Some i ∷ rest) h fits cut reach =
     let most = slot_of-le (p + 1) rest in
-    second_round-slot (f p) labels p number (slot_of (p + 1) rest) i (line_list f (p + 1) rest) (omega arith)
+    second_round-slot (f p) labels p line_number (slot_of (p + 1) rest) i (line_list f (p + 1) rest) (omega arith)
     fits.0.0 reach.0 (omega (arith, cut.0, most)) cut.0
     (λ count. second_round-canonical f labels (p + 1) count rest (omega arith) fits.1 cut.1 reach.1)
 

@@ -6,7 +6,7 @@ use Rattle.std.proofs.lemmas.List.{take_more}
 use Rattle.std.proofs.lemmas.Bool.Decides.{nat_tests}
 use Rattle.bpf_text.specs.Cuts.{is_blank, onto_trimmed, trim_end, lines, onto_line, before, after}
 
--- the place of an element, or the length
+-- the index of an element, or the length
 pub unwrap_or-position : (p : ℕ → Bool) (xs : List ℕ) → unwrap_or (position p xs) (length xs) ≡ position_or_len p xs
 unwrap_or-position p xs = go (nat_lt (position_or_len p xs) (length xs)) refl where
   go : (b : Bool) → nat_lt (position_or_len p xs) (length xs) ≡ b
@@ -60,9 +60,9 @@ lines-byte : (b : ℕ) (s : List ℕ) (t : Bool) → (b == 10) ≡ t → (0 < le
     → lines (b ∷ s) ≡ before 10 (b ∷ s) ∷ lines (after 10 (b ∷ s))
 lines-byte b s true e rest = rw e refl
 lines-byte b s false e rest =
-    let place : 1 + position_or_len (λ x. x == 10) s ≡ suc (position_or_len (λ x. x == 10) s) = omega arith in
+    let shifted : 1 + position_or_len (λ x. x == 10) s ≡ suc (position_or_len (λ x. x == 10) s) = omega arith in
     let next : suc (position_or_len (λ x. x == 10) s) + 1 ≡ suc (position_or_len (λ x. x == 10) s + 1) = omega arith in
-    rw (e, place, next) (onto_line-lines b s rest)
+    rw (e, shifted, next) (onto_line-lines b s rest)
 
 -- the first line and the others
 pub lines-cut : (s : List ℕ) → 0 < length s → lines s ≡ before 10 s ∷ lines (after 10 s)

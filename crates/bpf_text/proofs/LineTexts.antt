@@ -9,7 +9,7 @@ use Rattle.bpf_isa.specs.Programs.{target_of}
 use Rattle.bpf_text.specs.declared.operand.Operand.{Operand}
 use Rattle.bpf_text.specs.declared.operand.Operands.{Operands}
 use Rattle.bpf_text.specs.declared.operand.Operands.TheVariants.{Nothing, One, Two, Three}
-use Rattle.bpf_text.specs.Cuts.{is_blank, is_text, is_name, lines, before, after, trim, trim_start, code_of, label_of, body_of, is_labelled, mnemonic_text}
+use Rattle.bpf_text.specs.Cuts.{is_blank, is_text, is_name, lines, before, after, trim, trim_start, code_of, label_of, body_of, is_labelled, mnemonic_part}
 use Rattle.bpf_text.specs.Cuts as cuts
 use Rattle.bpf_text.specs.Mnemonics.{mnemonic_of, name_of}
 use Rattle.bpf_text.specs.Operands.{operand_text, operands_text, operands_of, text_of_insn, label_text}
@@ -54,8 +54,8 @@ pub record IsInsnLine (name rest line : List ℕ) : Type 0 where
   pub plain : are_plain name ≡ true
   pub code : list_all is_code line ≡ true
   pub snug : Snug line
-  pub mnemonic : mnemonic_text line ≡ name
-  pub operands : cuts.operands_text line ≡ rest
+  pub mnemonic : mnemonic_part line ≡ name
+  pub operands : cuts.operands_part line ≡ rest
 
 line-none : (name : List ℕ) → are_plain name ≡ true → 0 < length name → IsInsnLine name [] name
 line-none name p some = record {
@@ -133,12 +133,12 @@ pub record Reads (line : List ℕ) (name : Option (List ℕ)) (i : Option Insn) 
   pub target : target_of_line line ≡ goes
 
 insn_of_body-some : (s : List ℕ) → 0 < length s
-    → insn_of_body s ≡ insn_of_mnemonic (named (mnemonic_text s)) (cuts.operands_text s)
+    → insn_of_body s ≡ insn_of_mnemonic (named (mnemonic_part s)) (cuts.operands_part s)
 insn_of_body-some [] h = absurd (omega arith)
 insn_of_body-some (b ∷ s) h = refl
 
 target_of_body-some : (s : List ℕ) → 0 < length s
-    → target_of_body s ≡ target_of_mnemonic (named (mnemonic_text s)) (cuts.operands_text s)
+    → target_of_body s ≡ target_of_mnemonic (named (mnemonic_part s)) (cuts.operands_part s)
 target_of_body-some [] h = absurd (omega arith)
 target_of_body-some (b ∷ s) h = refl
 

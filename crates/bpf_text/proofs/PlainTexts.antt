@@ -51,7 +51,7 @@ are_plain-decimal = decimal_by_steps (λ n ds. are_plain ds ≡ true)
     (λ n h. rw (is_plain-digit n h) refl)
     (λ n ds h p. list_all-append is_plain ds ((48 + n % 10) ∷ []) p (rw (is_plain-digit (n % 10) (omega arith)) refl))
 
--- the place of the first byte that passes, after bytes that don't
+-- the index of the first byte that passes, after bytes that don't
 pub position_or_len-at : (test other : ℕ → Bool) (s : List ℕ) (c : ℕ) (rest : List ℕ)
     → ((b : ℕ) → other b ≡ true → test b ≡ false) → test c ≡ true → list_all other s ≡ true
     → position_or_len test (s ++ c ∷ rest) ≡ length s

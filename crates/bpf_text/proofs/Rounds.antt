@@ -12,40 +12,40 @@ use Rattle.bpf_text.specs.Listing.{Labels, LineReading, labels_with, line_end, f
 use Rattle.bpf_text.proofs.Cutting.{lines-cut}
 
 -- the first round at a line that has a fault
-pub first_round-Err : (labels : Labels) (slot number : ℕ) (rest line : List ℕ) (fault : LineFault) → 0 < length rest
+pub first_round-Err : (labels : Labels) (slot line_number : ℕ) (rest line : List ℕ) (fault : LineFault) → 0 < length rest
     → line ≡ before 10 rest → line_end labels slot line ≡ Err fault
-    → first_round labels slot number (lines rest) ≡ Err (Line fault number)
-first_round-Err labels slot number rest line fault h first e =
+    → first_round labels slot line_number (lines rest) ≡ Err (Line fault line_number)
+first_round-Err labels slot line_number rest line fault h first e =
     let end : line_end labels slot (before 10 rest) ≡ Err fault = ap (line_end labels slot) (sym first) ∙ e in
     rw (lines-cut rest h, end) refl
 
 -- the first round at a line that has none, and labels that hold one more
-pub first_round-Ok : (labels found : Labels) (slot number : ℕ) (rest line left : List ℕ) (label : Option (List ℕ)) (next : ℕ)
+pub first_round-Ok : (labels found : Labels) (slot line_number : ℕ) (rest line left : List ℕ) (label : Option (List ℕ)) (next : ℕ)
     → 0 < length rest → line ≡ before 10 rest → left ≡ after 10 rest → label ≡ label_of line
     → line_end labels slot line ≡ Ok next → ((q : List ℕ) → found q ≡ labels_with labels slot label q)
-    → first_round found next (number + 1) (lines left) ≡ first_round labels slot number (lines rest)
-first_round-Ok labels found slot number rest line left label next h first others name e put =
+    → first_round found next (line_number + 1) (lines left) ≡ first_round labels slot line_number (lines rest)
+first_round-Ok labels found slot line_number rest line left label next h first others name e put =
     let same : found ≡ labels_with labels slot (label_of (before 10 rest)) =
     fun_ext put ∙ ap (labels_with labels slot) (name ∙ ap label_of first) in
     let end : line_end labels slot (before 10 rest) ≡ Ok next = ap (line_end labels slot) (sym first) ∙ e in
     rw (lines-cut rest h, end, others, same) refl
 
 -- the second round at a line that has a fault
-pub second_round-Err : (labels : Labels) (slot number : ℕ) (rest line : List ℕ) (reading : LineReading (Option Insn))
+pub second_round-Err : (labels : Labels) (slot line_number : ℕ) (rest line : List ℕ) (reading : LineReading (Option Insn))
     (fault : LineFault) → 0 < length rest → line ≡ before 10 rest → reading ≡ resolved labels slot line
     → slot_after slot reading ≡ Err fault
-    → second_round labels slot number (lines rest) ≡ Err (Line fault number)
-second_round-Err labels slot number rest line reading fault h first read e =
+    → second_round labels slot line_number (lines rest) ≡ Err (Line fault line_number)
+second_round-Err labels slot line_number rest line reading fault h first read e =
     let end : slot_after slot (resolved labels slot (before 10 rest)) ≡ Err fault =
     ap (slot_after slot) (sym (read ∙ ap (resolved labels slot) first)) ∙ e in
     rw (lines-cut rest h, end) refl
 
 -- the second round at a line that has none
-pub second_round-Ok : (labels : Labels) (slot number : ℕ) (rest line left : List ℕ) (reading : LineReading (Option Insn))
+pub second_round-Ok : (labels : Labels) (slot line_number : ℕ) (rest line left : List ℕ) (reading : LineReading (Option Insn))
     (next : ℕ) → 0 < length rest → line ≡ before 10 rest → left ≡ after 10 rest → reading ≡ resolved labels slot line
     → slot_after slot reading ≡ Ok next
-    → second_round labels next (number + 1) (lines left) ≡ second_round labels slot number (lines rest)
-second_round-Ok labels slot number rest line left reading next h first others read e =
+    → second_round labels next (line_number + 1) (lines left) ≡ second_round labels slot line_number (lines rest)
+second_round-Ok labels slot line_number rest line left reading next h first others read e =
     let end : slot_after slot (resolved labels slot (before 10 rest)) ≡ Ok next =
     ap (slot_after slot) (sym (read ∙ ap (resolved labels slot) first)) ∙ e in
     rw (lines-cut rest h, end, others) refl

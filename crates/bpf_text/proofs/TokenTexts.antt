@@ -14,7 +14,7 @@ use Rattle.bpf_text.specs.declared.fault.OperandFault.TheVariants.{Wrong}
 use Rattle.bpf_isa.specs.declared.instruction.Source.{Source}
 use Rattle.bpf_isa.specs.declared.instruction.Source.TheVariants as source_is
 use Rattle.bpf_text.specs.Cuts.{is_name_byte}
-use Rattle.bpf_text.specs.Tokens.{register, numeral, number, has_prefix, is_negative, unsigned, immediate, wide, source, name, memory, place, offset, offset_of, is_sign}
+use Rattle.bpf_text.specs.Tokens.{register, numeral, natural, has_prefix, is_negative, unsigned, immediate, wide, source, name, memory, base_and_offset, offset, offset_of, is_sign}
 use Rattle.bpf_text.specs.Writing.{hexadecimal}
 use Rattle.bpf_text.specs.Operands.{register_text, label_text, operand_of, operand_text}
 use Rattle.bpf_text.proofs.PlainTexts.{are_plain, list_all-append, list_all-weaken, are_plain-decimal, position_or_len-at, before_first-at, trim-plain}
@@ -91,8 +91,8 @@ has_prefix-decimal s p = and-false (slice_index s 0 == 48) (slice_index s 1 == 1
       and-false true b h = h
       and-false false b h = refl
 
-pub number-decimal : (n : ℕ) → n < 2 ^ 64 → number (decimal n) ≡ Some n
-number-decimal n h =
+pub natural-decimal : (n : ℕ) → n < 2 ^ 64 → natural (decimal n) ≡ Some n
+natural-decimal n h =
     let known = decimal_is_IsNumeral n h in
     rw (has_prefix-decimal (decimal n) (are_decimal n h)) (numeral-digits 10 n (decimal n) known.0 known.1 h)
 
@@ -104,7 +104,7 @@ is_negative-decimal s p = slice_index-other is_decimal 45 s 0 (λ b d. grind (ar
 pub unsigned-decimal : (n : ℕ) → n < 2 ^ 32 → unsigned (decimal n) ≡ Ok n
 unsigned-decimal n h =
     let less : nat_lt n (2 ^ 32) ≡ true = grind (arith, nat_tests) in
-    rw (number-decimal n (omega arith), less) refl
+    rw (natural-decimal n (omega arith), less) refl
 
 -- a signed number of 32 bits
 pub immediate-signed : (z : ℤ) → SFits w32 z → immediate (signed_decimal z) ≡ Ok z
@@ -112,11 +112,11 @@ immediate-signed (pos n) fits =
     let small : n < 2 ^ 31 = fits.sfits in
     let plus = is_negative-decimal (decimal n) (are_decimal n (omega arith)) in
     let less : nat_lt n (2 ^ 32) ≡ true = grind (arith, nat_tests) in
-    rw (plus, number-decimal n (omega arith), less) (ap Ok (to_z_pos w32 n small))
+    rw (plus, natural-decimal n (omega arith), less) (ap Ok (to_z_pos w32 n small))
 immediate-signed (negsuc n) fits =
     let small : n < 2 ^ 31 = fits.sfits in
     let less : nat_le (suc n) (2 ^ 31) ≡ true = grind (arith, nat_tests) in
-    rw (number-decimal (suc n) (omega arith), less) refl
+    rw (natural-decimal (suc n) (omega arith), less) refl
 
 -- a number of 64 bits in hexadecimal
 pub wide-hexadecimal : (n : ℕ) → n < 2 ^ 64 → wide (hexadecimal n) ≡ Ok n
@@ -182,29 +182,29 @@ less-eqb : (a b : ℕ) → a < b → (a == b) ≡ false
 less-eqb a b h = grind (arith, nat_tests)
 
 -- an offset behind a register
-offset-at : (reg : List ℕ) (sign : ℕ) (number_text : List ℕ) → list_all no_sign reg ≡ true → is_sign sign ≡ true
-    → are_plain number_text ≡ true
-    → offset (reg ++ sign ∷ number_text) ≡ offset_of (sign == 45) (number number_text)
-offset-at reg sign number_text none e plain =
-    let here = position_or_len-at is_sign no_sign reg sign number_text no_sign-sign e none in
-    let within : length reg < length (reg ++ sign ∷ number_text) = omega (arith, length-append reg (sign ∷ number_text)) in
+offset-at : (reg : List ℕ) (sign : ℕ) (digits : List ℕ) → list_all no_sign reg ≡ true → is_sign sign ≡ true
+    → are_plain digits ≡ true
+    → offset (reg ++ sign ∷ digits) ≡ offset_of (sign == 45) (natural digits)
+offset-at reg sign digits none e plain =
+    let here = position_or_len-at is_sign no_sign reg sign digits no_sign-sign e none in
+    let within : length reg < length (reg ++ sign ∷ digits) = omega (arith, length-append reg (sign ∷ digits)) in
     rw (
       here,
-      less-eqb (length reg) (length (reg ++ sign ∷ number_text)) within,
-      get_or-append_seam reg sign number_text 0,
-      drop-append-add reg (sign ∷ number_text) 1,
-      trim-plain number_text plain,
+      less-eqb (length reg) (length (reg ++ sign ∷ digits)) within,
+      get_or-append_seam reg sign digits 0,
+      drop-append-add reg (sign ∷ digits) 1,
+      trim-plain digits plain,
     ) refl
 
-place-at : (reg : List ℕ) (r sign : ℕ) (number_text : List ℕ) (o : ℤ) → list_all no_sign reg ≡ true → is_sign sign ≡ true
-    → are_plain reg ≡ true → are_plain number_text ≡ true → register reg ≡ Ok r
-    → offset_of (sign == 45) (number number_text) ≡ Ok o → place (reg ++ sign ∷ number_text) ≡ Ok (r, o)
-place-at reg r sign number_text o none e plain digits_plain read known =
-    let moved = offset-at reg sign number_text none e digits_plain in
-    let front = before_first-at is_sign no_sign reg sign number_text no_sign-sign e none in
+base_and_offset-at : (reg : List ℕ) (r sign : ℕ) (digits : List ℕ) (o : ℤ) → list_all no_sign reg ≡ true → is_sign sign ≡ true
+    → are_plain reg ≡ true → are_plain digits ≡ true → register reg ≡ Ok r
+    → offset_of (sign == 45) (natural digits) ≡ Ok o → base_and_offset (reg ++ sign ∷ digits) ≡ Ok (r, o)
+base_and_offset-at reg r sign digits o none e plain digits_plain read known =
+    let moved = offset-at reg sign digits none e digits_plain in
+    let front = before_first-at is_sign no_sign reg sign digits no_sign-sign e none in
     rw (front, trim-plain reg plain, read, moved, known) refl
 
-memory-at : (inner : List ℕ) (r : ℕ) (o : ℤ) → list_all is_open inner ≡ true → place inner ≡ Ok (r, o)
+memory-at : (inner : List ℕ) (r : ℕ) (o : ℤ) → list_all is_open inner ≡ true → base_and_offset inner ≡ Ok (r, o)
     → memory (91 ∷ (inner ++ 93 ∷ [])) ≡ Ok (r, o)
 memory-at inner r o none read =
     let here = position_or_len-at (λ b. b == 93) is_open inner 93 [] open-close refl none in
@@ -223,8 +223,8 @@ memory-signed r sign n o low h e f known =
     let number_open = list_all-weaken is_decimal is_open (decimal n) decimal-open digits_n in
     let inner_open = list_all-append is_open (decimal r) (sign ∷ decimal n) reg_open (rw (f, number_open) refl) in
     memory-at (register_text r ++ sign ∷ decimal n) r o inner_open
-    (place-at (register_text r) r sign (decimal n) o reg_no_sign e (are_plain-decimal r (omega arith)) (are_plain-decimal n h)
-    (register-text r low) (ap (offset_of (sign == 45)) (number-decimal n h) ∙ known))
+    (base_and_offset-at (register_text r) r sign (decimal n) o reg_no_sign e (are_plain-decimal r (omega arith)) (are_plain-decimal n h)
+    (register-text r low) (ap (offset_of (sign == 45)) (natural-decimal n h) ∙ known))
 
 pub memory-text : (r : ℕ) (o : ℤ) → r ≤ 10 → SFits w16 o → memory (operand_text (Memory r o)) ≡ Ok (r, o)
 memory-text r (pos n) low fits =

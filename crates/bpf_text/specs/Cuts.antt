@@ -74,12 +74,12 @@ abbrev pub body_of : List ℕ → List ℕ
 body_of line = let s = trim_start (code_of line) in trim (if is_labelled s then after 58 s else s)
 
 -- The mnemonic of an instruction: all up to the next blank.
-abbrev pub mnemonic_text : List ℕ → List ℕ
-mnemonic_text body = before_first is_blank body
+abbrev pub mnemonic_part : List ℕ → List ℕ
+mnemonic_part body = before_first is_blank body
 
 -- The operands of an instruction.
-abbrev pub operands_text : List ℕ → List ℕ
-operands_text body = trim (after_first is_blank body)
+abbrev pub operands_part : List ℕ → List ℕ
+operands_part body = trim (after_first is_blank body)
 
 -- The first operand, and those after it.
 abbrev pub first_operand : List ℕ → List ℕ

@@ -12,7 +12,7 @@ use Rattle.bpf_text.specs.declared.fault.LineFault.TheVariants.{UnknownMnemonic,
 use Rattle.bpf_text.specs.declared.fault.AsmFault.{AsmFault}
 use Rattle.bpf_text.specs.declared.fault.AsmFault.TheVariants.{Line, Memory}
 use Rattle.bpf_text.specs.declared.mnemonic.Mnemonic.{Mnemonic}
-use Rattle.bpf_text.specs.Cuts.{is_text, lines, code_of, label_of, body_of, mnemonic_text, operands_text}
+use Rattle.bpf_text.specs.Cuts.{is_text, lines, code_of, label_of, body_of, mnemonic_part, operands_part}
 use Rattle.bpf_text.specs.Named.{named}
 use Rattle.bpf_text.specs.Statements.{instruction, target_name}
 use Rattle.bpf_text.specs.Tokens.{Reading}
@@ -33,7 +33,7 @@ insn_of_mnemonic (Some mnemonic) operands = read_insn (instruction mnemonic oper
 
 abbrev pub insn_of_body : List ℕ → LineReading (Option Insn)
 insn_of_body [] = Ok None
-insn_of_body (b ∷ s) = insn_of_mnemonic (named (mnemonic_text (b ∷ s))) (operands_text (b ∷ s))
+insn_of_body (b ∷ s) = insn_of_mnemonic (named (mnemonic_part (b ∷ s))) (operands_part (b ∷ s))
 
 abbrev pub insn_of : List ℕ → LineReading (Option Insn)
 insn_of line = insn_of_body (body_of line)
@@ -69,18 +69,18 @@ line_end labels slot line =
 
 -- The first round over the lines from a slot and a line number on: all labels, or the first fault.
 abbrev pub line_or : {A B : Type 0} → LineReading A → ℕ → (A → Result B AsmFault) → Result B AsmFault
-line_or (Err fault) number next = Err (Line fault number)
-line_or (Ok value) number next = next value
+line_or (Err fault) line_number next = Err (Line fault line_number)
+line_or (Ok value) line_number next = next value
 
 abbrev pub first_round : Labels → ℕ → ℕ → List (List ℕ) → Result Labels AsmFault
-first_round labels slot number [] = Ok labels
-first_round labels slot number (line ∷ rest) = line_or (line_end labels slot line) number
-    (λ next. first_round (labels_with labels slot (label_of line)) next (number + 1) rest)
+first_round labels slot line_number [] = Ok labels
+first_round labels slot line_number (line ∷ rest) = line_or (line_end labels slot line) line_number
+    (λ next. first_round (labels_with labels slot (label_of line)) next (line_number + 1) rest)
 
 -- Want of memory may be answered instead of a fault; else it is this one.
 abbrev pub IsFaultOf : {A : Type 0} → Result A AsmFault → AsmFault → Type 0
 IsFaultOf reading Memory = ⊤
-IsFaultOf reading (Line fault number) = reading ≡ Err (Line fault number)
+IsFaultOf reading (Line fault line_number) = reading ≡ Err (Line fault line_number)
 
 -- The name of a line's target, if its instruction has one.
 abbrev pub target_of_mnemonic : Option Mnemonic → List ℕ → Option (List ℕ)
@@ -89,7 +89,7 @@ target_of_mnemonic (Some mnemonic) operands = target_name mnemonic operands
 
 abbrev pub target_of_body : List ℕ → Option (List ℕ)
 target_of_body [] = None
-target_of_body (b ∷ s) = target_of_mnemonic (named (mnemonic_text (b ∷ s))) (operands_text (b ∷ s))
+target_of_body (b ∷ s) = target_of_mnemonic (named (mnemonic_part (b ∷ s))) (operands_part (b ∷ s))
 
 abbrev pub target_of_line : List ℕ → Option (List ℕ)
 target_of_line line = target_of_body (body_of line)
@@ -127,9 +127,9 @@ resolved labels slot line = with_target labels slot (insn_of line) (target_of_li
 
 -- The second round over the lines from a slot and a line number on.
 abbrev pub second_round : Labels → ℕ → ℕ → List (List ℕ) → Result (Unit {0}) AsmFault
-second_round labels slot number [] = Ok tt
-second_round labels slot number (line ∷ rest) = line_or (slot_after slot (resolved labels slot line)) number
-    (λ next. second_round labels next (number + 1) rest)
+second_round labels slot line_number [] = Ok tt
+second_round labels slot line_number (line ∷ rest) = line_or (slot_after slot (resolved labels slot line)) line_number
+    (λ next. second_round labels next (line_number + 1) rest)
 
 -- Both rounds.
 abbrev pub after_first_round : Result Labels AsmFault → List (List ℕ) → Result (Unit {0}) AsmFault

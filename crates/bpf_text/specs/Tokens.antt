@@ -43,9 +43,9 @@ numeral radix (c ∷ s) =
 abbrev pub has_prefix : List ℕ → Bool
 has_prefix s = slice_index s 0 == 48 && slice_index s 1 == 120
 
--- A number: decimal digits, or 0x and hexadecimal digits.
-abbrev pub number : List ℕ → Option ℕ
-number s = if has_prefix s then numeral 16 (drop 2 s) else numeral 10 s
+-- A natural number: decimal digits, or 0x and hexadecimal digits.
+abbrev pub natural : List ℕ → Option ℕ
+natural s = if has_prefix s then numeral 16 (drop 2 s) else numeral 10 s
 
 -- Whether a text begins with a minus.
 abbrev pub is_negative : List ℕ → Bool
@@ -53,7 +53,7 @@ is_negative s = slice_index s 0 == 45
 
 -- A signed number without its sign: a minus may stand directly before a number.
 abbrev pub magnitude : List ℕ → Option ℕ
-magnitude s = if is_negative s then number (drop 1 s) else number s
+magnitude s = if is_negative s then natural (drop 1 s) else natural s
 
 -- A number below 2^32.
 abbrev pub unsigned_of : Option ℕ → Reading ℕ
@@ -61,7 +61,7 @@ unsigned_of None = Err Wrong
 unsigned_of (Some n) = in_range (nat_lt n (2 ^ 32)) n
 
 abbrev pub unsigned : List ℕ → Reading ℕ
-unsigned s = unsigned_of (number s)
+unsigned s = unsigned_of (natural s)
 
 -- A signed number from -2^31 to 2^32 - 1, as a signed number of 32 bits.
 abbrev pub immediate_of : Bool → Option ℕ → Reading ℤ
@@ -104,11 +104,11 @@ offset_of false (Some n) = in_range (nat_lt n 32768) (pos n)
 
 -- What stands in brackets: a register, and then nothing, or a sign and a number.
 abbrev pub offset : List ℕ → Reading ℤ
-offset s = let place = position_or_len is_sign s in
-    if place == length s then Ok (pos 0) else offset_of (slice_index s place == 45) (number (trim (after_first is_sign s)))
+offset s = let sign = position_or_len is_sign s in
+    if sign == length s then Ok (pos 0) else offset_of (slice_index s sign == 45) (natural (trim (after_first is_sign s)))
 
-abbrev pub place : List ℕ → Reading (ℕ × ℤ)
-place s = both (register (trim (before_first is_sign s))) (offset s)
+abbrev pub base_and_offset : List ℕ → Reading (ℕ × ℤ)
+base_and_offset s = both (register (trim (before_first is_sign s))) (offset s)
 
 -- Whether a text begins with an opening bracket, and ends at the closing one.
 abbrev pub is_bracketed : List ℕ → Bool
@@ -116,7 +116,7 @@ is_bracketed s = slice_index s 0 == 91 && position_or_len (λ b. b == 93) s + 1 
 
 -- Memory: a register and an offset in brackets.
 abbrev pub memory : List ℕ → Reading (ℕ × ℤ)
-memory s = if is_bracketed s then place (before 93 (drop 1 s)) else Err Wrong
+memory s = if is_bracketed s then base_and_offset (before 93 (drop 1 s)) else Err Wrong
 
 -- A name, whose label is looked up later.
 abbrev pub name : List ℕ → Reading (Unit {0})

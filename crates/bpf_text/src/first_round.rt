@@ -7,7 +7,7 @@ ghost use Rattle.bpf_text.specs.LabelMap.{labels_in};
 use crate::cut::{after, before};
 use crate::fault::{AsmFault, LineFault};
 use crate::labels::{LabelMap, is_defined, no_labels, put_labels};
-use crate::line::{is_clean, label_of, slot_after};
+use crate::line::{is_clean, label_of, slot_after_line};
 use std::alloc::Global;
 
 /// The slot of each label of a listing, or its first fault of the first round.
@@ -18,7 +18,7 @@ pub fn first_round<'a>(alloc: Global, text: &'a [u8]) -> Result<LabelMap<'a>, As
 {
     let mut labels = no_labels(alloc, text);
     let mut slot = 0;
-    let mut number = 1;
+    let mut line_number = 1;
     let mut rest = text;
     while !rest.is_empty() {
         let line = before(rest, b'\n');
@@ -29,10 +29,10 @@ pub fn first_round<'a>(alloc: Global, text: &'a [u8]) -> Result<LabelMap<'a>, As
                     Err(_) => return Err(AsmFault::Memory),
                 }
             }
-            Err(fault) => return Err(AsmFault::Line(fault, number)),
+            Err(fault) => return Err(AsmFault::Line(fault, line_number)),
         }
         rest = after(rest, b'\n');
-        number += 1;
+        line_number += 1;
     }
     Ok(labels)
 }
@@ -49,5 +49,5 @@ fn line_end(labels: &LabelMap<'_>, slot: usize, line: &[u8]) -> Result<usize, Li
     if is_defined(labels, label_of(line)) {
         return Err(LineFault::LabelTwice);
     }
-    slot_after(slot, line)
+    slot_after_line(slot, line)
 }

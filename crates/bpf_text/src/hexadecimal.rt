@@ -16,23 +16,23 @@ const MOST_DIGITS: usize = 16;
 pub fn put_hexadecimal<W: Write>(
     writer: &mut Counted<W>,
     so_far: Result<(), WriteFault>,
-    number: u64,
+    value: u64,
 ) -> Result<(), WriteFault>
-    ensures { WritesAfter W.contents writer.old so_far writer.new result (hexadecimal number) }
+    ensures { WritesAfter W.contents writer.old so_far writer.new result (hexadecimal value) }
 {
     let mut buffer = [0; MOST_DIGITS];
-    let start = write_digits(number, &mut buffer);
+    let start = write_digits(value, &mut buffer);
     let prefixed = put(writer, so_far, b"0x");
     put(writer, prefixed, &buffer[start..])
 }
 
 // Writes the digits to the end of the buffer, and says where they start.
-fn write_digits(number: u64, buffer: &mut [u8; MOST_DIGITS]) -> usize
+fn write_digits(value: u64, buffer: &mut [u8; MOST_DIGITS]) -> usize
     ensures within { result ≤ MOST_DIGITS }
-    ensures value { drop result buffer.new ≡ digits 16 false number }
+    ensures value { drop result buffer.new ≡ digits 16 false value }
 {
     let mut start = MOST_DIGITS;
-    let mut rest = number;
+    let mut rest = value;
     while rest >= 16 {
         start -= 1;
         buffer[start] = hex_digit((rest % 16) as u8);

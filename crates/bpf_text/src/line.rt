@@ -2,7 +2,7 @@
 ghost use Rattle.std.specs.Prelude.{◌≡◌, ◌≤◌, option_map, Ok, Err, nat_le, IfOk, ◌+◌, if◌then◌else◌};
 ghost use Rattle.std.specs.List.{list_all};
 ghost use Rattle.bpf_isa.specs.Programs.{slots_of};
-ghost use Rattle.bpf_text.specs.Cuts.{code_of, label_of, body_of, is_text, is_labelled, mnemonic_text, operands_text};
+ghost use Rattle.bpf_text.specs.Cuts.{code_of, label_of, body_of, is_text, is_labelled, mnemonic_part, operands_part};
 ghost use Rattle.bpf_text.specs.Listing.{insn_of, insn_of_body, read_insn, slot_after, target_of_line, target_of_body};
 
 use crate::cut::{after, before, find, find_blank, is_name, is_text, trim, trim_start};
@@ -54,15 +54,15 @@ pub fn body_of(line: &[u8]) -> &[u8]
     }
 }
 
-fn mnemonic_text(body: &[u8]) -> &[u8]
-    ensures { result.now ≡ mnemonic_text body.now }
+fn mnemonic_part(body: &[u8]) -> &[u8]
+    ensures { result.now ≡ mnemonic_part body.now }
 {
     &body[..find_blank(body)]
 }
 
 /// The operands' text, or nothing.
-pub fn operands_text(body: &[u8]) -> &[u8]
-    ensures { result.now ≡ operands_text body.now }
+pub fn operands_part(body: &[u8]) -> &[u8]
+    ensures { result.now ≡ operands_part body.now }
 {
     let end = find_blank(body);
     if end < body.len() {
@@ -85,9 +85,9 @@ fn insn_of_body(body: &[u8]) -> Result<Option<Insn>, LineFault>
     if body.is_empty() {
         return Ok(None);
     }
-    match named(mnemonic_text(body)) {
+    match named(mnemonic_part(body)) {
         None => Err(LineFault::UnknownMnemonic),
-        Some(mnemonic) => read_insn(instruction(mnemonic, operands_text(body))),
+        Some(mnemonic) => read_insn(instruction(mnemonic, operands_part(body))),
     }
 }
 
@@ -102,19 +102,29 @@ fn read_insn(insn: Result<Insn, OperandFault>) -> Result<Option<Insn>, LineFault
 }
 
 /// The slot after a line, which can't pass slot 65,534.
-pub fn slot_after(slot: usize, line: &[u8]) -> Result<usize, LineFault>
+pub fn slot_after_line(slot: usize, line: &[u8]) -> Result<usize, LineFault>
     requires { slot ≤ 65535 }
     ensures value { result ≡ slot_after slot (insn_of line.now) }
     ensures within { IfOk result (λ next. next ≤ 65535) }
 {
-    match insn_of(line) {
-        Err(fault) => Err(fault),
+    slot_after(slot, &insn_of(line))
+}
+
+/// The slot after what was read of a line in this slot: the same one where there is no instruction.
+pub fn slot_after(slot: usize, insn: &Result<Option<Insn>, LineFault>) -> Result<usize, LineFault>
+    requires { slot ≤ 65535 }
+    ensures value { result ≡ slot_after slot insn.now }
+    ensures within { IfOk result (λ next. next ≤ 65535) }
+{
+    match insn {
+        Err(fault) => Err(*fault),
         Ok(None) => Ok(slot),
-        Ok(Some(insn)) => slot_after_insn(slot, slots_of(&insn)),
+        Ok(Some(insn)) => slot_plus(slot, slots_of(insn)),
     }
 }
 
-pub fn slot_after_insn(slot: usize, count: usize) -> Result<usize, LineFault>
+// The slot that is so many slots on.
+fn slot_plus(slot: usize, count: usize) -> Result<usize, LineFault>
     requires within { slot ≤ 65535 }
     requires few { count ≤ 2 }
     ensures within { IfOk result (λ next. next ≤ 65535) }
@@ -129,8 +139,8 @@ pub fn slot_after_insn(slot: usize, count: usize) -> Result<usize, LineFault>
     }
 }
 
-/// How many slots an instruction takes.
-pub fn slots_of(insn: &Insn) -> usize
+// How many slots an instruction takes.
+fn slots_of(insn: &Insn) -> usize
     ensures value { result ≡ slots_of insn.now }
     ensures within { result ≤ 2 }
 {
@@ -141,7 +151,7 @@ pub fn slots_of(insn: &Insn) -> usize
 }
 
 /// The name of the instruction's target, if it has one.
-pub fn target_of(line: &[u8]) -> Option<&[u8]>
+pub fn target_of_line(line: &[u8]) -> Option<&[u8]>
     ensures { option_map (λ r. r.now) result ≡ target_of_line line.now }
 {
     target_of_body(body_of(line))
@@ -153,8 +163,8 @@ fn target_of_body(body: &[u8]) -> Option<&[u8]>
     if body.is_empty() {
         return None;
     }
-    match named(mnemonic_text(body)) {
+    match named(mnemonic_part(body)) {
         None => None,
-        Some(mnemonic) => target_name(mnemonic, operands_text(body)),
+        Some(mnemonic) => target_name(mnemonic, operands_part(body)),
     }
 }

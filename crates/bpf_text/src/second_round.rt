@@ -1,13 +1,13 @@
 //! The second round over a listing: each label is replaced by its distance, and the bytes follow.
 ghost use Rattle.std.specs.Prelude.{◌≡◌, ◌≤◌, ◌+◌, ◌≤ℤ◌, ◌-ℤ◌, pos, IfOk, IfErr, OnOk, Ok, Err, Some, if◌then◌else◌, ℕ, List, option_map};
 ghost use Rattle.bpf_text.specs.Cuts.{lines};
-ghost use Rattle.bpf_text.specs.Listing.{resolved, with_distance, with_label, with_target, second_round, slot_after, AreBytes, AppendsWord, IsFaultOf, fits_offset};
+ghost use Rattle.bpf_text.specs.Listing.{resolved, with_distance, with_label, with_target, second_round, AreBytes, AppendsWord, IsFaultOf, fits_offset};
 ghost use Rattle.bpf_text.specs.LabelMap.{labels_in};
 
 use crate::cut::{after, before};
 use crate::fault::{AsmFault, LineFault};
 use crate::labels::{LabelMap, slot_of};
-use crate::line::{insn_of, slot_after_insn, slots_of, target_of};
+use crate::line::{insn_of, slot_after, target_of_line};
 use bpf_isa::{Insn, encode};
 use std::alloc::{AllocError, Global};
 
@@ -21,7 +21,7 @@ pub fn second_round(alloc: Global, text: &[u8], labels: &LabelMap<'_>) -> Result
 {
     let mut bytes = Vec::new(alloc);
     let mut slot = 0;
-    let mut number = 1;
+    let mut line_number = 1;
     let mut rest = text;
     while !rest.is_empty() {
         let line = before(rest, b'\n');
@@ -31,25 +31,12 @@ pub fn second_round(alloc: Global, text: &[u8], labels: &LabelMap<'_>) -> Result
                 Ok(()) => slot = next,
                 Err(_) => return Err(AsmFault::Memory),
             },
-            Err(fault) => return Err(AsmFault::Line(fault, number)),
+            Err(fault) => return Err(AsmFault::Line(fault, line_number)),
         }
         rest = after(rest, b'\n');
-        number += 1;
+        line_number += 1;
     }
     Ok(bytes)
-}
-
-// The slot after an instruction.
-fn slot_after(slot: usize, insn: &Result<Option<Insn>, LineFault>) -> Result<usize, LineFault>
-    requires { slot ≤ 65535 }
-    ensures value { result ≡ slot_after slot insn.now }
-    ensures within { IfOk result (λ next. next ≤ 65535) }
-{
-    match insn {
-        Err(fault) => Err(*fault),
-        Ok(None) => Ok(slot),
-        Ok(Some(insn)) => slot_after_insn(slot, slots_of(insn)),
-    }
 }
 
 // Appends the bytes of an instruction, if there is one.
@@ -70,7 +57,7 @@ fn resolved(labels: &LabelMap<'_>, slot: usize, line: &[u8]) -> Result<Option<In
     match insn_of(line) {
         Err(fault) => Err(fault),
         Ok(None) => Ok(None),
-        Ok(Some(insn)) => with_target(labels, slot, insn, target_of(line)),
+        Ok(Some(insn)) => with_target(labels, slot, insn, target_of_line(line)),
     }
 }
 

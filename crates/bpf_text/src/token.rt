@@ -3,7 +3,7 @@ ghost use Rattle.std.specs.Prelude.{◌≡◌, ◌==◌, ◌<◌, ◌≤◌, ◌
 ghost use Rattle.std.specs.List.{list_all, position_or_len};
 ghost use Rattle.std.specs.Str.Parse.{digits_value};
 ghost use Rattle.std.specs.Char.{digit_value};
-ghost use Rattle.bpf_text.specs.Tokens.{both, register, numeral, has_prefix, number, is_negative, magnitude, unsigned, immediate, wide, source, offset, place, memory, name, is_sign, is_bracketed};
+ghost use Rattle.bpf_text.specs.Tokens.{both, register, numeral, has_prefix, natural, is_negative, magnitude, unsigned, immediate, wide, source, offset, base_and_offset, memory, name, is_sign, is_bracketed};
 
 use crate::cut::{before, find, is_name, trim};
 use crate::fault::OperandFault;
@@ -70,8 +70,8 @@ fn has_prefix(text: &[u8]) -> bool
     text.len() >= 2 && text[0] == b'0' && text[1] == b'x'
 }
 
-fn number(text: &[u8]) -> Option<u128>
-    ensures { result ≡ number text.now }
+fn natural(text: &[u8]) -> Option<u128>
+    ensures { result ≡ natural text.now }
 {
     if has_prefix(text) {
         numeral(&text[2..], 16)
@@ -90,9 +90,9 @@ fn magnitude(text: &[u8]) -> Option<u128>
     ensures { result ≡ magnitude text.now }
 {
     if is_negative(text) {
-        number(&text[1..])
+        natural(&text[1..])
     } else {
-        number(text)
+        natural(text)
     }
 }
 
@@ -100,7 +100,7 @@ fn magnitude(text: &[u8]) -> Option<u128>
 pub fn unsigned(text: &[u8]) -> Result<u32, OperandFault>
     ensures { result ≡ unsigned text.now }
 {
-    match number(text) {
+    match natural(text) {
         None => Err(OperandFault::Wrong),
         Some(value) => {
             if value < 1 << 32 {
@@ -208,7 +208,7 @@ fn offset(text: &[u8]) -> Result<i16, OperandFault>
     if sign == text.len() {
         return Ok(0);
     }
-    let Some(value) = number(trim(&text[sign + 1..])) else {
+    let Some(value) = natural(trim(&text[sign + 1..])) else {
         return Err(OperandFault::Wrong);
     };
     if text[sign] == b'-' {
@@ -225,8 +225,8 @@ fn offset(text: &[u8]) -> Result<i16, OperandFault>
 }
 
 // What stands in brackets: a register and an offset.
-fn place(text: &[u8]) -> Result<(Reg, i16), OperandFault>
-    ensures { result ≡ place text.now }
+fn base_and_offset(text: &[u8]) -> Result<(Reg, i16), OperandFault>
+    ensures { result ≡ base_and_offset text.now }
 {
     both(register(trim(&text[..find_sign(text)])), offset(text))
 }
@@ -247,7 +247,7 @@ pub fn memory(text: &[u8]) -> Result<(Reg, i16), OperandFault>
     ensures { result ≡ memory text.now }
 {
     if is_bracketed(text) {
-        place(before(&text[1..], b']'))
+        base_and_offset(before(&text[1..], b']'))
     } else {
         Err(OperandFault::Wrong)
     }

@@ -41,22 +41,22 @@ pub fn put<W: Write>(
 pub fn put_decimal<W: Write>(
     writer: &mut Counted<W>,
     so_far: Result<(), WriteFault>,
-    number: u64,
+    value: u64,
 ) -> Result<(), WriteFault>
-    ensures { WritesAfter W.contents writer.old so_far writer.new result (decimal number) }
+    ensures { WritesAfter W.contents writer.old so_far writer.new result (decimal value) }
 {
-    let mut buffer = Buffer::new();
-    put(writer, so_far, buffer.format(number).as_bytes())
+    let mut digits = Buffer::new();
+    put(writer, so_far, digits.format(value).as_bytes())
 }
 
 /// Writes a signed number in decimal after what was written so far, unless that failed.
 pub fn put_signed<W: Write>(
     writer: &mut Counted<W>,
     so_far: Result<(), WriteFault>,
-    number: i64,
+    value: i64,
 ) -> Result<(), WriteFault>
-    ensures { WritesAfter W.contents writer.old so_far writer.new result (signed_decimal number) }
+    ensures { WritesAfter W.contents writer.old so_far writer.new result (signed_decimal value) }
 {
     let mut buffer = Buffer::new();
-    put(writer, so_far, buffer.format(number).as_bytes())
+    put(writer, so_far, buffer.format(value).as_bytes())
 }

@@ -10,7 +10,7 @@ pub returns-in-Err-clause-err : goal.returns-in-Err-clause-err
 returns-in-Err-clause-err c =
     let more : 0 < length c.loop-rest.rest.now = grind (arith, common_steps) in
     sym c.loop-rest.invariant.round
-    ∙ first_round-Err (labels_in c.loop-rest.labels) c.loop-rest.slot c.loop-rest.number c.loop-rest.rest.now _ _ more
+    ∙ first_round-Err (labels_in c.loop-rest.labels) c.loop-rest.slot c.loop-rest.line_number c.loop-rest.rest.now _ _ more
     c.before-line.ensures (sym c.in-Err.ensures.value)
 
 pub loop-rest-preserved : goal.loop-rest-preserved
@@ -19,7 +19,7 @@ loop-rest-preserved c =
     record {
       within = c.in-Ok.ensures.within;
       count = omega (arith, length-after 10 c.loop-rest.rest.now more, ap length c.after-rest.ensures);
-      round = first_round-Ok (labels_in c.loop-rest.labels) (labels_in c.put_labels.new.labels) c.loop-rest.slot c.loop-rest.number
+      round = first_round-Ok (labels_in c.loop-rest.labels) (labels_in c.put_labels.new.labels) c.loop-rest.slot c.loop-rest.line_number
           c.loop-rest.rest.now _ _ _ c.in-Ok.next more c.before-line.ensures c.after-rest.ensures c.label_of.ensures
           (sym c.in-Ok.ensures.value) c.in-Ok-put_labels.ensures
           ∙ c.loop-rest.invariant.round;

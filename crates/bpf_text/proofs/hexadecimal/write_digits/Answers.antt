@@ -10,8 +10,8 @@ loop-rest-init c = record {
   room = omega arith;
   sized = omega arith;
   some = omega arith;
-  small = c.ranges.number.fits;
-  rest_of = ap (digits_left 64 c.args.number) (drop_of_length-le c.args.buffer.now {i = 16} (omega arith)) ∙ digits_left-all c.args.number;
+  small = c.ranges.value.fits;
+  rest_of = ap (digits_left 64 c.args.value) (drop_of_length-le c.args.buffer.now {i = 16} (omega arith)) ∙ digits_left-all c.args.value;
 }
 
 pub loop-rest-preserved : goal.loop-rest-preserved

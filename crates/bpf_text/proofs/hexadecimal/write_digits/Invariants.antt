@@ -9,7 +9,7 @@ invariant-loop-rest l = record {
   sized : length l.buffer ≡ 16;
   some : 1 ≤ l.start;
   small : l.rest < 16 ^ l.start;
-  rest_of : digits_left (48 + l.start) l.rest (drop l.start l.buffer) ≡ digits 16 false l.fn.number;
+  rest_of : digits_left (48 + l.start) l.rest (drop l.start l.buffer) ≡ digits 16 false l.fn.value;
 }
 
 abbrev pub decreases-loop-rest : goal.decreases-loop-rest

@@ -12,7 +12,7 @@ pub returns-in-Err-clause-err : goal.returns-in-Err-clause-err
 returns-in-Err-clause-err c =
     let more : 0 < length c.loop-rest.rest.now = grind (arith, common_steps) in
     sym c.loop-rest.invariant.round
-    ∙ second_round-Err (labels_in c.args.labels.now) c.loop-rest.slot c.loop-rest.number c.loop-rest.rest.now _ _ _ more
+    ∙ second_round-Err (labels_in c.args.labels.now) c.loop-rest.slot c.loop-rest.line_number c.loop-rest.rest.now _ _ _ more
     c.before-line.ensures c.resolved-insn.ensures (sym c.in-Err.ensures.value)
 
 pub loop-rest-preserved : goal.loop-rest-preserved
@@ -22,7 +22,7 @@ loop-rest-preserved c =
     record {
       within = c.in-Ok.ensures.within;
       count = omega (arith, length-after 10 c.loop-rest.rest.now more, ap length c.after-rest.ensures);
-      round = second_round-Ok labels c.loop-rest.slot c.loop-rest.number c.loop-rest.rest.now _ _ _ c.in-Ok.next more
+      round = second_round-Ok labels c.loop-rest.slot c.loop-rest.line_number c.loop-rest.rest.now _ _ _ c.in-Ok.next more
           c.before-line.ensures c.after-rest.ensures c.resolved-insn.ensures (sym c.in-Ok.ensures.value)
           ∙ c.loop-rest.invariant.round;
       spelled = AreBytes-more labels c.loop-rest.slot c.in-Ok.next c.loop-rest.rest.now _ _ _ _ _

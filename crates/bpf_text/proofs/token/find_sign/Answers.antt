@@ -1,4 +1,4 @@
--- The place, or the length.
+-- The index, or the length.
 use Rattle.std.proofs.Common.{ap, ◌∙◌, unwrap_or, length}
 use Rattle.bpf_text.proofs.Cutting.{unwrap_or-position}
 use Rattle.bpf_text.proofs.token.find_sign.Goals as goal
