@@ -1,4 +1,4 @@
-//! bpfdb runs programs of BPF (RFC 9669) forwards and backwards.
+//! The program: a debugger that runs a BPF program (RFC 9669) forwards and backwards.
 #![tactic(auto)]
 
 mod backward;
