@@ -39,15 +39,12 @@ fn main(rt: HostRuntime) -> io::Result<()> {
     ] {
         let mut plain = u128::MAX;
         let mut recorded = u128::MAX;
-        let mut whole = u128::MAX;
         for _ in 0..5 {
             plain = plain.min(timed(&rt, program, millions, Way::Plain, &mut sum)?);
             recorded = recorded.min(timed(&rt, program, millions, Way::Recorded, &mut sum)?);
-            whole = whole.min(timed(&rt, program, millions, Way::Whole, &mut sum)?);
         }
         show(&rt, name, "plain", plain, plain, millions)?;
         show(&rt, name, "recorded", recorded, plain, millions)?;
-        show(&rt, name, "with the whole entry", whole, plain, millions)?;
     }
     println!(rt; "sum {sum}")
 }
@@ -80,8 +77,6 @@ enum Way {
     Plain,
     /// Its compact entry is kept before it is done.
     Recorded,
-    /// It answers its whole entry.
-    Whole,
 }
 
 /// How many nanoseconds so many millions of steps take. What came out goes into the sum.
@@ -103,7 +98,6 @@ fn timed(
     let weights = match way {
         Way::Plain => run_plain(&mut cpu, steps),
         Way::Recorded => run_recorded(&mut cpu, &mut kept, steps),
-        Way::Whole => run_whole(&mut cpu, steps),
     };
     let elapsed = start.elapsed(rt)?.as_nanos();
     *sum = sum.wrapping_add(weights).wrapping_add(used(&cpu));
@@ -138,18 +132,6 @@ fn run_recorded(cpu: &mut Cpu, kept: &mut [CompactEntry], steps: u64) -> u64 {
         }
     }
     steps
-}
-
-/// Steps that answer their whole entries, whose weights are added up.
-fn run_whole(cpu: &mut Cpu, steps: u64) -> u64 {
-    let mut weights = 0u64;
-    for _ in 0..steps {
-        match cpu.step() {
-            Err(Ended) => return weights,
-            Ok(entry) => weights = weights.wrapping_add(entry.weight() as u64),
-        }
-    }
-    weights
 }
 
 /// A number that depends on the registers and the pc.
