@@ -1,5 +1,5 @@
 //! Readers and writers of the tests' own, and listings with their answers.
-use crate::{AsmFault, assemble, disassemble};
+use crate::{assemble, disassemble};
 use bpf_isa::{MapTable, check};
 use std::alloc::Global;
 use std::test::Fail;
@@ -10,11 +10,6 @@ mod passing;
 mod rows;
 mod texts;
 mod words;
-
-// The bytes of a listing.
-fn assembled(alloc: Global, text: &[u8]) -> Result<Vec<u8>, Fail> {
-    Ok(assemble(alloc, text).map_err(|fault| fault.text())?)
-}
 
 // The answer to a listing, as the tables write it: the bytes in hexadecimal, - for no byte, or the
 // fault's number and line.
@@ -27,20 +22,27 @@ fn answer(alloc: Global, text: &str) -> Result<String, Fail> {
                 Ok(hex::encode(alloc, bytes)?)
             }
         }
-        Err(AsmFault::Line(fault, line)) => {
-            let number = AsmFault::Line(fault, line).number();
+        Err(fault) => {
+            let (number, line) = (fault.number(), fault.line().unwrap_or(0));
             Ok(format!(in alloc; "A{number} {line}")?)
         }
-        Err(AsmFault::Memory) => Ok(format!(in alloc; "A7")?),
     }
 }
 
-// The listing of a program that the checker accepts with three maps of two values of eight bytes.
-fn listed(alloc: Global, bytes: &[u8]) -> Result<Vec<u8>, Fail> {
+// The listing of a program, in hexadecimal, that the checker accepts with three maps of two values
+// of eight bytes.
+fn listed(alloc: Global, word: &str) -> Result<Vec<u8>, Fail> {
+    let bytes = hex::decode(alloc, word)?;
+    let program = check(alloc, bytes.as_slice(), &three_maps())
+        .ok()
+        .ok_or("refused")?;
+    Ok(disassemble(alloc, &program)?)
+}
+
+fn three_maps() -> MapTable {
     let mut maps = MapTable::empty();
     for _ in 0..3 {
-        maps.add(8, 2).ok().ok_or("no room")?;
+        let _added = maps.add(8, 2).is_ok();
     }
-    let program = check(alloc, bytes, &maps).ok().ok_or("refused")?;
-    Ok(disassemble(alloc, &program)?)
+    maps
 }

@@ -1,43 +1,66 @@
 //! Listings and their answers, and programs and their listings.
 use super::rows::{LINES, MEMORY, MNEMONICS, NAMES, NUMBERS};
 use super::words::WORDS;
-use super::{answer, assembled, listed};
+use super::{answer, listed};
+use std::alloc::{AllocError, Global};
 use std::test::Fail;
 
-// Each mnemonic in each form, followed by `exit`, both ways.
-#[test]
-fn assembles_and_lists_each_mnemonic(rt: HostRuntime) -> Result<(), Fail> {
-    for row in WORDS.lines() {
-        let (word, text) = row.split_once(' ').ok_or("no blank")?;
-        let bytes = hex::decode(
-            rt.alloc(),
-            format!(in rt.alloc(); "{word}9500000000000000")?,
-        )?;
-        let listing = format!(in rt.alloc(); "L0: {text}\nexit")?;
-        assert_eq!(rt;
-            assembled(rt.alloc(), listing.as_bytes())?.as_slice(),
-            bytes.as_slice(),
-            "{text}"
-        );
-        let label = if text.contains("L0") { "L0:\n" } else { "" };
-        let wanted = format!(in rt.alloc(); "{label}{text}\nexit\n")?;
-        assert_eq!(rt;
-            listed(rt.alloc(), bytes.as_slice())?.as_slice(),
-            wanted.as_bytes(),
-            "{text}"
-        );
-    }
-    Ok(())
+// A row with the answer that was found in place of the one that it has.
+fn answered(alloc: Global, row: &str) -> Result<String, Fail> {
+    let text = row.split_once(" => ").ok_or("no arrow")?.0;
+    let listing = text.replace(alloc, '|', "\n")?;
+    let found = answer(alloc, listing.as_str())?;
+    Ok(format!(in alloc; "{text} => {found}")?)
 }
 
 #[test]
 fn answers_by_the_rules(rt: HostRuntime) -> Result<(), Fail> {
     for table in [LINES, MNEMONICS, NAMES, NUMBERS, MEMORY] {
         for row in table.split('\n') {
-            let (text, wanted) = row.split_once(" => ").ok_or("no arrow")?;
-            let found = answer(rt.alloc(), text.replace(rt.alloc(), '|', "\n")?.as_str())?;
-            assert_eq!(rt; found.as_str(), wanted, "{text}");
+            let found = answered(rt.alloc(), row)?;
+            assert_eq!(rt; found.as_str(), row);
         }
+    }
+    Ok(())
+}
+
+// A row of words with the word that was found in place of the one that it has; what follows is `exit`.
+fn assembled(alloc: Global, row: &str) -> Result<String, Fail> {
+    let text = row.split_once(' ').ok_or("no blank")?.1;
+    let listing = format!(in alloc; "L0: {text}\nexit")?;
+    let found = answer(alloc, listing.as_str())?;
+    let word = found
+        .as_str()
+        .strip_suffix("9500000000000000")
+        .ok_or("no exit")?;
+    Ok(format!(in alloc; "{word} {text}")?)
+}
+
+// The listing of a row of words, followed by `exit`.
+fn listing(alloc: Global, row: &str) -> Result<String, Fail> {
+    let text = row.split_once(' ').ok_or("no blank")?.1;
+    let label = if text.contains("L0") { "L0:\n" } else { "" };
+    Ok(format!(in alloc; "{label}{text}\nexit\n")?)
+}
+
+// Each mnemonic in each form.
+#[test]
+fn assembles_each_mnemonic(rt: HostRuntime) -> Result<(), Fail> {
+    for row in WORDS.lines() {
+        let found = assembled(rt.alloc(), row)?;
+        assert_eq!(rt; found.as_str(), row);
+    }
+    Ok(())
+}
+
+#[test]
+fn lists_each_mnemonic(rt: HostRuntime) -> Result<(), Fail> {
+    for row in WORDS.lines() {
+        let word = row.split_once(' ').ok_or("no blank")?.0;
+        let program = format!(in rt.alloc(); "{word}9500000000000000")?;
+        let found = listed(rt.alloc(), program.as_str())?;
+        let wanted = listing(rt.alloc(), row)?;
+        assert_eq!(rt; found.as_slice(), wanted.as_bytes(), "{row}");
     }
     Ok(())
 }
@@ -63,52 +86,68 @@ x:~32767~jeq r1, 2, x => 9500000000000000..1501008002000000\n\
 x:~32768~jeq r1, 2, x => A3 32770\n\
 x:~32768~ja32 x => 9500000000000000..06000000ff7fffff";
 
+// The listing of a long row.
+fn long_listing(alloc: Global, lines: &str) -> Result<String, Fail> {
+    let (first, others) = lines.split_once('~').ok_or("no count")?;
+    let (count, last) = others.split_once('~').ok_or("no last line")?;
+    let count: usize = count.parse().ok().ok_or("no number")?;
+    let body = "\nexit".repeat(alloc, count)?;
+    Ok(format!(in alloc; "{first}{body}\n{last}")?)
+}
+
+// The first eight bytes of an answer, and its last eight; a fault is short, and stays.
+fn shortened(alloc: Global, whole: &str) -> Result<String, AllocError> {
+    let Some((front, others)) = whole.split_at_checked(16) else {
+        return format!(in alloc; "{whole}");
+    };
+    let Some((_, back)) = others.split_at_checked(others.len().saturating_sub(16)) else {
+        return format!(in alloc; "{whole}");
+    };
+    format!(in alloc; "{front}..{back}")
+}
+
+// A long row with the answer that was found in place of the one that it has.
+fn answered_shortly(alloc: Global, row: &str) -> Result<String, Fail> {
+    let lines = row.split_once(" => ").ok_or("no arrow")?.0;
+    let listing = long_listing(alloc, lines)?;
+    let whole = answer(alloc, listing.as_str().trim_start())?;
+    let found = shortened(alloc, whole.as_str())?;
+    Ok(format!(in alloc; "{lines} => {found}")?)
+}
+
 #[test]
 fn reaches_the_last_slot_and_far_targets(rt: HostRuntime) -> Result<(), Fail> {
     for row in LONG.lines() {
-        let (lines, wanted) = row.split_once(" => ").ok_or("no arrow")?;
-        let (first, others) = lines.split_once('~').ok_or("no count")?;
-        let (count, last) = others.split_once('~').ok_or("no last line")?;
-        let count: usize = count.parse().ok().ok_or("no number")?;
-        let body = "\nexit".repeat(rt.alloc(), count)?;
-        let text = format!(in rt.alloc(); "{first}{body}\n{last}")?;
-        let found = answer(rt.alloc(), text.trim_start())?;
-        let whole = found.as_str();
-        let short = match (whole.split_at_checked(16), whole.len().checked_sub(16)) {
-            (Some((front, _)), Some(end)) => {
-                let back = whole.split_at_checked(end).ok_or("no digits")?.1;
-                format!(in rt.alloc(); "{front}..{back}")?
-            }
-            _ => format!(in rt.alloc(); "{whole}")?,
-        };
-        assert_eq!(rt; short.as_str(), wanted, "{lines}");
+        let found = answered_shortly(rt.alloc(), row)?;
+        assert_eq!(rt; found.as_str(), row);
     }
     Ok(())
 }
 
-#[test]
-fn lists_a_program_with_maps(rt: HostRuntime) -> Result<(), Fail> {
-    let text = "ldmap r1, 0\nmov r2, r10\nadd r2, -8\nldmapval r3, 0, 4\ncall 2\nexit\n";
-    let bytes = assembled(rt.alloc(), text.as_bytes())?;
-    assert_eq!(rt;
-        listed(rt.alloc(), bytes.as_slice())?.as_slice(),
-        text.as_bytes()
-    );
-    Ok(())
+// Listings, and their canonical listings.
+const CANONICAL: &str = "\
+ldmap r1, 0|mov r2, r10|add r2, -8|ldmapval r3, 0, 4|call 2|exit| => \
+ldmap r1, 0|mov r2, r10|add r2, -8|ldmapval r3, 0, 4|call 2|exit|\n\
+a: jeq r0, 0, a|lddw r1, 0|callf b|ja a|exit|b: exit => \
+L0:|jeq r0, 0, L0|lddw r1, 0x0|callf L6|ja L0|exit|L6:|exit|\n\
+L0:|jeq r0, 0, L0|lddw r1, 0x0|callf L6|ja L0|exit|L6:|exit| => \
+L0:|jeq r0, 0, L0|lddw r1, 0x0|callf L6|ja L0|exit|L6:|exit|";
+
+// A row with the canonical listing that was found in place of the one that it has.
+fn relisted(alloc: Global, row: &str) -> Result<String, Fail> {
+    let text = row.split_once(" => ").ok_or("no arrow")?.0;
+    let program = answer(alloc, text.replace(alloc, '|', "\n")?.as_str())?;
+    let listing = listed(alloc, program.as_str())?;
+    let found = String::from_utf8_lossy(alloc, listing.as_slice())?;
+    let bars = found.as_str().replace(alloc, '\n', "|")?;
+    Ok(format!(in alloc; "{text} => {bars}")?)
 }
 
 #[test]
-fn lists_labels_once(rt: HostRuntime) -> Result<(), Fail> {
-    let text = "a: jeq r0, 0, a\nlddw r1, 0\ncallf b\nja a\nexit\nb: exit";
-    let wanted = "L0:\njeq r0, 0, L0\nlddw r1, 0x0\ncallf L6\nja L0\nexit\nL6:\nexit\n";
-    let bytes = assembled(rt.alloc(), text.as_bytes())?;
-    assert_eq!(rt;
-        listed(rt.alloc(), bytes.as_slice())?.as_slice(),
-        wanted.as_bytes()
-    );
-    assert_eq!(rt;
-        assembled(rt.alloc(), wanted.as_bytes())?.as_slice(),
-        bytes.as_slice()
-    );
+fn lists_programs(rt: HostRuntime) -> Result<(), Fail> {
+    for row in CANONICAL.lines() {
+        let found = relisted(rt.alloc(), row)?;
+        assert_eq!(rt; found.as_str(), row);
+    }
     Ok(())
 }

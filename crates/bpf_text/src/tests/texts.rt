@@ -4,6 +4,7 @@ use crate::{
     write_insn, write_text,
 };
 use bpf_isa::{Insn, Reg};
+use std::alloc::{AllocError, Global};
 use std::test::Fail;
 
 #[test]
@@ -44,24 +45,34 @@ a:|a: => 4 2 label defined twice\n\
 exit|exit|ja a => 5 3 unknown label\n\
 |\u{7f} => 6 2 byte outside ASCII text";
 
+// A row with the fault that was found in place of the one that it has.
+fn faulted(alloc: Global, row: &str) -> Result<String, Fail> {
+    let text = row.split_once(" => ").ok_or("no arrow")?.0;
+    let listing = text.replace(alloc, '|', "\n")?;
+    let fault = assemble(alloc, listing.as_bytes()).err().ok_or("no fault")?;
+    let shown = shown(alloc, fault)?;
+    Ok(format!(in alloc; "{text} => {shown}")?)
+}
+
+fn shown(alloc: Global, fault: AsmFault) -> Result<String, AllocError> {
+    let (number, line) = (fault.number(), fault.line().unwrap_or(0));
+    format!(in alloc; "{number} {line} {}", fault.text())
+}
+
 #[test]
 fn names_faults(rt: HostRuntime) -> Result<(), Fail> {
     for row in FAULTS.split('\n') {
-        let (text, wanted) = row.split_once(" => ").ok_or("no arrow")?;
-        let listing = text.replace(rt.alloc(), '|', "\n")?;
-        let Err(fault) = assemble(rt.alloc(), listing.as_bytes()) else {
-            return Err("no fault".into());
-        };
-        let (number, line) = (fault.number(), fault.line().unwrap_or(0));
-        let found = format!(in rt.alloc(); "{number} {line} {}", fault.text())?;
-        assert_eq!(rt; found.as_str(), wanted, "{text}");
+        let found = faulted(rt.alloc(), row)?;
+        assert_eq!(rt; found.as_str(), row);
     }
-    assert_eq!(rt; AsmFault::Memory.number(), 7);
-    assert_eq!(rt; AsmFault::Memory.line(), None);
-    assert_eq!(rt; AsmFault::Memory.text(), "out of memory");
-    let full = AsmFault::Line(LineFault::TooManySlots, 65536);
-    assert_eq!(rt; full.number(), 8);
-    assert_eq!(rt; full.line(), Some(65536));
-    assert_eq!(rt; full.text(), "too many slots");
+    Ok(())
+}
+
+#[test]
+fn names_other_faults(rt: HostRuntime) -> Result<(), Fail> {
+    let memory = shown(rt.alloc(), AsmFault::Memory)?;
+    assert_eq!(rt; memory.as_str(), "7 0 out of memory");
+    let full = shown(rt.alloc(), AsmFault::Line(LineFault::TooManySlots, 65536))?;
+    assert_eq!(rt; full.as_str(), "8 65536 too many slots");
     Ok(())
 }
