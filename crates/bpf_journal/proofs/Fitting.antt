@@ -1,0 +1,114 @@
+-- What fits: the longest beginning, and what new ones and dropped ones make of it.
+use Rattle.std.proofs.Common.{◌≡◌, ◌≤◌, ◌<◌, ◌-◌, ℕ, List, [], ◌∷◌, ◌++◌, map, refl, sym, ap, ◌∙◌, subst, inl, inr, arith}
+use Rattle.std.specs.Prelude.{sum_by}
+use Rattle.std.proofs.lemmas.Bool.{cases_lt}
+use Rattle.std.proofs.lemmas.Bool.Decides.{nat_tests}
+use Rattle.std.proofs.lemmas.List.Sums.{sum_by-cons}
+use Rattle.bpf_machine.specs.State.{State}
+use Rattle.bpf_journal.specs.Histories.{Record, IsRun, record_weight, fit, keep}
+use Rattle.bpf_journal.specs.Laws.{IsLongest}
+
+module _ {A : Type 0} (weigh : A → ℕ) where
+  pub fit_in : (room : ℕ) (e : A) (es : List A) → weigh e ≤ room → fit weigh room (e ∷ es) ≡ e ∷ fit weigh (room - weigh e) es
+  unfolding fit
+  fit_in room e es h = grind (arith, nat_tests)
+
+  pub fit_out : (room : ℕ) (e : A) (es : List A) → room < weigh e → fit weigh room (e ∷ es) ≡ []
+  unfolding fit
+  fit_out room e es h = grind (arith, nat_tests)
+
+  pub fit_none : (room : ℕ) → fit weigh room [] ≡ []
+  unfolding fit
+  fit_none room = refl
+
+  -- It is the longest beginning within the room.
+  none_longer : (room : ℕ) (e : A) (es : List A) → room < weigh e → (f : A) (more : List A) → (e ∷ es) ≡ f ∷ more → room < sum_by weigh ([] ++ f ∷ [])
+  none_longer room e es h f more q =
+      let same : e ≡ f = cc in
+      let weight : weigh e ≡ weigh f = ap weigh same in
+      omega arith
+
+  one_longer : (room : ℕ) (e f : A) (es : List A) → weigh e ≤ room → room - weigh e < sum_by weigh (es ++ f ∷ []) → room < sum_by weigh ((e ∷ es) ++ f ∷ [])
+  one_longer room e f es h l = omega (arith, sum_by-cons weigh e (es ++ f ∷ []))
+
+  pub longest : (room : ℕ) (es : List A) → IsLongest weigh room es (fit weigh room es)
+  longest room [] = subst (IsLongest weigh room []) (sym (fit_none room)) (record { rest = []; whole = refl; within = omega arith; longest = λ e more q. absurd cc })
+  longest room (e ∷ es) = elim (cases_lt room (weigh e)) [
+    | inl h ↦ subst (IsLongest weigh room (e ∷ es)) (sym (fit_out room e es h)) (record { rest = e ∷ es; whole = refl; within = omega arith; longest = none_longer room e es h })
+    | inr h ↦
+        let i = longest (room - weigh e) es in
+        let front = fit weigh (room - weigh e) es in
+        subst (IsLongest weigh room (e ∷ es)) (sym (fit_in room e es h)) (record {
+          rest = i.rest;
+          whole = ap (λ t. e ∷ t) i.whole;
+          within = omega (arith, sum_by-cons weigh e front, i.within);
+          longest = λ f more q. one_longer room e f front h (i.longest f more q);
+        })
+  ]
+
+  pub fit_within : (room : ℕ) (es : List A) → sum_by weigh (fit weigh room es) ≤ room
+  fit_within room es = (longest room es).within
+
+  -- What weighs at most the room fits whole.
+  pub fit_all : (room : ℕ) (es : List A) → sum_by weigh es ≤ room → fit weigh room es ≡ es
+  fit_all room [] h = fit_none room
+  fit_all room (e ∷ es) h =
+      let sum = sum_by-cons weigh e es in
+      let here : weigh e ≤ room = omega arith in
+      fit_in room e es here ∙ ap (λ t. e ∷ t) (fit_all (room - weigh e) es (omega arith))
+
+  -- What fits in less room, of what fits in more.
+  pub fit_fit : (less room : ℕ) (es : List A) → less ≤ room → fit weigh less (fit weigh room es) ≡ fit weigh less es
+  fit_fit less room [] h = ap (fit weigh less) (fit_none room)
+  fit_fit less room (e ∷ es) h = elim (cases_lt less (weigh e)) [
+    | inl small ↦ elim (cases_lt room (weigh e)) [
+      | inl out ↦ ap (fit weigh less) (fit_out room e es out) ∙ fit_none less ∙ sym (fit_out less e es small)
+      | inr within ↦ ap (fit weigh less) (fit_in room e es within) ∙ fit_out less e (fit weigh (room - weigh e) es) small ∙ sym (fit_out less e es small)
+    ]
+    | inr here ↦
+        let within : weigh e ≤ room = omega arith in
+        let rest : less - weigh e ≤ room - weigh e = omega arith in
+        ap (fit weigh less) (fit_in room e es within)
+        ∙ fit_in less e (fit weigh (room - weigh e) es) here
+        ∙ ap (λ t. e ∷ t) (fit_fit (less - weigh e) (room - weigh e) es rest)
+        ∙ sym (fit_in less e es here)
+  ]
+
+  -- What was dropped before makes no difference.
+  pub keep_fit : (room : ℕ) (es : List A) (e : A) → keep weigh room (fit weigh room es) e ≡ keep weigh room es e
+  keep_fit room es e = elim (cases_lt room (weigh e)) [
+    | inl out ↦ fit_out room e (fit weigh room es) out ∙ sym (fit_out room e es out)
+    | inr here ↦
+        let rest : room - weigh e ≤ room = omega arith in
+        fit_in room e (fit weigh room es) here ∙ ap (λ t. e ∷ t) (fit_fit (room - weigh e) room es rest) ∙ sym (fit_in room e es here)
+  ]
+
+  -- The oldest of what weighs more than the room doesn't fit.
+  pub fit_without_oldest : (room : ℕ) (es : List A) (z : A) → room < sum_by weigh (es ++ z ∷ []) → fit weigh room (es ++ z ∷ []) ≡ fit weigh room es
+  fit_without_oldest room [] z h = fit_out room z [] (omega arith) ∙ sym (fit_none room)
+  fit_without_oldest room (e ∷ es) z h = elim (cases_lt room (weigh e)) [
+    | inl out ↦ fit_out room e (es ++ z ∷ []) out ∙ sym (fit_out room e es out)
+    | inr here ↦
+        let sum = sum_by-cons weigh e (es ++ z ∷ []) in
+        let rest : room - weigh e < sum_by weigh (es ++ z ∷ []) = omega arith in
+        fit_in room e (es ++ z ∷ []) here ∙ ap (λ t. e ∷ t) (fit_without_oldest (room - weigh e) es z rest) ∙ sym (fit_in room e es here)
+  ]
+
+-- What fits of the images is the image of what fits.
+pub map-fit : {A B : Type 0} (f : A → B) (weigh : B → ℕ) (room : ℕ) (es : List A) → map f (fit (λ a. weigh (f a)) room es) ≡ fit weigh room (map f es)
+map-fit f weigh room [] = ap (map f) (fit_none (λ a. weigh (f a)) room) ∙ sym (fit_none weigh room)
+map-fit f weigh room (e ∷ es) = elim (cases_lt room (weigh (f e))) [
+  | inl out ↦ ap (map f) (fit_out (λ a. weigh (f a)) room e es out) ∙ sym (fit_out weigh room (f e) (map f es) out)
+  | inr here ↦
+      ap (map f) (fit_in (λ a. weigh (f a)) room e es here)
+      ∙ ap (λ t. f e ∷ t) (map-fit f weigh (room - weigh (f e)) es)
+      ∙ sym (fit_in weigh room (f e) (map f es) here)
+]
+
+-- A beginning of a run is a run.
+pub run-fit : (room : ℕ) (h : List Record) (y : State) → IsRun h y → IsRun (fit record_weight room h) y
+run-fit room [] y run = subst (λ (t : List Record). IsRun t y) (sym (fit_none record_weight room)) tt
+run-fit room (r ∷ h) y run = elim (cases_lt room (record_weight r)) [
+  | inl out ↦ subst (λ (t : List Record). IsRun t y) (sym (fit_out record_weight room r h out)) tt
+  | inr here ↦ subst (λ (t : List Record). IsRun t y) (sym (fit_in record_weight room r h here)) (run.0, run-fit (room - record_weight r) h r.before run.1)
+]

@@ -1,0 +1,174 @@
+-- Items lie with the oldest first: what a change at either end makes of the list that they are, and of its sums.
+use Rattle.std.proofs.Common.{◌≡◌, ◌≤◌, ◌<◌, ◌+◌, ◌-◌, ◌^◌, ℕ, Bool, true, false, cond, List, [], ◌∷◌, ◌++◌, length, map, reverse, Option, Some, None, MatchOption, Bor, refl, sym, ap, ◌∙◌, subst, append_assoc, arith}
+use Rattle.std.specs.Prelude.{sum_by, option_map, IsSome, IfSome}
+use Rattle.std.proofs.lemmas.List.{reverse-append, reverse-reverse, length-reverse, length-map, length-append, map-append}
+use Rattle.std.proofs.lemmas.List.Sums.{sum_by-cons, sum_by_push}
+use Rattle.std.proofs.Math.ListN.{get_or, get_or-map}
+use Rattle.std.proofs.Math.Seq.{get_or-append_seam}
+use Rattle.bpf_machine.specs.declared.entry.Entry.{Entry}
+use Rattle.bpf_machine.specs.declared.entry.Entry.TheVariants as entry
+use Rattle.bpf_machine.specs.Entries.{weight}
+use Rattle.bpf_journal.specs.declared.item.Item.{Item}
+use Rattle.bpf_journal.specs.Histories.{Kept, kept_weight, newest, fit}
+use Rattle.bpf_journal.specs.Items.{kept_item, mark_count, held, marks, IsCounted, LosesOldest}
+use Rattle.bpf_journal.proofs.Fitting.{fit_without_oldest}
+
+pub held_none : held [] ≡ []
+unfolding held
+held_none = refl
+
+pub held_push : (xs : List Item) (x : Item) → held (xs ++ x ∷ []) ≡ kept_item x ∷ held xs
+unfolding held
+held_push xs x = ap reverse (map-append kept_item xs (x ∷ [])) ∙ reverse-append (map kept_item xs) (kept_item x ∷ [])
+
+pub held_front : (x : Item) (xs : List Item) → held (x ∷ xs) ≡ held xs ++ kept_item x ∷ []
+unfolding held
+held_front x xs = reverse-append (kept_item x ∷ []) (map kept_item xs)
+
+pub length-held : (xs : List Item) → length (held xs) ≡ length xs
+unfolding held
+length-held xs = length-reverse (map kept_item xs) ∙ length-map xs kept_item
+
+pub none_held : (xs : List Item) → length xs ≡ 0 → held xs ≡ []
+none_held [] e = held_none
+none_held (x ∷ xs) e = absurd (omega arith)
+
+-- The counters of no entries.
+pub counted_none : IsCounted (held []) 0 0
+counted_none = subst (λ (es : List Kept). IsCounted es 0 0) (sym held_none) (record { weighs = refl; counts = refl })
+
+-- The sums of a list with one more at an end.
+marks-cons : (k : Kept) (es : List Kept) → marks (k ∷ es) ≡ cond k.1 1 0 + marks es
+marks-cons k es = sum_by-cons (λ k. cond k.1 1 0) k es
+
+marks_push : (es : List Kept) (k : Kept) → marks (es ++ k ∷ []) ≡ marks es + cond k.1 1 0
+marks_push es k = sum_by_push (λ k. cond k.1 1 0) es k
+
+-- Each entry weighs something, so no more are marked than weigh.
+weighs_some : (e : Entry) → 1 ≤ weight e
+weighs_some (entry.Register pc register value) = omega arith
+weighs_some (entry.Jump pc) = omega arith
+weighs_some (entry.Call pc) = omega arith
+weighs_some (entry.Return pc saved) = omega arith
+weighs_some (entry.Store pc address old) = omega arith
+weighs_some (entry.Fetch pc register value address old) = omega arith
+weighs_some (entry.Cell pc r0 address old) = omega arith
+weighs_some (entry.Trace pc r0) = omega arith
+weighs_some entry.End = omega arith
+weighs_some (entry.EditRegister register value) = omega arith
+weighs_some (entry.EditBytes address old) = omega arith
+weighs_some (entry.EditPc pc status) = omega arith
+
+one_mark : (b : Bool) → cond b 1 0 ≤ 1
+one_mark true = omega arith
+one_mark false = omega arith
+
+pub few_marks : (es : List Kept) → marks es ≤ sum_by kept_weight es
+few_marks [] = omega arith
+few_marks (k ∷ es) =
+    let here : 1 ≤ kept_weight k = weighs_some k.0 in
+    let one = one_mark k.1 in
+    let rest = few_marks es in
+    omega (arith, marks-cons k es, sum_by-cons kept_weight k es)
+
+-- One more at the newest end.
+pub counted_push : (old new : List Item) (x : Item) (w m a b : ℕ) → new ≡ old ++ x ∷ [] → a ≡ kept_weight (kept_item x) → b ≡ mark_count x → IsCounted (held old) w m → IsCounted (held new) (w + a) (m + b)
+counted_push old new x w m a b e ea eb i =
+    let list : held new ≡ kept_item x ∷ held old = ap held e ∙ held_push old x in
+    subst (λ (es : List Kept). IsCounted es (w + a) (m + b)) (sym list) (record {
+      weighs = omega (arith, sum_by-cons kept_weight (kept_item x) (held old), i.weighs);
+      counts = omega (arith, marks-cons (kept_item x) (held old), i.counts);
+    })
+
+-- One less at the newest end.
+pub light_newest : (old new : List Item) (x : Item) (w m : ℕ) → old ≡ new ++ x ∷ [] → IsCounted (held old) w m → (kept_weight (kept_item x) ≤ w) × (mark_count x ≤ m)
+light_newest old new x w m e i =
+    let list : held old ≡ kept_item x ∷ held new = ap held e ∙ held_push new x in
+    let weighs : w ≡ sum_by kept_weight (kept_item x ∷ held new) = i.weighs ∙ ap (sum_by kept_weight) list in
+    let counts : m ≡ marks (kept_item x ∷ held new) = i.counts ∙ ap marks list in
+    (omega (arith, sum_by-cons kept_weight (kept_item x) (held new)), omega (arith, marks-cons (kept_item x) (held new)))
+
+pub counted_pop : (old new : List Item) (x : Item) (w m a b : ℕ) → old ≡ new ++ x ∷ [] → a ≡ kept_weight (kept_item x) → b ≡ mark_count x → IsCounted (held old) w m → IsCounted (held new) (w - a) (m - b)
+counted_pop old new x w m a b e ea eb i =
+    let list : held old ≡ kept_item x ∷ held new = ap held e ∙ held_push new x in
+    let weighs : w ≡ sum_by kept_weight (kept_item x ∷ held new) = i.weighs ∙ ap (sum_by kept_weight) list in
+    let counts : m ≡ marks (kept_item x ∷ held new) = i.counts ∙ ap marks list in
+    record {
+      weighs = omega (arith, sum_by-cons kept_weight (kept_item x) (held new));
+      counts = omega (arith, marks-cons (kept_item x) (held new));
+    }
+
+-- One less at the oldest end.
+pub light_oldest : (old new : List Item) (x : Item) (w m : ℕ) → old ≡ x ∷ new → IsCounted (held old) w m → (kept_weight (kept_item x) ≤ w) × (mark_count x ≤ m)
+light_oldest old new x w m e i =
+    let list : held old ≡ held new ++ kept_item x ∷ [] = ap held e ∙ held_front x new in
+    let weighs : w ≡ sum_by kept_weight (held new ++ kept_item x ∷ []) = i.weighs ∙ ap (sum_by kept_weight) list in
+    let counts : m ≡ marks (held new ++ kept_item x ∷ []) = i.counts ∙ ap marks list in
+    (omega (arith, sum_by_push kept_weight (held new) (kept_item x)), omega (arith, marks_push (held new) (kept_item x)))
+
+pub counted_drop : (old new : List Item) (x : Item) (w m a b : ℕ) → old ≡ x ∷ new → a ≡ kept_weight (kept_item x) → b ≡ mark_count x → IsCounted (held old) w m → IsCounted (held new) (w - a) (m - b)
+counted_drop old new x w m a b e ea eb i =
+    let list : held old ≡ held new ++ kept_item x ∷ [] = ap held e ∙ held_front x new in
+    let weighs : w ≡ sum_by kept_weight (held new ++ kept_item x ∷ []) = i.weighs ∙ ap (sum_by kept_weight) list in
+    let counts : m ≡ marks (held new ++ kept_item x ∷ []) = i.counts ∙ ap marks list in
+    record {
+      weighs = omega (arith, sum_by_push kept_weight (held new) (kept_item x));
+      counts = omega (arith, marks_push (held new) (kept_item x));
+    }
+
+-- The item with so many older ones is at that index.
+pub at_index : (items : List Item) (newer rest : List Kept) (k : Kept) (d : Item) → held items ≡ newer ++ k ∷ rest → kept_item (get_or items (length rest) d) ≡ k
+unfolding held
+at_index items newer rest k d e =
+    let oldest_first : map kept_item items ≡ (reverse rest ++ k ∷ []) ++ reverse newer =
+    sym (reverse-reverse (map kept_item items)) ∙ ap reverse e ∙ reverse-append newer (k ∷ rest) ∙ ap (λ front. front ++ reverse newer) (reverse-append (k ∷ []) rest) in
+    let regrouped : (reverse rest ++ k ∷ []) ++ reverse newer ≡ reverse rest ++ k ∷ reverse newer = simp (append_assoc) in
+    sym (get_or-map kept_item items (length rest) d)
+    ∙ ap (λ l. get_or l (length rest) (kept_item d)) (oldest_first ∙ regrouped)
+    ∙ ap (λ i. get_or (reverse rest ++ k ∷ reverse newer) i (kept_item d)) (sym (length-reverse rest))
+    ∙ get_or-append_seam (reverse rest) k (reverse newer) (kept_item d)
+
+pub is_within : (items : List Item) (newer rest : List Kept) (k : Kept) → held items ≡ newer ++ k ∷ rest → length rest < length items
+is_within items newer rest k e =
+    let count : length (held items) ≡ length (newer ++ k ∷ rest) = ap length e in
+    omega (arith, length-held items, length-append newer (k ∷ rest))
+
+-- Dropping the oldest of what is too heavy makes no difference to what fits.
+pub fit_after_drop : (room : ℕ) (old new : List Kept) → LosesOldest old new → room < sum_by kept_weight old → fit kept_weight room new ≡ fit kept_weight room old
+fit_after_drop room old new l h =
+    let heavy : room < sum_by kept_weight (new ++ l.oldest ∷ []) = subst (λ (es : List Kept). room < sum_by kept_weight es) l.is h in
+    sym (fit_without_oldest kept_weight room new l.oldest heavy) ∙ ap (fit kept_weight room) (sym l.is)
+
+pub shorter : (old new : List Kept) → LosesOldest old new → length new < length old
+shorter old new l = omega (arith, ap length l.is, length-append new (l.oldest ∷ []))
+
+-- Room for one more mark.
+pub room_for_mark : (items : List Item) (now : List Kept) (x : Item) (w m b : ℕ) → held items ≡ now → sum_by kept_weight now < 2 ^ 32 → IsCounted (held items) w m → b ≡ mark_count x → m + b < 2 ^ 64
+room_for_mark items now x w m b view few i eb =
+    let sum : sum_by kept_weight (held items) < 2 ^ 32 = subst (λ (es : List Kept). sum_by kept_weight es < 2 ^ 32) (sym view) few in
+    omega (arith, few_marks (held items), one_mark x.mark, i.counts)
+
+-- What a read of an item answers.
+pub item_found : (items : List Item) (newer rest : List Kept) (k : Kept) (n i : ℕ) (r : Option (Bor Item)) → n ≡ length items → length rest ≡ i → (i < n → IsSome r) → IfSome r (λ x. x.now ≡ get_or items i x.now) → held items ≡ newer ++ k ∷ rest → MatchOption r ⊥ (λ x. kept_item x.now ≡ k)
+item_found items newer rest k n i None len count some is e =
+    let within : length rest < length items = is_within items newer rest k e in
+    let found : IsSome {T = Bor Item} None = some (omega arith) in
+    absurd cc
+item_found items newer rest k n i (Some x) len count some is e =
+    ap kept_item (is ∙ ap (λ j. get_or items j x.now) (sym count)) ∙ at_index items newer rest k x.now e
+
+-- The newest is the one with all others older.
+pub newest_found : (es : List Kept) (items : List Item) (n : ℕ) (r : Option (Bor Item)) → es ≡ held items → n ≡ length items → (0 < n → IsSome r) → (IsSome r → 0 < n) → IfSome r (λ x. x.now ≡ get_or items (n - 1) x.now) → option_map (λ x. kept_item x.now) r ≡ newest es
+newest_found [] items n None e len some none is = refl
+newest_found [] items n (Some x) e len some none is =
+    let within : 0 < n = none refl in
+    let count : length (held items) ≡ 0 = ap length (sym e) in
+    absurd (omega (arith, length-held items))
+newest_found (k ∷ rest) items n None e len some none is =
+    let within : length rest < length items = is_within items [] rest k (sym e) in
+    let found : IsSome {T = Bor Item} None = some (omega arith) in
+    absurd cc
+newest_found (k ∷ rest) items n (Some x) e len some none is =
+    let count : length (k ∷ rest) ≡ length items = ap length e ∙ length-held items in
+    let last : n - 1 ≡ length rest = omega arith in
+    ap Some (ap kept_item (is ∙ ap (λ i. get_or items i x.now) last) ∙ at_index items [] rest k x.now (sym e))

@@ -1,0 +1,4 @@
+pub mod Fitting
+pub mod MoveLaws
+pub mod Histories
+pub mod Items

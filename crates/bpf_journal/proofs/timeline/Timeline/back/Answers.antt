@@ -1,0 +1,25 @@
+use Rattle.std.proofs.Common.{sym}
+use Rattle.bpf_journal.proofs.Histories.{newest_came, history_before}
+use Rattle.bpf_journal.proofs.timeline.Timeline.back.Goals as goal
+
+pub revert_compact-requires : goal.revert_compact-requires
+revert_compact-requires g c =
+    let i = c.self.invariant in
+    newest_came i.history _ _ (c.in-Some.ensures.taken _ i.stands.0).0 i.stands.1
+
+pub invariant_of-self : goal.invariant_of-self
+invariant_of-self g c =
+    let i = c.self.invariant in
+    let t = c.in-Some.ensures.taken _ i.stands.0 in
+    history_before g.K.Keeper.holds i.history _ _ _ _ t.0 i.stands.1 t.1 c.revert_compact.ensures
+
+pub revert-requires : goal.revert-requires
+revert-requires g c =
+    let i = c.self.invariant in
+    newest_came i.history _ _ (sym (c.in-Some-pop.ensures.taken _ (c.in-None.ensures.taken _ i.stands.0)).0) i.stands.1
+
+pub invariant_of-self-in-Some-pop : goal.invariant_of-self-in-Some-pop
+invariant_of-self-in-Some-pop g c =
+    let i = c.self.invariant in
+    let t = c.in-Some-pop.ensures.taken _ (c.in-None.ensures.taken _ i.stands.0) in
+    history_before g.K.Keeper.holds i.history _ _ _ _ (sym t.0) i.stands.1 t.1 c.revert.ensures

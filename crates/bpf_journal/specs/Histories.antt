@@ -1,0 +1,60 @@
+-- A history keeps whole states: what a debugger would hold that never takes anything back, but looks it up. The newest comes first
+-- in every list here.
+use Rattle.std.specs.Prelude.{ℕ, ◌-◌, nat_le, Bool, if◌then◌else◌, List, [], ◌∷◌, Option, Some, None, map}
+use Rattle.bpf_machine.specs.declared.entry.Entry.{Entry}
+use Rattle.bpf_machine.specs.declared.moves.Move.{Move}
+use Rattle.bpf_machine.specs.Entries.{weight}
+use Rattle.bpf_machine.specs.Moves.{Leads, overwritten}
+use Rattle.bpf_machine.specs.State.{State}
+
+-- A move with the whole state before it. The first move of a command is marked.
+pub record Record : Type 0 where
+  pub before : State
+  pub move : Move
+  pub mark : Bool
+
+-- Each record's move leads to the state before the next newer one, and the newest to y.
+abbrev pub IsRun : List Record → State → Type 0
+IsRun [] y = Unit {0}
+IsRun (r ∷ h) y = Leads r.before r.move y × IsRun h r.before
+
+-- What a journal keeps of a record: the entry of its move, and the mark.
+abbrev pub Kept : Type 0
+Kept = Entry × Bool
+
+abbrev pub kept_of : Record → Kept
+kept_of r = (overwritten r.before r.move, r.mark)
+
+-- What each weighs, in bytes.
+abbrev pub kept_weight : Kept → ℕ
+kept_weight k = weight k.0
+
+abbrev pub record_weight : Record → ℕ
+record_weight r = kept_weight (kept_of r)
+
+-- The longest beginning whose weights sum to at most the room.
+unfoldable pub fit : {A : Type 0} → (A → ℕ) → ℕ → List A → List A
+fit weigh room [] = []
+fit weigh room (e ∷ es) = if nat_le (weigh e) room then e ∷ fit weigh (room - weigh e) es else []
+
+-- A new one goes in front, and what no longer fits is dropped.
+abbrev pub keep : {A : Type 0} → (A → ℕ) → ℕ → List A → A → List A
+keep weigh room es e = fit weigh room (e ∷ es)
+
+-- The newest, and the list without it.
+abbrev pub newest : {A : Type 0} → List A → Option A
+newest [] = None
+newest (e ∷ es) = Some e
+
+abbrev pub older : {A : Type 0} → List A → List A
+older [] = []
+older (e ∷ es) = es
+
+-- A keeper, known by what it holds, stands with a state for a history.
+abbrev pub StandsFor : {K : Type 0} → (K → List Kept → Type 0) → K → State → List Record → Type 0
+StandsFor holds keeper x h = holds keeper (map kept_of h) × IsRun h x
+
+-- There is a history.
+pub record HasHistory {K : Type 0} (holds : K → List Kept → Type 0) (keeper : K) (x : State) : Type 0 where
+  pub history : List Record
+  pub stands : StandsFor holds keeper x history

@@ -1,0 +1,54 @@
+-- What a keeper's calls say of the lists that it holds.
+use Rattle.std.specs.Prelude.{◌≡◌, ◌≤◌, ℕ, Bool, List, [], ◌∷◌, ◌++◌, Option, Some, None, Result, Ok, Err, sum_by}
+use Rattle.bpf_machine.specs.declared.compact.CompactEntry.{CompactEntry}
+use Rattle.bpf_machine.specs.declared.entry.Entry.{Entry}
+use Rattle.bpf_machine.specs.Entries.{expanded}
+use Rattle.bpf_journal.specs.Counts.{once_more}
+use Rattle.bpf_journal.specs.Histories.{Kept, kept_weight, newest, older}
+use Rattle.bpf_journal.specs.Opening.{IsSize}
+
+-- How often a keeper has refused, after one more push.
+abbrev pub refusals_after : {E : Type 0} → Result (Unit {0}) E → ℕ → ℕ
+refusals_after (Ok u) n = n
+refusals_after (Err e) n = once_more n
+
+-- What is kept of a compact entry and a mark.
+abbrev pub kept_compact : CompactEntry → Bool → Kept
+kept_compact entry mark = (expanded entry, mark)
+
+module _ {K : Type 0} (holds : K → List Kept → Type 0) where
+  -- The newest is taken off; nothing changes where nothing is held.
+  abbrev pub TakesNewest : K → K → Option Kept → Type 0
+  TakesNewest old new result = (es : List Kept) → holds old es → (result ≡ newest es) × holds new (older es)
+
+  -- The newest is taken off where an answer is given; else nothing changes.
+  abbrev pub TakesCompact : K → K → Option (CompactEntry × Bool) → Type 0
+  TakesCompact old new None = (es : List Kept) → holds old es → holds new es
+  TakesCompact old new (Some taken) =
+      (es : List Kept) → holds old es → (newest es ≡ Some (kept_compact taken.0 taken.1)) × holds new (older es)
+
+  -- The place is that of a front: of a held list without so many of its newest.
+  pub record IsPlace (place : K → List Kept → ℕ) (keeper : K) (at : ℕ) : Type 0 where
+    pub newer : List Kept
+    pub front : List Kept
+    pub held : holds keeper (newer ++ front)
+    pub here : place keeper front ≡ at
+
+  -- A front's newest, its mark, and the place of the front without it.
+  abbrev pub walked : (List Kept → ℕ) → List Kept → Option (Entry × Bool × ℕ)
+  walked place [] = None
+  walked place (e ∷ es) = Some (e.0, e.1, place es)
+
+  abbrev pub WalksBack : (K → List Kept → ℕ) → K → ℕ → Option (Entry × Bool × ℕ) → Type 0
+  WalksBack place keeper at result =
+      (newer front : List Kept) → holds keeper (newer ++ front) → place keeper front ≡ at → result ≡ walked (place keeper) front
+
+  -- No two fronts of a held list have one place.
+  abbrev pub PlacesDiffer : (K → List Kept → ℕ) → Type 0
+  PlacesDiffer place =
+      (keeper : K) (n m a b : List Kept) → holds keeper (n ++ a) → n ++ a ≡ m ++ b → place keeper a ≡ place keeper b → a ≡ b
+
+-- The room is a journal's size, and what is held weighs at most the room.
+pub record IsWithin (room : ℕ) (es : List Kept) : Type 0 where
+  pub size : IsSize room
+  pub weighs : sum_by kept_weight es ≤ room

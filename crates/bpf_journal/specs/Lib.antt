@@ -1,0 +1,10 @@
+pub mod Counts
+pub mod Opening
+pub mod Histories
+pub mod EditEntries
+pub mod Keepers
+pub mod Places
+pub mod Items
+pub mod Reverting
+pub mod Timelines
+pub mod Laws

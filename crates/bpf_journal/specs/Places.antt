@@ -1,0 +1,19 @@
+-- Scaffolding: lemmas behind the laws of the list keeper.
+use Rattle.std.specs.Prelude.{◌≡◌, ◌≤◌, ℕ, List, ◌++◌, length, drop, sum_by}
+use Rattle.std.proofs.Common.{sym, ap, subst, ◌∙◌, arith}
+use Rattle.std.proofs.lemmas.List.{length-append}
+use Rattle.std.proofs.Math.Seq.{drop-append_seam}
+use Rattle.bpf_journal.specs.Histories.{Kept, kept_weight}
+use Rattle.bpf_journal.specs.Keepers.{IsWithin}
+use Rattle.bpf_journal.specs.Opening.{IsSize}
+
+-- What is held is within the room.
+pub within_all : (room : ℕ) (kept es : List Kept) → es ≡ kept → IsSize room → sum_by kept_weight kept ≤ room → IsWithin room es
+within_all room kept es same size weighs = subst (λ (xs : List Kept). IsWithin room xs) (sym same) (record { size = size; weighs = weighs })
+
+-- Ends of one list that are as long are one.
+pub ends_apart : (n m a b : List Kept) → n ++ a ≡ m ++ b → length a ≡ length b → a ≡ b
+ends_apart n m a b same count =
+    let whole : length (n ++ a) ≡ length (m ++ b) = ap length same in
+    let before : length n ≡ length m = omega (arith, length-append n a, length-append m b) in
+    sym (drop-append_seam n a) ∙ ap (λ k. drop k (n ++ a)) before ∙ ap (drop (length m)) same ∙ drop-append_seam m b

@@ -1,0 +1,49 @@
+-- A state with the keeper of the moves that led to it: what a move leaves of both, and what going back leaves.
+use Rattle.std.specs.Prelude.{◌≡◌, ℕ, Bool, true, false, List, [], ◌∷◌, Result, Err}
+use Rattle.bpf_machine.specs.declared.moves.Move.{Move}
+use Rattle.bpf_machine.specs.Moves.{IsMovable, Leads}
+use Rattle.bpf_machine.specs.State.{State}
+use Rattle.bpf_journal.specs.declared.fault.TimelineFault.{TimelineFault}
+use Rattle.bpf_journal.specs.declared.fault.TimelineFault.TheVariants as fault
+use Rattle.bpf_journal.specs.Counts.{once_more}
+use Rattle.bpf_journal.specs.Histories.{Kept, Record, record_weight, keep, StandsFor}
+use Rattle.bpf_journal.specs.Reverting.{RefusesMove}
+
+-- A state and the keeper.
+pub record Moment (K : Type 0) : Type 0 where
+  pub state : State
+  pub keeper : K
+
+-- The record of a move.
+abbrev pub record_of : State → Move → Bool → Record
+record_of x m mark = record { before = x; move = m; mark = mark }
+
+module _ {K : Type 0} (holds : K → List Kept → Type 0) where
+  -- A moment stands for a history.
+  abbrev pub StandsAt : Moment K → List Record → Type 0
+  StandsAt t h = StandsFor holds t.keeper t.state h
+
+  -- A move is made and kept, in every history that was stood for.
+  pub record Makes (room : ℕ) (m : Move) (mark : Bool) (old new : Moment K) : Type 0 where
+    pub leads : Leads old.state m new.state
+    pub kept : (h : List Record) → StandsAt old h → StandsAt new (keep record_weight room h (record_of old.state m mark))
+
+  -- The state stays, and so does every history that is stood for.
+  pub record Stays (old new : Moment K) : Type 0 where
+    pub state : new.state ≡ old.state
+    pub stands : (h : List Record) → StandsAt old h → StandsAt new h
+
+  -- Why a move is not made, and what that leaves.
+  abbrev pub Fails : Move → Moment K → Moment K → TimelineFault → Type 0
+  Fails m old new (fault.Move f) = RefusesMove old.state m f × (new ≡ old)
+  Fails m old new fault.OutOfMemory = IsMovable old.state m × Stays old new
+
+  -- The newest record is looked up: its state comes back, and the history in front of it is left. Without a record nothing changes.
+  abbrev pub GoesBack : Bool → List Record → Moment K → Moment K → Type 0
+  GoesBack went [] old new = (went ≡ false) × (new.state ≡ old.state) × StandsAt new []
+  GoesBack went (r ∷ h) old new = (went ≡ true) × (new.state ≡ r.before) × StandsAt new h
+
+-- What a move that was tried does to the number of refusals: one more where the keeper refused it.
+abbrev pub refusals_by : {A : Type 0} → Result A TimelineFault → ℕ → ℕ
+refusals_by (Err fault.OutOfMemory) n = once_more n
+refusals_by _ n = n

@@ -1,0 +1,88 @@
+//! Which entries fit their fields: those whose parts are in their types' ranges, and whose byte strings are short enough.
+ghost use Rattle.std.specs.Prelude.{◌<◌, ◌≤◌, ◌^◌, All};
+ghost use Rattle.bpf_machine.specs.Entries.{expanded};
+ghost use Rattle.bpf_machine.specs.Fields.{FitsBytes, FitsFields};
+ghost use Rattle.bpf_machine.specs.Status.{FitsStatus};
+ghost use Rattle.bpf_journal.specs.EditEntries.{IsOfEdit};
+
+use bpf_machine::{ByteString, CompactEntry, Entry, Fault, Status};
+
+/// Brings into a proof that each compact entry fits its fields.
+#[tactic(auto, unfolding(bpf_machine::specs::Entries::expanded))]
+pub fn compact_fits(entry: &CompactEntry)
+    ensures { FitsFields (expanded entry.now) }
+{
+    match *entry {
+        CompactEntry::Register {
+            register,
+            pc: _pc,
+            value: _value,
+        } => {
+            let _number = register.number();
+        }
+        CompactEntry::Jump { pc } => slot_fits(pc),
+        CompactEntry::Store {
+            size,
+            pc: _pc,
+            address: _address,
+            old: _old,
+        } => {
+            let _len = size.len();
+        }
+        CompactEntry::End => {}
+    }
+}
+
+/// Brings into a proof that the entry of an edit fits its fields.
+pub fn edit_fits(entry: &Entry)
+    requires { IsOfEdit entry.now }
+    ensures { FitsFields entry.now }
+{
+    match entry {
+        Entry::EditRegister { register, value } => {
+            let _number = register.number();
+            let _value = *value;
+        }
+        Entry::EditBytes { address, old } => {
+            let _address = *address;
+            bytes_fit(old);
+        }
+        Entry::EditPc { pc, status } => {
+            let _pc = *pc;
+            status_fits(status);
+        }
+        _ => {}
+    }
+}
+
+/// Brings the range of a slot into a proof.
+fn slot_fits(pc: u16)
+    ensures { pc < 2 ^ 16 }
+{
+    let _pc = pc;
+}
+
+/// Brings the number and the range of bytes into a proof.
+fn bytes_fit(old: &ByteString)
+    ensures { FitsBytes 256 old.now }
+{
+    are_bytes(old.as_slice());
+}
+
+fn are_bytes(bytes: &[u8])
+    ensures { All (λ byte. byte < 256) bytes.now }
+{}
+
+/// Brings the range of a status's number into a proof.
+fn status_fits(status: &Status)
+    ensures { FitsStatus status.now }
+{
+    match *status {
+        Status::Running | Status::Exited => {}
+        Status::Faulted(fault) => match fault {
+            Fault::Access { address: _address } => {}
+            Fault::Token { token: _token } => {}
+            Fault::Depth => {}
+        },
+    }
+}

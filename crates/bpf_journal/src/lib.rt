@@ -1,0 +1,19 @@
+//! The journal: the entries of moves, kept so that each move can be taken back.
+#![tactic(auto)]
+
+mod entries;
+mod fault;
+mod fields;
+mod item;
+mod keeper;
+pub mod laws;
+mod list_keeper;
+mod reversible;
+mod timeline;
+
+pub use bpf_machine::Move;
+pub use fault::{JournalFault, MoveFault, TimelineFault};
+pub use keeper::Keeper;
+pub use list_keeper::ListKeeper;
+pub use reversible::Reversible;
+pub use timeline::Timeline;

@@ -1,0 +1,175 @@
+//! The keeper that keeps entries in a growing list.
+ghost use Rattle.std.specs.Prelude.{◌≡◌, ◌<◌, ◌≤◌, ◌^◌, ◌∷◌, [], sum_by, IfOk, IfErr, OnOk, OnErr};
+ghost use Rattle.bpf_journal.specs.Histories.{kept_weight, keep};
+ghost use Rattle.bpf_journal.specs.Keepers.{refusals_after};
+ghost use Rattle.bpf_journal.specs.Opening.{IsSize};
+
+use crate::entries::Entries;
+use crate::fault::JournalFault;
+use crate::fields::compact_fits;
+use crate::item::Item;
+use crate::keeper::Keeper;
+use bpf_machine::{CompactEntry, Entry};
+use std::alloc::{AllocError, Global};
+
+/// The sizes of a journal, in bytes.
+const LEAST_SIZE: usize = 1_024;
+
+const GREATEST_SIZE: usize = 16_777_216;
+
+/// Keeps entries in a growing list. A push takes memory now and then, and moves no entry but the one that it keeps; each entry that
+/// it drops was pushed once, so that many pushes cost as much each whatever the journal's size is.
+#[derive(Drop)]
+pub struct ListKeeper {
+    alloc: Global,
+    entries: Entries,
+    size: usize,
+    refusals: u64,
+    ghost is_size: { IsSize size },
+    ghost counts: { refusals < 2 ^ 64 },
+    ghost within: { sum_by kept_weight entries ≤ size },
+}
+
+impl ListKeeper {
+    ghost use Rattle.bpf_journal.specs.Items.{kept_item};
+
+    /// A keeper for a journal of this many bytes, 1,024 to 16,777,216, that holds nothing and has refused nothing. It takes no
+    /// memory yet.
+    pub fn open(alloc: Global, size: usize) -> Result<ListKeeper, JournalFault>
+        ensures size { OnOk result (IsSize size) }
+        ensures room { IfOk result (λ keeper. ⟦<ListKeeper as Keeper>⟧.room keeper ≡ size) }
+        ensures empty { IfOk result (λ keeper. ⟦<ListKeeper as Keeper>⟧.holds keeper []) }
+        ensures refused { IfOk result (λ keeper. ⟦<ListKeeper as Keeper>⟧.refused keeper ≡ 0) }
+        ensures err { IfErr result (λ fault. (fault ≡ JournalFault.SizeOutOfRange) × (¬ IsSize size)) }
+    {
+        if size < LEAST_SIZE || size > GREATEST_SIZE {
+            return Err(JournalFault::SizeOutOfRange);
+        }
+        Ok(ListKeeper {
+            alloc,
+            entries: Entries::new(alloc),
+            size,
+            refusals: 0,
+        })
+    }
+
+    /// Keeps one more item, and drops the oldest that don't fit.
+    fn keep(&mut self, item: Item) -> Result<(), AllocError>
+        requires { kept_weight (kept_item item) < 2 ^ 32 }
+        ensures ok { OnOk result (self.new.entries ≡ keep kept_weight self.old.size self.old.entries (kept_item item)) }
+        ensures err { OnErr result (self.new.entries ≡ self.old.entries) }
+        ensures refused { self.new.refusals ≡ refusals_after result self.old.refusals }
+        ensures size { self.new.size ≡ self.old.size }
+    {
+        match self.entries.push(item) {
+            Ok(()) => {
+                self.entries.trim(self.size);
+                Ok(())
+            }
+            Err(_) => self.refuse(),
+        }
+    }
+
+    /// Counts a refusal.
+    fn refuse(&mut self) -> Result<(), AllocError>
+        ensures refused { self.new.refusals ≡ refusals_after result self.old.refusals }
+        ensures entries { self.new.entries ≡ self.old.entries }
+        ensures size { self.new.size ≡ self.old.size }
+        ensures err { OnOk result ⊥ }
+    {
+        self.refusals = self.refusals.saturating_add(1);
+        Err(AllocError)
+    }
+}
+
+impl Keeper for ListKeeper {
+    ghost use Rattle.std.specs.Prelude.{length};
+    ghost use Rattle.bpf_journal.specs.Places.{within_all, ends_apart};
+
+    ghost holds = { λ k es. es ≡ k.entries };
+
+    ghost room = { λ k. k.size };
+
+    ghost refused = { λ k. k.refusals };
+
+    ghost place = { λ k front. length front };
+
+    ghost counted = { λ k. k.counts };
+
+    ghost within = { λ k es held. within_all k.size k.entries es held k.is_size k.within };
+
+    ghost apart = { λ k n m a b held same count. ends_apart n m a b same count };
+
+    fn push(&mut self, entry: &Entry, mark: bool) -> Result<(), AllocError> {
+        match Item::large(self.alloc, entry, mark) {
+            Ok(item) => self.keep(item),
+            Err(_) => self.refuse(),
+        }
+    }
+
+    fn push_compact(&mut self, entry: &CompactEntry, mark: bool) -> Result<(), AllocError> {
+        compact_fits(entry);
+        self.keep(Item::compact(entry, mark))
+    }
+
+    fn refusals(&self) -> u64 {
+        self.refusals
+    }
+
+    fn last(&self) -> Option<(Entry, bool)> {
+        match self.entries.newest() {
+            Some(item) => Some(item.copied()),
+            None => None,
+        }
+    }
+
+    fn pop(&mut self) -> Option<(Entry, bool)> {
+        match self.entries.pop() {
+            Some(item) => Some(item.taken()),
+            None => None,
+        }
+    }
+
+    fn pop_compact(&mut self) -> Option<(CompactEntry, bool)> {
+        match self.entries.newest_compact() {
+            Some(taken) => {
+                let _ = self.entries.pop();
+                Some(taken)
+            }
+            None => None,
+        }
+    }
+
+    fn len(&self) -> usize {
+        self.entries.len()
+    }
+
+    fn marked(&self) -> usize {
+        self.entries.marked()
+    }
+
+    fn weight(&self) -> usize {
+        self.entries.weight()
+    }
+
+    fn capacity(&self) -> usize {
+        self.size
+    }
+
+    fn end(&self) -> usize {
+        self.entries.len()
+    }
+
+    fn walk_back(&self, at: usize) -> Option<(Entry, bool, usize)> {
+        if at == 0 {
+            return None;
+        }
+        match self.entries.item(at - 1) {
+            Some(item) => {
+                let (entry, mark) = item.copied();
+                Some((entry, mark, at - 1))
+            }
+            None => None,
+        }
+    }
+}

@@ -1,0 +1,155 @@
+//! A machine with the keeper of the moves that led to its state.
+ghost use Rattle.std.specs.Prelude.{◌≡◌, ℕ, List, length, OnOk, IfErr};
+ghost use Rattle.bpf_machine.specs.declared.moves.Move.TheVariants as move_of;
+ghost use Rattle.bpf_journal.specs.Histories.{Record, StandsFor, HasHistory};
+ghost use Rattle.bpf_journal.specs.Timelines.{Moment, Makes, Fails, GoesBack, refusals_by};
+
+use crate::fault::{MoveFault, TimelineFault};
+use crate::fields::{compact_fits, edit_fits};
+use crate::keeper::Keeper;
+use bpf_machine::{Cpu, Edit, Ended, Move};
+use std::marker::Model;
+
+/// A machine and a keeper: there is a history that they stand for.
+#[derive(Drop)]
+pub struct Timeline<K: Keeper> {
+    cpu: Cpu,
+    keeper: K,
+}
+
+impl<K: Keeper> Model for Timeline<K> {
+    ghost use Rattle.bpf_journal.specs.Histories.{HasHistory};
+    ghost use Rattle.bpf_journal.specs.Timelines.{Moment};
+
+    ghost Value = { Moment K };
+
+    ghost view = { λ t. record { state = t.cpu; keeper = t.keeper } };
+
+    ghost invariant = { λ t. HasHistory K.holds t.keeper t.cpu };
+}
+
+impl<K: Keeper> Timeline<K> {
+    /// A machine with a keeper that holds the entries of some history that leads to the machine's state.
+    pub fn open(cpu: Cpu, keeper: K) -> Timeline<K>
+        requires { HasHistory K.holds keeper cpu }
+        ensures state { result.state ≡ cpu }
+        ensures keeper { result.keeper ≡ keeper }
+    {
+        Timeline { cpu, keeper }
+    }
+
+    /// Brings into a proof that there is a history.
+    pub fn invariant(&self)
+        ensures { HasHistory K.holds self.now.keeper self.now.state }
+    {
+        let _cpu = &self.cpu;
+    }
+
+    /// Gives both back as they stand: `open` takes them again.
+    pub fn close(self) -> (Cpu, K)
+        ensures same { result ≡ (self.state, self.keeper) }
+        ensures history { HasHistory K.holds result.1 result.0 }
+    {
+        let Timeline { cpu, keeper } = self;
+        (cpu, keeper)
+    }
+
+    /// The machine.
+    pub fn cpu(&self) -> &Cpu
+        ensures { result.now ≡ self.now.state }
+    {
+        &self.cpu
+    }
+
+    /// The keeper.
+    pub fn keeper(&self) -> &K
+        ensures { result.now ≡ self.now.keeper }
+    {
+        &self.keeper
+    }
+
+    /// How many moves are kept.
+    pub fn len(&self) -> usize
+        ensures { (h : List Record) → StandsFor K.holds self.now.keeper self.now.state h → result ≡ length h }
+    {
+        self.keeper.len()
+    }
+
+    /// Takes a step and keeps it. Nothing changes where the machine has ended, or where the keeper refuses.
+    pub fn step(&mut self, mark: bool) -> Result<(), TimelineFault>
+        ensures ok { OnOk result (Makes K.holds (K.room self.old.keeper) move_of.Step mark self.old self.new) }
+        ensures err { IfErr result (Fails K.holds move_of.Step self.old self.new) }
+        ensures refused { K.refused self.new.keeper ≡ refusals_by result (K.refused self.old.keeper) }
+        ensures room { K.room self.new.keeper ≡ K.room self.old.keeper }
+    {
+        self.cpu.invariant();
+        let change = match self.cpu.look() {
+            Ok(change) => change,
+            Err(Ended) => return Err(TimelineFault::Move(MoveFault::Ended)),
+        };
+        let entry = self.cpu.compact(&change);
+        match self.keeper.push_compact(&entry, mark) {
+            Ok(()) => {
+                self.cpu.finish(&change);
+                Ok(())
+            }
+            Err(_) => Err(TimelineFault::OutOfMemory),
+        }
+    }
+
+    /// Makes an edit and keeps it. Where the keeper refuses, it is taken back.
+    fn edit(&mut self, edit: &Edit, mark: bool) -> Result<(), TimelineFault>
+        ensures ok { OnOk result (Makes K.holds (K.room self.old.keeper) (move_of.Edit edit.now) mark self.old self.new) }
+        ensures err { IfErr result (Fails K.holds (move_of.Edit edit.now) self.old self.new) }
+        ensures refused { K.refused self.new.keeper ≡ refusals_by result (K.refused self.old.keeper) }
+        ensures room { K.room self.new.keeper ≡ K.room self.old.keeper }
+    {
+        self.cpu.invariant();
+        let entry = match self.cpu.edit(edit) {
+            Ok(entry) => entry,
+            Err(fault) => return Err(TimelineFault::Move(MoveFault::Edit(fault))),
+        };
+        edit_fits(&entry);
+        match self.keeper.push(&entry, mark) {
+            Ok(()) => Ok(()),
+            Err(_) => {
+                self.cpu.revert(&entry);
+                Err(TimelineFault::OutOfMemory)
+            }
+        }
+    }
+
+    /// Makes a move and keeps it. Nothing changes where the move can't be made, or where the keeper refuses.
+    pub fn make(&mut self, change: &Move, mark: bool) -> Result<(), TimelineFault>
+        ensures ok { OnOk result (Makes K.holds (K.room self.old.keeper) change.now mark self.old self.new) }
+        ensures err { IfErr result (Fails K.holds change.now self.old self.new) }
+        ensures refused { K.refused self.new.keeper ≡ refusals_by result (K.refused self.old.keeper) }
+        ensures room { K.room self.new.keeper ≡ K.room self.old.keeper }
+    {
+        match change {
+            Move::Step => self.step(mark),
+            Move::Edit(edit) => self.edit(edit, mark),
+        }
+    }
+
+    /// Goes back by one move, to the state before it. Answers whether there was one.
+    pub fn back(&mut self) -> bool
+        ensures back { (h : List Record) → StandsFor K.holds self.old.keeper self.old.state h → GoesBack K.holds result h self.old self.new }
+        ensures refused { K.refused self.new.keeper ≡ K.refused self.old.keeper }
+        ensures room { K.room self.new.keeper ≡ K.room self.old.keeper }
+    {
+        match self.keeper.pop_compact() {
+            Some((entry, _)) => {
+                self.cpu.revert_compact(&entry);
+                true
+            }
+            None => match self.keeper.pop() {
+                Some((entry, _)) => {
+                    self.cpu.revert(&entry);
+                    true
+                }
+                None => false,
+            },
+        }
+    }
+}
