@@ -92,7 +92,7 @@ definitions() {
             [ -f "$place" ] || fault "docs/ARCHITECTURE.md names $place, which is no file"
         done < "$work/places"
         for name in $(echo "$names" | quoted); do
-            xargs grep -q -E "^((abbrev|unfoldable|opaque|pub|data|record) )*$name( |$)" /dev/null < "$work/places" 2> /dev/null ||
+            xargs grep -q -E "^ *((abbrev|unfoldable|opaque|pub|data|record) )*$name( |$)" /dev/null < "$work/places" 2> /dev/null ||
                 fault "docs/ARCHITECTURE.md says that $name is defined in $places"
         done
     done

@@ -19,9 +19,6 @@ pub trait Reversible {
     /// The entry of a move: what the move replaces.
     ghost entry_by: { Self → Move → Entry };
 
-    /// It, with an entry put back.
-    ghost with_entry: { Entry → Self → Self };
-
     /// Makes a move. Its entry holds what it replaced.
     fn make(&mut self, change: &Move) -> Result<Entry, MoveFault>
         ensures ok { OnOk result (leads self.old change.now self.new) }
@@ -29,29 +26,20 @@ pub trait Reversible {
         ensures err { IfErr result (refuses self.old change.now) }
         ensures same { OnErr result (self.new ≡ self.old) };
 
-    /// Puts back the entry of the move that led here. Works from the entry and what is here alone.
+    /// Puts back the entry of the move that led here, which gives what was before the move. Works from the entry and what is here alone.
     fn revert(&mut self, entry: &Entry)
         requires { HasComeBy leads entry_by self.old entry.now }
-        ensures { self.new ≡ with_entry entry.now self.old };
-
-    /// The entry of a move, put back, gives what was before the move.
-    ghost undoes: { (x y : Self) (m : Move) → leads x m y → with_entry (entry_by x m) y ≡ x };
+        ensures { (x : Self) (m : Move) → leads x m self.old → entry_by x m ≡ entry.now → self.new ≡ x };
 }
 
 impl Reversible for Cpu {
     ghost use Rattle.bpf_machine.specs.Moves.{Leads, overwritten};
-    ghost use Rattle.bpf_machine.specs.Undoing.{undone};
-    ghost use Rattle.bpf_machine.proofs.Undoing.{undoing};
 
     ghost leads = { λ x m y. Leads x m y };
 
     ghost refuses = { λ x m fault. RefusesMove x m fault };
 
     ghost entry_by = { λ x m. overwritten x m };
-
-    ghost with_entry = { λ entry y. undone entry y };
-
-    ghost undoes = { λ x y m leads. undoing x m y leads };
 
     fn make(&mut self, change: &Move) -> Result<Entry, MoveFault> {
         self.invariant();
