@@ -1,9 +1,10 @@
 //! How fast the machine takes steps. Without arguments it prints nothing. With a number of millions of steps it runs each loop
-//! for that long in five rounds, plain and recorded by turns, and prints the best of each in nanoseconds a step and as a
-//! ratio to plain steps. What is timed is used: the last line is a sum over the entries and the states that came out.
+//! for that long in five rounds, plain, recorded, kept in journals of several sizes, and back, by turns, and prints the best of each in
+//! nanoseconds a step and as a ratio to plain steps. What is timed is used: the last line is a sum over what came out.
 #![tactic(auto)]
 
 use bpf_isa::{MapTable, Reg, check};
+use bpf_journal::{ListKeeper, Timeline};
 use bpf_machine::{CompactEntry, Cpu, Ended};
 use std::alloc::Global;
 use std::time::Instant;
@@ -21,7 +22,10 @@ const MEMORY: [u8; 32] = [
     0, 0x05, 0, 0xfc, 0xff, 0, 0, 0, 0,
 ];
 
-/// How many entries are kept at a time.
+/// How many steps are taken before as many are taken back.
+const STRIDE: u64 = 4_000;
+
+/// How many entries a plain buffer keeps at a time.
 const KEPT: usize = 65_536;
 
 fn main(rt: HostRuntime) -> io::Result<()> {
@@ -37,14 +41,16 @@ fn main(rt: HostRuntime) -> io::Result<()> {
         ("counting loop", COUNTING.as_slice()),
         ("memory loop", MEMORY.as_slice()),
     ] {
-        let mut plain = u128::MAX;
-        let mut recorded = u128::MAX;
+        let mut best = [u128::MAX; WAYS.len()];
         for _ in 0..5 {
-            plain = plain.min(timed(&rt, program, millions, Way::Plain, &mut sum)?);
-            recorded = recorded.min(timed(&rt, program, millions, Way::Recorded, &mut sum)?);
+            for (way, least) in WAYS.iter().zip(best.iter_mut()) {
+                let taken = timed(&rt, program, millions, *way, &mut sum)?;
+                *least = taken.min(*least);
+            }
         }
-        show(&rt, name, "plain", plain, plain, millions)?;
-        show(&rt, name, "recorded", recorded, plain, millions)?;
+        for (way, least) in WAYS.iter().zip(best.iter()) {
+            show(&rt, name, way.name(), *least, best[0], millions)?;
+        }
     }
     println!(rt; "sum {sum}")
 }
@@ -70,13 +76,39 @@ fn show(
     )
 }
 
-/// How a step is taken.
+/// How steps are taken.
 #[derive(Clone, Copy)]
 enum Way {
     /// The step alone.
     Plain,
-    /// Its compact entry is kept before it is done.
+    /// Its compact entry is kept in a buffer before it is done.
     Recorded,
+    /// It is kept by a list keeper, in a journal of so many bytes.
+    Kept(usize),
+    /// It is taken back from there.
+    Back,
+}
+
+const WAYS: [Way; 6] = [
+    Way::Plain,
+    Way::Recorded,
+    Way::Kept(1_024),
+    Way::Kept(65_536),
+    Way::Kept(16_777_216),
+    Way::Back,
+];
+
+impl Way {
+    fn name(self) -> &'static str {
+        match self {
+            Way::Plain => "plain",
+            Way::Recorded => "recorded",
+            Way::Kept(1_024) => "kept in 1,024 bytes",
+            Way::Kept(65_536) => "kept in 65,536 bytes",
+            Way::Kept(_) => "kept in 16,777,216 bytes",
+            Way::Back => "back",
+        }
+    }
 }
 
 /// How many nanoseconds so many millions of steps take. What came out goes into the sum.
@@ -95,12 +127,14 @@ fn timed(
     };
     let steps = millions.min(1000) * 1_000_000;
     let start = Instant::now(rt)?;
-    let weights = match way {
-        Way::Plain => run_plain(&mut cpu, steps),
-        Way::Recorded => run_recorded(&mut cpu, &mut kept, steps),
-    };
+    match way {
+        Way::Plain => *sum = sum.wrapping_add(run_plain(&mut cpu, steps)),
+        Way::Recorded => *sum = sum.wrapping_add(run_recorded(&mut cpu, &mut kept, steps)),
+        Way::Kept(size) => return run_kept(rt, cpu, size, steps, sum),
+        Way::Back => return run_back(rt, cpu, steps, sum),
+    }
     let elapsed = start.elapsed(rt)?.as_nanos();
-    *sum = sum.wrapping_add(weights).wrapping_add(used(&cpu));
+    *sum = sum.wrapping_add(used(&cpu));
     for entry in &kept {
         *sum = sum.wrapping_add(entry.weight() as u64);
     }
@@ -132,6 +166,55 @@ fn run_recorded(cpu: &mut Cpu, kept: &mut [CompactEntry], steps: u64) -> u64 {
         }
     }
     steps
+}
+
+/// Steps that a list keeper keeps.
+fn run_kept(
+    rt: &HostRuntime,
+    cpu: Cpu,
+    size: usize,
+    steps: u64,
+    sum: &mut u64,
+) -> io::Result<u128> {
+    let Ok(keeper) = ListKeeper::open(rt.alloc(), size) else {
+        return Ok(0);
+    };
+    let mut timeline = Timeline::open(cpu, keeper);
+    let start = Instant::now(rt)?;
+    forward(&mut timeline, steps);
+    let elapsed = start.elapsed(rt)?.as_nanos();
+    *sum = sum
+        .wrapping_add(used(timeline.cpu()))
+        .wrapping_add(timeline.len() as u64);
+    Ok(elapsed)
+}
+
+/// Steps that are taken back, some thousands at a time.
+fn run_back(rt: &HostRuntime, cpu: Cpu, steps: u64, sum: &mut u64) -> io::Result<u128> {
+    let Ok(keeper) = ListKeeper::open(rt.alloc(), 16_777_216) else {
+        return Ok(0);
+    };
+    let mut timeline = Timeline::open(cpu, keeper);
+    let mut elapsed = 0u128;
+    for _ in 0..steps / STRIDE {
+        forward(&mut timeline, STRIDE);
+        let start = Instant::now(rt)?;
+        for _ in 0..STRIDE {
+            timeline.back();
+        }
+        elapsed = elapsed.wrapping_add(start.elapsed(rt)?.as_nanos());
+        *sum = sum.wrapping_add(used(timeline.cpu()));
+    }
+    Ok(elapsed)
+}
+
+/// Steps, until the machine has ended or memory runs out.
+fn forward(timeline: &mut Timeline<ListKeeper>, steps: u64) {
+    for _ in 0..steps {
+        if timeline.step(false).is_err() {
+            return;
+        }
+    }
 }
 
 /// A number that depends on the registers and the pc.
