@@ -1,296 +1,189 @@
 //! Negations, moves, byte swaps and conditions at their edges. Expected values were worked out from RFC 9669, section 4.
+use super::rows::{half, number, three, two};
 use crate::alu::{self, bits32, bits64};
 use bpf_isa::{ByteOrder, Condition, Extension, SwapWidth};
-use std::test::Fail;
 
-const NEGATIONS_64: [(u64, u64); 4] = [
-    (0, 0),
-    (1, 0xffff_ffff_ffff_ffff),
-    (0xffff_ffff_ffff_ffff, 1),
-    (0x8000_0000_0000_0000, 0x8000_0000_0000_0000),
-];
+// How many bits, a number, and its negation.
+const NEGATIONS: &str = "\
+64 0 0
+64 1 0xffffffffffffffff
+64 0xffffffffffffffff 1
+64 0x8000000000000000 0x8000000000000000
+32 0 0
+32 1 0xffffffff
+32 0xffffffff 1
+32 0x80000000 0x80000000
+";
 
-const NEGATIONS_32: [(u32, u32); 4] = [
-    (0, 0),
-    (1, 0xffff_ffff),
-    (0xffff_ffff, 1),
-    (0x8000_0000, 0x8000_0000),
-];
+// A source and what is moved.
+const MOVES: &str = "\
+movsx8 0 0
+movsx8 0x7f 0x7f
+movsx8 0x80 0xffffffffffffff80
+movsx8 0xff 0xffffffffffffffff
+movsx8 0xff01 1
+movsx16 0 0
+movsx16 0x7fff 0x7fff
+movsx16 0x8000 0xffffffffffff8000
+movsx16 0xffff 0xffffffffffffffff
+movsx16 0xff0001 1
+movsx32 0 0
+movsx32 0x7fffffff 0x7fffffff
+movsx32 0x80000000 0xffffffff80000000
+movsx32 0xffffffff 0xffffffffffffffff
+movsx32 0xff00000001 1
+movsx8_32 0 0
+movsx8_32 0x7f 0x7f
+movsx8_32 0x80 0xffffff80
+movsx8_32 0xff 0xffffffff
+movsx8_32 0xff01 1
+movsx16_32 0 0
+movsx16_32 0x7fff 0x7fff
+movsx16_32 0x8000 0xffff8000
+movsx16_32 0xffff 0xffffffff
+movsx16_32 0xff0001 1
+";
 
-// a source and what is moved
-const MOVES: [(&str, Extension, [(u64, u64); 5]); 5] = [
-    (
-        "movsx8",
-        Extension::Byte64,
-        [
-            (0, 0),
-            (0x7f, 0x7f),
-            (0x80, 0xffff_ffff_ffff_ff80),
-            (0xff, 0xffff_ffff_ffff_ffff),
-            (0xff01, 1),
-        ],
-    ),
-    (
-        "movsx16",
-        Extension::Half64,
-        [
-            (0, 0),
-            (0x7fff, 0x7fff),
-            (0x8000, 0xffff_ffff_ffff_8000),
-            (0xffff, 0xffff_ffff_ffff_ffff),
-            (0xff_0001, 1),
-        ],
-    ),
-    (
-        "movsx32",
-        Extension::Word64,
-        [
-            (0, 0),
-            (0x7fff_ffff, 0x7fff_ffff),
-            (0x8000_0000, 0xffff_ffff_8000_0000),
-            (0xffff_ffff, 0xffff_ffff_ffff_ffff),
-            (0xff_0000_0001, 1),
-        ],
-    ),
-    (
-        "movsx8_32",
-        Extension::Byte32,
-        [
-            (0, 0),
-            (0x7f, 0x7f),
-            (0x80, 0xffff_ff80),
-            (0xff, 0xffff_ffff),
-            (0xff01, 1),
-        ],
-    ),
-    (
-        "movsx16_32",
-        Extension::Half32,
-        [
-            (0, 0),
-            (0x7fff, 0x7fff),
-            (0x8000, 0xffff_8000),
-            (0xffff, 0xffff_ffff),
-            (0xff_0001, 1),
-        ],
-    ),
-];
+// What is made of 0x1122334455667788.
+const SWAPS: &str = "\
+le16 0x7788
+le32 0x55667788
+le64 0x1122334455667788
+be16 0x8877
+be32 0x88776655
+be64 0x8877665544332211
+swap16 0x8877
+swap32 0x88776655
+swap64 0x8877665544332211
+";
 
-// what is made of 0x1122334455667788
-const SWAPS: [(&str, ByteOrder, SwapWidth, u64); 9] = [
-    ("le16", ByteOrder::Little, SwapWidth::Bits16, 0x7788),
-    ("le32", ByteOrder::Little, SwapWidth::Bits32, 0x5566_7788),
-    (
-        "le64",
-        ByteOrder::Little,
-        SwapWidth::Bits64,
-        0x1122_3344_5566_7788,
-    ),
-    ("be16", ByteOrder::Big, SwapWidth::Bits16, 0x8877),
-    ("be32", ByteOrder::Big, SwapWidth::Bits32, 0x8877_6655),
-    (
-        "be64",
-        ByteOrder::Big,
-        SwapWidth::Bits64,
-        0x8877_6655_4433_2211,
-    ),
-    ("swap16", ByteOrder::Swap, SwapWidth::Bits16, 0x8877),
-    ("swap32", ByteOrder::Swap, SwapWidth::Bits32, 0x8877_6655),
-    (
-        "swap64",
-        ByteOrder::Swap,
-        SwapWidth::Bits64,
-        0x8877_6655_4433_2211,
-    ),
-];
+const PAIRS: &str = "\
+5 5
+4 5
+5 4
+2 5
+-1 1
+1 -1
+";
 
-const PAIRS_64: [(u64, u64); 6] = [
-    (5, 5),
-    (4, 5),
-    (5, 4),
-    (2, 5),
-    (0xffff_ffff_ffff_ffff, 1),
-    (1, 0xffff_ffff_ffff_ffff),
-];
+// Whether the condition holds of each pair, y or n, on 64 bits as on 32.
+const CONDITIONS: &str = "\
+jeq ynnnnn
+jgt nnynyn
+jge ynynyn
+jset yyynyy
+jne nyyyyy
+jsgt nnynny
+jsge ynynny
+jlt nynyny
+jle yynyny
+jslt nynyyn
+jsle yynyyn
+";
 
-// whether the condition holds of each pair
-const CONDITIONS_64: [(&str, Condition, [bool; 6]); 11] = [
-    (
-        "jeq",
-        Condition::Equal,
-        [true, false, false, false, false, false],
-    ),
-    (
-        "jgt",
-        Condition::Greater,
-        [false, false, true, false, true, false],
-    ),
-    (
-        "jge",
-        Condition::GreaterOrEqual,
-        [true, false, true, false, true, false],
-    ),
-    (
-        "jset",
-        Condition::BitsSet,
-        [true, true, true, false, true, true],
-    ),
-    (
-        "jne",
-        Condition::NotEqual,
-        [false, true, true, true, true, true],
-    ),
-    (
-        "jsgt",
-        Condition::SignedGreater,
-        [false, false, true, false, false, true],
-    ),
-    (
-        "jsge",
-        Condition::SignedGreaterOrEqual,
-        [true, false, true, false, false, true],
-    ),
-    (
-        "jlt",
-        Condition::Less,
-        [false, true, false, true, false, true],
-    ),
-    (
-        "jle",
-        Condition::LessOrEqual,
-        [true, true, false, true, false, true],
-    ),
-    (
-        "jslt",
-        Condition::SignedLess,
-        [false, true, false, true, true, false],
-    ),
-    (
-        "jsle",
-        Condition::SignedLessOrEqual,
-        [true, true, false, true, true, false],
-    ),
-];
-
-const PAIRS_32: [(u32, u32); 6] = [
-    (5, 5),
-    (4, 5),
-    (5, 4),
-    (2, 5),
-    (0xffff_ffff, 1),
-    (1, 0xffff_ffff),
-];
-
-const CONDITIONS_32: [(&str, Condition, [bool; 6]); 11] = [
-    (
-        "jeq32",
-        Condition::Equal,
-        [true, false, false, false, false, false],
-    ),
-    (
-        "jgt32",
-        Condition::Greater,
-        [false, false, true, false, true, false],
-    ),
-    (
-        "jge32",
-        Condition::GreaterOrEqual,
-        [true, false, true, false, true, false],
-    ),
-    (
-        "jset32",
-        Condition::BitsSet,
-        [true, true, true, false, true, true],
-    ),
-    (
-        "jne32",
-        Condition::NotEqual,
-        [false, true, true, true, true, true],
-    ),
-    (
-        "jsgt32",
-        Condition::SignedGreater,
-        [false, false, true, false, false, true],
-    ),
-    (
-        "jsge32",
-        Condition::SignedGreaterOrEqual,
-        [true, false, true, false, false, true],
-    ),
-    (
-        "jlt32",
-        Condition::Less,
-        [false, true, false, true, false, true],
-    ),
-    (
-        "jle32",
-        Condition::LessOrEqual,
-        [true, true, false, true, false, true],
-    ),
-    (
-        "jslt32",
-        Condition::SignedLess,
-        [false, true, false, true, true, false],
-    ),
-    (
-        "jsle32",
-        Condition::SignedLessOrEqual,
-        [true, true, false, true, true, false],
-    ),
-];
-
-#[test]
-fn negations(rt: HostRuntime) -> Result<(), Fail> {
-    for (a, expected) in NEGATIONS_64 {
-        assert_eq!(rt; bits64::negated(a), expected, "neg64: {a}");
+/// A move by its name.
+fn extension(name: &str) -> Option<Extension> {
+    match name {
+        "movsx8" => Some(Extension::Byte64),
+        "movsx16" => Some(Extension::Half64),
+        "movsx32" => Some(Extension::Word64),
+        "movsx8_32" => Some(Extension::Byte32),
+        "movsx16_32" => Some(Extension::Half32),
+        _ => None,
     }
-    for (a, expected) in NEGATIONS_32 {
-        assert_eq!(rt; bits32::negated(a), expected, "neg32: {a}");
+}
+
+/// A byte swap by its name.
+fn swap(name: &str) -> Option<(ByteOrder, SwapWidth)> {
+    match name {
+        "le16" => Some((ByteOrder::Little, SwapWidth::Bits16)),
+        "le32" => Some((ByteOrder::Little, SwapWidth::Bits32)),
+        "le64" => Some((ByteOrder::Little, SwapWidth::Bits64)),
+        "be16" => Some((ByteOrder::Big, SwapWidth::Bits16)),
+        "be32" => Some((ByteOrder::Big, SwapWidth::Bits32)),
+        "be64" => Some((ByteOrder::Big, SwapWidth::Bits64)),
+        "swap16" => Some((ByteOrder::Swap, SwapWidth::Bits16)),
+        "swap32" => Some((ByteOrder::Swap, SwapWidth::Bits32)),
+        "swap64" => Some((ByteOrder::Swap, SwapWidth::Bits64)),
+        _ => None,
     }
-    Ok(())
+}
+
+/// A condition by its name.
+fn condition(name: &str) -> Option<Condition> {
+    match name {
+        "jeq" => Some(Condition::Equal),
+        "jgt" => Some(Condition::Greater),
+        "jge" => Some(Condition::GreaterOrEqual),
+        "jset" => Some(Condition::BitsSet),
+        "jne" => Some(Condition::NotEqual),
+        "jsgt" => Some(Condition::SignedGreater),
+        "jsge" => Some(Condition::SignedGreaterOrEqual),
+        "jlt" => Some(Condition::Less),
+        "jle" => Some(Condition::LessOrEqual),
+        "jslt" => Some(Condition::SignedLess),
+        "jsle" => Some(Condition::SignedLessOrEqual),
+        _ => None,
+    }
 }
 
 #[test]
-fn moves(rt: HostRuntime) -> Result<(), Fail> {
-    for (name, extension, rows) in MOVES {
-        for (source, expected) in rows {
-            assert_eq!(rt; alu::moved(extension, source), expected, "{name}: {source}");
+fn negations(rt: HostRuntime) {
+    for row in NEGATIONS.lines() {
+        let (bits, a, expected) = three(&rt, row);
+        if bits == 64 {
+            assert_eq!(rt; bits64::negated(a), expected, "{row}");
+        } else {
+            assert_eq!(rt; bits, 32, "{row}");
+            assert_eq!(rt; bits32::negated(half(&rt, a)), half(&rt, expected), "{row}");
         }
     }
-    Ok(())
+    assert_eq!(rt; NEGATIONS.lines().count(), 8);
 }
 
 #[test]
-fn swaps(rt: HostRuntime) -> Result<(), Fail> {
-    for (name, order, width, expected) in SWAPS {
+fn moves(rt: HostRuntime) {
+    for row in MOVES.lines() {
+        let (name, numbers) = row.split_once(' ').expect(&rt, "no name");
+        let extension = extension(name).expect(&rt, "unknown move");
+        let (source, expected) = two(&rt, numbers);
+        assert_eq!(rt; alu::moved(extension, source), expected, "{row}");
+    }
+    assert_eq!(rt; MOVES.lines().count(), 25);
+}
+
+#[test]
+fn swaps(rt: HostRuntime) {
+    for row in SWAPS.lines() {
+        let (name, expected) = row.split_once(' ').expect(&rt, "no name");
+        let (order, width) = swap(name).expect(&rt, "unknown swap");
         assert_eq!(rt;
             alu::swapped(order, width, 0x1122_3344_5566_7788),
-            expected,
-            "{name}"
+            number(&rt, expected),
+            "{row}"
         );
     }
-    Ok(())
+    assert_eq!(rt; SWAPS.lines().count(), 9);
 }
 
 #[test]
-fn conditions(rt: HostRuntime) -> Result<(), Fail> {
-    for (name, condition, rows) in CONDITIONS_64 {
-        for ((a, b), expected) in PAIRS_64.iter().zip(rows.iter()) {
+fn conditions(rt: HostRuntime) {
+    for row in CONDITIONS.lines() {
+        let (name, answers) = row.split_once(' ').expect(&rt, "no name");
+        let condition = condition(name).expect(&rt, "unknown condition");
+        assert_eq!(rt; answers.len(), 6, "{row}");
+        for (pair, answer) in PAIRS.lines().zip(answers.bytes()) {
+            let (a, b) = two(&rt, pair);
+            assert!(rt; answer == b'y' || answer == b'n', "{row}");
+            let expected = answer == b'y';
+            assert_eq!(rt; bits64::holds(condition, a, b), expected, "{row}: {pair}");
             assert_eq!(rt;
-                bits64::holds(condition, *a, *b),
-                *expected,
-                "{name}: {a} and {b}"
+                bits32::holds(condition, half(&rt, a), half(&rt, b)),
+                expected,
+                "{row}: {pair} on 32 bits"
             );
         }
     }
-    for (name, condition, rows) in CONDITIONS_32 {
-        for ((a, b), expected) in PAIRS_32.iter().zip(rows.iter()) {
-            assert_eq!(rt;
-                bits32::holds(condition, *a, *b),
-                *expected,
-                "{name}: {a} and {b}"
-            );
-        }
-    }
-    Ok(())
+    assert_eq!(rt; PAIRS.lines().count(), 6);
+    assert_eq!(rt; CONDITIONS.lines().count(), 11);
 }

@@ -1,0 +1,160 @@
+//! Machines that the tests run, and what is seen of one.
+use crate::{Cpu, Entry, Fault, Status};
+use bpf_isa::{MapTable, Program, Reg, check};
+use std::alloc::Global;
+use std::process::Abort;
+
+pub const EXIT: u64 = 0x9500_0000_0000_0000;
+
+/// A machine with the program of these slots and the context f1 f2 .. f8.
+pub fn machine(rt: &impl Abort, alloc: Global, slots: &[u64]) -> Cpu {
+    opened(
+        rt,
+        alloc,
+        slots,
+        &[0xf1, 0xf2, 0xf3, 0xf4, 0xf5, 0xf6, 0xf7, 0xf8],
+    )
+}
+
+/// A machine with the program of these slots and a context.
+pub fn opened(rt: &impl Abort, alloc: Global, slots: &[u64], context: &[u8]) -> Cpu {
+    Cpu::open(alloc, program(rt, alloc, slots), context)
+        .ok()
+        .expect(rt, "not opened")
+}
+
+/// The program of these slots. A slot's number shows its bytes in order.
+pub fn program(rt: &impl Abort, alloc: Global, slots: &[u64]) -> Program {
+    let mut bytes = Vec::new(alloc);
+    for slot in slots {
+        bytes
+            .extend_from_slice(&slot.to_be_bytes())
+            .ok()
+            .expect(rt, "no memory");
+    }
+    check(alloc, &bytes, &MapTable::empty())
+        .ok()
+        .expect(rt, "refused")
+}
+
+/// Runs a machine to its end.
+pub fn run(cpu: &mut Cpu) {
+    for _ in 0..100 {
+        if cpu.status().has_ended() {
+            return;
+        }
+        let _ = cpu.step();
+    }
+}
+
+/// A register by its number.
+pub fn register(rt: &impl Abort, cpu: &Cpu, number: u8) -> u64 {
+    cpu.reg(Reg::new(number).expect(rt, "no register"))
+}
+
+/// All that can be read of a machine whose context has 8 bytes.
+#[derive(Drop)]
+pub struct View {
+    /// r0 to r10.
+    pub registers: [u64; 11],
+    /// pc, depth, the number of traced words and the status.
+    pub place: String,
+    /// The context's bytes and then those of frame 0.
+    pub bytes: Vec<u8>,
+}
+
+/// What is seen of a machine.
+pub fn view_of(rt: &impl Abort, alloc: Global, cpu: &Cpu) -> View {
+    let mut registers = [0; 11];
+    for (number, place) in (0..11u8).zip(registers.iter_mut()) {
+        *place = register(rt, cpu, number);
+    }
+    let status = status_text(rt, alloc, cpu.status());
+    let (pc, depth, traced) = (cpu.pc(), cpu.depth(), cpu.trace().len());
+    let mut bytes = Vec::new(alloc);
+    bytes
+        .extend_from_slice(cpu.peek(0x1_0000_0000, 8).expect(rt, "no context"))
+        .ok()
+        .expect(rt, "no memory");
+    bytes
+        .extend_from_slice(cpu.peek(0x2_0000_0000, 512).expect(rt, "no frame"))
+        .ok()
+        .expect(rt, "no memory");
+    View {
+        registers,
+        place: format!(in alloc; "pc {pc} depth {depth} traced {traced} {status}")
+            .ok()
+            .expect(rt, "no memory"),
+        bytes,
+    }
+}
+
+/// A status.
+pub fn status_text(rt: &impl Abort, alloc: Global, status: Status) -> String {
+    match status {
+        Status::Running => format!(in alloc; "running").ok().expect(rt, "no memory"),
+        Status::Exited => format!(in alloc; "exited").ok().expect(rt, "no memory"),
+        Status::Faulted(Fault::Access { address }) => format!(in alloc; "access {address:#x}")
+            .ok()
+            .expect(rt, "no memory"),
+        Status::Faulted(Fault::Token { token }) => format!(in alloc; "token {token:#x}")
+            .ok()
+            .expect(rt, "no memory"),
+        Status::Faulted(Fault::Depth) => format!(in alloc; "depth").ok().expect(rt, "no memory"),
+    }
+}
+
+/// The fields of an entry that a machine makes so far.
+pub fn entry_text(rt: &impl Abort, alloc: Global, entry: &Entry) -> String {
+    let text = match entry {
+        Entry::Register {
+            pc,
+            register,
+            value,
+        } => format!(in alloc; "register at {pc} r{} {value:#x}", register.number())
+            .ok()
+            .expect(rt, "no memory"),
+        Entry::Jump { pc } => format!(in alloc; "jump at {pc}")
+            .ok()
+            .expect(rt, "no memory"),
+        Entry::Store { pc, address, old } => {
+            format!(in alloc;
+                "store at {pc} {address:#x} {}",
+                hexadecimal(rt, alloc, old.as_slice())
+            )
+            .ok()
+            .expect(rt, "no memory")
+        }
+        Entry::End => format!(in alloc; "end").ok().expect(rt, "no memory"),
+        Entry::EditRegister { register, value } => {
+            format!(in alloc; "edit r{} {value:#x}", register.number())
+                .ok()
+                .expect(rt, "no memory")
+        }
+        Entry::EditBytes { address, old } => {
+            format!(in alloc;
+                "edit {address:#x} {}",
+                hexadecimal(rt, alloc, old.as_slice())
+            )
+            .ok()
+            .expect(rt, "no memory")
+        }
+        Entry::EditPc { pc, status } => {
+            format!(in alloc; "edit pc {pc} {}", status_text(rt, alloc, *status))
+                .ok()
+                .expect(rt, "no memory")
+        }
+        _ => format!(in alloc; "another").ok().expect(rt, "no memory"),
+    };
+    text
+}
+
+/// Bytes, each in two hexadecimal digits.
+pub fn hexadecimal(rt: &impl Abort, alloc: Global, bytes: &[u8]) -> String {
+    let mut text = String::new(alloc);
+    for byte in bytes {
+        let digits = format!(in alloc; "{byte:02x}").ok().expect(rt, "no memory");
+        text.push_str(digits.as_str()).ok().expect(rt, "no memory");
+    }
+    text
+}
