@@ -2,3 +2,4 @@ pub mod Fitting
 pub mod MoveLaws
 pub mod Histories
 pub mod Items
+pub mod Walks

@@ -16,6 +16,11 @@ refusals_after (Err e) n = once_more n
 abbrev pub kept_compact : CompactEntry → Bool → Kept
 kept_compact entry mark = (expanded entry, mark)
 
+-- A front's newest, its mark, and the place of the front without it.
+abbrev pub walked : (List Kept → ℕ) → List Kept → Option (Entry × Bool × ℕ)
+walked place [] = None
+walked place (e ∷ es) = Some (e.0, e.1, place es)
+
 module _ {K : Type 0} (holds : K → List Kept → Type 0) where
   -- The newest is taken off; nothing changes where nothing is held.
   abbrev pub TakesNewest : K → K → Option Kept → Type 0
@@ -34,11 +39,7 @@ module _ {K : Type 0} (holds : K → List Kept → Type 0) where
     pub held : holds keeper (newer ++ front)
     pub here : place keeper front ≡ at
 
-  -- A front's newest, its mark, and the place of the front without it.
-  abbrev pub walked : (List Kept → ℕ) → List Kept → Option (Entry × Bool × ℕ)
-  walked place [] = None
-  walked place (e ∷ es) = Some (e.0, e.1, place es)
-
+  -- A walk back answers of each front at the place.
   abbrev pub WalksBack : (K → List Kept → ℕ) → K → ℕ → Option (Entry × Bool × ℕ) → Type 0
   WalksBack place keeper at result =
       (newer front : List Kept) → holds keeper (newer ++ front) → place keeper front ≡ at → result ≡ walked (place keeper) front

@@ -122,7 +122,8 @@ impl Entries {
 
     /// Drops the fewest oldest so that the others weigh at most the room.
     pub fn trim(&mut self, room: usize)
-        ensures { self.new ≡ fit kept_weight room self.old }
+        ensures fits { self.new ≡ fit kept_weight room self.old }
+        ensures within { sum_by kept_weight self.new ≤ room }
     {
         while self.weight() > room {
             self.drop_oldest();

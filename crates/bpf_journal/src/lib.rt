@@ -9,6 +9,8 @@ mod keeper;
 pub mod laws;
 mod list_keeper;
 mod reversible;
+#[cfg(test)]
+mod tests;
 mod timeline;
 
 pub use bpf_machine::Move;

@@ -103,7 +103,7 @@ impl Keeper for ListKeeper {
     fn push(&mut self, entry: &Entry, mark: bool) -> Result<(), AllocError> {
         match Item::large(self.alloc, entry, mark) {
             Ok(item) => self.keep(item),
-            Err(_) => self.refuse(),
+            Err(AllocError) => self.refuse(),
         }
     }
 

@@ -1,5 +1,5 @@
 //! A machine with the keeper of the moves that led to its state.
-ghost use Rattle.std.specs.Prelude.{◌≡◌, ℕ, List, length, OnOk, IfErr};
+ghost use Rattle.std.specs.Prelude.{◌≡◌, ℕ, List, [], length, OnOk, IfErr};
 ghost use Rattle.bpf_machine.specs.declared.moves.Move.TheVariants as move_of;
 ghost use Rattle.bpf_journal.specs.Histories.{Record, StandsFor, HasHistory};
 ghost use Rattle.bpf_journal.specs.Timelines.{Moment, Makes, Fails, GoesBack, refusals_by};
@@ -32,6 +32,15 @@ impl<K: Keeper> Timeline<K> {
     /// A machine with a keeper that holds the entries of some history that leads to the machine's state.
     pub fn open(cpu: Cpu, keeper: K) -> Timeline<K>
         requires { HasHistory K.holds keeper cpu }
+        ensures state { result.state ≡ cpu }
+        ensures keeper { result.keeper ≡ keeper }
+    {
+        Timeline { cpu, keeper }
+    }
+
+    /// A machine with a keeper that holds nothing yet.
+    pub fn start(cpu: Cpu, keeper: K) -> Timeline<K>
+        requires { K.holds keeper [] }
         ensures state { result.state ≡ cpu }
         ensures keeper { result.keeper ≡ keeper }
     {
