@@ -105,7 +105,20 @@ fn registers_in_every_status(rt: HostRuntime) -> Result<(), Fail> {
     Ok(())
 }
 
-// The entry of an edit of pc in a running, an exited and a faulted machine. Slot 2 is one past the last.
+// Slot 2 is one past the last, and wider numbers are never cut.
+#[test]
+fn slots_without_an_instruction(rt: HostRuntime) -> Result<(), Fail> {
+    for (program, steps) in MACHINES {
+        for slot in [2, 0x1_0000_0000, u64::MAX] {
+            let mut cpu = machine_after(rt.alloc(), program, steps)?;
+            let found = answer(rt.alloc(), &mut cpu, Edit::Pc { slot })?;
+            assert_eq!(rt; found.as_str(), "no instruction starts there;0");
+        }
+    }
+    Ok(())
+}
+
+// The entry of an edit of pc in a running, an exited and a faulted machine.
 #[test]
 fn pc_in_every_status(rt: HostRuntime) -> Result<(), Fail> {
     let entries = [
@@ -115,10 +128,6 @@ fn pc_in_every_status(rt: HostRuntime) -> Result<(), Fail> {
     ];
     for ((program, steps), wanted) in MACHINES.into_iter().zip(entries) {
         let mut cpu = machine_after(rt.alloc(), program, steps)?;
-        for slot in [2, 0x1_0000_0000, u64::MAX] {
-            let found = answer(rt.alloc(), &mut cpu, Edit::Pc { slot })?;
-            assert_eq!(rt; found.as_str(), "no instruction starts there;0", "{wanted}");
-        }
         let found = answer(rt.alloc(), &mut cpu, Edit::Pc { slot: 1 })?;
         assert_eq!(rt; found.as_str(), wanted);
         assert_eq!(rt; cpu.pc(), 1);
