@@ -1,31 +1,51 @@
 -- The laws of memory read by address.
 use Rattle.std.proofs.Common.{◌≡◌, ◌≤◌, ◌<◌, ◌⊎◌, ℕ, zero, suc, ◌+◌, ◌-◌, ◌*◌, ◌^◌, List, [], ◌∷◌, length, Option, Some, None, refl, sym, ap, ◌∙◌, inl, inr, arith}
-use Rattle.std.specs.Prelude.{Bool, true, false, IsSome, option_map, unwrap_or, slice_index, slice_range, replicate, if◌then◌else◌, ◌++◌}
+use Rattle.std.specs.Prelude.{Bool, true, false, IsSome, All, option_map, unwrap_or, slice_index, slice_get, slice_range, replicate, if◌then◌else◌, ◌++◌}
 use Rattle.byteorder.specs.Endian.{little_from}
 use Rattle.std.proofs.lemmas.Bool.{cases_lt}
 use Rattle.std.proofs.lemmas.Bool.Decides.{nat_tests}
 use Rattle.std.proofs.lemmas.List.{get_or_append_left, get_or-append-add, get_or-replicate}
 use Rattle.std.proofs.lemmas.Grind.{elements}
 use Rattle.std.proofs.Math.Nat.{pow-suc}
-use Rattle.bpf_machine.specs.Platform.{context_base, context_limit, frame_base, frame_len, frame_count}
-use Rattle.bpf_machine.specs.Regions.{Image, IsImage, Region, regions, frames_from, index_in, index_of, is_from_frame, paste}
+use Rattle.std.proofs.lemmas.List.Sums.{sum_by-cons}
+use Rattle.bpf_isa.specs.declared.maps.MapShape.{MapShape}
+use Rattle.bpf_isa.specs.Maps.{IsShape}
+use Rattle.bpf_isa.specs.Programs.{Checked}
+use Rattle.bpf_machine.specs.Platform.{context_base, context_limit, frame_base, frame_len, frame_count, map_base, map_address}
+use Rattle.bpf_machine.specs.Regions.{Image, IsImage, Region, regions, frames_from, maps_from, map_len, maps_len, index_in, index_of, is_from_frame, paste}
 use Rattle.bpf_machine.specs.State.{depth}
 use Rattle.bpf_machine.specs.ByAddress.{byte_at, AllPast, AreApart, RegionsAreApart, RunsAreTheirAddresses, sum_at, NumbersAreSums, StoresAreLocal, IsInFrame, AccessibleIsBelow, OpenedByAddress}
-use Rattle.bpf_machine.proofs.Indices.{index_here, index_above, index_below, frames_in}
+use Rattle.bpf_machine.proofs.Indices.{index_here, index_above, index_below, frames_in, frames_before, maps_below, none_behind}
+use Rattle.bpf_machine.proofs.Places.{first_shape, later_shapes}
 
--- Frames from frame i on lie past every address below frame i.
-frames_past : (a i n : ℕ) → a < frame_base i → AllPast a (frames_from i n)
-unfolding frames_from
-frames_past a i zero h = tt
-frames_past a i (suc n) h = (h, frames_past a (suc i) n (omega arith))
+-- Maps from map i on lie past every address below map i, and frames and maps from frame i on past those below frame i.
+maps_past : (a i : ℕ) (shapes : List MapShape) → a < map_address i → AllPast a (maps_from i shapes)
+unfolding maps_from
+maps_past a i [] h = tt
+maps_past a i (shape ∷ shapes) h = (h, maps_past a (suc i) shapes (omega arith))
 
-frames_apart : (i n : ℕ) → AreApart (frames_from i n)
+frames_past : (a i n : ℕ) (shapes : List MapShape) → a < frame_base i → a < map_base → AllPast a (frames_from i n ++ maps_from 0 shapes)
 unfolding frames_from
-frames_apart i zero = tt
-frames_apart i (suc n) = (frames_past _ (suc i) n (omega arith), frames_apart (suc i) n)
+frames_past a i zero shapes h below = maps_past a 0 shapes (omega arith)
+frames_past a i (suc n) shapes h below = (h, frames_past a (suc i) n shapes (omega arith) below)
+
+maps_apart : (i : ℕ) (shapes : List MapShape) → All IsShape shapes → AreApart (maps_from i shapes)
+unfolding maps_from
+maps_apart i [] h = tt
+maps_apart i (shape ∷ shapes) h =
+    let short = (first_shape shape shapes h).total in
+    (maps_past _ (suc i) shapes (omega (arith, short)), maps_apart (suc i) shapes (later_shapes shape shapes h))
+
+frames_apart : (i n : ℕ) (shapes : List MapShape) → All IsShape shapes → frame_base (i + n) < map_base → AreApart (frames_from i n ++ maps_from 0 shapes)
+unfolding frames_from
+frames_apart i zero shapes h below = maps_apart 0 shapes h
+frames_apart i (suc n) shapes h below =
+    (frames_past _ (suc i) n shapes (omega arith) (omega arith), frames_apart (suc i) n shapes h (omega arith))
 
 pub law_apart : RegionsAreApart
-law_apart m h = let short = h.short in (frames_past _ 0 frame_count (omega (arith, short)), frames_apart 0 frame_count)
+law_apart m h =
+    let short = h.short in
+    (frames_past _ 0 frame_count m.maps (omega (arith, short)) (omega (arith, short)), frames_apart 0 frame_count m.maps h.tables.shapes (omega arith))
 
 -- A run is in the first region, or it is sought in the others.
 index_split : (r : Region) (rs : List Region) (a n : ℕ) → ((r.base ≤ a) × (a + n ≤ r.base + r.len) × (index_in (r ∷ rs) a n ≡ Some (a - r.base))) ⊎ (((a < r.base) ⊎ (r.base + r.len < a + n)) × (index_in (r ∷ rs) a n ≡ option_map (λ at. r.len + at) (index_in rs a n)))
@@ -185,15 +205,20 @@ paste_out old new at k fits low (inl below) = paste_below old new at k fits low 
 paste_out old new at k fits low (inr above) = paste_above old new at k fits low above
 
 -- How many bytes the regions have.
-total_frames : (i n : ℕ) → total (frames_from i n) ≡ frame_len * n
+total_maps : (i : ℕ) (shapes : List MapShape) → total (maps_from i shapes) ≡ maps_len shapes
+unfolding total maps_from
+total_maps i [] = refl
+total_maps i (shape ∷ shapes) = omega (arith, total_maps (suc i) shapes, sum_by-cons map_len shape shapes)
+
+total_frames : (i n : ℕ) (shapes : List MapShape) → total (frames_from i n ++ maps_from 0 shapes) ≡ frame_len * n + maps_len shapes
 unfolding total frames_from
-total_frames i zero = refl
-total_frames i (suc n) = omega (arith, total_frames (suc i) n)
+total_frames i zero shapes = omega (arith, total_maps 0 shapes)
+total_frames i (suc n) shapes = omega (arith, total_frames (suc i) n shapes)
 
 pub fits_within : (m : Image) → IsImage m → (a n at : ℕ) → index_of m a n ≡ Some at → at + n ≤ length m.bytes
 unfolding total
 fits_within m h a n at e =
-    omega (arith, h.whole, index_fits (regions m) a n at e, total_frames 0 frame_count)
+    omega (arith, h.whole, index_fits (regions m) a n at e, total_frames 0 frame_count m.maps)
 
 same_byte : (o : Option ℕ) (xs ys : List ℕ) → ((k : ℕ) → o ≡ Some k → slice_index xs k ≡ slice_index ys k) → option_map (λ k. slice_index xs k) o ≡ option_map (λ k. slice_index ys k) o
 same_byte None xs ys h = refl
@@ -241,31 +266,36 @@ sum_to m h a n at e (suc k) low =
 pub law_numbers : NumbersAreSums
 law_numbers m h a n at e = sum_to m h a n at e n (omega arith)
 
--- A run that is present lies in the context or in one frame.
+-- A run that is present lies in the context, in one frame or from map 0 on.
 abbrev InContext : ℕ → ℕ → Type 0
 InContext a n = a + n ≤ context_base + context_limit
 
 abbrev InFrame : ℕ → ℕ → ℕ → Type 0
 InFrame i a n = (i < frame_count) × (frame_base i ≤ a) × (a + n ≤ frame_base i + frame_len)
 
-frame_of : (k m a n at : ℕ) → index_in (frames_from k m) a n ≡ Some at → (i : ℕ) × (i < k + m) × (frame_base i ≤ a) × (a + n ≤ frame_base i + frame_len)
-unfolding frames_from index_in
-frame_of k zero a n at e = cc
-frame_of k (suc m) a n at e = elim (index_split (record { base = frame_base k; len = frame_len }) (frames_from (suc k) m) a n) [
-  | inl here ↦ (k, omega arith, here.0, here.1)
-  | inr other ↦
-      let found = some_from_map _ _ _ (sym other.1 ∙ e) in
-      let later = frame_of (suc k) m a n found.0 found.1 in
-      (later.0, omega (arith, later.1), later.2, later.3)
+abbrev IsPlaced : ℕ → ℕ → Type 0
+IsPlaced a n = InContext a n ⊎ (((i : ℕ) × InFrame i a n) ⊎ (map_base ≤ a))
+
+map_of : (i : ℕ) (shapes : List MapShape) (a n at : ℕ) → index_in (maps_from i shapes) a n ≡ Some at → map_base ≤ a
+unfolding maps_from index_in
+map_of i [] a n at e = cc
+map_of i (shape ∷ shapes) a n at e = elim (index_split (record { base = map_address i; len = map_len shape }) (maps_from (suc i) shapes) a n) [
+  | inl here ↦ omega (arith, here.0)
+  | inr other ↦ let found = some_from_map _ _ _ (sym other.1 ∙ e) in map_of (suc i) shapes a n found.0 found.1
 ]
 
-place_of : (m : Image) → IsImage m → (a n at : ℕ) → index_of m a n ≡ Some at → InContext a n ⊎ ((i : ℕ) × InFrame i a n)
-place_of m h a n at e = elim (index_split (record { base = context_base; len = m.context_len }) (frames_from 0 frame_count) a n) [
+frame_of : (k m : ℕ) (shapes : List MapShape) (a n at : ℕ) → k + m ≤ frame_count → index_in (frames_from k m ++ maps_from 0 shapes) a n ≡ Some at → ((i : ℕ) × InFrame i a n) ⊎ (map_base ≤ a)
+unfolding frames_from index_in
+frame_of k zero shapes a n at few e = inr (map_of 0 shapes a n at e)
+frame_of k (suc m) shapes a n at few e = elim (index_split (record { base = frame_base k; len = frame_len }) (frames_from (suc k) m ++ maps_from 0 shapes) a n) [
+  | inl here ↦ inl (k, (omega arith, here.0, here.1))
+  | inr other ↦ let found = some_from_map _ _ _ (sym other.1 ∙ e) in frame_of (suc k) m shapes a n found.0 (omega arith) found.1
+]
+
+place_of : (m : Image) → IsImage m → (a n at : ℕ) → index_of m a n ≡ Some at → IsPlaced a n
+place_of m h a n at e = elim (index_split (record { base = context_base; len = m.context_len }) (frames_from 0 frame_count ++ maps_from 0 m.maps) a n) [
   | inl here ↦ let short = h.short in inl (omega (arith, here.1, short))
-  | inr other ↦
-      let found = some_from_map _ _ _ (sym other.1 ∙ e) in
-      let there = frame_of 0 frame_count a n found.0 found.1 in
-      inr (there.0, (omega (arith, there.1), there.2, there.3))
+  | inr other ↦ let found = some_from_map _ _ _ (sym other.1 ∙ e) in inr (frame_of 0 frame_count m.maps a n found.0 (omega arith) found.1)
 ]
 
 -- What a test of an address says of the frames.
@@ -287,15 +317,18 @@ past_frames : (i a : ℕ) → frame_base frame_count ≤ a → is_from_frame i a
 past_frames i a h = grind (arith, nat_tests)
 
 -- No address of a run that is accessible at a depth lies in a frame above it.
-no_address : (d a n i j : ℕ) → InContext a n ⊎ ((k : ℕ) × InFrame k a n) → (a < frame_base (d + 1)) ⊎ (frame_base frame_count ≤ a) → d < i → i < frame_count → j < n → IsInFrame i (a + j) → ⊥
+no_address : (d a n i j : ℕ) → IsPlaced a n → (a < frame_base (d + 1)) ⊎ (frame_base frame_count ≤ a) → d < i → i < frame_count → j < n → IsInFrame i (a + j) → ⊥
 no_address d a n i j (inl context) side above there low within = omega (arith, within.0)
-no_address d a n i j (inr place) (inl below) above there low within = omega (arith, place.1.1, place.1.2, within.0)
-no_address d a n i j (inr place) (inr past) above there low within = omega (arith, place.1.0, place.1.2)
+no_address d a n i j (inr (inr later)) side above there low within = omega (arith, within.1)
+no_address d a n i j (inr (inl place)) (inl below) above there low within =
+    omega (arith, place.1.1, place.1.2, within.0)
+no_address d a n i j (inr (inl place)) (inr past) above there low within = omega (arith, place.1.0, place.1.2)
 
 -- A run with no address in a frame above a depth begins below those frames or past them.
-begins_below : (d a n : ℕ) → 1 ≤ n → InContext a n ⊎ ((k : ℕ) × InFrame k a n) → ((i j : ℕ) → d < i → i < frame_count → j < n → IsInFrame i (a + j) → ⊥) → is_from_frame (d + 1) a ≡ false
+begins_below : (d a n : ℕ) → 1 ≤ n → IsPlaced a n → ((i j : ℕ) → d < i → i < frame_count → j < n → IsInFrame i (a + j) → ⊥) → is_from_frame (d + 1) a ≡ false
 begins_below d a n some (inl context) h = below_frames (d + 1) a (omega arith)
-begins_below d a n some (inr place) h = elim (cases_lt a (frame_base (d + 1))) [
+begins_below d a n some (inr (inr later)) h = past_frames (d + 1) a (omega arith)
+begins_below d a n some (inr (inl place)) h = elim (cases_lt a (frame_base (d + 1))) [
   | inl below ↦ below_frames (d + 1) a below
   | inr from ↦
       absurd (h place.0 0 (omega (arith, place.1.2)) place.1.0 some (omega (arith, place.1.1), omega (arith, place.1.2)))
@@ -315,19 +348,53 @@ law_accessible x is a n some = (
 )
 
 -- The law of opening.
+opened_bytes : Checked → List ℕ → List ℕ
+opened_bytes program context = context ++ replicate (frame_len * frame_count + maps_len program.maps) 0
+
+zero_behind : (program : Checked) (context : List ℕ) (k : ℕ) → k < frame_len * frame_count + maps_len program.maps → slice_index (opened_bytes program context) (length context + k) ≡ 0
+unfolding opened_bytes
+zero_behind program context k low =
+    get_or-append-add context (replicate (frame_len * frame_count + maps_len program.maps) 0) k 0
+    ∙ get_or-replicate (frame_len * frame_count + maps_len program.maps) k 0 0 low
+
+-- The byte at a place of a map.
+map_has : (i q : ℕ) (shapes : List MapShape) (shape : MapShape) (a j : ℕ) → slice_get shapes q ≡ Some shape → j < map_len shape → a ≡ map_address (i + q) + j → (at : ℕ) × (index_in (maps_from i shapes) a 1 ≡ Some at)
+unfolding maps_from
+map_has i q [] shape a j here low e = cc
+map_has i zero (s ∷ shapes) shape a j here low e =
+    let same : map_len s ≡ map_len shape = cc in
+    (a - map_address i, index_here (record { base = map_address i; len = map_len s }) (maps_from (suc i) shapes) a 1 (omega arith) (omega (arith, same)))
+map_has i (suc q) (s ∷ shapes) shape a j here low e = elim (index_split (record { base = map_address i; len = map_len s }) (maps_from (suc i) shapes) a 1) [
+  | inl first ↦ (a - map_address i, first.2)
+  | inr other ↦
+      let later = map_has (suc i) q shapes shape a j here low (omega arith) in
+      (map_len s + later.0, other.1 ∙ ap (option_map (λ at. map_len s + at)) later.1)
+]
+
 pub law_opened : OpenedByAddress
+unfolding opened_bytes
 law_opened program context short = (
   (λ j low.
-      let bytes : List ℕ = context ++ replicate (frame_len * frame_count) 0 in
+      let bytes : List ℕ = opened_bytes program context in
       let place : context_base + j - context_base ≡ j = omega arith in
-      ap (option_map (λ at. slice_index bytes at)) (index_here (record { base = context_base; len = length context }) (frames_from 0 frame_count) (context_base + j) 1 (omega arith) (omega arith))
+      ap (option_map (λ at. slice_index bytes at)) (index_here (record { base = context_base; len = length context }) (frames_from 0 frame_count ++ maps_from 0 program.maps) (context_base + j) 1 (omega arith) (omega arith))
       ∙ ap (λ at. Some (slice_index bytes at)) place
-      ∙ ap Some (get_or_append_left context (replicate (frame_len * frame_count) 0) 0 j low)),
+      ∙ ap Some (get_or_append_left context (replicate (frame_len * frame_count + maps_len program.maps) 0) 0 j low)),
   (λ i j there low.
-      let bytes : List ℕ = context ++ replicate (frame_len * frame_count) 0 in
       let region : Region = record { base = context_base; len = length context } in
       let a : ℕ = frame_base i + j in
-      ap (option_map (λ at. slice_index bytes at)) (index_above region (frames_from 0 frame_count) a 1 (omega arith) ∙ ap (option_map (λ at. length context + at)) (frames_in 0 frame_count i j a 1 (omega arith) (omega arith) there))
-      ∙ ap Some (get_or-append-add context (replicate (frame_len * frame_count) 0) (512 * i + j) 0)
-      ∙ ap Some (get_or-replicate (frame_len * frame_count) (512 * i + j) 0 0 (omega arith))),
+      let frames = frames_in 0 frame_count i j a 1 (omega arith) (omega arith) there in
+      ap (option_map (λ at. slice_index (opened_bytes program context) at)) (index_above region (frames_from 0 frame_count ++ maps_from 0 program.maps) a 1 (omega arith)
+      ∙ ap (option_map (λ at. length context + at)) (none_behind (frames_from 0 frame_count) (maps_from 0 program.maps) a 1 (maps_below 0 program.maps a 1 (omega arith)) ∙ frames))
+      ∙ ap Some (zero_behind program context (512 * i + j) (omega arith))),
+  (λ i j shape here low.
+      let region : Region = record { base = context_base; len = length context } in
+      let a : ℕ = map_address i + j in
+      let zeroth : 0 + i ≡ i = omega arith in
+      let found = map_has 0 i program.maps shape a j here low (omega (arith, zeroth)) in
+      let fits = index_fits (maps_from 0 program.maps) a 1 found.0 found.1 in
+      let whole = total_maps 0 program.maps in
+      ap (option_map (λ at. slice_index (opened_bytes program context) at)) (index_above region (frames_from 0 frame_count ++ maps_from 0 program.maps) a 1 (omega arith)
+      ∙ ap (option_map (λ at. length context + at)) (frames_before 0 frame_count (maps_from 0 program.maps) a 1 (omega arith) (omega arith) ∙ ap (option_map (λ at. frame_len * frame_count + at)) found.1))
+      ∙ ap Some (zero_behind program context (frame_len * frame_count + found.0) (omega (arith, fits, whole)))),
 )

@@ -1,4 +1,5 @@
 pub mod Indices
+pub mod Places
 pub mod ByAddress
 pub mod Facts
 pub mod Loans

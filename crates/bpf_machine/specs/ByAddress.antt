@@ -1,8 +1,9 @@
 -- Memory read by address: the laws that say what its regions, runs, numbers and stores mean.
-use Rattle.std.specs.Prelude.{◌≡◌, ◌≤◌, ◌<◌, ◌↔◌, ◌⊎◌, ℕ, zero, suc, ◌+◌, ◌*◌, ◌^◌, List, [], ◌∷◌, length, slice_index, Option, Some, IsSome, option_map, unwrap_or}
+use Rattle.std.specs.Prelude.{◌≡◌, ◌≤◌, ◌<◌, ◌↔◌, ◌⊎◌, ℕ, zero, suc, ◌+◌, ◌*◌, ◌^◌, List, [], ◌∷◌, length, slice_index, slice_get, Option, Some, IsSome, option_map, unwrap_or}
 use Rattle.bpf_isa.specs.Programs.{Checked}
-use Rattle.bpf_machine.specs.Platform.{context_base, context_limit, frame_base, frame_len, frame_count}
-use Rattle.bpf_machine.specs.Regions.{Image, IsImage, Region, regions, index_of, number_at, with_bytes}
+use Rattle.bpf_isa.specs.declared.maps.MapShape.{MapShape}
+use Rattle.bpf_machine.specs.Platform.{context_base, context_limit, frame_base, frame_len, frame_count, map_address}
+use Rattle.bpf_machine.specs.Regions.{Image, IsImage, Region, map_len, regions, index_of, number_at, with_bytes}
 use Rattle.bpf_machine.specs.State.{State, IsState, depth, accessible, initial}
 
 -- The byte at an address, None where there is none.
@@ -56,9 +57,10 @@ AccessibleIsBelow =
     IsSome (accessible x a n)
     ↔ (IsSome (index_of x.memory a n) × ((i j : ℕ) → depth x < i → i < frame_count → j < n → IsInFrame i (a + j) → ⊥))
 
--- At opening the context's bytes stand from its base on, and the bytes of frames are zero.
+-- At opening the context's bytes stand from its base on, and the bytes of frames and maps are zero.
 abbrev pub OpenedByAddress : Type 0
 OpenedByAddress =
     (program : Checked) (context : List ℕ) → length context ≤ context_limit →
     ((j : ℕ) → j < length context → byte_at (initial program context).memory (context_base + j) ≡ Some (slice_index context j))
     × ((i j : ℕ) → i < frame_count → j < frame_len → byte_at (initial program context).memory (frame_base i + j) ≡ Some 0)
+    × ((i j : ℕ) (shape : MapShape) → slice_get program.maps i ≡ Some shape → j < map_len shape → byte_at (initial program context).memory (map_address i + j) ≡ Some 0)

@@ -1,6 +1,7 @@
 -- Opening a machine: what it refuses, in this order: a context that is too long, a word that the machine lacks, want of memory.
 use Rattle.std.specs.Prelude.{◌≡◌, ◌≤◌, ◌<◌, ℕ, List, length, codes}
 use Rattle.bpf_isa.specs.Programs.{Checked}
+use Rattle.bpf_isa.specs.declared.maps.MapShape.{MapShape}
 use Rattle.bpf_machine.specs.declared.fault.OpenFault.{OpenFault}
 use Rattle.bpf_machine.specs.declared.fault.OpenFault.TheVariants.{ContextTooLong, OutOfMemory, Unknown}
 use Rattle.bpf_machine.specs.Platform.{context_limit}
@@ -39,8 +40,8 @@ Refused program context (Unknown slot) = (length context ≤ context_limit) × I
 Refused program context OutOfMemory = (length context ≤ context_limit) × IsSupportedWhole program
 
 -- A machine that is opened is in its initial state.
-abbrev pub MemoryOpened : List ℕ → Image → Type 0
-MemoryOpened context memory = (length context ≤ context_limit) × (memory ≡ opened context)
+abbrev pub MemoryOpened : List MapShape → List ℕ → Image → Type 0
+MemoryOpened shapes context memory = (length context ≤ context_limit) × (memory ≡ opened shapes context)
 
 abbrev pub Opened : Checked → List ℕ → State → Type 0
 Opened program context x = (length context ≤ context_limit) × IsSupportedWhole program × (x ≡ initial program context)

@@ -49,6 +49,7 @@ impl Model for Cpu {
       coded : c.code.items ≡ codes_of c.program;
       pointer : slice_index c.registers 10 ≡ frame_pointer (length c.frames.items);
       outermost : c.frames.items ≡ [];
+      mapped : c.memory.maps ≡ c.program.maps;
     } };
 }
 

@@ -1,22 +1,24 @@
 //! Memory: the bytes of all regions, one region after another.
-ghost use Rattle.std.specs.Prelude.{◌≡◌, All, ◌+◌, ◌-◌, ◌*◌, ◌≤◌, ◌<◌, ◌⊎◌, length, IfSome, IfNone, IfOk, IfErr, IsTrue, IsSome, ◌↔◌, option_map, Some, None, if◌then◌else◌, ◌==◌, ◌++◌, replicate};
+ghost use Rattle.std.specs.Prelude.{◌≡◌, All, ◌+◌, ◌-◌, ◌*◌, ◌^◌, ◌≤◌, ◌<◌, ◌⊎◌, length, IfSome, IfNone, IfOk, IfErr, IsTrue, IsSome, ◌↔◌, option_map, Some, None, if◌then◌else◌, ◌==◌, ◌++◌, replicate};
 ghost use Rattle.bpf_machine.specs.Regions.{index_in, frames_from, is_from_frame};
 ghost use Rattle.bpf_machine.specs.Platform.{context_limit, frame_count, frame_len};
 
 use crate::alu::{low8, low16, low32};
 use crate::fault::OpenFault;
+use crate::map_places::MapPlaces;
 use crate::platform::{
-    CONTEXT_BASE, CONTEXT_LIMIT, FRAME_BASE, FRAME_COUNT, FRAME_LEN, FRAME_STRIDE,
+    CONTEXT_BASE, CONTEXT_LIMIT, FRAME_BASE, FRAME_COUNT, FRAME_LEN, FRAME_STRIDE, MAP_BASE,
 };
 use bpf_isa::{MapTable, Size};
 use byteorder::{ByteOrder, LittleEndian};
 use std::alloc::{AllocError, Global};
 use std::marker::Model;
 
-/// Memory of a machine: the context and the frames.
+/// Memory of a machine: the context, the frames and the maps.
 #[derive(Drop)]
 pub struct Memory {
     context_len: usize,
+    maps: MapPlaces,
     bytes: Vec<u8>,
 }
 
@@ -25,9 +27,9 @@ impl Model for Memory {
 
     ghost Value = { Image };
 
-    ghost view = { λ m. record { context_len = m.context_len; bytes = m.bytes.items } };
+    ghost view = { λ m. record { context_len = m.context_len; maps = m.maps; bytes = m.bytes.items } };
 
-    ghost invariant = { λ m. IsImage (record { context_len = m.context_len; bytes = m.bytes.items }) };
+    ghost invariant = { λ m. IsImage (record { context_len = m.context_len; maps = m.maps; bytes = m.bytes.items }) };
 }
 
 impl Memory {
@@ -38,17 +40,19 @@ impl Memory {
     ghost use Rattle.bpf_machine.specs.Opening.{MemoryOpened, MemoryRefused};
     ghost use Rattle.bpf_machine.specs.Lending.{LendsRun, LendsRunOrNone, LendsBytes};
 
-    /// Opens memory with the context's bytes and frames of zero bytes.
-    pub fn open(alloc: Global, _maps: &MapTable, context: &[u8]) -> Result<Memory, OpenFault>
-        ensures ok { IfOk result (MemoryOpened context.now) }
+    /// Opens memory with the context's bytes, and frames and maps of zero bytes.
+    pub fn open(alloc: Global, maps: &MapTable, context: &[u8]) -> Result<Memory, OpenFault>
+        ensures ok { IfOk result (MemoryOpened maps.now context.now) }
         ensures err { IfErr result (MemoryRefused context.now) }
     {
         if context.len() > CONTEXT_LIMIT {
             return Err(OpenFault::ContextTooLong);
         }
-        match filled(alloc, context) {
+        let maps = MapPlaces::of(maps);
+        match filled(alloc, context, FRAME_LEN * FRAME_COUNT + maps.len()) {
             Ok(bytes) => Ok(Memory {
                 context_len: context.len(),
+                maps,
                 bytes,
             }),
             Err(_) => Err(OpenFault::OutOfMemory),
@@ -73,11 +77,13 @@ impl Memory {
     {
         if address < FRAME_BASE {
             region_index(CONTEXT_BASE, self.context_len, address, n)
+        } else if address < MAP_BASE {
+            behind(self.context_len, frame_index(frames, address, n))
         } else {
-            match frame_index(frames, address, n) {
-                Some(at) => Some(self.context_len + at),
-                None => None,
-            }
+            behind(
+                self.context_len + FRAME_LEN * FRAME_COUNT,
+                self.maps.index(address, n),
+            )
         }
     }
 
@@ -140,7 +146,8 @@ impl Memory {
     /// Writes bytes at this address where all of them are present; else nothing changes.
     pub(crate) fn put(&mut self, address: u64, bytes: &[u8])
         requires { 1 ≤ length bytes.now }
-        ensures { self.new ≡ put self.old address (length bytes.now) bytes.now }
+        ensures next { self.new ≡ put self.old address (length bytes.now) bytes.now }
+        ensures maps { self.new.maps ≡ self.old.maps }
     {
         if let Some(at) = self.index(address, bytes.len(), FRAME_COUNT) {
             copy(self.run_mut(at, bytes.len()), bytes);
@@ -149,7 +156,8 @@ impl Memory {
 
     /// Stores the low bytes of a number at this address where all of them are present; else nothing changes.
     pub(crate) fn put_number(&mut self, address: u64, size: Size, value: u64)
-        ensures { self.new ≡ put self.old address (size_len size) (little_bytes (size_len size) value) }
+        ensures next { self.new ≡ put self.old address (size_len size) (little_bytes (size_len size) value) }
+        ensures maps { self.new.maps ≡ self.old.maps }
     {
         if let Some(at) = self.index(address, size.len(), FRAME_COUNT) {
             self.store(at, size, value);
@@ -206,8 +214,19 @@ fn copy(run: &mut [u8], bytes: &[u8])
     run.copy_from_slice(bytes);
 }
 
+/// An index that is counted from a place on.
+fn behind(place: usize, index: Option<usize>) -> Option<usize>
+    requires { IfSome index (λ at. place + at < 2 ^ 64) }
+    ensures { result ≡ option_map (λ at. place + at) index }
+{
+    match index {
+        Some(at) => Some(place + at),
+        None => None,
+    }
+}
+
 /// Where the run of n bytes at an address begins in a region.
-fn region_index(base: u64, len: usize, address: u64, n: usize) -> Option<usize>
+pub fn region_index(base: u64, len: usize, address: u64, n: usize) -> Option<usize>
     ensures found { IfSome result
         (λ at. (base ≤ address) × (address + n ≤ base + len) × (at ≡ address - base)) }
     ensures none { IfNone result ((address < base) ⊎ (base + len < address + n)) }
@@ -247,13 +266,14 @@ fn are_bytes(bytes: &[u8])
     ensures { All (λ byte. byte < 256) bytes.now }
 {}
 
-/// The bytes of memory at opening.
-fn filled(alloc: Global, context: &[u8]) -> Result<Vec<u8>, AllocError>
-    requires { length context.now ≤ context_limit }
-    ensures { IfOk result (λ bytes. bytes.items ≡ context.now ++ replicate 512 0) }
+/// The context's bytes and behind them a number of zero bytes.
+fn filled(alloc: Global, context: &[u8], zeros: usize) -> Result<Vec<u8>, AllocError>
+    requires { (length context.now ≤ context_limit) × (zeros ≤ 2 ^ 21) }
+    ensures { IfOk result (λ bytes. bytes.items ≡ context.now ++ replicate zeros 0) }
 {
-    let mut bytes = Vec::with_capacity(alloc, context.len() + FRAME_LEN * FRAME_COUNT)?;
+    let len = context.len() + zeros;
+    let mut bytes = Vec::with_capacity(alloc, len)?;
     bytes.extend_from_slice(context)?;
-    bytes.extend_from_slice(&[0; FRAME_LEN * FRAME_COUNT])?;
+    bytes.resize(len, 0)?;
     Ok(bytes)
 }

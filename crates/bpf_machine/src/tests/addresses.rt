@@ -30,9 +30,9 @@ frame 0, last eight; 0x2000001f8 8 yes yes
 frame 0, last seven and one after; 0x2000001f9 8 no no
 between frame 0 and frame 1; 0x2000003ff 1 no no
 frame 0 to frame 1; 0x200000000 1025 no no
-frame 1, first byte; 0x200000400 1 no no
-frame 1, last byte; 0x2000005ff 1 no no
-frame 7, last byte; 0x200001dff 1 no no
+frame 1, first byte; 0x200000400 1 yes no
+frame 1, last byte; 0x2000005ff 1 yes no
+frame 7, last byte; 0x200001dff 1 yes no
 frame 8; 0x200002000 1 no no
 map 0; 0x300000000 1 no no
 address 0; 0 1 no no

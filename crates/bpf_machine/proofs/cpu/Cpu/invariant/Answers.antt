@@ -13,6 +13,7 @@ returns c = rw (← c.self.view_is) (record {
   numbers = All-take (λ (number : ℕ). number < 2 ^ 64) 10 c.self.inside.registers c.are_registers.ensures.range;
   outermost = c.self.invariant.outermost;
   image = c.invariant-2.ensures.image;
+  mapped = c.self.invariant.mapped;
   bytes = c.invariant-2.ensures.bytes;
   traced = let traces : State → List ℕ = λ x. x.trace in subst (λ (ws : List ℕ). length ws ≤ 256) (c.trace.ensures.value ∙ sym (ap traces c.self.view_is)) c.trace.ensures.fits;
   words = let traces : State → List ℕ = λ x. x.trace in subst (λ (ws : List ℕ). All (λ word. word < 2 ^ 64) ws) (c.trace.ensures.value ∙ sym (ap traces c.self.view_is)) c.are_words.ensures;

@@ -1,0 +1,132 @@
+//! Map places: where the bytes of each map stand among those of all maps.
+ghost use Rattle.std.specs.Prelude.{◌≡◌, ◌≤◌, ◌+◌, ◌*◌, [], ◌∷◌, ◌++◌, ◌<◌, IfSome, IfNone, length, slice_get, Some};
+ghost use Rattle.bpf_isa.specs.Maps.{AreMaps};
+ghost use Rattle.bpf_machine.specs.Regions.{index_in, maps_from, maps_len};
+
+use crate::memory::region_index;
+use crate::platform::{MAP_BASE, MAP_STRIDE};
+use arrayvec::ArrayVec;
+use bpf_isa::{MapShape, MapTable};
+use std::marker::Model;
+
+/// A map's shape, the index of its first byte among the bytes of all maps, and how many bytes it has.
+#[derive(Clone, Copy, Default)]
+pub struct Place {
+    pub shape: MapShape,
+    pub first: u32,
+    pub len: u32,
+}
+
+/// The places of a program's maps, at most 16.
+#[derive(Drop)]
+pub struct MapPlaces {
+    places: ArrayVec<Place, 16>,
+    /// How many bytes all maps have.
+    len: u32,
+}
+
+impl Model for MapPlaces {
+    ghost use Rattle.std.specs.Prelude.{◌≡◌, List};
+    ghost use Rattle.bpf_isa.specs.declared.maps.MapShape.{MapShape};
+    ghost use Rattle.bpf_isa.specs.Maps.{AreMaps};
+    ghost use Rattle.bpf_machine.specs.Regions.{maps_len};
+    ghost use Rattle.bpf_machine.specs.Places.{shapes_of, AreLaid};
+
+    ghost Value = { List MapShape };
+
+    ghost view = { λ m. shapes_of m.places.items };
+
+    ghost invariant = { λ m. record {
+      tables : AreMaps (shapes_of m.places.items);
+      laid : AreLaid 0 m.places.items;
+      whole : m.len ≡ maps_len (shapes_of m.places.items);
+    } };
+}
+
+impl MapPlaces {
+    /// The places of the maps of a table.
+    pub fn of(maps: &MapTable) -> MapPlaces
+        ensures { result ≡ maps.now }
+    {
+        let mut places = MapPlaces::empty();
+        for map in 0..maps.len() {
+            places.add(shape_of(maps, map));
+        }
+        places
+    }
+
+    /// How many bytes all maps have.
+    pub fn len(&self) -> usize
+        ensures value { result ≡ maps_len self.now }
+        ensures fits { result ≤ 16 * 65536 }
+        ensures tables { AreMaps self.now }
+    {
+        self.len as usize
+    }
+
+    /// Where the run of n bytes at an address from map 0 on begins among the bytes of all maps.
+    pub fn index(&self, address: u64, n: usize) -> Option<usize>
+        requires { MAP_BASE ≤ address }
+        ensures value { result ≡ index_in (maps_from 0 self.now) address n }
+        ensures fits { IfSome result (λ at. at + n ≤ maps_len self.now) }
+    {
+        let map = (address - MAP_BASE) / MAP_STRIDE;
+        match place_of(self.places.as_slice(), map) {
+            Some(place) => index_at(place, (address - MAP_BASE) % MAP_STRIDE, n),
+            None => None,
+        }
+    }
+
+    /// The places of no map.
+    fn empty() -> MapPlaces
+        ensures { result ≡ [] }
+    {
+        MapPlaces {
+            places: ArrayVec::new(),
+            len: 0,
+        }
+    }
+
+    /// Adds a map.
+    fn add(&mut self, shape: MapShape)
+        requires { AreMaps (self.old ++ shape ∷ []) }
+        ensures { self.new ≡ self.old ++ shape ∷ [] }
+    {
+        let len = shape.value_size * shape.entries;
+        self.places.push(Place {
+            shape,
+            first: self.len,
+            len,
+        });
+        self.len += len;
+    }
+}
+
+/// The shape of a map of a table.
+fn shape_of(maps: &MapTable, map: usize) -> MapShape
+    requires { map < length maps.now }
+    ensures { Some result ≡ slice_get maps.now map }
+{
+    match maps.shape(map) {
+        Some(shape) => shape,
+        None => unreachable!(),
+    }
+}
+
+/// The place of a map, None past the last.
+fn place_of(places: &[Place], map: u64) -> Option<Place>
+    ensures { result ≡ slice_get places.now map }
+{
+    places.get(map as usize).copied()
+}
+
+/// Where the run of n bytes from a byte of a map on begins among the bytes of all maps.
+fn index_at(place: Place, byte: u64, n: usize) -> Option<usize>
+    ensures found { IfSome result (λ at. (at ≡ place.first + byte) × (byte + n ≤ place.len)) }
+    ensures none { IfNone result (place.len < byte + n) }
+{
+    match region_index(0, place.len as usize, byte, n) {
+        Some(at) => Some(place.first as usize + at),
+        None => None,
+    }
+}
