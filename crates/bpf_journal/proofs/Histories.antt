@@ -17,6 +17,7 @@ pub of_edit : (x : State) (e : Edit) → IsOfEdit (edit_entry x e)
 unfolding edit_entry
 of_edit x (edit.Register r value) = tt
 of_edit x (edit.Bytes a bytes) = tt
+of_edit x (edit.Cell map index bytes) = tt
 of_edit x (edit.Pc slot) = tt
 
 pub is_of_edit : (x : State) (e : Edit) (entry : Entry) → entry ≡ edit_entry x e → IsOfEdit entry

@@ -3,7 +3,7 @@ use Rattle.std.proofs.Common.{◌≡◌, ◌≤◌, sym, ap, ◌∙◌, arith}
 use Rattle.bpf_machine.specs.declared.edit.Edit.{Edit}
 use Rattle.bpf_machine.specs.declared.edit.Edit.TheVariants as edit
 use Rattle.bpf_machine.specs.declared.edit.EditFault.{EditFault}
-use Rattle.bpf_machine.specs.declared.edit.EditFault.TheVariants.{AddressNotPresent, RegisterNotWritable, NoStart}
+use Rattle.bpf_machine.specs.declared.edit.EditFault.TheVariants.{AddressNotPresent, RegisterNotWritable, NoStart, NoCell}
 use Rattle.bpf_machine.specs.declared.entry.Entry.{Entry}
 use Rattle.bpf_machine.specs.declared.entry.Entry.TheVariants as entry
 use Rattle.bpf_machine.specs.declared.moves.Move.{Move}
@@ -36,11 +36,18 @@ replay x y z w m n l k e again =
 edit_refused : (x : State) (e : Edit) (f : EditFault) → RefusesEdit x e f → ¬ IsEditable x e
 edit_refused x (edit.Register r value) RegisterNotWritable why able = omega arith
 edit_refused x (edit.Bytes a bytes) AddressNotPresent why able = cc
+edit_refused x (edit.Cell map index bytes) NoCell why able = why able
 edit_refused x (edit.Pc slot) NoStart why able = why able
 edit_refused x (edit.Register r value) AddressNotPresent why able = why
 edit_refused x (edit.Register r value) NoStart why able = why
 edit_refused x (edit.Bytes a bytes) RegisterNotWritable why able = why
 edit_refused x (edit.Bytes a bytes) NoStart why able = why
+edit_refused x (edit.Cell map index bytes) AddressNotPresent why able = why
+edit_refused x (edit.Cell map index bytes) RegisterNotWritable why able = why
+edit_refused x (edit.Cell map index bytes) NoStart why able = why
+edit_refused x (edit.Register r value) NoCell why able = why
+edit_refused x (edit.Bytes a bytes) NoCell why able = why
+edit_refused x (edit.Pc slot) NoCell why able = why
 edit_refused x (edit.Pc slot) AddressNotPresent why able = why
 edit_refused x (edit.Pc slot) RegisterNotWritable why able = why
 

@@ -303,7 +303,7 @@ unhidden : (b : Bool) (found : Option ℕ) → IsSome (if b then None else found
 unhidden true found h = cc
 unhidden false found h = (refl, h)
 
-shown : (b : Bool) (found : Option ℕ) → b ≡ false → IsSome found → IsSome (if b then None else found)
+pub shown : (b : Bool) (found : Option ℕ) → b ≡ false → IsSome found → IsSome (if b then None else found)
 shown true found e h = cc
 shown false found e h = h
 
@@ -313,7 +313,7 @@ outside_frames i a e = grind (arith, nat_tests)
 below_frames : (i a : ℕ) → a < frame_base i → is_from_frame i a ≡ false
 below_frames i a h = grind (arith, nat_tests)
 
-past_frames : (i a : ℕ) → frame_base frame_count ≤ a → is_from_frame i a ≡ false
+pub past_frames : (i a : ℕ) → frame_base frame_count ≤ a → is_from_frame i a ≡ false
 past_frames i a h = grind (arith, nat_tests)
 
 -- No address of a run that is accessible at a depth lies in a frame above it.

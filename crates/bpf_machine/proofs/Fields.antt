@@ -18,16 +18,17 @@ use Rattle.bpf_machine.specs.declared.edit.Edit.{Edit}
 use Rattle.bpf_machine.specs.declared.edit.Edit.TheVariants as edit
 use Rattle.bpf_machine.specs.declared.moves.Move.{Move}
 use Rattle.bpf_machine.specs.declared.moves.Move.TheVariants as move
-use Rattle.bpf_machine.specs.Platform.{frame_pointer}
+use Rattle.bpf_machine.specs.Platform.{frame_pointer, cell_address}
 use Rattle.bpf_machine.specs.Regions.{index_of, run, run_at}
 use Rattle.bpf_machine.specs.State.{State, IsState, register, depth, accessible}
-use Rattle.bpf_machine.specs.Next.{address, fault, change_by, change, changed}
+use Rattle.bpf_machine.specs.Next.{address, fault, change_by, change}
 use Rattle.bpf_machine.specs.Entries.{entry_of}
-use Rattle.bpf_machine.specs.Edits.{IsEditable, edited, edit_entry}
-use Rattle.bpf_machine.specs.Moves.{IsMovable, moved, overwritten}
+use Rattle.bpf_machine.specs.Edits.{IsEditable, edit_entry}
+use Rattle.bpf_machine.specs.Moves.{IsMovable, overwritten}
 use Rattle.bpf_machine.specs.Fields.{FitsSlot, FitsBytes, FitsFields, FitsEdit, FitsMove, EntriesFit}
 use Rattle.bpf_machine.specs.Status.{FitsNumber, FitsStatus}
 use Rattle.bpf_machine.proofs.ByAddress.{fits_within, length-run}
+use Rattle.bpf_machine.proofs.Cells.{cell_present, cell_address_fits}
 use Rattle.bpf_machine.proofs.Undoing.{Finds, finds}
 use Rattle.bpf_machine.proofs.StepLaws.{Names, names_by}
 
@@ -162,6 +163,12 @@ unfolding edit_entry
 edit_fits x (edit.Register r value) is able status fits = (fits.0, number_fits x r is)
 edit_fits x (edit.Bytes a bytes) is able status fits =
     (fits.0, bytes_fit x a (length bytes) bytes (index_of x.memory a (length bytes)) is refl able (fits.1.0) (fits.1.1))
+edit_fits x (edit.Cell map index bytes) is able status fits =
+    let n = length bytes in
+    let a = cell_address map index n in (
+      cell_address_fits x map index n is able,
+      bytes_fit x a n bytes (index_of x.memory a n) is refl (cell_present x map index n is able) (fits.2.0) (fits.2.1),
+    )
 edit_fits x (edit.Pc slot) is able status fits = (slot_fits x is, status)
 
 move_fits : (x : State) (m : Move) → IsState x → IsMovable x m → FitsStatus x.status → FitsMove m → FitsFields (overwritten x m)

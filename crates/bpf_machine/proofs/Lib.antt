@@ -1,5 +1,6 @@
 pub mod Indices
 pub mod Places
+pub mod Cells
 pub mod ByAddress
 pub mod Facts
 pub mod Loans

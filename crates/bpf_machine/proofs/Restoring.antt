@@ -1,5 +1,5 @@
 -- An entry of a move can be put back: its slot starts an instruction of the program, and its register is not r10.
-use Rattle.std.proofs.Common.{◌≡◌, refl, sym, subst, ap, ◌∙◌}
+use Rattle.std.proofs.Common.{◌≡◌, sym, subst, ap, ◌∙◌}
 use Rattle.bpf_machine.specs.declared.change.Change.{Change}
 use Rattle.bpf_machine.specs.declared.change.Change.TheVariants.{Set, Go, Store, Stop}
 use Rattle.bpf_machine.specs.declared.edit.Edit.{Edit}
@@ -28,6 +28,7 @@ restores_edit : (x : State) (e : Edit) → IsState x → IsEditable x e → Rest
 unfolding edited edit_entry
 restores_edit x (edit.Register r value) is able = able
 restores_edit x (edit.Bytes a bytes) is able = tt
+restores_edit x (edit.Cell map index bytes) is able = tt
 restores_edit x (edit.Pc slot) is able = is.start
 
 restores_move : (x : State) (m : Move) → IsState x → IsMovable x m → Restores (moved x m) (overwritten x m)

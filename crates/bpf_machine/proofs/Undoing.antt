@@ -23,6 +23,7 @@ use Rattle.bpf_machine.specs.declared.status.Status.{Status}
 use Rattle.bpf_machine.specs.declared.status.Status.TheVariants.{Running, Exited, Faulted}
 use Rattle.bpf_machine.specs.Status.{has_ended}
 use Rattle.bpf_machine.specs.Numbers.{wrap}
+use Rattle.bpf_machine.specs.Platform.{cell_address}
 use Rattle.bpf_machine.specs.Regions.{Image, IsImage, index_of, is_from_frame, run, run_at, paste, with_bytes, put}
 use Rattle.bpf_machine.specs.State.{State, IsState, register, depth, accessible}
 use Rattle.bpf_machine.specs.Next.{address, fault, change_by, change, changed}
@@ -31,6 +32,7 @@ use Rattle.bpf_machine.specs.Edits.{IsEditable, edited, edit_entry}
 use Rattle.bpf_machine.specs.Moves.{Leads, IsMovable, moved, overwritten}
 use Rattle.bpf_machine.specs.Undoing.{undone}
 use Rattle.bpf_machine.proofs.ByAddress.{fits_within, length-run}
+use Rattle.bpf_machine.proofs.Cells.{cell_present}
 
 -- Old bytes put back over new ones give the old list.
 pub paste_back : (old new : List ℕ) (at n : ℕ) → length new ≡ n → at + n ≤ length old → paste (paste old at new) at (slice_range old at (at + n)) ≡ old
@@ -129,6 +131,9 @@ edit_back x (edit.Register r value) is able =
     ap (λ registers. record x { registers = registers }) (register_back x r value is.ten)
 edit_back x (edit.Bytes a bytes) is able =
     ap (λ memory. record x { memory = memory }) (bytes_back x a (length bytes) bytes (index_of x.memory a (length bytes)) is refl refl able)
+edit_back x (edit.Cell map index bytes) is able =
+    let a = cell_address map index (length bytes) in
+    ap (λ memory. record x { memory = memory }) (bytes_back x a (length bytes) bytes (index_of x.memory a (length bytes)) is refl refl (cell_present x map index (length bytes) is able))
 edit_back x (edit.Pc slot) is able = refl
 
 move_back : (x : State) (m : Move) → IsState x → IsMovable x m → undone (overwritten x m) (moved x m) ≡ x

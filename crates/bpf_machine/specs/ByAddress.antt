@@ -2,7 +2,7 @@
 use Rattle.std.specs.Prelude.{◌≡◌, ◌≤◌, ◌<◌, ◌↔◌, ◌⊎◌, ℕ, zero, suc, ◌+◌, ◌*◌, ◌^◌, List, [], ◌∷◌, length, slice_index, slice_get, Option, Some, IsSome, option_map, unwrap_or}
 use Rattle.bpf_isa.specs.Programs.{Checked}
 use Rattle.bpf_isa.specs.declared.maps.MapShape.{MapShape}
-use Rattle.bpf_machine.specs.Platform.{context_base, context_limit, frame_base, frame_len, frame_count, map_address}
+use Rattle.bpf_machine.specs.Platform.{context_base, context_limit, frame_base, frame_len, frame_count, map_address, cell_address}
 use Rattle.bpf_machine.specs.Regions.{Image, IsImage, Region, map_len, regions, index_of, number_at, with_bytes}
 use Rattle.bpf_machine.specs.State.{State, IsState, depth, accessible, initial}
 
@@ -56,6 +56,12 @@ AccessibleIsBelow =
     (x : State) → IsState x → (a n : ℕ) → 1 ≤ n →
     IsSome (accessible x a n)
     ↔ (IsSome (index_of x.memory a n) × ((i j : ℕ) → depth x < i → i < frame_count → j < n → IsInFrame i (a + j) → ⊥))
+
+-- Each cell of each map of the program is accessible, at every depth.
+abbrev pub CellsAreAccessible : Type 0
+CellsAreAccessible =
+    (x : State) → IsState x → (map index : ℕ) (shape : MapShape) → slice_get x.program.maps map ≡ Some shape → index < shape.entries →
+    IsSome (accessible x (cell_address map index shape.value_size) shape.value_size)
 
 -- At opening the context's bytes stand from its base on, and the bytes of frames and maps are zero.
 abbrev pub OpenedByAddress : Type 0

@@ -35,10 +35,12 @@ FitsFields (entry.EditRegister r value) = FitsRegister r × FitsNumber value
 FitsFields (entry.EditBytes a old) = FitsNumber a × FitsBytes 256 old
 FitsFields (entry.EditPc pc status) = FitsSlot pc × FitsStatus status
 
--- What an edit's values are in a program: a register's number and value, an address and 1 to 256 bytes, a slot.
+-- What an edit's values are in a program: a register's number and value, an address and 1 to 256 bytes, a map and an index with
+-- 1 to 256 bytes, a slot.
 abbrev pub FitsEdit : Edit → Type 0
 FitsEdit (edit.Register r value) = FitsRegister r × FitsNumber value
 FitsEdit (edit.Bytes a bytes) = FitsNumber a × FitsBytes 256 bytes
+FitsEdit (edit.Cell map index bytes) = FitsNumber map × FitsNumber index × FitsBytes 256 bytes
 FitsEdit (edit.Pc slot) = FitsNumber slot
 
 abbrev pub FitsMove : Move → Type 0

@@ -7,11 +7,25 @@ use bpf_isa::Reg;
 #[derive(Drop)]
 pub enum Edit {
     /// A register gets a value.
-    Register { register: Reg, value: u64 },
+    Register {
+        register: Reg,
+        value: u64,
+    },
     /// The run at an address gets other bytes.
-    Bytes { address: u64, bytes: ByteString },
+    Bytes {
+        address: u64,
+        bytes: ByteString,
+    },
+    /// The cell of a map gets other bytes, as many as a value of the map has.
+    Cell {
+        map: u64,
+        index: u64,
+        bytes: ByteString,
+    },
     /// Another instruction is the next to run, and the machine runs.
-    Pc { slot: u64 },
+    Pc {
+        slot: u64,
+    },
 }
 
 /// Why an edit is refused. A refused edit changes nothing.
@@ -23,4 +37,6 @@ pub enum EditFault {
     RegisterNotWritable,
     /// No instruction of the program starts at the slot.
     NoStart,
+    /// There is no such map, its cells end before the index, or its values have another length.
+    NoCell,
 }

@@ -1,9 +1,9 @@
 //! Laws of the definitions, each proved as the contract of a function that does nothing.
-ghost use Rattle.bpf_machine.specs.ByAddress.{RegionsAreApart, RunsAreTheirAddresses, NumbersAreSums, StoresAreLocal, AccessibleIsBelow, OpenedByAddress};
+ghost use Rattle.bpf_machine.specs.ByAddress.{RegionsAreApart, RunsAreTheirAddresses, NumbersAreSums, StoresAreLocal, AccessibleIsBelow, CellsAreAccessible, OpenedByAddress};
 ghost use Rattle.bpf_machine.specs.Fields.{EntriesFit};
 ghost use Rattle.bpf_machine.specs.StepLaws.{StepsKeepRegisters, StepsKeepBytes, StepsKeepTheRest, EndsKeepAllElse};
 
-/// Memory read by address: what regions, runs, numbers and stores mean.
+/// Memory read by address: what regions, runs, numbers, stores and cells mean.
 #[tactic(none)]
 pub fn memory_by_address()
     ensures apart { RegionsAreApart }
@@ -11,6 +11,7 @@ pub fn memory_by_address()
     ensures numbers { NumbersAreSums }
     ensures stores { StoresAreLocal }
     ensures accessible { AccessibleIsBelow }
+    ensures cells { CellsAreAccessible }
     ensures opened { OpenedByAddress }
 {}
 

@@ -1,13 +1,15 @@
 //! Edits: the test, the entry, and the doing.
-ghost use Rattle.std.specs.Prelude.{◌≡◌, ◌≤◌, ◌↔◌, IsTrue, IsSome, Some, IfOk, IfErr, OnOk, OnErr, IfSome, IfNone};
+ghost use Rattle.std.specs.Prelude.{◌≡◌, ◌≤◌, ◌↔◌, IsTrue, IsSome, Some, IfOk, IfErr, OnOk, OnErr, IfSome, IfNone, slice_get};
 ghost use Rattle.bpf_isa.specs.Programs.{IsStart};
-ghost use Rattle.bpf_machine.specs.Edits.{IsEditable, RefusesEdit, edited, edit_entry};
+ghost use Rattle.bpf_machine.specs.Edits.{HasCell, IsEditable, RefusesEdit, edited, edit_entry};
+ghost use Rattle.bpf_machine.specs.Platform.{cell_address as cell_address_of};
 ghost use Rattle.bpf_machine.specs.Regions.{index_of, run_at};
 
 use super::Cpu;
 use crate::byte_string::ByteString;
 use crate::edit::{Edit, EditFault};
 use crate::entry::Entry;
+use crate::platform::cell_address;
 use crate::status::Status;
 use bpf_isa::Program;
 
@@ -46,6 +48,11 @@ impl Cpu {
                     return Some(EditFault::AddressNotPresent);
                 }
             }
+            Edit::Cell { map, index, bytes } => {
+                if !self.has_cell(*map, *index, bytes.len()) {
+                    return Some(EditFault::NoCell);
+                }
+            }
             Edit::Pc { slot } => {
                 if !self.is_start(*slot) {
                     return Some(EditFault::NoStart);
@@ -53,6 +60,26 @@ impl Cpu {
             }
         }
         None
+    }
+
+    /// Whether a map has this cell, with values of n bytes.
+    fn has_cell(&self, map: u64, index: u64, n: usize) -> bool
+        ensures { IsTrue result ↔ HasCell (slice_get self.now.program.maps map) index n }
+    {
+        match self.program.maps().shape(map as usize) {
+            Some(shape) => index < u64::from(shape.entries) && n == shape.value_size as usize,
+            None => false,
+        }
+    }
+
+    /// The address of a cell that a map has.
+    fn cell(&self, map: u64, index: u64, n: usize) -> u64
+        requires { HasCell (slice_get self.now.program.maps map) index n }
+        ensures value { result ≡ cell_address_of map index n }
+        ensures present { IsSome (index_of self.now.memory result n) }
+    {
+        self.invariant();
+        cell_address(map, index, n)
     }
 
     /// Whether an instruction of the program starts at this slot.
@@ -77,6 +104,13 @@ impl Cpu {
                 address: *address,
                 old: self.bytes_at(*address, bytes.len()),
             },
+            Edit::Cell { map, index, bytes } => {
+                let address = self.cell(*map, *index, bytes.len());
+                Entry::EditBytes {
+                    address,
+                    old: self.bytes_at(address, bytes.len()),
+                }
+            }
             Edit::Pc { slot: _ } => Entry::EditPc {
                 pc: self.pc,
                 status: self.status,
@@ -107,6 +141,10 @@ impl Cpu {
                 self.registers[usize::from(register.number())] = *value;
             }
             Edit::Bytes { address, bytes } => self.memory.put(*address, bytes.as_slice()),
+            Edit::Cell { map, index, bytes } => {
+                let address = self.cell(*map, *index, bytes.len());
+                self.memory.put(address, bytes.as_slice());
+            }
             Edit::Pc { slot } => {
                 self.pc = start(&self.program, *slot);
                 self.status = Status::Running;

@@ -23,8 +23,26 @@ pub fn opened(rt: &impl Abort, alloc: Global, slots: &[u64], context: &[u8]) -> 
         .expect(rt, "not opened")
 }
 
+/// A machine with the program of these slots, the maps of a text and the context f1 f2 .. f8.
+pub fn with_maps(rt: &impl Abort, alloc: Global, slots: &[u64], maps: &str) -> Cpu {
+    let program = program_with(rt, alloc, slots, &map_table(rt, maps));
+    let context = [0xf1, 0xf2, 0xf3, 0xf4, 0xf5, 0xf6, 0xf7, 0xf8];
+    Cpu::open(alloc, program, &context)
+        .ok()
+        .expect(rt, "not opened")
+}
+
+/// The maps of a text.
+pub fn map_table(rt: &impl Abort, text: &str) -> MapTable {
+    MapTable::parse(text.as_bytes()).ok().expect(rt, "no maps")
+}
+
 /// The program of these slots. A slot's number shows its bytes in order.
 pub fn program(rt: &impl Abort, alloc: Global, slots: &[u64]) -> Program {
+    program_with(rt, alloc, slots, &MapTable::empty())
+}
+
+fn program_with(rt: &impl Abort, alloc: Global, slots: &[u64], maps: &MapTable) -> Program {
     let mut bytes = Vec::new(alloc);
     for slot in slots {
         bytes
@@ -32,9 +50,7 @@ pub fn program(rt: &impl Abort, alloc: Global, slots: &[u64]) -> Program {
             .ok()
             .expect(rt, "no memory");
     }
-    check(alloc, &bytes, &MapTable::empty())
-        .ok()
-        .expect(rt, "refused")
+    check(alloc, &bytes, maps).ok().expect(rt, "refused")
 }
 
 /// Runs a machine to its end.
@@ -59,7 +75,7 @@ pub struct View {
     pub registers: [u64; 11],
     /// pc, depth, the number of traced words and the status.
     pub place: String,
-    /// The context's bytes and then those of frame 0.
+    /// The context's bytes, then those of frame 0 and of each map.
     pub bytes: Vec<u8>,
 }
 
@@ -80,6 +96,16 @@ pub fn view_of(rt: &impl Abort, alloc: Global, cpu: &Cpu) -> View {
         .extend_from_slice(cpu.peek(0x2_0000_0000, 512).expect(rt, "no frame"))
         .ok()
         .expect(rt, "no memory");
+    for map in 0..cpu.program().maps().len() {
+        let shape = cpu.program().maps().shape(map).expect(rt, "no map");
+        let address = 0x3_0000_0000 + 0x10_0000 * map as u64;
+        let len = shape.value_size as usize * shape.entries as usize;
+        assert!(rt; len > 0);
+        bytes
+            .extend_from_slice(cpu.peek(address, len).expect(rt, "no bytes"))
+            .ok()
+            .expect(rt, "no memory");
+    }
     View {
         registers,
         place: format!(in alloc; "pc {pc} depth {depth} traced {traced} {status}")

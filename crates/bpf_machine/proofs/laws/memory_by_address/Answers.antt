@@ -1,4 +1,5 @@
 use Rattle.bpf_machine.proofs.ByAddress.{law_apart, law_runs, law_numbers, law_stores, law_accessible, law_opened}
+use Rattle.bpf_machine.proofs.Cells.{law_cells}
 use Rattle.bpf_machine.proofs.laws.memory_by_address.Goals as goal
 
 pub returns : goal.returns
@@ -8,5 +9,6 @@ returns c = record {
   numbers = law_numbers;
   stores = law_stores;
   accessible = law_accessible;
+  cells = law_cells;
   opened = law_opened;
 }

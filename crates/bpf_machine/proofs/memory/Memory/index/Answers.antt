@@ -1,4 +1,4 @@
-use Rattle.std.proofs.Common.{arith, sym, ap, ◌∙◌, ◌≡◌}
+use Rattle.std.proofs.Common.{arith, ◌∙◌}
 use Rattle.bpf_machine.specs.Regions.{Image}
 use Rattle.bpf_machine.proofs.Indices.{in_context_below, in_frames_below, in_maps_below}
 use Rattle.bpf_machine.proofs.memory.Memory.index.Goals as goal
