@@ -31,6 +31,20 @@ ffffffffffffffff 1 address not present;0
 ffffffffffffffff 2 address not present;0
 0 1 address not present;0";
 
+// Bytes ee in a cell of the one map: the map, the index, how many, and the entry and its weight or the refusal. The map is zeros.
+const CELLS: &str = "\
+0 0 8 edit bytes 300000000 0000000000000000;21
+0 1 8 edit bytes 300000008 0000000000000000;21
+0 2 8 no such cell or wrong length;0
+0 1 7 no such cell or wrong length;0
+0 1 9 no such cell or wrong length;0
+0 0 16 no such cell or wrong length;0
+1 0 8 no such cell or wrong length;0
+100000000 0 8 no such cell or wrong length;0
+ffffffffffffffff 0 8 no such cell or wrong length;0
+0 100000001 8 no such cell or wrong length;0
+0 ffffffffffffffff 8 no such cell or wrong length;0";
+
 // A running, an exited and a faulted machine: a program and how many steps it takes.
 const MACHINES: [(&str, usize); 3] = [
     ("05000000000000009500000000000000", 0),
@@ -79,6 +93,35 @@ fn bytes_at_the_edges(rt: HostRuntime) -> Result<(), Fail> {
         for (program, steps) in MACHINES {
             let mut cpu = machine_after(rt.alloc(), program, steps)?;
             let found = answer(rt.alloc(), &mut cpu, fill(address, count)?)?;
+            assert_eq!(rt; found.as_str(), wanted, "{row}");
+        }
+    }
+    Ok(())
+}
+
+/// An edit that puts so many bytes ee into a cell.
+fn fill_cell(map: u64, index: u64, count: usize) -> Result<Edit, Fail> {
+    let all = [0xee; 256];
+    let bytes = all.get(..count).ok_or("too many")?;
+    Ok(Edit::Cell {
+        map,
+        index,
+        bytes: ByteString::new(bytes).ok_or("none")?,
+    })
+}
+
+#[test]
+fn cells_at_the_edges(rt: HostRuntime) -> Result<(), Fail> {
+    for row in CELLS.lines() {
+        let (map, rest) = row.split_once(' ').ok_or("no index")?;
+        let (index, rest) = rest.split_once(' ').ok_or("no count")?;
+        let (count, wanted) = rest.split_once(' ').ok_or("no answer")?;
+        let map = u64::from_str_radix(map, 16)?;
+        let index = u64::from_str_radix(index, 16)?;
+        let count = count.parse::<usize>()?;
+        for (program, steps) in MACHINES {
+            let mut cpu = machine_after(rt.alloc(), program, steps)?;
+            let found = answer(rt.alloc(), &mut cpu, fill_cell(map, index, count)?)?;
             assert_eq!(rt; found.as_str(), wanted, "{row}");
         }
     }
@@ -157,11 +200,17 @@ fn edits_are_taken_back(rt: HostRuntime) -> Result<(), Fail> {
             register: Reg::new(3).ok_or("no register")?,
             value: 7,
         };
-        for edit in [register, fill(0x2_0000_0100, 256)?, Edit::Pc { slot: 1 }] {
+        let cell = fill_cell(0, 1, 8)?;
+        for edit in [
+            register,
+            fill(0x2_0000_0100, 256)?,
+            cell,
+            Edit::Pc { slot: 1 },
+        ] {
             assert!(rt; timeline.make(&Move::Edit(edit), true).is_ok());
         }
-        assert_eq!(rt; timeline.keeper().marked(), 3);
-        for _ in 0..3 {
+        assert_eq!(rt; timeline.keeper().marked(), 4);
+        for _ in 0..4 {
             assert!(rt; timeline.back());
         }
         let after = state_text(rt.alloc(), timeline.cpu())?;

@@ -5,12 +5,11 @@ use bpf_machine::{ByteString, Cpu, EditFault, Entry, Fault, Status};
 use std::alloc::Global;
 use std::test::Fail;
 
-/// A machine with this program and the context 01 02 .. 08.
+/// A machine with this program, a map of two values of 8 bytes and the context 01 02 .. 08.
 pub fn machine(alloc: Global, program: &str) -> Result<Cpu, Fail> {
     let bytes = hex::decode(alloc, program)?;
-    let program = check(alloc, bytes.as_slice(), &MapTable::empty())
-        .ok()
-        .ok_or("refused")?;
+    let maps = MapTable::parse(b"8x2").ok().ok_or("no maps")?;
+    let program = check(alloc, bytes.as_slice(), &maps).ok().ok_or("refused")?;
     let context = [1, 2, 3, 4, 5, 6, 7, 8];
     Ok(
         Cpu::open(alloc, program, &context)
@@ -43,6 +42,8 @@ pub fn state_text(alloc: Global, cpu: &Cpu) -> Result<String, Fail> {
     text.push_str(&hex::encode(alloc, context)?)?;
     let frame = cpu.peek(0x2_0000_0000, 512).ok_or("no frame")?;
     text.push_str(&hex::encode(alloc, frame)?)?;
+    let map = cpu.peek(0x3_0000_0000, 16).ok_or("no map")?;
+    text.push_str(&hex::encode(alloc, map)?)?;
     Ok(text)
 }
 
@@ -102,5 +103,6 @@ pub fn edit_fault_text(fault: EditFault) -> &'static str {
         EditFault::AddressNotPresent => "address not present",
         EditFault::RegisterNotWritable => "register not writable",
         EditFault::NoStart => "no instruction starts there",
+        EditFault::NoCell => "no such cell or wrong length",
     }
 }
