@@ -29,6 +29,19 @@ pub fn compact_fits(entry: &CompactEntry)
         } => {
             let _len = size.len();
         }
+        CompactEntry::Fetch {
+            size,
+            register,
+            pc: _pc,
+            address: _address,
+            old: _old,
+            value: _value,
+        } => {
+            let _len = size.len();
+            let _number = register.number();
+        }
+        CompactEntry::Call { pc } => slot_fits(pc),
+        CompactEntry::Trace { pc: _pc, r0: _r0 } => {}
         CompactEntry::End => {}
     }
 }

@@ -1,13 +1,19 @@
 //! A machine with the keeper of the moves that led to its state.
-ghost use Rattle.std.specs.Prelude.{◌≡◌, ℕ, List, [], length, OnOk, IfErr};
+ghost use Rattle.std.specs.Prelude.{◌≡◌, ℕ, List, [], length, OnOk, OnErr, IfErr, false};
 ghost use Rattle.bpf_machine.specs.declared.moves.Move.TheVariants as move_of;
-ghost use Rattle.bpf_journal.specs.Histories.{Record, StandsFor, HasHistory};
+ghost use Rattle.bpf_machine.specs.Entries.{step_entry};
+ghost use Rattle.bpf_machine.specs.Next.{change as change_of};
+ghost use Rattle.bpf_machine.specs.Status.{has_ended};
+ghost use Rattle.bpf_journal.specs.Histories.{Kept, Record, StandsFor, HasHistory, keep, kept_weight};
+ghost use Rattle.bpf_journal.specs.Keepers.{refusals_after};
 ghost use Rattle.bpf_journal.specs.Timelines.{Moment, Makes, Fails, GoesBack, refusals_by};
 
 use crate::fault::{MoveFault, TimelineFault};
-use crate::fields::{compact_fits, edit_fits};
+use crate::fields::edit_fits;
 use crate::keeper::Keeper;
-use bpf_machine::{Cpu, Edit, Ended, Move};
+use bpf_machine::laws::entries_fit;
+use bpf_machine::{Change, Cpu, Edit, Ended, Move};
+use std::alloc::AllocError;
 use std::marker::Model;
 
 /// A machine and a keeper: there is a history that they stand for.
@@ -96,8 +102,7 @@ impl<K: Keeper> Timeline<K> {
             Ok(change) => change,
             Err(Ended) => return Err(TimelineFault::Move(MoveFault::Ended)),
         };
-        let entry = self.cpu.compact(&change);
-        match self.keeper.push_compact(&entry, mark) {
+        match push_step(&self.cpu, &mut self.keeper, &change, mark) {
             Ok(()) => {
                 self.cpu.finish(&change);
                 Ok(())
@@ -161,4 +166,45 @@ impl<K: Keeper> Timeline<K> {
             },
         }
     }
+}
+
+/// Keeps the entry of the step that a machine is about to take.
+fn push_step<K: Keeper>(
+    cpu: &Cpu,
+    keeper: &mut K,
+    change: &Change,
+    mark: bool,
+) -> Result<(), AllocError>
+    requires runs { has_ended cpu.now.status ≡ false }
+    requires looked { change.now ≡ change_of cpu.now }
+    ensures ok { OnOk result ((es : List Kept) → K.holds keeper.old es → K.holds keeper.new (keep kept_weight (K.room keeper.old) es (step_entry cpu.now, mark))) }
+    ensures err { OnErr result ((es : List Kept) → K.holds keeper.old es → K.holds keeper.new es) }
+    ensures refused { K.refused keeper.new ≡ refusals_after result (K.refused keeper.old) }
+    ensures room { K.room keeper.new ≡ K.room keeper.old }
+{
+    match cpu.compact(change) {
+        Some(entry) => keeper.push_compact(&entry, mark),
+        None => push_large(cpu, keeper, change, mark),
+    }
+}
+
+/// The same, where the entry has no compact form.
+#[inline(never)]
+fn push_large<K: Keeper>(
+    cpu: &Cpu,
+    keeper: &mut K,
+    change: &Change,
+    mark: bool,
+) -> Result<(), AllocError>
+    requires runs { has_ended cpu.now.status ≡ false }
+    requires looked { change.now ≡ change_of cpu.now }
+    ensures ok { OnOk result ((es : List Kept) → K.holds keeper.old es → K.holds keeper.new (keep kept_weight (K.room keeper.old) es (step_entry cpu.now, mark))) }
+    ensures err { OnErr result ((es : List Kept) → K.holds keeper.old es → K.holds keeper.new es) }
+    ensures refused { K.refused keeper.new ≡ refusals_after result (K.refused keeper.old) }
+    ensures room { K.room keeper.new ≡ K.room keeper.old }
+{
+    cpu.invariant();
+    entries_fit();
+    let entry = cpu.entry(change);
+    keeper.push(&entry, mark)
 }

@@ -5,8 +5,10 @@ pub mod ByAddress
 pub mod Facts
 pub mod Loans
 pub mod Codes
+pub mod Fitting
 pub mod EntryParts
 pub mod Undoing
 pub mod Restoring
 pub mod StepLaws
+pub mod CallLaws
 pub mod Fields

@@ -1,27 +1,44 @@
--- An entry of a move can be put back: its slot starts an instruction of the program, and its register is not r10.
-use Rattle.std.proofs.Common.{◌≡◌, sym, subst, ap, ◌∙◌}
+-- An entry of a move can be put back: its slot starts an instruction of the program, its register is not r10, and there
+-- is room for its frame.
+use Rattle.std.proofs.Common.{◌≡◌, ◌<◌, ◌-◌, length, length-take, Option, Some, None, refl, sym, subst, ap, ◌∙◌, arith}
+use Rattle.std.specs.Option.{option_map_or}
 use Rattle.bpf_machine.specs.declared.change.Change.{Change}
-use Rattle.bpf_machine.specs.declared.change.Change.TheVariants.{Set, Go, Store, Stop}
+use Rattle.bpf_machine.specs.declared.change.Change.TheVariants.{Set, Go, Store, Fetch, Call, Return, Cell, Trace, Stop}
 use Rattle.bpf_machine.specs.declared.edit.Edit.{Edit}
 use Rattle.bpf_machine.specs.declared.edit.Edit.TheVariants as edit
 use Rattle.bpf_machine.specs.declared.moves.Move.{Move}
 use Rattle.bpf_machine.specs.declared.moves.Move.TheVariants as move
 use Rattle.bpf_machine.specs.declared.entry.Entry.{Entry}
-use Rattle.bpf_machine.specs.State.{State, IsState}
+use Rattle.bpf_machine.specs.declared.entry.Entry.TheVariants as entry
+use Rattle.bpf_machine.specs.declared.frame.Frame.{Frame}
+use Rattle.bpf_machine.specs.Calls.{saved, popped, innermost}
+use Rattle.bpf_machine.specs.State.{State, IsState, depth}
 use Rattle.bpf_machine.specs.Fetched.{Fits}
-use Rattle.bpf_machine.specs.Next.{change, changed}
+use Rattle.bpf_machine.specs.Next.{change, changed, returned}
 use Rattle.bpf_machine.specs.Entries.{entry_of}
 use Rattle.bpf_machine.specs.Edits.{IsEditable, edited, edit_entry}
 use Rattle.bpf_machine.specs.Moves.{Leads, HasCome, IsMovable, moved, overwritten}
 use Rattle.bpf_machine.specs.Undoing.{undone, Restores}
-use Rattle.bpf_machine.proofs.Codes.{change_fits}
-use Rattle.bpf_machine.proofs.Undoing.{undoing}
+use Rattle.bpf_machine.proofs.Fitting.{change_fits}
+use Rattle.bpf_machine.proofs.Undoing.{undoing, innermost_there}
+
+restores_return : (x : State) (found : Option Frame) → IsState x → 0 < depth x → innermost x ≡ found → Restores (option_map_or (returned x) found x) (entry.Return x.pc (saved x))
+restores_return x None is some e = absurd (innermost_there x.frames some e)
+restores_return x (Some f) is some e =
+    let count : length (popped x) ≡ depth x - 1 = omega (arith, length-take (depth x - 1) x.frames) in
+    let shallow = is.shallow in
+    (is.start, omega (arith, some, count, shallow))
 
 restores_change : (x : State) (c : Change) → IsState x → Fits x c → Restores (changed x c) (entry_of x c)
 unfolding changed entry_of
 restores_change x (Set r value after) is fits = (fits.0, is.start)
 restores_change x (Go after) is fits = is.start
 restores_change x (Store a at size value after) is fits = is.start
+restores_change x (Fetch a at size value r after) is fits = (fits.0, is.start)
+restores_change x (Call to) is fits = is.start
+restores_change x Return is fits = restores_return x (innermost x) is fits refl
+restores_change x (Cell a from n after) is fits = is.start
+restores_change x (Trace word after) is fits = is.start
 restores_change x (Stop status) is fits = tt
 
 restores_edit : (x : State) (e : Edit) → IsState x → IsEditable x e → Restores (edited x e) (edit_entry x e)

@@ -10,6 +10,10 @@ pub mod ByAddress
 pub mod Lending
 pub mod State
 pub mod Opening
+pub mod Access
+pub mod Atomics
+pub mod Calls
+pub mod Helpers
 pub mod Next
 pub mod Fetched
 pub mod Codes
@@ -18,4 +22,5 @@ pub mod Edits
 pub mod Moves
 pub mod Undoing
 pub mod StepLaws
+pub mod CallLaws
 pub mod Fields

@@ -3,6 +3,7 @@ ghost use Rattle.std.specs.Prelude.{◌≡◌, ◌%◌, ◌^◌};
 ghost use Rattle.bpf_machine.specs.Arithmetic.{moved as moved_of};
 ghost use Rattle.bpf_machine.specs.Swaps.{swapped as swapped_of};
 
+pub mod atomic;
 pub mod bits32;
 pub mod bits64;
 

@@ -24,6 +24,33 @@ pub enum Change {
         value: u64,
         next: u16,
     },
+    /// The same, and a register gets the number that stood there.
+    Fetch {
+        address: u64,
+        index: usize,
+        size: Size,
+        value: u64,
+        register: Reg,
+        next: u16,
+    },
+    /// A frame is pushed, and the instruction at `target` is the next to run.
+    Call {
+        target: u16,
+    },
+    /// The innermost frame is popped: it says what is in r6 to r9 and which instruction is the next to run.
+    Return,
+    /// The cell at an address gets the `length` bytes, 1 to 256, from an index of memory's bytes on, and r0 gets 0.
+    Cell {
+        address: u64,
+        source: usize,
+        length: u16,
+        next: u16,
+    },
+    /// A word is appended to the trace, and r0 gets 0.
+    Trace {
+        word: u64,
+        next: u16,
+    },
     /// The machine ends: nothing but the status changes.
     Stop {
         status: Status,

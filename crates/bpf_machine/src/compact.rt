@@ -9,7 +9,8 @@ use bpf_isa::{Reg, Size};
 use byteorder::{ByteOrder, LittleEndian};
 
 /// An entry that is copied for nothing: 32 bytes at most. It means the `Entry` of the same name, and is what a step makes while
-/// nothing looks at it. `old` of a store is the number that stood there, the lowest byte first.
+/// nothing looks at it. `old` of a store or fetch is the number that stood there, the lowest byte first. The entries of returns and of
+/// cells have no such form.
 #[derive(Clone, Copy)]
 pub enum CompactEntry {
     /// A step that replaces one register.
@@ -28,6 +29,24 @@ pub enum CompactEntry {
         pc: u16,
         address: u64,
         old: u64,
+    },
+    /// A store at an address that also fetches into a register.
+    Fetch {
+        size: Size,
+        register: Reg,
+        pc: u16,
+        address: u64,
+        old: u64,
+        value: u64,
+    },
+    /// A local call.
+    Call {
+        pc: u16,
+    },
+    /// A word appended to the trace list, which also answers in r0.
+    Trace {
+        pc: u16,
+        r0: u64,
     },
     /// A step that ends the machine.
     End,
@@ -62,11 +81,27 @@ impl CompactEntry {
                 address,
                 old: low_bytes(size, old),
             },
+            CompactEntry::Fetch {
+                size,
+                register,
+                pc,
+                address,
+                old,
+                value,
+            } => Entry::Fetch {
+                pc,
+                register,
+                value,
+                address,
+                old: low_bytes(size, old),
+            },
+            CompactEntry::Call { pc } => Entry::Call { pc },
+            CompactEntry::Trace { pc, r0 } => Entry::Trace { pc, r0 },
             CompactEntry::End => Entry::End,
         }
     }
 
-    /// How many bytes it has in a journal: 5 to 24.
+    /// How many bytes it has in a journal: 5 to 33.
     #[tactic(auto, unfolding(crate::specs::Entries::expanded))]
     pub fn weight(&self) -> usize
         ensures { result ≡ weight_of (expanded_of self.now) }
@@ -84,6 +119,16 @@ impl CompactEntry {
                 address: _,
                 old: _,
             } => 16 + size.len(),
+            CompactEntry::Fetch {
+                size,
+                register: _,
+                pc: _,
+                address: _,
+                old: _,
+                value: _,
+            } => 25 + size.len(),
+            CompactEntry::Call { pc: _ } => 7,
+            CompactEntry::Trace { pc: _, r0: _ } => 15,
             CompactEntry::End => 5,
         }
     }

@@ -1,20 +1,24 @@
 //! The machine: its state, and the doing of a change.
-ghost use Rattle.std.specs.Prelude.{◌≡◌, ◌<◌, ◌^◌, All, length, false};
+ghost use Rattle.std.specs.Prelude.{◌≡◌, ◌<◌, ◌^◌, All, length, slice_set, false};
 ghost use Rattle.bpf_machine.specs.Status.{has_ended};
 
+mod atomic;
 mod edit;
+mod frames;
+mod helpers;
 mod open;
 mod reads;
 mod revert;
 mod step;
 
+use crate::byte_string::ByteString;
 use crate::change::Change;
 use crate::code::Code;
 use crate::frame::Frame;
 use crate::memory::Memory;
 use crate::status::Status;
 use arrayvec::ArrayVec;
-use bpf_isa::Program;
+use bpf_isa::{Program, Reg};
 use std::marker::Model;
 
 /// A machine with its program.
@@ -33,11 +37,11 @@ pub struct Cpu {
 }
 
 impl Model for Cpu {
-    ghost use Rattle.std.specs.Prelude.{◌≡◌, ℕ, [], take, length, slice_index};
+    ghost use Rattle.std.specs.Prelude.{◌≡◌, ◌<◌, All, take, length, slice_index};
     ghost use Rattle.bpf_isa.specs.Programs.{IsStart};
     ghost use Rattle.bpf_machine.specs.Codes.{codes_of};
-    ghost use Rattle.bpf_machine.specs.Platform.{frame_pointer};
-    ghost use Rattle.bpf_machine.specs.State.{State, IsSupportedAt};
+    ghost use Rattle.bpf_machine.specs.Platform.{frame_pointer, frame_count};
+    ghost use Rattle.bpf_machine.specs.State.{State, IsFrame};
 
     ghost Value = { State };
 
@@ -45,10 +49,10 @@ impl Model for Cpu {
 
     ghost invariant = { λ c. record {
       start : IsStart c.program c.pc;
-      supports : (p : ℕ) → IsSupportedAt c.program p;
       coded : c.code.items ≡ codes_of c.program;
       pointer : slice_index c.registers 10 ≡ frame_pointer (length c.frames.items);
-      outermost : c.frames.items ≡ [];
+      shallow : length c.frames.items < frame_count;
+      framed : All (IsFrame c.program) c.frames.items;
       mapped : c.memory.maps ≡ c.program.maps;
     } };
 }
@@ -91,7 +95,7 @@ impl Cpu {
                 value,
                 next,
             } => {
-                self.registers[usize::from(register.number())] = value;
+                self.write_register(register, value);
                 self.pc = next;
             }
             Change::Go { next } => self.pc = next,
@@ -105,8 +109,55 @@ impl Cpu {
                 self.memory.store(index, size, value);
                 self.pc = next;
             }
+            Change::Fetch {
+                address: _,
+                index,
+                size,
+                value,
+                register,
+                next,
+            } => {
+                let old = self.memory.number(index, size);
+                self.memory.store(index, size, value);
+                self.write_register(register, old);
+                self.pc = next;
+            }
+            Change::Call { target } => self.enter(target),
+            Change::Return => self.leave(),
+            Change::Cell {
+                address,
+                source,
+                length,
+                next,
+            } => self.write_cell(address, source, length, next),
+            Change::Trace { word, next } => {
+                self.trace.push(word);
+                self.registers[0] = 0;
+                self.pc = next;
+            }
             Change::Stop { status } => self.status = status,
         }
+    }
+
+    /// Puts a number into a register.
+    fn write_register(&mut self, register: Reg, value: u64)
+        requires { register < 10 }
+        ensures { self.new ≡ record self.old { registers = slice_set self.old.registers register value } }
+    {
+        self.registers[usize::from(register.number())] = value;
+    }
+
+    /// Copies bytes of memory to a cell. They are taken out before, so that it does not matter how the two runs overlap.
+    #[inline(never)]
+    #[tactic(auto, unfolding(crate::specs::Next::changed))]
+    fn write_cell(&mut self, address: u64, source: usize, length: u16, next: u16)
+        requires { Fits self.old (Change.Cell address source length next) }
+        ensures { self.new ≡ changed self.old (Change.Cell address source length next) }
+    {
+        let bytes = ByteString::of(self.memory.run(source, usize::from(length)));
+        self.memory.put(address, bytes.as_slice());
+        self.registers[0] = 0;
+        self.pc = next;
     }
 }
 

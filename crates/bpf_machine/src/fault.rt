@@ -8,8 +8,6 @@ pub enum OpenFault {
     ContextTooLong,
     /// There is not enough memory.
     OutOfMemory,
-    /// The machine doesn't know the instruction at this slot, the lowest such slot.
-    Unknown { slot: u16 },
 }
 
 impl OpenFault {
@@ -22,7 +20,6 @@ impl OpenFault {
         match self {
             OpenFault::ContextTooLong => 1,
             OpenFault::OutOfMemory => 2,
-            OpenFault::Unknown { slot: _ } => 3,
         }
     }
 
@@ -33,7 +30,6 @@ impl OpenFault {
         match self {
             OpenFault::ContextTooLong => "context too long",
             OpenFault::OutOfMemory => "out of memory",
-            OpenFault::Unknown { slot: _ } => "instruction not supported",
         }
     }
 }

@@ -1,5 +1,6 @@
 //! Laws of the definitions, each proved as the contract of a function that does nothing.
 ghost use Rattle.bpf_machine.specs.ByAddress.{RegionsAreApart, RunsAreTheirAddresses, NumbersAreSums, StoresAreLocal, AccessibleIsBelow, CellsAreAccessible, OpenedByAddress};
+ghost use Rattle.bpf_machine.specs.CallLaws.{PointerFollowsDepth, CallsGoDeeper, ReturnsGiveBack};
 ghost use Rattle.bpf_machine.specs.Fields.{EntriesFit};
 ghost use Rattle.bpf_machine.specs.StepLaws.{StepsKeepRegisters, StepsKeepBytes, StepsKeepTheRest, EndsKeepAllElse};
 
@@ -15,14 +16,22 @@ pub fn memory_by_address()
     ensures opened { OpenedByAddress }
 {}
 
-/// Steps are local: a step changes the register that its instruction names, the run that it stores to, pc and the status,
-/// and one that ends the machine the status alone.
+/// Steps are local: a step changes the register that its instruction names, the one run of its entry, pc and the status; a call and
+/// a return besides the frames with r10, a return r6 to r9, a trace the trace list; and one that ends the machine the status alone.
 #[tactic(none)]
 pub fn steps_are_local()
     ensures registers { StepsKeepRegisters }
     ensures bytes { StepsKeepBytes }
     ensures rest { StepsKeepTheRest }
     ensures ends { EndsKeepAllElse }
+{}
+
+/// Local calls: r10 follows the depth, a call goes one deeper, and the return to its frame gives r6 to r9 and the depth back.
+#[tactic(none)]
+pub fn returns_give_back()
+    ensures pointer { PointerFollowsDepth }
+    ensures calls { CallsGoDeeper }
+    ensures returns { ReturnsGiveBack }
 {}
 
 /// The parts of each entry fit their fields in a journal.

@@ -37,13 +37,13 @@ impl Memory {
     ghost use Rattle.byteorder.specs.Endian.{little_bytes};
     ghost use Rattle.bpf_isa.specs.Sizes.{size_len};
     ghost use Rattle.bpf_machine.specs.Regions.{index_of, run, run_at, number_at, with_number, put, IsImage};
-    ghost use Rattle.bpf_machine.specs.Opening.{MemoryOpened, MemoryRefused};
+    ghost use Rattle.bpf_machine.specs.Opening.{MemoryOpened, Refused};
     ghost use Rattle.bpf_machine.specs.Lending.{LendsRun, LendsRunOrNone, LendsBytes};
 
     /// Opens memory with the context's bytes, and frames and maps of zero bytes.
     pub fn open(alloc: Global, maps: &MapTable, context: &[u8]) -> Result<Memory, OpenFault>
         ensures ok { IfOk result (MemoryOpened maps.now context.now) }
-        ensures err { IfErr result (MemoryRefused context.now) }
+        ensures err { IfErr result (Refused context.now) }
     {
         if context.len() > CONTEXT_LIMIT {
             return Err(OpenFault::ContextTooLong);

@@ -119,7 +119,7 @@ impl Cpu {
     }
 
     /// The bytes of a run that is present.
-    fn bytes_at(&self, address: u64, n: usize) -> ByteString
+    pub(super) fn bytes_at(&self, address: u64, n: usize) -> ByteString
         requires some { (1 ≤ n) × (n ≤ 256) }
         requires present { IsSome (index_of self.now.memory address n) }
         ensures { Some result ≡ run_at self.now.memory address n }
@@ -138,7 +138,7 @@ impl Cpu {
     {
         match edit {
             Edit::Register { register, value } => {
-                self.registers[usize::from(register.number())] = *value;
+                self.write_register(*register, *value);
             }
             Edit::Bytes { address, bytes } => self.memory.put(*address, bytes.as_slice()),
             Edit::Cell { map, index, bytes } => {

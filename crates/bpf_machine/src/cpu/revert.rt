@@ -1,5 +1,6 @@
 //! Going back: an entry is put back into the state that its move led to.
 ghost use Rattle.std.specs.Prelude.{◌≡◌};
+ghost use Rattle.bpf_isa.specs.Programs.{IsStart};
 ghost use Rattle.bpf_machine.specs.Entries.{expanded};
 ghost use Rattle.bpf_machine.specs.Moves.{Leads, HasCome, overwritten};
 ghost use Rattle.bpf_machine.specs.State.{State};
@@ -40,7 +41,7 @@ impl Cpu {
                 register,
                 value,
             } => {
-                self.registers[usize::from(register.number())] = *value;
+                self.write_register(*register, *value);
                 self.pc = *pc;
             }
             Entry::Jump { pc } => self.pc = *pc,
@@ -48,16 +49,39 @@ impl Cpu {
                 self.memory.put(*address, old.as_slice());
                 self.pc = *pc;
             }
+            Entry::Fetch {
+                pc,
+                register,
+                value,
+                address,
+                old,
+            } => {
+                self.memory.put(*address, old.as_slice());
+                self.write_register(*register, *value);
+                self.pc = *pc;
+            }
+            Entry::Call { pc } => self.undo_call(*pc),
+            Entry::Return { pc, saved } => self.undo_return(*pc, saved),
+            Entry::Cell {
+                pc,
+                r0,
+                address,
+                old,
+            } => {
+                self.memory.put(*address, old.as_slice());
+                self.registers[0] = *r0;
+                self.pc = *pc;
+            }
+            Entry::Trace { pc, r0 } => self.undo_trace(*pc, *r0),
             Entry::End => self.status = Status::Running,
             Entry::EditRegister { register, value } => {
-                self.registers[usize::from(register.number())] = *value;
+                self.write_register(*register, *value);
             }
             Entry::EditBytes { address, old } => self.memory.put(*address, old.as_slice()),
             Entry::EditPc { pc, status } => {
                 self.pc = *pc;
                 self.status = *status;
             }
-            _ => {}
         }
     }
 
@@ -73,7 +97,7 @@ impl Cpu {
                 pc,
                 value,
             } => {
-                self.registers[usize::from(register.number())] = value;
+                self.write_register(register, value);
                 self.pc = pc;
             }
             CompactEntry::Jump { pc } => self.pc = pc,
@@ -86,7 +110,53 @@ impl Cpu {
                 self.memory.put_number(address, size, old);
                 self.pc = pc;
             }
+            CompactEntry::Fetch {
+                size,
+                register,
+                pc,
+                address,
+                old,
+                value,
+            } => {
+                self.memory.put_number(address, size, old);
+                self.write_register(register, value);
+                self.pc = pc;
+            }
+            CompactEntry::Call { pc } => self.undo_call(pc),
+            CompactEntry::Trace { pc, r0 } => self.undo_trace(pc, r0),
             CompactEntry::End => self.status = Status::Running,
         }
+    }
+
+    /// Takes a local call back: its frame goes.
+    #[tactic(auto, unfolding(crate::specs::Undoing::undone))]
+    fn undo_call(&mut self, pc: u16)
+        requires { IsStart self.old.program pc }
+        ensures { self.new ≡ undone (Entry.Call pc) self.old }
+    {
+        let _frame = self.pop();
+        self.pc = pc;
+    }
+
+    /// Takes a return back: the frame that it popped is made again of the present pc and r6 to r9.
+    #[tactic(auto, unfolding(crate::specs::Undoing::undone))]
+    fn undo_return(&mut self, pc: u16, saved: &[u64; 4])
+        requires { Restores self.old (Entry.Return pc saved.now) }
+        ensures { self.new ≡ undone (Entry.Return pc saved.now) self.old }
+    {
+        self.push(self.pc);
+        self.restore(saved);
+        self.pc = pc;
+    }
+
+    /// Takes a traced word back.
+    #[tactic(auto, unfolding(crate::specs::Undoing::undone))]
+    fn undo_trace(&mut self, pc: u16, r0: u64)
+        requires { IsStart self.old.program pc }
+        ensures { self.new ≡ undone (Entry.Trace pc r0) self.old }
+    {
+        let _word = self.trace.pop();
+        self.registers[0] = r0;
+        self.pc = pc;
     }
 }

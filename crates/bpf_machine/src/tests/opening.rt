@@ -1,6 +1,6 @@
 //! Machines at opening, and machines that aren't opened. Expected values are those of docs/MACHINE.md.
 use super::machines::{EXIT, opened, program, register, view_of};
-use super::rows::{parts, slot, three};
+use super::rows::three;
 use crate::{Cpu, Memory, OpenFault};
 use bpf_isa::MapTable;
 
@@ -76,37 +76,11 @@ fn longest_context(rt: HostRuntime) {
     assert_eq!(rt; fault.number(), 1);
 }
 
-// What the machine lacks so far, at slot 2, behind `exit` and `mov r0, 0`.
-const UNKNOWN: &str = "\
-call 1; 8500000001000000
-callf, to slot 3; 8510000000000000
-atomic add of 8 bytes; db12f8ff00000000
-atomic exchange of 4 bytes; c3120000e1000000
-";
-
-#[test]
-fn unknown_instructions(rt: HostRuntime) {
-    for row in UNKNOWN.lines() {
-        let (_, word) = parts(&rt, row);
-        let slots = [EXIT, 0xb700_0000_0000_0000, slot(&rt, word), EXIT];
-        let fault = Cpu::open(rt.alloc(), program(&rt, rt.alloc(), &slots), &[])
-            .err()
-            .expect(&rt, "opened");
-        assert!(rt; matches!(fault, OpenFault::Unknown { slot: 2 }), "{row}");
-    }
-    assert_eq!(rt; UNKNOWN.lines().count(), 4);
-}
-
 #[test]
 fn faults_of_opening(rt: HostRuntime) {
     for (fault, number, text) in [
         (OpenFault::ContextTooLong, 1, "context too long"),
         (OpenFault::OutOfMemory, 2, "out of memory"),
-        (
-            OpenFault::Unknown { slot: 7 },
-            3,
-            "instruction not supported",
-        ),
     ] {
         assert_eq!(rt; (fault.number(), fault.text()), (number, text));
     }

@@ -2,7 +2,7 @@
 use super::machines::{EXIT, entry_text, machine, opened, view_of};
 use super::programs::{FAULTS, LOADS, RESULTS, STORES};
 use super::rows::{parts, slot, slots};
-use crate::{CompactEntry, Cpu, Edit, Ended};
+use crate::{Cpu, Edit, Ended, Entry};
 use std::alloc::Global;
 use std::process::Abort;
 
@@ -25,11 +25,14 @@ b400000007000000; register at 14 r0 0xfffffffffffffffb
 9500000000000000; end
 ";
 
-/// A step by its halves, and its compact entry.
-fn step_by_halves(cpu: &mut Cpu) -> Option<CompactEntry> {
+/// A step by its halves, and its entry: the compact one, where there is one.
+fn step_by_halves(cpu: &mut Cpu) -> Option<Entry> {
     match cpu.look() {
         Ok(change) => {
-            let entry = cpu.compact(&change);
+            let entry = match cpu.compact(&change) {
+                Some(entry) => entry.expanded(),
+                None => cpu.entry(&change),
+            };
             cpu.finish(&change);
             Some(entry)
         }
@@ -55,11 +58,11 @@ fn steps_alike(rt: &impl Abort, alloc: Global, slots: &[u64]) -> u64 {
         let whole = advanced.advance();
         match stepped.step() {
             Ok(entry) => {
-                let compact = halves.expect(rt, "ended");
+                let halved = halves.expect(rt, "ended");
                 assert!(rt; whole.is_ok());
-                assert_eq!(rt; compact.weight(), entry.weight());
+                assert_eq!(rt; halved.weight(), entry.weight());
                 assert_eq!(rt;
-                    entry_text(rt, alloc, &compact.expanded()).as_str(),
+                    entry_text(rt, alloc, &halved).as_str(),
                     entry_text(rt, alloc, &entry).as_str()
                 );
             }

@@ -1,4 +1,4 @@
-use Rattle.std.proofs.Common.{◌≡◌, false, rules}
+use Rattle.std.proofs.Common.{◌≡◌, false, refl, rules}
 use Rattle.bpf_machine.specs.declared.moves.Move.TheVariants as move
 use Rattle.bpf_machine.specs.Moves.{Leads}
 use Rattle.bpf_machine.specs.Status.{has_ended}
@@ -9,10 +9,10 @@ pub invariant_of-self : goal.invariant_of-self
 invariant_of-self g c =
     let runs : has_ended c.self.inside.cpu.status ≡ false = search rules in
     let leads : Leads c.self.inside.cpu move.Step c.finish.new.self = record { before = c.invariant.ensures; movable = runs; after = c.finish.ensures } in
-    kept_history g.K.Keeper.holds _ _ _ _ _ move.Step _ _ leads c.compact-entry.ensures c.in-Ok-push_compact.ensures.ok c.self.invariant
+    kept_history g.K.Keeper.holds _ _ _ _ _ move.Step _ _ leads refl c.in-Ok-push_step.ensures.ok c.self.invariant
 
-pub returns-in-Ok-push_compact-clause-ok : goal.returns-in-Ok-push_compact-clause-ok
-returns-in-Ok-push_compact-clause-ok g c =
+pub returns-in-Ok-push_step-clause-ok : goal.returns-in-Ok-push_step-clause-ok
+returns-in-Ok-push_step-clause-ok g c =
     let runs : has_ended c.self.inside.cpu.status ≡ false = search rules in
     let leads : Leads c.self.inside.cpu move.Step c.finish.new.self = record { before = c.invariant.ensures; movable = runs; after = c.finish.ensures } in
-    rw (← c.self.view_is) (makes g.K.Keeper.holds _ _ _ _ _ move.Step _ _ leads c.compact-entry.ensures c.in-Ok-push_compact.ensures.ok)
+    rw (← c.self.view_is) (makes g.K.Keeper.holds _ _ _ _ _ move.Step _ _ leads refl c.in-Ok-push_step.ensures.ok)

@@ -1,6 +1,6 @@
 use Rattle.std.proofs.Common.{subst, sym}
 use Rattle.bpf_machine.specs.Fetched.{Fits}
-use Rattle.bpf_machine.proofs.Codes.{change_fits}
+use Rattle.bpf_machine.proofs.Fitting.{change_fits}
 use Rattle.bpf_machine.proofs.cpu.Cpu.finish.Goals as goal
 
 pub apply-requires : goal.apply-requires

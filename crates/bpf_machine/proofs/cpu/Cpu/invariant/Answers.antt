@@ -7,11 +7,11 @@ use Rattle.bpf_machine.proofs.cpu.Cpu.invariant.Goals as goal
 pub returns : goal.returns
 returns c = rw (← c.self.view_is) (record {
   checked = c.invariant.ensures;
-  supported = c.self.invariant.supports;
   start = c.self.invariant.start;
   ten = let count = c.are_registers.ensures.count in omega (arith, length-take 10 c.self.inside.registers, count);
   numbers = All-take (λ (number : ℕ). number < 2 ^ 64) 10 c.self.inside.registers c.are_registers.ensures.range;
-  outermost = c.self.invariant.outermost;
+  shallow = c.self.invariant.shallow;
+  framed = c.self.invariant.framed;
   image = c.invariant-2.ensures.image;
   mapped = c.self.invariant.mapped;
   bytes = c.invariant-2.ensures.bytes;

@@ -1,0 +1,10 @@
+use Rattle.std.proofs.Common.{refl, sym, subst}
+use Rattle.bpf_machine.specs.declared.moves.Move.TheVariants as move
+use Rattle.bpf_machine.specs.Fields.{FitsFields}
+use Rattle.bpf_machine.specs.Next.{next}
+use Rattle.bpf_journal.proofs.timeline.push_large.Goals as goal
+
+pub push-requires : goal.push-requires
+push-requires g c =
+    subst FitsFields (sym c.entry.ensures)
+    (c.entries_fit.ensures c.args.cpu.now (next c.args.cpu.now) move.Step (record { before = c.invariant.ensures; movable = c.requires.runs; after = refl }) tt)

@@ -1,0 +1,94 @@
+//! Frames of local calls: pushed by a call, popped by a return, and both taken back.
+ghost use Rattle.std.specs.Prelude.{◌≡◌, ◌<◌, ◌+◌, IfSome};
+ghost use Rattle.bpf_isa.specs.Programs.{IsStart};
+ghost use Rattle.bpf_machine.specs.Calls.{saved, with_saved, frame_of, pushed, popped, innermost};
+ghost use Rattle.bpf_machine.specs.Fetched.{Fits};
+ghost use Rattle.bpf_machine.specs.Next.{changed};
+ghost use Rattle.bpf_machine.specs.Platform.{frame_count};
+ghost use Rattle.bpf_machine.specs.State.{IsFrame, depth};
+
+use super::Cpu;
+use crate::change::Change;
+use crate::frame::Frame;
+use crate::platform::frame_pointer;
+
+impl Cpu {
+    /// Does a local call: pushes a frame and goes to the function at a slot.
+    #[tactic(auto, unfolding(crate::specs::Next::changed))]
+    pub(super) fn enter(&mut self, target: u16)
+        requires { Fits self.old (Change.Call target) }
+        ensures { self.new ≡ changed self.old (Change.Call target) }
+    {
+        self.program.invariant();
+        self.push(self.pc + 1);
+        self.pc = target;
+    }
+
+    /// Does a return: pops the innermost frame and does what it says.
+    #[tactic(auto, unfolding(crate::specs::Next::changed))]
+    pub(super) fn leave(&mut self)
+        ensures { self.new ≡ changed self.old Change.Return }
+    {
+        if let Some(frame) = self.pop() {
+            self.restore(&frame.saved);
+            self.pc = frame.return_pc;
+        }
+    }
+
+    /// r6 to r9.
+    pub(super) fn saved(&self) -> [u64; 4]
+        ensures { result ≡ saved self.now }
+    {
+        [
+            self.registers[6],
+            self.registers[7],
+            self.registers[8],
+            self.registers[9],
+        ]
+    }
+
+    /// Puts other numbers into r6 to r9.
+    pub(super) fn restore(&mut self, numbers: &[u64; 4])
+        ensures { self.new ≡ record self.old { registers = with_saved self.old.registers numbers.now } }
+    {
+        self.registers[6] = numbers[0];
+        self.registers[7] = numbers[1];
+        self.registers[8] = numbers[2];
+        self.registers[9] = numbers[3];
+    }
+
+    /// Pushes a frame that returns to a slot and keeps r6 to r9.
+    pub(super) fn push(&mut self, return_pc: u16)
+        requires start { IsStart self.old.program return_pc }
+        requires room { depth self.old + 1 < frame_count }
+        ensures { self.new ≡ record self.old { frames = pushed self.old return_pc } }
+    {
+        let frame = self.call_frame(return_pc);
+        self.frames.push(frame);
+        self.registers[10] = frame_pointer(self.frames.len());
+    }
+
+    /// The frame that returns to a slot and keeps r6 to r9.
+    fn call_frame(&self, return_pc: u16) -> Frame
+        requires { IsStart self.now.program return_pc }
+        ensures value { result ≡ frame_of self.now return_pc }
+        ensures frame { IsFrame self.now.program result }
+    {
+        self.invariant();
+        Frame {
+            return_pc,
+            saved: self.saved(),
+        }
+    }
+
+    /// Pops the innermost frame, None where there is none.
+    pub(super) fn pop(&mut self) -> Option<Frame>
+        ensures value { result ≡ innermost self.old }
+        ensures frame { IfSome result (IsFrame self.old.program) }
+        ensures next { self.new ≡ record self.old { frames = popped self.old } }
+    {
+        let frame = self.frames.pop();
+        self.registers[10] = frame_pointer(self.frames.len());
+        frame
+    }
+}
