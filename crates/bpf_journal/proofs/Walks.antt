@@ -1,7 +1,7 @@
 -- A walk back over what a keeper holds stays at places of fronts.
-use Rattle.std.proofs.Common.{◌≡◌, ℕ, Bool, List, [], ◌∷◌, ◌++◌, Option, Some, map, sym, ap, subst, append_assoc}
+use Rattle.std.proofs.Common.{◌≡◌, ℕ, Bool, List, [], ◌∷◌, ◌++◌, Some, sym, ap, subst, append_assoc}
 use Rattle.bpf_machine.specs.declared.entry.Entry.{Entry}
-use Rattle.bpf_journal.specs.Histories.{Kept, kept_of, Record}
+use Rattle.bpf_journal.specs.Histories.{Kept}
 use Rattle.bpf_journal.specs.Keepers.{IsPlace, walked}
 
 module _ {K : Type 0} (holds : K → List Kept → Type 0) (place : K → List Kept → ℕ) where

@@ -41,7 +41,10 @@ pub fn compact_fits(entry: &CompactEntry)
             let _number = register.number();
         }
         CompactEntry::Call { pc } => slot_fits(pc),
-        CompactEntry::Trace { pc: _pc, r0: _r0 } => {}
+        CompactEntry::Trace { pc, r0 } => {
+            slot_fits(pc);
+            number_fits(r0);
+        }
         CompactEntry::End => {}
     }
 }
@@ -73,6 +76,13 @@ fn slot_fits(pc: u16)
     ensures { pc < 2 ^ 16 }
 {
     let _pc = pc;
+}
+
+/// Brings the range of a number into a proof.
+fn number_fits(number: u64)
+    ensures { number < 2 ^ 64 }
+{
+    let _number = number;
 }
 
 /// Brings the number and the range of bytes into a proof.

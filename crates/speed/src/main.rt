@@ -159,7 +159,7 @@ fn run_recorded(cpu: &mut Cpu, kept: &mut [CompactEntry], steps: u64) -> u64 {
             Ok(change) => {
                 let slot = (step % 65_536) as usize;
                 if slot < kept.len() {
-                    kept[slot] = cpu.compact(&change);
+                    kept[slot] = cpu.compact(&change).unwrap_or(CompactEntry::End);
                 }
                 cpu.finish(&change);
             }

@@ -6,5 +6,5 @@ use Rattle.bpf_journal.proofs.timeline.push_large.Goals as goal
 
 pub push-requires : goal.push-requires
 push-requires g c =
-    subst FitsFields (sym c.entry.ensures)
+    subst FitsFields (sym c.entry-entry.ensures)
     (c.entries_fit.ensures c.args.cpu.now (next c.args.cpu.now) move.Step (record { before = c.invariant.ensures; movable = c.requires.runs; after = refl }) tt)
