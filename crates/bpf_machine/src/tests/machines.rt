@@ -1,5 +1,5 @@
 //! Machines that the tests run, and what is seen of one.
-use crate::{Cpu, Entry, Fault, Status};
+use crate::{Cpu, Edit, Entry, Fault, Status};
 use bpf_isa::{MapTable, Program, Reg, check};
 use std::alloc::Global;
 use std::process::Abort;
@@ -25,9 +25,14 @@ pub fn opened(rt: &impl Abort, alloc: Global, slots: &[u64], context: &[u8]) -> 
 
 /// A machine with the program of these slots, the maps of a text and the context f1 f2 .. f8.
 pub fn with_maps(rt: &impl Abort, alloc: Global, slots: &[u64], maps: &str) -> Cpu {
-    let program = program_with(rt, alloc, slots, &map_table(rt, maps));
     let context = [0xf1, 0xf2, 0xf3, 0xf4, 0xf5, 0xf6, 0xf7, 0xf8];
-    Cpu::open(alloc, program, &context)
+    with_all(rt, alloc, slots, &context, maps)
+}
+
+/// The same with another context.
+pub fn with_all(rt: &impl Abort, alloc: Global, slots: &[u64], context: &[u8], maps: &str) -> Cpu {
+    let program = program_with(rt, alloc, slots, &map_table(rt, maps));
+    Cpu::open(alloc, program, context)
         .ok()
         .expect(rt, "not opened")
 }
@@ -66,6 +71,13 @@ pub fn run(cpu: &mut Cpu) {
 /// A register by its number.
 pub fn register(rt: &impl Abort, cpu: &Cpu, number: u8) -> u64 {
     cpu.reg(Reg::new(number).expect(rt, "no register"))
+}
+
+/// Puts a number into a register.
+pub fn set(rt: &impl Abort, cpu: &mut Cpu, number: u8, value: u64) {
+    let register = Reg::new(number).expect(rt, "no register");
+    let edit = Edit::Register { register, value };
+    assert!(rt; cpu.edit(&edit).is_ok());
 }
 
 /// All that can be read of a machine whose context has 8 bytes.
@@ -130,7 +142,7 @@ pub fn status_text(rt: &impl Abort, alloc: Global, status: Status) -> String {
     }
 }
 
-/// The fields of an entry that a machine makes so far.
+/// The fields of an entry.
 pub fn entry_text(rt: &impl Abort, alloc: Global, entry: &Entry) -> String {
     let text = match entry {
         Entry::Register {
@@ -170,9 +182,43 @@ pub fn entry_text(rt: &impl Abort, alloc: Global, entry: &Entry) -> String {
                 .ok()
                 .expect(rt, "no memory")
         }
-        _ => format!(in alloc; "another").ok().expect(rt, "no memory"),
+        _ => called_text(rt, alloc, entry),
     };
     text
+}
+
+/// The fields of the other entries.
+fn called_text(rt: &impl Abort, alloc: Global, entry: &Entry) -> String {
+    let text = match entry {
+        Entry::Fetch {
+            pc,
+            register,
+            value,
+            address,
+            old,
+        } => format!(in alloc;
+            "fetch at {pc} r{} {value:#x} {address:#x} {}",
+            register.number(),
+            hexadecimal(rt, alloc, old.as_slice())
+        ),
+        Entry::Call { pc } => format!(in alloc; "call at {pc}"),
+        Entry::Return { pc, saved } => format!(in alloc;
+            "return at {pc} {:#x} {:#x} {:#x} {:#x}",
+            saved[0], saved[1], saved[2], saved[3]
+        ),
+        Entry::Cell {
+            pc,
+            r0,
+            address,
+            old,
+        } => format!(in alloc;
+            "cell at {pc} {r0:#x} {address:#x} {}",
+            hexadecimal(rt, alloc, old.as_slice())
+        ),
+        Entry::Trace { pc, r0 } => format!(in alloc; "trace at {pc} {r0:#x}"),
+        _ => format!(in alloc; "another"),
+    };
+    text.ok().expect(rt, "no memory")
 }
 
 /// Bytes, each in two hexadecimal digits.
