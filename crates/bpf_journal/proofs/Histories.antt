@@ -1,5 +1,6 @@
 -- What moves, refusals and going back make of the histories that a keeper stands for.
-use Rattle.std.proofs.Common.{◌≡◌, ℕ, List, [], ◌∷◌, Bool, Some, map, sym, ap, subst}
+use Rattle.std.specs.Prelude.{◌+◌, fold, cond, count_by, sum_by}
+use Rattle.std.proofs.Common.{◌≡◌, ℕ, List, [], ◌∷◌, Bool, true, false, Some, map, refl, sym, ap, subst, ◌∙◌}
 use Rattle.bpf_machine.specs.declared.edit.Edit.{Edit}
 use Rattle.bpf_machine.specs.declared.edit.Edit.TheVariants as edit
 use Rattle.bpf_machine.specs.declared.entry.Entry.{Entry}
@@ -7,9 +8,17 @@ use Rattle.bpf_machine.specs.declared.moves.Move.{Move}
 use Rattle.bpf_machine.specs.Edits.{edit_entry}
 use Rattle.bpf_machine.specs.Moves.{Leads, HasCome, overwritten}
 use Rattle.bpf_machine.specs.State.{State}
-use Rattle.bpf_journal.specs.EditEntries.{IsOfEdit}
-use Rattle.bpf_journal.specs.Histories.{Record, IsRun, Kept, kept_of, kept_weight, record_weight, keep, newest, older, StandsFor, HasHistory}
-use Rattle.bpf_journal.specs.Timelines.{Makes, Stays, record_of}
+use Rattle.bpf_machine.specs.declared.change.Change.{Change}
+use Rattle.bpf_machine.specs.declared.change.Change.TheVariants.{Set, Go, Store, Stop}
+use Rattle.bpf_machine.specs.declared.moves.Move.TheVariants as move
+use Rattle.bpf_machine.specs.declared.compact.CompactEntry.{CompactEntry}
+use Rattle.bpf_machine.specs.declared.compact.CompactEntry.TheVariants as compact
+use Rattle.bpf_machine.specs.Entries.{entry_of, expanded}
+use Rattle.bpf_machine.specs.Next.{change}
+use Rattle.bpf_journal.specs.EditEntries.{IsOfEdit, is_of_step}
+use Rattle.bpf_journal.specs.Histories.{Record, IsRun, Kept, kept_of, kept_weight, record_weight, keep, newest, older, is_step, StandsFor, HasHistory}
+use Rattle.bpf_journal.specs.Timelines.{Moment, Makes, Stays, GoesBack, record_of, taken_of}
+use Rattle.bpf_journal.specs.declared.timeline.Taken.{Taken}
 use Rattle.bpf_journal.proofs.Fitting.{map-fit, run-fit}
 
 -- the entry of an edit is one
@@ -22,6 +31,34 @@ of_edit x (edit.Pc slot) = tt
 
 pub is_of_edit : (x : State) (e : Edit) (entry : Entry) → entry ≡ edit_entry x e → IsOfEdit entry
 is_of_edit x e entry is = subst IsOfEdit (sym is) (of_edit x e)
+
+-- the entry of a step is a step's, and that of an edit is none
+of_change : (x : State) (c : Change) → is_of_step (entry_of x c) ≡ true
+unfolding entry_of
+of_change x (Set r value next) = refl
+of_change x (Go next) = refl
+of_change x (Store a at size value next) = refl
+of_change x (Stop status) = refl
+
+not_of_edit : (x : State) (e : Edit) → is_of_step (edit_entry x e) ≡ false
+unfolding edit_entry
+not_of_edit x (edit.Register r value) = refl
+not_of_edit x (edit.Bytes a bytes) = refl
+not_of_edit x (edit.Pc slot) = refl
+
+pub of_move : (x : State) (m : Move) → is_of_step (overwritten x m) ≡ is_step m
+of_move x move.Step = of_change x (change x)
+of_move x (move.Edit e) = not_of_edit x e
+
+pub of_compact : (entry : CompactEntry) → is_of_step (expanded entry) ≡ true
+unfolding expanded
+of_compact (compact.Register register pc value) = refl
+of_compact (compact.Jump pc) = refl
+of_compact (compact.Store size pc address old) = refl
+of_compact compact.End = refl
+
+abbrev the_taken : Bool → Bool → Taken
+the_taken stepped mark = record { is_step = stepped; mark = mark }
 
 -- the newest entry is that of the move that led here
 pub newest_came : (h : List Record) (y : State) (k : Kept) → newest (map kept_of h) ≡ Some k → IsRun h y → HasCome y k.0
@@ -62,3 +99,33 @@ module _ {K : Type 0} (holds : K → List Kept → Type 0) where
       let is : kept_of r ≡ k = cc in
       let same : z ≡ r.before = back r.before r.move run.0 (ap (λ e. e.0) is) in
       record { history = h; stands = (held, subst (IsRun h) (sym same) run.1) }
+
+  -- the newest record is told, and the state before it comes back
+  pub goes_back : (h : List Record) (old : Moment K) (keeper : K) (y z : State) (k : Kept) (taken : Taken) → newest (map kept_of h) ≡ Some k → taken.is_step ≡ is_of_step k.0 → taken.mark ≡ k.1 → IsRun h y → holds keeper (older (map kept_of h)) → ((x : State) (m : Move) → Leads x m y → overwritten x m ≡ k.0 → z ≡ x) → GoesBack holds (Some taken) h old (record { state = z; keeper = keeper })
+  goes_back [] old keeper y z k taken q stepped marked run held back = absurd cc
+  goes_back (r ∷ h) old keeper y z k taken q stepped marked run held back =
+      let is : kept_of r ≡ k = cc in
+      let same : z ≡ r.before = back r.before r.move run.0 (ap (λ e. e.0) is) in
+      let kind : taken.is_step ≡ is_step r.move = stepped ∙ sym (ap (λ (e : Kept). is_of_step e.0) is) ∙ of_move r.before r.move in
+      let mark : taken.mark ≡ r.mark = marked ∙ sym (ap (λ (e : Kept). e.1) is) in
+      let told : taken ≡ taken_of r = ap (λ (b : Bool). the_taken b taken.mark) kind ∙ ap (λ (b : Bool). the_taken (is_step r.move) b) mark in
+      (ap Some told, same, (held, subst (IsRun h) (sym same) run.1))
+
+-- sums over what is kept are sums over the records
+fold_kept : (f : Kept → ℕ) (n : ℕ) (h : List Record) → fold (λ a k. a + f k) n (map kept_of h) ≡ fold (λ a r. a + f (kept_of r)) n h
+fold_kept f n [] = refl
+fold_kept f n (r ∷ h) = fold_kept f (n + f (kept_of r)) h
+
+-- the marks that are kept, and the weights
+pub marks_kept : (h : List Record) → count_by (λ (k : Kept). k.1) (map kept_of h) ≡ count_by (λ (r : Record). r.mark) h
+marks_kept h = fold_kept (λ k. cond k.1 1 0) 0 h
+
+pub weights_kept : (h : List Record) → sum_by kept_weight (map kept_of h) ≡ sum_by record_weight h
+weights_kept h = fold_kept kept_weight 0 h
+
+fold_steps : (n : ℕ) (h : List Record) → fold (λ a k. a + cond (is_of_step k.0) 1 0) n (map kept_of h) ≡ fold (λ a r. a + cond (is_step r.move) 1 0) n h
+fold_steps n [] = refl
+fold_steps n (r ∷ h) = ap (λ (b : Bool). fold (λ a k. a + cond (is_of_step k.0) 1 0) (n + cond b 1 0) (map kept_of h)) (of_move r.before r.move) ∙ fold_steps (n + cond (is_step r.move) 1 0) h
+
+pub steps_kept : (h : List Record) → count_by (λ (k : Kept). is_of_step k.0) (map kept_of h) ≡ count_by (λ (r : Record). is_step r.move) h
+steps_kept h = fold_steps 0 h

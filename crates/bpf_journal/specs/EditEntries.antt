@@ -1,6 +1,8 @@
--- Scaffolding: the entries of edits.
+-- Scaffolding: the entries of edits and of steps, and keepers that hold some.
+use Rattle.std.specs.Prelude.{Bool, true, false, List}
 use Rattle.bpf_machine.specs.declared.entry.Entry.{Entry}
 use Rattle.bpf_machine.specs.declared.entry.Entry.TheVariants as entry
+use Rattle.bpf_journal.specs.Histories.{Kept}
 
 -- The entry of an edit.
 abbrev pub IsOfEdit : Entry → Type 0
@@ -8,3 +10,15 @@ IsOfEdit (entry.EditRegister register value) = Unit {0}
 IsOfEdit (entry.EditBytes address old) = Unit {0}
 IsOfEdit (entry.EditPc pc status) = Unit {0}
 IsOfEdit _ = ⊥
+
+-- Whether an entry is a step's.
+abbrev pub is_of_step : Entry → Bool
+is_of_step (entry.EditRegister register value) = false
+is_of_step (entry.EditBytes address old) = false
+is_of_step (entry.EditPc pc status) = false
+is_of_step _ = true
+
+-- A keeper holds some list.
+pub record HoldsSome {K : Type 0} (holds : K → List Kept → Type 0) (keeper : K) : Type 0 where
+  pub es : List Kept
+  pub held : holds keeper es

@@ -1,8 +1,9 @@
 -- A history keeps whole states: what a debugger would hold that never takes anything back, but looks it up. The newest comes first
 -- in every list here.
-use Rattle.std.specs.Prelude.{ℕ, ◌-◌, nat_le, Bool, if◌then◌else◌, List, [], ◌∷◌, Option, Some, None, map}
+use Rattle.std.specs.Prelude.{ℕ, ◌-◌, nat_le, Bool, true, false, if◌then◌else◌, List, [], ◌∷◌, Option, Some, None, map}
 use Rattle.bpf_machine.specs.declared.entry.Entry.{Entry}
 use Rattle.bpf_machine.specs.declared.moves.Move.{Move}
+use Rattle.bpf_machine.specs.declared.moves.Move.TheVariants as move
 use Rattle.bpf_machine.specs.Entries.{weight}
 use Rattle.bpf_machine.specs.Moves.{Leads, overwritten}
 use Rattle.bpf_machine.specs.State.{State}
@@ -12,6 +13,11 @@ pub record Record : Type 0 where
   pub before : State
   pub move : Move
   pub mark : Bool
+
+-- Whether a move is a step.
+abbrev pub is_step : Move → Bool
+is_step move.Step = true
+is_step (move.Edit e) = false
 
 -- Each record's move leads to the state before the next newer one, and the newest to y.
 abbrev pub IsRun : List Record → State → Type 0

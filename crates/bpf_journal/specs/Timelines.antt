@@ -1,12 +1,13 @@
 -- A state with the keeper of the moves that led to it: what a move leaves of both, and what going back leaves.
-use Rattle.std.specs.Prelude.{◌≡◌, ℕ, Bool, true, false, List, [], ◌∷◌, Result, Err}
+use Rattle.std.specs.Prelude.{◌≡◌, ℕ, Bool, List, [], ◌∷◌, Option, Some, None, Result, Err}
 use Rattle.bpf_machine.specs.declared.moves.Move.{Move}
 use Rattle.bpf_machine.specs.Moves.{IsMovable, Leads}
 use Rattle.bpf_machine.specs.State.{State}
 use Rattle.bpf_journal.specs.declared.fault.TimelineFault.{TimelineFault}
 use Rattle.bpf_journal.specs.declared.fault.TimelineFault.TheVariants as fault
 use Rattle.bpf_journal.specs.Counts.{once_more}
-use Rattle.bpf_journal.specs.Histories.{Kept, Record, record_weight, keep, StandsFor}
+use Rattle.bpf_journal.specs.declared.timeline.Taken.{Taken}
+use Rattle.bpf_journal.specs.Histories.{Kept, Record, is_step, record_weight, keep, StandsFor}
 use Rattle.bpf_journal.specs.Reverting.{RefusesMove}
 
 -- A state and the keeper.
@@ -17,6 +18,10 @@ pub record Moment (K : Type 0) : Type 0 where
 -- The record of a move.
 abbrev pub record_of : State → Move → Bool → Record
 record_of x m mark = record { before = x; move = m; mark = mark }
+
+-- What is told of a record whose move was taken back.
+abbrev pub taken_of : Record → Taken
+taken_of r = record { is_step = is_step r.move; mark = r.mark }
 
 module _ {K : Type 0} (holds : K → List Kept → Type 0) where
   -- A moment stands for a history.
@@ -39,9 +44,9 @@ module _ {K : Type 0} (holds : K → List Kept → Type 0) where
   Fails m old new fault.OutOfMemory = IsMovable old.state m × Stays old new
 
   -- The newest record is looked up: its state comes back, and the history in front of it is left. Without a record nothing changes.
-  abbrev pub GoesBack : Bool → List Record → Moment K → Moment K → Type 0
-  GoesBack went [] old new = (went ≡ false) × (new.state ≡ old.state) × StandsAt new []
-  GoesBack went (r ∷ h) old new = (went ≡ true) × (new.state ≡ r.before) × StandsAt new h
+  abbrev pub GoesBack : Option Taken → List Record → Moment K → Moment K → Type 0
+  GoesBack taken [] old new = (taken ≡ None) × (new.state ≡ old.state) × StandsAt new []
+  GoesBack taken (r ∷ h) old new = (taken ≡ Some (taken_of r)) × (new.state ≡ r.before) × StandsAt new h
 
 -- What a move that was tried does to the number of refusals: one more where the keeper refused it.
 abbrev pub refusals_by : {A : Type 0} → Result A TimelineFault → ℕ → ℕ

@@ -1,9 +1,9 @@
-//! Which entries fit their fields: those whose parts are in their types' ranges, and whose byte strings are short enough.
-ghost use Rattle.std.specs.Prelude.{◌<◌, ◌≤◌, ◌^◌, All};
+//! What entries are: which are those of steps, and which fit their fields, those whose parts are in their types' ranges, and whose byte strings are short enough.
+ghost use Rattle.std.specs.Prelude.{◌≡◌, if◌then◌else◌, ◌<◌, ◌≤◌, ◌^◌, All};
 ghost use Rattle.bpf_machine.specs.Entries.{expanded};
 ghost use Rattle.bpf_machine.specs.Fields.{FitsBytes, FitsFields};
 ghost use Rattle.bpf_machine.specs.Status.{FitsStatus};
-ghost use Rattle.bpf_journal.specs.EditEntries.{IsOfEdit};
+ghost use Rattle.bpf_journal.specs.EditEntries.{IsOfEdit, is_of_step as is_of_step_of};
 
 use bpf_machine::{ByteString, CompactEntry, Entry, Fault, Status};
 
@@ -69,6 +69,28 @@ pub fn edit_fits(entry: &Entry)
         }
         _ => {}
     }
+}
+
+/// Whether an entry is a step's, and not an edit's.
+pub fn is_of_step(entry: &Entry) -> bool
+    ensures { result ≡ is_of_step_of entry.now }
+{
+    match entry {
+        Entry::EditRegister {
+            register: _,
+            value: _,
+        }
+        | Entry::EditBytes { address: _, old: _ }
+        | Entry::EditPc { pc: _, status: _ } => false,
+        _ => true,
+    }
+}
+
+/// How many steps an entry is of: one or none.
+pub fn step_count(entry: &Entry) -> u64
+    ensures { result ≡ (if is_of_step_of entry.now then 1 else 0) }
+{
+    if is_of_step(entry) { 1 } else { 0 }
 }
 
 /// Brings the range of a slot into a proof.

@@ -18,4 +18,4 @@ pub use fault::{JournalFault, MoveFault, TimelineFault};
 pub use keeper::Keeper;
 pub use list_keeper::ListKeeper;
 pub use reversible::Reversible;
-pub use timeline::Timeline;
+pub use timeline::{Taken, Timeline};

@@ -1,20 +1,30 @@
 //! A machine with the keeper of the moves that led to its state.
-ghost use Rattle.std.specs.Prelude.{◌≡◌, ℕ, List, [], length, OnOk, OnErr, IfErr, false};
+ghost use Rattle.std.specs.Prelude.{◌≡◌, ℕ, List, [], length, min, count_by, sum_by, OnOk, OnErr, IfErr, false};
 ghost use Rattle.bpf_machine.specs.declared.moves.Move.TheVariants as move_of;
 ghost use Rattle.bpf_machine.specs.Entries.{step_entry};
 ghost use Rattle.bpf_machine.specs.Next.{change as change_of};
 ghost use Rattle.bpf_machine.specs.Status.{has_ended};
-ghost use Rattle.bpf_journal.specs.Histories.{Kept, Record, StandsFor, HasHistory, keep, kept_weight};
+ghost use Rattle.bpf_journal.specs.EditEntries.{HoldsSome, is_of_step as is_of_step_entry};
+ghost use Rattle.bpf_journal.specs.Histories.{Kept, Record, StandsFor, HasHistory, is_step, keep, kept_weight, record_weight};
 ghost use Rattle.bpf_journal.specs.Keepers.{refusals_after};
 ghost use Rattle.bpf_journal.specs.Timelines.{Moment, Makes, Fails, GoesBack, refusals_by};
 
 use crate::fault::{MoveFault, TimelineFault};
-use crate::fields::edit_fits;
+use crate::fields::{edit_fits, is_of_step, step_count};
 use crate::keeper::Keeper;
 use bpf_machine::laws::entries_fit;
 use bpf_machine::{Change, Cpu, Edit, Ended, Move};
 use std::alloc::AllocError;
 use std::marker::Model;
+
+/// A move that was taken back.
+#[derive(Clone, Copy)]
+pub struct Taken {
+    /// Whether it was a step, and no edit.
+    pub is_step: bool,
+    /// Whether it was the first move of a command.
+    pub mark: bool,
+}
 
 /// A machine and a keeper: there is a history that they stand for.
 #[derive(Drop)]
@@ -90,6 +100,27 @@ impl<K: Keeper> Timeline<K> {
         self.keeper.len()
     }
 
+    /// How many of them are marked.
+    pub fn marked(&self) -> usize
+        ensures { (h : List Record) → StandsFor K.holds self.now.keeper self.now.state h → result ≡ count_by (λ r. r.mark) h }
+    {
+        self.keeper.marked()
+    }
+
+    /// The sum of their weights in bytes, at most the journal's size.
+    pub fn weight(&self) -> usize
+        ensures { (h : List Record) → StandsFor K.holds self.now.keeper self.now.state h → result ≡ sum_by record_weight h }
+    {
+        self.keeper.weight()
+    }
+
+    /// How many of them are steps, counted up to `most`. Looks at the newest entries, as many as it needs.
+    pub fn steps_up_to(&self, most: u64) -> u64
+        ensures { (h : List Record) → StandsFor K.holds self.now.keeper self.now.state h → result ≡ min most (count_by (λ r. is_step r.move) h) }
+    {
+        steps_in(&self.keeper, most)
+    }
+
     /// Takes a step and keeps it. Nothing changes where the machine has ended, or where the keeper refuses.
     pub fn step(&mut self, mark: bool) -> Result<(), TimelineFault>
         ensures ok { OnOk result (Makes K.holds (K.room self.old.keeper) move_of.Step mark self.old self.new) }
@@ -111,8 +142,8 @@ impl<K: Keeper> Timeline<K> {
         }
     }
 
-    /// Makes an edit and keeps it. Where the keeper refuses, it is taken back.
-    fn edit(&mut self, edit: &Edit, mark: bool) -> Result<(), TimelineFault>
+    /// Makes an edit and keeps it. Nothing changes where the edit is refused; where the keeper refuses, it is taken back.
+    pub fn edit(&mut self, edit: &Edit, mark: bool) -> Result<(), TimelineFault>
         ensures ok { OnOk result (Makes K.holds (K.room self.old.keeper) (move_of.Edit edit.now) mark self.old self.new) }
         ensures err { IfErr result (Fails K.holds (move_of.Edit edit.now) self.old self.new) }
         ensures refused { K.refused self.new.keeper ≡ refusals_by result (K.refused self.old.keeper) }
@@ -146,23 +177,29 @@ impl<K: Keeper> Timeline<K> {
         }
     }
 
-    /// Goes back by one move, to the state before it. Answers whether there was one.
-    pub fn back(&mut self) -> bool
+    /// Goes back by one move, to the state before it. Answers what move it was, None where none is kept.
+    pub fn back(&mut self) -> Option<Taken>
         ensures back { (h : List Record) → StandsFor K.holds self.old.keeper self.old.state h → GoesBack K.holds result h self.old self.new }
         ensures refused { K.refused self.new.keeper ≡ K.refused self.old.keeper }
         ensures room { K.room self.new.keeper ≡ K.room self.old.keeper }
     {
         match self.keeper.pop_compact() {
-            Some((entry, _)) => {
+            Some((entry, mark)) => {
                 self.cpu.revert_compact(&entry);
-                true
+                Some(Taken {
+                    is_step: true,
+                    mark,
+                })
             }
             None => match self.keeper.pop() {
-                Some((entry, _)) => {
+                Some((entry, mark)) => {
                     self.cpu.revert(&entry);
-                    true
+                    Some(Taken {
+                        is_step: is_of_step(&entry),
+                        mark,
+                    })
                 }
-                None => false,
+                None => None,
             },
         }
     }
@@ -207,4 +244,24 @@ fn push_large<K: Keeper>(
     entries_fit();
     let entry = cpu.entry(change);
     keeper.push(&entry, mark)
+}
+
+/// How many entries that a keeper holds are of steps, counted up to `most`, the newest first.
+fn steps_in<K: Keeper>(keeper: &K, most: u64) -> u64
+    requires { HoldsSome K.holds keeper.now }
+    ensures { (es : List Kept) → K.holds keeper.now es → result ≡ min most (count_by (λ k. is_of_step_entry k.0) es) }
+{
+    let mut at = keeper.end();
+    let mut steps = 0;
+    for _ in 0..keeper.len() {
+        if steps == most {
+            return most;
+        }
+        let Some((entry, _, older)) = keeper.walk_back(at) else {
+            return steps;
+        };
+        steps += step_count(&entry);
+        at = older;
+    }
+    steps
 }

@@ -211,7 +211,7 @@ fn edits_are_taken_back(rt: HostRuntime) -> Result<(), Fail> {
         }
         assert_eq!(rt; timeline.keeper().marked(), 4);
         for _ in 0..4 {
-            assert!(rt; timeline.back());
+            assert!(rt; timeline.back().is_some());
         }
         let after = state_text(rt.alloc(), timeline.cpu())?;
         assert_eq!(rt; after.as_str(), before.as_str(), "{program}");

@@ -50,9 +50,9 @@ fn the_newest_of_a_long_run(rt: HostRuntime) -> Result<(), Fail> {
     assert_eq!(rt; timeline.keeper().capacity(), 1_024);
     assert_eq!(rt; timeline.keeper().refusals(), 0);
     for _ in 0..89 {
-        assert!(rt; timeline.back());
+        assert!(rt; timeline.back().is_some());
     }
-    assert!(rt; !timeline.back());
+    assert!(rt; timeline.back().is_none());
     assert_eq!(rt; timeline.keeper().weight(), 0);
     assert_eq!(rt; timeline.keeper().marked(), 0);
     let mut cpu = machine(rt.alloc(), LOOP)?;

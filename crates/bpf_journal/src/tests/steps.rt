@@ -81,11 +81,11 @@ fn runs_go_back_and_come_again(rt: HostRuntime) -> Result<(), Fail> {
         assert_eq!(rt; status.as_str(), end, "{row}");
         let last = state_text(rt.alloc(), timeline.cpu())?;
         for before in states.iter().rev() {
-            assert!(rt; timeline.back(), "{row}");
+            assert!(rt; timeline.back().is_some(), "{row}");
             let found = state_text(rt.alloc(), timeline.cpu())?;
             assert_eq!(rt; found.as_str(), before.as_str(), "{row}");
         }
-        assert!(rt; !timeline.back(), "{row}");
+        assert!(rt; timeline.back().is_none(), "{row}");
         let _states = run(rt.alloc(), &mut timeline)?;
         let again = state_text(rt.alloc(), timeline.cpu())?;
         assert_eq!(rt; again.as_str(), last.as_str(), "{row}");

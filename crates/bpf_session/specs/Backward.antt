@@ -1,0 +1,73 @@
+-- A backward command looks a recorded state up.
+use Rattle.std.specs.Prelude.{ℕ, zero, suc, Bool, ◌-◌, ◌==◌, ◌&&◌, ◌||◌, min, List, [], ◌∷◌, Option, Some, None, unwrap_or, option_map, length, drop, count_by, slice_get, nat_le, if◌then◌else◌}
+use Rattle.std.specs.Option.{option_map_or}
+use Rattle.bpf_machine.specs.State.{State}
+use Rattle.bpf_journal.specs.Histories.{Record, is_step}
+use Rattle.bpf_session.specs.Points.{Point}
+use Rattle.bpf_session.specs.Outcomes.{Outcome, replied}
+use Rattle.bpf_session.specs.Stops.{breaks_at, watch_differs}
+use Rattle.bpf_session.specs.declared.reply.Why.{Why}
+use Rattle.bpf_session.specs.declared.reply.Why.TheVariants.{Done, Start, Break, Watch}
+use Rattle.bpf_session.specs.declared.reply.Reply.TheVariants.{Back}
+
+-- A test of a record and the state after its move.
+abbrev pub Test : Type 0
+Test = Record → State → Bool
+
+-- How many moves the n-th latest record that passes a test lies back, in a history that leads to y: 1 is the last move. None where
+-- there are fewer.
+abbrev pub latest : Test → ℕ → List Record → State → Option ℕ
+latest test n [] y = None
+latest test n (r ∷ h) y =
+    if test r y then (if n == 1 then Some 1 else option_map suc (latest test (n - 1) h r.before))
+    else option_map suc (latest test n h r.before)
+
+-- The state before the k-th last move; the present one for k = 0.
+abbrev pub before_last : ℕ → Point → State
+before_last zero p = p.state
+before_last (suc k) p = option_map_or (λ r. r.before) (slice_get p.history k) p.state
+
+-- That state comes back, and the moves from it on are no longer kept.
+abbrev pub back_by : ℕ → Point → Point
+back_by k p = record p { history = drop k p.history; state = before_last k p }
+
+abbrev pub gone_back : ℕ → Why → Point → Outcome
+gone_back k why p = replied (Back k why) (back_by k p)
+
+-- To the n-th latest record that passes a test; to the oldest one where there are fewer.
+abbrev pub back_to : Test → ℕ → Why → Point → Outcome
+back_to test n why p = gone_back (unwrap_or (latest test n p.history p.state) (length p.history)) why p
+
+-- Marked records, and those of steps; how many there are.
+abbrev pub marked : Test
+marked r y = r.mark
+
+abbrev pub stepped : Test
+stepped r y = is_step r.move
+
+abbrev pub marks : Point → ℕ
+marks p = count_by (λ r. r.mark) p.history
+
+abbrev pub kept_steps : Point → ℕ
+kept_steps p = count_by (λ r. is_step r.move) p.history
+
+-- `undo`: to before the n-th last marked move.
+abbrev pub undo : ℕ → Point → Outcome
+undo n p = back_to marked n Done p
+
+-- `reverse-stepi`: to before the n-th last step, or before the first kept one where there are fewer.
+abbrev pub reverse_step : ℕ → Point → Outcome
+reverse_step n p =
+    back_to stepped (min n (kept_steps p)) (if nat_le n (kept_steps p) then Done else Start) p
+
+-- A step from a breakpoint, or one that changed a watched byte.
+abbrev pub stops_back : Point → Test
+stops_back p r y = is_step r.move && (breaks_at p r.before || watch_differs p r.before y)
+
+-- `reverse-continue`: to before the latest such step, else to the oldest kept state.
+abbrev pub to_stop : Option ℕ → Point → Outcome
+to_stop (Some k) p = gone_back k (if breaks_at p (before_last k p) then Break else Watch) p
+to_stop None p = gone_back (length p.history) Start p
+
+abbrev pub reverse_continue : Point → Outcome
+reverse_continue p = to_stop (latest (stops_back p) 1 p.history p.state) p

@@ -1,0 +1,74 @@
+-- A forward command takes the least number of steps, at least one, after which a stop holds.
+use Rattle.std.specs.Prelude.{◌+◌, ℕ, zero, suc, Bool, List, Option, Some, None, is_some, unwrap_or, if◌then◌else◌, ◌==◌, nat_lt}
+use Rattle.bpf_machine.specs.Next.{next}
+use Rattle.bpf_machine.specs.State.{State}
+use Rattle.bpf_machine.specs.Status.{has_ended}
+use Rattle.bpf_machine.specs.declared.moves.Move.TheVariants.{Step}
+use Rattle.bpf_journal.specs.Histories.{Record, record_weight, keep}
+use Rattle.bpf_journal.specs.Timelines.{record_of}
+use Rattle.bpf_session.specs.Points.{Point, Bounds}
+use Rattle.bpf_session.specs.Outcomes.{Outcome, refused, replied}
+use Rattle.bpf_session.specs.Stops.{breaks_at, watch_differs}
+use Rattle.bpf_session.specs.declared.reply.Why.{Why}
+use Rattle.bpf_session.specs.declared.reply.Why.TheVariants.{End, Break, Watch, Done, Limit, Memory}
+use Rattle.bpf_session.specs.declared.reply.Reply.TheVariants.{Forward}
+use Rattle.bpf_session.specs.declared.refusal.Refusal.TheVariants.{OutOfMemory}
+
+-- The state after so many steps.
+abbrev pub after : ℕ → State → State
+after zero x = x
+after (suc k) x = next (after k x)
+
+-- The history after so many steps from a point: each is kept in the journal's room, the first one with a mark.
+abbrev pub kept : ℕ → ℕ → Point → List Record
+kept room zero p = p.history
+kept room (suc k) p = keep record_weight room (kept room k p) (record_of (after k p.state) Step (k == 0))
+
+-- The point after so many steps.
+abbrev pub gone : ℕ → ℕ → Point → Point
+gone room k p = record p { history = kept room k p; state = after k p.state }
+
+-- Whether a command has done what it was asked for, after so many steps, in the state that it then has.
+abbrev pub Goal : Type 0
+Goal = ℕ → State → Bool
+
+-- Why a command that began at a point stops after its k-th step, which led from x to y: the first that holds.
+abbrev pub stop_in : ℕ → Goal → Point → ℕ → State → State → Option Why
+stop_in limit done p k x y =
+    if has_ended y.status then Some End
+    else if breaks_at p y then Some Break
+    else if watch_differs p x y then Some Watch
+    else if done k y then Some Done
+    else if k == limit then Some Limit
+    else None
+
+-- The same of the k-th step from the point on. (No command stops before its first step.)
+abbrev pub stop : ℕ → Goal → Point → ℕ → Option Why
+stop limit done p zero = None
+stop limit done p (suc k) = stop_in limit done p (suc k) (after k p.state) (after (suc k) p.state)
+
+-- The least number that passes a test, of the n numbers from k on; k + n where none does.
+abbrev pub least : (ℕ → Bool) → ℕ → ℕ → ℕ
+least test k zero = k
+least test k (suc n) = if test k then k else least test (k + 1) n
+
+-- How many steps are taken, and why no more.
+abbrev pub steps : ℕ → Goal → Point → ℕ
+steps limit done p = least (λ k. is_some (stop limit done p k)) 1 limit
+
+abbrev pub reason : ℕ → Goal → Point → Why
+reason limit done p = unwrap_or (stop limit done p (steps limit done p)) Limit
+
+-- k steps, and why no more.
+abbrev pub taken : ℕ → ℕ → Why → Point → Outcome
+taken room k why p = replied (Forward k why) (gone room k p)
+
+-- k steps where the keeper refuses none of them; else those before the refused one, which is taken back.
+abbrev pub cut : Option ℕ → ℕ → ℕ → Why → Point → Outcome
+cut None room k why p = taken room k why p
+cut (Some m) room k why p =
+    if nat_lt m k then (if m == 0 then refused OutOfMemory p else taken room m Memory p) else taken room k why p
+
+-- A forward command from a running state.
+abbrev pub forward : Option ℕ → Bounds → Goal → Point → Outcome
+forward gap b done p = cut gap b.room (steps b.limit done p) (reason b.limit done p) p

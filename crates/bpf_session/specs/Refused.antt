@@ -1,0 +1,55 @@
+-- Which refusals of a command hold at a point, in the order of their numbers: the first is answered.
+use Rattle.std.specs.Prelude.{ℕ, Bool, true, false, not, List, [], ◌∷◌, ◌++◌, length, is_some, ◌==◌, nat_le, nat_lt}
+use Rattle.bpf_isa.specs.Programs.{insn_at}
+use Rattle.bpf_machine.specs.Regions.{index_of}
+use Rattle.bpf_machine.specs.Status.{has_ended}
+use Rattle.bpf_machine.specs.declared.edit.Edit.{Edit}
+use Rattle.bpf_machine.specs.declared.edit.Edit.TheVariants as edit
+use Rattle.bpf_session.specs.Limits.{most_breaks}
+use Rattle.bpf_session.specs.Points.{Point}
+use Rattle.bpf_session.specs.Stops.{has}
+use Rattle.bpf_session.specs.Backward.{marks, kept_steps}
+use Rattle.bpf_session.specs.declared.command.Command.{Command}
+use Rattle.bpf_session.specs.declared.command.Command.TheVariants as command
+use Rattle.bpf_session.specs.declared.refusal.Refusal.{Refusal}
+use Rattle.bpf_session.specs.declared.refusal.Refusal.TheVariants.{MachineEnded, NoKeptStep, FewerCommands, AddressNotPresent, RegisterNotWritable, NoStart, TableFull, ThereOrNot}
+
+-- A refusal where a test holds.
+abbrev pub when : Bool → Refusal → List Refusal
+when true refusal = refusal ∷ []
+when false refusal = []
+
+-- The tests: the run of n bytes at an address is present; an instruction starts at a slot.
+abbrev pub present : Point → ℕ → ℕ → Bool
+present p a n = is_some (index_of p.state.memory a n)
+
+abbrev pub starts : Point → ℕ → Bool
+starts p slot = is_some (insn_at p.state.program slot)
+
+-- An edit's.
+abbrev pub edit_refusals : Edit → Point → List Refusal
+edit_refusals (edit.Bytes a bytes) p = when (not (present p a (length bytes))) AddressNotPresent
+edit_refusals (edit.Register r value) p = when (r == 10) RegisterNotWritable
+edit_refusals (edit.Pc slot) p = when (not (starts p slot)) NoStart
+
+-- A command's.
+abbrev pub refusals_of : Command → Point → List Refusal
+refusals_of (command.Step count) p = when (has_ended p.state.status) MachineEnded
+refusals_of command.Continue p = when (has_ended p.state.status) MachineEnded
+refusals_of (command.Undo count) p = when (nat_lt (marks p) count) FewerCommands
+refusals_of (command.ReverseStep count) p = when (kept_steps p == 0) NoKeptStep
+refusals_of command.ReverseContinue p = when (kept_steps p == 0) NoKeptStep
+refusals_of (command.Edit e) p = edit_refusals e p
+refusals_of (command.Break slot) p =
+    when (not (starts p slot)) NoStart
+    ++ when (nat_le most_breaks (length p.breaks)) TableFull
+    ++ when (has p.breaks slot) ThereOrNot
+refusals_of (command.Delete slot) p = when (not (has p.breaks slot)) ThereOrNot
+refusals_of (command.Examine address span) p = when (not (present p address span)) AddressNotPresent
+refusals_of (command.Disassemble slot span) p = when (not (starts p slot)) NoStart
+refusals_of command.InfoRegisters p = []
+refusals_of command.InfoFrames p = []
+refusals_of command.InfoBreaks p = []
+refusals_of command.InfoHistory p = []
+refusals_of command.InfoTrace p = []
+refusals_of command.Quit p = []

@@ -1,0 +1,31 @@
+-- Edits and tables.
+use Rattle.std.specs.Prelude.{ℕ, true, not, ◌==◌, List, [], ◌∷◌, ◌++◌, Option, Some, None, filter, if◌then◌else◌}
+use Rattle.bpf_machine.specs.Edits.{edited}
+use Rattle.bpf_machine.specs.declared.edit.Edit.{Edit}
+use Rattle.bpf_machine.specs.declared.moves.Move.TheVariants as move
+use Rattle.bpf_journal.specs.Histories.{record_weight, keep}
+use Rattle.bpf_journal.specs.Timelines.{record_of}
+use Rattle.bpf_session.specs.Points.{Point}
+use Rattle.bpf_session.specs.Outcomes.{Outcome, refused, replied}
+use Rattle.bpf_session.specs.declared.reply.Reply.TheVariants as reply
+use Rattle.bpf_session.specs.declared.refusal.Refusal.TheVariants.{OutOfMemory}
+
+-- An edit is a marked move.
+abbrev pub made : ℕ → Edit → Point → Point
+made room e p = record p {
+  history = keep record_weight room p.history (record_of p.state (move.Edit e) true);
+  state = edited p.state e;
+}
+
+-- It is refused where the keeper can't keep it.
+abbrev pub edit : Option ℕ → ℕ → Edit → Point → Outcome
+edit None room e p = replied reply.Ok (made room e p)
+edit (Some m) room e p = refused OutOfMemory p
+
+-- A new breakpoint goes to the end.
+abbrev pub with_break : ℕ → Point → Point
+with_break slot p = record p { breaks = p.breaks ++ slot ∷ [] }
+
+-- The others stay in their order.
+abbrev pub without_break : ℕ → Point → Point
+without_break slot p = record p { breaks = filter (λ other. not (other == slot)) p.breaks }

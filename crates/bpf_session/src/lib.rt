@@ -1,0 +1,17 @@
+//! Sessions: commands over a machine and the keeper of its moves, scripts of them, and their replies.
+#![tactic(auto)]
+
+mod breakpoints;
+mod command;
+mod count;
+mod refusal;
+mod reply;
+mod session;
+mod sought;
+mod until;
+
+pub use command::Command;
+pub use count::{Count, Span};
+pub use refusal::Refusal;
+pub use reply::{Reply, Why};
+pub use session::Session;

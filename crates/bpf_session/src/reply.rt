@@ -1,0 +1,49 @@
+//! Replies: the answers to commands.
+
+use crate::count::Span;
+
+/// Why a command stopped.
+#[derive(Clone, Copy)]
+pub enum Why {
+    /// The machine has ended.
+    End,
+    /// A breakpoint is at pc.
+    Break,
+    /// The last step changed a watched byte.
+    Watch,
+    /// What was asked for is done.
+    Done,
+    /// The session's limit of steps is reached.
+    Limit,
+    /// The keeper had no memory for a further step, which was taken back.
+    Memory,
+    /// Nothing is kept from before.
+    Start,
+}
+
+/// The answer to a command. Its text is written from the session's state.
+#[derive(Clone, Copy)]
+pub enum Reply {
+    /// So many steps were taken.
+    Forward { steps: u64, why: Why },
+    /// So many moves were taken back.
+    Back { moves: u64, why: Why },
+    /// It is done.
+    Ok,
+    /// The registers and the place.
+    Registers,
+    /// The frames of local calls.
+    Frames,
+    /// The breakpoints.
+    Breaks,
+    /// How much is kept.
+    History,
+    /// The words that were traced.
+    Trace,
+    /// So many bytes from an address on, which are present.
+    Bytes { address: u64, span: Span },
+    /// So many instructions from a slot on, at which one starts.
+    Instructions { slot: u16, span: Span },
+    /// No text.
+    Nothing,
+}

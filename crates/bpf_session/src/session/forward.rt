@@ -1,0 +1,78 @@
+//! Forward commands.
+ghost use Rattle.std.specs.Prelude.{◌≡◌, ◌≤◌, List, IfOk, Ok, Err, if◌then◌else◌, ◌==◌};
+ghost use Rattle.bpf_machine.specs.State.{State};
+ghost use Rattle.bpf_machine.specs.Status.{has_ended};
+ghost use Rattle.bpf_journal.specs.Histories.{Record};
+ghost use Rattle.bpf_session.specs.Forward.{forward, stop_in};
+ghost use Rattle.bpf_session.specs.Outcomes.{unless_refused};
+ghost use Rattle.bpf_session.specs.Refused.{when};
+ghost use Rattle.bpf_session.specs.Replies.{IsThere};
+ghost use Rattle.bpf_session.specs.Sessions.{HasPast, Obeys, bounds_of, point_of};
+ghost use Rattle.bpf_session.specs.Until.{done_by};
+
+use super::Session;
+use crate::refusal::Refusal;
+use crate::reply::{Reply, Why};
+use crate::until::Until;
+use bpf_journal::{Keeper, TimelineFault};
+
+impl<K: Keeper> Session<K> {
+    /// Takes the least number of steps, at least one, after which a stop holds: the machine has ended, a breakpoint is at pc, what was
+    /// asked for is done, or the limit is reached. Q3 where the machine has ended before, Q15 where the keeper refuses the first step.
+    pub(crate) fn go_forward(&mut self, until: Until) -> Result<Reply, Refusal>
+        ensures value { (h : List Record) → HasPast K.holds self.old h →
+            Obeys K.holds K.refused self.old self.new (λ gap. unless_refused
+                (when (has_ended self.old.moment.state.status) Refusal.MachineEnded) (point_of self.old h)
+                (forward gap (bounds_of K.room self.old) (done_by until) (point_of self.old h))) result }
+        ensures limit { self.new.limit ≡ self.old.limit }
+        ensures room { K.room self.new.moment.keeper ≡ K.room self.old.moment.keeper }
+        ensures there { IfOk result (λ reply. IsThere reply self.new.moment.state) }
+    {
+        if self.cpu().status().has_ended() {
+            return Err(Refusal::MachineEnded);
+        }
+        for k in 0..self.limit {
+            let is_first = k == 0;
+            match self.timeline.step(is_first) {
+                Ok(()) => {}
+                Err(TimelineFault::Move(_)) => unreachable!(),
+                Err(TimelineFault::OutOfMemory) => return cut_short(k),
+            }
+            if let Some(why) = self.stop(&until, k + 1) {
+                return Ok(Reply::Forward { steps: k + 1, why });
+            }
+        }
+        unreachable!()
+    }
+
+    /// Why the command stops after so many steps, if it does.
+    fn stop(&self, until: &Until, taken: u64) -> Option<Why>
+        ensures { (x : State) (h : List Record) → result ≡ stop_in self.now.limit (done_by until.now) (point_of self.now h) taken x self.now.moment.state }
+    {
+        if self.cpu().status().has_ended() {
+            Some(Why::End)
+        } else if self.breaks.has(self.cpu().pc()) {
+            Some(Why::Break)
+        } else if until.is_done(taken) {
+            Some(Why::Done)
+        } else if taken == self.limit {
+            Some(Why::Limit)
+        } else {
+            None
+        }
+    }
+}
+
+/// The answer where the keeper refused the step after so many kept ones.
+fn cut_short(kept: u64) -> Result<Reply, Refusal>
+    ensures { result ≡ (if kept == 0 then Err Refusal.OutOfMemory else Ok (Reply.Forward kept Why.Memory)) }
+{
+    if kept == 0 {
+        Err(Refusal::OutOfMemory)
+    } else {
+        Ok(Reply::Forward {
+            steps: kept,
+            why: Why::Memory,
+        })
+    }
+}
