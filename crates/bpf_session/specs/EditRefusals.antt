@@ -1,10 +1,22 @@
--- Scaffolding: the refusal of each fault of an edit, as the code answers it.
+-- Scaffolding: the answer to an edit that was tried, as the code gives it.
+use Rattle.std.specs.Prelude.{Result, Ok, Err}
+use Rattle.bpf_journal.specs.declared.fault.MoveFault.TheVariants as move_fault
+use Rattle.bpf_journal.specs.declared.fault.TimelineFault.{TimelineFault}
+use Rattle.bpf_journal.specs.declared.fault.TimelineFault.TheVariants as timeline_fault
+use Rattle.bpf_session.specs.declared.reply.Reply.{Reply}
+use Rattle.bpf_session.specs.declared.reply.Reply.TheVariants as reply
 use Rattle.bpf_machine.specs.declared.edit.EditFault.{EditFault}
 use Rattle.bpf_machine.specs.declared.edit.EditFault.TheVariants as fault
 use Rattle.bpf_session.specs.declared.refusal.Refusal.{Refusal}
-use Rattle.bpf_session.specs.declared.refusal.Refusal.TheVariants.{AddressNotPresent, RegisterNotWritable, NoStart}
+use Rattle.bpf_session.specs.declared.refusal.Refusal.TheVariants.{AddressNotPresent, RegisterNotWritable, NoStart, MachineEnded, OutOfMemory}
 
 abbrev pub refusal_for : EditFault → Refusal
 refusal_for fault.AddressNotPresent = AddressNotPresent
 refusal_for fault.RegisterNotWritable = RegisterNotWritable
 refusal_for fault.NoStart = NoStart
+
+abbrev pub answer_to : Result (Unit {0}) TimelineFault → Result Reply Refusal
+answer_to (Ok u) = Ok reply.Ok
+answer_to (Err timeline_fault.OutOfMemory) = Err OutOfMemory
+answer_to (Err (timeline_fault.Move (move_fault.Edit f))) = Err (refusal_for f)
+answer_to (Err (timeline_fault.Move move_fault.Ended)) = Err MachineEnded

@@ -1,5 +1,5 @@
 //! Breakpoints: the slots at which forward commands stop.
-ghost use Rattle.std.specs.Prelude.{◌≡◌, ◌<◌, ◌++◌, ◌∷◌, [], length, filter, not, nat_le, ◌==◌};
+ghost use Rattle.std.specs.Prelude.{◌≡◌, ◌<◌, All, ◌++◌, ◌∷◌, [], length, filter, not, nat_le, ◌==◌};
 ghost use Rattle.bpf_session.specs.Limits.{most_breaks};
 ghost use Rattle.bpf_session.specs.Stops.{has};
 
@@ -20,14 +20,14 @@ pub struct Breakpoints {
 }
 
 impl Model for Breakpoints {
-    ghost use Rattle.std.specs.Prelude.{◌≡◌, ◌<◌, ℕ, List, Some, slice_get, length};
-    ghost use Rattle.bpf_session.specs.Stops.{has};
+    ghost use Rattle.std.specs.Prelude.{ℕ, List};
+    ghost use Rattle.bpf_session.specs.Marks.{AreMarks};
 
     ghost Value = { List ℕ };
 
     ghost view = { λ b. b.slots.items };
 
-    ghost invariant = { λ b. (length b.marks ≡ 65536) × ((slot : ℕ) → slot < 65536 → slice_get b.marks slot ≡ Some (has b.slots.items slot)) };
+    ghost invariant = { λ b. AreMarks b.slots.items b.marks };
 }
 
 impl Breakpoints {
@@ -46,6 +46,13 @@ impl Breakpoints {
         ensures { result.now ≡ self.now }
     {
         self.slots.as_slice()
+    }
+
+    /// Brings the range of slots into a proof.
+    pub fn are_slots(&self)
+        ensures { All (λ slot. slot < 65536) self.now }
+    {
+        slots_fit(self.slots.as_slice());
     }
 
     /// Whether there are as many as there can be.
@@ -79,3 +86,8 @@ impl Breakpoints {
         self.marks[usize::from(slot)] = false;
     }
 }
+
+/// Brings the range of slots into a proof.
+fn slots_fit(slots: &[u16])
+    ensures { All (λ slot. slot < 65536) slots.now }
+{}

@@ -22,8 +22,8 @@ impl<K: Keeper> Session<K> {
     pub(crate) fn undo(&mut self, count: Count) -> Result<Reply, Refusal>
         ensures value { (h : List Record) → HasPast K.holds self.old h →
             Obeys K.holds K.refused self.old self.new (λ _. unless_refused
-                (when (nat_lt (marks (point_of self.old h)) count) Refusal.FewerCommands) (point_of self.old h)
-                (undo count (point_of self.old h))) result }
+            (when (nat_lt (marks (point_of self.old h)) count) Refusal.FewerCommands) (point_of self.old h)
+            (undo count (point_of self.old h))) result }
         ensures limit { self.new.limit ≡ self.old.limit }
         ensures room { K.room self.new.moment.keeper ≡ K.room self.old.moment.keeper }
         ensures there { IfOk result (λ reply. IsThere reply self.new.moment.state) }
@@ -42,8 +42,8 @@ impl<K: Keeper> Session<K> {
     pub(crate) fn reverse_step(&mut self, count: Count) -> Result<Reply, Refusal>
         ensures value { (h : List Record) → HasPast K.holds self.old h →
             Obeys K.holds K.refused self.old self.new (λ _. unless_refused
-                (when (kept_steps (point_of self.old h) == 0) Refusal.NoKeptStep) (point_of self.old h)
-                (reverse_step count (point_of self.old h))) result }
+            (when (kept_steps (point_of self.old h) == 0) Refusal.NoKeptStep) (point_of self.old h)
+            (reverse_step count (point_of self.old h))) result }
         ensures limit { self.new.limit ≡ self.old.limit }
         ensures room { K.room self.new.moment.keeper ≡ K.room self.old.moment.keeper }
         ensures there { IfOk result (λ reply. IsThere reply self.new.moment.state) }
@@ -63,8 +63,8 @@ impl<K: Keeper> Session<K> {
     pub(crate) fn reverse_continue(&mut self) -> Result<Reply, Refusal>
         ensures value { (h : List Record) → HasPast K.holds self.old h →
             Obeys K.holds K.refused self.old self.new (λ _. unless_refused
-                (when (kept_steps (point_of self.old h) == 0) Refusal.NoKeptStep) (point_of self.old h)
-                (reverse_continue (point_of self.old h))) result }
+            (when (kept_steps (point_of self.old h) == 0) Refusal.NoKeptStep) (point_of self.old h)
+            (reverse_continue (point_of self.old h))) result }
         ensures limit { self.new.limit ≡ self.old.limit }
         ensures room { K.room self.new.moment.keeper ≡ K.room self.old.moment.keeper }
         ensures there { IfOk result (λ reply. IsThere reply self.new.moment.state) }
@@ -75,11 +75,7 @@ impl<K: Keeper> Session<K> {
         let found = self.back_to(Sought::Break, 1);
         Ok(Reply::Back {
             moves: found.moves,
-            why: if found.is_there {
-                Why::Break
-            } else {
-                Why::Start
-            },
+            why: break_or_start(found.is_there),
         })
     }
 
@@ -95,16 +91,18 @@ impl<K: Keeper> Session<K> {
         let kept = self.timeline.len() as u64;
         let mut left = count;
         for k in 0..kept {
-            if let Some(taken) = self.timeline.back() {
-                if self.is_sought(sought, taken) {
-                    left -= 1;
-                    if left == 0 {
-                        return Found {
-                            moves: k + 1,
-                            is_there: true,
-                        };
-                    }
-                }
+            let Some(taken) = self.timeline.back() else {
+                return Found {
+                    moves: k,
+                    is_there: false,
+                };
+            };
+            left -= self.hits(sought, taken);
+            if left == 0 {
+                return Found {
+                    moves: k + 1,
+                    is_there: true,
+                };
             }
         }
         Found {
@@ -113,15 +111,19 @@ impl<K: Keeper> Session<K> {
         }
     }
 
-    /// Whether a move is sought that was taken back just now, so that the state before it is the present one.
-    fn is_sought(&self, sought: Sought, taken: Taken) -> bool
-        ensures { (r : Record) (y : State) → taken ≡ taken_of r → self.now.moment.state ≡ r.before → result ≡ test_of self.now sought r y }
+    /// How many moves of those that are sought was the one that was taken back just now, so that the state before it is the present
+    /// one: one or none.
+    fn hits(&self, sought: Sought, taken: Taken) -> u64
+        ensures fits { result ≤ 1 }
+        ensures value { (r : Record) (y : State) → taken ≡ taken_of r → self.now.moment.state ≡ r.before →
+            result ≡ (if test_of self.now sought r y then 1 else 0) }
     {
-        match sought {
+        let is_hit = match sought {
             Sought::Mark => taken.mark,
             Sought::Step => taken.is_step,
             Sought::Break => taken.is_step && self.breaks.has(self.cpu().pc()),
-        }
+        };
+        if is_hit { 1 } else { 0 }
     }
 }
 
@@ -130,4 +132,11 @@ fn why_there(is_enough: bool) -> Why
     ensures { result ≡ (if is_enough then Why.Done else Why.Start) }
 {
     if is_enough { Why::Done } else { Why::Start }
+}
+
+/// Why a command that looks for a breakpoint stops, which found one or not.
+fn break_or_start(is_there: bool) -> Why
+    ensures { result ≡ (if is_there then Why.Break else Why.Start) }
+{
+    if is_there { Why::Break } else { Why::Start }
 }

@@ -22,8 +22,8 @@ impl<K: Keeper> Session<K> {
     pub(crate) fn go_forward(&mut self, until: Until) -> Result<Reply, Refusal>
         ensures value { (h : List Record) → HasPast K.holds self.old h →
             Obeys K.holds K.refused self.old self.new (λ gap. unless_refused
-                (when (has_ended self.old.moment.state.status) Refusal.MachineEnded) (point_of self.old h)
-                (forward gap (bounds_of K.room self.old) (done_by until) (point_of self.old h))) result }
+            (when (has_ended self.old.moment.state.status) Refusal.MachineEnded) (point_of self.old h)
+            (forward gap (bounds_of K.room self.old) (done_by until) (point_of self.old h))) result }
         ensures limit { self.new.limit ≡ self.old.limit }
         ensures room { K.room self.new.moment.keeper ≡ K.room self.old.moment.keeper }
         ensures there { IfOk result (λ reply. IsThere reply self.new.moment.state) }

@@ -5,7 +5,7 @@ ghost use Rattle.bpf_session.specs.Outcomes.{replied, unless_refused};
 ghost use Rattle.bpf_session.specs.Refused.{edit_refusals, refusals_of};
 ghost use Rattle.bpf_session.specs.Replies.{IsThere};
 ghost use Rattle.bpf_session.specs.Sessions.{HasPast, Obeys, bounds_of, point_of};
-ghost use Rattle.bpf_session.specs.EditRefusals.{refusal_for};
+ghost use Rattle.bpf_session.specs.EditRefusals.{answer_to as answer_of, refusal_for};
 ghost use Rattle.bpf_isa.specs.Programs.{IsStart};
 ghost use Rattle.bpf_session.specs.Tables.{edit as edit_of, with_break, without_break};
 ghost use Rattle.bpf_session.specs.declared.command.Command.TheVariants as command_of;
@@ -22,26 +22,21 @@ impl<K: Keeper> Session<K> {
     pub(crate) fn edit(&mut self, edit: &Edit) -> Result<Reply, Refusal>
         ensures value { (h : List Record) → HasPast K.holds self.old h →
             Obeys K.holds K.refused self.old self.new (λ gap. unless_refused
-                (edit_refusals edit.now (point_of self.old h)) (point_of self.old h)
-                (edit_of gap (K.room self.old.moment.keeper) edit.now (point_of self.old h))) result }
+            (edit_refusals edit.now (point_of self.old h)) (point_of self.old h)
+            (edit_of gap (K.room self.old.moment.keeper) edit.now (point_of self.old h))) result }
         ensures limit { self.new.limit ≡ self.old.limit }
         ensures room { K.room self.new.moment.keeper ≡ K.room self.old.moment.keeper }
         ensures there { IfOk result (λ reply. IsThere reply self.new.moment.state) }
     {
-        match self.timeline.edit(edit, true) {
-            Ok(()) => Ok(Reply::Ok),
-            Err(TimelineFault::Move(MoveFault::Edit(fault))) => Err(refusal_of(fault)),
-            Err(TimelineFault::Move(MoveFault::Ended)) => unreachable!(),
-            Err(TimelineFault::OutOfMemory) => Err(Refusal::OutOfMemory),
-        }
+        answer_to(self.timeline.edit(edit, true))
     }
 
     /// Sets a breakpoint at a slot. Q8 where no instruction starts there, Q10 where there are 64, Q11 where there is one.
     pub(crate) fn set_break(&mut self, slot: u64) -> Result<Reply, Refusal>
         ensures value { (h : List Record) → HasPast K.holds self.old h →
             Obeys K.holds K.refused self.old self.new (λ _. unless_refused
-                (refusals_of (command_of.Break slot) (point_of self.old h)) (point_of self.old h)
-                (replied Reply.Ok (with_break slot (point_of self.old h)))) result }
+            (refusals_of (command_of.Break slot) (point_of self.old h)) (point_of self.old h)
+            (replied Reply.Ok (with_break slot (point_of self.old h)))) result }
         ensures limit { self.new.limit ≡ self.old.limit }
         ensures room { K.room self.new.moment.keeper ≡ K.room self.old.moment.keeper }
         ensures there { IfOk result (λ reply. IsThere reply self.new.moment.state) }
@@ -63,23 +58,21 @@ impl<K: Keeper> Session<K> {
     pub(crate) fn delete_break(&mut self, slot: u64) -> Result<Reply, Refusal>
         ensures value { (h : List Record) → HasPast K.holds self.old h →
             Obeys K.holds K.refused self.old self.new (λ _. unless_refused
-                (refusals_of (command_of.Delete slot) (point_of self.old h)) (point_of self.old h)
-                (replied Reply.Ok (without_break slot (point_of self.old h)))) result }
+            (refusals_of (command_of.Delete slot) (point_of self.old h)) (point_of self.old h)
+            (replied Reply.Ok (without_break slot (point_of self.old h)))) result }
         ensures limit { self.new.limit ≡ self.old.limit }
         ensures room { K.room self.new.moment.keeper ≡ K.room self.old.moment.keeper }
         ensures there { IfOk result (λ reply. IsThere reply self.new.moment.state) }
     {
-        match u16::try_from(slot) {
-            Ok(slot) => {
-                if self.breaks.has(slot) {
-                    self.breaks.remove(slot);
-                    Ok(Reply::Ok)
-                } else {
-                    Err(Refusal::ThereOrNot)
-                }
-            }
-            Err(_) => Err(Refusal::ThereOrNot),
+        self.breaks.are_slots();
+        let Ok(slot) = u16::try_from(slot) else {
+            return Err(Refusal::ThereOrNot);
+        };
+        if !self.breaks.has(slot) {
+            return Err(Refusal::ThereOrNot);
         }
+        self.breaks.remove(slot);
+        Ok(Reply::Ok)
     }
 
     /// Shows bytes. Q6 where some of them aren't present, or they lie in two regions.
@@ -120,6 +113,18 @@ impl<K: Keeper> Session<K> {
         } else {
             None
         }
+    }
+}
+
+/// The answer to an edit that was tried.
+fn answer_to(tried: Result<(), TimelineFault>) -> Result<Reply, Refusal>
+    ensures { result ≡ answer_of tried }
+{
+    match tried {
+        Ok(()) => Ok(Reply::Ok),
+        Err(TimelineFault::OutOfMemory) => Err(Refusal::OutOfMemory),
+        Err(TimelineFault::Move(MoveFault::Edit(fault))) => Err(refusal_of(fault)),
+        Err(TimelineFault::Move(MoveFault::Ended)) => Err(Refusal::MachineEnded),
     }
 }
 

@@ -15,9 +15,9 @@ returns-in_default g c = λ es held.
 
 pub loop-preserved : goal.loop-preserved
 loop-preserved g c = (
-    rw c.step_count-steps.ensures (one_more_fits _ _ _ c.loop.invariant.0 c.if-steps-most.false),
-    λ es held.
-        let n = c.len-end.ensures es held in
-        let here = c.loop-test.true in
-        rw c.step_count-steps.ensures (walking_step _ _ _ es _ _ _ _ _ _ held (omega arith) (c.loop.invariant.1 es held) (rw c.in-Some.is at c.walk_back.ensures)),
-  )
+  rw c.step_count-steps.ensures (one_more_fits _ _ _ c.loop.invariant.0 c.if-steps-most.false),
+  λ es held.
+      let n = c.len-end.ensures es held in
+      let here = c.loop-test.true in
+      rw c.step_count-steps.ensures (walking_step _ _ _ es _ _ _ _ _ _ held (omega arith) (c.loop.invariant.1 es held) (rw c.in-Some.is at c.walk_back.ensures)),
+)

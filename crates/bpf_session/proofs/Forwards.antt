@@ -1,0 +1,165 @@
+-- A forward command's loop: what holds after k steps, and what each exit comes to.
+use Rattle.std.proofs.Common.{◌≡◌, ◌≢◌, ◌+◌, ◌-◌, ◌<◌, ◌≤◌, ◌==◌, ℕ, zero, suc, Bool, true, false, List, [], ◌∷◌, Option, Some, None, Ok, Err, is_some, unwrap_or, refl, sym, ap, subst, ◌∙◌, arith, add-one}
+use Rattle.std.proofs.lemmas.Bool.Decides.{nat_tests}
+use Rattle.std.specs.Prelude.{if◌then◌else◌, nat_lt}
+use Rattle.bpf_machine.specs.State.{State}
+use Rattle.bpf_machine.specs.Next.{next}
+use Rattle.bpf_machine.specs.Moves.{Leads}
+use Rattle.bpf_machine.specs.Status.{has_ended}
+use Rattle.bpf_machine.specs.declared.moves.Move.TheVariants.{Step}
+use Rattle.bpf_journal.specs.Counts.{once_more}
+use Rattle.bpf_journal.specs.Histories.{Record, Kept, StandsFor, record_weight, keep}
+use Rattle.bpf_journal.specs.Timelines.{Moment, Makes, Stays, record_of}
+use Rattle.bpf_session.specs.Points.{Point}
+use Rattle.bpf_session.specs.Outcomes.{Outcome, refused, unless_refused}
+use Rattle.bpf_session.specs.Refused.{when}
+use Rattle.bpf_session.specs.Stops.{breaks_at, watch_differs}
+use Rattle.bpf_session.specs.Forward.{Goal, after, kept, gone, stop, stop_in, least, steps, reason, taken, cut, forward}
+use Rattle.bpf_session.specs.Sessions.{SessionValue, HasPast, StandsAt, Obeys, point_of, bounds_of}
+use Rattle.bpf_session.proofs.Answering.{obeys_as}
+use Rattle.bpf_session.specs.declared.reply.Why.{Why}
+use Rattle.bpf_session.specs.declared.reply.Why.TheVariants.{End, Break, Watch, Done, Limit, Memory}
+use Rattle.bpf_session.specs.declared.reply.Reply.TheVariants as replies
+use Rattle.bpf_session.specs.declared.refusal.Refusal.TheVariants.{OutOfMemory, MachineEnded}
+
+-- the least number is not below the first one that is tried
+pub least_from : (test : ℕ → Bool) (k n : ℕ) → k ≤ least test k n
+least_from test k zero = omega arith
+least_from test k (suc n) = elim (test k) as (λ b. k ≤ (if b then k else least test (k + 1) n)) [ true ↦ omega arith | false ↦ omega (arith, least_from test (k + 1) n) ]
+
+-- one number that doesn't pass
+pub least_next : (test : ℕ → Bool) (k n : ℕ) → 0 < n → test k ≡ false → least test k n ≡ least test (k + 1) (n - 1)
+least_next test k zero h e = absurd (omega arith)
+least_next test k (suc n) h e = let q : suc n - 1 ≡ n = omega arith in rw (e, q) refl
+
+-- a number that passes
+pub least_here : (test : ℕ → Bool) (k n : ℕ) → 0 < n → test k ≡ true → least test k n ≡ k
+least_here test k zero h e = absurd (omega arith)
+least_here test k (suc n) h e = rw e refl
+
+-- where nothing stops, the machine runs and the limit isn't reached
+none_stops : (ended broken changed done limit : Bool) → (if ended then Some End else if broken then Some Break else if changed then Some Watch else if done then Some Done else if limit then Some Limit else None) ≡ None → (ended ≡ false) × (limit ≡ false)
+none_stops true broken changed done limit h = cc
+none_stops false true changed done limit h = cc
+none_stops false false true done limit h = cc
+none_stops false false false true limit h = cc
+none_stops false false false false true h = cc
+none_stops false false false false false h = (refl, refl)
+
+goes_on : (limit : ℕ) (done : Goal) (p : Point) (j : ℕ) (x y : State) → stop_in limit done p j x y ≡ None → (has_ended y.status ≡ false) × (j ≢ limit)
+goes_on limit done p j x y h =
+    let n = none_stops (has_ended y.status) (breaks_at p y) (watch_differs p x y) (done j y) (j == limit) h in
+    (n.0, λ e. let t : (j == limit) ≡ false = n.1 in grind (arith, nat_tests))
+
+-- a command that a refused step cut short: what it answers, and what it leaves
+abbrev cut_of : Bool → ℕ → ℕ → Point → Outcome
+cut_of first room k p = if first then refused OutOfMemory p else taken room k Memory p
+
+cut_answer : (first : Bool) (room k : ℕ) (p : Point) → (if first then Err OutOfMemory else Ok (replies.Forward k Memory)) ≡ (cut_of first room k p).answer
+cut_answer true room k p = refl
+cut_answer false room k p = refl
+
+cut_point : (first : Bool) (room k : ℕ) (p : Point) (P : Point → Type 0) → (first ≡ true → k ≡ 0) → P (gone room k p) → P (cut_of first room k p).point
+cut_point true room k p P z q = subst (λ (j : ℕ). P (gone room j p)) (z refl) q
+cut_point false room k p P z q = q
+
+is_first : (k : ℕ) → (k == 0) ≡ true → k ≡ 0
+is_first k h = grind (arith, nat_tests)
+
+lt_true : (j k : ℕ) → j < k → nat_lt j k ≡ true
+lt_true j k h = grind (arith, nat_tests)
+
+-- a session of which only the moment has changed
+pub record OnlyMoment {K : Type 0} (old now : SessionValue K) : Type 0 where
+  pub breaks : now.breaks ≡ old.breaks
+  pub limit : now.limit ≡ old.limit
+
+module _ {K : Type 0} (holds : K → List Kept → Type 0) where
+  -- where it stands after so many steps
+  pub stands_gone : (room k : ℕ) (old now : SessionValue K) (h : List Record) → OnlyMoment old now → now.moment.state ≡ after k old.moment.state → HasPast holds now (kept room k (point_of old h)) → StandsAt holds now (gone room k (point_of old h))
+  stands_gone room k old now h only state past = (
+    ap (λ (x : State). record { history = kept room k (point_of old h); state = x; breaks = now.breaks; watches = [] }) state
+        ∙ ap (λ (bs : List ℕ). record { history = kept room k (point_of old h); state = after k old.moment.state; breaks = bs; watches = [] }) only.breaks,
+    past,
+  )
+
+-- no number of steps up to k stops, and the machine, the history and the refusals are those after k steps
+pub record Going {K : Type 0} (holds : K → List Kept → Type 0) (refusals room : K → ℕ) (old now : SessionValue K) (done : Goal) (k : ℕ) : Type 0 where
+  pub fresh : has_ended old.moment.state.status ≡ false
+  pub running : has_ended now.moment.state.status ≡ false
+  pub only : OnlyMoment old now
+  pub state : now.moment.state ≡ after k old.moment.state
+  pub past : (h : List Record) → HasPast holds old h → HasPast holds now (kept (room old.moment.keeper) k (point_of old h))
+  pub same : refusals now.moment.keeper ≡ refusals old.moment.keeper
+  pub room_same : room now.moment.keeper ≡ room old.moment.keeper
+  pub below : k < old.limit
+  pub none : (h : List Record) → steps old.limit done (point_of old h) ≡ least (λ j. is_some (stop old.limit done (point_of old h) j)) (k + 1) (old.limit - k)
+
+module _ {K : Type 0} (holds : K → List Kept → Type 0) (refusals room : K → ℕ) (old now new : SessionValue K) (done : Goal) (k : ℕ) where
+  -- the state and the history after one more step
+  state_more : Going holds refusals room old now done k → Leads now.moment.state Step new.moment.state → new.moment.state ≡ after (k + 1) old.moment.state
+  state_more i leads = rw add-one (leads.after ∙ ap next i.state)
+
+  past_more : Going holds refusals room old now done k → Makes holds (room now.moment.keeper) Step (k == 0) now.moment new.moment → (h : List Record) → HasPast holds old h → HasPast holds new (kept (room old.moment.keeper) (k + 1) (point_of old h))
+  past_more i m h st =
+      let t = m.kept _ (i.past h st) in
+      rw add-one (subst (λ (x : State). HasPast holds new (keep record_weight (room old.moment.keeper) (kept (room old.moment.keeper) k (point_of old h)) (record_of x Step (k == 0)))) i.state (subst (λ (r : ℕ). HasPast holds new (keep record_weight r (kept (room old.moment.keeper) k (point_of old h)) (record_of now.moment.state Step (k == 0)))) i.room_same t))
+
+  only_more : Going holds refusals room old now done k → OnlyMoment now new → OnlyMoment old new
+  only_more i only = record { breaks = only.breaks ∙ i.only.breaks; limit = only.limit ∙ i.only.limit }
+
+  -- why it stops or not after one more step, from where the command began
+  stop_more : Going holds refusals room old now done k → OnlyMoment now new → new.moment.state ≡ after (k + 1) old.moment.state → (why : Option Why) → ((x : State) (h : List Record) → why ≡ stop_in new.limit done (point_of new h) (k + 1) x new.moment.state) → (h : List Record) → stop old.limit done (point_of old h) (k + 1) ≡ why
+  stop_more i only e why found h =
+      let all = only_more i only in
+      let f = found (after k old.moment.state) h in
+      let from : stop_in old.limit done (point_of old h) (k + 1) (after k old.moment.state) (after (k + 1) old.moment.state) ≡ why = sym (f ∙ at_old new.limit new.breaks new.moment.state all.limit all.breaks e) in
+      rw add-one (rw add-one at from)
+    where
+      at_old : (limit : ℕ) (breaks : List ℕ) (y : State) → limit ≡ old.limit → breaks ≡ old.breaks → y ≡ after (k + 1) old.moment.state → stop_in limit done (record { history = h; state = y; breaks = breaks; watches = [] }) (k + 1) (after k old.moment.state) y ≡ stop_in old.limit done (point_of old h) (k + 1) (after k old.moment.state) (after (k + 1) old.moment.state)
+      at_old limit breaks y l b s = rw (l, b, s) refl
+
+  -- one more step that stops nothing
+  pub going_step : Going holds refusals room old now done k → Makes holds (room now.moment.keeper) Step (k == 0) now.moment new.moment → OnlyMoment now new → refusals new.moment.keeper ≡ refusals now.moment.keeper → room new.moment.keeper ≡ room now.moment.keeper → ((x : State) (h : List Record) → None ≡ stop_in new.limit done (point_of new h) (k + 1) x new.moment.state) → Going holds refusals room old new done (k + 1)
+  going_step i m only same room_same quiet =
+      let e = state_more i m.leads in
+      let all = only_more i only in
+      let o = goes_on new.limit done (point_of new []) (k + 1) now.moment.state new.moment.state (sym (quiet now.moment.state [])) in
+      let differ = o.1 in
+      let here = i.below in
+      let limit = all.limit in
+      let lt : k + 1 < old.limit = omega (arith, limit) in
+      record {
+        fresh = i.fresh;
+        running = o.0;
+        only = all;
+        state = e;
+        past = past_more i m;
+        same = same ∙ i.same;
+        room_same = room_same ∙ i.room_same;
+        below = lt;
+        none = λ h.
+            let passes : is_some (stop old.limit done (point_of old h) (k + 1)) ≡ false = ap is_some (stop_more i only e None quiet h) in
+            i.none h ∙ least_next (λ j. is_some (stop old.limit done (point_of old h) j)) (k + 1) (old.limit - k) (omega arith) passes ∙ ap (least (λ j. is_some (stop old.limit done (point_of old h) j)) (k + 1 + 1)) (let m : old.limit - k - 1 ≡ old.limit - (k + 1) = omega arith in m);
+      }
+
+  -- a step that stops the command
+  pub going_stop : Going holds refusals room old now done k → Makes holds (room now.moment.keeper) Step (k == 0) now.moment new.moment → OnlyMoment now new → refusals new.moment.keeper ≡ refusals now.moment.keeper → (why : Why) → ((x : State) (h : List Record) → Some why ≡ stop_in new.limit done (point_of new h) (k + 1) x new.moment.state) → (h : List Record) → HasPast holds old h → Obeys holds refusals old new (λ gap. unless_refused (when (has_ended old.moment.state.status) MachineEnded) (point_of old h) (forward gap (bounds_of room old) done (point_of old h))) (Ok (replies.Forward (k + 1) why))
+  going_stop i m only same why found h st =
+      let fresh = i.fresh in
+      let here = i.below in
+      let e = state_more i m.leads in
+      let there = stop_more i only e (Some why) found h in
+      let n : steps old.limit done (point_of old h) ≡ k + 1 = i.none h ∙ least_here (λ j. is_some (stop old.limit done (point_of old h) j)) (k + 1) (old.limit - k) (omega arith) (ap is_some there) in
+      let is : unless_refused (when (has_ended old.moment.state.status) MachineEnded) (point_of old h) (forward None (bounds_of room old) done (point_of old h)) ≡ taken (room old.moment.keeper) (k + 1) why (point_of old h) = rw (fresh, n, there) refl in
+      obeys_as holds refusals old new _ _ None _ is refl (stands_gone holds (room old.moment.keeper) (k + 1) old new h (only_more i only) e (past_more i m h st)) (same ∙ i.same)
+
+  -- a step that the keeper refused
+  pub going_cut : Going holds refusals room old now done k → Stays holds now.moment new.moment → OnlyMoment now new → refusals new.moment.keeper ≡ once_more (refusals now.moment.keeper) → (h : List Record) → HasPast holds old h → Obeys holds refusals old new (λ gap. unless_refused (when (has_ended old.moment.state.status) MachineEnded) (point_of old h) (forward gap (bounds_of room old) done (point_of old h))) (if k == 0 then Err OutOfMemory else Ok (replies.Forward k Memory))
+  going_cut i s only more h st =
+      let fresh = i.fresh in
+      let far : k < steps old.limit done (point_of old h) = rw (i.none h) (omega (arith, least_from (λ j. is_some (stop old.limit done (point_of old h) j)) (k + 1) (old.limit - k))) in
+      let lt : nat_lt k (steps old.limit done (point_of old h)) ≡ true = lt_true _ _ far in
+      let is : unless_refused (when (has_ended old.moment.state.status) MachineEnded) (point_of old h) (forward (Some k) (bounds_of room old) done (point_of old h)) ≡ cut_of (k == 0) (room old.moment.keeper) k (point_of old h) = rw (fresh, lt) refl in
+      let stands = stands_gone holds (room old.moment.keeper) k old new h (only_more i only) (s.state ∙ i.state) (s.stands _ (i.past h st)) in
+      obeys_as holds refusals old new _ _ (Some k) _ is (cut_answer (k == 0) (room old.moment.keeper) k (point_of old h)) (cut_point (k == 0) (room old.moment.keeper) k (point_of old h) (StandsAt holds new) (is_first k) stands) (more ∙ ap once_more i.same)

@@ -1,0 +1,99 @@
+-- Edits are refused or made as their table says.
+use Rattle.std.proofs.Common.{◌≡◌, ◌<◌, ◌==◌, ℕ, Bool, true, false, not, List, [], ◌∷◌, Option, Some, None, Ok, Err, subst, IsSome, IsNone, is_some, length, refl, sym, ap, ◌∙◌, arith}
+use Rattle.std.proofs.lemmas.Bool.Decides.{nat_tests}
+use Rattle.bpf_isa.specs.Programs.{insn_at, IsStart}
+use Rattle.bpf_machine.specs.declared.edit.Edit.{Edit}
+use Rattle.bpf_machine.specs.declared.edit.Edit.TheVariants as edit_of
+use Rattle.bpf_machine.specs.declared.edit.EditFault.{EditFault}
+use Rattle.bpf_machine.specs.declared.edit.EditFault.TheVariants as fault
+use Rattle.bpf_machine.specs.Edits.{IsEditable, RefusesEdit}
+use Rattle.bpf_machine.specs.Regions.{index_of}
+use Rattle.bpf_session.specs.Points.{Point}
+use Rattle.bpf_session.specs.Refused.{when, present, starts, edit_refusals, refusals_of}
+use Rattle.bpf_session.specs.Stops.{has}
+use Rattle.bpf_session.specs.declared.command.Command.TheVariants.{Delete}
+use Rattle.bpf_session.specs.declared.reply.Reply.TheVariants.{Ok as ok}
+use Rattle.bpf_session.specs.declared.refusal.Refusal.TheVariants.{ThereOrNot}
+use Rattle.bpf_session.specs.EditRefusals.{refusal_for, answer_to}
+use Rattle.std.specs.Prelude.{Result, OnOk, IfErr}
+use Rattle.bpf_machine.specs.State.{State}
+use Rattle.bpf_machine.specs.Edits.{edited}
+use Rattle.bpf_machine.specs.declared.moves.Move.TheVariants as move
+use Rattle.bpf_journal.specs.declared.fault.MoveFault.TheVariants as move_fault
+use Rattle.bpf_journal.specs.declared.fault.TimelineFault.{TimelineFault}
+use Rattle.bpf_journal.specs.declared.fault.TimelineFault.TheVariants as timeline_fault
+use Rattle.bpf_journal.specs.Histories.{Record, Kept, StandsFor}
+use Rattle.bpf_journal.specs.Timelines.{Moment, Makes, Stays, Fails, refusals_by}
+use Rattle.bpf_session.specs.Outcomes.{refused, replied, unless_refused}
+use Rattle.bpf_session.specs.Sessions.{SessionValue, HasPast, StandsAt, Obeys, point_of}
+use Rattle.bpf_session.specs.Tables.{made, edit, without_break}
+use Rattle.bpf_session.proofs.Answering.{obeys_as, obeys_whole}
+use Rattle.bpf_session.proofs.Forwards.{OnlyMoment}
+use Rattle.bpf_session.specs.declared.refusal.Refusal.{Refusal}
+
+some_is : {A : Type 0} (o : Option A) (refusal : Refusal) → IsSome o → when (not (is_some o)) refusal ≡ []
+some_is None refusal h = cc
+some_is (Some x) refusal h = refl
+
+none_is : {A : Type 0} (o : Option A) (refusal : Refusal) → IsNone o → when (not (is_some o)) refusal ≡ refusal ∷ []
+none_is None refusal h = refl
+none_is (Some x) refusal h = cc
+
+not_some : {A : Type 0} (o : Option A) → (IsSome o → ⊥) → IsNone o
+not_some None h = refl
+not_some (Some x) h = absurd (h refl)
+
+-- an edit that can be made is not refused
+pub edit_made : (p : Point) (e : Edit) → IsEditable p.state e → edit_refusals e p ≡ []
+edit_made p (edit_of.Register r value) able = let off : (r == 10) ≡ false = grind (arith, nat_tests) in rw off refl
+edit_made p (edit_of.Bytes a bytes) able = some_is (index_of p.state.memory a (length bytes)) _ able
+edit_made p (edit_of.Pc slot) able = some_is (insn_at p.state.program slot) _ able
+
+-- one that can't is, for the reason that is given
+pub edit_refused : (p : Point) (e : Edit) (f : EditFault) → RefusesEdit p.state e f → edit_refusals e p ≡ refusal_for f ∷ []
+edit_refused p (edit_of.Register r value) fault.RegisterNotWritable why = let on : (r == 10) ≡ true = grind (arith, nat_tests) in rw on refl
+edit_refused p (edit_of.Bytes a bytes) fault.AddressNotPresent why = none_is (index_of p.state.memory a (length bytes)) _ why
+edit_refused p (edit_of.Pc slot) fault.NoStart why = none_is (insn_at p.state.program slot) _ (not_some _ why)
+edit_refused p (edit_of.Register r value) fault.AddressNotPresent why = absurd why
+edit_refused p (edit_of.Register r value) fault.NoStart why = absurd why
+edit_refused p (edit_of.Bytes a bytes) fault.RegisterNotWritable why = absurd why
+edit_refused p (edit_of.Bytes a bytes) fault.NoStart why = absurd why
+edit_refused p (edit_of.Pc slot) fault.AddressNotPresent why = absurd why
+edit_refused p (edit_of.Pc slot) fault.RegisterNotWritable why = absurd why
+
+module _ {K : Type 0} (holds : K → List Kept → Type 0) (refusals room : K → ℕ) (old new : SessionValue K) (e : Edit) where
+  -- where it stands after an edit
+  stands_made : OnlyMoment old new → Makes holds (room old.moment.keeper) (move.Edit e) true old.moment new.moment → (h : List Record) → HasPast holds old h → StandsAt holds new (made (room old.moment.keeper) e (point_of old h))
+  stands_made only m h past = (
+    ap (λ (x : State). record { history = (made (room old.moment.keeper) e (point_of old h)).history; state = x; breaks = new.breaks; watches = [] }) m.leads.after
+        ∙ ap (λ (bs : List ℕ). record { history = (made (room old.moment.keeper) e (point_of old h)).history; state = edited old.moment.state e; breaks = bs; watches = [] }) only.breaks,
+    m.kept h past,
+  )
+
+  -- where it stands after a refused one
+  stands_same : OnlyMoment old new → Stays holds old.moment new.moment → (h : List Record) → HasPast holds old h → StandsAt holds new (point_of old h)
+  stands_same only s h past = (
+    ap (λ (x : State). record { history = h; state = x; breaks = new.breaks; watches = [] }) s.state
+        ∙ ap (λ (bs : List ℕ). record { history = h; state = old.moment.state; breaks = bs; watches = [] }) only.breaks,
+    s.stands h past,
+  )
+
+  -- an edit that was tried
+  pub edit_obeys : (tried : Result (Unit {0}) TimelineFault) → OnlyMoment old new → OnOk tried (Makes holds (room old.moment.keeper) (move.Edit e) true old.moment new.moment) → IfErr tried (Fails holds (move.Edit e) old.moment new.moment) → refusals new.moment.keeper ≡ refusals_by tried (refusals old.moment.keeper) → (h : List Record) → HasPast holds old h → Obeys holds refusals old new (λ gap. unless_refused (edit_refusals e (point_of old h)) (point_of old h) (edit gap (room old.moment.keeper) e (point_of old h))) (answer_to tried)
+  edit_obeys (Ok u) only m f counted h past =
+      let none = edit_made (point_of old h) e m.leads.movable in
+      obeys_whole holds refusals old new _ _ _ (ap (λ (rs : List Refusal). unless_refused rs (point_of old h) (edit None (room old.moment.keeper) e (point_of old h))) none) refl (stands_made only m h past) counted
+  edit_obeys (Err timeline_fault.OutOfMemory) only m f counted h past =
+      let none = edit_made (point_of old h) e f.0 in
+      obeys_as holds refusals old new _ _ (Some 0) _ (ap (λ (rs : List Refusal). unless_refused rs (point_of old h) (edit (Some 0) (room old.moment.keeper) e (point_of old h))) none) refl (stands_same only f.1 h past) counted
+  edit_obeys (Err (timeline_fault.Move (move_fault.Edit fault))) only m f counted h past =
+      let some = edit_refused (point_of old h) e fault f.0 in
+      let same : Stays holds old.moment new.moment = record { state = ap (λ (t : Moment K). t.state) f.1; stands = λ g st. subst (λ (t : Moment K). StandsFor holds t.keeper t.state g) (sym f.1) st } in
+      obeys_whole holds refusals old new _ _ _ (ap (λ (rs : List Refusal). unless_refused rs (point_of old h) (edit None (room old.moment.keeper) e (point_of old h))) some) refl (stands_same only same h past) counted
+  edit_obeys (Err (timeline_fault.Move move_fault.Ended)) only m f counted h past = absurd f.0
+
+module _ {K : Type 0} (holds : K → List Kept → Type 0) (refusals : K → ℕ) (s : SessionValue K) where
+  -- no breakpoint is removed where none is
+  pub delete_refused : (slot : ℕ) → has s.breaks slot ≡ false → (h : List Record) → HasPast holds s h → Obeys holds refusals s s (λ _. unless_refused (refusals_of (Delete slot) (point_of s h)) (point_of s h) (replied ok (without_break slot (point_of s h)))) (Err ThereOrNot)
+  delete_refused slot none h past =
+      obeys_whole holds refusals s s _ _ (refused ThereOrNot (point_of s h)) (ap (λ (b : Bool). unless_refused (when (not b) ThereOrNot) (point_of s h) (replied ok (without_break slot (point_of s h)))) none) refl (refl, past) refl

@@ -1,0 +1,27 @@
+use Rattle.std.proofs.Common.{◌≤◌, ◌<◌, refl, sym, ◌∙◌, arith}
+use Rattle.bpf_session.proofs.Backwards.{seeking_step, seeking_found, seeking_on, looked}
+use Rattle.bpf_session.proofs.session.Session.back_to.Goals as goal
+
+pub returns-in_default-clause-back : goal.returns-in_default-clause-back
+returns-in_default-clause-back g c = λ h past.
+    let n = c.len-kept.ensures h (rw (← c.self.view_is) at past) in
+    let here = c.loop-k-test.true in
+    absurd (seeking_on _ _ _ _ _ _ _ _ _ _ _ (rw (← c.self-in-loop-k.view_is) at c.loop-k.invariant) (record { breaks = refl; limit = refl }) c.in_default.ensures.back refl h past (omega arith))
+
+pub overflow_sub-left : goal.overflow_sub-left
+overflow_sub-left g c =
+    let one = c.loop-k.invariant.some in
+    let few = c.hits-left.ensures.fits in
+    omega arith
+
+pub returns-then-left-eq0-clause-back : goal.returns-then-left-eq0-clause-back
+returns-then-left-eq0-clause-back g c = λ h past.
+    let i = rw (← c.self-in-loop-k.view_is) at c.loop-k.invariant in
+    let n = c.len-kept.ensures h (rw (← c.self.view_is) at past) in
+    let here = c.loop-k-test.true in
+    seeking_found _ _ _ _ _ _ _ _ _ _ _ i (record { breaks = refl; limit = refl }) c.in-Some.ensures.back _ (looked {K = g.row.K.Denot} c.args.self.now (record { moment = c.back.new.self; breaks = c.self-in-loop-k.inside.breaks; limit = c.self-in-loop-k.inside.limit }) _ _ _ _ i.only.breaks c.hits-left.ensures.value) c.if-left-eq0.true h past (omega arith)
+
+pub loop-k-preserved : goal.loop-k-preserved
+loop-k-preserved g c =
+    let i = rw (← c.self-in-loop-k.view_is) at c.loop-k.invariant in
+    seeking_step _ _ _ _ _ _ _ _ _ _ _ i (record { breaks = refl; limit = refl }) c.in-Some.ensures.back _ c.in-Some.ensures.refused c.in-Some.ensures.room (looked {K = g.row.K.Denot} c.args.self.now (record { moment = c.back.new.self; breaks = c.self-in-loop-k.inside.breaks; limit = c.self-in-loop-k.inside.limit }) _ _ _ _ i.only.breaks c.hits-left.ensures.value) c.if-left-eq0.false
