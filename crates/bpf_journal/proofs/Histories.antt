@@ -9,7 +9,7 @@ use Rattle.bpf_machine.specs.Edits.{edit_entry}
 use Rattle.bpf_machine.specs.Moves.{Leads, HasCome, overwritten}
 use Rattle.bpf_machine.specs.State.{State}
 use Rattle.bpf_machine.specs.declared.change.Change.{Change}
-use Rattle.bpf_machine.specs.declared.change.Change.TheVariants.{Set, Go, Store, Stop}
+use Rattle.bpf_machine.specs.declared.change.Change.TheVariants.{Set, Go, Store, Fetch, Call, Return, Cell, Trace, Stop}
 use Rattle.bpf_machine.specs.declared.moves.Move.TheVariants as move
 use Rattle.bpf_machine.specs.declared.compact.CompactEntry.{CompactEntry}
 use Rattle.bpf_machine.specs.declared.compact.CompactEntry.TheVariants as compact
@@ -38,12 +38,18 @@ unfolding entry_of
 of_change x (Set r value next) = refl
 of_change x (Go next) = refl
 of_change x (Store a at size value next) = refl
+of_change x (Fetch a at size value r next) = refl
+of_change x (Call to) = refl
+of_change x Return = refl
+of_change x (Cell a from n next) = refl
+of_change x (Trace word next) = refl
 of_change x (Stop status) = refl
 
 not_of_edit : (x : State) (e : Edit) → is_of_step (edit_entry x e) ≡ false
 unfolding edit_entry
 not_of_edit x (edit.Register r value) = refl
 not_of_edit x (edit.Bytes a bytes) = refl
+not_of_edit x (edit.Cell map index bytes) = refl
 not_of_edit x (edit.Pc slot) = refl
 
 pub of_move : (x : State) (m : Move) → is_of_step (overwritten x m) ≡ is_step m
@@ -55,6 +61,9 @@ unfolding expanded
 of_compact (compact.Register register pc value) = refl
 of_compact (compact.Jump pc) = refl
 of_compact (compact.Store size pc address old) = refl
+of_compact (compact.Fetch size register pc address old value) = refl
+of_compact (compact.Call pc) = refl
+of_compact (compact.Trace pc r0) = refl
 of_compact compact.End = refl
 
 abbrev the_taken : Bool → Bool → Taken

@@ -6,16 +6,17 @@ use Rattle.bpf_machine.specs.declared.edit.Edit.{Edit}
 use Rattle.bpf_machine.specs.declared.edit.Edit.TheVariants as edit_of
 use Rattle.bpf_machine.specs.declared.edit.EditFault.{EditFault}
 use Rattle.bpf_machine.specs.declared.edit.EditFault.TheVariants as fault
-use Rattle.bpf_machine.specs.Edits.{IsEditable, RefusesEdit}
+use Rattle.bpf_machine.specs.Edits.{IsEditable, RefusesEdit, HasCell}
+use Rattle.bpf_isa.specs.declared.maps.MapShape.{MapShape}
 use Rattle.bpf_machine.specs.Regions.{index_of}
 use Rattle.bpf_session.specs.Points.{Point}
-use Rattle.bpf_session.specs.Refused.{when, present, starts, edit_refusals, refusals_of}
+use Rattle.bpf_session.specs.Refused.{when, present, starts, edit_refusals, refusals_of, has_cell}
 use Rattle.bpf_session.specs.Stops.{has}
 use Rattle.bpf_session.specs.declared.command.Command.TheVariants.{Delete}
 use Rattle.bpf_session.specs.declared.reply.Reply.TheVariants.{Ok as ok}
-use Rattle.bpf_session.specs.declared.refusal.Refusal.TheVariants.{ThereOrNot}
+use Rattle.bpf_session.specs.declared.refusal.Refusal.TheVariants.{ThereOrNot, NoCell}
 use Rattle.bpf_session.specs.EditRefusals.{refusal_for, answer_to}
-use Rattle.std.specs.Prelude.{Result, OnOk, IfErr}
+use Rattle.std.specs.Prelude.{Result, OnOk, IfErr, ◌&&◌, nat_lt, slice_get}
 use Rattle.bpf_machine.specs.State.{State}
 use Rattle.bpf_machine.specs.Edits.{edited}
 use Rattle.bpf_machine.specs.declared.moves.Move.TheVariants as move
@@ -43,16 +44,34 @@ not_some : {A : Type 0} (o : Option A) → (IsSome o → ⊥) → IsNone o
 not_some None h = refl
 not_some (Some x) h = absurd (h refl)
 
+cell_there : (o : Option MapShape) (index n : ℕ) → HasCell o index n → when (not (has_cell o index n)) NoCell ≡ []
+cell_there None index n h = absurd h
+cell_there (Some shape) index n h =
+    let low : nat_lt index shape.entries ≡ true = let lt = h.0 in grind (arith, nat_tests) in
+    let whole : (n == shape.value_size) ≡ true = let is = h.1 in grind (arith, nat_tests) in
+    rw (low, whole) refl
+
+cell_missing : (o : Option MapShape) (index n : ℕ) → ¬ HasCell o index n → when (not (has_cell o index n)) NoCell ≡ NoCell ∷ []
+cell_missing None index n h = refl
+cell_missing (Some shape) index n h = at (nat_lt index shape.entries) (n == shape.value_size) refl refl
+  where
+    at : (low whole : Bool) → nat_lt index shape.entries ≡ low → (n == shape.value_size) ≡ whole → when (not (low && whole)) NoCell ≡ NoCell ∷ []
+    at true true l w = absurd (h (let lt : index < shape.entries = grind (arith, nat_tests) in lt, let is : n ≡ shape.value_size = grind (arith, nat_tests) in is))
+    at true false l w = refl
+    at false whole l w = refl
+
 -- an edit that can be made is not refused
 pub edit_made : (p : Point) (e : Edit) → IsEditable p.state e → edit_refusals e p ≡ []
 edit_made p (edit_of.Register r value) able = let off : (r == 10) ≡ false = grind (arith, nat_tests) in rw off refl
 edit_made p (edit_of.Bytes a bytes) able = some_is (index_of p.state.memory a (length bytes)) _ able
+edit_made p (edit_of.Cell map index bytes) able = cell_there (slice_get p.state.program.maps map) index (length bytes) able
 edit_made p (edit_of.Pc slot) able = some_is (insn_at p.state.program slot) _ able
 
 -- one that can't is, for the reason that is given
 pub edit_refused : (p : Point) (e : Edit) (f : EditFault) → RefusesEdit p.state e f → edit_refusals e p ≡ refusal_for f ∷ []
 edit_refused p (edit_of.Register r value) fault.RegisterNotWritable why = let on : (r == 10) ≡ true = grind (arith, nat_tests) in rw on refl
 edit_refused p (edit_of.Bytes a bytes) fault.AddressNotPresent why = none_is (index_of p.state.memory a (length bytes)) _ why
+edit_refused p (edit_of.Cell map index bytes) fault.NoCell why = cell_missing (slice_get p.state.program.maps map) index (length bytes) why
 edit_refused p (edit_of.Pc slot) fault.NoStart why = none_is (insn_at p.state.program slot) _ (not_some _ why)
 edit_refused p (edit_of.Register r value) fault.AddressNotPresent why = absurd why
 edit_refused p (edit_of.Register r value) fault.NoStart why = absurd why
@@ -60,6 +79,12 @@ edit_refused p (edit_of.Bytes a bytes) fault.RegisterNotWritable why = absurd wh
 edit_refused p (edit_of.Bytes a bytes) fault.NoStart why = absurd why
 edit_refused p (edit_of.Pc slot) fault.AddressNotPresent why = absurd why
 edit_refused p (edit_of.Pc slot) fault.RegisterNotWritable why = absurd why
+edit_refused p (edit_of.Register r value) fault.NoCell why = absurd why
+edit_refused p (edit_of.Bytes a bytes) fault.NoCell why = absurd why
+edit_refused p (edit_of.Cell map index bytes) fault.AddressNotPresent why = absurd why
+edit_refused p (edit_of.Cell map index bytes) fault.RegisterNotWritable why = absurd why
+edit_refused p (edit_of.Cell map index bytes) fault.NoStart why = absurd why
+edit_refused p (edit_of.Pc slot) fault.NoCell why = absurd why
 
 module _ {K : Type 0} (holds : K → List Kept → Type 0) (refusals room : K → ℕ) (old new : SessionValue K) (e : Edit) where
   -- where it stands after an edit

@@ -3,7 +3,7 @@ use Rattle.std.specs.Prelude.{ℕ, List, ◌++◌}
 use lib.Chars.{codes}
 use Rattle.std.specs.Fmt.{decimal}
 use Rattle.bpf_session.specs.declared.refusal.Refusal.{Refusal}
-use Rattle.bpf_session.specs.declared.refusal.Refusal.TheVariants.{UnknownCommand, WrongArgument, MachineEnded, NoKeptStep, FewerCommands, AddressNotPresent, RegisterNotWritable, NoStart, TableFull, ThereOrNot, LineTooLong, OutOfMemory}
+use Rattle.bpf_session.specs.declared.refusal.Refusal.TheVariants.{UnknownCommand, WrongArgument, MachineEnded, NoKeptStep, FewerCommands, AddressNotPresent, RegisterNotWritable, NoStart, TableFull, ThereOrNot, LineTooLong, NoCell, OutOfMemory}
 
 -- the number that stands after Q
 abbrev pub number_of : Refusal → ℕ
@@ -18,6 +18,7 @@ number_of NoStart = 8
 number_of TableFull = 10
 number_of ThereOrNot = 11
 number_of LineTooLong = 12
+number_of NoCell = 14
 number_of OutOfMemory = 15
 
 -- the text that stands after the number
@@ -33,6 +34,7 @@ text_of NoStart = codes "no instruction starts there"
 text_of TableFull = codes "table is full"
 text_of ThereOrNot = codes "not there or already there"
 text_of LineTooLong = codes "line too long"
+text_of NoCell = codes "no such cell or wrong length"
 text_of OutOfMemory = codes "out of memory"
 
 -- the line that answers a refused command, as `refused Q12: line too long`

@@ -1,5 +1,6 @@
 -- Which refusals of a command hold at a point, in the order of their numbers: the first is answered.
-use Rattle.std.specs.Prelude.{ℕ, Bool, true, false, not, List, [], ◌∷◌, ◌++◌, length, is_some, ◌==◌, nat_le, nat_lt}
+use Rattle.std.specs.Prelude.{ℕ, Bool, true, false, not, ◌&&◌, Option, Some, None, List, [], ◌∷◌, ◌++◌, length, slice_get, is_some, ◌==◌, nat_le, nat_lt}
+use Rattle.bpf_isa.specs.declared.maps.MapShape.{MapShape}
 use Rattle.bpf_isa.specs.Programs.{insn_at}
 use Rattle.bpf_machine.specs.Regions.{index_of}
 use Rattle.bpf_machine.specs.Status.{has_ended}
@@ -12,7 +13,7 @@ use Rattle.bpf_session.specs.Backward.{marks, kept_steps}
 use Rattle.bpf_session.specs.declared.command.Command.{Command}
 use Rattle.bpf_session.specs.declared.command.Command.TheVariants as command
 use Rattle.bpf_session.specs.declared.refusal.Refusal.{Refusal}
-use Rattle.bpf_session.specs.declared.refusal.Refusal.TheVariants.{MachineEnded, NoKeptStep, FewerCommands, AddressNotPresent, RegisterNotWritable, NoStart, TableFull, ThereOrNot}
+use Rattle.bpf_session.specs.declared.refusal.Refusal.TheVariants.{MachineEnded, NoKeptStep, FewerCommands, AddressNotPresent, RegisterNotWritable, NoStart, TableFull, ThereOrNot, NoCell}
 
 -- A refusal where a test holds.
 abbrev pub when : Bool → Refusal → List Refusal
@@ -26,10 +27,16 @@ present p a n = is_some (index_of p.state.memory a n)
 abbrev pub starts : Point → ℕ → Bool
 starts p slot = is_some (insn_at p.state.program slot)
 
+-- There is a map with this number, whose cells go past this index and have so many bytes.
+abbrev pub has_cell : Option MapShape → ℕ → ℕ → Bool
+has_cell None index n = false
+has_cell (Some shape) index n = nat_lt index shape.entries && (n == shape.value_size)
+
 -- An edit's.
 abbrev pub edit_refusals : Edit → Point → List Refusal
 edit_refusals (edit.Bytes a bytes) p = when (not (present p a (length bytes))) AddressNotPresent
 edit_refusals (edit.Register r value) p = when (r == 10) RegisterNotWritable
+edit_refusals (edit.Cell map index bytes) p = when (not (has_cell (slice_get p.state.program.maps map) index (length bytes))) NoCell
 edit_refusals (edit.Pc slot) p = when (not (starts p slot)) NoStart
 
 -- A command's.

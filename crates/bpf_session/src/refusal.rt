@@ -27,6 +27,8 @@ pub enum Refusal {
     ThereOrNot,
     /// Q12: the line is longer than 1,024 bytes.
     LineTooLong,
+    /// Q14: there is no such map, its cells end before the index, or its values have another length.
+    NoCell,
     /// Q15: the first move of the command couldn't be kept.
     OutOfMemory,
 }
@@ -48,6 +50,7 @@ impl Refusal {
             Refusal::TableFull => 10,
             Refusal::ThereOrNot => 11,
             Refusal::LineTooLong => 12,
+            Refusal::NoCell => 14,
             Refusal::OutOfMemory => 15,
         }
     }
@@ -68,6 +71,7 @@ impl Refusal {
             Refusal::TableFull => "table is full",
             Refusal::ThereOrNot => "not there or already there",
             Refusal::LineTooLong => "line too long",
+            Refusal::NoCell => "no such cell or wrong length",
             Refusal::OutOfMemory => "out of memory",
         }
     }

@@ -18,7 +18,7 @@ use bpf_journal::{Keeper, MoveFault, TimelineFault};
 use bpf_machine::{Edit, EditFault};
 
 impl<K: Keeper> Session<K> {
-    /// Makes an edit, a marked move. Q6, Q7 or Q8 where it can't be made, Q15 where the keeper can't keep it.
+    /// Makes an edit, a marked move. Q6, Q7, Q8 or Q14 where it can't be made, Q15 where the keeper can't keep it.
     pub(crate) fn edit(&mut self, edit: &Edit) -> Result<Reply, Refusal>
         ensures value { (h : List Record) → HasPast K.holds self.old h →
             Obeys K.holds K.refused self.old self.new (λ gap. unless_refused
@@ -136,5 +136,6 @@ fn refusal_of(fault: EditFault) -> Refusal
         EditFault::AddressNotPresent => Refusal::AddressNotPresent,
         EditFault::RegisterNotWritable => Refusal::RegisterNotWritable,
         EditFault::NoStart => Refusal::NoStart,
+        EditFault::NoCell => Refusal::NoCell,
     }
 }
