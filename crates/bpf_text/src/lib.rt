@@ -33,4 +33,5 @@ pub use hexadecimal::put_hexadecimal;
 pub use insn::{put_insn, put_label, write_insn};
 pub use laws::{canonical_listing, one_reading};
 pub use reading::read_byte;
+pub use token::parse_register;
 pub use writing::{put, put_decimal, put_signed, write_text};

@@ -3,6 +3,7 @@ ghost use Rattle.std.specs.Prelude.{◌≡◌, ◌==◌, ◌<◌, ◌≤◌, ◌
 ghost use Rattle.std.specs.List.{list_all, position_or_len};
 ghost use Rattle.std.specs.Str.Parse.{digits_value};
 ghost use Rattle.std.specs.Char.{digit_value};
+ghost use Rattle.std.specs.Result.{result_ok};
 ghost use Rattle.bpf_text.specs.Tokens.{both, register, numeral, has_prefix, natural, is_negative, magnitude, unsigned, immediate, wide, source, offset, base_and_offset, memory, name, is_sign, is_bracketed};
 
 use crate::cut::{before, find, is_name, trim};
@@ -22,6 +23,13 @@ pub fn register(text: &[u8]) -> Result<Reg, OperandFault>
         _ => return Err(OperandFault::Wrong),
     };
     Reg::new(number).ok_or(OperandFault::Wrong)
+}
+
+/// The register that a word names, r0 to r10; None where it is another word.
+pub fn parse_register(text: &[u8]) -> Option<Reg>
+    ensures { result ≡ result_ok (register text.now) }
+{
+    register(text).ok()
 }
 
 fn digit_value(byte: u8) -> u8
