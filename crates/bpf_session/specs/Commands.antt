@@ -2,10 +2,10 @@
 use Rattle.std.specs.Prelude.{ℕ, List, [], ◌∷◌, length, Option, Some, None, Result, Ok, Err, if◌then◌else◌, nat_lt, nat_le, ◌&&◌}
 use lib.Chars.{codes}
 use Rattle.std.specs.Option.{option_map, option_and_then, ok_or}
+use Rattle.std.specs.Result.{result_ok}
 use Rattle.std.specs.Str.{bytes_eq}
 use Rattle.hex.specs.Hex.{decode_of}
 use Rattle.bpf_text.specs.Tokens.{register}
-use Rattle.bpf_machine.specs.declared.edit.Edit.{Edit}
 use Rattle.bpf_machine.specs.declared.edit.Edit.TheVariants as edit
 use Rattle.bpf_session.specs.Limits.{greatest_count, greatest_span, longest_bytes, longest_line}
 use Rattle.bpf_session.specs.Lines.{words, number}
@@ -17,11 +17,6 @@ use Rattle.bpf_session.specs.declared.refusal.Refusal.TheVariants.{UnknownComman
 -- what the words after a name make of a command, None where one is wrong, missing or too many
 abbrev pub Arguments : Type 0
 Arguments = List (List ℕ) → Option Command
-
--- what a reading gives, if it gives anything
-abbrev pub ok : {A E : Type 0} → Result A E → Option A
-ok (Ok value) = Some value
-ok (Err fault) = None
 
 -- no word
 abbrev pub bare : Command → Arguments
@@ -44,24 +39,33 @@ abbrev pub counted : (ℕ → Command) → Arguments
 counted command more = option_map command (optional_count more)
 
 -- one number
+abbrev pub one_number : List (List ℕ) → Option ℕ
+one_number (word ∷ []) = number word
+one_number _ = None
+
 abbrev pub numbered : (ℕ → Command) → Arguments
-numbered command (word ∷ []) = option_map command (number word)
-numbered command _ = None
+numbered command more = option_map command (one_number more)
 
--- a number, and how much from there on
+-- a number, and how much is shown from there on
+abbrev pub number_and_span : List (List ℕ) → Option (ℕ × ℕ)
+number_and_span (word ∷ span ∷ []) =
+    option_and_then (λ n. option_map (λ most. (n, most)) (number_within greatest_span span)) (number word)
+number_and_span _ = None
+
 abbrev pub spanned : (ℕ → ℕ → Command) → Arguments
-spanned command (word ∷ span ∷ []) =
-    option_and_then (λ n. option_map (λ most. command n most) (number_within greatest_span span)) (number word)
-spanned command _ = None
+spanned command more = option_map (λ p. command p.0 p.1) (number_and_span more)
 
--- bytes as hexadecimal digits, two a byte: 1 to 256 bytes
+-- bytes as hexadecimal digits of either case, two a byte: 1 to 256 bytes
+abbrev pub byte_string : List ℕ → Option (List ℕ)
+byte_string bytes = if nat_le 1 (length bytes) && nat_le (length bytes) longest_bytes then Some bytes else None
+
 abbrev pub bytes_of : List ℕ → Option (List ℕ)
-bytes_of word = option_and_then (λ bytes. if nat_le 1 (length bytes) && nat_le (length bytes) longest_bytes then Some bytes else None) (ok (decode_of word))
+bytes_of word = option_and_then byte_string (result_ok (decode_of word))
 
 -- `set reg`: a register and a number
 abbrev pub set_register : Arguments
 set_register (word ∷ value ∷ []) =
-    option_and_then (λ r. option_map (λ n. command.Edit (edit.Register r n)) (number value)) (ok (register word))
+    option_and_then (λ r. option_map (λ n. command.Edit (edit.Register r n)) (number value)) (result_ok (register word))
 set_register _ = None
 
 -- `set mem`: an address and bytes
