@@ -10,6 +10,8 @@ mod refusal;
 mod reply;
 mod session;
 mod sought;
+#[cfg(test)]
+mod tests;
 mod until;
 mod words;
 

@@ -1,0 +1,2 @@
+//! Tests of what no contract says.
+mod lines;
