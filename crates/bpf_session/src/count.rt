@@ -57,7 +57,7 @@ pub const GREATEST_SPAN: u64 = 256;
 /// How many bytes or instructions a command shows: 1 to 256.
 #[derive(Clone, Copy)]
 pub struct Span {
-    value: u64,
+    len: u64,
 }
 
 impl Model for Span {
@@ -66,31 +66,31 @@ impl Model for Span {
 
     ghost Value = { ℕ };
 
-    ghost view = { λ span. span.value };
+    ghost view = { λ span. span.len };
 
-    ghost invariant = { λ span. (1 ≤ span.value) × (span.value ≤ greatest_span) };
+    ghost invariant = { λ span. (1 ≤ span.len) × (span.len ≤ greatest_span) };
 
-    ghost inverse = { λ n. record { value = n } };
+    ghost inverse = { λ n. record { len = n } };
 }
 
 impl Span {
-    /// The span of this value, None for 0 and above 256.
-    pub fn new(value: u64) -> Option<Span>
-        ensures found { IsSome result ↔ ((1 ≤ value) × (value ≤ greatest_span)) }
-        ensures value { IfSome result (λ span. span ≡ value) }
+    /// The span of this length, None for 0 and above 256.
+    pub fn new(len: u64) -> Option<Span>
+        ensures found { IsSome result ↔ ((1 ≤ len) × (len ≤ greatest_span)) }
+        ensures value { IfSome result (λ span. span ≡ len) }
     {
-        if (1..=GREATEST_SPAN).contains(&value) {
-            Some(Span { value })
+        if (1..=GREATEST_SPAN).contains(&len) {
+            Some(Span { len })
         } else {
             None
         }
     }
 
-    /// The span's value, 1 to 256.
+    /// The span's length, 1 to 256.
     pub fn get(&self) -> u64
         ensures value { result ≡ self.now }
         ensures fits { (1 ≤ result) × (result ≤ greatest_span) }
     {
-        self.value
+        self.len
     }
 }
