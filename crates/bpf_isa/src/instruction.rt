@@ -249,3 +249,18 @@ pub enum Insn {
         offset: u32,
     },
 }
+
+impl Insn {
+    ghost use Rattle.bpf_isa.specs.Insns.{slots_of};
+
+    /// How many slots it takes: 2 for a wide instruction, else 1.
+    pub fn slots(&self) -> usize
+        ensures value { result ≡ slots_of self.now }
+        ensures within { result ≤ 2 }
+    {
+        match *self {
+            Insn::LoadNumber { .. } | Insn::LoadMap { .. } | Insn::LoadMapValue { .. } => 2,
+            _ => 1,
+        }
+    }
+}

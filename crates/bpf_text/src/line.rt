@@ -1,7 +1,6 @@
 //! The lines of a listing.
 ghost use Rattle.std.specs.Prelude.{◌≡◌, ◌≤◌, option_map, Ok, Err, nat_le, IfOk, ◌+◌, if◌then◌else◌};
 ghost use Rattle.std.specs.List.{list_all};
-ghost use Rattle.bpf_isa.specs.Programs.{slots_of};
 ghost use Rattle.bpf_text.specs.Cuts.{code_of, label_of, body_of, is_text, is_labelled, mnemonic_part, operands_part};
 ghost use Rattle.bpf_text.specs.Listing.{insn_of, insn_of_body, read_insn, slot_after, target_of_line, target_of_body};
 
@@ -119,7 +118,7 @@ pub fn slot_after(slot: usize, insn: &Result<Option<Insn>, LineFault>) -> Result
     match insn {
         Err(fault) => Err(*fault),
         Ok(None) => Ok(slot),
-        Ok(Some(insn)) => slot_plus(slot, slots_of(insn)),
+        Ok(Some(insn)) => slot_plus(slot, insn.slots()),
     }
 }
 
@@ -136,17 +135,6 @@ fn slot_plus(slot: usize, count: usize) -> Result<usize, LineFault>
         Ok(next)
     } else {
         Err(LineFault::TooManySlots)
-    }
-}
-
-// How many slots an instruction takes.
-fn slots_of(insn: &Insn) -> usize
-    ensures value { result ≡ slots_of insn.now }
-    ensures within { result ≤ 2 }
-{
-    match *insn {
-        Insn::LoadNumber { .. } | Insn::LoadMap { .. } | Insn::LoadMapValue { .. } => 2,
-        _ => 1,
     }
 }
 
