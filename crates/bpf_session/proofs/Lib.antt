@@ -6,3 +6,5 @@ pub mod Tables
 pub mod Bytes
 pub mod Cuts
 pub mod Digits
+pub mod Flushing
+pub mod Telling

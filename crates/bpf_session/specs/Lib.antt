@@ -17,3 +17,4 @@ pub mod Marks
 pub mod Until
 pub mod Sought
 pub mod EditRefusals
+pub mod Plain

@@ -66,6 +66,10 @@ registers_from x r (suc n) = text_of_register x r ++ registers_from x (r + 1) n
 unfoldable pub text_of_registers : State → List ℕ
 text_of_registers x = codes "r0=" ++ hexadecimal (register x 0) ++ registers_from x 1 10
 
+-- the registers, and where the machine stands
+abbrev pub text_of_state : State → List ℕ
+text_of_state x = text_of_registers x ++ codes "\n" ++ place x ++ codes "\n"
+
 -- a number that a frame saved, with its register's name
 abbrev pub saved_text : List ℕ → ℕ → List ℕ
 saved_text name n = codes " " ++ name ++ codes "=" ++ hexadecimal n
@@ -128,7 +132,7 @@ unfoldable pub text_of_reply : Bounds → Reply → Point → List ℕ
 text_of_reply b (reply.Forward k why) p = text_of_move k (codes " forward; ") why p.state
 text_of_reply b (reply.Back k why) p = text_of_move k (codes " back; ") why p.state
 text_of_reply b reply.Ok p = codes "ok\n"
-text_of_reply b reply.Registers p = text_of_registers p.state ++ codes "\n" ++ place p.state ++ codes "\n"
+text_of_reply b reply.Registers p = text_of_state p.state
 text_of_reply b reply.Frames p = text_of_frames p.state
 text_of_reply b reply.Breaks p = text_of_breaks p
 text_of_reply b reply.History p = text_of_history b p

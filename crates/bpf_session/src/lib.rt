@@ -6,18 +6,24 @@ mod command;
 mod count;
 mod number;
 mod parser;
+mod fault;
+mod plain;
 mod refusal;
 mod reply;
 mod session;
 mod sought;
 #[cfg(test)]
 mod tests;
+mod text;
 mod until;
 mod words;
 
 pub use command::Command;
 pub use count::{Count, Span};
 pub use parser::parse_command;
+pub use fault::RunFault;
+pub use plain::{Ending, run_plain};
 pub use refusal::Refusal;
 pub use reply::{Reply, Why};
 pub use session::Session;
+pub use text::place::write_place;

@@ -8,6 +8,7 @@ ghost use Rattle.bpf_session.specs.Sessions.{HasPast, Obeys, bounds_of, point_of
 
 mod backward;
 mod forward;
+mod replies;
 mod table;
 
 use crate::breakpoints::Breakpoints;

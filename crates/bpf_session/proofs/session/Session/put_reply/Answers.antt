@@ -1,0 +1,24 @@
+use Rattle.std.proofs.Common.{flat_map, sym, ap, ◌∙◌}
+use Rattle.std.proofs.lemmas.List.{append-nil}
+use Rattle.bpf_text.proofs.Appending.{WritesAfter-text}
+use Rattle.bpf_session.specs.Replies.{break_text, or_none, text_of_breaks, text_of_reply}
+use Rattle.bpf_session.proofs.session.Session.put_reply.Goals as goal
+
+pub returns-in-Forward : goal.returns-in-Forward
+unfolding text_of_reply
+returns-in-Forward g c = λ h past. rw c.in-Forward.is (rw c.cpu-cpu.ensures at c.put_move.ensures)
+
+pub returns-in-Back : goal.returns-in-Back
+unfolding text_of_reply
+returns-in-Back g c = λ h past. rw c.in-Back.is (rw c.cpu-cpu.ensures at c.put_move-in-Back.ensures)
+
+pub returns-in-Breaks : goal.returns-in-Breaks
+unfolding text_of_breaks text_of_reply
+returns-in-Breaks g c = λ h past.
+    let slots = c.as_slice.ensures ∙ ap (λ s. s.breaks) c.self.view_is in
+    rw c.in-Breaks.is (WritesAfter-text g.W.Write.contents _ _ _ _ _ _ c.put_breaks.ensures
+    (ap (λ xs. or_none (flat_map break_text xs)) slots ∙ ap or_none (sym (append-nil _))))
+
+pub returns-in-History : goal.returns-in-History
+unfolding text_of_reply
+returns-in-History g c = λ h past. rw c.in-History.is (c.put_history.ensures h past)

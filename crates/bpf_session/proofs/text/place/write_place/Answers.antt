@@ -1,0 +1,5 @@
+use Rattle.bpf_text.proofs.Appending.{Writes-none}
+use Rattle.bpf_session.proofs.text.place.write_place.Goals as goal
+
+pub returns : goal.returns
+returns g c = c.put_place.ensures _ _ (Writes-none g.W.Write.contents c.args.writer.now _)

@@ -1,0 +1,72 @@
+//! Runs without history.
+ghost use Rattle.std.specs.Prelude.{◌≡◌, ◌++◌, IfErr, IfOk, codes};
+ghost use Rattle.bpf_text.specs.Writing.{Writes, hexadecimal};
+ghost use Rattle.bpf_session.specs.Plain.{ending_of, plain_end, text_of_ending};
+
+use crate::fault::RunFault;
+use crate::text::registers::number_in;
+use bpf_machine::{Cpu, Ended, Status};
+use bpf_text::{Counted, WriteFault, put, put_hexadecimal};
+use std::io::Write;
+
+/// How a run ended.
+#[derive(Clone, Copy)]
+pub enum Ending {
+    /// The program has returned.
+    Exited,
+    /// A step could not be taken.
+    Faulted,
+    /// The limit of steps was reached, and the machine still runs.
+    Limit,
+}
+
+/// Takes the least number of steps after which the machine has ended or the limit is reached, and says which. Of a program that has
+/// exited it writes r0 as 0x and lower-case digits, and a line feed, and flushes; else it writes nothing. A machine that has ended
+/// before takes no step. `RunFault::Write` where a write or the flush failed: the steps were taken.
+pub fn run_plain<W: Write>(
+    cpu: &mut Cpu,
+    limit: u64,
+    writer: &mut Counted<W>,
+) -> Result<Ending, RunFault>
+    ensures next { cpu.new ≡ plain_end limit cpu.old }
+    ensures ok { IfOk result (λ ending. ending ≡ ending_of cpu.new.status) }
+    ensures err { IfErr result (λ fault. fault ≡ RunFault.Write) }
+    ensures written { Writes W.contents writer.old writer.new result (text_of_ending (ending_of cpu.new.status) cpu.new) }
+{
+    take_steps(cpu, limit);
+    match cpu.status() {
+        Status::Running => Ok(Ending::Limit),
+        Status::Faulted(_) => Ok(Ending::Faulted),
+        Status::Exited => match write_result(number_in(cpu, 0), writer) {
+            Ok(()) => Ok(Ending::Exited),
+            Err(WriteFault) => Err(RunFault::Write),
+        },
+    }
+}
+
+/// Takes steps until the machine has ended, at most the limit.
+fn take_steps(cpu: &mut Cpu, limit: u64)
+    ensures { cpu.new ≡ plain_end limit cpu.old }
+{
+    for _ in 0..limit {
+        match cpu.advance() {
+            Ok(()) => {}
+            Err(Ended) => return,
+        }
+    }
+}
+
+/// Writes a result and a line feed, and flushes.
+fn write_result<W: Write>(number: u64, writer: &mut Counted<W>) -> Result<(), WriteFault>
+    ensures { Writes W.contents writer.old writer.new result (hexadecimal number ++ codes "\n") }
+{
+    let told = put_hexadecimal(writer, Ok(()), number);
+    match put(writer, told, b"\n") {
+        Ok(()) => {}
+        Err(fault) => return Err(fault),
+    }
+    match writer.flush() {
+        Ok(()) => Ok(()),
+        Err(_) => Err(WriteFault),
+    }
+}

@@ -1,0 +1,72 @@
+//! The text of the frames of local calls.
+ghost use Rattle.std.specs.Prelude.{flat_map, reverse};
+ghost use Rattle.bpf_text.specs.Writing.{WritesAfter};
+ghost use Rattle.bpf_session.specs.Replies.{saved_text, text_of_frame, text_of_frames};
+
+use bpf_machine::{Cpu, Frame};
+use bpf_text::{Counted, WriteFault, put, put_decimal, put_hexadecimal};
+use std::io::Write;
+
+/// Writes the depth, and a line for each pushed frame, the innermost first.
+pub(crate) fn put_frames<W: Write>(
+    writer: &mut Counted<W>,
+    so_far: Result<(), WriteFault>,
+    cpu: &Cpu,
+) -> Result<(), WriteFault>
+    ensures { WritesAfter W.contents writer.old so_far writer.new result (text_of_frames cpu.now) }
+{
+    let begun = put(writer, so_far, b"depth ");
+    let counted = put_decimal(writer, begun, cpu.depth() as u64);
+    let ended = put(writer, counted, b"\n");
+    put_pushed(writer, ended, cpu)
+}
+
+/// Writes the lines of the pushed frames.
+fn put_pushed<W: Write>(
+    writer: &mut Counted<W>,
+    so_far: Result<(), WriteFault>,
+    cpu: &Cpu,
+) -> Result<(), WriteFault>
+    ensures { WritesAfter W.contents writer.old so_far writer.new result (flat_map text_of_frame (reverse cpu.now.frames)) }
+{
+    let mut told = so_far;
+    for i in 0..cpu.depth() {
+        match cpu.frame(i) {
+            Some(frame) => told = put_frame(writer, told, &frame),
+            None => return told,
+        }
+    }
+    told
+}
+
+/// Writes where a frame returns to, and the numbers of r6 to r9 that come back.
+fn put_frame<W: Write>(
+    writer: &mut Counted<W>,
+    so_far: Result<(), WriteFault>,
+    frame: &Frame,
+) -> Result<(), WriteFault>
+    ensures { WritesAfter W.contents writer.old so_far writer.new result (text_of_frame frame.now) }
+{
+    let begun = put(writer, so_far, b"returns to ");
+    let returned = put_decimal(writer, begun, u64::from(frame.return_pc));
+    let r6 = put_saved(writer, returned, b"r6", frame.saved[0]);
+    let r7 = put_saved(writer, r6, b"r7", frame.saved[1]);
+    let r8 = put_saved(writer, r7, b"r8", frame.saved[2]);
+    let r9 = put_saved(writer, r8, b"r9", frame.saved[3]);
+    put(writer, r9, b"\n")
+}
+
+/// Writes a number that a frame saved, with its register's name.
+fn put_saved<W: Write>(
+    writer: &mut Counted<W>,
+    so_far: Result<(), WriteFault>,
+    name: &[u8],
+    value: u64,
+) -> Result<(), WriteFault>
+    ensures { WritesAfter W.contents writer.old so_far writer.new result (saved_text name.now value) }
+{
+    let begun = put(writer, so_far, b" ");
+    let named = put(writer, begun, name);
+    let parted = put(writer, named, b"=");
+    put_hexadecimal(writer, parted, value)
+}
