@@ -1,12 +1,12 @@
 -- Texts that are written in pieces, one a turn of a loop.
-use Rattle.std.proofs.Common.{◌≡◌, ◌+◌, ◌-◌, ◌<◌, ℕ, suc, List, [], ◌∷◌, ◌++◌, Option, Some, None, Result, Ok, Err, drop, length, get_or, refl, sym, ap, subst, ◌∙◌, append_assoc, arith}
-use Rattle.std.specs.Prelude.{flat_map, reverse, slice_get}
+use Rattle.std.proofs.Common.{◌≡◌, ◌+◌, ◌-◌, ◌<◌, ℕ, suc, List, [], ◌∷◌, ◌++◌, Option, Some, None, Result, true, inl, inr, drop, length, get_or, refl, sym, ap, subst, ◌∙◌, append_assoc, arith}
+use Rattle.std.specs.Prelude.{flat_map, reverse, slice_get, nat_lt, if◌then◌else◌}
+use Rattle.std.specs.Option.{option_map_or}
+use Rattle.std.proofs.lemmas.Bool.Decides.{nat_tests}
 use Rattle.std.proofs.lemmas.List.{append-nil, drop_more, drop_all, length-reverse, get_or-reverse}
-use Rattle.std.proofs.lemmas.Option.{get_or_from_slice_get, slice_get_within}
-use Rattle.std.specs.Io.KnownBytes.{Keeps}
-use Rattle.bpf_text.specs.Counted.{Tally, one_more}
+use Rattle.std.proofs.lemmas.Option.{get_or_from_slice_get, slice_get_cases}
+use Rattle.bpf_text.specs.Counted.{Tally}
 use Rattle.bpf_text.specs.Writing.{Writes, WritesAfter}
-use Rattle.bpf_text.proofs.Appending.{Appends-Keeps}
 
 -- what was told so far, and the rest, make up the whole
 pub record Telling {W A E : Type 0} (contents : W → Option (List ℕ)) (old : Tally W) (before : Result A E) (now : Tally W) (result : Result A E) (rest whole : List ℕ) : Type 0 where
@@ -14,12 +14,16 @@ pub record Telling {W A E : Type 0} (contents : W → Option (List ℕ)) (old : 
   pub written : WritesAfter contents old before now result told
   pub parts : told ++ rest ≡ whole
 
+-- no text is written at first
+pub WritesAfter-nothing : {W A E : Type 0} (contents : W → Option (List ℕ)) (old : Tally W) (before : Result A E) → WritesAfter contents old before old before []
+WritesAfter-nothing contents old before = λ first front known. subst (Writes contents first old before) (sym (append-nil front)) known
+
 module _ {W A E : Type 0} (contents : W → Option (List ℕ)) (old : Tally W) (before : Result A E) where
   -- nothing yet
   pub Telling-start : (whole : List ℕ) → Telling contents old before old before whole whole
   Telling-start whole = record {
     told = [];
-    written = λ first front known. subst (Writes contents first old before) (sym (append-nil front)) known;
+    written = WritesAfter-nothing contents old before;
     parts = refl;
   }
 
@@ -49,12 +53,22 @@ pub pieces-end : {X : Type 0} (f : X → List ℕ) (xs : List X) (k : ℕ) → k
 pieces-end f xs k all = ap (flat_map f) (drop_all k xs (omega (arith, all)))
 
 -- the same of a list that is read from its end
-pub pieces-back : {X : Type 0} (f : X → List ℕ) (xs : List X) (k : ℕ) (x : X) → k < length xs → slice_get xs (length xs - 1 - k) ≡ Some x
+pieces-found : {X : Type 0} (f : X → List ℕ) (xs : List X) (k : ℕ) (x : X) → k < length xs → slice_get xs (length xs - 1 - k) ≡ Some x
     → flat_map f (drop k (reverse xs)) ≡ f x ++ flat_map f (drop (k + 1) (reverse xs))
-pieces-back {X = X} f xs k x inside found =
+pieces-found {X = X} f xs k x inside found =
     let within : k < length (reverse xs) = omega (arith, length-reverse xs) in
     let same : get_or (reverse xs) k x ≡ x = get_or-reverse xs k x inside ∙ get_or_from_slice_get xs (length xs - 1 - k) x x found in
     pieces-next f (reverse xs) k x within ∙ ap (λ (y : X). f y ++ flat_map f (drop (k + 1) (reverse xs))) same
+
+pub pieces-back : {X : Type 0} (f : X → List ℕ) (xs : List X) (k : ℕ) → k < length xs
+    → flat_map f (drop k (reverse xs))
+    ≡ option_map_or f (if nat_lt k (length xs) then slice_get xs (length xs - 1 - k) else None) [] ++ flat_map f (drop (k + 1) (reverse xs))
+pieces-back f xs k inside =
+    let t : nat_lt k (length xs) ≡ true = grind (arith, nat_tests) in
+    elim (slice_get_cases xs (length xs - 1 - k)).1 [
+      | inl p ↦ rw t (rw p.2 (pieces-found f xs k p.0 inside p.2))
+      | inr q ↦ absurd (omega (arith, q.0, inside))
+    ]
 
 pub pieces-back-end : {X : Type 0} (f : X → List ℕ) (xs : List X) (k : ℕ) → k ≡ length xs → flat_map f (drop k (reverse xs)) ≡ []
 pieces-back-end f xs k all = pieces-end f (reverse xs) k (omega (arith, length-reverse xs, all))

@@ -1,5 +1,5 @@
 //! Runs without history.
-ghost use Rattle.std.specs.Prelude.{◌≡◌, ◌++◌, IfErr, IfOk, codes};
+ghost use Rattle.std.specs.Prelude.{◌≡◌, ◌≢◌, ◌++◌, IfErr, IfOk, Ok, codes};
 ghost use Rattle.bpf_text.specs.Writing.{Writes, hexadecimal};
 ghost use Rattle.bpf_session.specs.Plain.{ending_of, plain_end, text_of_ending};
 
@@ -31,6 +31,7 @@ pub fn run_plain<W: Write>(
     ensures next { cpu.new ≡ plain_end limit cpu.old }
     ensures ok { IfOk result (λ ending. ending ≡ ending_of cpu.new.status) }
     ensures err { IfErr result (λ fault. fault ≡ RunFault.Write) }
+    ensures quiet { cpu.new.status ≢ Status.Exited → (result ≡ Ok (ending_of cpu.new.status)) × (writer.new ≡ writer.old) }
     ensures written { Writes W.contents writer.old writer.new result (text_of_ending (ending_of cpu.new.status) cpu.new) }
 {
     take_steps(cpu, limit);

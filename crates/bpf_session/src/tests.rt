@@ -1,2 +1,3 @@
 //! Tests of what no contract says.
 mod lines;
+mod texts;

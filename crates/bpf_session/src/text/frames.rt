@@ -1,5 +1,7 @@
 //! The text of the frames of local calls.
-ghost use Rattle.std.specs.Prelude.{flat_map, reverse};
+ghost use Rattle.std.specs.Option.{option_map_or};
+ghost use Rattle.std.specs.Prelude.{◌<◌, [], flat_map, reverse};
+ghost use Rattle.bpf_machine.specs.State.{depth, frame};
 ghost use Rattle.bpf_text.specs.Writing.{WritesAfter};
 ghost use Rattle.bpf_session.specs.Replies.{saved_text, text_of_frame, text_of_frames};
 
@@ -18,11 +20,11 @@ pub(crate) fn put_frames<W: Write>(
     let begun = put(writer, so_far, b"depth ");
     let counted = put_decimal(writer, begun, cpu.depth() as u64);
     let ended = put(writer, counted, b"\n");
-    put_pushed(writer, ended, cpu)
+    put_lines(writer, ended, cpu)
 }
 
-/// Writes the lines of the pushed frames.
-fn put_pushed<W: Write>(
+/// Writes the lines of the pushed frames, the innermost first.
+fn put_lines<W: Write>(
     writer: &mut Counted<W>,
     so_far: Result<(), WriteFault>,
     cpu: &Cpu,
@@ -31,16 +33,29 @@ fn put_pushed<W: Write>(
 {
     let mut told = so_far;
     for i in 0..cpu.depth() {
-        match cpu.frame(i) {
-            Some(frame) => told = put_frame(writer, told, &frame),
-            None => return told,
-        }
+        told = put_pushed(writer, told, cpu, i);
     }
     told
 }
 
+/// Writes the line of a pushed frame, 0 the innermost.
+fn put_pushed<W: Write>(
+    writer: &mut Counted<W>,
+    so_far: Result<(), WriteFault>,
+    cpu: &Cpu,
+    i: usize,
+) -> Result<(), WriteFault>
+    requires { i < depth cpu.now }
+    ensures { WritesAfter W.contents writer.old so_far writer.new result (option_map_or text_of_frame (frame cpu.now i) []) }
+{
+    match cpu.frame(i) {
+        Some(frame) => put_frame(writer, so_far, &frame),
+        None => so_far,
+    }
+}
+
 /// Writes where a frame returns to, and the numbers of r6 to r9 that come back.
-fn put_frame<W: Write>(
+pub(crate) fn put_frame<W: Write>(
     writer: &mut Counted<W>,
     so_far: Result<(), WriteFault>,
     frame: &Frame,

@@ -45,7 +45,7 @@ pub(crate) fn put_place<W: Write>(
 }
 
 /// Writes why a machine faulted.
-fn put_fault<W: Write>(
+pub(crate) fn put_fault<W: Write>(
     writer: &mut Counted<W>,
     so_far: Result<(), WriteFault>,
     fault: Fault,

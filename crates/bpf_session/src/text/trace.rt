@@ -22,7 +22,7 @@ pub(crate) fn put_trace<W: Write>(
 }
 
 /// Writes words, each with a blank in front.
-fn put_words<W: Write>(
+pub(crate) fn put_words<W: Write>(
     writer: &mut Counted<W>,
     so_far: Result<(), WriteFault>,
     words: &[u64],

@@ -8,4 +8,4 @@ returns g c = λ first front known.
     let begun = c.put-begun.ensures first front known in
     let counted = rw c.depth.ensures at (c.put_decimal-counted.ensures first _ begun) in
     let ended = c.put-ended.ensures first _ counted in
-    simp append_assoc (simp append_assoc at (c.put_pushed.ensures first _ ended))
+    simp append_assoc (simp append_assoc at (c.put_lines.ensures first _ ended))
