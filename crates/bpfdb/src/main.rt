@@ -1,25 +1,10 @@
 //! The program: a debugger that runs a BPF program (RFC 9669) forwards and backwards.
 #![tactic(auto)]
 
-mod backward;
-mod command;
-mod count;
 mod debug;
-mod forward;
-mod history;
 mod input;
-mod laws;
-mod line;
-mod machine;
-mod number;
-mod refusal;
-mod reply;
-mod script;
-mod session;
 #[cfg(test)]
 mod tests;
-mod timeline;
-mod words;
 
 use bpf_text::Counted;
 use debug::debug;
@@ -53,5 +38,5 @@ fn debug_standard_input(rt: &HostRuntime) -> Result<(), ()> {
     let output = BufWriter::new(rt.alloc(), io::writer(rt)).map_err(|_| ())?;
     let mut reader = Counted::new(input);
     let mut writer = Counted::new(output);
-    debug(rt.alloc(), &PROGRAM, &mut reader, &mut writer).map_err(|_| ())
+    debug(rt.alloc(), &PROGRAM, &[], &mut reader, &mut writer).map_err(|_| ())
 }
