@@ -64,7 +64,14 @@ row 'quit without a line feed' 0 'quit' '' ''
 row 'nothing behind quit is obeyed' 0 'stepi\nquit\nstepi\n' "$exit_at_1" ''
 row 'blanks, empty lines and a last line without a line feed' 0 \
     'stepi\r\n\n \t\nquit now\nreverse-stepi 0x2' "$exit_at_1$q2$mov_at_0" ''
-row 'bytes that are no text' 0 '\0377\nstepi\0000\nset\n' "$q1$q1$q1" ''
+row 'bytes that are no text' 0 '\0377\nstepi\0000\nset\n' "$q1$q1$q2" ''
+row 'breakpoints and the ways back to them' 0 \
+    'break 1\ncontinue\ninfo breaks\nset reg r3 0x10\ninfo history\nundo\nrc\ndelete 1\ninfo breaks\ncontinue\nundo\n' \
+    "ok\n1 forward; break; at 1: exit\nbreak 1\nok\n2 moves, 2 commands, 30 of 65536 bytes\n1 back; done; at 1: exit\n\
+1 back; start; at 0: mov r0, 42\nok\nnone\n2 forward; end; exited at 1: r0 0x2a\n2 back; done; at 0: mov r0, 42\n" ''
+row 'what is shown' 0 'disas 0 9\nx 0x200000000 4\nx 0x200000000 257\nx 0x100000000 1\ninfo frames\ninfo trace\n' \
+    "0: mov r0, 42\n1: exit\n0x200000000: 00000000\n${q2}refused Q6: address not present\ndepth 0\ntrace 0\n" ''
+row 'commands that are still to come' 0 'nexti\nfinish\nwatch 0\nredo\n' "$q1$q1$q1$q1" ''
 row 'arguments are not looked at' 0 'stepi\n' "$exit_at_1" '' stepi --help
 
 dd if=/dev/zero of="$work/script" bs=1000 count=100 2> "$work/err"
