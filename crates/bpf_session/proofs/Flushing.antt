@@ -1,5 +1,5 @@
 -- Texts that are written and then flushed.
-use Rattle.std.proofs.Common.{◌≡◌, ℕ, List, [], Option, Result, Ok, Err, sym, ap, ◌∙◌}
+use Rattle.std.proofs.Common.{◌≡◌, ℕ, List, [], Option, Ok, Err, sym, ap, ◌∙◌}
 use Rattle.std.proofs.lemmas.List.{append-nil}
 use Rattle.std.specs.Io.KnownBytes.{Keeps}
 use Rattle.bpf_text.specs.Counted.{Tally, one_more}
@@ -7,16 +7,6 @@ use Rattle.bpf_text.specs.Writing.{Writes}
 use Rattle.bpf_text.proofs.Appending.{Appends-Keeps}
 
 module _ {W : Type 0} (contents : W → Option (List ℕ)) (old : Tally W) where
-  -- what was written before a failure, whatever is answered else
-  pub Writes-fault : {A B E F : Type 0} (new : Tally W) (fault : E) (other : F) (text : List ℕ)
-      → Writes {A = A} contents old new (Err fault) text → Writes {A = B} contents old new (Err other) text
-  Writes-fault new fault other text w = record { ok = tt; same = tt; err = w.err; fault = w.fault }
-
-  -- what was written, whatever is answered else
-  pub Writes-done : {A B E F : Type 0} (new : Tally W) (value : A) (other : B) (text : List ℕ)
-      → Writes {E = E} contents old new (Ok value) text → Writes {E = F} contents old new (Ok other) text
-  Writes-done new value other text w = record { ok = w.ok; same = w.same; err = tt; fault = tt }
-
   -- a flush that went well
   pub Writes-flushed : {A B E : Type 0} (middle new : Tally W) (value : A) (other : B) (text : List ℕ)
       → Writes {E = E} contents old middle (Ok value) text → Keeps (contents middle.inner) (contents new.inner) → new.failures ≡ middle.failures

@@ -1,5 +1,5 @@
 -- The texts of replies (bpfdb's own choice).
-use Rattle.std.specs.Prelude.{ℕ, zero, suc, ◌+◌, List, [], ◌∷◌, ◌++◌, Option, Result, Ok, Err, IsSome, decimal, length, reverse, flat_map, sum_by, slice_index, unwrap_or}
+use Rattle.std.specs.Prelude.{ℕ, zero, suc, ◌+◌, List, [], ◌∷◌, ◌++◌, Result, Ok, Err, IsSome, decimal, length, reverse, flat_map, sum_by, slice_index, unwrap_or}
 use lib.Chars.{codes}
 use Rattle.std.specs.Option.{option_map_or}
 use Rattle.hex.specs.Hex.{encode_lower}

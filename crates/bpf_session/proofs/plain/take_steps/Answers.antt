@@ -1,4 +1,4 @@
-use Rattle.std.proofs.Common.{◌≡◌, ◌+◌, ◌-◌, ◌<◌, ℕ, suc, Bool, true, false, refl, sym, ap, ◌∙◌, arith}
+use Rattle.std.proofs.Common.{◌≡◌, ◌+◌, ◌-◌, ℕ, suc, Bool, true, false, refl, sym, ap, ◌∙◌, arith}
 use Rattle.bpf_machine.specs.Next.{next}
 use Rattle.bpf_machine.specs.State.{State}
 use Rattle.bpf_machine.specs.Status.{has_ended}

@@ -1,4 +1,4 @@
-use Rattle.std.proofs.Common.{◌≡◌, ◌<◌, ℕ, List, [], ◌∷◌, flat_map, length, arith, refl, sym}
+use Rattle.std.proofs.Common.{◌≡◌, ◌<◌, ℕ, List, [], ◌∷◌, flat_map, length, arith, refl}
 use Rattle.std.proofs.lemmas.Bool.Decides.{nat_tests}
 use Rattle.bpf_text.proofs.Appending.{WritesAfter-text}
 use Rattle.bpf_session.specs.Replies.{break_text, or_none}

@@ -1,5 +1,4 @@
 use Rattle.std.proofs.Common.{sym}
-use Rattle.bpf_session.specs.Replies.{text_of_frame}
 use Rattle.bpf_session.proofs.Telling.{WritesAfter-nothing}
 use Rattle.bpf_session.proofs.text.frames.put_pushed.Goals as goal
 

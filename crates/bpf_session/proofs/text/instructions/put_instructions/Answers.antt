@@ -1,4 +1,4 @@
-use Rattle.std.proofs.Common.{◌≡◌, ◌+◌, ◌-◌, ◌++◌, codes, ℕ, zero, suc, List, [], Option, Some, None, refl, sym, ap, ◌∙◌, arith}
+use Rattle.std.proofs.Common.{◌≡◌, ◌+◌, ◌-◌, ◌++◌, codes, ℕ, zero, suc, [], Some, None, refl, sym, ap, ◌∙◌, arith}
 use Rattle.bpf_isa.specs.Programs.{Checked, insn_at, slots_of}
 use Rattle.bpf_isa.specs.declared.instruction.Insn.{Insn}
 use Rattle.bpf_session.specs.Replies.{instructions_from, text_at}

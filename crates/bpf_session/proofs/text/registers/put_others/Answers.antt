@@ -1,4 +1,4 @@
-use Rattle.std.proofs.Common.{◌≡◌, ◌+◌, ◌-◌, ◌<◌, ◌++◌, ℕ, suc, List, [], arith, refl, ap, ◌∙◌}
+use Rattle.std.proofs.Common.{◌≡◌, ◌+◌, ◌-◌, ◌<◌, ◌++◌, ℕ, suc, [], arith, refl, ap, ◌∙◌}
 use Rattle.bpf_machine.specs.State.{State}
 use Rattle.bpf_session.specs.Replies.{registers_from, text_of_register}
 use Rattle.bpf_session.proofs.Telling.{Telling-start, Telling-step, Telling-end}

@@ -1,4 +1,4 @@
-use Rattle.std.proofs.Common.{arith, refl, ap, sym, ◌∙◌}
+use Rattle.std.proofs.Common.{arith}
 use Rattle.bpf_session.specs.Replies.{word_text}
 use Rattle.bpf_session.proofs.Telling.{Telling-start, Telling-step, Telling-end, pieces-next, pieces-end}
 use Rattle.bpf_session.proofs.text.trace.put_words.Goals as goal
