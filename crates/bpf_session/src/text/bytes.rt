@@ -5,13 +5,13 @@ ghost use Rattle.bpf_machine.specs.Regions.{index_of};
 ghost use Rattle.bpf_text.specs.Writing.{WritesAfter};
 ghost use Rattle.bpf_session.specs.Replies.{text_of_bytes};
 
-use crate::count::{GREATEST_SPAN, Span};
+use crate::count::Span;
 use bpf_machine::Cpu;
 use bpf_text::{Counted, WriteFault, put, put_hexadecimal};
 use hex::encode_to_slice;
 use std::io::Write;
 
-/// As many digits as the greatest span of bytes has.
+/// As many digits as the greatest span has, of 256 bytes.
 const MOST_DIGITS: usize = 512;
 
 /// Writes an address and the bytes from there on.
