@@ -74,6 +74,12 @@ set_bytes (word ∷ digits ∷ []) =
     option_and_then (λ address. option_map (λ bytes. command.Edit (edit.Bytes address bytes)) (bytes_of digits)) (number word)
 set_bytes _ = None
 
+-- `set cell`: a map, an index and bytes
+abbrev pub set_cell : Arguments
+set_cell (word ∷ place ∷ digits ∷ []) =
+    option_and_then (λ map. option_and_then (λ index. option_map (λ bytes. command.Edit (edit.Cell map index bytes)) (bytes_of digits)) (number place)) (number word)
+set_cell _ = None
+
 -- names, each with the words that may follow it
 abbrev pub Table : Type 0
 Table = List (List ℕ × Arguments)
@@ -93,6 +99,7 @@ abbrev pub settings : Table
 settings =
     (codes "reg", set_register)
     ∷ (codes "mem", set_bytes)
+    ∷ (codes "cell", set_cell)
     ∷ (codes "pc", numbered (λ slot. command.Edit (edit.Pc slot)))
     ∷ []
 

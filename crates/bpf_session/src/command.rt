@@ -16,7 +16,7 @@ pub enum Command {
     ReverseStep(Count),
     /// `reverse-continue`: goes back to the latest step from a breakpoint.
     ReverseContinue,
-    /// `set`: changes a register, bytes of memory or pc.
+    /// `set`: changes a register, bytes of memory, a cell of a map or pc.
     Edit(Edit),
     /// `break`: sets a breakpoint at a slot.
     Break(u64),

@@ -3,7 +3,7 @@ ghost use Rattle.std.specs.Prelude.{◌≡◌};
 ghost use Rattle.std.specs.Option.{ok_or};
 ghost use Rattle.std.specs.Str.{bytes_eq};
 ghost use Rattle.bpf_machine.specs.declared.edit.Edit.TheVariants as edit;
-ghost use Rattle.bpf_session.specs.Commands.{bare, bytes_of, command_named, command_of, counted, number_and_span, number_within, numbered, one_number, one_of, optional_count, set_bytes, set_register, settings, shows, spanned};
+ghost use Rattle.bpf_session.specs.Commands.{bare, bytes_of, command_named, command_of, counted, number_and_span, number_within, numbered, one_number, one_of, optional_count, set_bytes, set_cell, set_register, settings, shows, spanned};
 ghost use Rattle.bpf_session.specs.Limits.{greatest_span};
 
 use crate::command::Command;
@@ -119,6 +119,8 @@ fn set(mut words: Words) -> Result<Command, Refusal>
         set_register(words)
     } else if is(name, "mem") {
         set_bytes(words)
+    } else if is(name, "cell") {
+        set_cell(words)
     } else if is(name, "pc") {
         set_pc(words)
     } else {
@@ -148,6 +150,24 @@ fn set_bytes(mut words: Words) -> Result<Command, Refusal>
     words.end()?;
     match (parse_number(address), parse_bytes(bytes)) {
         (Some(address), Some(bytes)) => Ok(Command::Edit(Edit::Bytes { address, bytes })),
+        _ => Err(Refusal::WrongArgument),
+    }
+}
+
+// `set cell`: a map, an index and bytes.
+fn set_cell(mut words: Words) -> Result<Command, Refusal>
+    ensures value { result ≡ ok_or (set_cell words.entry) Refusal.WrongArgument }
+{
+    let map = words.next_word().ok_or(Refusal::WrongArgument)?;
+    let index = words.next_word().ok_or(Refusal::WrongArgument)?;
+    let bytes = words.next_word().ok_or(Refusal::WrongArgument)?;
+    words.end()?;
+    match (parse_number(map), parse_number(index), parse_bytes(bytes)) {
+        (Some(map), Some(index), Some(bytes)) => Ok(Command::Edit(Edit::Cell {
+            map,
+            index,
+            bytes,
+        })),
         _ => Err(Refusal::WrongArgument),
     }
 }

@@ -132,6 +132,14 @@ set mem 0x 00|refused|2 0
 set mem 18446744073709551616 00|refused|2 0
 set mem|refused|2 0
 set mem 0 00 00|refused|2 0
+set cell 0 1 0102030405060708|set cell|0 1
+set cell 18446744073709551615 0xffffffffffffffff 00|set cell|18446744073709551615 18446744073709551615
+set cell 18446744073709551616 0 00|refused|2 0
+set cell 0 18446744073709551616 00|refused|2 0
+set cell 0 0 0|refused|2 0
+set cell 0 0|refused|2 0
+set cell|refused|2 0
+set cell 0 0 00 00|refused|2 0
 set pc 0|set pc|0 0
 set pc|refused|2 0
 set pc x|refused|2 0
@@ -172,6 +180,7 @@ fn said_by_edit(edit: &Edit) -> Said<'static> {
     match edit {
         Edit::Register { register, value } => ("set reg", u64::from(register.number()), *value),
         Edit::Bytes { address, bytes } => ("set mem", *address, bytes.len() as u64),
+        Edit::Cell { map, index, .. } => ("set cell", *map, *index),
         Edit::Pc { slot } => ("set pc", *slot, 0),
     }
 }
@@ -246,7 +255,7 @@ fn numbers_and_spans(rt: HostRuntime) {
 #[test]
 fn edits_have_arguments(rt: HostRuntime) {
     try_rows(&rt, EDITS);
-    assert_eq!(rt; EDITS.lines().count(), 33);
+    assert_eq!(rt; EDITS.lines().count(), 41);
 }
 
 #[test]
