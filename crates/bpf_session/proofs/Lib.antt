@@ -4,6 +4,7 @@ pub mod Breaks
 pub mod Forwards
 pub mod Tables
 pub mod Bytes
+pub mod CommandLaws
 pub mod Cuts
 pub mod Digits
 pub mod Flushing

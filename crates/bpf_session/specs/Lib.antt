@@ -13,6 +13,7 @@ pub mod Meaning
 pub mod Replies
 pub mod Sessions
 pub mod Output
+pub mod Laws
 pub mod Marks
 pub mod Until
 pub mod Sought

@@ -1,6 +1,5 @@
 -- A session, as contracts see it.
-use Rattle.std.specs.Prelude.{◌≡◌, ◌≤◌, ℕ, List, [], Option, Some, None, Result, IsNone, OnErr}
-use Rattle.bpf_machine.specs.State.{State}
+use Rattle.std.specs.Prelude.{◌≡◌, ℕ, List, [], ◌∷◌, Option, Some, None, Result}
 use Rattle.bpf_journal.specs.Counts.{once_more}
 use Rattle.bpf_journal.specs.Histories.{Record, Kept, StandsFor}
 use Rattle.bpf_journal.specs.Timelines.{Moment}
@@ -36,6 +35,11 @@ StandsAt holds s p = (point_of s p.history ≡ p) × HasPast holds s p.history
 abbrev pub refusals_with : Option ℕ → ℕ → ℕ
 refusals_with None n = n
 refusals_with (Some kept) n = once_more n
+
+-- The same after commands with these gaps, one after another.
+abbrev pub refusals_after_all : List (Option ℕ) → ℕ → ℕ
+refusals_after_all [] n = n
+refusals_after_all (gap ∷ gaps) n = refusals_after_all gaps (refusals_with gap n)
 
 -- A command was answered as its meaning says, for some gap: how many of its moves were kept before a refused one, None where the
 -- keeper refused none. There is one more refusal where there is a gap, and else as many as before.

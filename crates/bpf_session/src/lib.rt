@@ -4,6 +4,8 @@
 mod breakpoints;
 mod command;
 mod count;
+mod fault;
+pub mod laws;
 mod number;
 mod parser;
 mod fault;

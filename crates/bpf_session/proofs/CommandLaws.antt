@@ -1,0 +1,416 @@
+-- The laws of the meaning of commands and of scripts.
+use Rattle.std.proofs.Common.{◌≡◌, ◌+◌, ◌-◌, ◌^◌, ◌<◌, ◌≤◌, ℕ, zero, suc, Bool, true, false, List, [], ◌∷◌, ◌++◌, Option, Some, None, Ok, Err, is_some, unwrap_or, length, refl, sym, ap, ◌∙◌, arith, IsNone}
+use Rattle.std.specs.Prelude.{if◌then◌else◌, nat_lt, nat_le, not, ◌==◌, min, map, count_by, cond, option_map, slice_get, drop}
+use Rattle.std.specs.Option.{option_map_or}
+use Rattle.std.proofs.lemmas.Bool.Decides.{nat_tests}
+use Rattle.std.proofs.lemmas.List.Sums.{sum_by-cons}
+use Rattle.bpf_machine.specs.State.{State}
+use Rattle.bpf_machine.specs.Status.{has_ended}
+use Rattle.bpf_machine.specs.declared.edit.Edit.TheVariants as edit
+use Rattle.bpf_machine.specs.declared.moves.Move.TheVariants.{Step}
+use Rattle.bpf_journal.specs.Histories.{Record, is_step, record_weight, fit}
+use Rattle.bpf_journal.specs.Timelines.{record_of}
+use Rattle.bpf_session.specs.Points.{Point, Bounds}
+use Rattle.bpf_session.specs.Outcomes.{Outcome, refused, unless_refused}
+use Rattle.bpf_session.specs.Stops.{breaks_at, watch_differs, has}
+use Rattle.bpf_session.specs.Forward.{Goal, after, kept, gone, stop, least, steps, reason, taken, cut, forward}
+use Rattle.bpf_session.specs.Backward.{latest, before_last, back_by, marked, stepped, stops_back, to_stop, marks, kept_steps}
+use Rattle.bpf_session.specs.Limits.{most_breaks}
+use Rattle.bpf_session.specs.Refusals.{number_of}
+use Rattle.bpf_session.specs.Refused.{when, present, starts, refusals_of}
+use Rattle.bpf_session.specs.Meaning.{accepted, does}
+use Rattle.bpf_session.specs.Sessions.{refusals_after_all}
+use Rattle.bpf_session.specs.Commands.{command_of}
+use Rattle.bpf_session.specs.Output.{effect, after_effect}
+use Rattle.bpf_session.specs.Laws.{RefusedChangesNothing, ShowsChangeNothing, Ascends, RefusalsAreInOrder, StepsAreLeast, BreakpointsStop, GoingBackGivesBack, NothingRefusedNothingMissing}
+use Rattle.bpf_session.specs.declared.command.Command.{Command}
+use Rattle.bpf_session.specs.declared.command.Command.TheVariants as command
+use Rattle.bpf_session.specs.declared.reply.Reply.{Reply}
+use Rattle.bpf_session.specs.declared.reply.Reply.TheVariants.{Forward}
+use Rattle.bpf_session.specs.declared.reply.Why.{Why}
+use Rattle.bpf_session.specs.declared.reply.Why.TheVariants.{End, Break, Watch, Done, Limit, Memory}
+use Rattle.bpf_session.specs.declared.refusal.Refusal.{Refusal}
+use Rattle.bpf_session.specs.declared.refusal.Refusal.TheVariants.{MachineEnded, NoKeptStep, FewerCommands, AddressNotPresent, RegisterNotWritable, NoStart, TableFull, ThereOrNot, OutOfMemory}
+
+-- ---- a refused command
+
+cut-refused : (gap : Option ℕ) (room k : ℕ) (why : Why) (p : Point) (r : Refusal) → (cut gap room k why p).answer ≡ Err r → (cut gap room k why p).point ≡ p
+cut-refused None room k why p r e = absurd cc
+cut-refused (Some m) room k why p r e = test (nat_lt m k) (m == 0) e
+  where
+    test : (less first : Bool) → (if less then (if first then refused OutOfMemory p else taken room m Memory p) else taken room k why p).answer ≡ Err r → (if less then (if first then refused OutOfMemory p else taken room m Memory p) else taken room k why p).point ≡ p
+    test true true e = refl
+    test true false e = absurd cc
+    test false first e = absurd cc
+
+to_stop-refused : (found : Option ℕ) (p : Point) (r : Refusal) → (to_stop found p).answer ≡ Err r → (to_stop found p).point ≡ p
+to_stop-refused None p r e = absurd cc
+to_stop-refused (Some k) p r e = absurd cc
+
+accepted-refused : (gap : Option ℕ) (b : Bounds) (c : Command) (p : Point) (r : Refusal) → (accepted gap b c p).answer ≡ Err r → (accepted gap b c p).point ≡ p
+unfolding accepted
+accepted-refused gap b (command.Step count) p r e = cut-refused gap b.room _ _ p r e
+accepted-refused gap b command.Continue p r e = cut-refused gap b.room _ _ p r e
+accepted-refused gap b (command.Undo count) p r e = absurd cc
+accepted-refused gap b (command.ReverseStep count) p r e = absurd cc
+accepted-refused gap b command.ReverseContinue p r e = to_stop-refused (latest (stops_back p) 1 p.history p.state) p r e
+accepted-refused None b (command.Edit change) p r e = absurd cc
+accepted-refused (Some m) b (command.Edit change) p r e = refl
+accepted-refused gap b (command.Break slot) p r e = absurd cc
+accepted-refused gap b (command.Delete slot) p r e = absurd cc
+accepted-refused gap b command.InfoRegisters p r e = refl
+accepted-refused gap b command.InfoFrames p r e = refl
+accepted-refused gap b command.InfoBreaks p r e = refl
+accepted-refused gap b command.InfoHistory p r e = refl
+accepted-refused gap b command.InfoTrace p r e = refl
+accepted-refused gap b (command.Examine address span) p r e = refl
+accepted-refused gap b (command.Disassemble slot span) p r e = refl
+accepted-refused gap b command.Quit p r e = refl
+
+unless-refused : (rs : List Refusal) (p : Point) (o : Outcome) (r : Refusal) → (o.answer ≡ Err r → o.point ≡ p) → (unless_refused rs p o).answer ≡ Err r → (unless_refused rs p o).point ≡ p
+unless-refused [] p o r rest e = rest e
+unless-refused (q ∷ rs) p o r rest e = refl
+
+pub refused-changes-nothing : RefusedChangesNothing
+refused-changes-nothing gap b c p r e = unless-refused (refusals_of c p) p (accepted gap b c p) r (accepted-refused gap b c p r) e
+
+-- ---- shows
+
+unless-same : (rs : List Refusal) (p : Point) (o : Outcome) → o.point ≡ p → (unless_refused rs p o).point ≡ p
+unless-same [] p o same = same
+unless-same (q ∷ rs) p o same = refl
+
+pub shows-change-nothing : ShowsChangeNothing
+unfolding accepted
+shows-change-nothing gap b (command.Step count) p show = absurd cc
+shows-change-nothing gap b command.Continue p show = absurd cc
+shows-change-nothing gap b (command.Undo count) p show = absurd cc
+shows-change-nothing gap b (command.ReverseStep count) p show = absurd cc
+shows-change-nothing gap b command.ReverseContinue p show = absurd cc
+shows-change-nothing gap b (command.Edit change) p show = absurd cc
+shows-change-nothing gap b (command.Break slot) p show = absurd cc
+shows-change-nothing gap b (command.Delete slot) p show = absurd cc
+shows-change-nothing gap b command.InfoRegisters p show = refl
+shows-change-nothing gap b command.InfoFrames p show = refl
+shows-change-nothing gap b command.InfoBreaks p show = refl
+shows-change-nothing gap b command.InfoHistory p show = refl
+shows-change-nothing gap b command.InfoTrace p show = refl
+shows-change-nothing gap b (command.Examine address span) p show = unless-same (refusals_of (command.Examine address span) p) p _ refl
+shows-change-nothing gap b (command.Disassemble slot span) p show = unless-same (refusals_of (command.Disassemble slot span) p) p _ refl
+shows-change-nothing gap b command.Quit p show = refl
+
+-- ---- the order of refusals
+
+one-alone : (test : Bool) (r : Refusal) → Ascends (map number_of (when test r))
+one-alone true r = tt
+one-alone false r = tt
+
+break-order : (a b c : Bool) → Ascends (map number_of (when a NoStart ++ when b TableFull ++ when c ThereOrNot))
+break-order true true true = (omega arith, (omega arith, tt))
+break-order true true false = (omega arith, tt)
+break-order true false true = (omega arith, tt)
+break-order true false false = tt
+break-order false true true = (omega arith, tt)
+break-order false true false = tt
+break-order false false true = tt
+break-order false false false = tt
+
+pub refusals-are-in-order : RefusalsAreInOrder
+refusals-are-in-order (command.Step count) p = one-alone (has_ended p.state.status) MachineEnded
+refusals-are-in-order command.Continue p = one-alone (has_ended p.state.status) MachineEnded
+refusals-are-in-order (command.Undo count) p = one-alone (nat_lt (marks p) count) FewerCommands
+refusals-are-in-order (command.ReverseStep count) p = one-alone (kept_steps p == 0) NoKeptStep
+refusals-are-in-order command.ReverseContinue p = one-alone (kept_steps p == 0) NoKeptStep
+refusals-are-in-order (command.Edit (edit.Bytes a bytes)) p = one-alone (not (present p a (length bytes))) AddressNotPresent
+refusals-are-in-order (command.Edit (edit.Register r value)) p = one-alone (r == 10) RegisterNotWritable
+refusals-are-in-order (command.Edit (edit.Pc slot)) p = one-alone (not (starts p slot)) NoStart
+refusals-are-in-order (command.Break slot) p = break-order (not (starts p slot)) (nat_le most_breaks (length p.breaks)) (has p.breaks slot)
+refusals-are-in-order (command.Delete slot) p = one-alone (not (has p.breaks slot)) ThereOrNot
+refusals-are-in-order (command.Examine address span) p = one-alone (not (present p address span)) AddressNotPresent
+refusals-are-in-order (command.Disassemble slot span) p = one-alone (not (starts p slot)) NoStart
+refusals-are-in-order command.InfoRegisters p = tt
+refusals-are-in-order command.InfoFrames p = tt
+refusals-are-in-order command.InfoBreaks p = tt
+refusals-are-in-order command.InfoHistory p = tt
+refusals-are-in-order command.InfoTrace p = tt
+refusals-are-in-order command.Quit p = tt
+
+-- ---- the least number of steps
+
+-- a number that passes differs from one that doesn't
+differs : (test : ℕ → Bool) (k j : ℕ) → test k ≡ false → test j ≡ true → k ≡ j → ⊥
+differs test k j off on same = let f : false ≡ true = sym off ∙ ap test same ∙ on in cc
+
+-- the least number passes, where one of those that are tried does
+least-passes : (test : ℕ → Bool) (k n j : ℕ) → k ≤ j → j < k + n → test j ≡ true → test (least test k n) ≡ true
+least-passes test k zero j a b e = absurd (omega arith)
+least-passes test k (suc n) j a b e = at (test k) refl (λ (c : k + 1 ≤ j). least-passes test (k + 1) n j c (omega arith) e)
+  where
+    at : (v : Bool) → test k ≡ v → (k + 1 ≤ j → test (least test (k + 1) n) ≡ true) → test (if v then k else least test (k + 1) n) ≡ true
+    at true q rest = q
+    at false q rest = rest (let d : k ≡ j → ⊥ = differs test k j q e in omega arith)
+
+-- and none below it does
+least-below : (test : ℕ → Bool) (k n j : ℕ) → k ≤ j → j < least test k n → test j ≡ false
+least-below test k zero j a b = absurd (omega arith)
+least-below test k (suc n) j a b = at (test k) refl b (λ (c : k + 1 ≤ j) (d : j < least test (k + 1) n). least-below test (k + 1) n j c d)
+  where
+    at : (v : Bool) → test k ≡ v → j < (if v then k else least test (k + 1) n) → (k + 1 ≤ j → j < least test (k + 1) n → test j ≡ false) → test j ≡ false
+    at true q less rest = absurd (omega arith)
+    at false q less rest = here (j == k) refl
+      where
+        here : (same : Bool) → (j == k) ≡ same → test j ≡ false
+        here true s = let same : j ≡ k = grind (arith, nat_tests) in ap test same ∙ q
+        here false s = let other : j ≡ k → ⊥ = λ same. grind (arith, nat_tests) in rest (omega arith) less
+
+least-from : (test : ℕ → Bool) (k n : ℕ) → k ≤ least test k n
+least-from test k zero = omega arith
+least-from test k (suc n) = at (test k) (least-from test (k + 1) n)
+  where
+    at : (v : Bool) → k + 1 ≤ least test (k + 1) n → k ≤ (if v then k else least test (k + 1) n)
+    at true rest = omega arith
+    at false rest = omega arith
+
+-- where one of those that are tried passes, the least is no greater
+least-at-most : (test : ℕ → Bool) (k n j : ℕ) → k ≤ j → test j ≡ true → j < least test k n → ⊥
+least-at-most test k n j a e b = let f : false ≡ true = sym (least-below test k n j a b) ∙ e in cc
+
+same-true : (n : ℕ) → (n == n) ≡ true
+same-true n = grind (arith, nat_tests)
+
+stops-at-limit : (limit : ℕ) (done : Goal) (p : Point) (k : ℕ) → 1 ≤ k → k ≡ limit → is_some (stop limit done p k) ≡ true
+stops-at-limit limit done p zero some same = absurd (omega arith)
+stops-at-limit limit done p (suc k) some same =
+    at (has_ended (after (suc k) p.state).status) (breaks_at p (after (suc k) p.state)) (watch_differs p (after k p.state) (after (suc k) p.state)) (done (suc k) (after (suc k) p.state)) (suc k == limit) (grind (arith, nat_tests))
+  where
+    at : (ended broken watched satisfied here : Bool) → here ≡ true → is_some (if ended then Some End else (if broken then Some Break else (if watched then Some Watch else (if satisfied then Some Done else (if here then Some Limit else None))))) ≡ true
+    at true broken watched satisfied here h = refl
+    at false true watched satisfied here h = refl
+    at false false true satisfied here h = refl
+    at false false false true here h = refl
+    at false false false false true h = refl
+    at false false false false false h = cc
+
+none-of : {A : Type 0} (o : Option A) → is_some o ≡ false → IsNone o
+none-of None e = refl
+none-of (Some a) e = cc
+
+pub steps-are-least : StepsAreLeast
+steps-are-least limit done p some =
+    let test : ℕ → Bool = λ k. is_some (stop limit done p k) in
+    let last : test limit ≡ true = stops-at-limit limit done p limit some refl in record {
+      some = least-from test 1 limit;
+      within = let no = least-at-most test 1 limit limit some last in omega (arith, no);
+      stops = least-passes test 1 limit limit (omega arith) (omega arith) last;
+      least = λ j one less. none-of _ (least-below test 1 limit j one less);
+    }
+
+-- ---- breakpoints on the way
+
+-- where nothing stops, no breakpoint is there
+no-break : (limit : ℕ) (done : Goal) (p : Point) (j : ℕ) → 1 ≤ j → is_some (stop limit done p j) ≡ false → breaks_at p (after j p.state) ≡ false
+no-break limit done p zero some e = absurd (omega arith)
+no-break limit done p (suc j) some e =
+    at (has_ended (after (suc j) p.state).status) (breaks_at p (after (suc j) p.state)) e
+  where
+    at : (ended broken : Bool) → is_some (if ended then Some End else (if broken then Some Break else (if watch_differs p (after j p.state) (after (suc j) p.state) then Some Watch else (if done (suc j) (after (suc j) p.state) then Some Done else (if suc j == limit then Some Limit else None))))) ≡ false → broken ≡ false
+    at true broken e = absurd cc
+    at false true e = absurd cc
+    at false false e = refl
+
+-- how many steps are told, of a command that goes forward
+cut-steps : (gap : Option ℕ) (room n k : ℕ) (because why : Why) (p : Point) → (cut gap room n because p).answer ≡ Ok (Forward k why) → k ≤ n
+cut-steps None room n k because why p e = let s : n ≡ k = cc in omega arith
+cut-steps (Some m) room n k because why p e = test (nat_lt m n) refl (m == 0) e
+  where
+    test : (less : Bool) → nat_lt m n ≡ less → (first : Bool) → (if less then (if first then refused OutOfMemory p else taken room m Memory p) else taken room n because p).answer ≡ Ok (Forward k why) → k ≤ n
+    test true l true e = absurd cc
+    test true l false e = let s : m ≡ k = cc in let t : m < n = grind (arith, nat_tests) in omega arith
+    test false l first e = let s : n ≡ k = cc in omega arith
+
+unless-is : (rs : List Refusal) (p : Point) (o : Outcome) (r : Reply) → (unless_refused rs p o).answer ≡ Ok r → unless_refused rs p o ≡ o
+unless-is [] p o r e = refl
+unless-is (q ∷ rs) p o r e = absurd cc
+
+to_stop-back : (found : Option ℕ) (p : Point) (k : ℕ) (why : Why) → (to_stop found p).answer ≡ Ok (Forward k why) → ⊥
+to_stop-back None p k why e = cc
+to_stop-back (Some n) p k why e = cc
+
+way : (limit : ℕ) (done : Goal) (p : Point) (k : ℕ) → k ≤ steps limit done p → (j : ℕ) → 1 ≤ j → j < k → breaks_at p (after j p.state) ≡ false
+way limit done p k most j some less = no-break limit done p j some (least-below (λ i. is_some (stop limit done p i)) 1 limit j some (omega arith))
+
+-- a command that goes forward takes steps up to some goal
+accepted-forward : (gap : Option ℕ) (b : Bounds) (c : Command) (p : Point) (k : ℕ) (why : Why) → (accepted gap b c p).answer ≡ Ok (Forward k why) → (done : Goal) × (accepted gap b c p ≡ forward gap b done p)
+unfolding accepted
+accepted-forward gap b (command.Step count) p k why e = ((λ i x. i == count), refl)
+accepted-forward gap b command.Continue p k why e = ((λ i x. false), refl)
+accepted-forward gap b (command.Undo count) p k why e = absurd cc
+accepted-forward gap b (command.ReverseStep count) p k why e = absurd cc
+accepted-forward gap b command.ReverseContinue p k why e = absurd (to_stop-back (latest (stops_back p) 1 p.history p.state) p k why e)
+accepted-forward None b (command.Edit change) p k why e = absurd cc
+accepted-forward (Some m) b (command.Edit change) p k why e = absurd cc
+accepted-forward gap b (command.Break slot) p k why e = absurd cc
+accepted-forward gap b (command.Delete slot) p k why e = absurd cc
+accepted-forward gap b command.InfoRegisters p k why e = absurd cc
+accepted-forward gap b command.InfoFrames p k why e = absurd cc
+accepted-forward gap b command.InfoBreaks p k why e = absurd cc
+accepted-forward gap b command.InfoHistory p k why e = absurd cc
+accepted-forward gap b command.InfoTrace p k why e = absurd cc
+accepted-forward gap b (command.Examine address span) p k why e = absurd cc
+accepted-forward gap b (command.Disassemble slot span) p k why e = absurd cc
+accepted-forward gap b command.Quit p k why e = absurd cc
+
+does-forward : (gap : Option ℕ) (b : Bounds) (c : Command) (p : Point) (k : ℕ) (why : Why) → (does gap b c p).answer ≡ Ok (Forward k why) → (done : Goal) × (does gap b c p ≡ forward gap b done p)
+does-forward gap b c p k why e =
+    let same = unless-is (refusals_of c p) p (accepted gap b c p) (Forward k why) e in
+    let w = accepted-forward gap b c p k why (ap (λ (o : Outcome). o.answer) (sym same) ∙ e) in
+    (w.0, same ∙ w.1)
+
+pub breakpoints-stop : BreakpointsStop
+breakpoints-stop gap b c p k why e =
+    let w = does-forward gap b c p k why e in
+    way b.limit w.0 p k (cut-steps gap b.room (steps b.limit w.0 p) k (reason b.limit w.0 p) why p (ap (λ (o : Outcome). o.answer) (sym w.1) ∙ e))
+
+-- ---- gaps that made no refusal
+
+-- refusals never sink
+refusals-rise : (gaps : List (Option ℕ)) (n : ℕ) → n ≤ 2 ^ 64 - 1 → n ≤ refusals_after_all gaps n
+refusals-rise [] n most = omega arith
+refusals-rise (None ∷ gaps) n most = refusals-rise gaps n most
+refusals-rise (Some m ∷ gaps) n most = let r = refusals-rise gaps (min (n + 1) (2 ^ 64 - 1)) (omega arith) in omega (arith, r)
+
+pub nothing-refused-nothing-missing : NothingRefusedNothingMissing
+nothing-refused-nothing-missing [] n b lines p low same = refl
+nothing-refused-nothing-missing (gap ∷ gaps) n b [] p low same = refl
+nothing-refused-nothing-missing (None ∷ gaps) n b (line ∷ lines) p low same =
+    let e = effect None b (command_of line) p in
+    ap (after_effect e lines) (nothing-refused-nothing-missing gaps n b lines e.point low same)
+nothing-refused-nothing-missing (Some m ∷ gaps) n b (line ∷ lines) p low same = absurd (let r = refusals-rise gaps (min (n + 1) (2 ^ 64 - 1)) (omega arith) in omega (arith, r, same))
+
+-- ---- going back
+
+-- the history of k steps where none is dropped
+abbrev told : ℕ → Point → List Record
+told zero p = p.history
+told (suc k) p = record_of (after k p.state) Step (k == 0) ∷ told k p
+
+-- what is left of a list is no longer, and where it is as long it is whole
+fit-at-most : (weigh : Record → ℕ) (room : ℕ) (h : List Record) → length (fit weigh room h) ≤ length h
+unfolding fit
+fit-at-most weigh room [] = omega arith
+fit-at-most weigh room (r ∷ h) = at (nat_le (weigh r) room) (fit-at-most weigh (room - weigh r) h)
+  where
+    at : (v : Bool) → length (fit weigh (room - weigh r) h) ≤ length h → length (if v then r ∷ fit weigh (room - weigh r) h else []) ≤ length (r ∷ h)
+    at true rest = omega arith
+    at false rest = omega arith
+
+fit-whole : (weigh : Record → ℕ) (room : ℕ) (h : List Record) → length (fit weigh room h) ≡ length h → fit weigh room h ≡ h
+unfolding fit
+fit-whole weigh room [] e = refl
+fit-whole weigh room (r ∷ h) e = at (nat_le (weigh r) room) e (fit-whole weigh (room - weigh r) h)
+  where
+    at : (v : Bool) → length (if v then r ∷ fit weigh (room - weigh r) h else []) ≡ length (r ∷ h) → (length (fit weigh (room - weigh r) h) ≡ length h → fit weigh (room - weigh r) h ≡ h) → (if v then r ∷ fit weigh (room - weigh r) h else []) ≡ r ∷ h
+    at true e rest = ap (λ (xs : List Record). r ∷ xs) (rest (omega arith))
+    at false e rest = absurd (omega arith)
+
+kept-at-most : (room k : ℕ) (p : Point) → length (kept room k p) ≤ k + length p.history
+kept-at-most room zero p = omega arith
+kept-at-most room (suc k) p =
+    let f = fit-at-most record_weight room (record_of (after k p.state) Step (k == 0) ∷ kept room k p) in
+    let i = kept-at-most room k p in
+    omega arith
+
+kept-told : (room k : ℕ) (p : Point) → length (kept room k p) ≡ k + length p.history → kept room k p ≡ told k p
+kept-told room zero p e = refl
+kept-told room (suc k) p e =
+    let r = record_of (after k p.state) Step (k == 0) in
+    let f = fit-at-most record_weight room (r ∷ kept room k p) in
+    let i = kept-at-most room k p in
+    fit-whole record_weight room (r ∷ kept room k p) (omega arith) ∙ ap (λ (xs : List Record). r ∷ xs) (kept-told room k p (omega arith))
+
+drop-told : (k : ℕ) (p : Point) → drop k (told k p) ≡ p.history
+drop-told zero p = refl
+drop-told (suc k) p = drop-told k p
+
+oldest-told : (k : ℕ) (p : Point) → slice_get (told (suc k) p) k ≡ Some (record_of p.state Step true)
+oldest-told zero p = refl
+oldest-told (suc k) p = oldest-told k p
+
+-- k steps from a point
+abbrev gone-told : ℕ → Point → Point
+gone-told k p = record p { history = told k p; state = after k p.state }
+
+back-told : (k : ℕ) (p : Point) → 1 ≤ k → back_by k (gone-told k p) ≡ p
+back-told zero p some = absurd (omega arith)
+back-told (suc k) p some =
+    ap (λ (h : List Record). record p { history = h; state = before_last (suc k) (gone-told (suc k) p) }) (drop-told k p)
+    ∙ ap (λ (o : Option Record). record p { state = option_map_or (λ r. r.before) o (after (suc k) p.state) }) (oldest-told k p)
+
+marked-told : (k : ℕ) (p : Point) (y : State) → latest marked 1 (told (suc k) p) y ≡ Some (suc k)
+marked-told zero p y = refl
+marked-told (suc k) p y = let e : (suc k == 0) ≡ false = grind (arith, nat_tests) in rw e (ap (option_map suc) (marked-told k p (after (suc k) p.state)))
+
+count-more : (test : Record → Bool) (r : Record) (h : List Record) → count_by test (r ∷ h) ≡ cond (test r) 1 0 + count_by test h
+count-more test r h = sum_by-cons (λ x. cond (test x) 1 0) r h
+
+marks-told : (k : ℕ) (p : Point) → 1 ≤ count_by (λ r. r.mark) (told (suc k) p)
+marks-told zero p =
+    let e = count-more (λ r. r.mark) (record_of p.state Step true) p.history in
+    let one : cond {A = ℕ} true 1 0 ≡ 1 = refl in
+    omega (arith, e, one)
+marks-told (suc k) p =
+    let i = marks-told k p in
+    let e = count-more (λ r. r.mark) (record_of (after (suc k) p.state) Step (suc k == 0)) (told (suc k) p) in
+    omega (arith, e, i)
+
+stepped-told : (k : ℕ) (p : Point) (y : State) → latest stepped (suc k) (told (suc k) p) y ≡ Some (suc k)
+stepped-told zero p y = refl
+stepped-told (suc k) p y = let e : (suc (suc k) == 1) ≡ false = grind (arith, nat_tests) in let d : suc (suc k) - 1 ≡ suc k = omega arith in rw (e, d) (ap (option_map suc) (stepped-told k p (after (suc k) p.state)))
+
+steps-told : (k : ℕ) (p : Point) → k ≤ count_by (λ r. is_step r.move) (told k p)
+steps-told zero p = omega arith
+steps-told (suc k) p =
+    let i = steps-told k p in
+    let e = count-more (λ r. is_step r.move) (record_of (after k p.state) Step (k == 0)) (told k p) in
+    let one : cond {A = ℕ} true 1 0 ≡ 1 = refl in
+    omega (arith, e, one, i)
+
+undo-told : (b : Bounds) (later : Option ℕ) (k : ℕ) (p : Point) → 1 ≤ k → (does later b (command.Undo 1) (gone-told k p)).point ≡ p
+unfolding accepted
+undo-told b later zero p some = absurd (omega arith)
+undo-told b later (suc k) p some =
+    let m = marks-told k p in
+    let e : nat_lt (marks (gone-told (suc k) p)) 1 ≡ false = grind (arith, nat_tests) in
+    rw e (ap (λ (o : Option ℕ). back_by (unwrap_or o (length (told (suc k) p))) (gone-told (suc k) p)) (marked-told k p (after (suc k) p.state)) ∙ back-told (suc k) p some)
+
+reverse-told : (b : Bounds) (later : Option ℕ) (k : ℕ) (p : Point) → 1 ≤ k → (does later b (command.ReverseStep k) (gone-told k p)).point ≡ p
+unfolding accepted
+reverse-told b later zero p some = absurd (omega arith)
+reverse-told b later (suc k) p some =
+    let m = steps-told (suc k) p in
+    let e : (kept_steps (gone-told (suc k) p) == 0) ≡ false = grind (arith, nat_tests) in
+    let l : min (suc k) (kept_steps (gone-told (suc k) p)) ≡ suc k = omega arith in
+    rw e (ap (λ n. back_by (unwrap_or (latest stepped n (told (suc k) p) (after (suc k) p.state)) (length (told (suc k) p))) (gone-told (suc k) p)) l
+    ∙ ap (λ (o : Option ℕ). back_by (unwrap_or o (length (told (suc k) p))) (gone-told (suc k) p)) (stepped-told k p (after (suc k) p.state)) ∙ back-told (suc k) p some)
+
+-- what a forward command leaves that says how many steps it took
+cut-point : (gap : Option ℕ) (room n k : ℕ) (because why : Why) (p : Point) → 1 ≤ n → (cut gap room n because p).answer ≡ Ok (Forward k why) → ((cut gap room n because p).point ≡ gone room k p) × (1 ≤ k)
+cut-point None room n k because why p some e = let s : n ≡ k = cc in (ap (λ j. gone room j p) s, omega arith)
+cut-point (Some m) room n k because why p some e = test (nat_lt m n) (m == 0) refl e
+  where
+    test : (less first : Bool) → (m == 0) ≡ first → (if less then (if first then refused OutOfMemory p else taken room m Memory p) else taken room n because p).answer ≡ Ok (Forward k why) → ((if less then (if first then refused OutOfMemory p else taken room m Memory p) else taken room n because p).point ≡ gone room k p) × (1 ≤ k)
+    test true true f e = absurd cc
+    test true false f e = let s : m ≡ k = cc in let t : 1 ≤ m = grind (arith, nat_tests) in (ap (λ j. gone room j p) s, omega arith)
+    test false first f e = let s : n ≡ k = cc in (ap (λ j. gone room j p) s, omega arith)
+
+pub going-back-gives-back : GoingBackGivesBack
+going-back-gives-back gap later b c p k why e all =
+    let w = does-forward gap b c p k why e in
+    let g = cut-point gap b.room (steps b.limit w.0 p) k (reason b.limit w.0 p) why p (least-from _ 1 b.limit) (ap (λ (o : Outcome). o.answer) (sym w.1) ∙ e) in
+    let there : (does gap b c p).point ≡ gone b.room k p = ap (λ (o : Outcome). o.point) w.1 ∙ g.0 in
+    let whole : length (kept b.room k p) ≡ k + length p.history = ap (λ (q : Point). length q.history) (sym there) ∙ all in
+    let here : (does gap b c p).point ≡ gone-told k p = there ∙ ap (λ (h : List Record). record p { history = h; state = after k p.state }) (kept-told b.room k p whole) in
+    record {
+      reverse = ap (λ (q : Point). (does later b (command.ReverseStep k) q).point) here ∙ reverse-told b later k p g.1;
+      undo = ap (λ (q : Point). (does later b (command.Undo 1) q).point) here ∙ undo-told b later k p g.1;
+    }

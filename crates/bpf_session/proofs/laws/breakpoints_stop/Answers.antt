@@ -1,0 +1,5 @@
+use Rattle.bpf_session.proofs.CommandLaws.{breakpoints-stop}
+use Rattle.bpf_session.proofs.laws.breakpoints_stop.Goals as goal
+
+pub returns : goal.returns
+returns c = breakpoints-stop

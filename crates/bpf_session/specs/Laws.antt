@@ -1,0 +1,77 @@
+-- Facts about the meaning of commands and of scripts, in the words of those who use them.
+use Rattle.std.specs.Prelude.{◌≡◌, ◌<◌, ◌≤◌, ◌-◌, ◌^◌, ◌+◌, ℕ, Bool, true, false, List, [], ◌∷◌, length, map, Option, Ok, Err, IsSome, IsNone, IsTrue}
+use Rattle.bpf_session.specs.Points.{Point, Bounds}
+use Rattle.bpf_session.specs.Forward.{Goal, after, stop, steps}
+use Rattle.bpf_session.specs.Stops.{breaks_at}
+use Rattle.bpf_session.specs.Refused.{refusals_of}
+use Rattle.bpf_session.specs.Refusals.{number_of}
+use Rattle.bpf_session.specs.Meaning.{does}
+use Rattle.bpf_session.specs.Sessions.{refusals_after_all}
+use Rattle.bpf_session.specs.Output.{walk}
+use Rattle.bpf_session.specs.declared.command.Command.{Command}
+use Rattle.bpf_session.specs.declared.command.Command.TheVariants.{InfoRegisters, InfoFrames, InfoBreaks, InfoHistory, InfoTrace, Examine, Disassemble, Quit, Undo, ReverseStep}
+use Rattle.bpf_session.specs.declared.refusal.Refusal.{Refusal}
+use Rattle.bpf_session.specs.declared.reply.Why.{Why}
+use Rattle.bpf_session.specs.declared.reply.Reply.TheVariants.{Forward}
+
+-- A refused command changes nothing: neither history nor state, breakpoints or watches.
+abbrev pub RefusedChangesNothing : Type 0
+RefusedChangesNothing = (gap : Option ℕ) (b : Bounds) (c : Command) (p : Point) (refusal : Refusal)
+    → (does gap b c p).answer ≡ Err refusal → (does gap b c p).point ≡ p
+
+-- Commands that only show.
+abbrev pub shows : Command → Bool
+shows InfoRegisters = true
+shows InfoFrames = true
+shows InfoBreaks = true
+shows InfoHistory = true
+shows InfoTrace = true
+shows (Examine address span) = true
+shows (Disassemble slot span) = true
+shows Quit = true
+shows _ = false
+
+-- They change nothing.
+abbrev pub ShowsChangeNothing : Type 0
+ShowsChangeNothing = (gap : Option ℕ) (b : Bounds) (c : Command) (p : Point) → IsTrue (shows c) → (does gap b c p).point ≡ p
+
+-- Numbers in strictly ascending order.
+abbrev pub Ascends : List ℕ → Type 0
+Ascends [] = Unit {0}
+Ascends (n ∷ []) = Unit {0}
+Ascends (n ∷ m ∷ more) = (n < m) × Ascends (m ∷ more)
+
+-- The refusals of a command that hold at a point stand in the order of their numbers: so the first, which is answered, is the least.
+abbrev pub RefusalsAreInOrder : Type 0
+RefusalsAreInOrder = (c : Command) (p : Point) → Ascends (map number_of (refusals_of c p))
+
+-- A forward command stops after its steps, and after no fewer, of which there is one at least.
+pub record IsLeastStop (limit : ℕ) (done : Goal) (p : Point) : Type 0 where
+  pub some : 1 ≤ steps limit done p
+  pub within : steps limit done p ≤ limit
+  pub stops : IsSome (stop limit done p (steps limit done p))
+  pub least : (j : ℕ) → 1 ≤ j → j < steps limit done p → IsNone (stop limit done p j)
+
+abbrev pub StepsAreLeast : Type 0
+StepsAreLeast = (limit : ℕ) (done : Goal) (p : Point) → 1 ≤ limit → IsLeastStop limit done p
+
+-- No breakpoint is at a state between the first and the last one of a command that goes forward.
+abbrev pub BreakpointsStop : Type 0
+BreakpointsStop = (gap : Option ℕ) (b : Bounds) (c : Command) (p : Point) (k : ℕ) (why : Why)
+    → (does gap b c p).answer ≡ Ok (Forward k why) → (j : ℕ) → 1 ≤ j → j < k → breaks_at p (after j p.state) ≡ false
+
+-- Going back over the steps that a command took, or undoing it, gives back the point in front of it in every component, where none of
+-- the history was dropped for them.
+pub record GivesBack (later : Option ℕ) (b : Bounds) (k : ℕ) (p q : Point) : Type 0 where
+  pub reverse : (does later b (ReverseStep k) q).point ≡ p
+  pub undo : (does later b (Undo 1) q).point ≡ p
+
+abbrev pub GoingBackGivesBack : Type 0
+GoingBackGivesBack = (gap later : Option ℕ) (b : Bounds) (c : Command) (p : Point) (k : ℕ) (why : Why)
+    → (does gap b c p).answer ≡ Ok (Forward k why) → length (does gap b c p).point.history ≡ k + length p.history
+    → GivesBack later b k p (does gap b c p).point
+
+-- Where the gaps of a script made no refusal more, and the count of refusals isn't at its last value, no gap did anything.
+abbrev pub NothingRefusedNothingMissing : Type 0
+NothingRefusedNothingMissing = (gaps : List (Option ℕ)) (refusals : ℕ) (b : Bounds) (lines : List (List ℕ)) (p : Point)
+    → refusals < 2 ^ 64 - 1 → refusals_after_all gaps refusals ≡ refusals → walk gaps b lines p ≡ walk [] b lines p
