@@ -8,4 +8,10 @@ pub mod CommandLaws
 pub mod Cuts
 pub mod Digits
 pub mod Flushing
+pub mod Forwards
+pub mod Lines
+pub mod Obeying
+pub mod Readings
+pub mod Running
+pub mod Tables
 pub mod Telling

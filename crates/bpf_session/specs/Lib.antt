@@ -13,9 +13,11 @@ pub mod Meaning
 pub mod Replies
 pub mod Sessions
 pub mod Output
+pub mod Runs
 pub mod Laws
 pub mod Marks
 pub mod Until
 pub mod Sought
 pub mod EditRefusals
 pub mod Plain
+pub mod LineSteps

@@ -81,6 +81,13 @@ impl<K: Keeper> Session<K> {
         self.timeline.keeper()
     }
 
+    /// Brings into a proof that there is a history.
+    pub fn invariant(&self)
+        ensures { HasHistory K.holds self.now.moment.keeper self.now.moment.state }
+    {
+        self.timeline.invariant();
+    }
+
     /// Obeys a command, or refuses it, and then nothing changes. `quit` changes nothing.
     #[tactic(auto, unfolding(crate::specs::Meaning::accepted))]
     pub fn apply(&mut self, command: &Command) -> Result<Reply, Refusal>

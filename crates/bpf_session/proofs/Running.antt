@@ -1,0 +1,380 @@
+-- A run's loop: what the lines behind us came to, and what the rest comes to from there, make up what the script comes to.
+use Rattle.std.proofs.Common.{◌≡◌, ◌+◌, ℕ, Bool, true, false, List, [], ◌∷◌, ◌++◌, Option, Some, None, Result, Ok, Err, IfOk, OnErr, refl, sym, ap, subst, ◌∙◌, arith, append_assoc, length, take, drop}
+use Rattle.std.proofs.lemmas.List.{append-nil, length-append}
+use Rattle.std.proofs.lemmas.List.Sums.{sum_by-append}
+use Rattle.std.proofs.lemmas.List.Elements.{All-push}
+use Rattle.std.proofs.Math.Seq.{take-append_seam, drop-append_seam}
+use Rattle.std.specs.List.{All}
+use Rattle.std.specs.Io.KnownBytes.{Appends}
+use Rattle.bpf_text.specs.Counted.{Tally}
+use Rattle.bpf_text.specs.Writing.{AppendsBeginning, Writes}
+use Rattle.bpf_journal.specs.Histories.{Record, Kept}
+use Rattle.bpf_session.specs.Points.{Point, Bounds}
+use Rattle.bpf_session.specs.Sessions.{SessionValue, HasPast, StandsAt, bounds_of, point_of, refusals_with, refusals_after_all}
+use Rattle.bpf_session.specs.Lines.{lines}
+use Rattle.bpf_session.specs.Commands.{command_of}
+use Rattle.bpf_session.specs.Output.{Effect, effect, Walk, walk}
+use Rattle.bpf_session.specs.Runs.{Leaves, Prints, GoesOn, line_feeds, BreaksOff}
+use Rattle.bpf_session.specs.LineSteps.{Buffer, Holds, ReadsLine, ObeysLine, is_missing, is_last}
+use Rattle.bpf_session.specs.declared.fault.RunFault.TheVariants.{Read, Write}
+use Rattle.bpf_session.specs.declared.line.NextLine.{NextLine}
+use Rattle.bpf_session.specs.declared.line.NextLine.TheVariants.{Ended, Last, Missing}
+
+-- what a writer holds after a text
+appended : (before after : Option (List ℕ)) (xs ys : List ℕ) → before ≡ Some xs → Appends before after ys → after ≡ Some (xs ++ ys)
+appended None after xs ys e h = absurd cc
+appended (Some zs) None xs ys e h = absurd h
+appended (Some zs) (Some ws) xs ys e h = let s : zs ≡ xs = cc in ap Some (h ∙ ap (λ (v : List ℕ). v ++ ys) s)
+
+-- what the lines before a walk print comes first
+abbrev ahead_of : List ℕ → Walk → Walk
+ahead_of text w = record w { out = text ++ w.out }
+
+ahead-twice : (a b : List ℕ) (w : Walk) → ahead_of a (ahead_of b w) ≡ ahead_of (a ++ b) w
+ahead-twice a b w = ap (λ (v : List ℕ). record w { out = v }) (sym (append_assoc a b w.out))
+
+-- a line after which the session goes on, and one after which it doesn't
+walk-on : (gap : Option ℕ) (later : List (Option ℕ)) (b : Bounds) (line : List ℕ) (more : List (List ℕ)) (p : Point) (e : Effect) → effect gap b (command_of line) p ≡ e → e.goes_on ≡ true → walk (gap ∷ later) b (line ∷ more) p ≡ ahead_of e.text (walk later b more e.point)
+walk-on gap later b line more p e is on = rw (is, on) refl
+
+walk-off : (gap : Option ℕ) (later : List (Option ℕ)) (b : Bounds) (line : List ℕ) (more : List (List ℕ)) (p : Point) (e : Effect) → effect gap b (command_of line) p ≡ e → e.goes_on ≡ false → walk (gap ∷ later) b (line ∷ more) p ≡ record { out = e.text; final = e.point; unread = more }
+walk-off gap later b line more p e is off = rw (is, off) refl
+
+-- a line after which the session goes on isn't `quit`
+goes-on : (gap : Option ℕ) (b : Bounds) (line : List ℕ) (p : Point) (e : Effect) → effect gap b (command_of line) p ≡ e → e.goes_on ≡ true → GoesOn line
+goes-on gap b line p e is on quits = let f : false ≡ true = ap (λ a. (effect gap b a p).goes_on) (sym quits) ∙ ap (λ (x : Effect). x.goes_on) is ∙ on in absurd cc
+
+-- the refusals of one more gap
+refusals-push : (gaps : List (Option ℕ)) (gap : Option ℕ) (n : ℕ) → refusals_after_all (gaps ++ gap ∷ []) n ≡ refusals_with gap (refusals_after_all gaps n)
+refusals-push [] gap n = refl
+refusals-push (g ∷ gaps) gap n = refusals-push gaps gap (refusals_with g n)
+
+-- the line feeds of two texts, of which the second is one line's
+feeds-append : (xs ys : List ℕ) → line_feeds (xs ++ ys) ≡ line_feeds xs + line_feeds ys
+feeds-append xs ys = sum_by-append _ xs ys
+
+feeds-line : (taken line : List ℕ) (n : ℕ) → line_feeds taken ≡ n → line_feeds line ≡ 0 → line_feeds (taken ++ (line ++ 10 ∷ [])) ≡ n + 1
+feeds-line taken line n e none =
+    let s : line_feeds (line ++ 10 ∷ []) ≡ line_feeds line + 1 = feeds-append line (10 ∷ []) in
+    let t = feeds-append taken (line ++ 10 ∷ []) in
+    omega (arith, e, none, s, t)
+
+length-push : {A : Type 0} (xs : List A) (x : A) → length (xs ++ x ∷ []) ≡ length xs + 1
+length-push xs x = length-append xs (x ∷ [])
+
+module _ {K : Type 0} (holds : K → List Kept → Type 0) (refusals room : K → ℕ) where
+  -- the lines behind us, none of them `quit`: their gaps, what they print and the point after them
+  pub record Behind (old now : SessionValue K) (h : List Record) (script : List ℕ) (ahead : List (List ℕ)) : Type 0 where
+    pub done : List (List ℕ)
+    pub gaps : List (Option ℕ)
+    pub printed : List ℕ
+    pub point : Point
+    pub split : lines script ≡ done ++ ahead
+    pub on : All GoesOn done
+    pub each : length gaps ≡ length done
+    pub counted : refusals now.moment.keeper ≡ refusals_after_all gaps (refusals old.moment.keeper)
+    pub stands : StandsAt holds now point
+    pub walked : (later : List (Option ℕ)) (more : List (List ℕ)) → walk (gaps ++ later) (bounds_of room old) (done ++ more) (point_of old h) ≡ ahead_of printed (walk later (bounds_of room old) more point)
+
+  -- one more of them
+  record Turn (old now new : SessionValue K) (p : Point) (line : List ℕ) : Type 0 where
+    pub gap : Option ℕ
+    pub e : Effect
+    pub is : effect gap (bounds_of room old) (command_of line) p ≡ e
+    pub counted : refusals new.moment.keeper ≡ refusals_with gap (refusals now.moment.keeper)
+    pub stands : StandsAt holds new e.point
+
+  Behind-step : (old now new : SessionValue K) (h : List Record) (script line : List ℕ) (all ahead : List (List ℕ)) (b : Behind old now h script all) → all ≡ line ∷ ahead → (t : Turn old now new b.point line) → t.e.goes_on ≡ true → Behind old new h script ahead
+  Behind-step old now new h script line all ahead b cut t on = record {
+    done = b.done ++ line ∷ [];
+    gaps = b.gaps ++ t.gap ∷ [];
+    printed = b.printed ++ t.e.text;
+    point = t.e.point;
+    split = b.split ∙ ap (λ (ls : List (List ℕ)). b.done ++ ls) cut ∙ sym (append_assoc b.done (line ∷ []) ahead);
+    on = All-push GoesOn b.done line b.on (goes-on t.gap (bounds_of room old) line b.point t.e t.is on);
+    each = length-push b.gaps t.gap ∙ ap (λ n. n + 1) b.each ∙ sym (length-push b.done line);
+    counted = t.counted ∙ ap (refusals_with t.gap) b.counted ∙ sym (refusals-push b.gaps t.gap _);
+    stands = t.stands;
+    walked = λ later more.
+        ap (λ (g : List (Option ℕ)). walk g (bounds_of room old) ((b.done ++ line ∷ []) ++ more) (point_of old h)) (append_assoc b.gaps (t.gap ∷ []) later)
+        ∙ ap (λ (ls : List (List ℕ)). walk (b.gaps ++ t.gap ∷ later) (bounds_of room old) ls (point_of old h)) (append_assoc b.done (line ∷ []) more)
+        ∙ b.walked (t.gap ∷ later) (line ∷ more)
+        ∙ ap (ahead_of b.printed) (walk-on t.gap later (bounds_of room old) line more b.point t.e t.is on)
+        ∙ ahead-twice b.printed t.e.text _;
+  }
+
+  -- what the lines behind us come to
+  abbrev ended : List ℕ → Point → Walk
+  ended text p = record { out = text; final = p; unread = [] }
+
+  -- also with more gaps
+  done-walk : (old now : SessionValue K) (h : List Record) (script : List ℕ) (ahead : List (List ℕ)) (b : Behind old now h script ahead) (later : List (Option ℕ)) → walk (b.gaps ++ later) (bounds_of room old) b.done (point_of old h) ≡ ended b.printed b.point
+  done-walk old now h script ahead b later =
+      ap (λ (ls : List (List ℕ)). walk (b.gaps ++ later) (bounds_of room old) ls (point_of old h)) (sym (append-nil b.done))
+      ∙ b.walked later []
+      ∙ nothing later
+    where
+      nothing : (later : List (Option ℕ)) → ahead_of b.printed (walk later (bounds_of room old) [] b.point) ≡ ended b.printed b.point
+      nothing later = ap (λ (v : List ℕ). ended v b.point) (append-nil b.printed)
+
+  end-walk : (old now : SessionValue K) (h : List Record) (script : List ℕ) (ahead : List (List ℕ)) (b : Behind old now h script ahead) → walk b.gaps (bounds_of room old) b.done (point_of old h) ≡ ended b.printed b.point
+  end-walk old now h script ahead b = ap (λ (g : List (Option ℕ)). walk g (bounds_of room old) b.done (point_of old h)) (sym (append-nil b.gaps)) ∙ done-walk old now h script ahead b []
+
+  first-done : (old now : SessionValue K) (h : List Record) (script : List ℕ) (ahead : List (List ℕ)) (b : Behind old now h script ahead) → take (length b.done) (lines script) ≡ b.done
+  first-done old now h script ahead b = ap (take (length b.done)) b.split ∙ take-append_seam b.done ahead
+
+  all-lines : (old now : SessionValue K) (h : List Record) (script : List ℕ) (ahead : List (List ℕ)) (b : Behind old now h script ahead) → length (lines script) ≡ length b.done + length ahead
+  all-lines old now h script ahead b = ap length b.split ∙ length-append b.done ahead
+
+  -- no line is left
+  Behind-end : (old now : SessionValue K) (h : List Record) (script told : List ℕ) (after left : Option (List ℕ)) (all : List (List ℕ)) (b : Behind old now h script all) → all ≡ [] → after ≡ Some (told ++ b.printed) → Leaves [] left → Prints holds refusals room old now h script told after left
+  Behind-end old now h script told after left all b none held next = record {
+    gaps = b.gaps;
+    whole = ended b.printed b.point;
+    walked = sym (ap (λ (ls : List (List ℕ)). walk b.gaps (bounds_of room old) ls (point_of old h)) (b.split ∙ ap (λ (ls : List (List ℕ)). b.done ++ ls) none ∙ append-nil b.done) ∙ end-walk old now h script all b);
+    each = let n = ap length none in omega (arith, b.each, all-lines old now h script all b, n);
+    counted = b.counted;
+    written = held;
+    stands = b.stands;
+    ahead = next;
+  }
+
+  -- `quit` is the next line
+  Behind-quit : (old now new : SessionValue K) (h : List Record) (script told line : List ℕ) (after left : Option (List ℕ)) (all ahead : List (List ℕ)) (b : Behind old now h script all) → all ≡ line ∷ ahead → (t : Turn old now new b.point line) → t.e.goes_on ≡ false → after ≡ Some ((told ++ b.printed) ++ t.e.text) → Leaves ahead left → Prints holds refusals room old new h script told after left
+  Behind-quit old now new h script told line after left all ahead b cut t off held next = record {
+    gaps = b.gaps ++ t.gap ∷ [];
+    whole = record { out = b.printed ++ t.e.text; final = t.e.point; unread = ahead };
+    walked = sym (
+        ap (λ (ls : List (List ℕ)). walk (b.gaps ++ t.gap ∷ []) (bounds_of room old) ls (point_of old h)) b.split
+        ∙ b.walked (t.gap ∷ []) all
+        ∙ ap (λ (ls : List (List ℕ)). ahead_of b.printed (walk (t.gap ∷ []) (bounds_of room old) ls b.point)) cut
+        ∙ ap (ahead_of b.printed) (walk-off t.gap [] (bounds_of room old) line ahead b.point t.e t.is off)
+        );
+    each = let c = ap length cut in omega (arith, b.each, all-lines old now h script all b, length-push b.gaps t.gap, c);
+    counted = t.counted ∙ ap (refusals_with t.gap) b.counted ∙ sym (refusals-push b.gaps t.gap _);
+    written = held ∙ ap (λ (v : List ℕ). Some v) (append_assoc told b.printed t.e.text);
+    stands = t.stands;
+    ahead = next;
+  }
+
+  -- a read failed
+  Behind-unread : (old now : SessionValue K) (h : List Record) (script told taken rest : List ℕ) (after left : Option (List ℕ)) (ahead : List (List ℕ)) (b : Behind old now h script ahead) → script ≡ taken ++ rest → line_feeds taken ≡ length b.done → left ≡ Some rest → after ≡ Some (told ++ b.printed) → BreaksOff holds refusals room old now Read h script told after left
+  Behind-unread old now h script told taken rest after left ahead b cut feeds next held =
+      let first = ap (λ (ls : List (List ℕ)). walk b.gaps (bounds_of room old) ls (point_of old h)) (first-done old now h script ahead b) ∙ end-walk old now h script ahead b in record {
+        gaps = b.gaps;
+        k = length b.done;
+        within = omega (arith, all-lines old now h script ahead b);
+        on = subst (All GoesOn) (sym (first-done old now h script ahead b)) b.on;
+        each = b.each;
+        counted = b.counted;
+        stands = subst (λ (w : Walk). StandsAt holds now w.final) (sym first) b.stands;
+        broken = record {
+          taken = taken;
+          rest = rest;
+          split = cut;
+          feeds = feeds;
+          ahead = next;
+          written = held ∙ ap (λ (w : Walk). Some (told ++ w.out)) (sym first);
+        };
+      }
+
+  -- a write failed
+  Behind-unwritten : (old now new : SessionValue K) (h : List Record) (script told line front end : List ℕ) (after left : Option (List ℕ)) (all ahead : List (List ℕ)) (b : Behind old now h script all) → all ≡ line ∷ ahead → (t : Turn old now new b.point line) → t.e.goes_on ≡ true → t.e.text ≡ front ++ end → after ≡ Some ((told ++ b.printed) ++ front) → Leaves ahead left → BreaksOff holds refusals room old new Write h script told after left
+  unfolding Behind-step
+  Behind-unwritten old now new h script told line front end after left all ahead b cut t on begins held next =
+      let c = Behind-step old now new h script line all ahead b cut t on in
+      let first = ap (λ (ls : List (List ℕ)). walk c.gaps (bounds_of room old) ls (point_of old h)) (first-done old new h script ahead c) ∙ end-walk old new h script ahead c in
+      let before = ap (λ (ls : List (List ℕ)). walk c.gaps (bounds_of room old) ls (point_of old h)) (first-done old now h script all b) ∙ done-walk old now h script all b (t.gap ∷ []) in record {
+        gaps = c.gaps;
+        k = length c.done;
+        within = omega (arith, all-lines old new h script ahead c);
+        on = subst (All GoesOn) (sym (first-done old new h script ahead c)) c.on;
+        each = c.each;
+        counted = c.counted;
+        stands = subst (λ (w : Walk). StandsAt holds new w.final) (sym first) c.stands;
+        broken = record {
+          before = length b.done;
+          last = omega (arith, length-push b.done line);
+          text = t.e.text;
+          printed = ap (λ (w : Walk). w.out) first ∙ ap (λ (w : Walk). w.out ++ t.e.text) (sym before);
+          written = begins-as told b.printed front end _ after held begins before;
+          ahead = (next.0, next.1, next.2 ∙ sym (ap (drop (length c.done)) c.split ∙ drop-append_seam c.done ahead));
+        };
+      }
+    where
+      begins-as : (told printed front end : List ℕ) (w : Walk) (after : Option (List ℕ)) → after ≡ Some ((told ++ printed) ++ front) → t.e.text ≡ front ++ end → w ≡ ended printed b.point → AppendsBeginning (Some (told ++ w.out)) after t.e.text
+      begins-as told printed front end w after held begins before = (front, end, begins, subst (λ (v : Option (List ℕ)). Appends (Some (told ++ w.out)) v front) (sym held) (ap (λ (v : Walk). (told ++ v.out) ++ front) (sym before)))
+
+module _ {K R W : Type 0} (holds : K → List Kept → Type 0) (refusals room : K → ℕ) (remaining : R → Option (List ℕ)) (contents : W → Option (List ℕ)) where
+  -- what was read, written and left in front of a line
+  pub record Here (old now : SessionValue K) (reader : Tally R) (writer : Tally W) (h : List Record) (script told : List ℕ) : Type 0 where
+    pub taken : List ℕ
+    pub rest : List ℕ
+    pub left : remaining reader.inner ≡ Some rest
+    pub cut : script ≡ taken ++ rest
+    pub behind : Behind holds refusals room old now h script (lines rest)
+    pub feeds : line_feeds taken ≡ length behind.done
+    pub written : contents writer.inner ≡ Some (told ++ behind.printed)
+
+  -- what holds in front of each line
+  pub record Running (old now : SessionValue K) (reader0 reader : Tally R) (writer0 writer : Tally W) : Type 0 where
+    pub read : reader.failures ≡ reader0.failures
+    pub wrote : writer.failures ≡ writer0.failures
+    pub limit : now.limit ≡ old.limit
+    pub room_is : room now.moment.keeper ≡ room old.moment.keeper
+    pub here : (h : List Record) (script told : List ℕ) → HasPast holds old h → remaining reader0.inner ≡ Some script → contents writer0.inner ≡ Some told → Here old now reader writer h script told
+
+  -- before the first line
+  pub Running-start : (old : SessionValue K) (reader : Tally R) (writer : Tally W) → Running old old reader reader writer writer
+  Running-start old reader writer = record {
+    read = refl;
+    wrote = refl;
+    limit = refl;
+    room_is = refl;
+    here = λ h script told past left held. record {
+      taken = [];
+      rest = script;
+      left = left;
+      cut = refl;
+      behind = record {
+        done = [];
+        gaps = [];
+        printed = [];
+        point = point_of old h;
+        split = refl;
+        on = λ k d inside. absurd (omega arith);
+        each = refl;
+        counted = refl;
+        stands = (refl, past);
+        walked = λ later more. refl;
+      };
+      feeds = refl;
+      written = held ∙ ap (λ (v : List ℕ). Some v) (sym (append-nil told));
+    };
+  }
+
+  same-bounds : (old now : SessionValue K) → now.limit ≡ old.limit → room now.moment.keeper ≡ room old.moment.keeper → bounds_of room now ≡ bounds_of room old
+  same-bounds old now l r = ap (λ (n : ℕ). record { limit = n; room = room now.moment.keeper }) l ∙ ap (λ (n : ℕ). record { limit = old.limit; room = n }) r
+
+  module _ (old now new : SessionValue K) (reader0 reader reader' : Tally R) (writer0 writer writer' : Tally W) (buffer : Buffer) (i : Running old now reader0 reader writer0 writer) where
+    -- what a line did, seen from the point in front of it
+    record Deed {F : Type 0} (p : Point) (line : List ℕ) (result : Result Bool F) : Type 0 where
+      pub turn : Turn holds refusals room old now new p line
+      pub goes_on : IfOk result (λ more. more ≡ turn.e.goes_on)
+      pub stays : OnErr result (turn.e.goes_on ≡ true)
+      pub writes : Writes contents writer writer' result turn.e.text
+
+    deed-of : {F : Type 0} (p : Point) (line : List ℕ) (result : Result Bool F) → StandsAt holds now p → Holds buffer line → ((h : List Record) (text : List ℕ) → HasPast holds now h → Holds buffer text → ObeysLine holds refusals room contents now new writer writer' h text result) → Deed p line result
+    deed-of p line result st held obey =
+        let o = obey p.history line st.1 held in
+        let e = effect o.gap (bounds_of room now) (command_of line) (point_of now p.history) in
+        record {
+          turn = record {
+            gap = o.gap;
+            e = e;
+            is = sym (ap (λ (b : Bounds). effect o.gap b (command_of line) (point_of now p.history)) (same-bounds old now i.limit i.room_is) ∙ ap (effect o.gap (bounds_of room old) (command_of line)) st.0);
+            counted = o.counted;
+            stands = o.stands;
+          };
+          goes_on = o.goes_on;
+          stays = o.stays;
+          writes = o.written;
+        }
+
+    -- the texts of the lines behind us, and one more
+    wrote-on : (told printed text : List ℕ) → contents writer.inner ≡ Some (told ++ printed) → Appends (contents writer.inner) (contents writer'.inner) text → contents writer'.inner ≡ Some (told ++ (printed ++ text))
+    wrote-on told printed text held more = appended _ _ _ text held more ∙ ap (λ (v : List ℕ). Some v) (append_assoc told printed text)
+
+    -- a read failed
+    pub Running-unread : {E : Type 0} (fault : E) → ReadsLine {E = E} remaining reader reader' buffer (Err fault) → (h : List Record) (script told : List ℕ) → HasPast holds old h → remaining reader0.inner ≡ Some script → contents writer0.inner ≡ Some told → BreaksOff holds refusals room old now Read h script told (contents writer.inner) (remaining reader'.inner)
+    Running-unread fault r h script told past left held =
+        let x = i.here h script told past left held in
+        let c = r.part x.rest x.left in
+        Behind-unread holds refusals room old now h script told (x.taken ++ c.taken) c.rest _ _ _ x.behind
+        (x.cut ∙ ap (λ (v : List ℕ). x.taken ++ v) c.split ∙ sym (append_assoc x.taken c.taken c.rest))
+        (feeds-append x.taken c.taken ∙ (let s = x.feeds in let n = c.none in omega arith))
+        c.ahead x.written
+
+    -- no line is left
+    pub Running-missing : {E : Type 0} (next : NextLine) → ReadsLine {E = E} remaining reader reader' buffer (Ok next) → is_missing next ≡ true → (h : List Record) (script told : List ℕ) → HasPast holds old h → remaining reader0.inner ≡ Some script → contents writer0.inner ≡ Some told → Prints holds refusals room old now h script told (contents writer.inner) (remaining reader'.inner)
+    Running-missing Ended r is h script told past left held = absurd cc
+    Running-missing Last r is h script told past left held = absurd cc
+    Running-missing Missing r is h script told past left held =
+        let x = i.here h script told past left held in
+        let c = r.cut x.rest x.left in
+        Behind-end holds refusals room old now h script told _ _ (lines x.rest) x.behind (ap lines c.2.0) x.written (c.0, c.1, ap lines c.2.1)
+
+    -- a line that ends the session
+    pub Running-quit : {E F : Type 0} (next : NextLine) → ReadsLine {E = E} remaining reader reader' buffer (Ok next) → is_missing next ≡ false → ((h : List Record) (text : List ℕ) → HasPast holds now h → Holds buffer text → ObeysLine {E = F} holds refusals room contents now new writer writer' h text (Ok false)) → (h : List Record) (script told : List ℕ) → HasPast holds old h → remaining reader0.inner ≡ Some script → contents writer0.inner ≡ Some told → Prints holds refusals room old new h script told (contents writer'.inner) (remaining reader'.inner)
+    Running-quit Missing r is obey h script told past left held = absurd cc
+    Running-quit Ended r is obey h script told past left held =
+        let x = i.here h script told past left held in
+        let c = r.cut x.rest x.left in
+        let d = deed-of x.behind.point c.2.0 (Ok false) x.behind.stands c.2.4 obey in
+        Behind-quit holds refusals room old now new h script told c.2.0 _ _ (lines x.rest) (lines c.0) x.behind c.2.3 d.turn (sym d.goes_on) (appended _ _ (told ++ x.behind.printed) d.turn.e.text x.written d.writes.ok) (c.0, c.1, refl)
+    Running-quit Last r is obey h script told past left held =
+        let x = i.here h script told past left held in
+        let c = r.cut x.rest x.left in
+        let d = deed-of x.behind.point x.rest (Ok false) x.behind.stands c.2.2 obey in
+        Behind-quit holds refusals room old now new h script told x.rest _ _ (lines x.rest) [] x.behind c.2.0 d.turn (sym d.goes_on) (appended _ _ (told ++ x.behind.printed) d.turn.e.text x.written d.writes.ok) (c.0, c.1, ap lines c.2.1)
+
+    -- the last line
+    pub Running-last : {E F : Type 0} (next : NextLine) → ReadsLine {E = E} remaining reader reader' buffer (Ok next) → is_last next ≡ true → ((h : List Record) (text : List ℕ) → HasPast holds now h → Holds buffer text → ObeysLine {E = F} holds refusals room contents now new writer writer' h text (Ok true)) → (h : List Record) (script told : List ℕ) → HasPast holds old h → remaining reader0.inner ≡ Some script → contents writer0.inner ≡ Some told → Prints holds refusals room old new h script told (contents writer'.inner) (remaining reader'.inner)
+    unfolding Behind-step
+    Running-last Missing r is obey h script told past left held = absurd cc
+    Running-last Ended r is obey h script told past left held = absurd cc
+    Running-last Last r is obey h script told past left held =
+        let x = i.here h script told past left held in
+        let c = r.cut x.rest x.left in
+        let d = deed-of x.behind.point x.rest (Ok true) x.behind.stands c.2.2 obey in
+        let b = Behind-step holds refusals room old now new h script x.rest (lines x.rest) [] x.behind c.2.0 d.turn (sym d.goes_on) in
+        Behind-end holds refusals room old new h script told _ _ [] b refl (wrote-on told x.behind.printed d.turn.e.text x.written d.writes.ok) (c.0, c.1, ap lines c.2.1)
+
+    -- a line after which others may stand
+    step-of : (next : NextLine) → is_missing next ≡ false → is_last next ≡ false → next ≡ Ended
+    step-of Missing a b = absurd cc
+    step-of Last a b = absurd cc
+    step-of Ended a b = refl
+
+    here-on : {E F : Type 0} → ReadsLine {E = E} remaining reader reader' buffer (Ok Ended) → ((h : List Record) (text : List ℕ) → HasPast holds now h → Holds buffer text → ObeysLine {E = F} holds refusals room contents now new writer writer' h text (Ok true)) → (h : List Record) (script told : List ℕ) → HasPast holds old h → remaining reader0.inner ≡ Some script → contents writer0.inner ≡ Some told → Here old new reader' writer' h script told
+    unfolding Behind-step
+    here-on r obey h script told past left held =
+        let x = i.here h script told past left held in
+        let c = r.cut x.rest x.left in
+        let line = c.2.0 in
+        let d = deed-of x.behind.point line (Ok true) x.behind.stands c.2.4 obey in
+        let b = Behind-step holds refusals room old now new h script line (lines x.rest) (lines c.0) x.behind c.2.3 d.turn (sym d.goes_on) in
+        record {
+          taken = x.taken ++ (line ++ 10 ∷ []);
+          rest = c.0;
+          left = c.1;
+          cut = x.cut ∙ ap (λ (v : List ℕ). x.taken ++ v) (c.2.1 ∙ sym (append_assoc line (10 ∷ []) c.0)) ∙ sym (append_assoc x.taken (line ++ 10 ∷ []) c.0);
+          behind = b;
+          feeds = feeds-line x.taken line (length x.behind.done) x.feeds c.2.2 ∙ sym (length-push x.behind.done line);
+          written = wrote-on told x.behind.printed d.turn.e.text x.written d.writes.ok;
+        }
+
+    pub Running-step : {E F : Type 0} (next : NextLine) → ReadsLine {E = E} remaining reader reader' buffer (Ok next) → is_missing next ≡ false → is_last next ≡ false → ((h : List Record) (text : List ℕ) → HasPast holds now h → Holds buffer text → ObeysLine {E = F} holds refusals room contents now new writer writer' h text (Ok true)) → writer'.failures ≡ writer.failures → new.limit ≡ now.limit → room new.moment.keeper ≡ room now.moment.keeper → Running old new reader0 reader' writer0 writer'
+    Running-step {E = E} next r some more obey wrote limit room_is = record {
+      read = r.same ∙ i.read;
+      wrote = wrote ∙ i.wrote;
+      limit = limit ∙ i.limit;
+      room_is = room_is ∙ i.room_is;
+      here = here-on (subst (λ (n : NextLine). ReadsLine {E = E} remaining reader reader' buffer (Ok n)) (step-of next some more) r) obey;
+    }
+
+    -- a write failed
+    pub Running-unwritten : {E F : Type 0} (next : NextLine) (fault : F) → ReadsLine {E = E} remaining reader reader' buffer (Ok next) → is_missing next ≡ false → ((h : List Record) (text : List ℕ) → HasPast holds now h → Holds buffer text → ObeysLine holds refusals room contents now new writer writer' h text (Err fault)) → (h : List Record) (script told : List ℕ) → HasPast holds old h → remaining reader0.inner ≡ Some script → contents writer0.inner ≡ Some told → BreaksOff holds refusals room old new Write h script told (contents writer'.inner) (remaining reader'.inner)
+    Running-unwritten Missing fault r is obey h script told past left held = absurd cc
+    Running-unwritten Ended fault r is obey h script told past left held =
+        let x = i.here h script told past left held in
+        let c = r.cut x.rest x.left in
+        let d = deed-of x.behind.point c.2.0 (Err fault) x.behind.stands c.2.4 obey in
+        let w = d.writes.err in
+        Behind-unwritten holds refusals room old now new h script told c.2.0 w.0 w.1 _ _ (lines x.rest) (lines c.0) x.behind c.2.3 d.turn d.stays w.2 (appended _ _ (told ++ x.behind.printed) w.0 x.written w.3) (c.0, c.1, refl)
+    Running-unwritten Last fault r is obey h script told past left held =
+        let x = i.here h script told past left held in
+        let c = r.cut x.rest x.left in
+        let d = deed-of x.behind.point x.rest (Err fault) x.behind.stands c.2.2 obey in
+        let w = d.writes.err in
+        Behind-unwritten holds refusals room old now new h script told x.rest w.0 w.1 _ _ (lines x.rest) [] x.behind c.2.0 d.turn d.stays w.2 (appended _ _ (told ++ x.behind.printed) w.0 x.written w.3) (c.0, c.1, ap lines c.2.1)

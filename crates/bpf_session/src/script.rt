@@ -1,0 +1,136 @@
+//! Scripts: lines from a reader, obeyed one after another, and their replies to a writer.
+ghost use Rattle.std.specs.Prelude.{◌≡◌, List, ℕ, IfErr, IfOk, OnOk, Some, true};
+ghost use Rattle.bpf_text.specs.Writing.{Writes};
+ghost use Rattle.bpf_journal.specs.Histories.{Record};
+ghost use Rattle.bpf_session.specs.LineSteps.{FailsOnce, Holds, ObeysLine};
+ghost use Rattle.bpf_session.specs.Output.{is_quit};
+ghost use Rattle.bpf_session.specs.Replies.{IsThere, text_of_answer};
+ghost use Rattle.bpf_session.specs.Runs.{BreaksOff, FailsBy, Prints};
+ghost use Rattle.bpf_session.specs.Sessions.{HasPast, bounds_of, point_of};
+
+use crate::command::Command;
+use crate::fault::RunFault;
+use crate::line::{Line, next_line};
+use crate::refusal::Refusal;
+use crate::reply::Reply;
+use crate::session::Session;
+use crate::text::refusal::put_refusal;
+use bpf_journal::Keeper;
+use bpf_text::{Counted, WriteFault};
+use std::io::{Read, Write};
+
+/// Whether a command ends the session.
+fn is_quit(command: &Command) -> bool
+    ensures { result ≡ is_quit command.now }
+{
+    match command {
+        Command::Quit => true,
+        _ => false,
+    }
+}
+
+/// Writes the answer to a command.
+fn put_answer<K: Keeper, W: Write>(
+    session: &Session<K>,
+    answer: &Result<Reply, Refusal>,
+    writer: &mut Counted<W>,
+) -> Result<(), WriteFault>
+    requires there { IfOk answer.now (λ reply. IsThere reply session.now.moment.state) }
+    ensures { (h : List Record) → HasPast K.holds session.now h →
+        Writes W.contents writer.old writer.new result (text_of_answer (bounds_of K.room session.now) answer.now (point_of session.now h)) }
+{
+    match answer {
+        Ok(reply) => session.write_reply(reply, writer),
+        Err(refusal) => put_refusal(writer, Ok(()), *refusal),
+    }
+}
+
+/// Writes the answer to a command and flushes the writer. Answers that the session goes on.
+fn write_answer<K: Keeper, W: Write>(
+    session: &Session<K>,
+    answer: &Result<Reply, Refusal>,
+    writer: &mut Counted<W>,
+) -> Result<bool, WriteFault>
+    requires there { IfOk answer.now (λ reply. IsThere reply session.now.moment.state) }
+    ensures value { (h : List Record) → HasPast K.holds session.now h →
+        Writes W.contents writer.old writer.new result (text_of_answer (bounds_of K.room session.now) answer.now (point_of session.now h)) }
+    ensures ok { IfOk result (λ more. more ≡ true) }
+{
+    match put_answer(session, answer, writer) {
+        Ok(()) => {}
+        Err(fault) => return Err(fault),
+    }
+    match writer.flush() {
+        Ok(()) => Ok(true),
+        Err(_) => Err(WriteFault),
+    }
+}
+
+/// Obeys a line and writes what it prints. Answers whether the session goes on.
+fn obey<K: Keeper, W: Write>(
+    session: &mut Session<K>,
+    line: &Line,
+    writer: &mut Counted<W>,
+) -> Result<bool, WriteFault>
+    ensures value { (h : List Record) (text : List ℕ) → HasPast K.holds session.old h → Holds line.now text →
+        ObeysLine K.holds K.refused K.room W.contents session.old session.new writer.old writer.new h text result }
+    ensures fault { FailsOnce result writer.old writer.new }
+    ensures limit { session.new.limit ≡ session.old.limit }
+    ensures room { K.room session.new.moment.keeper ≡ K.room session.old.moment.keeper }
+{
+    session.invariant();
+    let answer = match line.command() {
+        Ok(None) => return Ok(true),
+        Ok(Some(command)) => {
+            if is_quit(&command) {
+                return Ok(false);
+            }
+            session.apply(&command)
+        }
+        Err(refusal) => Err(refusal),
+    };
+    write_answer(session, &answer, writer)
+}
+
+/// Obeys the lines of a script one after another, up to its end or the first `quit`, and writes what they print.
+/// The writer is flushed after each reply. It takes no memory of its own.
+pub fn run<K: Keeper, R: Read, W: Write>(
+    session: &mut Session<K>,
+    reader: &mut Counted<R>,
+    writer: &mut Counted<W>,
+) -> Result<(), RunFault>
+    // What is printed is what the script prints in a debugger that keeps whole states. Where the keeper's refusals didn't rise nothing
+    // is missing of it, as the law `nothing_refused_nothing_missing` says.
+    ensures value { OnOk result ((h : List Record) (script told : List ℕ) → HasPast K.holds session.old h →
+        R.remaining reader.old.inner ≡ Some script → W.contents writer.old.inner ≡ Some told →
+        Prints K.holds K.refused K.room session.old session.new h script told (W.contents writer.new.inner) (R.remaining reader.new.inner)) }
+    // Where a read or a write failed the session stands after the lines that were obeyed.
+    ensures broken { IfErr result (λ why. (h : List Record) (script told : List ℕ) → HasPast K.holds session.old h →
+        R.remaining reader.old.inner ≡ Some script → W.contents writer.old.inner ≡ Some told →
+        BreaksOff K.holds K.refused K.room session.old session.new why h script told (W.contents writer.new.inner) (R.remaining reader.new.inner)) }
+    ensures ok { OnOk result ((reader.new.failures ≡ reader.old.failures) × (writer.new.failures ≡ writer.old.failures)) }
+    ensures err { IfErr result (λ why. FailsBy why reader.old reader.new writer.old writer.new) }
+    ensures limit { session.new.limit ≡ session.old.limit }
+    ensures room { K.room session.new.moment.keeper ≡ K.room session.old.moment.keeper }
+{
+    let mut line = Line::new();
+    'lines: loop {
+        let next = match next_line(reader, &mut line) {
+            Err(_) => return Err(RunFault::Read),
+            Ok(next) => next,
+        };
+        if next.is_missing() {
+            return Ok(());
+        }
+        let goes_on = match obey(session, &line, writer) {
+            Err(_) => return Err(RunFault::Write),
+            Ok(goes_on) => goes_on,
+        };
+        if !goes_on {
+            return Ok(());
+        }
+        if next.is_last() {
+            return Ok(());
+        }
+    }
+}
