@@ -1,8 +1,6 @@
 pub mod Answering
 pub mod Backwards
 pub mod Breaks
-pub mod Forwards
-pub mod Tables
 pub mod Bytes
 pub mod CommandLaws
 pub mod Cuts

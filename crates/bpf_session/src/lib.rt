@@ -9,7 +9,6 @@ pub mod laws;
 mod line;
 mod number;
 mod parser;
-mod fault;
 mod plain;
 mod refusal;
 mod reply;
@@ -24,8 +23,8 @@ mod words;
 
 pub use command::Command;
 pub use count::{Count, Span};
-pub use parser::parse_command;
 pub use fault::RunFault;
+pub use parser::parse_command;
 pub use plain::{Ending, run_plain};
 pub use refusal::Refusal;
 pub use reply::{Reply, Why};

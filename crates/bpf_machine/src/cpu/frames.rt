@@ -63,9 +63,10 @@ impl Cpu {
         requires room { depth self.old + 1 < frame_count }
         ensures { self.new ≡ record self.old { frames = pushed self.old return_pc } }
     {
+        let depth = self.frames.len() + 1;
         let frame = self.call_frame(return_pc);
         self.frames.push(frame);
-        self.registers[10] = frame_pointer(self.frames.len());
+        self.registers[10] = frame_pointer(depth);
     }
 
     /// The frame that returns to a slot and keeps r6 to r9.

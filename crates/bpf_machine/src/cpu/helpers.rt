@@ -1,9 +1,7 @@
 //! What helpers do: lookup, update and trace.
-ghost use Rattle.std.specs.Prelude.{◌≡◌, ◌<◌, ◌≤◌, ◌+◌, ◌-◌, ◌^◌, IfSome, IfOk, IfErr, MatchResult, Some, None, length, option_map};
-ghost use Rattle.std.specs.Option.{option_map_or};
+ghost use Rattle.std.specs.Prelude.{◌≡◌, ◌<◌, ◌≤◌, ◌+◌, ◌-◌, ◌^◌, IfSome, option_map};
 ghost use Rattle.bpf_isa.specs.Programs.{IsStart};
 ghost use Rattle.bpf_isa.specs.Maps.{IsShape};
-ghost use Rattle.bpf_machine.specs.Access as accesses;
 ghost use Rattle.bpf_machine.specs.Helpers as spec;
 ghost use Rattle.bpf_machine.specs.Platform.{token_base};
 ghost use Rattle.bpf_machine.specs.Regions.{number_at};

@@ -8,6 +8,7 @@ ghost use Rattle.bpf_machine.specs.Undoing.{undone, Restores};
 ghost use Rattle.bpf_machine.specs.declared.moves.Move.{Move};
 
 use super::Cpu;
+use crate::byte_string::ByteString;
 use crate::compact::CompactEntry;
 use crate::entry::Entry;
 use crate::status::Status;
@@ -67,11 +68,7 @@ impl Cpu {
                 r0,
                 address,
                 old,
-            } => {
-                self.memory.put(*address, old.as_slice());
-                self.registers[0] = *r0;
-                self.pc = *pc;
-            }
+            } => self.undo_cell(*pc, *r0, *address, old),
             Entry::Trace { pc, r0 } => self.undo_trace(*pc, *r0),
             Entry::End => self.status = Status::Running,
             Entry::EditRegister { register, value } => {
@@ -146,6 +143,17 @@ impl Cpu {
     {
         self.push(self.pc);
         self.restore(saved);
+        self.pc = pc;
+    }
+
+    /// Takes an update back: the cell's old bytes stand again.
+    #[tactic(auto, unfolding(crate::specs::Undoing::undone))]
+    fn undo_cell(&mut self, pc: u16, r0: u64, address: u64, old: &ByteString)
+        requires { IsStart self.old.program pc }
+        ensures { self.new ≡ undone (Entry.Cell pc r0 address old.now) self.old }
+    {
+        self.memory.put(address, old.as_slice());
+        self.registers[0] = r0;
         self.pc = pc;
     }
 
