@@ -1,5 +1,6 @@
 -- What the debugger answers for a program, a context and a script.
-use Rattle.std.specs.Prelude.{◌≡◌, ◌≤◌, ℕ, List, [], ◌++◌, Option, Some, length}
+use Rattle.std.specs.Prelude.{◌≡◌, ◌≤◌, ℕ, List, [], ◌++◌, Option, Some, length, take}
+use Rattle.std.specs.List.{All}
 use Rattle.bpf_isa.specs.Programs.{Checked, IsProgram}
 use Rattle.bpf_isa.specs.Checker.{IsRefused}
 use Rattle.bpf_isa.specs.declared.fault.LoadFault.{LoadFault}
@@ -10,7 +11,7 @@ use Rattle.bpf_machine.specs.State.{initial}
 use Rattle.bpf_session.specs.Lines.{lines}
 use Rattle.bpf_session.specs.Output.{Walk, walk}
 use Rattle.bpf_session.specs.Points.{Point, Bounds, opening}
-use Rattle.bpf_session.specs.Runs.{Breaks, FailsBy, Leaves, first_lines}
+use Rattle.bpf_session.specs.Runs.{Breaks, FailsBy, GoesOn, Leaves, first_lines}
 use Rattle.bpf_session.specs.declared.fault.RunFault.{RunFault}
 use Rattle.bpfdb.specs.declared.debug.DebugFault.{DebugFault}
 use Rattle.bpfdb.specs.declared.debug.DebugFault.TheVariants.{Load, Open, Run}
@@ -49,6 +50,7 @@ pub record DebugsPart (bytes context : List ℕ) (why : RunFault) (script told :
   pub gaps : List (Option ℕ)
   pub k : ℕ
   pub within : k ≤ length (lines script)
+  pub on : All GoesOn (take k (lines script))
   pub broken : Breaks why (first_lines gaps bounds script (beginning code context)) k script told after left
 
 -- Why nothing more was debugged: a program or a context that is refused leaves the reader and the writer untouched.

@@ -45,7 +45,7 @@ pub fn debug<R: Read, W: Write>(
         (W.contents writer.new.inner) (R.remaining reader.new.inner)) }
     // After a failed read all that the lines before it print was written, after a failed write all but the end of the
     // last one's reply.
-    ensures fault { (why : RunFault) (script told : List ℕ) → result ≡ Err (DebugFault.Run why) →
+    ensures broken { (why : RunFault) (script told : List ℕ) → result ≡ Err (DebugFault.Run why) →
         R.remaining reader.old.inner ≡ Some script → W.contents writer.old.inner ≡ Some told →
         DebugsPart program.now context.now why script told (W.contents writer.new.inner) (R.remaining reader.new.inner) }
     ensures err { IfErr result (λ fault. Stops program.now context.now fault reader.old reader.new writer.old writer.new) }

@@ -1,2 +1,0 @@
-use Rattle.std.proofs.Common.{◌≡◌, refl}
-use Rattle.bpfdb.proofs.debug.debug.Goals as goal
