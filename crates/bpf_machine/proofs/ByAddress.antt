@@ -16,7 +16,7 @@ use Rattle.bpf_machine.specs.Regions.{Image, IsImage, Region, regions, frames_fr
 use Rattle.bpf_machine.specs.State.{depth}
 use Rattle.bpf_machine.specs.ByAddress.{byte_at, AllPast, AreApart, RegionsAreApart, RunsAreTheirAddresses, sum_at, NumbersAreSums, StoresAreLocal, IsInFrame, AccessibleIsBelow, OpenedByAddress}
 use Rattle.bpf_machine.proofs.Indices.{index_here, index_above, index_below, frames_in, frames_before, maps_below, none_behind}
-use Rattle.bpf_machine.proofs.Places.{first_shape, later_shapes}
+use Rattle.bpf_machine.proofs.Spans.{first_shape, later_shapes}
 
 -- Maps from map i on lie past every address below map i, and frames and maps from frame i on past those below frame i.
 maps_past : (a i : ℕ) (shapes : List MapShape) → a < map_address i → AllPast a (maps_from i shapes)

@@ -13,7 +13,7 @@ use Rattle.bpf_machine.specs.Edits.{HasCell}
 use Rattle.bpf_machine.specs.ByAddress.{CellsAreAccessible}
 use Rattle.bpf_machine.proofs.ByAddress.{shown, past_frames}
 use Rattle.bpf_machine.proofs.Indices.{index_here, index_above, frames_before}
-use Rattle.bpf_machine.proofs.Places.{first_shape, later_shapes}
+use Rattle.bpf_machine.proofs.Spans.{first_shape, later_shapes}
 
 -- A run within a map.
 map_run : (i q : ℕ) (shapes : List MapShape) (shape : MapShape) (a r n : ℕ) → All IsShape shapes → slice_get shapes q ≡ Some shape → a ≡ map_address (i + q) + r → r + n ≤ map_len shape → 1 ≤ n → (at : ℕ) × (index_in (maps_from i shapes) a n ≡ Some at)

@@ -1,5 +1,5 @@
 pub mod Indices
-pub mod Places
+pub mod Spans
 pub mod Cells
 pub mod ByAddress
 pub mod Facts

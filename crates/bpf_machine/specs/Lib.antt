@@ -5,7 +5,7 @@ pub mod Jumps
 pub mod Status
 pub mod Platform
 pub mod Regions
-pub mod Places
+pub mod Spans
 pub mod ByAddress
 pub mod Lending
 pub mod State

@@ -12,7 +12,7 @@ mod entry;
 mod fault;
 mod frame;
 pub mod laws;
-mod map_places;
+mod map_layout;
 mod memory;
 mod moves;
 mod platform;

@@ -5,7 +5,7 @@ ghost use Rattle.bpf_machine.specs.Platform.{context_limit, frame_count, frame_l
 
 use crate::alu::{low8, low16, low32};
 use crate::fault::OpenFault;
-use crate::map_places::MapPlaces;
+use crate::map_layout::MapLayout;
 use crate::platform::{
     CONTEXT_BASE, CONTEXT_LIMIT, FRAME_BASE, FRAME_COUNT, FRAME_LEN, FRAME_STRIDE, MAP_BASE,
 };
@@ -18,7 +18,7 @@ use std::marker::Model;
 #[derive(Drop)]
 pub struct Memory {
     context_len: usize,
-    maps: MapPlaces,
+    maps: MapLayout,
     bytes: Vec<u8>,
 }
 
@@ -48,7 +48,7 @@ impl Memory {
         if context.len() > CONTEXT_LIMIT {
             return Err(OpenFault::ContextTooLong);
         }
-        let maps = MapPlaces::of(maps);
+        let maps = MapLayout::of(maps);
         match filled(alloc, context, FRAME_LEN * FRAME_COUNT + maps.len()) {
             Ok(bytes) => Ok(Memory {
                 context_len: context.len(),
@@ -214,13 +214,13 @@ fn copy(run: &mut [u8], bytes: &[u8])
     run.copy_from_slice(bytes);
 }
 
-/// An index that is counted from a place on.
-fn behind(place: usize, index: Option<usize>) -> Option<usize>
-    requires { IfSome index (λ at. place + at < 2 ^ 64) }
-    ensures { result ≡ option_map (λ at. place + at) index }
+/// An index that is counted from another on.
+fn behind(first: usize, index: Option<usize>) -> Option<usize>
+    requires { IfSome index (λ at. first + at < 2 ^ 64) }
+    ensures { result ≡ option_map (λ at. first + at) index }
 {
     match index {
-        Some(at) => Some(place + at),
+        Some(at) => Some(first + at),
         None => None,
     }
 }

@@ -17,7 +17,7 @@ use Rattle.bpf_session.specs.Forward.{Goal, after, kept, gone, stop, least, step
 use Rattle.bpf_session.specs.Backward.{latest, before_last, back_by, marked, stepped, stops_back, to_stop, marks, kept_steps}
 use Rattle.bpf_session.specs.Limits.{most_breaks}
 use Rattle.bpf_session.specs.Refusals.{number_of}
-use Rattle.bpf_session.specs.Refused.{when, present, starts, refusals_of}
+use Rattle.bpf_session.specs.Refused.{when, present, starts, has_cell, refusals_of}
 use Rattle.bpf_session.specs.Meaning.{accepted, does}
 use Rattle.bpf_session.specs.Sessions.{refusals_after_all}
 use Rattle.bpf_session.specs.Commands.{command_of}
@@ -30,7 +30,7 @@ use Rattle.bpf_session.specs.declared.reply.Reply.TheVariants.{Forward}
 use Rattle.bpf_session.specs.declared.reply.Why.{Why}
 use Rattle.bpf_session.specs.declared.reply.Why.TheVariants.{End, Break, Watch, Done, Limit, Memory}
 use Rattle.bpf_session.specs.declared.refusal.Refusal.{Refusal}
-use Rattle.bpf_session.specs.declared.refusal.Refusal.TheVariants.{MachineEnded, NoKeptStep, FewerCommands, AddressNotPresent, RegisterNotWritable, NoStart, TableFull, ThereOrNot, OutOfMemory}
+use Rattle.bpf_session.specs.declared.refusal.Refusal.TheVariants.{MachineEnded, NoKeptStep, FewerCommands, AddressNotPresent, RegisterNotWritable, NoStart, TableFull, ThereOrNot, NoCell, OutOfMemory}
 
 -- ---- a refused command
 
@@ -123,6 +123,7 @@ refusals-are-in-order (command.ReverseStep count) p = one-alone (kept_steps p ==
 refusals-are-in-order command.ReverseContinue p = one-alone (kept_steps p == 0) NoKeptStep
 refusals-are-in-order (command.Edit (edit.Bytes a bytes)) p = one-alone (not (present p a (length bytes))) AddressNotPresent
 refusals-are-in-order (command.Edit (edit.Register r value)) p = one-alone (r == 10) RegisterNotWritable
+refusals-are-in-order (command.Edit (edit.Cell map index bytes)) p = one-alone (not (has_cell (slice_get p.state.program.maps map) index (length bytes))) NoCell
 refusals-are-in-order (command.Edit (edit.Pc slot)) p = one-alone (not (starts p slot)) NoStart
 refusals-are-in-order (command.Break slot) p = break-order (not (starts p slot)) (nat_le most_breaks (length p.breaks)) (has p.breaks slot)
 refusals-are-in-order (command.Delete slot) p = one-alone (not (has p.breaks slot)) ThereOrNot

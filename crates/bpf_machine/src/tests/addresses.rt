@@ -18,7 +18,14 @@ context, the byte after; 0x100000008 1 no no
 context, whole; 0x100000000 8 yes yes
 context, one more; 0x100000000 9 no no
 context, whole and one before; 0xffffffff 9 no no
+context, first two; 0x100000000 2 yes yes
+context, first four; 0x100000000 4 yes yes
+context, first one and one before; 0xffffffff 2 no no
+context, first three and one before; 0xffffffff 4 no no
+context, first seven and one before; 0xffffffff 8 no no
 context, last two; 0x100000006 2 yes yes
+context, last four; 0x100000004 4 yes yes
+context, last three and one after; 0x100000005 4 no no
 context, last and one after; 0x100000007 2 no no
 context, 8 over the end; 0x100000001 8 no no
 context, 256 over the end; 0x100000000 256 no no
@@ -29,7 +36,11 @@ frame 0, the byte after; 0x200000200 1 no no
 frame 0, whole; 0x200000000 512 yes yes
 frame 0, one more; 0x200000000 513 no no
 frame 0, whole and one before; 0x1ffffffff 513 no no
+frame 0, last two; 0x2000001fe 2 yes yes
+frame 0, last four; 0x2000001fc 4 yes yes
 frame 0, last eight; 0x2000001f8 8 yes yes
+frame 0, last one and one after; 0x2000001ff 2 no no
+frame 0, last three and one after; 0x2000001fd 4 no no
 frame 0, last seven and one after; 0x2000001f9 8 no no
 between frame 0 and frame 1; 0x2000003ff 1 no no
 frame 0 to frame 1; 0x200000000 1025 no no
@@ -45,6 +56,12 @@ frame 1, last byte; 0x2000005ff 1 yes no
 frame 1, the byte after; 0x200000600 1 no no
 frame 7, first byte; 0x200001c00 1 yes no
 frame 7, the byte before; 0x200001bff 1 no no
+frame 7, first two; 0x200001c00 2 yes no
+frame 7, first four; 0x200001c00 4 yes no
+frame 7, first eight; 0x200001c00 8 yes no
+frame 7, first one and one before; 0x200001bff 2 no no
+frame 7, first three and one before; 0x200001bfd 4 no no
+frame 7, first seven and one before; 0x200001bf9 8 no no
 frame 7, last byte; 0x200001dff 1 yes no
 frame 7, last two; 0x200001dfe 2 yes no
 frame 7, last four; 0x200001dfc 4 yes no
@@ -96,7 +113,7 @@ fn addresses(rt: HostRuntime) {
         let (_, words) = parts(&rt, row);
         look(&rt, &cpu, words, row);
     }
-    assert_eq!(rt; RUNS.lines().count(), 57);
+    assert_eq!(rt; RUNS.lines().count(), 74);
 }
 
 // The maps of a machine, a run of bytes, its address and how many bytes; whether it is present; whether the program may access it.

@@ -1,4 +1,4 @@
-//! Map places: where the bytes of each map stand among those of all maps.
+//! Map layout: where the bytes of each map stand among those of all maps.
 ghost use Rattle.std.specs.Prelude.{◌≡◌, ◌≤◌, ◌+◌, ◌*◌, [], ◌∷◌, ◌++◌, ◌<◌, IfSome, IfNone, length, slice_get, Some};
 ghost use Rattle.bpf_isa.specs.Maps.{AreMaps};
 ghost use Rattle.bpf_machine.specs.Regions.{index_in, maps_from, maps_len};
@@ -11,48 +11,48 @@ use std::marker::Model;
 
 /// A map's shape, the index of its first byte among the bytes of all maps, and how many bytes it has.
 #[derive(Clone, Copy, Default)]
-pub struct Place {
+pub struct MapSpan {
     pub shape: MapShape,
     pub first: u32,
     pub len: u32,
 }
 
-/// The places of a program's maps, at most 16.
+/// Where the bytes of a program's maps stand, side by side. There are at most 16 maps.
 #[derive(Drop)]
-pub struct MapPlaces {
-    places: ArrayVec<Place, 16>,
+pub struct MapLayout {
+    spans: ArrayVec<MapSpan, 16>,
     /// How many bytes all maps have.
     len: u32,
 }
 
-impl Model for MapPlaces {
+impl Model for MapLayout {
     ghost use Rattle.std.specs.Prelude.{◌≡◌, List};
     ghost use Rattle.bpf_isa.specs.declared.maps.MapShape.{MapShape};
     ghost use Rattle.bpf_isa.specs.Maps.{AreMaps};
     ghost use Rattle.bpf_machine.specs.Regions.{maps_len};
-    ghost use Rattle.bpf_machine.specs.Places.{shapes_of, AreLaid};
+    ghost use Rattle.bpf_machine.specs.Spans.{shapes_of, AreLaid};
 
     ghost Value = { List MapShape };
 
-    ghost view = { λ m. shapes_of m.places.items };
+    ghost view = { λ m. shapes_of m.spans.items };
 
     ghost invariant = { λ m. record {
-      tables : AreMaps (shapes_of m.places.items);
-      laid : AreLaid 0 m.places.items;
-      whole : m.len ≡ maps_len (shapes_of m.places.items);
+      tables : AreMaps (shapes_of m.spans.items);
+      laid : AreLaid 0 m.spans.items;
+      whole : m.len ≡ maps_len (shapes_of m.spans.items);
     } };
 }
 
-impl MapPlaces {
-    /// The places of the maps of a table.
-    pub fn of(maps: &MapTable) -> MapPlaces
+impl MapLayout {
+    /// The layout of the maps of a table.
+    pub fn of(maps: &MapTable) -> MapLayout
         ensures { result ≡ maps.now }
     {
-        let mut places = MapPlaces::empty();
+        let mut layout = MapLayout::empty();
         for map in 0..maps.len() {
-            places.add(shape_of(maps, map));
+            layout.add(shape_of(maps, map));
         }
-        places
+        layout
     }
 
     /// How many bytes all maps have.
@@ -71,29 +71,29 @@ impl MapPlaces {
         ensures fits { IfSome result (λ at. at + n ≤ maps_len self.now) }
     {
         let map = (address - MAP_BASE) / MAP_STRIDE;
-        match place_of(self.places.as_slice(), map) {
-            Some(place) => index_at(place, (address - MAP_BASE) % MAP_STRIDE, n),
+        match span_of(self.spans.as_slice(), map) {
+            Some(span) => index_at(span, (address - MAP_BASE) % MAP_STRIDE, n),
             None => None,
         }
     }
 
-    /// The places of no map.
-    fn empty() -> MapPlaces
+    /// The layout of no map.
+    fn empty() -> MapLayout
         ensures { result ≡ [] }
     {
-        MapPlaces {
-            places: ArrayVec::new(),
+        MapLayout {
+            spans: ArrayVec::new(),
             len: 0,
         }
     }
 
-    /// Adds a map.
+    /// Puts a map's bytes behind those of the others.
     fn add(&mut self, shape: MapShape)
         requires { AreMaps (self.old ++ shape ∷ []) }
         ensures { self.new ≡ self.old ++ shape ∷ [] }
     {
         let len = shape.value_size * shape.entries;
-        self.places.push(Place {
+        self.spans.push(MapSpan {
             shape,
             first: self.len,
             len,
@@ -113,20 +113,20 @@ fn shape_of(maps: &MapTable, map: usize) -> MapShape
     }
 }
 
-/// The place of a map, None past the last.
-fn place_of(places: &[Place], map: u64) -> Option<Place>
-    ensures { result ≡ slice_get places.now map }
+/// The span of a map, None past the last.
+fn span_of(spans: &[MapSpan], map: u64) -> Option<MapSpan>
+    ensures { result ≡ slice_get spans.now map }
 {
-    places.get(map as usize).copied()
+    spans.get(map as usize).copied()
 }
 
 /// Where the run of n bytes from a byte of a map on begins among the bytes of all maps.
-fn index_at(place: Place, byte: u64, n: usize) -> Option<usize>
-    ensures found { IfSome result (λ at. (at ≡ place.first + byte) × (byte + n ≤ place.len)) }
-    ensures none { IfNone result (place.len < byte + n) }
+fn index_at(span: MapSpan, byte: u64, n: usize) -> Option<usize>
+    ensures found { IfSome result (λ at. (at ≡ span.first + byte) × (byte + n ≤ span.len)) }
+    ensures none { IfNone result (span.len < byte + n) }
 {
-    match region_index(0, place.len as usize, byte, n) {
-        Some(at) => Some(place.first as usize + at),
+    match region_index(0, span.len as usize, byte, n) {
+        Some(at) => Some(span.first as usize + at),
         None => None,
     }
 }
