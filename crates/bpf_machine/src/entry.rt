@@ -75,7 +75,7 @@ pub enum Entry {
 impl Entry {
     ghost use Rattle.bpf_machine.specs.Entries.{weight as weight_of};
 
-    /// How many bytes it has in a journal: 5 to 281.
+    /// How many bytes it has in a journal: 5 to 280.
     pub fn weight(&self) -> usize
         ensures { result ≡ weight_of self.now }
     {

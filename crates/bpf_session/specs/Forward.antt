@@ -63,7 +63,7 @@ reason limit done p = unwrap_or (stop limit done p (steps limit done p)) Limit
 abbrev pub taken : ℕ → ℕ → Why → Point → Outcome
 taken room k why p = replied (Forward k why) (gone room k p)
 
--- k steps where the keeper refuses none of them; else those before the refused one, which is taken back.
+-- k steps where the keeper refuses none of them; else those before the refused one, which is not taken.
 abbrev pub cut : Option ℕ → ℕ → ℕ → Why → Point → Outcome
 cut None room k why p = taken room k why p
 cut (Some m) room k why p =

@@ -15,7 +15,7 @@ pub enum Why {
     Done,
     /// The session's limit of steps is reached.
     Limit,
-    /// The keeper had no memory for a further step, which was taken back.
+    /// The keeper had no memory for a further step, which was not taken.
     Memory,
     /// Nothing is kept from before.
     Start,
