@@ -1,0 +1,168 @@
+//! Keepers that have room for a few entries alone.
+ghost use Rattle.std.specs.Prelude.{◌≡◌, ◌<◌, ◌^◌, OnOk};
+ghost use Rattle.bpf_journal.specs.Keepers.{refusals_after};
+
+use crate::play::{machine, plays};
+use bpf_journal::{Keeper, ListKeeper};
+use bpf_machine::{CompactEntry, Entry};
+use bpf_session::Session;
+use std::alloc::AllocError;
+
+/// A keeper that keeps so many entries at most, and counts the refused ones.
+#[derive(Drop)]
+struct Narrow<K: Keeper> {
+    kept: K,
+    most: usize,
+    refusals: u64,
+    ghost counts: { refusals < 2 ^ 64 },
+}
+
+impl<K: Keeper> Narrow<K> {
+    /// Counts a refusal.
+    fn refuse(&mut self) -> Result<(), AllocError>
+        ensures refused { self.new.refusals ≡ refusals_after result self.old.refusals }
+        ensures kept { self.new.kept ≡ self.old.kept }
+        ensures err { OnOk result ⊥ }
+    {
+        self.refusals = self.refusals.saturating_add(1);
+        Err(AllocError)
+    }
+}
+
+impl<K: Keeper> Keeper for Narrow<K> {
+    ghost holds = { λ k es. K.holds k.kept es };
+
+    ghost room = { λ k. K.room k.kept };
+
+    ghost refused = { λ k. k.refusals };
+
+    ghost place = { λ k front. K.place k.kept front };
+
+    ghost counted = { λ k. k.counts };
+
+    ghost within = { λ k es held. K.within k.kept es held };
+
+    ghost apart = { λ k n m a b held same place. K.apart k.kept n m a b held same place };
+
+    fn push(&mut self, entry: &Entry, mark: bool) -> Result<(), AllocError> {
+        if self.kept.len() < self.most {
+            match self.kept.push(entry, mark) {
+                Ok(()) => return Ok(()),
+                Err(AllocError) => {}
+            }
+        }
+        self.refuse()
+    }
+
+    fn push_compact(&mut self, entry: &CompactEntry, mark: bool) -> Result<(), AllocError> {
+        if self.kept.len() < self.most {
+            match self.kept.push_compact(entry, mark) {
+                Ok(()) => return Ok(()),
+                Err(AllocError) => {}
+            }
+        }
+        self.refuse()
+    }
+
+    fn refusals(&self) -> u64 {
+        self.refusals
+    }
+
+    fn last(&self) -> Option<(Entry, bool)> {
+        self.kept.last()
+    }
+
+    fn pop(&mut self) -> Option<(Entry, bool)> {
+        self.kept.pop()
+    }
+
+    fn pop_compact(&mut self) -> Option<(CompactEntry, bool)> {
+        self.kept.pop_compact()
+    }
+
+    fn len(&self) -> usize {
+        self.kept.len()
+    }
+
+    fn marked(&self) -> usize {
+        self.kept.marked()
+    }
+
+    fn weight(&self) -> usize {
+        self.kept.weight()
+    }
+
+    fn capacity(&self) -> usize {
+        self.kept.capacity()
+    }
+
+    fn end(&self) -> usize {
+        self.kept.end()
+    }
+
+    fn walk_back(&self, at: usize) -> Option<(Entry, bool, usize)> {
+        self.kept.walk_back(at)
+    }
+}
+
+/// add r0, 1; ja -2.
+const ENDLESS: &str = "07000000010000000500feff00000000";
+
+// How many entries there is room for, how many refusals are counted, and the transcript.
+const ROWS: [(usize, u64, &str); 3] = [
+    (
+        0,
+        3,
+        "\
+stepi 8|refused Q15: out of memory
+continue|refused Q15: out of memory
+set reg r0 1|refused Q15: out of memory
+info regs|r0=0x0 r1=0x0 r2=0x0 r3=0x0 r4=0x0 r5=0x0 r6=0x0 r7=0x0 r8=0x0 r9=0x0 r10=0x200000200
+|at 0: add r0, 1
+reverse-stepi|refused Q4: no kept step
+",
+    ),
+    (
+        1,
+        3,
+        "\
+stepi 8|1 forward; memory; at 1: ja L0
+stepi 8|refused Q15: out of memory
+reverse-stepi|1 back; done; at 0: add r0, 1
+stepi|1 forward; done; at 1: ja L0
+set reg r0 1|refused Q15: out of memory
+undo|1 back; done; at 0: add r0, 1
+",
+    ),
+    (
+        5,
+        3,
+        "\
+stepi 8|5 forward; memory; at 1: ja L0
+info regs|r0=0x3 r1=0x0 r2=0x0 r3=0x0 r4=0x0 r5=0x0 r6=0x0 r7=0x0 r8=0x0 r9=0x0 r10=0x200000200
+|at 1: ja L0
+reverse-stepi 3|3 back; done; at 0: add r0, 1
+continue|3 forward; memory; at 1: ja L0
+continue|refused Q15: out of memory
+undo 2|5 back; done; at 0: add r0, 1
+",
+    ),
+];
+
+#[test]
+fn refused_entries_stop_a_command(rt: HostRuntime) {
+    let alloc = rt.alloc();
+    for (most, refusals, transcript) in ROWS {
+        let keeper = match ListKeeper::open(alloc, 65_536) {
+            Ok(kept) => Narrow {
+                kept,
+                most,
+                refusals: 0,
+            },
+            Err(_) => panic!(rt; "no journal"),
+        };
+        let mut session = Session::open(machine(&rt, alloc, ENDLESS, &[]), keeper, 1_000_000);
+        plays(&rt, alloc, &mut session, transcript, 10_000);
+        assert_eq!(rt; session.keeper().refusals(), refusals, "{transcript}");
+    }
+}

@@ -1,0 +1,122 @@
+//! Transcripts, and sessions that they are played in. Each row of a transcript is a command and its reply, with a bar between; a further
+//! line of a reply stands behind a bar alone, and a command without a reply has no bar.
+use bpf_isa::{MapTable, check};
+use bpf_journal::{Keeper, ListKeeper};
+use bpf_machine::Cpu;
+use bpf_session::{Count, Session, run};
+use bpf_text::Counted;
+use std::alloc::Global;
+use std::io;
+use std::io::{Error, ErrorKind, Read};
+use std::process::Abort;
+
+/// A reader that gives at most `step` bytes a read, and fails after so many bytes.
+#[derive(Drop)]
+pub struct Slow<'a> {
+    pub left: &'a [u8],
+    pub step: usize,
+    pub good: usize,
+}
+
+impl Read for Slow<'_> {
+    fn read(&mut self, buf: &mut [u8]) -> io::Result<usize> {
+        if self.good == 0 && !self.left.is_empty() {
+            return Err(Error::from(ErrorKind::Other));
+        }
+        let count = buf.len().min(self.step).min(self.good).min(self.left.len());
+        buf[..count].copy_from_slice(&self.left[..count]);
+        self.left = &self.left[count..];
+        self.good -= count;
+        Ok(count)
+    }
+}
+
+/// The machine of a program in hexadecimal digits and a context.
+pub fn machine(rt: &impl Abort, alloc: Global, program: &str, context: &[u8]) -> Cpu {
+    let bytes = hex::decode(alloc, program).ok().expect(rt, "no digits");
+    let program = check(alloc, &bytes, &MapTable::empty())
+        .ok()
+        .expect(rt, "refused");
+    Cpu::open(alloc, program, context)
+        .ok()
+        .expect(rt, "not opened")
+}
+
+/// A session over such a machine, with a journal of so many bytes and a limit of steps.
+pub fn session(
+    rt: &impl Abort,
+    alloc: Global,
+    program: &str,
+    context: &[u8],
+    size: usize,
+    limit: u64,
+) -> Session<ListKeeper> {
+    let cpu = machine(rt, alloc, program, context);
+    let limit = Count::new(limit).expect(rt, "no limit");
+    match ListKeeper::open(alloc, size) {
+        Ok(keeper) => Session::open(cpu, keeper, limit.get()),
+        Err(_) => panic!(rt; "no journal"),
+    }
+}
+
+/// What a script prints that comes in pieces of `step` bytes.
+pub fn printed<K: Keeper>(
+    rt: &impl Abort,
+    alloc: Global,
+    session: &mut Session<K>,
+    script: &[u8],
+    step: usize,
+) -> Vec<u8> {
+    let mut printed = Vec::new(alloc);
+    let mut reader = Counted::new(Slow {
+        left: script,
+        step,
+        good: script.len(),
+    });
+    let mut writer = Counted::new(&mut printed);
+    assert!(rt; run(session, &mut reader, &mut writer).is_ok());
+    printed
+}
+
+/// The commands of a transcript, a line each.
+pub fn commands_of(rt: &impl Abort, alloc: Global, transcript: &str) -> Vec<u8> {
+    let mut script = Vec::new(alloc);
+    for row in transcript.lines() {
+        let command = row.split_once('|').map_or(row, |parts| parts.0);
+        if !command.is_empty() {
+            script
+                .extend_from_slice(command.as_bytes())
+                .expect(rt, "no memory");
+            script.push(b'\n').expect(rt, "no memory");
+        }
+    }
+    script
+}
+
+/// The replies of a transcript, a line each.
+pub fn replies_of(rt: &impl Abort, alloc: Global, transcript: &str) -> Vec<u8> {
+    let mut replies = Vec::new(alloc);
+    for row in transcript.lines() {
+        if let Some((_, reply)) = row.split_once('|') {
+            replies
+                .extend_from_slice(reply.as_bytes())
+                .expect(rt, "no memory");
+            replies.push(b'\n').expect(rt, "no memory");
+        }
+    }
+    replies
+}
+
+/// Plays a transcript, which comes in pieces of `step` bytes.
+pub fn plays<K: Keeper>(
+    rt: &impl Abort,
+    alloc: Global,
+    session: &mut Session<K>,
+    transcript: &str,
+    step: usize,
+) {
+    let script = commands_of(rt, alloc, transcript);
+    let wanted = replies_of(rt, alloc, transcript);
+    let told = printed(rt, alloc, session, &script, step);
+    assert_eq!(rt; told.as_slice(), wanted.as_slice(), "{transcript}");
+}

@@ -1,0 +1,278 @@
+//! Worked sessions. The expected replies were worked out by hand from what each command means; none is bpfdb's own output.
+use crate::play::{plays, printed, session};
+use std::test::Fail;
+
+/// A row: the program in hexadecimal digits, the context, the journal's size, the limit of steps, the transcript.
+type Row = (&'static str, &'static [u8], usize, u64, &'static str);
+
+/// mov r0, 42; exit.
+const ANSWER: &str = "b70000002a0000009500000000000000";
+
+const ANSWERED: Row = (
+    ANSWER,
+    &[],
+    65_536,
+    1_000_000,
+    "\
+stepi|1 forward; done; at 1: exit
+info regs|r0=0x2a r1=0x0 r2=0x0 r3=0x0 r4=0x0 r5=0x0 r6=0x0 r7=0x0 r8=0x0 r9=0x0 r10=0x200000200
+|at 1: exit
+reverse-stepi|1 back; done; at 0: mov r0, 42
+stepi 5|2 forward; end; exited at 1: r0 0x2a
+stepi|refused Q3: the machine has ended
+quit
+stepi
+frob
+",
+);
+
+// ldxdw r1, [r1+0]; exit.
+const LOAD: Row = (
+    "79110000000000009500000000000000",
+    &[1, 2, 3, 4, 5, 6, 7, 8],
+    65_536,
+    1_000_000,
+    "\
+stepi|1 forward; done; at 1: exit
+info regs|r0=0x0 r1=0x807060504030201 r2=0x8 r3=0x0 r4=0x0 r5=0x0 r6=0x0 r7=0x0 r8=0x0 r9=0x0 r10=0x200000200
+|at 1: exit
+reverse-stepi|1 back; done; at 0: ldxdw r1, [r1+0]
+info regs|r0=0x0 r1=0x100000000 r2=0x8 r3=0x0 r4=0x0 r5=0x0 r6=0x0 r7=0x0 r8=0x0 r9=0x0 r10=0x200000200
+|at 0: ldxdw r1, [r1+0]
+",
+);
+
+// stdw [r10+0], 7; exit.
+const FAULT: Row = (
+    "7a0a0000070000009500000000000000",
+    &[],
+    65_536,
+    1_000_000,
+    "\
+stepi|1 forward; end; fault access 0x200000200 at 0
+stepi|refused Q3: the machine has ended
+set pc 0|ok
+info regs|r0=0x0 r1=0x0 r2=0x0 r3=0x0 r4=0x0 r5=0x0 r6=0x0 r7=0x0 r8=0x0 r9=0x0 r10=0x200000200
+|at 0: stdw [r10+0], 7
+undo|1 back; done; fault access 0x200000200 at 0
+",
+);
+
+// add r0, 1; ja -2.
+const DROPPED: Row = (
+    "07000000010000000500feff00000000",
+    &[],
+    1_024,
+    1_000_000,
+    "\
+stepi 100|100 forward; done; at 0: add r0, 1
+info history|89 moves, 0 commands, 1019 of 1024 bytes
+undo|refused Q5: fewer kept commands
+reverse-stepi 100|89 back; start; at 1: ja L0
+info regs|r0=0x6 r1=0x0 r2=0x0 r3=0x0 r4=0x0 r5=0x0 r6=0x0 r7=0x0 r8=0x0 r9=0x0 r10=0x200000200
+|at 1: ja L0
+reverse-stepi|refused Q4: no kept step
+",
+);
+
+// lddw r0, 1; exit.
+const REFUSED: Row = (
+    "180000000100000000000000000000009500000000000000",
+    &[0; 8],
+    65_536,
+    1_000_000,
+    "\
+set mem 0x100000004 0102030405060708|refused Q6: address not present
+x 0x100000000 8|0x100000000: 0000000000000000
+set reg r10 1|refused Q7: register not writable
+set pc 1|refused Q8: no instruction starts there
+info regs|r0=0x0 r1=0x100000000 r2=0x8 r3=0x0 r4=0x0 r5=0x0 r6=0x0 r7=0x0 r8=0x0 r9=0x0 r10=0x200000200
+|at 0: lddw r0, 0x1
+info history|0 moves, 0 commands, 0 of 65536 bytes
+",
+);
+
+/// add r0, 1; jlt r0, 3, -2; exit.
+const COUNT: &str = "0700000001000000a500feff030000009500000000000000";
+
+const BREAKS: Row = (
+    COUNT,
+    &[],
+    65_536,
+    1_000_000,
+    "\
+break 1|ok
+continue|1 forward; break; at 1: jlt r0, 3, L0
+continue|2 forward; break; at 1: jlt r0, 3, L0
+continue|2 forward; break; at 1: jlt r0, 3, L0
+continue|2 forward; end; exited at 2: r0 0x3
+rc|2 back; break; at 1: jlt r0, 3, L0
+undo|2 back; done; at 1: jlt r0, 3, L0
+info regs|r0=0x2 r1=0x0 r2=0x0 r3=0x0 r4=0x0 r5=0x0 r6=0x0 r7=0x0 r8=0x0 r9=0x0 r10=0x200000200
+|at 1: jlt r0, 3, L0
+delete 9|refused Q11: not there or already there
+",
+);
+
+const PART: Row = (
+    COUNT,
+    &[],
+    65_536,
+    1_000_000,
+    "\
+stepi 3|3 forward; done; at 1: jlt r0, 3, L0
+reverse-stepi|1 back; done; at 0: add r0, 1
+undo|2 back; done; at 0: add r0, 1
+",
+);
+
+// mov r0, 1; add r0, r0; exit.
+const DOUBLED: Row = (
+    "b7000000010000000f000000000000009500000000000000",
+    &[],
+    65_536,
+    1_000_000,
+    "\
+stepi 3|3 forward; end; exited at 2: r0 0x2
+reverse-stepi 2|2 back; done; at 1: add r0, r0
+info regs|r0=0x1 r1=0x0 r2=0x0 r3=0x0 r4=0x0 r5=0x0 r6=0x0 r7=0x0 r8=0x0 r9=0x0 r10=0x200000200
+|at 1: add r0, r0
+reverse-stepi 5|1 back; start; at 0: mov r0, 1
+reverse-stepi|refused Q4: no kept step
+",
+);
+
+const EDITS: Row = (
+    COUNT,
+    &[],
+    65_536,
+    1_000_000,
+    "\
+set reg r0 0x10|ok
+info history|1 moves, 1 commands, 14 of 65536 bytes
+reverse-stepi|refused Q4: no kept step
+undo|1 back; done; at 0: add r0, 1
+set pc 1|ok
+stepi|1 forward; done; at 0: add r0, 1
+reverse-stepi 3|1 back; start; at 1: jlt r0, 3, L0
+undo 2|refused Q5: fewer kept commands
+undo|1 back; done; at 0: add r0, 1
+",
+);
+
+const TABLES: Row = (
+    COUNT,
+    &[],
+    65_536,
+    1_000_000,
+    "\
+set reg r0 1|ok
+stepi 2|2 forward; done; at 0: add r0, 1
+rc|3 back; start; at 0: add r0, 1
+break 1|ok
+break 0|ok
+break 0|refused Q11: not there or already there
+break 3|refused Q8: no instruction starts there
+stepi|1 forward; break; at 1: jlt r0, 3, L0
+info breaks|break 1
+|break 0
+",
+);
+
+// ja -1.
+const STILL: Row = (
+    "0500ffff00000000",
+    &[],
+    65_536,
+    5,
+    "\
+stepi 5|5 forward; done; at 0: ja L0
+continue|5 forward; limit; at 0: ja L0
+disas 0 2|0: ja L0
+disas 1 1|refused Q8: no instruction starts there
+info trace|trace 0
+",
+);
+
+const ROWS: [Row; 11] = [
+    ANSWERED, LOAD, FAULT, DROPPED, REFUSED, BREAKS, PART, DOUBLED, EDITS, TABLES, STILL,
+];
+
+#[test]
+fn worked_sessions(rt: HostRuntime) {
+    let alloc = rt.alloc();
+    for (program, context, size, limit, transcript) in ROWS {
+        for step in [1, 7, 10_000] {
+            let mut session = session(&rt, alloc, program, context, size, limit);
+            plays(&rt, alloc, &mut session, transcript, step);
+        }
+    }
+}
+
+// Bytes in front of a last line `stepi`, so many of them, what stands behind them, and what is printed in front of that line's reply.
+const LINES: [(u8, usize, &str, &str); 8] = [
+    (b'z', 0, "\n", ""),
+    (b'z', 1_024, "\n", "refused Q1: unknown command\n"),
+    (b'z', 1_025, "\n", "refused Q12: line too long\n"),
+    (b'z', 1_024, "\r\n", "refused Q12: line too long\n"),
+    (b'z', 1_023, "\r\n", "refused Q1: unknown command\n"),
+    (b' ', 1_100, "\n", "refused Q12: line too long\n"),
+    (b' ', 1_024, "\n", ""),
+    (
+        b'z',
+        1_025,
+        "\nfrob\nundo 0\n",
+        "refused Q12: line too long\nrefused Q1: unknown command\nrefused Q2: wrong argument\n",
+    ),
+];
+
+#[test]
+fn long_lines(rt: HostRuntime) -> Result<(), Fail> {
+    for (byte, length, rest, wanted) in LINES {
+        for step in [1, 7, 10_000] {
+            let mut script = vec![in rt.alloc(); byte; length]?;
+            script.extend_from_slice(rest.as_bytes())?;
+            script.extend_from_slice(b"stepi")?;
+            let mut session = session(&rt, rt.alloc(), ANSWER, &[], 65_536, 1_000_000);
+            let told = printed(&rt, rt.alloc(), &mut session, &script, step);
+            let mut replies = Vec::from_slice(rt.alloc(), wanted.as_bytes())?;
+            replies.extend_from_slice(b"1 forward; done; at 1: exit\n")?;
+            assert_eq!(rt; told.as_slice(), replies.as_slice(), "{length} of {byte}");
+        }
+    }
+    Ok(())
+}
+
+// Scripts, and what they print: lines without words, `quit` with a word, a zero byte and a byte ff in words, blanks of each kind.
+const SCRIPTS: [(&[u8], &str); 9] = [
+    (b"", ""),
+    (b"\n", ""),
+    (b" \t\r\n", ""),
+    (b"quit", ""),
+    (b"quit\nstepi\n", ""),
+    (
+        b"quit now\nstepi",
+        "refused Q2: wrong argument\n1 forward; done; at 1: exit\n",
+    ),
+    (
+        b"stepi\0\nSTEPI\n\xff\n",
+        "refused Q1: unknown command\nrefused Q1: unknown command\nrefused Q1: unknown command\n",
+    ),
+    (
+        b"\tstepi\t0x1\r\nreverse-stepi 1000000000\n",
+        "1 forward; done; at 1: exit\n1 back; start; at 0: mov r0, 42\n",
+    ),
+    (
+        b"set\nset foo 1\nx 0x100000000 257\nrc 1\n",
+        "refused Q2: wrong argument\nrefused Q2: wrong argument\nrefused Q2: wrong argument\nrefused Q2: wrong argument\n",
+    ),
+];
+
+#[test]
+fn other_lines(rt: HostRuntime) {
+    for (script, wanted) in SCRIPTS {
+        let mut session = session(&rt, rt.alloc(), ANSWER, &[], 65_536, 1_000_000);
+        let told = printed(&rt, rt.alloc(), &mut session, script, 10_000);
+        assert_eq!(rt; told.as_slice(), wanted.as_bytes());
+    }
+}
