@@ -54,7 +54,12 @@ pub fn time_sessions(rt: &HostRuntime, rounds: u64) -> io::Result<()> {
     }
     show(rt, "steps through a timeline", best.steps, best.steps)?;
     show(rt, "continue", best.on, best.steps)?;
-    show(rt, "continue with 64 breakpoints", best.on_with_breaks, best.steps)?;
+    show(
+        rt,
+        "continue with 64 breakpoints",
+        best.on_with_breaks,
+        best.steps,
+    )?;
     show(rt, "back through a timeline", best.back, best.back)?;
     show(rt, "reverse-continue", best.reverse, best.back)
 }
