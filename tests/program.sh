@@ -153,7 +153,7 @@ others='r1=0x0 r2=0x0 r3=0x0 r4=0x0 r5=0x0 r6=0x0 r7=0x0 r8=0x0 r9=0x0 r10=0x200
 start="r0=0x0 ${others}at 0: mov r0, 42\n"
 q4='refused Q4: no kept step\n'
 end='2 forward; end; exited at 1: r0 0x2a\nrefused Q3: the machine has ended\n'
-kept="${exit_at_1}r0=0x2a ${others}at 1: exit\n$mov_at_0$end"
+kept="${exit_at_1}r0=0x2a ${others}at 1: exit\n1 back; done; at 0: mov r0, 42\n$end"
 printf 'stepi\ninfo regs\nreverse-stepi\nstepi 5\nstepi\n' > "$work/script"
 printf '%b' "$kept" > "$work/kept"
 
