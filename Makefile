@@ -1,7 +1,7 @@
 # bpfdb: run, test, pages and fmt. The toolchain's command is rt; beside it only a POSIX shell is needed.
 .PHONY: run test pages fmt
 
-# Proves and builds the debugger, where that is not done yet, and shows the session of crates/bpfdb/stdin.
+# Proves and builds the debugger, where that is not done yet, and shows the session of tests/session/script.
 run:
 	@sh tests/session.sh
 

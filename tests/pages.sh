@@ -98,11 +98,11 @@ definitions() {
     done
 }
 
-# session: README's session has the commands of crates/bpfdb/stdin and the replies of crates/bpfdb/stdout.
+# session: README's session has the commands of tests/session/script and the replies of tests/session/replies.
 session() {
     awk '/^\$ make run$/ { inside = 1; next } /^```$/ { inside = 0 } inside' README.md > "$work/session"
-    sed -n 's/^> //p' "$work/session" | cmp -s - crates/bpfdb/stdin || fault "README.md's session has other commands than crates/bpfdb/stdin"
-    grep -v '^> ' "$work/session" | cmp -s - crates/bpfdb/stdout || fault "README.md's session has other replies than crates/bpfdb/stdout"
+    sed -n 's/^> //p' "$work/session" | cmp -s - tests/session/script || fault "README.md's session has other commands than tests/session/script"
+    grep -v '^> ' "$work/session" | cmp -s - tests/session/replies || fault "README.md's session has other replies than tests/session/replies"
 }
 
 sh docs/tables.sh --check || fault 'tables of files'

@@ -2,7 +2,7 @@
 # Tests of the built program from outside: its output, its standard error and its exit status, with input and output that
 # fail, and with each request for memory refused in turn. A test that passes prints nothing; one that fails names itself
 # and shows what differs. Expected texts are written out here, by README's table of commands, or stand in
-# crates/bpfdb/stdout.
+# crates/bpfdb/stdout and tests/session/.
 set -u
 sh "$(dirname "$0")/build.sh" || exit 1
 cd "$(dirname "$0")/../crates/bpfdb" || exit 1
@@ -59,6 +59,8 @@ session=$(sed 's/$/\\n/' stdout | tr -d '\n')
 
 # The table.
 row 'the first session' 0 "$(sed 's/$/\\n/' stdin | tr -d '\n')" "$session" ''
+row "README's session" 0 "$(sed 's/$/\\n/' ../../tests/session/script | tr -d '\n')" \
+    "$(sed 's/$/\\n/' ../../tests/session/replies | tr -d '\n')" ''
 row 'an empty script' 0 '' '' ''
 row 'quit without a line feed' 0 'quit' '' ''
 row 'nothing behind quit is obeyed' 0 'stepi\nquit\nstepi\n' "$exit_at_1" ''

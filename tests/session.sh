@@ -1,10 +1,11 @@
 #!/bin/sh
-# The session of crates/bpfdb/stdin: each command behind '> ', and below it what the program answers.
+# The session of tests/session/script, which README shows: each command behind '> ', and below it what the program answers.
 set -u
 cd "$(dirname "$0")/.." || exit 1
 sh tests/build.sh || exit 1
 work=$(mktemp -d) || exit 1
 trap 'rm -rf "$work"' EXIT
+script=$PWD/tests/session/script
 cd crates/bpfdb || exit 1
 
 # (The program echoes no command. So what it answers to one is what a script that ends with it prints beyond the one before.)
@@ -13,7 +14,7 @@ count=0
 while read -r command; do
     count=$((count + 1))
     echo "> $command"
-    head -n "$count" stdin | out/bpfdb > "$work/replies" || exit 1
+    head -n "$count" "$script" | out/bpfdb > "$work/replies" || exit 1
     tail -n "+$((shown + 1))" "$work/replies"
     shown=$(wc -l < "$work/replies")
-done < stdin
+done < "$script"
