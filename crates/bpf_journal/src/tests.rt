@@ -3,3 +3,4 @@ mod edits;
 mod keepers;
 mod shown;
 mod steps;
+mod worked;

@@ -3,9 +3,13 @@
 //! nanoseconds a step and as a ratio to plain steps. What is timed is used: the last line is a sum over what came out.
 #![tactic(auto)]
 
+ghost use Rattle.std.specs.Prelude.{◌≡◌, false};
+ghost use Rattle.bpf_machine.specs.Next.{change as change_of};
+ghost use Rattle.bpf_machine.specs.Status.{has_ended};
+
 use bpf_isa::{MapTable, Reg, check};
 use bpf_journal::{ListKeeper, Timeline};
-use bpf_machine::{CompactEntry, Cpu, Ended};
+use bpf_machine::{Change, CompactEntry, Cpu, Ended};
 use std::alloc::Global;
 use std::time::Instant;
 use std::{env, io};
@@ -20,6 +24,24 @@ const COUNTING: [u8; 24] = [
 const MEMORY: [u8; 32] = [
     0x79, 0xa1, 0xf8, 0xff, 0, 0, 0, 0, 0x07, 1, 0, 0, 1, 0, 0, 0, 0x7b, 0x1a, 0xf8, 0xff, 0, 0, 0,
     0, 0x05, 0, 0xfc, 0xff, 0, 0, 0, 0,
+];
+
+/// callf L2; ja L0; L2: add r6, 1; exit.
+const CALLS: [u8; 32] = [
+    0x85, 0x10, 0, 0, 1, 0, 0, 0, 0x05, 0, 0xfe, 0xff, 0, 0, 0, 0, 0x07, 6, 0, 0, 1, 0, 0, 0, 0x95,
+    0, 0, 0, 0, 0, 0, 0,
+];
+
+/// atomic_fetch_add64 [r10-8], r1; atomic_add64 [r10-8], r2; ja L0.
+const ATOMICS: [u8; 24] = [
+    0xdb, 0x1a, 0xf8, 0xff, 1, 0, 0, 0, 0xdb, 0x2a, 0xf8, 0xff, 0, 0, 0, 0, 0x05, 0, 0xfd, 0xff, 0,
+    0, 0, 0,
+];
+
+/// ldmap r1, 0; mov r2, r10; add r2, -8; L4: call 1; ja L4.
+const LOOKUPS: [u8; 48] = [
+    0x18, 0x51, 0, 0, 0, 0, 0, 0, 0, 0, 0, 0, 0, 0, 0, 0, 0xbf, 0xa2, 0, 0, 0, 0, 0, 0, 0x07, 2, 0,
+    0, 0xf8, 0xff, 0xff, 0xff, 0x85, 0, 0, 0, 1, 0, 0, 0, 0x05, 0, 0xfe, 0xff, 0, 0, 0, 0,
 ];
 
 /// How many steps are taken before as many are taken back.
@@ -40,6 +62,9 @@ fn main(rt: HostRuntime) -> io::Result<()> {
     for (name, program) in [
         ("counting loop", COUNTING.as_slice()),
         ("memory loop", MEMORY.as_slice()),
+        ("loop of calls", CALLS.as_slice()),
+        ("loop of atomics", ATOMICS.as_slice()),
+        ("loop of lookups", LOOKUPS.as_slice()),
     ] {
         let mut best = [u128::MAX; WAYS.len()];
         for _ in 0..5 {
@@ -159,13 +184,30 @@ fn run_recorded(cpu: &mut Cpu, kept: &mut [CompactEntry], steps: u64) -> u64 {
             Ok(change) => {
                 let slot = (step % 65_536) as usize;
                 if slot < kept.len() {
-                    kept[slot] = cpu.compact(&change).unwrap_or(CompactEntry::End);
+                    kept[slot] = match cpu.compact(&change) {
+                        Some(entry) => entry,
+                        None => shortened(cpu, &change),
+                    };
                 }
                 cpu.finish(&change);
             }
         }
     }
     steps
+}
+
+/// What stands for an entry that is not compact: the entry is made, and its weight kept.
+#[inline(never)]
+fn shortened(cpu: &Cpu, change: &Change) -> CompactEntry
+    requires runs { has_ended cpu.now.status ≡ false }
+    requires looked { change.now ≡ change_of cpu.now }
+{
+    let weight = cpu.entry(change).weight();
+    if weight > 39 {
+        CompactEntry::End
+    } else {
+        CompactEntry::Jump { pc: weight as u16 }
+    }
 }
 
 /// Steps that a list keeper keeps.
@@ -228,8 +270,9 @@ fn used(cpu: &Cpu) -> u64 {
     sum
 }
 
-/// A machine on the program, if memory suffices.
+/// A machine on the program with a map of 16 values of 8 bytes, if memory suffices.
 fn opened(alloc: Global, program: &[u8]) -> Option<Cpu> {
-    let program = check(alloc, program, &MapTable::empty()).ok()?;
+    let maps = MapTable::parse(b"8x16").ok()?;
+    let program = check(alloc, program, &maps).ok()?;
     Cpu::open(alloc, program, &[]).ok()
 }

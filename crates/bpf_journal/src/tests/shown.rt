@@ -5,14 +5,18 @@ use bpf_machine::{ByteString, Cpu, EditFault, Entry, Fault, Status};
 use std::alloc::Global;
 use std::test::Fail;
 
-/// A machine with this program, a map of two values of 8 bytes and the context 01 02 .. 08.
+/// A machine with this program, the context 01 02 .. 08 and a map of two values of 8 bytes.
 pub fn machine(alloc: Global, program: &str) -> Result<Cpu, Fail> {
+    machine_on(alloc, program, &[1, 2, 3, 4, 5, 6, 7, 8])
+}
+
+/// The same with another context.
+pub fn machine_on(alloc: Global, program: &str, context: &[u8]) -> Result<Cpu, Fail> {
     let bytes = hex::decode(alloc, program)?;
     let maps = MapTable::parse(b"8x2").ok().ok_or("no maps")?;
     let program = check(alloc, bytes.as_slice(), &maps).ok().ok_or("refused")?;
-    let context = [1, 2, 3, 4, 5, 6, 7, 8];
     Ok(
-        Cpu::open(alloc, program, &context)
+        Cpu::open(alloc, program, context)
             .ok()
             .ok_or("not opened")?,
     )
@@ -20,14 +24,28 @@ pub fn machine(alloc: Global, program: &str) -> Result<Cpu, Fail> {
 
 /// The same machine with an empty journal.
 pub fn timeline(alloc: Global, program: &str, size: usize) -> Result<Timeline<ListKeeper>, Fail> {
-    let cpu = machine(alloc, program)?;
+    recorded(alloc, machine(alloc, program)?, size)
+}
+
+/// A machine with an empty journal.
+pub fn recorded(alloc: Global, cpu: Cpu, size: usize) -> Result<Timeline<ListKeeper>, Fail> {
     match ListKeeper::open(alloc, size) {
         Ok(keeper) => Ok(Timeline::start(cpu, keeper)),
         Err(_) => Err("no journal")?,
     }
 }
 
-/// All of a machine's state but its program, which nothing changes.
+/// The context's first bytes, frames 0 and 1, and the map.
+const RUNS: [(u64, usize); 6] = [
+    (0x1_0000_0000, 4),
+    (0x1_0000_0004, 4),
+    (0x2_0000_0000, 512),
+    (0x2_0000_0400, 512),
+    (0x3_0000_0000, 8),
+    (0x3_0000_0008, 8),
+];
+
+/// All that the tests change of a machine's state.
 pub fn state_text(alloc: Global, cpu: &Cpu) -> Result<String, Fail> {
     let status = status_text(alloc, cpu.status())?;
     let mut text = format!(in alloc; "pc {} {status} depth {}", cpu.pc(), cpu.depth())?;
@@ -35,15 +53,21 @@ pub fn state_text(alloc: Global, cpu: &Cpu) -> Result<String, Fail> {
         let value = cpu.reg(Reg::new(n).ok_or("no register")?);
         text.push_str(&format!(in alloc; " r{n} {value:x}")?)?;
     }
+    for i in 0..cpu.depth() {
+        let frame = cpu.frame(i).ok_or("no frame")?;
+        text.push_str(&format!(in alloc; " to {}", frame.return_pc)?)?;
+        for number in frame.saved {
+            text.push_str(&format!(in alloc; " {number:x}")?)?;
+        }
+    }
     for word in cpu.trace() {
         text.push_str(&format!(in alloc; " word {word:x}")?)?;
     }
-    let context = cpu.peek(0x1_0000_0000, 8).ok_or("no context")?;
-    text.push_str(&hex::encode(alloc, context)?)?;
-    let frame = cpu.peek(0x2_0000_0000, 512).ok_or("no frame")?;
-    text.push_str(&hex::encode(alloc, frame)?)?;
-    let map = cpu.peek(0x3_0000_0000, 16).ok_or("no map")?;
-    text.push_str(&hex::encode(alloc, map)?)?;
+    for (address, count) in RUNS {
+        if let Some(run) = cpu.peek(address, count) {
+            text.push_str(&hex::encode(alloc, run)?)?;
+        }
+    }
     Ok(text)
 }
 
@@ -84,7 +108,31 @@ pub fn entry_text(alloc: Global, entry: &Entry) -> Result<String, Fail> {
             let status = status_text(alloc, *status)?;
             format!(in alloc; "edit pc {pc} {status}")?
         }
-        _ => format!(in alloc; "of another kind")?,
+        Entry::Fetch {
+            pc,
+            register,
+            value,
+            address,
+            old,
+        } => {
+            let old = bytes_text(alloc, old)?;
+            format!(in alloc; "fetch {pc} r{} {value:x} {address:x} {old}", register.number())?
+        }
+        Entry::Call { pc } => format!(in alloc; "call {pc}")?,
+        Entry::Return { pc, saved } => {
+            let [r6, r7, r8, r9] = *saved;
+            format!(in alloc; "return {pc} {r6:x} {r7:x} {r8:x} {r9:x}")?
+        }
+        Entry::Cell {
+            pc,
+            r0,
+            address,
+            old,
+        } => {
+            let old = bytes_text(alloc, old)?;
+            format!(in alloc; "cell {pc} {r0:x} {address:x} {old}")?
+        }
+        Entry::Trace { pc, r0 } => format!(in alloc; "trace {pc} {r0:x}")?,
     })
 }
 
