@@ -74,6 +74,7 @@ impl Cpu {
     }
 
     /// Does what `look` answered of this state: the second half of a step.
+    #[inline(always)]
     pub fn finish(&mut self, change: &Change)
         requires runs { has_ended self.old.status ≡ false }
         requires looked { change.now ≡ change_in self.old }
@@ -84,6 +85,7 @@ impl Cpu {
     }
 
     /// Does a change.
+    #[inline(always)]
     #[tactic(auto, unfolding(crate::specs::Next::changed))]
     fn apply(&mut self, change: &Change)
         requires { Fits self.old change.now }
@@ -130,11 +132,7 @@ impl Cpu {
                 length,
                 next,
             } => self.write_cell(address, source, length, next),
-            Change::Trace { word, next } => {
-                self.trace.push(word);
-                self.registers[0] = 0;
-                self.pc = next;
-            }
+            Change::Trace { word, next } => self.append_word(word, next),
             Change::Stop { status } => self.status = status,
         }
     }
@@ -145,6 +143,18 @@ impl Cpu {
         ensures { self.new ≡ record self.old { registers = slice_set self.old.registers register value } }
     {
         self.registers[usize::from(register.number())] = value;
+    }
+
+    /// Appends a word to the trace list.
+    #[inline(never)]
+    #[tactic(auto, unfolding(crate::specs::Next::changed))]
+    fn append_word(&mut self, word: u64, next: u16)
+        requires { Fits self.old (Change.Trace word next) }
+        ensures { self.new ≡ changed self.old (Change.Trace word next) }
+    {
+        self.trace.push(word);
+        self.registers[0] = 0;
+        self.pc = next;
     }
 
     /// Copies bytes of memory to a cell. They are taken out before, so that it does not matter how the two runs overlap.

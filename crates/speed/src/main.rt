@@ -7,9 +7,12 @@ ghost use Rattle.std.specs.Prelude.{◌≡◌, false};
 ghost use Rattle.bpf_machine.specs.Next.{change as change_of};
 ghost use Rattle.bpf_machine.specs.Status.{has_ended};
 
+mod sessions;
+
 use bpf_isa::{MapTable, Reg, check};
 use bpf_journal::{ListKeeper, Timeline};
 use bpf_machine::{Change, CompactEntry, Cpu, Ended};
+use sessions::time_sessions;
 use std::alloc::Global;
 use std::time::Instant;
 use std::{env, io};
@@ -77,6 +80,7 @@ fn main(rt: HostRuntime) -> io::Result<()> {
             show(&rt, name, way.name(), *least, best[0], millions)?;
         }
     }
+    time_sessions(&rt, 5)?;
     println!(rt; "sum {sum}")
 }
 

@@ -15,11 +15,7 @@ pub fn machine_on(alloc: Global, program: &str, context: &[u8]) -> Result<Cpu, F
     let bytes = hex::decode(alloc, program)?;
     let maps = MapTable::parse(b"8x2").ok().ok_or("no maps")?;
     let program = check(alloc, bytes.as_slice(), &maps).ok().ok_or("refused")?;
-    Ok(
-        Cpu::open(alloc, program, context)
-            .ok()
-            .ok_or("not opened")?,
-    )
+    Ok(Cpu::open(alloc, program, context).ok().ok_or("not opened")?)
 }
 
 /// The same machine with an empty journal.
@@ -116,7 +112,10 @@ pub fn entry_text(alloc: Global, entry: &Entry) -> Result<String, Fail> {
             old,
         } => {
             let old = bytes_text(alloc, old)?;
-            format!(in alloc; "fetch {pc} r{} {value:x} {address:x} {old}", register.number())?
+            format!(in alloc;
+                "fetch {pc} r{} {value:x} {address:x} {old}",
+                register.number()
+            )?
         }
         Entry::Call { pc } => format!(in alloc; "call {pc}")?,
         Entry::Return { pc, saved } => {

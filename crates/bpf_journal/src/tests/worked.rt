@@ -78,7 +78,9 @@ fn rows(rt: HostRuntime) -> Result<(), Fail> {
         let program = format!(in rt.alloc(); "{}9500000000000000", field(&mut rest)?)?;
         let context = hex::decode(rt.alloc(), field(&mut rest)?)?;
         let registers = field(&mut rest)?;
-        let steps = u64::from_str_radix(field(&mut rest)?, 10).ok().ok_or("no count")?;
+        let steps = u64::from_str_radix(field(&mut rest)?, 10)
+            .ok()
+            .ok_or("no count")?;
         let cpu = machine_on(rt.alloc(), &program, context.as_slice())?;
         let mut timeline = recorded(rt.alloc(), cpu, 65_536)?;
         let before = state_text(rt.alloc(), timeline.cpu())?;
@@ -99,7 +101,8 @@ fn rows(rt: HostRuntime) -> Result<(), Fail> {
 }
 
 // ldmap r1, 0; mov r2, r10; add r2, -8; ldmapval r3, 0, 4; call 2; exit: cell 0 becomes bytes 4 to 11 of the map.
-const OVERLAP: &str = "18510000000000000000000000000000bfa200000000000007020000f8ffffff1863000000000000000000000400000085000000020000009500000000000000";
+const OVERLAP: &str =
+    "18510000000000000000000000000000bfa200000000000007020000f8ffffff1863000000000000000000000400000085000000020000009500000000000000";
 
 /// Both cells of the map.
 fn cells(alloc: Global, timeline: &Timeline<ListKeeper>) -> Result<String, Fail> {
@@ -111,9 +114,19 @@ fn cells(alloc: Global, timeline: &Timeline<ListKeeper>) -> Result<String, Fail>
 fn an_update_that_overlaps(rt: HostRuntime) -> Result<(), Fail> {
     let cpu = machine_on(rt.alloc(), OVERLAP, &[])?;
     let mut timeline = recorded(rt.alloc(), cpu, 65_536)?;
-    for (index, bytes) in [(0, [1, 2, 3, 4, 5, 6, 7, 8]), (1, [9, 10, 11, 12, 13, 14, 15, 16])] {
+    for (index, bytes) in [
+        (0, [1, 2, 3, 4, 5, 6, 7, 8]),
+        (1, [9, 10, 11, 12, 13, 14, 15, 16]),
+    ] {
         let bytes = ByteString::new(&bytes).ok_or("no bytes")?;
-        edit(&mut timeline, Edit::Cell { map: 0, index, bytes })?;
+        edit(
+            &mut timeline,
+            Edit::Cell {
+                map: 0,
+                index,
+                bytes,
+            },
+        )?;
     }
     for _ in 0..6 {
         timeline.step(false).ok().ok_or("no step")?;
@@ -131,6 +144,9 @@ fn an_update_that_overlaps(rt: HostRuntime) -> Result<(), Fail> {
         timeline.step(false).ok().ok_or("no step")?;
     }
     let found = seen(rt.alloc(), &timeline, 0)?;
-    assert_eq!(rt; found.as_str(), "pc 7 exited 0: ffffffffffffffef 400000000 0 200000200, , 141");
+    assert_eq!(rt;
+        found.as_str(),
+        "pc 7 exited 0: ffffffffffffffef 400000000 0 200000200, , 141"
+    );
     Ok(())
 }

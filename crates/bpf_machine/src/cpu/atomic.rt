@@ -11,6 +11,7 @@ use bpf_isa::{AtomicOp, Reg, Width};
 
 impl Cpu {
     /// An atomic operation on the number at an address.
+    #[inline(never)]
     pub(super) fn atomic(
         &self,
         op: AtomicOp,

@@ -14,6 +14,7 @@ use crate::platform::frame_pointer;
 
 impl Cpu {
     /// Does a local call: pushes a frame and goes to the function at a slot.
+    #[inline(never)]
     #[tactic(auto, unfolding(crate::specs::Next::changed))]
     pub(super) fn enter(&mut self, target: u16)
         requires { Fits self.old (Change.Call target) }
@@ -25,6 +26,7 @@ impl Cpu {
     }
 
     /// Does a return: pops the innermost frame and does what it says.
+    #[inline(never)]
     #[tactic(auto, unfolding(crate::specs::Next::changed))]
     pub(super) fn leave(&mut self)
         ensures { self.new ≡ changed self.old Change.Return }
