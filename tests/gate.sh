@@ -38,7 +38,7 @@ prove() {
 }
 
 part 'tests/pages.sh' sh tests/pages.sh
-echo 'rt ci: every proof from nothing, the must-fail edits, each test and program (about an hour on four cores)'
+echo 'rt ci: every proof from nothing, the must-fail edits, each test and program (an hour or more on four cores)'
 part 'rt ci' prove
 part 'tests/program.sh' sh tests/program.sh
 tail -n 1 "$log"
