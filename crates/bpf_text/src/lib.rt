@@ -19,8 +19,6 @@ mod reading;
 mod second_round;
 mod statement;
 mod table;
-#[cfg(test)]
-mod tests;
 mod text_key;
 mod token;
 mod writing;

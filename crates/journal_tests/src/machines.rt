@@ -1,0 +1,72 @@
+//! Machines with journals that the tests' rows are about.
+use bpf_isa::{MapTable, check};
+use bpf_journal::{ListKeeper, Timeline};
+use bpf_machine::Cpu;
+use std::alloc::Global;
+use std::process::Abort;
+
+/// What a row asks, and what is to be answered: an arrow stands between.
+pub fn parts<'a>(rt: &impl Abort, row: &'a str) -> (&'a str, &'a str) {
+    row.split_once(" -> ").expect(rt, "no arrow")
+}
+
+/// The text before the first `; `, and what follows.
+pub fn cut<'a>(rt: &impl Abort, text: &'a str) -> (&'a str, &'a str) {
+    text.split_once("; ").expect(rt, "one part")
+}
+
+/// The word before the first blank, and the words that follow.
+pub fn cut_word<'a>(rt: &impl Abort, words: &'a str) -> (&'a str, &'a str) {
+    words.split_once(' ').expect(rt, "one word")
+}
+
+/// A number in hexadecimal digits.
+pub fn number(rt: &impl Abort, digits: &str) -> u64 {
+    u64::from_str_radix(digits, 16).ok().expect(rt, "no number")
+}
+
+/// A count in decimal digits.
+pub fn count(rt: &impl Abort, digits: &str) -> usize {
+    usize::from_str_radix(digits, 10)
+        .ok()
+        .expect(rt, "no count")
+}
+
+/// Bytes in hexadecimal digits.
+pub fn bytes_of(rt: &impl Abort, alloc: Global, digits: &str) -> Vec<u8> {
+    hex::decode(alloc, digits).ok().expect(rt, "no digits")
+}
+
+/// A machine with a program and a context, both in hexadecimal digits, and a map of two values of 8 bytes.
+pub fn machine(rt: &impl Abort, alloc: Global, program: &str, context: &str) -> Cpu {
+    let program = bytes_of(rt, alloc, program);
+    let context = bytes_of(rt, alloc, context);
+    let maps = MapTable::parse(b"8x2").ok().expect(rt, "no maps");
+    let program = check(alloc, &program, &maps).ok().expect(rt, "refused");
+    Cpu::open(alloc, program, &context)
+        .ok()
+        .expect(rt, "not opened")
+}
+
+/// The same after so many steps.
+pub fn machine_after(
+    rt: &impl Abort,
+    alloc: Global,
+    program: &str,
+    context: &str,
+    steps: &str,
+) -> Cpu {
+    let mut cpu = machine(rt, alloc, program, context);
+    for _ in 0..count(rt, steps) {
+        let _entry = cpu.step().ok().expect(rt, "ended");
+    }
+    cpu
+}
+
+/// A machine with an empty journal of so many bytes.
+pub fn timeline(rt: &impl Abort, alloc: Global, cpu: Cpu, size: usize) -> Timeline<ListKeeper> {
+    match ListKeeper::open(alloc, size) {
+        Ok(keeper) => Timeline::start(cpu, keeper),
+        Err(_) => panic!(rt; "no journal"),
+    }
+}

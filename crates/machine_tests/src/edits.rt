@@ -1,0 +1,319 @@
+//! Edits in every status: what they answer, what they replace and what they leave. Expected values are those of docs/MACHINE.md.
+use crate::machines::{EXIT, View, entry_text, hexadecimal, run, status_text, view_of, with_maps};
+use crate::rows::{parts, three, two};
+use bpf_isa::Reg;
+use bpf_machine::{ByteString, Cpu, Edit, EditFault};
+use std::alloc::Global;
+use std::process::Abort;
+
+// The byte that every edit of bytes writes.
+const NEW: u8 = 0x5a;
+
+// `mov r0, 5`, a wide instruction at slots 1 and 2, and at slot 3, where the machine stays, `ja -1`, `exit` or a store that faults.
+const ENDS: [(&str, u64); 3] = [
+    ("running", 0x0500_ffff_0000_0000),
+    ("exited", EXIT),
+    ("access 0x200000200", 0x7a0a_0000_0700_0000),
+];
+
+// The maps: two values of 8 bytes, and one of 1 byte.
+const MAPS: &str = "8x2,1x1";
+
+// An edit: a register and its value, an address and how many bytes, a map and an index and how many bytes, or a pc and 0; and what
+// it answers. The context has 8 bytes, the program slots 0 to 4.
+const EDITS: &str = "\
+r0; register 0 0x1234; done
+r1; register 1 0; done
+r9; register 9 -1; done
+r10; register 10 0; read-only
+r10, its own value; register 10 0x200000200; read-only
+context, first byte; bytes 0x100000000 1; done
+context, the byte before; bytes 0xffffffff 1; absent
+context, last byte; bytes 0x100000007 1; done
+context, the byte after; bytes 0x100000008 1; absent
+context, whole; bytes 0x100000000 8; done
+context, whole and one before; bytes 0xffffffff 9; absent
+context, one more; bytes 0x100000000 9; absent
+context, last and one after; bytes 0x100000007 2; absent
+context, 256 bytes; bytes 0x100000000 256; absent
+frame 0, first byte; bytes 0x200000000 1; done
+frame 0, the byte before; bytes 0x1ffffffff 1; absent
+frame 0, last byte; bytes 0x2000001ff 1; done
+frame 0, the byte after; bytes 0x200000200 1; absent
+frame 0, first 256 bytes; bytes 0x200000000 256; done
+frame 0, last 256 bytes; bytes 0x200000100 256; done
+frame 0, last 255 bytes and one after; bytes 0x200000101 256; absent
+frame 0, last and 255 after; bytes 0x2000001ff 256; absent
+frame 1, first byte; bytes 0x200000400 1; done
+frame 7, last byte; bytes 0x200001dff 1; done
+frame 7, the byte after; bytes 0x200001e00 1; absent
+map 0, first byte; bytes 0x300000000 1; done
+map 0, the byte before; bytes 0x2ffffffff 1; absent
+map 0, the last byte of one value and the first of the next; bytes 0x300000007 2; done
+map 0, whole; bytes 0x300000000 16; done
+map 0, one more; bytes 0x300000000 17; absent
+map 0, last byte; bytes 0x30000000f 1; done
+map 0, the byte after; bytes 0x300000010 1; absent
+map 1, its byte; bytes 0x300100000 1; done
+map 1, one more; bytes 0x300100000 2; absent
+map 1, the byte before; bytes 0x3000fffff 1; absent
+map 2; bytes 0x300200000 1; absent
+token of map 0; bytes 0x400000000 1; absent
+first cell; cell 0 0 8; done
+last cell; cell 0 1 8; done
+past the last cell; cell 0 2 8; no cell
+one byte less; cell 0 1 7; no cell
+one byte more; cell 0 1 9; no cell
+both cells at once; cell 0 0 16; no cell
+cell of map 1; cell 1 0 1; done
+cell of map 1, one byte more; cell 1 0 2; no cell
+past the cell of map 1; cell 1 1 1; no cell
+past the last map; cell 2 0 8; no cell
+map 15; cell 15 0 1; no cell
+map 16; cell 16 0 8; no cell
+map 2^8; cell 0x100 0 8; no cell
+map 2^32; cell 0x100000000 0 8; no cell
+map 2^32 + 1; cell 0x100000001 0 1; no cell
+map 2^64 - 1; cell -1 0 8; no cell
+cell 2^16; cell 0 0x10000 8; no cell
+cell 2^32; cell 0 0x100000000 8; no cell
+cell 2^32 + 1; cell 0 0x100000001 8; no cell
+cell 2^63; cell 0 0x8000000000000000 8; no cell
+cell 2^64 - 1; cell 0 -1 8; no cell
+cell 2^64 - 1 of map 2^64 - 1; cell -1 -1 256; no cell
+address 0; bytes 0 1; absent
+last address; bytes -1 1; absent
+over the last address; bytes -1 256; absent
+first slot; pc 0 0; done
+wide instruction; pc 1 0; done
+second slot of the wide instruction; pc 2 0; no start
+the same slot; pc 3 0; done
+last slot; pc 4 0; done
+past the end; pc 5 0; no start
+2^16; pc 0x10000 0; no start
+2^16 + 1; pc 0x10001 0; no start
+2^32; pc 0x100000000 0; no start
+2^32 + 4; pc 0x100000004 0; no start
+2^64 - 1; pc -1 0; no start
+";
+
+/// An edit by its words.
+fn edit_of(rt: &impl Abort, words: &str) -> Edit {
+    let (kind, numbers) = words.split_once(' ').expect(rt, "no kind");
+    if kind == "cell" {
+        let (map, index, count) = three(rt, numbers);
+        let bytes = new_bytes(count).expect(rt, "not 1 to 256 bytes");
+        return Edit::Cell { map, index, bytes };
+    }
+    let (place, value) = two(rt, numbers);
+    let found = match kind {
+        "register" => Some(Edit::Register {
+            register: register_of(place).expect(rt, "no register"),
+            value,
+        }),
+        "bytes" => Some(Edit::Bytes {
+            address: place,
+            bytes: new_bytes(value).expect(rt, "not 1 to 256 bytes"),
+        }),
+        "pc" => Some(Edit::Pc { slot: place }),
+        _ => None,
+    };
+    found.expect(rt, "unknown kind")
+}
+
+fn register_of(number: u64) -> Option<Reg> {
+    Reg::new(u8::try_from(number).ok()?)
+}
+
+fn new_bytes(n: u64) -> Option<ByteString> {
+    let bytes = [NEW; 256];
+    ByteString::new(bytes.get(..n as usize)?)
+}
+
+/// A machine that stays at slot 3 with the instruction there.
+fn machine_at_3(rt: &impl Abort, alloc: Global, last: u64) -> Cpu {
+    let slots = [
+        0xb700_0000_0500_0000,
+        0x1803_0000_1122_3344,
+        0x5566_7788,
+        last,
+        EXIT,
+    ];
+    let mut cpu = with_maps(rt, alloc, &slots, MAPS);
+    run(&mut cpu);
+    cpu
+}
+
+/// The entry of an edit that will be made.
+fn entry_of(rt: &impl Abort, alloc: Global, cpu: &Cpu, edit: &Edit) -> String {
+    let text = match edit {
+        Edit::Register { register, value: _ } => {
+            format!(in alloc; "edit r{} {:#x}", register.number(), cpu.reg(*register))
+                .ok()
+                .expect(rt, "no memory")
+        }
+        Edit::Bytes { address, bytes } => {
+            let old = cpu.peek(*address, bytes.len()).expect(rt, "absent");
+            format!(in alloc; "edit {address:#x} {}", hexadecimal(rt, alloc, old))
+                .ok()
+                .expect(rt, "no memory")
+        }
+        Edit::Cell { map, index, bytes } => {
+            let address = cell_address(*map, *index);
+            let old = cpu.peek(address, bytes.len()).expect(rt, "absent");
+            format!(in alloc; "edit {address:#x} {}", hexadecimal(rt, alloc, old))
+                .ok()
+                .expect(rt, "no memory")
+        }
+        Edit::Pc { slot: _ } => {
+            format!(in alloc;
+                "edit pc {} {}",
+                cpu.pc(),
+                status_text(rt, alloc, cpu.status())
+            )
+            .ok()
+            .expect(rt, "no memory")
+        }
+    };
+    text
+}
+
+/// The address of a cell of map 0, whose values have 8 bytes, or of the cell of map 1.
+fn cell_address(map: u64, index: u64) -> u64 {
+    if map == 0 {
+        0x3_0000_0000 + 8 * (index % 2)
+    } else {
+        0x3_0010_0000
+    }
+}
+
+/// Where a byte stands in what is seen of a machine: behind the context's 8 bytes stand the 512 of frame 0, then the 16 of map 0.
+/// (What is not seen, as the other frames, is past the end.)
+fn place_of(address: u64) -> u64 {
+    let base = if address < 0x2_0000_0000 {
+        0x1_0000_0000
+    } else if address < 0x3_0000_0000 {
+        0x2_0000_0000 - 8
+    } else if address < 0x3_0010_0000 {
+        0x3_0000_0000 - 520
+    } else {
+        0x3_0010_0000 - 536
+    };
+    address.wrapping_sub(base)
+}
+
+/// What is seen after an edit.
+fn edited(rt: &impl Abort, alloc: Global, view: &View, edit: &Edit) -> View {
+    let mut registers = view.registers;
+    let mut place = format!(in alloc; "{}", view.place.as_str())
+        .ok()
+        .expect(rt, "no memory");
+    let (mut first, mut count) = (0, 0);
+    match edit {
+        Edit::Register { register, value } => {
+            for (number, held) in (0..11u8).zip(registers.iter_mut()) {
+                if number == register.number() {
+                    *held = *value;
+                }
+            }
+        }
+        Edit::Bytes { address, bytes } => {
+            first = place_of(*address);
+            count = bytes.len() as u64;
+        }
+        Edit::Cell { map, index, bytes } => {
+            first = place_of(cell_address(*map, *index));
+            count = bytes.len() as u64;
+        }
+        Edit::Pc { slot } => {
+            place = format!(in alloc; "pc {slot} depth 0 traced 0 running")
+                .ok()
+                .expect(rt, "no memory");
+        }
+    }
+    let mut bytes = Vec::new(alloc);
+    for (index, byte) in (0..537u64).zip(view.bytes.iter()) {
+        let is_new = index.wrapping_sub(first) < count;
+        bytes
+            .push(if is_new { NEW } else { *byte })
+            .ok()
+            .expect(rt, "no memory");
+    }
+    View {
+        registers,
+        place,
+        bytes,
+    }
+}
+
+/// Makes an edit and compares its answer and all that is seen.
+fn try_edit(rt: &impl Abort, alloc: Global, last: u64, row: &str) {
+    let (_, rest) = parts(rt, row);
+    let (words, answer) = parts(rt, rest);
+    let edit = edit_of(rt, words);
+    let mut cpu = machine_at_3(rt, alloc, last);
+    let before = view_of(rt, alloc, &cpu);
+    let expected = if answer == "done" {
+        let entry = entry_of(rt, alloc, &cpu, &edit);
+        match cpu.edit(&edit) {
+            Ok(made) => assert_eq!(rt;
+                entry_text(rt, alloc, &made).as_str(),
+                entry.as_str(),
+                "{row}"
+            ),
+            Err(_) => assert!(rt; false, "{row}"),
+        }
+        edited(rt, alloc, &before, &edit)
+    } else {
+        let refusal = match cpu.edit(&edit) {
+            Ok(_) => "done",
+            Err(EditFault::AddressNotPresent) => "absent",
+            Err(EditFault::RegisterNotWritable) => "read-only",
+            Err(EditFault::NoStart) => "no start",
+            Err(EditFault::NoCell) => "no cell",
+        };
+        assert_eq!(rt; refusal, answer, "{row}");
+        before
+    };
+    let after = view_of(rt, alloc, &cpu);
+    assert_eq!(rt; after.registers, expected.registers, "{row}");
+    assert_eq!(rt; after.place.as_str(), expected.place.as_str(), "{row}");
+    assert_eq!(rt; after.bytes.as_slice(), expected.bytes.as_slice(), "{row}");
+}
+
+#[test]
+fn edits(rt: HostRuntime) {
+    for (status, last) in ENDS {
+        let cpu = machine_at_3(&rt, rt.alloc(), last);
+        assert_eq!(rt; cpu.pc(), 3);
+        assert_eq!(rt; status_text(&rt, rt.alloc(), cpu.status()).as_str(), status);
+        for row in EDITS.lines() {
+            try_edit(&rt, rt.alloc(), last, row);
+        }
+    }
+    assert_eq!(rt; EDITS.lines().count(), 73);
+}
+
+// The bytes of two cells, and those of both at the map's address.
+const FIRST: [u8; 8] = [1, 2, 3, 4, 5, 6, 7, 8];
+
+const SECOND: [u8; 8] = [9, 10, 11, 12, 13, 14, 15, 16];
+
+#[test]
+fn cells(rt: HostRuntime) {
+    let mut cpu = with_maps(&rt, rt.alloc(), &[EXIT], "8x2");
+    for (index, bytes) in (0..2u64).zip([FIRST, SECOND]) {
+        let bytes = ByteString::new(&bytes).expect(&rt, "no bytes");
+        let edit = Edit::Cell {
+            map: 0,
+            index,
+            bytes,
+        };
+        assert!(rt; cpu.edit(&edit).is_ok(), "{index}");
+    }
+    let held = cpu.peek(0x3_0000_0000, 16).expect(&rt, "absent");
+    assert_eq!(rt;
+        held,
+        [1, 2, 3, 4, 5, 6, 7, 8, 9, 10, 11, 12, 13, 14, 15, 16].as_slice()
+    );
+}

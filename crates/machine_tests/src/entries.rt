@@ -1,0 +1,149 @@
+//! Entries and what they weigh in a journal. Expected values are those of docs/MACHINE.md.
+use crate::machines::entry_text;
+use crate::rows::{number, parts, two};
+use bpf_isa::{Reg, Size};
+use bpf_machine::{ByteString, CompactEntry, Entry, Status};
+use std::process::Abort;
+
+// A kind of entry, how many bytes it replaced, and its weight.
+const WEIGHTS: &str = "\
+register; 0 16
+jump; 0 7
+call; 0 7
+return; 0 39
+store; 1 17
+store; 2 18
+store; 4 20
+store; 8 24
+fetch; 4 29
+fetch; 8 33
+fetch; 256 281
+cell; 1 24
+cell; 8 31
+cell; 256 279
+trace; 0 15
+end; 0 5
+edit register; 0 14
+edit bytes; 1 14
+edit bytes; 256 269
+edit pc; 0 16
+";
+
+/// An entry of a kind that replaced so many bytes.
+fn entry(rt: &impl Abort, kind: &str, n: u64) -> Entry {
+    let r3 = Reg::new(3).expect(rt, "r3");
+    let bytes = [0x5a; 256];
+    let old = ByteString::new(bytes.get(..n as usize).expect(rt, "long"));
+    let address = 0x1_0000_0000;
+    let found = match (kind, old) {
+        ("register", None) => Some(Entry::Register {
+            pc: 1,
+            register: r3,
+            value: 2,
+        }),
+        ("jump", None) => Some(Entry::Jump { pc: 1 }),
+        ("call", None) => Some(Entry::Call { pc: 1 }),
+        ("return", None) => Some(Entry::Return {
+            pc: 1,
+            saved: [6, 7, 8, 9],
+        }),
+        ("store", Some(old)) => Some(Entry::Store {
+            pc: 1,
+            address,
+            old,
+        }),
+        ("fetch", Some(old)) => Some(Entry::Fetch {
+            pc: 1,
+            register: r3,
+            value: 2,
+            address,
+            old,
+        }),
+        ("cell", Some(old)) => Some(Entry::Cell {
+            pc: 1,
+            r0: 2,
+            address,
+            old,
+        }),
+        ("trace", None) => Some(Entry::Trace { pc: 1, r0: 2 }),
+        ("end", None) => Some(Entry::End),
+        ("edit register", None) => Some(Entry::EditRegister {
+            register: r3,
+            value: 2,
+        }),
+        ("edit bytes", Some(old)) => Some(Entry::EditBytes { address, old }),
+        ("edit pc", None) => Some(Entry::EditPc {
+            pc: 1,
+            status: Status::Exited,
+        }),
+        _ => None,
+    };
+    found.expect(rt, "unknown kind")
+}
+
+#[test]
+fn weights(rt: HostRuntime) {
+    for row in WEIGHTS.lines() {
+        let (kind, numbers) = parts(&rt, row);
+        let (n, weight) = two(&rt, numbers);
+        let entry = entry(&rt, kind, n);
+        assert_eq!(rt; entry.weight() as u64, weight, "{row}");
+        assert_eq!(rt; entry.copied().weight() as u64, weight, "a copy: {row}");
+    }
+    assert_eq!(rt; WEIGHTS.lines().count(), 20);
+}
+
+// A compact entry at slot 9, its weight, and the entry that it means.
+const COMPACT: &str = "\
+register; 16; register at 9 r3 0xffffffffffffffff
+jump; 7; jump at 9
+byte; 17; store at 9 0x2000001ff 11
+half; 18; store at 9 0x2000001ff 1122
+word; 20; store at 9 0x2000001ff 11223344
+double; 24; store at 9 0x2000001ff 1122334455667788
+end; 5; end
+";
+
+/// A compact entry by its name.
+fn compact_entry(rt: &impl Abort, name: &str) -> CompactEntry {
+    let r3 = Reg::new(3).expect(rt, "r3");
+    let found = match name {
+        "register" => Some(CompactEntry::Register {
+            register: r3,
+            pc: 9,
+            value: u64::MAX,
+        }),
+        "jump" => Some(CompactEntry::Jump { pc: 9 }),
+        "byte" => Some(stored(Size::Byte)),
+        "half" => Some(stored(Size::Half)),
+        "word" => Some(stored(Size::Word)),
+        "double" => Some(stored(Size::Double)),
+        "end" => Some(CompactEntry::End),
+        _ => None,
+    };
+    found.expect(rt, "unknown name")
+}
+
+/// A store of this size over the low bytes of a number.
+fn stored(size: Size) -> CompactEntry {
+    CompactEntry::Store {
+        size,
+        pc: 9,
+        address: 0x2_0000_01ff,
+        old: 0x8877_6655_4433_2211,
+    }
+}
+
+#[test]
+fn compact_entries(rt: HostRuntime) {
+    for row in COMPACT.lines() {
+        let (name, rest) = parts(&rt, row);
+        let (weight, text) = parts(&rt, rest);
+        let compact = compact_entry(&rt, name);
+        let entry = compact.expanded();
+        assert_eq!(rt; compact.weight() as u64, number(&rt, weight), "{row}");
+        assert_eq!(rt; entry.weight() as u64, number(&rt, weight), "{row}");
+        assert_eq!(rt; entry_text(&rt, rt.alloc(), &entry).as_str(), text, "{row}");
+    }
+    assert_eq!(rt; COMPACT.lines().count(), 7);
+}

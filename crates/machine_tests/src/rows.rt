@@ -1,0 +1,62 @@
+//! Reading the rows of the tests' tables. A row's parts stand between `; `, and the words of a part between blanks.
+//! A number is decimal, hexadecimal behind 0x, or negative behind -: then it is the two's complement.
+use std::alloc::Global;
+use std::process::Abort;
+
+/// The text before the first `; `, and what follows.
+pub fn parts<'a>(rt: &impl Abort, row: &'a str) -> (&'a str, &'a str) {
+    row.split_once("; ").expect(rt, "one part")
+}
+
+/// A number of 64 bits.
+pub fn number(rt: &impl Abort, word: &str) -> u64 {
+    let found = if let Some(digits) = word.strip_prefix("0x") {
+        u64::from_str_radix(digits, 16).ok()
+    } else if let Some(digits) = word.strip_prefix("-") {
+        u64::from_str_radix(digits, 10).ok().map(u64::wrapping_neg)
+    } else {
+        u64::from_str_radix(word, 10).ok()
+    };
+    found.expect(rt, "no number")
+}
+
+/// A number of 32 bits: one below 2^32, or a negative one that fits.
+pub fn half(rt: &impl Abort, number: u64) -> u32 {
+    if number > 0xffff_ffff {
+        let opposite = u32::try_from(number.wrapping_neg());
+        return opposite
+            .ok()
+            .expect(rt, "no number of 32 bits")
+            .wrapping_neg();
+    }
+    number as u32
+}
+
+/// Two numbers.
+pub fn two(rt: &impl Abort, words: &str) -> (u64, u64) {
+    let (a, b) = words.split_once(' ').expect(rt, "one number");
+    (number(rt, a), number(rt, b))
+}
+
+/// Three numbers.
+pub fn three(rt: &impl Abort, words: &str) -> (u64, u64, u64) {
+    let (a, others) = words.split_once(' ').expect(rt, "one number");
+    let (b, c) = two(rt, others);
+    (number(rt, a), b, c)
+}
+
+/// The slots of a program: words of 16 hexadecimal digits, which show a slot's bytes in order.
+pub fn slots(rt: &impl Abort, alloc: Global, words: &str) -> Vec<u64> {
+    let mut slots = Vec::new(alloc);
+    for word in words.split(' ') {
+        slots.push(slot(rt, word)).ok().expect(rt, "no memory");
+    }
+    slots
+}
+
+/// A slot.
+pub fn slot(rt: &impl Abort, word: &str) -> u64 {
+    let digits = if word.len() == 16 { Some(word) } else { None };
+    let digits = digits.expect(rt, "no slot");
+    u64::from_str_radix(digits, 16).ok().expect(rt, "no slot")
+}

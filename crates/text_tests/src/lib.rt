@@ -1,0 +1,17 @@
+//! Tests of listings: the assembler, the disassembler, and counted readers and writers.
+#![tactic(auto)]
+
+#[cfg(test)]
+mod answers;
+#[cfg(test)]
+mod bytes;
+#[cfg(test)]
+mod listings;
+#[cfg(test)]
+mod passing;
+#[cfg(test)]
+mod rows;
+#[cfg(test)]
+mod texts;
+#[cfg(test)]
+mod words;
