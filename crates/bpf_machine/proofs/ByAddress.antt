@@ -176,7 +176,7 @@ is_some_map : {X Y : Type 0} (f : X → Y) (o : Option X) → IsSome (option_map
 is_some_map f None h = cc
 is_some_map f (Some x) h = (x, refl)
 
-byte_within : (m : Image) → IsImage m → (a n at j : ℕ) → index_of m a n ≡ Some at → j < n → byte_at m (a + j) ≡ Some (slice_index m.bytes (at + j))
+pub byte_within : (m : Image) → IsImage m → (a n at j : ℕ) → index_of m a n ≡ Some at → j < n → byte_at m (a + j) ≡ Some (slice_index m.bytes (at + j))
 byte_within m h a n at j e low =
     ap (option_map (λ k. slice_index m.bytes k)) (index_within (regions m) (law_apart m h) a n at j e low)
 
@@ -250,7 +250,7 @@ little_more i (suc n) xs =
 pub length-run : (bytes : List ℕ) (at n : ℕ) → at + n ≤ length bytes → length (slice_range bytes at (at + n)) ≡ n
 length-run bytes at n fits = grind (arith, elements)
 
-run_reads : (bytes : List ℕ) (at n j : ℕ) → j < n → slice_index (slice_range bytes at (at + n)) j ≡ slice_index bytes (at + j)
+pub run_reads : (bytes : List ℕ) (at n j : ℕ) → j < n → slice_index (slice_range bytes at (at + n)) j ≡ slice_index bytes (at + j)
 run_reads bytes at n j low = grind (arith, elements)
 
 sum_to : (m : Image) → IsImage m → (a n at : ℕ) → index_of m a n ≡ Some at → (k : ℕ) → k ≤ n → little_from 0 k (slice_range m.bytes at (at + n)) ≡ sum_at m a k

@@ -10,6 +10,10 @@ use Rattle.bpf_machine.specs.State.{State, IsState, depth, accessible, initial}
 abbrev pub byte_at : Image → ℕ → Option ℕ
 byte_at m a = option_map (λ at. slice_index m.bytes at) (index_of m a 1)
 
+-- Its value in a state; 0 where there is none.
+abbrev pub byte : State → ℕ → ℕ
+byte x a = unwrap_or (byte_at x.memory a) 0
+
 -- Each region begins past this address.
 abbrev pub AllPast : ℕ → List Region → Type 0
 AllPast a [] = Unit {0}

@@ -16,6 +16,7 @@ use crate::change::Change;
 use crate::code::Code;
 use crate::frame::Frame;
 use crate::memory::Memory;
+use crate::platform::TRACE_LIMIT;
 use crate::status::Status;
 use arrayvec::ArrayVec;
 use bpf_isa::{Program, Reg};
@@ -33,7 +34,7 @@ pub struct Cpu {
     frames: ArrayVec<Frame, 7>,
     memory: Memory,
     status: Status,
-    trace: ArrayVec<u64, 256>,
+    trace: ArrayVec<u64, TRACE_LIMIT>,
 }
 
 impl Model for Cpu {

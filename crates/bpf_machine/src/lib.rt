@@ -17,8 +17,6 @@ mod memory;
 mod moves;
 mod platform;
 mod status;
-#[cfg(test)]
-mod tests;
 
 pub use byte_string::ByteString;
 pub use change::Change;

@@ -11,7 +11,6 @@ use bpf_isa::{AtomicOp, Reg, Width};
 
 impl Cpu {
     /// An atomic operation on the number at an address.
-    #[inline(never)]
     pub(super) fn atomic(
         &self,
         op: AtomicOp,

@@ -10,13 +10,12 @@ ghost use Rattle.bpf_machine.specs.State.{accessible, register};
 use super::Cpu;
 use super::step::{fault, r0};
 use crate::change::Change;
-use crate::platform::{TOKEN_BASE, cell_address};
+use crate::platform::{TOKEN_BASE, TRACE_LIMIT, cell_address};
 use crate::status::{Fault, Status};
 use bpf_isa::{MapShape, Reg, Size};
 
 impl Cpu {
     /// Lookup: the address of the value of a key, 0 where the map has no such key.
-    #[inline(never)]
     pub(super) fn lookup(&self) -> Change
         requires { IsStart self.now.program (self.now.pc + 1) }
         ensures { result ≡ spec.lookup self.now }
@@ -39,7 +38,6 @@ impl Cpu {
     }
 
     /// Update: a cell becomes the bytes at an address.
-    #[inline(never)]
     pub(super) fn update(&self) -> Change
         requires { IsStart self.now.program (self.now.pc + 1) }
         ensures { result ≡ spec.update self.now }
@@ -86,12 +84,11 @@ impl Cpu {
     }
 
     /// Trace: a word is appended to the trace list, where there is room.
-    #[inline(never)]
     pub(super) fn trace_word(&self) -> Change
         requires { IsStart self.now.program (self.now.pc + 1) }
         ensures { result ≡ spec.trace self.now }
     {
-        if self.trace().len() < 256 {
+        if self.trace().len() < TRACE_LIMIT {
             Change::Trace {
                 word: self.argument(1),
                 next: self.after(1),

@@ -7,6 +7,7 @@ use crate::status::Status;
 use bpf_isa::{Program, Reg};
 
 impl Cpu {
+    ghost use Rattle.bpf_machine.specs.Platform.{trace_limit};
     ghost use Rattle.bpf_machine.specs.Regions.{run_at};
     ghost use Rattle.bpf_machine.specs.State.{register as register_of, depth as depth_of, frame, accessible};
 
@@ -55,7 +56,7 @@ impl Cpu {
     /// The words that were traced.
     pub fn trace(&self) -> &[u64]
         ensures value { result.now ≡ self.now.trace }
-        ensures fits { length result.now ≤ 256 }
+        ensures fits { length result.now ≤ trace_limit }
     {
         self.trace.as_slice()
     }

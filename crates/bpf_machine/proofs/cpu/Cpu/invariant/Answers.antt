@@ -1,6 +1,7 @@
 use Rattle.std.proofs.Common.{◌<◌, ◌≤◌, ◌^◌, ℕ, List, length, ap, sym, ◌∙◌, subst, arith, length-take}
 use Rattle.std.specs.Prelude.{All}
 use Rattle.std.proofs.lemmas.List.Elements.{All-take}
+use Rattle.bpf_machine.specs.Platform.{trace_limit}
 use Rattle.bpf_machine.specs.State.{State}
 use Rattle.bpf_machine.proofs.cpu.Cpu.invariant.Goals as goal
 
@@ -15,7 +16,7 @@ returns c = rw (← c.self.view_is) (record {
   image = c.invariant-2.ensures.image;
   mapped = c.self.invariant.mapped;
   bytes = c.invariant-2.ensures.bytes;
-  traced = let traces : State → List ℕ = λ x. x.trace in subst (λ (ws : List ℕ). length ws ≤ 256) (c.trace.ensures.value ∙ sym (ap traces c.self.view_is)) c.trace.ensures.fits;
+  traced = let traces : State → List ℕ = λ x. x.trace in subst (λ (ws : List ℕ). length ws ≤ trace_limit) (c.trace.ensures.value ∙ sym (ap traces c.self.view_is)) c.trace.ensures.fits;
   words = let traces : State → List ℕ = λ x. x.trace in subst (λ (ws : List ℕ). All (λ word. word < 2 ^ 64) ws) (c.trace.ensures.value ∙ sym (ap traces c.self.view_is)) c.are_words.ensures;
   ends = c.invariant-3.ensures;
 })
