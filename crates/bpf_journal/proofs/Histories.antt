@@ -17,6 +17,7 @@ use Rattle.bpf_machine.specs.Entries.{entry_of, expanded}
 use Rattle.bpf_machine.specs.Next.{change}
 use Rattle.bpf_journal.specs.EditEntries.{IsOfEdit, is_of_step}
 use Rattle.bpf_journal.specs.Histories.{Record, IsRun, Kept, kept_of, kept_weight, record_weight, keep, newest, older, is_step, StandsFor, HasHistory}
+use Rattle.bpf_journal.specs.Replaced.{replaces_bytes}
 use Rattle.bpf_journal.specs.Timelines.{Moment, Makes, Stays, GoesBack, record_of, taken_of}
 use Rattle.bpf_journal.specs.declared.timeline.Taken.{Taken}
 use Rattle.bpf_journal.proofs.Fitting.{map-fit, run-fit}
@@ -66,8 +67,8 @@ of_compact (compact.Call pc) = refl
 of_compact (compact.Trace pc r0) = refl
 of_compact compact.End = refl
 
-abbrev the_taken : Bool → Bool → Taken
-the_taken stepped mark = record { is_step = stepped; mark = mark }
+abbrev the_taken : Bool → Bool → Bool → Taken
+the_taken stepped mark replaced = record { is_step = stepped; mark = mark; replaced_bytes = replaced }
 
 -- the newest entry is that of the move that led here
 pub newest_came : (h : List Record) (y : State) (k : Kept) → newest (map kept_of h) ≡ Some k → IsRun h y → HasCome y k.0
@@ -110,14 +111,15 @@ module _ {K : Type 0} (holds : K → List Kept → Type 0) where
       record { history = h; stands = (held, subst (IsRun h) (sym same) run.1) }
 
   -- the newest record is told, and the state before it comes back
-  pub goes_back : (h : List Record) (old : Moment K) (keeper : K) (y z : State) (k : Kept) (taken : Taken) → newest (map kept_of h) ≡ Some k → taken.is_step ≡ is_of_step k.0 → taken.mark ≡ k.1 → IsRun h y → holds keeper (older (map kept_of h)) → ((x : State) (m : Move) → Leads x m y → overwritten x m ≡ k.0 → z ≡ x) → GoesBack holds (Some taken) h old (record { state = z; keeper = keeper })
-  goes_back [] old keeper y z k taken q stepped marked run held back = absurd cc
-  goes_back (r ∷ h) old keeper y z k taken q stepped marked run held back =
+  pub goes_back : (h : List Record) (old : Moment K) (keeper : K) (y z : State) (k : Kept) (taken : Taken) → newest (map kept_of h) ≡ Some k → taken.is_step ≡ is_of_step k.0 → taken.mark ≡ k.1 → taken.replaced_bytes ≡ replaces_bytes k.0 → IsRun h y → holds keeper (older (map kept_of h)) → ((x : State) (m : Move) → Leads x m y → overwritten x m ≡ k.0 → z ≡ x) → GoesBack holds (Some taken) h old (record { state = z; keeper = keeper })
+  goes_back [] old keeper y z k taken q stepped marked stored run held back = absurd cc
+  goes_back (r ∷ h) old keeper y z k taken q stepped marked stored run held back =
       let is : kept_of r ≡ k = cc in
       let same : z ≡ r.before = back r.before r.move run.0 (ap (λ e. e.0) is) in
       let kind : taken.is_step ≡ is_step r.move = stepped ∙ sym (ap (λ (e : Kept). is_of_step e.0) is) ∙ of_move r.before r.move in
       let mark : taken.mark ≡ r.mark = marked ∙ sym (ap (λ (e : Kept). e.1) is) in
-      let told : taken ≡ taken_of r = ap (λ (b : Bool). the_taken b taken.mark) kind ∙ ap (λ (b : Bool). the_taken (is_step r.move) b) mark in
+      let bytes : taken.replaced_bytes ≡ replaces_bytes (overwritten r.before r.move) = stored ∙ sym (ap (λ (e : Kept). replaces_bytes e.0) is) in
+      let told : taken ≡ taken_of r = ap (λ (b : Bool). the_taken b taken.mark taken.replaced_bytes) kind ∙ ap (λ (b : Bool). the_taken (is_step r.move) b taken.replaced_bytes) mark ∙ ap (λ (b : Bool). the_taken (is_step r.move) r.mark b) bytes in
       (ap Some told, same, (held, subst (IsRun h) (sym same) run.1))
 
 -- sums over what is kept are sums over the records

@@ -3,3 +3,5 @@ pub mod MoveLaws
 pub mod Histories
 pub mod Items
 pub mod Walks
+pub mod Telling
+pub mod ByteChanges

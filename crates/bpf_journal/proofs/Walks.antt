@@ -1,10 +1,10 @@
 -- A walk back over what a keeper holds stays at places of fronts.
 use Rattle.std.specs.Prelude.{if◌then◌else◌, count_by, min}
-use Rattle.std.proofs.Common.{◌≡◌, ◌+◌, ◌<◌, ◌≤◌, ℕ, zero, suc, Bool, true, false, List, [], ◌∷◌, ◌++◌, Option, Some, None, length, take, drop, map, refl, sym, ap, subst, ◌∙◌, arith, add-one, append_assoc}
+use Rattle.std.proofs.Common.{◌≡◌, ◌+◌, ◌<◌, ◌≤◌, ℕ, zero, suc, Bool, true, false, List, [], ◌∷◌, ◌++◌, Option, Some, None, length, take, drop, refl, sym, ap, subst, ◌∙◌, arith, add-one, append_assoc}
 use Rattle.std.proofs.lemmas.List.Sums.{sum_by-cons}
 use Rattle.bpf_machine.specs.declared.entry.Entry.{Entry}
 use Rattle.bpf_journal.specs.EditEntries.{is_of_step}
-use Rattle.bpf_journal.specs.Histories.{Kept, kept_of, Record}
+use Rattle.bpf_journal.specs.Histories.{Kept}
 use Rattle.bpf_journal.specs.Keepers.{IsPlace, WalksBack, walked}
 
 module _ {K : Type 0} (holds : K → List Kept → Type 0) (place : K → List Kept → ℕ) where
@@ -31,21 +31,21 @@ abbrev steps_in : List Kept → ℕ
 steps_in es = count_by (λ k. is_of_step k.0) es
 
 -- the entries from the k-th on, one by one
-record At (es : List Kept) (k : ℕ) : Type 0 where
-  found : Kept
-  front : drop k es ≡ found ∷ drop (suc k) es
+pub record At (es : List Kept) (k : ℕ) : Type 0 where
+  pub found : Kept
+  pub front : drop k es ≡ found ∷ drop (suc k) es
 
-entry_at : (es : List Kept) (k : ℕ) → k < length es → At es k
+pub entry_at : (es : List Kept) (k : ℕ) → k < length es → At es k
 entry_at [] k lt = absurd (omega arith)
 entry_at (e ∷ es) zero lt = record { found = e; front = refl }
 entry_at (e ∷ es) (suc k) lt = let a = entry_at es k (omega arith) in record { found = a.found; front = a.front }
 
-drop_all : (es : List Kept) → drop (length es) es ≡ []
+pub drop_all : (es : List Kept) → drop (length es) es ≡ []
 drop_all [] = refl
 drop_all (e ∷ es) = drop_all es
 
 -- the newer ones and the front
-split_at : (es : List Kept) (k : ℕ) → take k es ++ drop k es ≡ es
+pub split_at : (es : List Kept) (k : ℕ) → take k es ++ drop k es ≡ es
 split_at [] zero = refl
 split_at [] (suc k) = refl
 split_at (e ∷ es) zero = refl

@@ -8,3 +8,6 @@ pub mod Items
 pub mod Reverting
 pub mod Timelines
 pub mod Laws
+pub mod Replaced
+pub mod Lookups
+pub mod Changes

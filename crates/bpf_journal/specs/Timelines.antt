@@ -1,13 +1,14 @@
 -- A state with the keeper of the moves that led to it: what a move leaves of both, and what going back leaves.
 use Rattle.std.specs.Prelude.{◌≡◌, ℕ, Bool, List, [], ◌∷◌, Option, Some, None, Result, Err}
 use Rattle.bpf_machine.specs.declared.moves.Move.{Move}
-use Rattle.bpf_machine.specs.Moves.{IsMovable, Leads}
+use Rattle.bpf_machine.specs.Moves.{IsMovable, Leads, overwritten}
 use Rattle.bpf_machine.specs.State.{State}
 use Rattle.bpf_journal.specs.declared.fault.TimelineFault.{TimelineFault}
 use Rattle.bpf_journal.specs.declared.fault.TimelineFault.TheVariants as fault
 use Rattle.bpf_journal.specs.Counts.{once_more}
 use Rattle.bpf_journal.specs.declared.timeline.Taken.{Taken}
 use Rattle.bpf_journal.specs.Histories.{Kept, Record, is_step, record_weight, keep, StandsFor}
+use Rattle.bpf_journal.specs.Replaced.{replaces_bytes}
 use Rattle.bpf_journal.specs.Reverting.{RefusesMove}
 
 -- A state and the keeper.
@@ -21,7 +22,7 @@ record_of x m mark = record { before = x; move = m; mark = mark }
 
 -- What is told of a record whose move was taken back.
 abbrev pub taken_of : Record → Taken
-taken_of r = record { is_step = is_step r.move; mark = r.mark }
+taken_of r = record { is_step = is_step r.move; mark = r.mark; replaced_bytes = replaces_bytes (overwritten r.before r.move) }
 
 module _ {K : Type 0} (holds : K → List Kept → Type 0) where
   -- A moment stands for a history.

@@ -1,5 +1,7 @@
 //! Laws of the definitions, each proved as the contract of a function that does nothing.
 ghost use Rattle.bpf_journal.specs.Histories.{record_weight, kept_weight};
+ghost use Rattle.bpf_journal.specs.Lookups.{LastChangeIsLatest, NoChangeNoDifference};
+ghost use Rattle.bpf_journal.specs.Replaced.{EntriesTellBefore};
 ghost use Rattle.bpf_journal.specs.Laws.{FitIsLongest, NewIsKept, DroppedIsForgotten, EveryEntryIsKept, OneAfter, OneBefore, ReplayIsExact, RefusedLeadsNowhere};
 
 /// What is kept is the longest list of newest records, or of their entries, that weighs at most the room.
@@ -36,4 +38,17 @@ pub fn moves_go_one_way_and_back()
 #[tactic(none)]
 pub fn the_refused_leads_nowhere()
     ensures { RefusedLeadsNowhere }
+{}
+
+/// The entry of a move tells, from the depth and the bytes behind it, the depth and each byte before it.
+#[tactic(none)]
+pub fn entries_tell_before()
+    ensures { EntriesTellBefore }
+{}
+
+/// The latest change of a byte is one, and the byte kept its value since; where there is none, it never changed.
+#[tactic(none)]
+pub fn the_last_change_is_latest()
+    ensures some { LastChangeIsLatest }
+    ensures none { NoChangeNoDifference }
 {}

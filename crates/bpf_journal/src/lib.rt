@@ -8,9 +8,8 @@ mod item;
 mod keeper;
 pub mod laws;
 mod list_keeper;
+mod replaced;
 mod reversible;
-#[cfg(test)]
-mod tests;
 mod timeline;
 
 pub use bpf_machine::Move;
@@ -18,4 +17,4 @@ pub use fault::{JournalFault, MoveFault, TimelineFault};
 pub use keeper::Keeper;
 pub use list_keeper::ListKeeper;
 pub use reversible::Reversible;
-pub use timeline::{Taken, Timeline};
+pub use timeline::{ByteChange, Taken, Timeline};

@@ -1,5 +1,5 @@
 //! A machine with the keeper of the moves that led to its state.
-ghost use Rattle.std.specs.Prelude.{◌≡◌, ℕ, List, [], length, min, count_by, sum_by, OnOk, OnErr, IfErr, false};
+ghost use Rattle.std.specs.Prelude.{◌≡◌, ℕ, List, [], length, min, count_by, sum_by, OnOk, OnErr, IfOk, IfErr, false};
 ghost use Rattle.bpf_machine.specs.declared.moves.Move.TheVariants as move_of;
 ghost use Rattle.bpf_machine.specs.Entries.{step_entry};
 ghost use Rattle.bpf_machine.specs.Next.{change as change_of};
@@ -7,11 +7,16 @@ ghost use Rattle.bpf_machine.specs.Status.{has_ended};
 ghost use Rattle.bpf_journal.specs.EditEntries.{HoldsSome, is_of_step as is_of_step_entry};
 ghost use Rattle.bpf_journal.specs.Histories.{Kept, Record, StandsFor, HasHistory, is_step, keep, kept_weight, record_weight};
 ghost use Rattle.bpf_journal.specs.Keepers.{refusals_after};
+ghost use Rattle.bpf_journal.specs.Changes.{change_in};
+ghost use Rattle.bpf_journal.specs.Lookups.{last_change};
+ghost use Rattle.bpf_journal.specs.Replaced.{replaces_bytes};
+ghost use Rattle.bpf_machine.specs.ByAddress.{byte};
 ghost use Rattle.bpf_journal.specs.Timelines.{Moment, Makes, Fails, GoesBack, refusals_by};
 
 use crate::fault::{MoveFault, TimelineFault};
 use crate::fields::{edit_fits, is_of_step, step_count};
 use crate::keeper::Keeper;
+use crate::replaced::{byte_before, change_replaces_bytes, compact_replaces_bytes, replaces_bytes};
 use bpf_machine::laws::entries_fit;
 use bpf_machine::{Change, Cpu, Edit, Ended, Move};
 use std::alloc::AllocError;
@@ -24,6 +29,19 @@ pub struct Taken {
     pub is_step: bool,
     /// Whether it was the first move of a command.
     pub mark: bool,
+    /// Whether it had replaced bytes of memory.
+    pub replaced_bytes: bool,
+}
+
+/// A move that changed the value of a byte.
+#[derive(Clone, Copy)]
+pub struct ByteChange {
+    /// How many moves it lies back: 1 is the last move.
+    pub moves: u64,
+    /// The byte's value before the move.
+    pub old: u8,
+    /// The byte's value after it.
+    pub new: u8,
 }
 
 /// A machine and a keeper: there is a history that they stand for.
@@ -121,10 +139,21 @@ impl<K: Keeper> Timeline<K> {
         steps_in(&self.keeper, most)
     }
 
-    /// Takes a step and keeps it. Nothing changes where the machine has ended, or where the keeper refuses.
-    pub fn step(&mut self, mark: bool) -> Result<(), TimelineFault>
+    /// The latest kept move, a step or an edit, that changed the value of the byte at an address, which is `value` now. The machine isn't
+    /// moved: each entry tells what the byte was. None where no kept move changed it. Looks at the entries from the newest to that one.
+    pub fn last_change(&self, address: u64, value: u8) -> Option<ByteChange>
+        requires { value ≡ byte self.now.state address }
+        ensures { (h : List Record) → StandsFor K.holds self.now.keeper self.now.state h → result ≡ last_change address h self.now.state }
+    {
+        change_among(&self.keeper, address, value)
+    }
+
+    /// Takes a step and keeps it. Answers whether it replaced bytes of memory. Nothing changes where the machine has ended, or where the
+    /// keeper refuses.
+    pub fn step(&mut self, mark: bool) -> Result<bool, TimelineFault>
         ensures ok { OnOk result (Makes K.holds (K.room self.old.keeper) move_of.Step mark self.old self.new) }
         ensures err { IfErr result (Fails K.holds move_of.Step self.old self.new) }
+        ensures bytes { IfOk result (λ replaced. replaced ≡ replaces_bytes (step_entry self.old.state)) }
         ensures refused { K.refused self.new.keeper ≡ refusals_by result (K.refused self.old.keeper) }
         ensures room { K.room self.new.keeper ≡ K.room self.old.keeper }
     {
@@ -136,7 +165,7 @@ impl<K: Keeper> Timeline<K> {
         match push_step(&self.cpu, &mut self.keeper, &change, mark) {
             Ok(()) => {
                 self.cpu.finish(&change);
-                Ok(())
+                Ok(change_replaces_bytes(&change))
             }
             Err(_) => Err(TimelineFault::OutOfMemory),
         }
@@ -172,7 +201,10 @@ impl<K: Keeper> Timeline<K> {
         ensures room { K.room self.new.keeper ≡ K.room self.old.keeper }
     {
         match change {
-            Move::Step => self.step(mark),
+            Move::Step => match self.step(mark) {
+                Ok(_) => Ok(()),
+                Err(fault) => Err(fault),
+            },
             Move::Edit(edit) => self.edit(edit, mark),
         }
     }
@@ -189,6 +221,7 @@ impl<K: Keeper> Timeline<K> {
                 Some(Taken {
                     is_step: true,
                     mark,
+                    replaced_bytes: compact_replaces_bytes(&entry),
                 })
             }
             None => match self.keeper.pop() {
@@ -197,6 +230,7 @@ impl<K: Keeper> Timeline<K> {
                     Some(Taken {
                         is_step: is_of_step(&entry),
                         mark,
+                        replaced_bytes: replaces_bytes(&entry),
                     })
                 }
                 None => None,
@@ -264,4 +298,27 @@ fn steps_in<K: Keeper>(keeper: &K, most: u64) -> u64
         at = older;
     }
     steps
+}
+
+/// The latest change of a byte among the entries that a keeper holds, which lead to this value.
+fn change_among<K: Keeper>(keeper: &K, address: u64, value: u8) -> Option<ByteChange>
+    requires { HoldsSome K.holds keeper.now }
+    ensures { (es : List Kept) → K.holds keeper.now es → (depth : ℕ) → result ≡ change_in address depth value es }
+{
+    let mut at = keeper.end();
+    for k in 0..keeper.len() {
+        let Some((entry, _, older)) = keeper.walk_back(at) else {
+            return None;
+        };
+        let old = byte_before(&entry, address, value);
+        if old != value {
+            return Some(ByteChange {
+                moves: k as u64 + 1,
+                old,
+                new: value,
+            });
+        }
+        at = older;
+    }
+    None
 }

@@ -1,5 +1,5 @@
-use Rattle.std.proofs.Common.{◌≡◌, ◌≤◌, ℕ, true, false, Bool, sym, ap, ◌∙◌, arith, refl}
-use Rattle.bpf_journal.proofs.Walks.{walking_place, walking_step, walking_on, walking_end, one_more_fits, enough, few}
+use Rattle.std.proofs.Common.{arith}
+use Rattle.bpf_journal.proofs.Walks.{walking_place, walking_step, walking_on, one_more_fits}
 use Rattle.bpf_journal.proofs.timeline.steps_in.Goals as goal
 
 pub walk_back-requires : goal.walk_back-requires

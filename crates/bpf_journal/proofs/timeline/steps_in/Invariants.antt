@@ -1,4 +1,4 @@
-use Rattle.std.proofs.Common.{◌≤◌, List, length}
+use Rattle.std.proofs.Common.{◌≤◌, List}
 use Rattle.bpf_journal.specs.Histories.{Kept}
 use Rattle.bpf_journal.proofs.Walks.{Walking}
 use Rattle.bpf_journal.proofs.timeline.steps_in.Given as goal

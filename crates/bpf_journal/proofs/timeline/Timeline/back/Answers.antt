@@ -27,9 +27,9 @@ invariant_of-self-in-Some-pop g c =
 pub returns-in-Some-clause-back : goal.returns-in-Some-clause-back
 returns-in-Some-clause-back g c = λ h stands.
     let t = c.in-Some.ensures.taken _ (rw (← c.self.view_is) at stands.0) in
-    goes_back g.K.Keeper.holds h _ _ _ _ _ (record { is_step = true; mark = c.in-Some.mark }) t.0 (sym (of_compact _)) refl (rw (← c.self.view_is) at stands.1) t.1 c.revert_compact.ensures
+    goes_back g.K.Keeper.holds h _ _ _ _ _ (record { is_step = true; mark = c.in-Some.mark; replaced_bytes = c.compact_replaces_bytes.result }) t.0 (sym (of_compact _)) refl c.compact_replaces_bytes.ensures (rw (← c.self.view_is) at stands.1) t.1 c.revert_compact.ensures
 
 pub returns-in-Some-pop-clause-back : goal.returns-in-Some-pop-clause-back
 returns-in-Some-pop-clause-back g c = λ h stands.
     let t = c.in-Some-pop.ensures.taken _ (c.in-None.ensures.taken _ (rw (← c.self.view_is) at stands.0)) in
-    goes_back g.K.Keeper.holds h _ _ _ _ _ _ (sym t.0) c.is_of_step.ensures refl (rw (← c.self.view_is) at stands.1) t.1 c.revert.ensures
+    goes_back g.K.Keeper.holds h _ _ _ _ _ _ (sym t.0) c.is_of_step.ensures refl c.replaces_bytes.ensures (rw (← c.self.view_is) at stands.1) t.1 c.revert.ensures

@@ -1,4 +1,4 @@
-use Rattle.std.proofs.Common.{◌≡◌, min, ap, ◌∙◌}
+use Rattle.std.proofs.Common.{min, ap, ◌∙◌}
 use Rattle.bpf_journal.proofs.Histories.{steps_kept}
 use Rattle.bpf_journal.proofs.timeline.Timeline.steps_up_to.Goals as goal
 

@@ -1,0 +1,238 @@
+-- The latest change of a byte, as a walk over kept entries finds it, is that of the history.
+use Rattle.std.specs.Prelude.{if◌then◌else◌, ◌==◌, option_map}
+use Rattle.std.proofs.Common.{◌≡◌, ◌+◌, ◌-◌, ◌<◌, ◌≤◌, ℕ, zero, suc, Bool, true, false, List, [], ◌∷◌, Option, Some, None, length, take, drop, map, refl, sym, ap, subst, ◌∙◌, arith, add-one}
+use Rattle.std.proofs.lemmas.Bool.Decides.{nat_tests}
+use Rattle.bpf_machine.specs.ByAddress.{byte}
+use Rattle.bpf_machine.specs.declared.entry.Entry.{Entry}
+use Rattle.bpf_machine.specs.Moves.{overwritten}
+use Rattle.bpf_machine.specs.State.{State, depth}
+use Rattle.bpf_journal.specs.Histories.{Kept, Record, IsRun, kept_of}
+use Rattle.bpf_journal.specs.Keepers.{IsPlace, WalksBack, walked}
+use Rattle.bpf_journal.specs.Lookups.{Test, latest, state_before, changes_byte, byte_change, last_change, IsLatestChange, LastChangeIsLatest, NoChangeNoDifference}
+use Rattle.bpf_journal.specs.Replaced.{byte_before, depth_before}
+use Rattle.bpf_journal.specs.Changes.{further, change_in}
+use Rattle.bpf_journal.specs.declared.timeline.ByteChange.{ByteChange}
+use Rattle.bpf_journal.proofs.Telling.{tells_before}
+use Rattle.bpf_journal.proofs.Walks.{At, entry_at, drop_all, split_at}
+
+further_none : (o : Option ByteChange) → o ≡ option_map (further 0) o
+further_none None = refl
+further_none (Some c) = let n : c.moves ≡ 0 + c.moves = omega arith in ap (λ (m : ℕ). Some (record c { moves = m })) n
+
+further_more : (k : ℕ) (o : Option ByteChange) → option_map (further k) (option_map (further 1) o) ≡ option_map (further (k + 1)) o
+further_more k None = refl
+further_more k (Some c) =
+    let sum : k + (1 + c.moves) ≡ k + 1 + c.moves = omega arith in
+    ap (λ (n : ℕ). Some (record c { moves = n })) sum
+
+-- a look at the newest entry
+same_byte : (a d value old : ℕ) (k : Kept) (ks : List Kept) → old ≡ byte_before d k.0 a value → old ≡ value → change_in a d value (k ∷ ks) ≡ option_map (further 1) (change_in a (depth_before d k.0) value ks)
+same_byte a d value old k ks is same =
+    let hit : (byte_before d k.0 a value == value) ≡ true = let e : byte_before d k.0 a value ≡ value = sym is ∙ same in grind (arith, nat_tests) in
+    rw hit refl
+
+other_byte : (a d value old : ℕ) (k : Kept) (ks : List Kept) → old ≡ byte_before d k.0 a value → (old ≡ value → ⊥) → change_in a d value (k ∷ ks) ≡ Some (record { moves = 1; old = old; new = value })
+other_byte a d value old k ks is differ =
+    let miss : (byte_before d k.0 a value == value) ≡ false = let e : byte_before d k.0 a value ≡ value → ⊥ = λ e. differ (is ∙ e) in grind (arith, nat_tests) in
+    rw miss (ap (λ (n : ℕ). Some (record { moves = 1; old = n; new = value })) (sym is))
+
+module _ {K : Type 0} (holds : K → List Kept → Type 0) (place : K → List Kept → ℕ) (keeper : K) where
+  -- after k turns a walk is at the place of the front without its k newest, which left the byte as it was
+  pub record Looking (es : List Kept) (a value at k : ℕ) : Type 0 where
+    pub here : place keeper (drop k es) ≡ at
+    pub rest : (d : ℕ) → (e : ℕ) × (change_in a d value es ≡ option_map (further k) (change_in a e value (drop k es)))
+
+  pub looking_start : (es : List Kept) (a value at : ℕ) → at ≡ place keeper es → Looking es a value at 0
+  looking_start es a value at here = record { here = sym here; rest = λ d. (d, further_none (change_in a d value es)) }
+
+  pub looking_place : (es : List Kept) (a value at k : ℕ) → holds keeper es → Looking es a value at k → IsPlace holds place keeper at
+  looking_place es a value at k held w = record {
+    newer = take k es;
+    front = drop k es;
+    held = subst (holds keeper) (sym (split_at es k)) held;
+    here = w.here;
+  }
+
+  -- what a walk from there answers
+  looked_on : (es : List Kept) (a value at k : ℕ) (result : Option (Entry × Bool × ℕ)) → holds keeper es → k < length es → Looking es a value at k → WalksBack holds place keeper at result → (x : At es k) → result ≡ Some (x.found.0, x.found.1, place keeper (drop (suc k) es))
+  looked_on es a value at k result held lt w walk x =
+      walk (take k es) (drop k es) (subst (holds keeper) (sym (split_at es k)) held) w.here ∙ ap (walked (place keeper)) x.front
+
+  module _ (es : List Kept) (a value at k : ℕ) (entry : Entry) (mark : Bool) (before old : ℕ) (held : holds keeper es) (lt : k < length es) (w : Looking es a value at k) (walk : WalksBack holds place keeper at (Some (entry, mark, before))) (told : (d : ℕ) → old ≡ byte_before d entry a value) where
+    record Here : Type 0 where
+      pub x : At es k
+      pub is : x.found.0 ≡ entry
+      pub place_is : place keeper (drop (suc k) es) ≡ before
+
+    here_at : Here
+    here_at =
+        let x = entry_at es k lt in
+        let same = looked_on es a value at k _ held lt w walk x in
+        let answer : Entry × Bool × ℕ = (entry, mark, before) in
+        let newest : Entry × Bool × ℕ = (x.found.0, x.found.1, place keeper (drop (suc k) es)) in
+        let found : answer ≡ newest = cc in
+        record {
+          x = x;
+          is = sym (ap (λ (t : Entry × Bool × ℕ). t.0) found);
+          place_is = sym (ap (λ (t : Entry × Bool × ℕ). t.2) found);
+        }
+
+    told_here : (h : Here) (d : ℕ) → old ≡ byte_before d h.x.found.0 a value
+    told_here h d = told d ∙ ap (λ (e : Entry). byte_before d e a value) (sym h.is)
+
+    -- a turn
+    pub looking_step : old ≡ value → Looking es a value before (k + 1)
+    looking_step same =
+        let h = here_at in
+        rw add-one (record {
+          here = h.place_is;
+          rest = λ d.
+              let q = w.rest d in (
+                depth_before q.0 h.x.found.0,
+                q.1
+                    ∙ ap (λ (ks : List Kept). option_map (further k) (change_in a q.0 value ks)) h.x.front
+                    ∙ ap (option_map (further k)) (same_byte a q.0 value old h.x.found (drop (suc k) es) (told_here h q.0) same)
+                    ∙ further_more k (change_in a (depth_before q.0 h.x.found.0) value (drop (suc k) es))
+                    ∙ ap (λ (n : ℕ). option_map (further n) (change_in a (depth_before q.0 h.x.found.0) value (drop (suc k) es))) (let n : k + 1 ≡ suc k = omega arith in n),
+              );
+        })
+
+    -- the change
+    pub looking_found : (old ≡ value → ⊥) → (d : ℕ) → Some (record { moves = k + 1; old = old; new = value }) ≡ change_in a d value es
+    looking_found differ d =
+        let h = here_at in
+        let q = w.rest d in
+        sym (
+        q.1
+        ∙ ap (λ (ks : List Kept). option_map (further k) (change_in a q.0 value ks)) h.x.front
+        ∙ ap (option_map (further k)) (other_byte a q.0 value old h.x.found (drop (suc k) es) (told_here h q.0) differ)
+        )
+
+  -- there is an entry where not all is walked
+  pub looking_on : (es : List Kept) (a value at k : ℕ) → holds keeper es → k < length es → Looking es a value at k → WalksBack holds place keeper at None → ⊥
+  looking_on es a value at k held lt w walk =
+      let same = looked_on es a value at k _ held lt w walk (entry_at es k lt) in
+      cc
+
+  -- all is walked
+  pub looking_end : (es : List Kept) (a value at k : ℕ) → k ≡ length es → Looking es a value at k → (d : ℕ) → None ≡ change_in a d value es
+  looking_end es a value at k all w d =
+      let q = w.rest d in
+      sym (
+      q.1
+      ∙ ap (λ (n : ℕ). option_map (further k) (change_in a q.0 value (drop n es))) all
+      ∙ ap (λ (ks : List Kept). option_map (further k) (change_in a q.0 value ks)) (drop_all es)
+      )
+
+-- The record that is looked up lies at least one move back.
+latest_some : (test : Test) (n : ℕ) (h : List Record) (y : State) → latest test n h y ≡ Some zero → ⊥
+latest_some test n [] y e = cc
+latest_some test n (r ∷ h) y e = look (test r y) (n == 1) (latest test (n - 1) h r.before) (latest test n h r.before) e
+  where
+    look : (hit one : Bool) (more rest : Option ℕ) → (if hit then (if one then Some 1 else option_map suc more) else option_map suc rest) ≡ Some zero → ⊥
+    look true true more rest e = cc
+    look true false None rest e = cc
+    look true false (Some m) rest e = cc
+    look false one more None e = cc
+    look false one more (Some m) e = cc
+
+-- One move further back.
+further_back : (a : ℕ) (r : Record) (h : List Record) (y : State) (o : Option ℕ) → (o ≡ Some zero → ⊥) → option_map (further 1) (option_map (byte_change a h r.before) o) ≡ option_map (byte_change a (r ∷ h) y) (option_map suc o)
+further_back a r h y None some = refl
+further_back a r h y (Some zero) some = absurd (some refl)
+further_back a r h y (Some (suc k)) some =
+    let n : 1 + suc k ≡ suc (suc k) = omega arith in
+    let p : suc k - 1 ≡ k = omega arith in
+    let q : suc k ≡ suc (suc k) - 1 = omega arith in
+    let old : ℕ = byte (state_before (suc k) h r.before) a in
+    ap (λ (m : ℕ). Some (record { moves = m; old = old; new = byte (state_before (suc k - 1) h r.before) a })) n
+    ∙ ap (λ (j : ℕ). Some (record { moves = suc (suc k); old = old; new = byte (state_before j h r.before) a })) p
+    ∙ ap (λ (j : ℕ). Some (record { moves = suc (suc k); old = old; new = byte (state_before j (r ∷ h) y) a })) q
+
+pub change_told : (a : ℕ) (h : List Record) (y : State) → IsRun h y → change_in a (depth y) (byte y a) (map kept_of h) ≡ last_change a h y
+change_told a [] y run = refl
+change_told a (r ∷ h) y run =
+    let t = tells_before r.before y r.move run.0 in
+    look t.depths (t.bytes a) (change_told a h r.before run.1) (byte r.before a == byte y a) refl
+  where
+    look : depth r.before ≡ depth_before (depth y) (overwritten r.before r.move) → byte r.before a ≡ byte_before (depth y) (overwritten r.before r.move) a (byte y a) → change_in a (depth r.before) (byte r.before a) (map kept_of h) ≡ last_change a h r.before → (same : Bool) → (byte r.before a == byte y a) ≡ same → change_in a (depth y) (byte y a) (map kept_of (r ∷ h)) ≡ last_change a (r ∷ h) y
+    look depths bytes rest true e =
+        let same : byte r.before a ≡ byte y a = grind (arith, nat_tests) in
+        same_byte a (depth y) (byte y a) (byte r.before a) (kept_of r) (map kept_of h) bytes same
+        ∙ ap (λ (d : ℕ). option_map (further 1) (change_in a d (byte y a) (map kept_of h))) (sym depths)
+        ∙ ap (λ (v : ℕ). option_map (further 1) (change_in a (depth r.before) v (map kept_of h))) (sym same)
+        ∙ ap (option_map (further 1)) rest
+        ∙ further_back a r h y (latest (changes_byte a) 1 h r.before) (latest_some (changes_byte a) 1 h r.before)
+        ∙ rw e refl
+    look depths bytes rest false e =
+        let differ : byte r.before a ≡ byte y a → ⊥ = λ same. grind (arith, nat_tests) in
+        other_byte a (depth y) (byte y a) (byte r.before a) (kept_of r) (map kept_of h) bytes differ ∙ rw e refl
+
+-- The latest change by the newest record.
+change_same : (a : ℕ) (r : Record) (h : List Record) (y : State) → (byte r.before a == byte y a) ≡ true → last_change a (r ∷ h) y ≡ option_map (further 1) (last_change a h r.before)
+change_same a r h y e =
+    rw e (sym (further_back a r h y (latest (changes_byte a) 1 h r.before) (latest_some (changes_byte a) 1 h r.before)))
+
+change_here : (a : ℕ) (r : Record) (h : List Record) (y : State) → (byte r.before a == byte y a) ≡ false → last_change a (r ∷ h) y ≡ Some (record { moves = 1; old = byte r.before a; new = byte y a })
+change_here a r h y e = rw e refl
+
+-- None, and no difference.
+none_further : (o : Option ByteChange) → option_map (further 1) o ≡ None → o ≡ None
+none_further None e = refl
+none_further (Some c) e = cc
+
+pub no_change : NoChangeNoDifference
+no_change a h y e zero = refl
+no_change a [] y e (suc j) = refl
+no_change a (r ∷ h) y e (suc j) = look (byte r.before a == byte y a) refl (λ none. no_change a h r.before none j)
+  where
+    look : (same : Bool) → (byte r.before a == byte y a) ≡ same → (last_change a h r.before ≡ None → byte (state_before j h r.before) a ≡ byte r.before a) → byte (state_before j h r.before) a ≡ byte y a
+    look true s rest =
+        let same : byte r.before a ≡ byte y a = grind (arith, nat_tests) in
+        rest (none_further _ (sym (change_same a r h y s) ∙ e)) ∙ same
+    look false s rest = let f : None ≡ Some (record { moves = 1; old = byte r.before a; new = byte y a }) = sym e ∙ change_here a r h y s in cc
+
+-- The one there is.
+some_further : (o : Option ByteChange) (c : ByteChange) → option_map (further 1) o ≡ Some c → (d : ByteChange) × (o ≡ Some d) × (c ≡ further 1 d)
+some_further None c e = cc
+some_further (Some d) c e = (d, refl, (let s : further 1 d ≡ c = cc in sym s))
+
+pub latest_change : LastChangeIsLatest
+latest_change a [] y c e = cc
+latest_change a (r ∷ h) y c e = look (byte r.before a == byte y a) refl (latest_change a h r.before)
+  where
+    look : (same : Bool) → (byte r.before a == byte y a) ≡ same → ((d : ByteChange) → last_change a h r.before ≡ Some d → IsLatestChange a h r.before d) → IsLatestChange a (r ∷ h) y c
+    look true s rest =
+        let same : byte r.before a ≡ byte y a = grind (arith, nat_tests) in
+        let f = some_further (last_change a h r.before) c (sym (change_same a r h y s) ∙ e) in
+        let i = rest f.0 f.1 in
+        let n : 1 + f.0.moves ≡ suc f.0.moves = omega arith in
+        let long : f.0.moves ≤ length h = i.within in
+        subst (IsLatestChange a (r ∷ h) y) (sym f.2) (record {
+          some = omega arith;
+          within = omega (arith, long);
+          old = ap (λ (m : ℕ). byte (state_before m (r ∷ h) y) a) n ∙ i.old;
+          new = sym same ∙ i.new;
+          differs = i.differs;
+          since = λ j less. kept same i j (omega (arith, less));
+        })
+      where
+        kept : byte r.before a ≡ byte y a → {d : ByteChange} → IsLatestChange a h r.before d → (j : ℕ) → j < suc d.moves → byte (state_before j (r ∷ h) y) a ≡ byte y a
+        kept same i zero less = refl
+        kept same i (suc j) less = i.since j (omega (arith, less)) ∙ same
+    look false s rest =
+        let differ : byte r.before a ≡ byte y a → ⊥ = λ same. grind (arith, nat_tests) in
+        let here : Some (record { moves = 1; old = byte r.before a; new = byte y a }) ≡ Some c = sym (change_here a r h y s) ∙ e in
+        let is : record { moves = 1; old = byte r.before a; new = byte y a } ≡ c = cc in
+        subst (IsLatestChange a (r ∷ h) y) is (record {
+          some = omega arith;
+          within = omega arith;
+          old = refl;
+          new = refl;
+          differs = differ;
+          since = λ j less. first j (omega (arith, less));
+        })
+      where
+        first : (j : ℕ) → j ≡ 0 → byte (state_before j (r ∷ h) y) a ≡ byte y a
+        first zero e = refl
+        first (suc j) e = absurd (omega (arith, e))

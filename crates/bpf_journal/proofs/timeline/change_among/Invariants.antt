@@ -1,0 +1,8 @@
+use Rattle.std.proofs.Common.{List}
+use Rattle.bpf_journal.specs.Histories.{Kept}
+use Rattle.bpf_journal.proofs.ByteChanges.{Looking}
+use Rattle.bpf_journal.proofs.timeline.change_among.Given as goal
+
+abbrev pub invariant-loop-k : goal.invariant-loop-k
+invariant-loop-k g l =
+    (es : List Kept) → g.K.Keeper.holds l.keeper es → Looking g.K.Keeper.holds g.K.Keeper.place l.keeper es l.address l.value l.at l.k
