@@ -1,7 +1,6 @@
 -- How a command is shown to obey its meaning.
-use Rattle.std.proofs.Common.{◌≡◌, ℕ, List, [], ◌∷◌, Option, Some, None, Result, sym, ap, subst, ◌∙◌, refl}
+use Rattle.std.proofs.Common.{◌≡◌, ℕ, List, Option, None, Result, sym, ap, subst, ◌∙◌}
 use Rattle.bpf_journal.specs.Histories.{Kept}
-use Rattle.bpf_session.specs.Points.{Point}
 use Rattle.bpf_session.specs.Outcomes.{Outcome}
 use Rattle.bpf_session.specs.Sessions.{SessionValue, StandsAt, Obeys, refusals_with}
 use Rattle.bpf_session.specs.declared.reply.Reply.{Reply}

@@ -1,25 +1,30 @@
 -- A backward command's loop: after k turns the session is at the state before the k-th last move.
-use Rattle.std.specs.Prelude.{if◌then◌else◌, min, nat_le, nat_lt, slice_get, count_by}
-use Rattle.std.specs.Option.{option_map_or}
-use Rattle.std.proofs.Common.{◌≡◌, ◌≢◌, ◌+◌, ◌-◌, ◌<◌, ◌≤◌, ◌==◌, ◌&&◌, ◌||◌, ℕ, zero, suc, Bool, true, false, List, [], ◌∷◌, Option, Some, None, Ok, is_some, unwrap_or, option_map, length, drop, refl, sym, ap, subst, ◌∙◌, arith, add-one}
+use Rattle.std.specs.Prelude.{if◌then◌else◌, min, Result}
+use Rattle.std.proofs.Common.{◌≡◌, ◌≢◌, ◌+◌, ◌-◌, ◌<◌, ◌≤◌, ◌==◌, ◌&&◌, ◌||◌, ℕ, zero, suc, Bool, true, false, List, [], ◌∷◌, ◌++◌, Option, Some, None, Ok, is_some, unwrap_or, option_map, length, drop, refl, sym, ap, subst, ◌∙◌, arith, add-one}
 use Rattle.std.proofs.lemmas.Bool.Decides.{nat_tests}
-use Rattle.std.proofs.lemmas.List.Sums.{sum_by-cons}
 use Rattle.bpf_machine.specs.State.{State}
-use Rattle.bpf_journal.specs.Histories.{Record, Kept, StandsFor, is_step}
-use Rattle.bpf_journal.specs.Timelines.{Moment, GoesBack, taken_of}
+use Rattle.bpf_machine.specs.ByAddress.{byte}
+use Rattle.bpf_machine.specs.Moves.{Leads}
+use Rattle.bpf_journal.specs.Histories.{Record, Kept, IsRun, is_step}
+use Rattle.bpf_journal.specs.Lookups.{Test, latest, state_before}
+use Rattle.bpf_journal.proofs.Telling.{kept_bytes}
+use Rattle.bpf_journal.specs.Timelines.{GoesBack, taken_of}
 use Rattle.bpf_journal.specs.declared.timeline.Taken.{Taken}
 use Rattle.bpf_session.specs.Points.{Point}
-use Rattle.bpf_session.specs.Outcomes.{Outcome, refused, unless_refused}
+use Rattle.bpf_session.specs.Outcomes.{Outcome, unless_refused}
 use Rattle.bpf_session.specs.Refused.{when}
-use Rattle.bpf_session.specs.Backward.{Test, latest, before_last, back_by, gone_back, kept_steps, stops_back, to_stop, reverse_continue}
+use Rattle.bpf_session.specs.Backward.{before_last, back_by, gone_back, to_latest, kept_steps, stops_back, to_stop, reverse_continue}
 use Rattle.bpf_session.specs.declared.reply.Why.{Why}
 use Rattle.bpf_session.specs.declared.reply.Reply.TheVariants.{Back}
+use Rattle.bpf_session.specs.declared.reply.Reply.{Reply}
+use Rattle.bpf_session.specs.declared.refusal.Refusal.{Refusal}
 use Rattle.bpf_session.specs.declared.refusal.Refusal.TheVariants.{NoKeptStep}
 use Rattle.bpf_session.specs.Sessions.{SessionValue, HasPast, StandsAt, Obeys, point_of}
 use Rattle.bpf_session.specs.Sought.{GoesBackTo, test_of}
-use Rattle.bpf_session.specs.Stops.{has, breaks_at}
+use Rattle.bpf_session.specs.Stops.{has, breaks_at, some_differs}
+use Rattle.bpf_session.specs.Watched.{Compares, bytes_at}
 use Rattle.bpf_session.specs.declared.sought.Sought.{Sought}
-use Rattle.bpf_session.specs.declared.sought.Sought.TheVariants.{Mark, Step, Break}
+use Rattle.bpf_session.specs.declared.sought.Sought.TheVariants.{Mark, Step, NoDeeper, Shallower, Stop}
 use Rattle.bpf_session.specs.declared.sought.Found.{Found}
 use Rattle.bpf_session.proofs.Answering.{obeys_whole}
 use Rattle.bpf_session.proofs.Forwards.{OnlyMoment}
@@ -28,12 +33,12 @@ use Rattle.bpf_session.proofs.Forwards.{OnlyMoment}
 pub record At (h : List Record) (k : ℕ) : Type 0 where
   pub found : Record
   pub front : drop k h ≡ found ∷ drop (suc k) h
-  pub there : slice_get h k ≡ Some found
+  pub there : (y : State) → state_before (suc k) h y ≡ found.before
 
 pub record_at : (h : List Record) (k : ℕ) → k < length h → At h k
 record_at [] k lt = absurd (omega arith)
-record_at (r ∷ h) zero lt = record { found = r; front = refl; there = refl }
-record_at (r ∷ h) (suc k) lt = let a = record_at h k (omega arith) in record { found = a.found; front = a.front; there = a.there }
+record_at (r ∷ h) zero lt = record { found = r; front = refl; there = λ y. refl }
+record_at (r ∷ h) (suc k) lt = let a = record_at h k (omega arith) in record { found = a.found; front = a.front; there = λ y. a.there r.before }
 
 drop_all : (h : List Record) → drop (length h) h ≡ []
 drop_all [] = refl
@@ -58,35 +63,49 @@ latest_next test n h r y hit more = rw (hit, more) refl
 latest_miss : (test : Test) (n : ℕ) (h : List Record) (r : Record) (y : State) → test r y ≡ false → latest test n (r ∷ h) y ≡ option_map suc (latest test n h r.before)
 latest_miss test n h r y miss = rw miss refl
 
--- what is sought depends on the breakpoints alone
-test_same : {K : Type 0} (s t : SessionValue K) (sought : Sought) → s.breaks ≡ t.breaks → (r : Record) (y : State) → test_of s sought r y ≡ test_of t sought r y
-test_same s t Mark same r y = refl
-test_same s t Step same r y = refl
-test_same s t Break same r y = ap (λ (bs : List ℕ). is_step r.move && (has bs r.before.pc || false)) same
+-- what is sought depends on the breakpoints and the watches alone
+test_same : {K : Type 0} (s t : SessionValue K) (sought : Sought) → s.breaks ≡ t.breaks → s.watches ≡ t.watches → (r : Record) (y : State) → test_of s sought r y ≡ test_of t sought r y
+test_same s t Mark breaks watches r y = refl
+test_same s t Step breaks watches r y = refl
+test_same s t (NoDeeper d) breaks watches r y = refl
+test_same s t (Shallower d) breaks watches r y = refl
+test_same s t Stop breaks watches r y =
+    ap (λ (bs : List ℕ). is_step r.move && (has bs r.before.pc || some_differs s.watches r.before y)) breaks
+    ∙ ap (λ (ws : List ℕ). is_step r.move && (has t.breaks r.before.pc || some_differs ws r.before y)) watches
 
 -- what a look says, of what was sought from the beginning
-pub looked : {K : Type 0} (old new : SessionValue K) (sought : Sought) (taken : Taken) (hits : ℕ) (y : State) → new.breaks ≡ old.breaks → ((r : Record) (z : State) → taken ≡ taken_of r → new.moment.state ≡ r.before → hits ≡ (if test_of new sought r z then 1 else 0)) → (r : Record) → Some taken ≡ Some (taken_of r) → new.moment.state ≡ r.before → hits ≡ (if test_of old sought r y then 1 else 0)
-looked old new sought taken hits y same says r is state =
+pub looked : {K : Type 0} (old new : SessionValue K) (sought : Sought) (taken : Taken) (differs : Bool) (hits : ℕ) (y : State) → new.breaks ≡ old.breaks → new.watches ≡ old.watches → ((r : Record) (z : State) → taken ≡ taken_of r → new.moment.state ≡ r.before → differs ≡ some_differs new.watches r.before z → hits ≡ (if test_of new sought r z then 1 else 0)) → (r : Record) → Some taken ≡ Some (taken_of r) → new.moment.state ≡ r.before → differs ≡ some_differs new.watches new.moment.state y → hits ≡ (if test_of old sought r y then 1 else 0)
+looked old new sought taken differs hits y breaks watches says r is state told_differs =
     let told : taken ≡ taken_of r = cc in
-    says r y told state ∙ ap (λ (b : Bool). if b then 1 else 0) (test_same new old sought same r y)
+    says r y told state (told_differs ∙ ap (λ (x : State). some_differs new.watches x y) state) ∙ ap (λ (b : Bool). if b then 1 else 0) (test_same new old sought breaks watches r y)
+
+-- what a comparison of the watched bytes says of the move that was taken back
+pub comparing : {K : Type 0} (watches : List ℕ) (y : State) (new : SessionValue K) (seen : List ℕ) (taken : Taken) (differs : Bool) → new.watches ≡ watches → ((x : State) → seen ≡ bytes_at new.watches x → (taken.replaced_bytes ≡ false → (a : ℕ) → byte x a ≡ byte new.moment.state a) → Compares new.watches seen x new.moment.state differs) → (r : Record) → Some taken ≡ Some (taken_of r) → Leads r.before r.move y → new.moment.state ≡ r.before → seen ≡ bytes_at watches y → Compares new.watches seen y new.moment.state differs
+comparing watches y new seen taken differs same compare r is leads state saw =
+    let told : taken ≡ taken_of r = cc in
+    compare y (saw ∙ ap (λ (ws : List ℕ). bytes_at ws y) (sym same))
+    (λ off a. sym (kept_bytes r.before y r.move leads (sym (ap (λ (t : Taken). t.replaced_bytes) told) ∙ off) a) ∙ ap (λ (x : State). byte x a) (sym state))
 
 -- what holds after k turns, of which some found what is sought: so many are left to be found
-pub record Seeking {K : Type 0} (holds : K → List Kept → Type 0) (refusals room : K → ℕ) (test : Test) (n : ℕ) (old now : SessionValue K) (left k : ℕ) : Type 0 where
+pub record Seeking {K : Type 0} (holds : K → List Kept → Type 0) (refusals room : K → ℕ) (test : Test) (n : ℕ) (old now : SessionValue K) (seen : List ℕ) (left k : ℕ) : Type 0 where
   pub only : OnlyMoment old now
   pub same : refusals now.moment.keeper ≡ refusals old.moment.keeper
   pub room_same : room now.moment.keeper ≡ room old.moment.keeper
   pub some : 1 ≤ left
+  pub saw : (h : List Record) → HasPast holds old h → k ≤ length h → seen ≡ bytes_at now.watches now.moment.state
   pub stands : (h : List Record) → HasPast holds old h → k ≤ length h → StandsAt holds now (back_by k (point_of old h))
   pub rest : (h : List Record) → HasPast holds old h → k ≤ length h → latest test n h old.moment.state ≡ shifted k (latest test left (drop k h) now.moment.state)
 
 module _ {K : Type 0} (holds : K → List Kept → Type 0) (refusals room : K → ℕ) (test : Test) (n : ℕ) (old now : SessionValue K) where
-  module _ (new : SessionValue K) (left k : ℕ) (taken : Option Taken) (i : Seeking holds refusals room test n old now left k) (only : OnlyMoment now new) (back : (g : List Record) → HasPast holds now g → GoesBack holds taken g now.moment new.moment) where
+  module _ (new : SessionValue K) (seen : List ℕ) (left k : ℕ) (taken : Option Taken) (i : Seeking holds refusals room test n old now seen left k) (only : OnlyMoment now new) (back : (g : List Record) → HasPast holds now g → GoesBack holds taken g now.moment new.moment) where
     -- the move that was taken back
     record Before (h : List Record) : Type 0 where
       pub r : Record
       pub front : drop k h ≡ r ∷ drop (k + 1) h
       pub is : taken ≡ Some (taken_of r)
       pub state : new.moment.state ≡ r.before
+      pub leads : Leads r.before r.move now.moment.state
+      pub saw : seen ≡ bytes_at now.watches now.moment.state
       pub stands : StandsAt holds new (back_by (k + 1) (point_of old h))
 
     back_at : (h : List Record) → HasPast holds old h → k < length h → Before h
@@ -94,43 +113,58 @@ module _ {K : Type 0} (holds : K → List Kept → Type 0) (refusals room : K �
         let a = record_at h k lt in
         let st = i.stands h past (omega arith) in
         let b = subst (λ (g : List Record). GoesBack holds taken g now.moment new.moment) a.front (back (drop k h) st.1) in
-        let here : before_last (k + 1) (point_of old h) ≡ a.found.before = rw (add-one, a.there) refl in
+        let here : before_last (k + 1) (point_of old h) ≡ a.found.before = rw add-one (a.there old.moment.state) in
+        let run : IsRun (a.found ∷ drop (suc k) h) now.moment.state = subst (λ (g : List Record). IsRun g now.moment.state) a.front st.1.1 in
         record {
           r = a.found;
           front = rw add-one a.front;
           is = b.0;
           state = b.1;
+          leads = run.0;
+          saw = i.saw h past (omega arith);
           stands = (
-            ap (λ (x : State). record { history = drop (k + 1) h; state = x; breaks = new.breaks; watches = [] }) (b.1 ∙ sym here)
-                ∙ ap (λ (bs : List ℕ). record { history = drop (k + 1) h; state = before_last (k + 1) (point_of old h); breaks = bs; watches = [] }) (only.breaks ∙ i.only.breaks),
+            ap (λ (x : State). record { history = drop (k + 1) h; state = x; breaks = new.breaks; watches = new.watches }) (b.1 ∙ sym here)
+                ∙ ap (λ (bs : List ℕ). record { history = drop (k + 1) h; state = before_last (k + 1) (point_of old h); breaks = bs; watches = new.watches }) (only.breaks ∙ i.only.breaks)
+                ∙ ap (λ (ws : List ℕ). record { history = drop (k + 1) h; state = before_last (k + 1) (point_of old h); breaks = old.breaks; watches = ws }) (only.watches ∙ i.only.watches),
             rw add-one b.2,
           );
         }
 
     only_more : OnlyMoment old new
-    only_more = record { breaks = only.breaks ∙ i.only.breaks; limit = only.limit ∙ i.only.limit }
+    only_more = record { breaks = only.breaks ∙ i.only.breaks; watches = only.watches ∙ i.only.watches; limit = only.limit ∙ i.only.limit }
 
-    -- what a look at the move says
-    abbrev pub Looks : ℕ → Type 0
-    Looks hits = (r : Record) → taken ≡ Some (taken_of r) → new.moment.state ≡ r.before → hits ≡ (if test r now.moment.state then 1 else 0)
+    -- what a comparison of the watched bytes says, and a look at the move
+    abbrev pub CompareSeen : Bool → Type 0
+    CompareSeen differs = (r : Record) → taken ≡ Some (taken_of r) → Leads r.before r.move now.moment.state → new.moment.state ≡ r.before → seen ≡ bytes_at now.watches now.moment.state → Compares new.watches seen now.moment.state new.moment.state differs
+
+    abbrev pub Looks : Bool → ℕ → Type 0
+    Looks differs hits = (r : Record) → taken ≡ Some (taken_of r) → new.moment.state ≡ r.before → differs ≡ some_differs new.watches new.moment.state now.moment.state → hits ≡ (if test r now.moment.state then 1 else 0)
+
+    compared_at : (differs : Bool) → CompareSeen differs → (h : List Record) → Before h → Compares new.watches seen now.moment.state new.moment.state differs
+    compared_at differs compare h b = compare b.r b.is b.leads b.state b.saw
 
     -- one more turn
-    pub seeking_step : (hits : ℕ) → refusals new.moment.keeper ≡ refusals now.moment.keeper → room new.moment.keeper ≡ room now.moment.keeper → Looks hits → left - hits ≢ 0 → Seeking holds refusals room test n old new (left - hits) (k + 1)
-    seeking_step hits same room_same looks more = record {
+    pub seeking_step : (hits : ℕ) (differs : Bool) (seen' : List ℕ) → refusals new.moment.keeper ≡ refusals now.moment.keeper → room new.moment.keeper ≡ room now.moment.keeper → CompareSeen differs → seen' ≡ (if differs then bytes_at new.watches new.moment.state else seen) → Looks differs hits → left - hits ≢ 0 → Seeking holds refusals room test n old new seen' (left - hits) (k + 1)
+    seeking_step hits differs seen' same room_same compare sees looks more = record {
       only = only_more;
       same = same ∙ i.same;
       room_same = room_same ∙ i.room_same;
       some = omega arith;
+      saw = λ h past le. let b = back_at h past (omega arith) in sees ∙ now_seen differs (compared_at differs compare h b);
       stands = λ h past le. (back_at h past (omega arith)).stands;
       rest = λ h past le.
           let b = back_at h past (omega arith) in
           i.rest h past (omega arith)
           ∙ ap (λ (g : List Record). shifted k (latest test left g now.moment.state)) b.front
-          ∙ ap (shifted k) (one_less (drop (k + 1) h) b.r (test b.r now.moment.state) refl (looks b.r b.is b.state) more)
+          ∙ ap (shifted k) (one_less (drop (k + 1) h) b.r (test b.r now.moment.state) refl (looks b.r b.is b.state (compared_at differs compare h b).before) more)
           ∙ shifted_more k (latest test (left - hits) (drop (k + 1) h) b.r.before)
           ∙ ap (λ (x : State). shifted (k + 1) (latest test (left - hits) (drop (k + 1) h) x)) (sym b.state);
     }
       where
+        now_seen : (d : Bool) → Compares new.watches seen now.moment.state new.moment.state d → (if d then bytes_at new.watches new.moment.state else seen) ≡ bytes_at new.watches new.moment.state
+        now_seen true c = refl
+        now_seen false c = c.same refl
+
         one_less : (g : List Record) (r : Record) (hit : Bool) → test r now.moment.state ≡ hit → hits ≡ (if test r now.moment.state then 1 else 0) → left - hits ≢ 0 → latest test left (r ∷ g) now.moment.state ≡ option_map suc (latest test (left - hits) g r.before)
         one_less g r true is h more =
             let n : hits ≡ 1 = h ∙ ap (λ (b : Bool). if b then 1 else 0) is in
@@ -142,11 +176,11 @@ module _ {K : Type 0} (holds : K → List Kept → Type 0) (refusals room : K �
             latest_miss test left g r now.moment.state is ∙ ap (λ (m : ℕ). option_map suc (latest test m g r.before)) all
 
     -- the last one of those that are sought
-    pub seeking_found : (hits : ℕ) → Looks hits → left - hits ≡ 0 → (h : List Record) → HasPast holds old h → k < length h → GoesBackTo holds test n h old new (record { moves = k + 1; is_there = true })
-    seeking_found hits looks last h past lt =
+    pub seeking_found : (hits : ℕ) (differs : Bool) → CompareSeen differs → Looks differs hits → left - hits ≡ 0 → (h : List Record) → HasPast holds old h → k < length h → GoesBackTo holds test n h old new (record { moves = k + 1; is_there = true })
+    seeking_found hits differs compare looks last h past lt =
         let one = i.some in
         let b = back_at h past lt in
-        let hit = is_hit (test b.r now.moment.state) (looks b.r b.is b.state) in
+        let hit = is_hit (test b.r now.moment.state) (looks b.r b.is b.state (compared_at differs compare h b).before) in
         let found : latest test n h old.moment.state ≡ Some (k + 1) =
         i.rest h past (omega arith)
         ∙ ap (λ (g : List Record). shifted k (latest test left g now.moment.state)) b.front
@@ -163,61 +197,45 @@ module _ {K : Type 0} (holds : K → List Kept → Type 0) (refusals room : K �
     seeking_on none h past lt = let b = back_at h past lt in let e : None ≡ Some (taken_of b.r) = sym none ∙ b.is in cc
 
   -- all moves are taken back
-  pub seeking_end : (left k : ℕ) → Seeking holds refusals room test n old now left k → (h : List Record) → HasPast holds old h → k ≡ length h → GoesBackTo holds test n h old now (record { moves = k; is_there = false })
-  seeking_end left k i h past all =
+  pub seeking_end : (seen : List ℕ) (left k : ℕ) → Seeking holds refusals room test n old now seen left k → (h : List Record) → HasPast holds old h → k ≡ length h → GoesBackTo holds test n h old now (record { moves = k; is_there = false })
+  seeking_end seen left k i h past all =
       let none : latest test n h old.moment.state ≡ None =
       i.rest h past (omega (arith, all))
       ∙ ap (λ (m : ℕ). shifted k (latest test left (drop m h) now.moment.state)) all
       ∙ ap (λ (g : List Record). shifted k (latest test left g now.moment.state)) (drop_all h) in
       record { moves = rw none all; is_there = rw none refl; stands = i.stands h past (omega (arith, all)) }
 
--- the latest record that passes a test, of those in a history
-record Latest (test : Test) (h : List Record) (k : ℕ) : Type 0 where
-  j : ℕ
-  r : Record
-  x : State
-  is : k ≡ suc j
-  there : slice_get h j ≡ Some r
-  hit : test r x ≡ true
-
-choose : (test : Test) (r : Record) (h : List Record) (y : State) (k : ℕ) (hit : Bool) → test r y ≡ hit → (o : Option ℕ) → latest test 1 h r.before ≡ o → ((j : ℕ) → latest test 1 h r.before ≡ Some j → Latest test h j) → (if hit then (if 1 == 1 then Some 1 else option_map suc (latest test (1 - 1) h r.before)) else option_map suc (latest test 1 h r.before)) ≡ Some k → Latest test (r ∷ h) k
-choose test r h y k true is o l rest e = let one : k ≡ 1 = cc in record { j = 0; r = r; x = y; is = one; there = refl; hit = is }
-choose test r h y k false is None l rest e = let f : None ≡ Some k = sym (ap (option_map suc) l) ∙ e in absurd cc
-choose test r h y k false is (Some j) l rest e =
-    let found = rest j l in
-    let f : Some (suc j) ≡ Some k = sym (ap (option_map suc) l) ∙ e in
-    let m : suc j ≡ k = cc in
-    record { j = suc found.j; r = found.r; x = found.x; is = sym m ∙ ap suc found.is; there = found.there; hit = found.hit }
-
-latest_found : (test : Test) (h : List Record) (y : State) (k : ℕ) → latest test 1 h y ≡ Some k → Latest test h k
-latest_found test [] y k e = absurd cc
-latest_found test (r ∷ h) y k e = choose test r h y k (test r y) refl (latest test 1 h r.before) refl (latest_found test h r.before) e
-
--- a step from a breakpoint is found at one
-found_break : {K : Type 0} (s : SessionValue K) (h : List Record) (k : ℕ) → latest (stops_back (point_of s h)) 1 h s.moment.state ≡ Some k → breaks_at (point_of s h) (before_last k (point_of s h)) ≡ true
-found_break s h k e =
-    let l = latest_found (stops_back (point_of s h)) h s.moment.state k e in
-    let here : before_last k (point_of s h) ≡ l.r.before = ap (λ (n : ℕ). before_last n (point_of s h)) l.is ∙ ap (λ (o : Option Record). option_map_or (λ (r : Record). r.before) o s.moment.state) l.there in
-    rw here (there (is_step l.r.move) (has s.breaks l.r.before.pc) l.hit)
-  where
-    there : (stepped broken : Bool) → (stepped && (broken || false)) ≡ true → broken ≡ true
-    there true true h = refl
-    there true false h = cc
-    there false broken h = cc
-
 -- what `reverse-continue` comes to
-pub continued : {K : Type 0} (s : SessionValue K) (h : List Record) (found : Found) (o : Option ℕ) → latest (stops_back (point_of s h)) 1 h s.moment.state ≡ o → found.moves ≡ unwrap_or o (length h) → found.is_there ≡ is_some o → reverse_continue (point_of s h) ≡ gone_back found.moves (if found.is_there then Why.Break else Why.Start) (point_of s h)
-continued s h found None l moves there =
-    ap (λ (o : Option ℕ). to_stop o (point_of s h)) l ∙ ap (λ (b : Bool). gone_back (length h) (if b then Why.Break else Why.Start) (point_of s h)) (sym there) ∙ ap (λ (n : ℕ). gone_back n (if found.is_there then Why.Break else Why.Start) (point_of s h)) (sym moves)
-continued s h found (Some k) l moves there =
+pub continued : {K : Type 0} (s : SessionValue K) (h : List Record) (found : Found) (broken : Bool) (o : Option ℕ) → latest (stops_back (point_of s h)) 1 h s.moment.state ≡ o → found.moves ≡ unwrap_or o (length h) → found.is_there ≡ is_some o → broken ≡ breaks_at (point_of s h) (before_last found.moves (point_of s h)) → reverse_continue (point_of s h) ≡ gone_back found.moves (if found.is_there then (if broken then Why.Break else Why.Watch) else Why.Start) (point_of s h)
+continued s h found broken None l moves there here =
     ap (λ (o : Option ℕ). to_stop o (point_of s h)) l
-    ∙ ap (λ (b : Bool). gone_back k (if b then Why.Break else Why.Watch) (point_of s h)) (found_break s h k l)
-    ∙ ap (λ (b : Bool). gone_back k (if b then Why.Break else Why.Start) (point_of s h)) (sym there)
-    ∙ ap (λ (n : ℕ). gone_back n (if found.is_there then Why.Break else Why.Start) (point_of s h)) (sym moves)
+    ∙ ap (λ (b : Bool). gone_back (length h) (if b then (if broken then Why.Break else Why.Watch) else Why.Start) (point_of s h)) (sym there)
+    ∙ ap (λ (n : ℕ). gone_back n (if found.is_there then (if broken then Why.Break else Why.Watch) else Why.Start) (point_of s h)) (sym moves)
+continued s h found broken (Some k) l moves there here =
+    ap (λ (o : Option ℕ). to_stop o (point_of s h)) l
+    ∙ ap (λ (n : ℕ). gone_back n (if breaks_at (point_of s h) (before_last n (point_of s h)) then Why.Break else Why.Watch) (point_of s h)) (sym moves)
+    ∙ ap (λ (b : Bool). gone_back found.moves (if b then Why.Break else Why.Watch) (point_of s h)) (sym here)
+    ∙ ap (λ (b : Bool). gone_back found.moves (if b then (if broken then Why.Break else Why.Watch) else Why.Start) (point_of s h)) (sym there)
 
 module _ {K : Type 0} (holds : K → List Kept → Type 0) (refusals : K → ℕ) (old new : SessionValue K) where
-  pub continue_obeys : (steps : ℕ) (found : Found) → steps ≢ 0 → (h : List Record) → steps ≡ min 1 (kept_steps (point_of old h)) → GoesBackTo holds (test_of old Break) 1 h old new found → refusals new.moment.keeper ≡ refusals old.moment.keeper → Obeys holds refusals old new (λ _. unless_refused (when (kept_steps (point_of old h) == 0) NoKeptStep) (point_of old h) (reverse_continue (point_of old h))) (Ok (Back found.moves (if found.is_there then Why.Break else Why.Start)))
-  continue_obeys steps found some h counted b same =
+  pub continue_obeys : (steps : ℕ) (found : Found) (broken : Bool) → steps ≢ 0 → (h : List Record) → steps ≡ min 1 (kept_steps (point_of old h)) → GoesBackTo holds (test_of old Stop) 1 h old new found → broken ≡ has new.breaks new.moment.state.pc → refusals new.moment.keeper ≡ refusals old.moment.keeper → Obeys holds refusals old new (λ _. unless_refused (when (kept_steps (point_of old h) == 0) NoKeptStep) (point_of old h) (reverse_continue (point_of old h))) (Ok (Back found.moves (if found.is_there then (if broken then Why.Break else Why.Watch) else Why.Start)))
+  continue_obeys steps found broken some h counted b is same =
       let any : (kept_steps (point_of old h) == 0) ≡ false = grind (arith, nat_tests) in
-      let m = continued old h found (latest (stops_back (point_of old h)) 1 h old.moment.state) refl b.moves b.is_there in
+      let at : has new.breaks new.moment.state.pc ≡ breaks_at (point_of old h) (before_last found.moves (point_of old h)) = ap (λ (p : Point). has p.breaks p.state.pc) b.stands.0 in
+      let m = continued old h found broken (latest (stops_back (point_of old h)) 1 h old.moment.state) refl b.moves b.is_there (is ∙ at) in
       obeys_whole holds refusals old new _ _ _ (ap (λ (z : Bool). unless_refused (when z NoKeptStep) (point_of old h) (reverse_continue (point_of old h))) any ∙ m) refl b.stands same
+
+  -- to the latest record that passes a test
+  pub latest_obeys : (test : Test) (found : Found) (h : List Record) → GoesBackTo holds test 1 h old new found → refusals new.moment.keeper ≡ refusals old.moment.keeper → Obeys holds refusals old new (λ _. to_latest test (point_of old h)) (Ok (Back found.moves (if found.is_there then Why.Done else Why.Start)))
+  latest_obeys test found h b same =
+      let m : to_latest test (point_of old h) ≡ gone_back found.moves (if found.is_there then Why.Done else Why.Start) (point_of old h) =
+      ap (λ (n : ℕ). gone_back n (if is_some (latest test 1 h old.moment.state) then Why.Done else Why.Start) (point_of old h)) (sym b.moves)
+      ∙ ap (λ (t : Bool). gone_back found.moves (if t then Why.Done else Why.Start) (point_of old h)) (sym b.is_there) in
+      obeys_whole holds refusals old new _ _ _ m refl b.stands same
+
+  -- a command that is not refused, where its test fails
+  pub unless_none : (first second : Bool) (r q : Refusal) (p : Point) (meaning : Option ℕ → Outcome) (answer : Result Reply Refusal) → first ≡ false → second ≡ false → Obeys holds refusals old new meaning answer → Obeys holds refusals old new (λ gap. unless_refused (when first r ++ when second q) p (meaning gap)) answer
+  unless_none first second r q p meaning answer one two o = rw (one, two) o
+
+  pub unless_one : (first : Bool) (r : Refusal) (p : Point) (meaning : Option ℕ → Outcome) (answer : Result Reply Refusal) → first ≡ false → Obeys holds refusals old new meaning answer → Obeys holds refusals old new (λ gap. unless_refused (when first r) p (meaning gap)) answer
+  unless_one first r p meaning answer one o = rw one o

@@ -1,36 +1,38 @@
 -- The laws of the meaning of commands and of scripts.
 use Rattle.std.proofs.Common.{◌≡◌, ◌+◌, ◌-◌, ◌^◌, ◌<◌, ◌≤◌, ℕ, zero, suc, Bool, true, false, List, [], ◌∷◌, ◌++◌, Option, Some, None, Ok, Err, is_some, unwrap_or, length, refl, sym, ap, ◌∙◌, arith, IsNone}
-use Rattle.std.specs.Prelude.{if◌then◌else◌, nat_lt, nat_le, not, ◌==◌, min, map, count_by, cond, option_map, slice_get, drop}
-use Rattle.std.specs.Option.{option_map_or}
+use Rattle.std.specs.Prelude.{if◌then◌else◌, nat_lt, nat_le, not, ◌==◌, min, map, count_by, cond, option_map, take, drop, slice_get}
 use Rattle.std.proofs.lemmas.Bool.Decides.{nat_tests}
 use Rattle.std.proofs.lemmas.List.Sums.{sum_by-cons}
-use Rattle.bpf_machine.specs.State.{State}
+use Rattle.bpf_machine.specs.State.{State, depth}
 use Rattle.bpf_machine.specs.Status.{has_ended}
 use Rattle.bpf_machine.specs.declared.edit.Edit.TheVariants as edit
 use Rattle.bpf_machine.specs.declared.moves.Move.TheVariants.{Step}
 use Rattle.bpf_journal.specs.Histories.{Record, is_step, record_weight, fit}
 use Rattle.bpf_journal.specs.Timelines.{record_of}
 use Rattle.bpf_session.specs.Points.{Point, Bounds}
-use Rattle.bpf_session.specs.Outcomes.{Outcome, refused, unless_refused}
+use Rattle.bpf_session.specs.Outcomes.{Outcome, refused, replied, unless_refused}
 use Rattle.bpf_session.specs.Stops.{breaks_at, watch_differs, has}
 use Rattle.bpf_session.specs.Forward.{Goal, after, kept, gone, stop, least, steps, reason, taken, cut, forward}
-use Rattle.bpf_session.specs.Backward.{latest, before_last, back_by, marked, stepped, stops_back, to_stop, marks, kept_steps}
-use Rattle.bpf_session.specs.Limits.{most_breaks}
+use Rattle.bpf_journal.specs.Lookups.{latest, state_before, last_change}
+use Rattle.bpf_journal.specs.declared.timeline.ByteChange.{ByteChange}
+use Rattle.bpf_session.specs.Tables.{told_of}
+use Rattle.bpf_session.specs.Backward.{gone_back, before_last, back_by, marked, stepped, stops_back, to_stop, marks, kept_steps}
+use Rattle.bpf_session.specs.Limits.{most_breaks, most_watches}
 use Rattle.bpf_session.specs.Refusals.{number_of}
 use Rattle.bpf_session.specs.Refused.{when, present, starts, has_cell, refusals_of}
 use Rattle.bpf_session.specs.Meaning.{accepted, does}
 use Rattle.bpf_session.specs.Sessions.{refusals_after_all}
 use Rattle.bpf_session.specs.Commands.{command_of}
 use Rattle.bpf_session.specs.Output.{effect, after_effect}
-use Rattle.bpf_session.specs.Laws.{RefusedChangesNothing, ShowsChangeNothing, Ascends, RefusalsAreInOrder, StepsAreLeast, BreakpointsStop, GoingBackGivesBack, NothingRefusedNothingMissing}
+use Rattle.bpf_session.specs.Laws.{RefusedChangesNothing, ShowsChangeNothing, Ascends, RefusalsAreInOrder, StepsAreLeast, BreakpointsStop, WatchesStop, CallsRunAsOne, TakesBackItsMoves, ReplayIsTheSame, UndoGoesToTheMark, GoingBackGivesBack, NothingRefusedNothingMissing}
 use Rattle.bpf_session.specs.declared.command.Command.{Command}
 use Rattle.bpf_session.specs.declared.command.Command.TheVariants as command
 use Rattle.bpf_session.specs.declared.reply.Reply.{Reply}
-use Rattle.bpf_session.specs.declared.reply.Reply.TheVariants.{Forward}
+use Rattle.bpf_session.specs.declared.reply.Reply.TheVariants.{Forward, Back}
 use Rattle.bpf_session.specs.declared.reply.Why.{Why}
 use Rattle.bpf_session.specs.declared.reply.Why.TheVariants.{End, Break, Watch, Done, Limit, Memory}
 use Rattle.bpf_session.specs.declared.refusal.Refusal.{Refusal}
-use Rattle.bpf_session.specs.declared.refusal.Refusal.TheVariants.{MachineEnded, NoKeptStep, FewerCommands, AddressNotPresent, RegisterNotWritable, NoStart, TableFull, ThereOrNot, NoCell, OutOfMemory}
+use Rattle.bpf_session.specs.declared.refusal.Refusal.TheVariants.{MachineEnded, NoKeptStep, FewerCommands, AddressNotPresent, RegisterNotWritable, NoStart, OutermostFrame, TableFull, ThereOrNot, NoCell, OutOfMemory}
 
 -- ---- a refused command
 
@@ -50,14 +52,21 @@ to_stop-refused (Some k) p r e = absurd cc
 accepted-refused : (gap : Option ℕ) (b : Bounds) (c : Command) (p : Point) (r : Refusal) → (accepted gap b c p).answer ≡ Err r → (accepted gap b c p).point ≡ p
 unfolding accepted
 accepted-refused gap b (command.Step count) p r e = cut-refused gap b.room _ _ p r e
+accepted-refused gap b command.Next p r e = cut-refused gap b.room _ _ p r e
 accepted-refused gap b command.Continue p r e = cut-refused gap b.room _ _ p r e
+accepted-refused gap b command.Finish p r e = cut-refused gap b.room _ _ p r e
 accepted-refused gap b (command.Undo count) p r e = absurd cc
 accepted-refused gap b (command.ReverseStep count) p r e = absurd cc
+accepted-refused gap b command.ReverseNext p r e = absurd cc
+accepted-refused gap b command.ReverseFinish p r e = absurd cc
 accepted-refused gap b command.ReverseContinue p r e = to_stop-refused (latest (stops_back p) 1 p.history p.state) p r e
 accepted-refused None b (command.Edit change) p r e = absurd cc
 accepted-refused (Some m) b (command.Edit change) p r e = refl
 accepted-refused gap b (command.Break slot) p r e = absurd cc
 accepted-refused gap b (command.Delete slot) p r e = absurd cc
+accepted-refused gap b (command.Watch address) p r e = absurd cc
+accepted-refused gap b (command.Unwatch address) p r e = absurd cc
+accepted-refused gap b (command.LastWrite address) p r e = refl
 accepted-refused gap b command.InfoRegisters p r e = refl
 accepted-refused gap b command.InfoFrames p r e = refl
 accepted-refused gap b command.InfoBreaks p r e = refl
@@ -83,13 +92,20 @@ unless-same (q ∷ rs) p o same = refl
 pub shows-change-nothing : ShowsChangeNothing
 unfolding accepted
 shows-change-nothing gap b (command.Step count) p show = absurd cc
+shows-change-nothing gap b command.Next p show = absurd cc
 shows-change-nothing gap b command.Continue p show = absurd cc
+shows-change-nothing gap b command.Finish p show = absurd cc
 shows-change-nothing gap b (command.Undo count) p show = absurd cc
 shows-change-nothing gap b (command.ReverseStep count) p show = absurd cc
+shows-change-nothing gap b command.ReverseNext p show = absurd cc
 shows-change-nothing gap b command.ReverseContinue p show = absurd cc
+shows-change-nothing gap b command.ReverseFinish p show = absurd cc
 shows-change-nothing gap b (command.Edit change) p show = absurd cc
 shows-change-nothing gap b (command.Break slot) p show = absurd cc
 shows-change-nothing gap b (command.Delete slot) p show = absurd cc
+shows-change-nothing gap b (command.Watch address) p show = absurd cc
+shows-change-nothing gap b (command.Unwatch address) p show = absurd cc
+shows-change-nothing gap b (command.LastWrite address) p show = unless-same (refusals_of (command.LastWrite address) p) p _ refl
 shows-change-nothing gap b command.InfoRegisters p show = refl
 shows-change-nothing gap b command.InfoFrames p show = refl
 shows-change-nothing gap b command.InfoBreaks p show = refl
@@ -105,30 +121,43 @@ one-alone : (test : Bool) (r : Refusal) → Ascends (map number_of (when test r)
 one-alone true r = tt
 one-alone false r = tt
 
-break-order : (a b c : Bool) → Ascends (map number_of (when a NoStart ++ when b TableFull ++ when c ThereOrNot))
-break-order true true true = (omega arith, (omega arith, tt))
-break-order true true false = (omega arith, tt)
-break-order true false true = (omega arith, tt)
-break-order true false false = tt
-break-order false true true = (omega arith, tt)
-break-order false true false = tt
-break-order false false true = tt
-break-order false false false = tt
+two-order : (a b : Bool) (r q : Refusal) → number_of r < number_of q → Ascends (map number_of (when a r ++ when b q))
+two-order true true r q less = (less, tt)
+two-order true false r q less = tt
+two-order false true r q less = tt
+two-order false false r q less = tt
+
+three-order : (a b c : Bool) (r q s : Refusal) → number_of r < number_of q → number_of q < number_of s → Ascends (map number_of (when a r ++ when b q ++ when c s))
+three-order true true true r q s less more = (less, (more, tt))
+three-order true true false r q s less more = (less, tt)
+three-order true false true r q s less more = (omega (arith, less, more), tt)
+three-order true false false r q s less more = tt
+three-order false true true r q s less more = (more, tt)
+three-order false true false r q s less more = tt
+three-order false false true r q s less more = tt
+three-order false false false r q s less more = tt
 
 pub refusals-are-in-order : RefusalsAreInOrder
 refusals-are-in-order (command.Step count) p = one-alone (has_ended p.state.status) MachineEnded
+refusals-are-in-order command.Next p = one-alone (has_ended p.state.status) MachineEnded
 refusals-are-in-order command.Continue p = one-alone (has_ended p.state.status) MachineEnded
+refusals-are-in-order command.Finish p = two-order (has_ended p.state.status) (depth p.state == 0) MachineEnded OutermostFrame (omega arith)
 refusals-are-in-order (command.Undo count) p = one-alone (nat_lt (marks p) count) FewerCommands
 refusals-are-in-order (command.ReverseStep count) p = one-alone (kept_steps p == 0) NoKeptStep
+refusals-are-in-order command.ReverseNext p = one-alone (kept_steps p == 0) NoKeptStep
 refusals-are-in-order command.ReverseContinue p = one-alone (kept_steps p == 0) NoKeptStep
+refusals-are-in-order command.ReverseFinish p = two-order (kept_steps p == 0) (depth p.state == 0) NoKeptStep OutermostFrame (omega arith)
 refusals-are-in-order (command.Edit (edit.Bytes a bytes)) p = one-alone (not (present p a (length bytes))) AddressNotPresent
 refusals-are-in-order (command.Edit (edit.Register r value)) p = one-alone (r == 10) RegisterNotWritable
 refusals-are-in-order (command.Edit (edit.Cell map index bytes)) p = one-alone (not (has_cell (slice_get p.state.program.maps map) index (length bytes))) NoCell
 refusals-are-in-order (command.Edit (edit.Pc slot)) p = one-alone (not (starts p slot)) NoStart
-refusals-are-in-order (command.Break slot) p = break-order (not (starts p slot)) (nat_le most_breaks (length p.breaks)) (has p.breaks slot)
+refusals-are-in-order (command.Break slot) p = three-order (not (starts p slot)) (nat_le most_breaks (length p.breaks)) (has p.breaks slot) NoStart TableFull ThereOrNot (omega arith) (omega arith)
 refusals-are-in-order (command.Delete slot) p = one-alone (not (has p.breaks slot)) ThereOrNot
 refusals-are-in-order (command.Examine address span) p = one-alone (not (present p address span)) AddressNotPresent
 refusals-are-in-order (command.Disassemble slot span) p = one-alone (not (starts p slot)) NoStart
+refusals-are-in-order (command.Watch address) p = three-order (not (present p address 1)) (nat_le most_watches (length p.watches)) (has p.watches address) AddressNotPresent TableFull ThereOrNot (omega arith) (omega arith)
+refusals-are-in-order (command.Unwatch address) p = one-alone (not (has p.watches address)) ThereOrNot
+refusals-are-in-order (command.LastWrite address) p = one-alone (not (present p address 1)) AddressNotPresent
 refusals-are-in-order command.InfoRegisters p = tt
 refusals-are-in-order command.InfoFrames p = tt
 refusals-are-in-order command.InfoBreaks p = tt
@@ -237,6 +266,10 @@ to_stop-back : (found : Option ℕ) (p : Point) (k : ℕ) (why : Why) → (to_st
 to_stop-back None p k why e = cc
 to_stop-back (Some n) p k why e = cc
 
+told-back : (found : Option ByteChange) (p : Point) (k : ℕ) (why : Why) → (replied (told_of found) p).answer ≡ Ok (Forward k why) → ⊥
+told-back None p k why e = cc
+told-back (Some change) p k why e = cc
+
 way : (limit : ℕ) (done : Goal) (p : Point) (k : ℕ) → k ≤ steps limit done p → (j : ℕ) → 1 ≤ j → j < k → breaks_at p (after j p.state) ≡ false
 way limit done p k most j some less = no-break limit done p j some (least-below (λ i. is_some (stop limit done p i)) 1 limit j some (omega arith))
 
@@ -244,14 +277,21 @@ way limit done p k most j some less = no-break limit done p j some (least-below 
 accepted-forward : (gap : Option ℕ) (b : Bounds) (c : Command) (p : Point) (k : ℕ) (why : Why) → (accepted gap b c p).answer ≡ Ok (Forward k why) → (done : Goal) × (accepted gap b c p ≡ forward gap b done p)
 unfolding accepted
 accepted-forward gap b (command.Step count) p k why e = ((λ i x. i == count), refl)
+accepted-forward gap b command.Next p k why e = ((λ i x. nat_le (depth x) (depth p.state)), refl)
 accepted-forward gap b command.Continue p k why e = ((λ i x. false), refl)
+accepted-forward gap b command.Finish p k why e = ((λ i x. nat_lt (depth x) (depth p.state)), refl)
 accepted-forward gap b (command.Undo count) p k why e = absurd cc
 accepted-forward gap b (command.ReverseStep count) p k why e = absurd cc
+accepted-forward gap b command.ReverseNext p k why e = absurd cc
+accepted-forward gap b command.ReverseFinish p k why e = absurd cc
 accepted-forward gap b command.ReverseContinue p k why e = absurd (to_stop-back (latest (stops_back p) 1 p.history p.state) p k why e)
 accepted-forward None b (command.Edit change) p k why e = absurd cc
 accepted-forward (Some m) b (command.Edit change) p k why e = absurd cc
 accepted-forward gap b (command.Break slot) p k why e = absurd cc
 accepted-forward gap b (command.Delete slot) p k why e = absurd cc
+accepted-forward gap b (command.Watch address) p k why e = absurd cc
+accepted-forward gap b (command.Unwatch address) p k why e = absurd cc
+accepted-forward gap b (command.LastWrite address) p k why e = absurd (told-back (last_change address p.history p.state) p k why e)
 accepted-forward gap b command.InfoRegisters p k why e = absurd cc
 accepted-forward gap b command.InfoFrames p k why e = absurd cc
 accepted-forward gap b command.InfoBreaks p k why e = absurd cc
@@ -271,6 +311,123 @@ pub breakpoints-stop : BreakpointsStop
 breakpoints-stop gap b c p k why e =
     let w = does-forward gap b c p k why e in
     way b.limit w.0 p k (cut-steps gap b.room (steps b.limit w.0 p) k (reason b.limit w.0 p) why p (ap (λ (o : Outcome). o.answer) (sym w.1) ∙ e))
+
+-- ---- watches on the way
+
+-- where nothing stops, no watched byte has changed
+no-change : (limit : ℕ) (done : Goal) (p : Point) (j : ℕ) → is_some (stop limit done p (suc j)) ≡ false → watch_differs p (after j p.state) (after (suc j) p.state) ≡ false
+no-change limit done p j e =
+    at (has_ended (after (suc j) p.state).status) (breaks_at p (after (suc j) p.state)) (watch_differs p (after j p.state) (after (suc j) p.state)) e
+  where
+    at : (ended broken watched : Bool) → is_some (if ended then Some End else (if broken then Some Break else (if watched then Some Watch else (if done (suc j) (after (suc j) p.state) then Some Done else (if suc j == limit then Some Limit else None))))) ≡ false → watched ≡ false
+    at true broken watched e = absurd cc
+    at false true watched e = absurd cc
+    at false false true e = absurd cc
+    at false false false e = refl
+
+pub watches-stop : WatchesStop
+watches-stop gap b c p k why e j less =
+    let w = does-forward gap b c p k why e in
+    let most = cut-steps gap b.room (steps b.limit w.0 p) k (reason b.limit w.0 p) why p (ap (λ (o : Outcome). o.answer) (sym w.1) ∙ e) in
+    no-change b.limit w.0 p j (least-below (λ i. is_some (stop b.limit w.0 p i)) 1 b.limit (suc j) (omega arith) (omega (arith, less, most)))
+
+-- ---- called functions
+
+-- a command that is done has done what it was asked for
+done-reached : (limit : ℕ) (done : Goal) (p : Point) (j : ℕ) → unwrap_or (stop limit done p j) Limit ≡ Done → done j (after j p.state) ≡ true
+done-reached limit done p zero e = absurd cc
+done-reached limit done p (suc j) e =
+    at (has_ended (after (suc j) p.state).status) (breaks_at p (after (suc j) p.state)) (watch_differs p (after j p.state) (after (suc j) p.state)) (done (suc j) (after (suc j) p.state)) (suc j == limit) e
+  where
+    at : (ended broken watched satisfied here : Bool) → unwrap_or (if ended then Some End else (if broken then Some Break else (if watched then Some Watch else (if satisfied then Some Done else (if here then Some Limit else None))))) Limit ≡ Done → satisfied ≡ true
+    at true broken watched satisfied here e = absurd cc
+    at false true watched satisfied here e = absurd cc
+    at false false true satisfied here e = absurd cc
+    at false false false true here e = refl
+    at false false false false true e = absurd cc
+    at false false false false false e = absurd cc
+
+cut-done : (gap : Option ℕ) (room n k : ℕ) (because : Why) (p : Point) → (cut gap room n because p).answer ≡ Ok (Forward k Done) → (because ≡ Done) × ((cut gap room n because p).point ≡ gone room n p)
+cut-done None room n k because p e = (let s : because ≡ Done = cc in s, refl)
+cut-done (Some m) room n k because p e = test (nat_lt m n) (m == 0) e
+  where
+    test : (less first : Bool) → (if less then (if first then refused OutOfMemory p else taken room m Memory p) else taken room n because p).answer ≡ Ok (Forward k Done) → (because ≡ Done) × ((if less then (if first then refused OutOfMemory p else taken room m Memory p) else taken room n because p).point ≡ gone room n p)
+    test true true e = absurd cc
+    test true false e = absurd cc
+    test false first e = (let s : because ≡ Done = cc in s, refl)
+
+forward-done : (gap : Option ℕ) (b : Bounds) (done : Goal) (p : Point) (k : ℕ) (rs : List Refusal) → (unless_refused rs p (forward gap b done p)).answer ≡ Ok (Forward k Done) → done (steps b.limit done p) (unless_refused rs p (forward gap b done p)).point.state ≡ true
+forward-done gap b done p k (r ∷ rs) e = absurd cc
+forward-done gap b done p k [] e =
+    let c = cut-done gap b.room (steps b.limit done p) k (reason b.limit done p) p e in
+    ap (λ (q : Point). done (steps b.limit done p) q.state) c.1 ∙ done-reached b.limit done p (steps b.limit done p) c.0
+
+at-most : (m n : ℕ) → nat_le m n ≡ true → m ≤ n
+at-most m n h = grind (arith, nat_tests)
+
+below : (m n : ℕ) → nat_lt m n ≡ true → m < n
+below m n h = grind (arith, nat_tests)
+
+pub calls-run-as-one : CallsRunAsOne
+unfolding accepted
+calls-run-as-one gap b p k = (
+  λ e. at-most _ _ (forward-done gap b (λ j x. nat_le (depth x) (depth p.state)) p k (refusals_of command.Next p) e),
+  λ e. below _ _ (forward-done gap b (λ j x. nat_lt (depth x) (depth p.state)) p k (refusals_of command.Finish p) e),
+)
+
+-- ---- what a command takes back
+
+cut-forward : (gap : Option ℕ) (room n k : ℕ) (because why : Why) (p : Point) → (cut gap room n because p).answer ≡ Ok (Back k why) → ⊥
+cut-forward None room n k because why p e = cc
+cut-forward (Some m) room n k because why p e = test (nat_lt m n) (m == 0) e
+  where
+    test : (less first : Bool) → (if less then (if first then refused OutOfMemory p else taken room m Memory p) else taken room n because p).answer ≡ Ok (Back k why) → ⊥
+    test true true e = cc
+    test true false e = cc
+    test false first e = cc
+
+told-shown : (found : Option ByteChange) (p : Point) (k : ℕ) (why : Why) → (replied (told_of found) p).answer ≡ Ok (Back k why) → ⊥
+told-shown None p k why e = cc
+told-shown (Some change) p k why e = cc
+
+gone-by : (n k : ℕ) (because why : Why) (p : Point) → (gone_back n because p).answer ≡ Ok (Back k why) → (gone_back n because p).point ≡ back_by k p
+gone-by n k because why p e = let s : n ≡ k = cc in ap (λ j. back_by j p) s
+
+to_stop-by : (found : Option ℕ) (p : Point) (k : ℕ) (why : Why) → (to_stop found p).answer ≡ Ok (Back k why) → (to_stop found p).point ≡ back_by k p
+to_stop-by None p k why e = gone-by _ k _ why p e
+to_stop-by (Some n) p k why e = gone-by n k _ why p e
+
+accepted-back : (gap : Option ℕ) (b : Bounds) (c : Command) (p : Point) (k : ℕ) (why : Why) → (accepted gap b c p).answer ≡ Ok (Back k why) → (accepted gap b c p).point ≡ back_by k p
+unfolding accepted
+accepted-back gap b (command.Step count) p k why e = absurd (cut-forward gap b.room _ k _ why p e)
+accepted-back gap b command.Next p k why e = absurd (cut-forward gap b.room _ k _ why p e)
+accepted-back gap b command.Continue p k why e = absurd (cut-forward gap b.room _ k _ why p e)
+accepted-back gap b command.Finish p k why e = absurd (cut-forward gap b.room _ k _ why p e)
+accepted-back gap b (command.Undo count) p k why e = gone-by _ k _ why p e
+accepted-back gap b (command.ReverseStep count) p k why e = gone-by _ k _ why p e
+accepted-back gap b command.ReverseNext p k why e = gone-by _ k _ why p e
+accepted-back gap b command.ReverseContinue p k why e = to_stop-by (latest (stops_back p) 1 p.history p.state) p k why e
+accepted-back gap b command.ReverseFinish p k why e = gone-by _ k _ why p e
+accepted-back None b (command.Edit change) p k why e = absurd cc
+accepted-back (Some m) b (command.Edit change) p k why e = absurd cc
+accepted-back gap b (command.Break slot) p k why e = absurd cc
+accepted-back gap b (command.Delete slot) p k why e = absurd cc
+accepted-back gap b (command.Watch address) p k why e = absurd cc
+accepted-back gap b (command.Unwatch address) p k why e = absurd cc
+accepted-back gap b command.InfoRegisters p k why e = absurd cc
+accepted-back gap b command.InfoFrames p k why e = absurd cc
+accepted-back gap b command.InfoBreaks p k why e = absurd cc
+accepted-back gap b command.InfoHistory p k why e = absurd cc
+accepted-back gap b command.InfoTrace p k why e = absurd cc
+accepted-back gap b (command.Examine address span) p k why e = absurd cc
+accepted-back gap b (command.Disassemble slot span) p k why e = absurd cc
+accepted-back gap b (command.LastWrite address) p k why e = absurd (told-shown (last_change address p.history p.state) p k why e)
+accepted-back gap b command.Quit p k why e = absurd cc
+
+pub moves-are-taken-back : TakesBackItsMoves
+moves-are-taken-back gap b c p k why e =
+    let same = unless-is (refusals_of c p) p (accepted gap b c p) (Back k why) e in
+    ap (λ (o : Outcome). o.point) same ∙ accepted-back gap b c p k why (ap (λ (o : Outcome). o.answer) (sym same) ∙ e)
 
 -- ---- gaps that made no refusal
 
@@ -333,9 +490,9 @@ drop-told : (k : ℕ) (p : Point) → drop k (told k p) ≡ p.history
 drop-told zero p = refl
 drop-told (suc k) p = drop-told k p
 
-oldest-told : (k : ℕ) (p : Point) → slice_get (told (suc k) p) k ≡ Some (record_of p.state Step true)
-oldest-told zero p = refl
-oldest-told (suc k) p = oldest-told k p
+oldest-told : (k : ℕ) (p : Point) (y : State) → state_before (suc k) (told (suc k) p) y ≡ p.state
+oldest-told zero p y = refl
+oldest-told (suc k) p y = oldest-told k p (after (suc k) p.state)
 
 -- k steps from a point
 abbrev gone-told : ℕ → Point → Point
@@ -345,7 +502,7 @@ back-told : (k : ℕ) (p : Point) → 1 ≤ k → back_by k (gone-told k p) ≡ 
 back-told zero p some = absurd (omega arith)
 back-told (suc k) p some =
     ap (λ (h : List Record). record p { history = h; state = before_last (suc k) (gone-told (suc k) p) }) (drop-told k p)
-    ∙ ap (λ (o : Option Record). record p { state = option_map_or (λ r. r.before) o (after (suc k) p.state) }) (oldest-told k p)
+    ∙ ap (λ (x : State). record p { state = x }) (oldest-told k p (after (suc k) p.state))
 
 marked-told : (k : ℕ) (p : Point) (y : State) → latest marked 1 (told (suc k) p) y ≡ Some (suc k)
 marked-told zero p y = refl
@@ -414,4 +571,87 @@ going-back-gives-back gap later b c p k why e all =
     record {
       reverse = ap (λ (q : Point). (does later b (command.ReverseStep k) q).point) here ∙ reverse-told b later k p g.1;
       undo = ap (λ (q : Point). (does later b (command.Undo 1) q).point) here ∙ undo-told b later k p g.1;
+    }
+
+pub replay-is-the-same : ReplayIsTheSame
+replay-is-the-same gap later b c p k why e all =
+    ap (does gap b c) (going-back-gives-back gap later b c p k why e all).reverse
+
+-- ---- undoing
+
+-- the n-th latest marked record
+record NthMark (n : ℕ) (h : List Record) (y : State) : Type 0 where
+  newer : ℕ
+  found : Record
+  far : latest marked n h y ≡ Some (suc newer)
+  there : slice_get h newer ≡ Some found
+  here : state_before (suc newer) h y ≡ found.before
+  is : found.mark ≡ true
+  last : count_by (λ r. r.mark) (take newer h) + 1 ≡ n
+
+none-marked : count_by (λ (r : Record). r.mark) [] ≡ 0
+none-marked = refl
+
+nth-mark : (n : ℕ) (h : List Record) (y : State) → 1 ≤ n → n ≤ count_by (λ r. r.mark) h → NthMark n h y
+nth-mark n [] y some enough = absurd (omega (arith, none-marked))
+nth-mark n (r ∷ h) y some enough = at r.mark refl (n == 1) refl (λ m one more. nth-mark m h r.before one more)
+  where
+    at : (hit : Bool) → r.mark ≡ hit → (one : Bool) → (n == 1) ≡ one → ((m : ℕ) → 1 ≤ m → m ≤ count_by (λ r. r.mark) h → NthMark m h r.before) → NthMark n (r ∷ h) y
+    at true e true o rest =
+        let first : n ≡ 1 = grind (arith, nat_tests) in
+        record {
+          newer = 0;
+          found = r;
+          far = ap (λ (b : Bool). if b then (if n == 1 then Some 1 else option_map suc (latest marked (n - 1) h r.before)) else option_map suc (latest marked n h r.before)) e ∙ ap (λ (b : Bool). if b then Some 1 else option_map suc (latest marked (n - 1) h r.before)) o;
+          there = refl;
+          here = refl;
+          is = e;
+          last = omega (arith, first, none-marked);
+        }
+    at true e false o rest =
+        let several : n ≡ 1 → ⊥ = λ same. grind (arith, nat_tests) in
+        let all = count-more (λ x. x.mark) r h in
+        let here : cond {A = ℕ} r.mark 1 0 ≡ 1 = ap (λ (b : Bool). cond {A = ℕ} b 1 0) e in
+        let m = rest (n - 1) (omega arith) (omega (arith, all, here)) in
+        let front = count-more (λ x. x.mark) r (take m.newer h) in
+        record {
+          newer = suc m.newer;
+          found = m.found;
+          far = ap (λ (b : Bool). if b then (if n == 1 then Some 1 else option_map suc (latest marked (n - 1) h r.before)) else option_map suc (latest marked n h r.before)) e ∙ ap (λ (b : Bool). if b then Some 1 else option_map suc (latest marked (n - 1) h r.before)) o ∙ ap (option_map suc) m.far;
+          there = m.there;
+          here = m.here;
+          is = m.is;
+          last = let last = m.last in omega (arith, front, here, last);
+        }
+    at false e o s rest =
+        let all = count-more (λ x. x.mark) r h in
+        let here : cond {A = ℕ} r.mark 1 0 ≡ 0 = ap (λ (b : Bool). cond {A = ℕ} b 1 0) e in
+        let m = rest n some (omega (arith, all, here)) in
+        let front = count-more (λ x. x.mark) r (take m.newer h) in
+        record {
+          newer = suc m.newer;
+          found = m.found;
+          far = ap (λ (b : Bool). if b then (if n == 1 then Some 1 else option_map suc (latest marked (n - 1) h r.before)) else option_map suc (latest marked n h r.before)) e ∙ ap (option_map suc) m.far;
+          there = m.there;
+          here = m.here;
+          is = m.is;
+          last = let last = m.last in omega (arith, front, here, last);
+        }
+
+pub undo-goes-to-the-mark : UndoGoesToTheMark
+unfolding accepted
+undo-goes-to-the-mark gap b n p some enough =
+    let m = nth-mark n p.history p.state some enough in
+    let e : nat_lt (marks p) n ≡ false = grind (arith, nat_tests) in
+    let one : suc m.newer ≡ m.newer + 1 = omega arith in
+    record {
+      newer = m.newer;
+      found = m.found;
+      there = m.there;
+      marked = m.is;
+      last = m.last;
+      back =
+          rw e (ap (λ (o : Option ℕ). back_by (unwrap_or o (length p.history)) p) m.far
+          ∙ ap (λ (x : State). record p { history = drop (suc m.newer) p.history; state = x }) m.here
+          ∙ ap (λ (j : ℕ). record p { history = drop j p.history; state = m.found.before }) one);
     }

@@ -1,20 +1,25 @@
 -- A forward command's loop: what holds after k steps, and what each exit comes to.
-use Rattle.std.proofs.Common.{◌≡◌, ◌≢◌, ◌+◌, ◌-◌, ◌<◌, ◌≤◌, ◌==◌, ℕ, zero, suc, Bool, true, false, List, [], ◌∷◌, Option, Some, None, Ok, Err, is_some, unwrap_or, refl, sym, ap, subst, ◌∙◌, arith, add-one}
+use Rattle.std.proofs.Common.{◌≡◌, ◌≢◌, ◌+◌, ◌-◌, ◌<◌, ◌≤◌, ◌==◌, ℕ, zero, suc, Bool, true, false, List, [], Option, Some, None, Ok, Err, is_some, refl, sym, ap, subst, ◌∙◌, arith, add-one}
 use Rattle.std.proofs.lemmas.Bool.Decides.{nat_tests}
 use Rattle.std.specs.Prelude.{if◌then◌else◌, nat_lt}
 use Rattle.bpf_machine.specs.State.{State}
 use Rattle.bpf_machine.specs.Next.{next}
+use Rattle.bpf_machine.specs.ByAddress.{byte}
+use Rattle.bpf_machine.specs.Entries.{step_entry}
 use Rattle.bpf_machine.specs.Moves.{Leads}
 use Rattle.bpf_machine.specs.Status.{has_ended}
 use Rattle.bpf_machine.specs.declared.moves.Move.TheVariants.{Step}
 use Rattle.bpf_journal.specs.Counts.{once_more}
-use Rattle.bpf_journal.specs.Histories.{Record, Kept, StandsFor, record_weight, keep}
-use Rattle.bpf_journal.specs.Timelines.{Moment, Makes, Stays, record_of}
+use Rattle.bpf_journal.specs.Histories.{Record, Kept, record_weight, keep}
+use Rattle.bpf_journal.specs.Replaced.{replaces_bytes}
+use Rattle.bpf_journal.proofs.Telling.{kept_bytes}
+use Rattle.bpf_journal.specs.Timelines.{Makes, Stays, record_of}
 use Rattle.bpf_session.specs.Points.{Point}
 use Rattle.bpf_session.specs.Outcomes.{Outcome, refused, unless_refused}
 use Rattle.bpf_session.specs.Refused.{when}
-use Rattle.bpf_session.specs.Stops.{breaks_at, watch_differs}
-use Rattle.bpf_session.specs.Forward.{Goal, after, kept, gone, stop, stop_in, least, steps, reason, taken, cut, forward}
+use Rattle.bpf_session.specs.Stops.{breaks_at, some_differs, watch_differs}
+use Rattle.bpf_session.specs.Forward.{Goal, after, kept, gone, stop, stop_in, least, steps, taken, forward}
+use Rattle.bpf_session.specs.Watched.{Compares, bytes_at}
 use Rattle.bpf_session.specs.Sessions.{SessionValue, HasPast, StandsAt, Obeys, point_of, bounds_of}
 use Rattle.bpf_session.proofs.Answering.{obeys_as}
 use Rattle.bpf_session.specs.declared.reply.Why.{Why}
@@ -38,18 +43,18 @@ least_here test k zero h e = absurd (omega arith)
 least_here test k (suc n) h e = rw e refl
 
 -- where nothing stops, the machine runs and the limit isn't reached
-none_stops : (ended broken changed done limit : Bool) → (if ended then Some End else if broken then Some Break else if changed then Some Watch else if done then Some Done else if limit then Some Limit else None) ≡ None → (ended ≡ false) × (limit ≡ false)
+none_stops : (ended broken changed done limit : Bool) → (if ended then Some End else if broken then Some Break else if changed then Some Watch else if done then Some Done else if limit then Some Limit else None) ≡ None → (ended ≡ false) × (changed ≡ false) × (limit ≡ false)
 none_stops true broken changed done limit h = cc
 none_stops false true changed done limit h = cc
 none_stops false false true done limit h = cc
 none_stops false false false true limit h = cc
 none_stops false false false false true h = cc
-none_stops false false false false false h = (refl, refl)
+none_stops false false false false false h = (refl, refl, refl)
 
-goes_on : (limit : ℕ) (done : Goal) (p : Point) (j : ℕ) (x y : State) → stop_in limit done p j x y ≡ None → (has_ended y.status ≡ false) × (j ≢ limit)
+goes_on : (limit : ℕ) (done : Goal) (p : Point) (j : ℕ) (x y : State) → stop_in limit done p j x y ≡ None → (has_ended y.status ≡ false) × (watch_differs p x y ≡ false) × (j ≢ limit)
 goes_on limit done p j x y h =
     let n = none_stops (has_ended y.status) (breaks_at p y) (watch_differs p x y) (done j y) (j == limit) h in
-    (n.0, λ e. let t : (j == limit) ≡ false = n.1 in grind (arith, nat_tests))
+    (n.0, n.1, λ e. let t : (j == limit) ≡ false = n.2 in grind (arith, nat_tests))
 
 -- a command that a refused step cut short: what it answers, and what it leaves
 abbrev cut_of : Bool → ℕ → ℕ → Point → Outcome
@@ -72,22 +77,26 @@ lt_true j k h = grind (arith, nat_tests)
 -- a session of which only the moment has changed
 pub record OnlyMoment {K : Type 0} (old now : SessionValue K) : Type 0 where
   pub breaks : now.breaks ≡ old.breaks
+  pub watches : now.watches ≡ old.watches
   pub limit : now.limit ≡ old.limit
 
 module _ {K : Type 0} (holds : K → List Kept → Type 0) where
   -- where it stands after so many steps
   pub stands_gone : (room k : ℕ) (old now : SessionValue K) (h : List Record) → OnlyMoment old now → now.moment.state ≡ after k old.moment.state → HasPast holds now (kept room k (point_of old h)) → StandsAt holds now (gone room k (point_of old h))
   stands_gone room k old now h only state past = (
-    ap (λ (x : State). record { history = kept room k (point_of old h); state = x; breaks = now.breaks; watches = [] }) state
-        ∙ ap (λ (bs : List ℕ). record { history = kept room k (point_of old h); state = after k old.moment.state; breaks = bs; watches = [] }) only.breaks,
+    ap (λ (x : State). record { history = kept room k (point_of old h); state = x; breaks = now.breaks; watches = now.watches }) state
+        ∙ ap (λ (bs : List ℕ). record { history = kept room k (point_of old h); state = after k old.moment.state; breaks = bs; watches = now.watches }) only.breaks
+        ∙ ap (λ (ws : List ℕ). record { history = kept room k (point_of old h); state = after k old.moment.state; breaks = old.breaks; watches = ws }) only.watches,
     past,
   )
 
--- no number of steps up to k stops, and the machine, the history and the refusals are those after k steps
-pub record Going {K : Type 0} (holds : K → List Kept → Type 0) (refusals room : K → ℕ) (old now : SessionValue K) (done : Goal) (k : ℕ) : Type 0 where
+-- no number of steps up to k stops, and the machine, the history and the refusals are those after k steps; the watched bytes are still
+-- those that were seen
+pub record Going {K : Type 0} (holds : K → List Kept → Type 0) (refusals room : K → ℕ) (old now : SessionValue K) (done : Goal) (seen : List ℕ) (k : ℕ) : Type 0 where
   pub fresh : has_ended old.moment.state.status ≡ false
   pub running : has_ended now.moment.state.status ≡ false
   pub only : OnlyMoment old now
+  pub saw : seen ≡ bytes_at now.watches now.moment.state
   pub state : now.moment.state ≡ after k old.moment.state
   pub past : (h : List Record) → HasPast holds old h → HasPast holds now (kept (room old.moment.keeper) k (point_of old h))
   pub same : refusals now.moment.keeper ≡ refusals old.moment.keeper
@@ -95,37 +104,51 @@ pub record Going {K : Type 0} (holds : K → List Kept → Type 0) (refusals roo
   pub below : k < old.limit
   pub none : (h : List Record) → steps old.limit done (point_of old h) ≡ least (λ j. is_some (stop old.limit done (point_of old h) j)) (k + 1) (old.limit - k)
 
-module _ {K : Type 0} (holds : K → List Kept → Type 0) (refusals room : K → ℕ) (old now new : SessionValue K) (done : Goal) (k : ℕ) where
+module _ {K : Type 0} (holds : K → List Kept → Type 0) (refusals room : K → ℕ) (old now new : SessionValue K) (done : Goal) (seen : List ℕ) (k : ℕ) where
   -- the state and the history after one more step
-  state_more : Going holds refusals room old now done k → Leads now.moment.state Step new.moment.state → new.moment.state ≡ after (k + 1) old.moment.state
+  state_more : Going holds refusals room old now done seen k → Leads now.moment.state Step new.moment.state → new.moment.state ≡ after (k + 1) old.moment.state
   state_more i leads = rw add-one (leads.after ∙ ap next i.state)
 
-  past_more : Going holds refusals room old now done k → Makes holds (room now.moment.keeper) Step (k == 0) now.moment new.moment → (h : List Record) → HasPast holds old h → HasPast holds new (kept (room old.moment.keeper) (k + 1) (point_of old h))
+  past_more : Going holds refusals room old now done seen k → Makes holds (room now.moment.keeper) Step (k == 0) now.moment new.moment → (h : List Record) → HasPast holds old h → HasPast holds new (kept (room old.moment.keeper) (k + 1) (point_of old h))
   past_more i m h st =
       let t = m.kept _ (i.past h st) in
       rw add-one (subst (λ (x : State). HasPast holds new (keep record_weight (room old.moment.keeper) (kept (room old.moment.keeper) k (point_of old h)) (record_of x Step (k == 0)))) i.state (subst (λ (r : ℕ). HasPast holds new (keep record_weight r (kept (room old.moment.keeper) k (point_of old h)) (record_of now.moment.state Step (k == 0)))) i.room_same t))
 
-  only_more : Going holds refusals room old now done k → OnlyMoment now new → OnlyMoment old new
-  only_more i only = record { breaks = only.breaks ∙ i.only.breaks; limit = only.limit ∙ i.only.limit }
+  only_more : Going holds refusals room old now done seen k → OnlyMoment now new → OnlyMoment old new
+  only_more i only = record { breaks = only.breaks ∙ i.only.breaks; watches = only.watches ∙ i.only.watches; limit = only.limit ∙ i.only.limit }
+
+  -- the watched bytes after one more step, beside what was seen before, and what a look at it says
+  abbrev pub CompareSeen : Bool → Bool → Type 0
+  CompareSeen replaced differs = (x : State) → seen ≡ bytes_at new.watches x → (replaced ≡ false → (a : ℕ) → byte x a ≡ byte new.moment.state a) → Compares new.watches seen x new.moment.state differs
+
+  abbrev pub Stopping : Bool → Option Why → Type 0
+  Stopping differs why = (x : State) (h : List Record) → differs ≡ some_differs new.watches x new.moment.state → why ≡ stop_in new.limit done (point_of new h) (k + 1) x new.moment.state
+
+  compared_now : Going holds refusals room old now done seen k → Leads now.moment.state Step new.moment.state → OnlyMoment now new → (replaced differs : Bool) → replaced ≡ replaces_bytes (step_entry now.moment.state) → CompareSeen replaced differs → Compares new.watches seen now.moment.state new.moment.state differs
+  compared_now i leads only replaced differs told compare =
+      compare now.moment.state (i.saw ∙ ap (λ (ws : List ℕ). bytes_at ws now.moment.state) (sym only.watches))
+      (λ off a. kept_bytes now.moment.state new.moment.state Step leads (sym told ∙ off) a)
 
   -- why it stops or not after one more step, from where the command began
-  stop_more : Going holds refusals room old now done k → OnlyMoment now new → new.moment.state ≡ after (k + 1) old.moment.state → (why : Option Why) → ((x : State) (h : List Record) → why ≡ stop_in new.limit done (point_of new h) (k + 1) x new.moment.state) → (h : List Record) → stop old.limit done (point_of old h) (k + 1) ≡ why
+  stop_more : Going holds refusals room old now done seen k → OnlyMoment now new → new.moment.state ≡ after (k + 1) old.moment.state → (why : Option Why) → ((h : List Record) → why ≡ stop_in new.limit done (point_of new h) (k + 1) now.moment.state new.moment.state) → (h : List Record) → stop old.limit done (point_of old h) (k + 1) ≡ why
   stop_more i only e why found h =
       let all = only_more i only in
-      let f = found (after k old.moment.state) h in
-      let from : stop_in old.limit done (point_of old h) (k + 1) (after k old.moment.state) (after (k + 1) old.moment.state) ≡ why = sym (f ∙ at_old new.limit new.breaks new.moment.state all.limit all.breaks e) in
+      let f = found h in
+      let from : stop_in old.limit done (point_of old h) (k + 1) (after k old.moment.state) (after (k + 1) old.moment.state) ≡ why = sym (f ∙ at_old new.limit new.breaks new.watches now.moment.state new.moment.state all.limit all.breaks all.watches i.state e) in
       rw add-one (rw add-one at from)
     where
-      at_old : (limit : ℕ) (breaks : List ℕ) (y : State) → limit ≡ old.limit → breaks ≡ old.breaks → y ≡ after (k + 1) old.moment.state → stop_in limit done (record { history = h; state = y; breaks = breaks; watches = [] }) (k + 1) (after k old.moment.state) y ≡ stop_in old.limit done (point_of old h) (k + 1) (after k old.moment.state) (after (k + 1) old.moment.state)
-      at_old limit breaks y l b s = rw (l, b, s) refl
+      at_old : (limit : ℕ) (breaks watches : List ℕ) (x y : State) → limit ≡ old.limit → breaks ≡ old.breaks → watches ≡ old.watches → x ≡ after k old.moment.state → y ≡ after (k + 1) old.moment.state → stop_in limit done (record { history = h; state = y; breaks = breaks; watches = watches }) (k + 1) x y ≡ stop_in old.limit done (point_of old h) (k + 1) (after k old.moment.state) (after (k + 1) old.moment.state)
+      at_old limit breaks watches x y l b w q s = rw (l, b, w, q, s) refl
 
   -- one more step that stops nothing
-  pub going_step : Going holds refusals room old now done k → Makes holds (room now.moment.keeper) Step (k == 0) now.moment new.moment → OnlyMoment now new → refusals new.moment.keeper ≡ refusals now.moment.keeper → room new.moment.keeper ≡ room now.moment.keeper → ((x : State) (h : List Record) → None ≡ stop_in new.limit done (point_of new h) (k + 1) x new.moment.state) → Going holds refusals room old new done (k + 1)
-  going_step i m only same room_same quiet =
+  pub going_step : Going holds refusals room old now done seen k → Makes holds (room now.moment.keeper) Step (k == 0) now.moment new.moment → OnlyMoment now new → refusals new.moment.keeper ≡ refusals now.moment.keeper → room new.moment.keeper ≡ room now.moment.keeper → (replaced differs : Bool) → replaced ≡ replaces_bytes (step_entry now.moment.state) → CompareSeen replaced differs → Stopping differs None → Going holds refusals room old new done seen (k + 1)
+  going_step i m only same room_same replaced differs told compare stops =
+      let compared = compared_now i m.leads only replaced differs told compare in
+      let quiet = λ (h : List Record). stops now.moment.state h compared.since in
       let e = state_more i m.leads in
       let all = only_more i only in
-      let o = goes_on new.limit done (point_of new []) (k + 1) now.moment.state new.moment.state (sym (quiet now.moment.state [])) in
-      let differ = o.1 in
+      let o = goes_on new.limit done (point_of new []) (k + 1) now.moment.state new.moment.state (sym (quiet [])) in
+      let differ = o.2 in
       let here = i.below in
       let limit = all.limit in
       let lt : k + 1 < old.limit = omega (arith, limit) in
@@ -133,6 +156,7 @@ module _ {K : Type 0} (holds : K → List Kept → Type 0) (refusals room : K �
         fresh = i.fresh;
         running = o.0;
         only = all;
+        saw = compared.same (compared.since ∙ o.1);
         state = e;
         past = past_more i m;
         same = same ∙ i.same;
@@ -144,8 +168,10 @@ module _ {K : Type 0} (holds : K → List Kept → Type 0) (refusals room : K �
       }
 
   -- a step that stops the command
-  pub going_stop : Going holds refusals room old now done k → Makes holds (room now.moment.keeper) Step (k == 0) now.moment new.moment → OnlyMoment now new → refusals new.moment.keeper ≡ refusals now.moment.keeper → (why : Why) → ((x : State) (h : List Record) → Some why ≡ stop_in new.limit done (point_of new h) (k + 1) x new.moment.state) → (h : List Record) → HasPast holds old h → Obeys holds refusals old new (λ gap. unless_refused (when (has_ended old.moment.state.status) MachineEnded) (point_of old h) (forward gap (bounds_of room old) done (point_of old h))) (Ok (replies.Forward (k + 1) why))
-  going_stop i m only same why found h st =
+  pub going_stop : Going holds refusals room old now done seen k → Makes holds (room now.moment.keeper) Step (k == 0) now.moment new.moment → OnlyMoment now new → refusals new.moment.keeper ≡ refusals now.moment.keeper → (replaced differs : Bool) → replaced ≡ replaces_bytes (step_entry now.moment.state) → CompareSeen replaced differs → (why : Why) → Stopping differs (Some why) → (h : List Record) → HasPast holds old h → Obeys holds refusals old new (λ gap. unless_refused (when (has_ended old.moment.state.status) MachineEnded) (point_of old h) (forward gap (bounds_of room old) done (point_of old h))) (Ok (replies.Forward (k + 1) why))
+  going_stop i m only same replaced differs told compare why stops h st =
+      let compared = compared_now i m.leads only replaced differs told compare in
+      let found = λ (g : List Record). stops now.moment.state g compared.since in
       let fresh = i.fresh in
       let here = i.below in
       let e = state_more i m.leads in
@@ -155,7 +181,7 @@ module _ {K : Type 0} (holds : K → List Kept → Type 0) (refusals room : K �
       obeys_as holds refusals old new _ _ None _ is refl (stands_gone holds (room old.moment.keeper) (k + 1) old new h (only_more i only) e (past_more i m h st)) (same ∙ i.same)
 
   -- a step that the keeper refused
-  pub going_cut : Going holds refusals room old now done k → Stays holds now.moment new.moment → OnlyMoment now new → refusals new.moment.keeper ≡ once_more (refusals now.moment.keeper) → (h : List Record) → HasPast holds old h → Obeys holds refusals old new (λ gap. unless_refused (when (has_ended old.moment.state.status) MachineEnded) (point_of old h) (forward gap (bounds_of room old) done (point_of old h))) (if k == 0 then Err OutOfMemory else Ok (replies.Forward k Memory))
+  pub going_cut : Going holds refusals room old now done seen k → Stays holds now.moment new.moment → OnlyMoment now new → refusals new.moment.keeper ≡ once_more (refusals now.moment.keeper) → (h : List Record) → HasPast holds old h → Obeys holds refusals old new (λ gap. unless_refused (when (has_ended old.moment.state.status) MachineEnded) (point_of old h) (forward gap (bounds_of room old) done (point_of old h))) (if k == 0 then Err OutOfMemory else Ok (replies.Forward k Memory))
   going_cut i s only more h st =
       let fresh = i.fresh in
       let far : k < steps old.limit done (point_of old h) = rw (i.none h) (omega (arith, least_from (λ j. is_some (stop old.limit done (point_of old h) j)) (k + 1) (old.limit - k))) in

@@ -13,3 +13,4 @@ pub mod Readings
 pub mod Running
 pub mod Tables
 pub mod Telling
+pub mod Watching

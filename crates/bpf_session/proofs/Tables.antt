@@ -1,7 +1,7 @@
 -- Edits are refused or made as their table says.
 use Rattle.std.proofs.Common.{◌≡◌, ◌<◌, ◌==◌, ℕ, Bool, true, false, not, List, [], ◌∷◌, Option, Some, None, Ok, Err, subst, IsSome, IsNone, is_some, length, refl, sym, ap, ◌∙◌, arith}
 use Rattle.std.proofs.lemmas.Bool.Decides.{nat_tests}
-use Rattle.bpf_isa.specs.Programs.{insn_at, IsStart}
+use Rattle.bpf_isa.specs.Programs.{insn_at}
 use Rattle.bpf_machine.specs.declared.edit.Edit.{Edit}
 use Rattle.bpf_machine.specs.declared.edit.Edit.TheVariants as edit_of
 use Rattle.bpf_machine.specs.declared.edit.EditFault.{EditFault}
@@ -10,7 +10,7 @@ use Rattle.bpf_machine.specs.Edits.{IsEditable, RefusesEdit, HasCell}
 use Rattle.bpf_isa.specs.declared.maps.MapShape.{MapShape}
 use Rattle.bpf_machine.specs.Regions.{index_of}
 use Rattle.bpf_session.specs.Points.{Point}
-use Rattle.bpf_session.specs.Refused.{when, present, starts, edit_refusals, refusals_of, has_cell}
+use Rattle.bpf_session.specs.Refused.{when, edit_refusals, refusals_of, has_cell}
 use Rattle.bpf_session.specs.Stops.{has}
 use Rattle.bpf_session.specs.declared.command.Command.TheVariants.{Delete}
 use Rattle.bpf_session.specs.declared.reply.Reply.TheVariants.{Ok as ok}
@@ -90,16 +90,18 @@ module _ {K : Type 0} (holds : K → List Kept → Type 0) (refusals room : K �
   -- where it stands after an edit
   stands_made : OnlyMoment old new → Makes holds (room old.moment.keeper) (move.Edit e) true old.moment new.moment → (h : List Record) → HasPast holds old h → StandsAt holds new (made (room old.moment.keeper) e (point_of old h))
   stands_made only m h past = (
-    ap (λ (x : State). record { history = (made (room old.moment.keeper) e (point_of old h)).history; state = x; breaks = new.breaks; watches = [] }) m.leads.after
-        ∙ ap (λ (bs : List ℕ). record { history = (made (room old.moment.keeper) e (point_of old h)).history; state = edited old.moment.state e; breaks = bs; watches = [] }) only.breaks,
+    ap (λ (x : State). record { history = (made (room old.moment.keeper) e (point_of old h)).history; state = x; breaks = new.breaks; watches = new.watches }) m.leads.after
+        ∙ ap (λ (bs : List ℕ). record { history = (made (room old.moment.keeper) e (point_of old h)).history; state = edited old.moment.state e; breaks = bs; watches = new.watches }) only.breaks
+        ∙ ap (λ (ws : List ℕ). record { history = (made (room old.moment.keeper) e (point_of old h)).history; state = edited old.moment.state e; breaks = old.breaks; watches = ws }) only.watches,
     m.kept h past,
   )
 
   -- where it stands after a refused one
   stands_same : OnlyMoment old new → Stays holds old.moment new.moment → (h : List Record) → HasPast holds old h → StandsAt holds new (point_of old h)
   stands_same only s h past = (
-    ap (λ (x : State). record { history = h; state = x; breaks = new.breaks; watches = [] }) s.state
-        ∙ ap (λ (bs : List ℕ). record { history = h; state = old.moment.state; breaks = bs; watches = [] }) only.breaks,
+    ap (λ (x : State). record { history = h; state = x; breaks = new.breaks; watches = new.watches }) s.state
+        ∙ ap (λ (bs : List ℕ). record { history = h; state = old.moment.state; breaks = bs; watches = new.watches }) only.breaks
+        ∙ ap (λ (ws : List ℕ). record { history = h; state = old.moment.state; breaks = old.breaks; watches = ws }) only.watches,
     s.stands h past,
   )
 

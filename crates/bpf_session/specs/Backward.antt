@@ -1,8 +1,8 @@
 -- A backward command looks a recorded state up.
-use Rattle.std.specs.Prelude.{ℕ, zero, suc, Bool, ◌-◌, ◌==◌, ◌&&◌, ◌||◌, min, List, [], ◌∷◌, Option, Some, None, unwrap_or, option_map, length, drop, count_by, slice_get, nat_le, if◌then◌else◌}
-use Rattle.std.specs.Option.{option_map_or}
-use Rattle.bpf_machine.specs.State.{State}
-use Rattle.bpf_journal.specs.Histories.{Record, is_step}
+use Rattle.std.specs.Prelude.{ℕ, ◌&&◌, ◌||◌, min, Option, Some, None, is_some, unwrap_or, length, drop, count_by, nat_le, nat_lt, if◌then◌else◌}
+use Rattle.bpf_machine.specs.State.{State, depth}
+use Rattle.bpf_journal.specs.Histories.{is_step}
+use Rattle.bpf_journal.specs.Lookups.{Test, latest, state_before}
 use Rattle.bpf_session.specs.Points.{Point}
 use Rattle.bpf_session.specs.Outcomes.{Outcome, replied}
 use Rattle.bpf_session.specs.Stops.{breaks_at, watch_differs}
@@ -10,22 +10,9 @@ use Rattle.bpf_session.specs.declared.reply.Why.{Why}
 use Rattle.bpf_session.specs.declared.reply.Why.TheVariants.{Done, Start, Break, Watch}
 use Rattle.bpf_session.specs.declared.reply.Reply.TheVariants.{Back}
 
--- A test of a record and the state after its move.
-abbrev pub Test : Type 0
-Test = Record → State → Bool
-
--- How many moves the n-th latest record that passes a test lies back, in a history that leads to y: 1 is the last move. None where
--- there are fewer.
-abbrev pub latest : Test → ℕ → List Record → State → Option ℕ
-latest test n [] y = None
-latest test n (r ∷ h) y =
-    if test r y then (if n == 1 then Some 1 else option_map suc (latest test (n - 1) h r.before))
-    else option_map suc (latest test n h r.before)
-
 -- The state before the k-th last move; the present one for k = 0.
 abbrev pub before_last : ℕ → Point → State
-before_last zero p = p.state
-before_last (suc k) p = option_map_or (λ r. r.before) (slice_get p.history k) p.state
+before_last k p = state_before k p.history p.state
 
 -- That state comes back, and the moves from it on are no longer kept.
 abbrev pub back_by : ℕ → Point → Point
@@ -37,6 +24,10 @@ gone_back k why p = replied (Back k why) (back_by k p)
 -- To the n-th latest record that passes a test; to the oldest one where there are fewer.
 abbrev pub back_to : Test → ℕ → Why → Point → Outcome
 back_to test n why p = gone_back (unwrap_or (latest test n p.history p.state) (length p.history)) why p
+
+-- To the latest record that passes a test, else to the oldest kept state.
+abbrev pub to_latest : Test → Point → Outcome
+to_latest test p = back_to test 1 (if is_some (latest test 1 p.history p.state) then Done else Start) p
 
 -- Marked records, and those of steps; how many there are.
 abbrev pub marked : Test
@@ -59,6 +50,20 @@ undo n p = back_to marked n Done p
 abbrev pub reverse_step : ℕ → Point → Outcome
 reverse_step n p =
     back_to stepped (min n (kept_steps p)) (if nat_le n (kept_steps p) then Done else Start) p
+
+-- `reverse-nexti`: to before the latest step from a depth of at most the present one, so that a called function is gone back over as one.
+abbrev pub from_no_deeper : ℕ → Test
+from_no_deeper d r y = is_step r.move && nat_le (depth r.before) d
+
+abbrev pub reverse_next : Point → Outcome
+reverse_next p = to_latest (from_no_deeper (depth p.state)) p
+
+-- `reverse-finish`: to the latest kept state of smaller depth, where the present function was called.
+abbrev pub from_shallower : ℕ → Test
+from_shallower d r y = nat_lt (depth r.before) d
+
+abbrev pub reverse_finish : Point → Outcome
+reverse_finish p = to_latest (from_shallower (depth p.state)) p
 
 -- A step from a breakpoint, or one that changed a watched byte.
 abbrev pub stops_back : Point → Test

@@ -117,17 +117,24 @@ shows =
 abbrev pub commands : Table
 commands =
     (codes "stepi", counted command.Step)
+    ∷ (codes "nexti", bare command.Next)
     ∷ (codes "continue", bare command.Continue)
+    ∷ (codes "finish", bare command.Finish)
     ∷ (codes "undo", counted command.Undo)
     ∷ (codes "reverse-stepi", counted command.ReverseStep)
+    ∷ (codes "reverse-nexti", bare command.ReverseNext)
     ∷ (codes "reverse-continue", bare command.ReverseContinue)
     ∷ (codes "rc", bare command.ReverseContinue)
+    ∷ (codes "reverse-finish", bare command.ReverseFinish)
     ∷ (codes "set", one_of settings)
     ∷ (codes "break", numbered command.Break)
     ∷ (codes "delete", numbered command.Delete)
+    ∷ (codes "watch", numbered command.Watch)
+    ∷ (codes "unwatch", numbered command.Unwatch)
     ∷ (codes "info", one_of shows)
     ∷ (codes "x", spanned command.Examine)
     ∷ (codes "disas", spanned command.Disassemble)
+    ∷ (codes "last-write", numbered command.LastWrite)
     ∷ (codes "quit", bare command.Quit)
     ∷ []
 

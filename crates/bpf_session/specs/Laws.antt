@@ -1,18 +1,22 @@
 -- Facts about the meaning of commands and of scripts, in the words of those who use them.
-use Rattle.std.specs.Prelude.{◌≡◌, ◌<◌, ◌≤◌, ◌-◌, ◌^◌, ◌+◌, ℕ, Bool, true, false, List, [], ◌∷◌, length, map, Option, Ok, Err, IsSome, IsNone, IsTrue}
+use Rattle.std.specs.Prelude.{◌≡◌, ◌<◌, ◌≤◌, ◌-◌, ◌^◌, ◌+◌, ℕ, suc, Bool, true, false, List, [], ◌∷◌, length, map, take, drop, count_by, slice_get, Option, Some, Ok, Err, IsSome, IsNone, IsTrue}
 use Rattle.bpf_session.specs.Points.{Point, Bounds}
 use Rattle.bpf_session.specs.Forward.{Goal, after, stop, steps}
-use Rattle.bpf_session.specs.Stops.{breaks_at}
+use Rattle.bpf_machine.specs.State.{depth}
+use Rattle.bpf_journal.specs.Histories.{Record}
+use Rattle.bpf_session.specs.Backward.{back_by, marks}
+use Rattle.bpf_session.specs.Stops.{breaks_at, watch_differs}
 use Rattle.bpf_session.specs.Refused.{refusals_of}
 use Rattle.bpf_session.specs.Refusals.{number_of}
 use Rattle.bpf_session.specs.Meaning.{does}
 use Rattle.bpf_session.specs.Sessions.{refusals_after_all}
 use Rattle.bpf_session.specs.Output.{walk}
 use Rattle.bpf_session.specs.declared.command.Command.{Command}
-use Rattle.bpf_session.specs.declared.command.Command.TheVariants.{InfoRegisters, InfoFrames, InfoBreaks, InfoHistory, InfoTrace, Examine, Disassemble, Quit, Undo, ReverseStep}
+use Rattle.bpf_session.specs.declared.command.Command.TheVariants.{InfoRegisters, InfoFrames, InfoBreaks, InfoHistory, InfoTrace, Examine, Disassemble, LastWrite, Quit, Next, Finish, Undo, ReverseStep}
 use Rattle.bpf_session.specs.declared.refusal.Refusal.{Refusal}
 use Rattle.bpf_session.specs.declared.reply.Why.{Why}
-use Rattle.bpf_session.specs.declared.reply.Reply.TheVariants.{Forward}
+use Rattle.bpf_session.specs.declared.reply.Reply.TheVariants.{Forward, Back}
+use Rattle.bpf_session.specs.declared.reply.Why.TheVariants.{Done}
 
 -- A refused command changes nothing: neither history nor state, breakpoints or watches.
 abbrev pub RefusedChangesNothing : Type 0
@@ -28,6 +32,7 @@ shows InfoHistory = true
 shows InfoTrace = true
 shows (Examine address span) = true
 shows (Disassemble slot span) = true
+shows (LastWrite address) = true
 shows Quit = true
 shows _ = false
 
@@ -60,6 +65,23 @@ abbrev pub BreakpointsStop : Type 0
 BreakpointsStop = (gap : Option ℕ) (b : Bounds) (c : Command) (p : Point) (k : ℕ) (why : Why)
     → (does gap b c p).answer ≡ Ok (Forward k why) → (j : ℕ) → 1 ≤ j → j < k → breaks_at p (after j p.state) ≡ false
 
+-- No watched byte changes between the first and the last step of a command that goes forward.
+abbrev pub WatchesStop : Type 0
+WatchesStop = (gap : Option ℕ) (b : Bounds) (c : Command) (p : Point) (k : ℕ) (why : Why)
+    → (does gap b c p).answer ≡ Ok (Forward k why) → (j : ℕ) → suc j < k → watch_differs p (after j p.state) (after (suc j) p.state) ≡ false
+
+-- `nexti` that is done has come back to the depth where it began or a smaller one, `finish` to a smaller one.
+abbrev pub CallsRunAsOne : Type 0
+CallsRunAsOne = (gap : Option ℕ) (b : Bounds) (p : Point) (k : ℕ)
+    → ((does gap b Next p).answer ≡ Ok (Forward k Done) → depth (does gap b Next p).point.state ≤ depth p.state)
+    × ((does gap b Finish p).answer ≡ Ok (Forward k Done) → depth (does gap b Finish p).point.state < depth p.state)
+
+-- A command that goes back takes back as many moves as it says, and nothing else: the state before the last of them comes back, and the
+-- moves in front of it are still kept.
+abbrev pub TakesBackItsMoves : Type 0
+TakesBackItsMoves = (gap : Option ℕ) (b : Bounds) (c : Command) (p : Point) (k : ℕ) (why : Why)
+    → (does gap b c p).answer ≡ Ok (Back k why) → (does gap b c p).point ≡ back_by k p
+
 -- Going back over the steps that a command took, or undoing it, gives back the point in front of it in every component, where none of
 -- the history was dropped for them.
 pub record GivesBack (later : Option ℕ) (b : Bounds) (k : ℕ) (p q : Point) : Type 0 where
@@ -70,6 +92,24 @@ abbrev pub GoingBackGivesBack : Type 0
 GoingBackGivesBack = (gap later : Option ℕ) (b : Bounds) (c : Command) (p : Point) (k : ℕ) (why : Why)
     → (does gap b c p).answer ≡ Ok (Forward k why) → length (does gap b c p).point.history ≡ k + length p.history
     → GivesBack later b k p (does gap b c p).point
+
+-- What was gone back over comes again: the same command from there has the same reply, and leaves the same point.
+abbrev pub ReplayIsTheSame : Type 0
+ReplayIsTheSame = (gap later : Option ℕ) (b : Bounds) (c : Command) (p : Point) (k : ℕ) (why : Why)
+    → (does gap b c p).answer ≡ Ok (Forward k why) → length (does gap b c p).point.history ≡ k + length p.history
+    → does gap b c (does later b (ReverseStep k) (does gap b c p).point).point ≡ does gap b c p
+
+-- `undo` of n gives back the point in front of the n-th last marked record that is kept, whatever commands made the records behind it.
+pub record GoesToTheMark (n : ℕ) (p q : Point) : Type 0 where
+  pub newer : ℕ
+  pub found : Record
+  pub there : slice_get p.history newer ≡ Some found
+  pub marked : found.mark ≡ true
+  pub last : count_by (λ r. r.mark) (take newer p.history) + 1 ≡ n
+  pub back : q ≡ record p { history = drop (newer + 1) p.history; state = found.before }
+
+abbrev pub UndoGoesToTheMark : Type 0
+UndoGoesToTheMark = (gap : Option ℕ) (b : Bounds) (n : ℕ) (p : Point) → 1 ≤ n → n ≤ marks p → GoesToTheMark n p (does gap b (Undo n) p).point
 
 -- Where the gaps of a script made no refusal more, and the count of refusals isn't at its last value, no gap did anything.
 abbrev pub NothingRefusedNothingMissing : Type 0

@@ -16,6 +16,7 @@ pub mod Output
 pub mod Runs
 pub mod Laws
 pub mod Marks
+pub mod Watched
 pub mod Until
 pub mod Sought
 pub mod EditRefusals

@@ -20,3 +20,7 @@ longest_line = 1024
 -- the most breakpoints
 abbrev pub most_breaks : ℕ
 most_breaks = 64
+
+-- the most watches
+abbrev pub most_watches : ℕ
+most_watches = 4

@@ -3,7 +3,7 @@ use Rattle.std.specs.Prelude.{ℕ, List, ◌++◌}
 use lib.Chars.{codes}
 use Rattle.std.specs.Fmt.{decimal}
 use Rattle.bpf_session.specs.declared.refusal.Refusal.{Refusal}
-use Rattle.bpf_session.specs.declared.refusal.Refusal.TheVariants.{UnknownCommand, WrongArgument, MachineEnded, NoKeptStep, FewerCommands, AddressNotPresent, RegisterNotWritable, NoStart, TableFull, ThereOrNot, LineTooLong, NoCell, OutOfMemory}
+use Rattle.bpf_session.specs.declared.refusal.Refusal.TheVariants.{UnknownCommand, WrongArgument, MachineEnded, NoKeptStep, FewerCommands, AddressNotPresent, RegisterNotWritable, NoStart, OutermostFrame, TableFull, ThereOrNot, LineTooLong, NoCell, OutOfMemory}
 
 -- the number that stands after Q
 abbrev pub number_of : Refusal → ℕ
@@ -15,6 +15,7 @@ number_of FewerCommands = 5
 number_of AddressNotPresent = 6
 number_of RegisterNotWritable = 7
 number_of NoStart = 8
+number_of OutermostFrame = 9
 number_of TableFull = 10
 number_of ThereOrNot = 11
 number_of LineTooLong = 12
@@ -31,6 +32,7 @@ text_of FewerCommands = codes "fewer kept commands"
 text_of AddressNotPresent = codes "address not present"
 text_of RegisterNotWritable = codes "register not writable"
 text_of NoStart = codes "no instruction starts there"
+text_of OutermostFrame = codes "outermost frame"
 text_of TableFull = codes "table is full"
 text_of ThereOrNot = codes "not there or already there"
 text_of LineTooLong = codes "line too long"

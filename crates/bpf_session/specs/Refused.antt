@@ -3,17 +3,18 @@ use Rattle.std.specs.Prelude.{ℕ, Bool, true, false, not, ◌&&◌, Option, Som
 use Rattle.bpf_isa.specs.declared.maps.MapShape.{MapShape}
 use Rattle.bpf_isa.specs.Programs.{insn_at}
 use Rattle.bpf_machine.specs.Regions.{index_of}
+use Rattle.bpf_machine.specs.State.{depth}
 use Rattle.bpf_machine.specs.Status.{has_ended}
 use Rattle.bpf_machine.specs.declared.edit.Edit.{Edit}
 use Rattle.bpf_machine.specs.declared.edit.Edit.TheVariants as edit
-use Rattle.bpf_session.specs.Limits.{most_breaks}
+use Rattle.bpf_session.specs.Limits.{most_breaks, most_watches}
 use Rattle.bpf_session.specs.Points.{Point}
 use Rattle.bpf_session.specs.Stops.{has}
 use Rattle.bpf_session.specs.Backward.{marks, kept_steps}
 use Rattle.bpf_session.specs.declared.command.Command.{Command}
 use Rattle.bpf_session.specs.declared.command.Command.TheVariants as command
 use Rattle.bpf_session.specs.declared.refusal.Refusal.{Refusal}
-use Rattle.bpf_session.specs.declared.refusal.Refusal.TheVariants.{MachineEnded, NoKeptStep, FewerCommands, AddressNotPresent, RegisterNotWritable, NoStart, TableFull, ThereOrNot, NoCell}
+use Rattle.bpf_session.specs.declared.refusal.Refusal.TheVariants.{MachineEnded, NoKeptStep, FewerCommands, AddressNotPresent, RegisterNotWritable, NoStart, OutermostFrame, TableFull, ThereOrNot, NoCell}
 
 -- A refusal where a test holds.
 abbrev pub when : Bool → Refusal → List Refusal
@@ -42,16 +43,26 @@ edit_refusals (edit.Pc slot) p = when (not (starts p slot)) NoStart
 -- A command's.
 abbrev pub refusals_of : Command → Point → List Refusal
 refusals_of (command.Step count) p = when (has_ended p.state.status) MachineEnded
+refusals_of command.Next p = when (has_ended p.state.status) MachineEnded
 refusals_of command.Continue p = when (has_ended p.state.status) MachineEnded
+refusals_of command.Finish p = when (has_ended p.state.status) MachineEnded ++ when (depth p.state == 0) OutermostFrame
 refusals_of (command.Undo count) p = when (nat_lt (marks p) count) FewerCommands
 refusals_of (command.ReverseStep count) p = when (kept_steps p == 0) NoKeptStep
+refusals_of command.ReverseNext p = when (kept_steps p == 0) NoKeptStep
 refusals_of command.ReverseContinue p = when (kept_steps p == 0) NoKeptStep
+refusals_of command.ReverseFinish p = when (kept_steps p == 0) NoKeptStep ++ when (depth p.state == 0) OutermostFrame
 refusals_of (command.Edit e) p = edit_refusals e p
 refusals_of (command.Break slot) p =
     when (not (starts p slot)) NoStart
     ++ when (nat_le most_breaks (length p.breaks)) TableFull
     ++ when (has p.breaks slot) ThereOrNot
 refusals_of (command.Delete slot) p = when (not (has p.breaks slot)) ThereOrNot
+refusals_of (command.Watch address) p =
+    when (not (present p address 1)) AddressNotPresent
+    ++ when (nat_le most_watches (length p.watches)) TableFull
+    ++ when (has p.watches address) ThereOrNot
+refusals_of (command.Unwatch address) p = when (not (has p.watches address)) ThereOrNot
+refusals_of (command.LastWrite address) p = when (not (present p address 1)) AddressNotPresent
 refusals_of (command.Examine address span) p = when (not (present p address span)) AddressNotPresent
 refusals_of (command.Disassemble slot span) p = when (not (starts p slot)) NoStart
 refusals_of command.InfoRegisters p = []

@@ -14,6 +14,7 @@ use Rattle.bpf_machine.specs.declared.status.Fault.TheVariants.{Access, Token, D
 use Rattle.bpf_machine.specs.declared.status.Status.{Status}
 use Rattle.bpf_machine.specs.declared.status.Status.TheVariants.{Running, Exited, Faulted}
 use Rattle.bpf_journal.specs.Histories.{record_weight}
+use Rattle.bpf_journal.specs.declared.timeline.ByteChange.{ByteChange}
 use Rattle.bpf_session.specs.Points.{Point, Bounds}
 use Rattle.bpf_session.specs.Backward.{marks}
 use Rattle.bpf_session.specs.Refusals.{refusal_text}
@@ -127,6 +128,15 @@ instructions_from program slot (suc n) =
 abbrev pub text_of_move : ℕ → List ℕ → Why → State → List ℕ
 text_of_move k way why x = decimal k ++ way ++ text_of_why why ++ codes "; " ++ place x ++ codes "\n"
 
+-- how far back a byte was changed, and from what to what
+abbrev pub text_of_change : ByteChange → List ℕ
+text_of_change c =
+    codes "changed " ++ decimal c.moves ++ codes " moves back: " ++ hexadecimal c.old ++ codes " to " ++ hexadecimal c.new ++ codes "\n"
+
+-- how many moves did not change it
+unfoldable pub text_of_unchanged : Point → List ℕ
+text_of_unchanged p = codes "not changed in " ++ decimal (length p.history) ++ codes " kept moves\n"
+
 -- what is printed for a reply
 unfoldable pub text_of_reply : Bounds → Reply → Point → List ℕ
 text_of_reply b (reply.Forward k why) p = text_of_move k (codes " forward; ") why p.state
@@ -139,6 +149,8 @@ text_of_reply b reply.History p = text_of_history b p
 text_of_reply b reply.Trace p = text_of_trace p.state
 text_of_reply b (reply.Bytes address n) p = text_of_bytes p.state address n
 text_of_reply b (reply.Instructions slot n) p = instructions_from p.state.program slot n
+text_of_reply b (reply.Changed change) p = text_of_change change
+text_of_reply b reply.Unchanged p = text_of_unchanged p
 text_of_reply b reply.Nothing p = []
 
 -- what is printed for a reply or a refusal

@@ -8,16 +8,17 @@ use Rattle.bpf_session.specs.Outcomes.{Outcome}
 use Rattle.bpf_session.specs.declared.reply.Reply.{Reply}
 use Rattle.bpf_session.specs.declared.refusal.Refusal.{Refusal}
 
--- The present state with the keeper of the moves that led to it, the breakpoints in order of setting, and the limit of steps of a
--- command.
+-- The present state with the keeper of the moves that led to it, the breakpoints and the watches in order of setting, and the limit of
+-- steps of a command.
 pub record SessionValue (K : Type 0) : Type 0 where
   pub moment : Moment K
   pub breaks : List ℕ
+  pub watches : List ℕ
   pub limit : ℕ
 
--- Where it stands with this history. (It has no watches yet.)
+-- Where it stands with this history.
 abbrev pub point_of : {K : Type 0} → SessionValue K → List Record → Point
-point_of s h = record { history = h; state = s.moment.state; breaks = s.breaks; watches = [] }
+point_of s h = record { history = h; state = s.moment.state; breaks = s.breaks; watches = s.watches }
 
 -- What it was opened with.
 abbrev pub bounds_of : {K : Type 0} → (K → ℕ) → SessionValue K → Bounds

@@ -1,7 +1,7 @@
 -- Where commands stop: breakpoints, and watched bytes that a step changed.
-use Rattle.std.specs.Prelude.{ℕ, Bool, not, ◌==◌, List, unwrap_or}
+use Rattle.std.specs.Prelude.{ℕ, Bool, not, ◌==◌, List}
 use Rattle.std.specs.List.{list_any}
-use Rattle.bpf_machine.specs.ByAddress.{byte_at}
+use Rattle.bpf_machine.specs.ByAddress.{byte}
 use Rattle.bpf_machine.specs.State.{State}
 use Rattle.bpf_session.specs.Points.{Point}
 
@@ -13,6 +13,9 @@ has ns n = list_any (λ m. m == n) ns
 abbrev pub breaks_at : Point → State → Bool
 breaks_at p x = has p.breaks x.pc
 
--- Whether the value of some watched byte differs between two states.
+-- Whether the value of a byte at some of these addresses differs between two states; of some watched byte.
+abbrev pub some_differs : List ℕ → State → State → Bool
+some_differs addresses x y = list_any (λ a. not (byte x a == byte y a)) addresses
+
 abbrev pub watch_differs : Point → State → State → Bool
-watch_differs p x y = list_any (λ a. not (unwrap_or (byte_at x.memory a) 0 == unwrap_or (byte_at y.memory a) 0)) p.watches
+watch_differs p x y = some_differs p.watches x y

@@ -1,5 +1,5 @@
 //! Laws of the meaning of commands and of scripts. Each stands on a function without code, since it speaks of the definitions alone.
-ghost use Rattle.bpf_session.specs.Laws.{BreakpointsStop, GoingBackGivesBack, NothingRefusedNothingMissing, RefusalsAreInOrder, RefusedChangesNothing, ShowsChangeNothing, StepsAreLeast};
+ghost use Rattle.bpf_session.specs.Laws.{BreakpointsStop, CallsRunAsOne, GoingBackGivesBack, NothingRefusedNothingMissing, RefusalsAreInOrder, RefusedChangesNothing, ReplayIsTheSame, ShowsChangeNothing, StepsAreLeast, TakesBackItsMoves, UndoGoesToTheMark, WatchesStop};
 
 /// A refused command changes nothing: neither history nor state, breakpoints or watches.
 #[tactic(none)]
@@ -31,10 +31,40 @@ pub fn breakpoints_stop()
     ensures { BreakpointsStop }
 {}
 
+/// A command passes over no change of a watched byte on its way forward.
+#[tactic(none)]
+pub fn watches_stop()
+    ensures { WatchesStop }
+{}
+
+/// A called function runs as one step of `nexti`, and `finish` runs until it has returned, unless another stop comes first.
+#[tactic(none)]
+pub fn calls_run_as_one()
+    ensures { CallsRunAsOne }
+{}
+
+/// A command that goes back takes back as many moves as it says, and nothing else.
+#[tactic(none)]
+pub fn moves_are_taken_back()
+    ensures { TakesBackItsMoves }
+{}
+
 /// Going back over the steps that a command took, or undoing it, gives back the point in front of it, where nothing was dropped for them.
 #[tactic(none)]
 pub fn going_back_gives_back()
     ensures { GoingBackGivesBack }
+{}
+
+/// What was gone back over comes again, with the same reply.
+#[tactic(none)]
+pub fn replay_is_the_same()
+    ensures { ReplayIsTheSame }
+{}
+
+/// `undo` gives back the state in front of the marked move that it counts to, whatever commands came between.
+#[tactic(none)]
+pub fn undo_goes_to_the_mark()
+    ensures { UndoGoesToTheMark }
 {}
 
 /// Where a keeper's refusals didn't rise over a script, and aren't at their last value, no push was refused: what the script prints

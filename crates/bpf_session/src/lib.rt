@@ -19,6 +19,7 @@ mod sought;
 mod tests;
 mod text;
 mod until;
+mod watches;
 mod words;
 
 pub use command::Command;

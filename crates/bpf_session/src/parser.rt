@@ -45,28 +45,42 @@ fn command_named(name: &[u8], words: Words) -> Result<Command, Refusal>
 {
     if is(name, "stepi") {
         step(words)
+    } else if is(name, "nexti") {
+        bare(words, Command::Next)
     } else if is(name, "continue") {
         bare(words, Command::Continue)
+    } else if is(name, "finish") {
+        bare(words, Command::Finish)
     } else if is(name, "undo") {
         undo(words)
     } else if is(name, "reverse-stepi") {
         reverse_step(words)
+    } else if is(name, "reverse-nexti") {
+        bare(words, Command::ReverseNext)
     } else if is(name, "reverse-continue") {
         bare(words, Command::ReverseContinue)
     } else if is(name, "rc") {
         bare(words, Command::ReverseContinue)
+    } else if is(name, "reverse-finish") {
+        bare(words, Command::ReverseFinish)
     } else if is(name, "set") {
         set(words)
     } else if is(name, "break") {
         set_break(words)
     } else if is(name, "delete") {
         delete(words)
+    } else if is(name, "watch") {
+        watch(words)
+    } else if is(name, "unwatch") {
+        unwatch(words)
     } else if is(name, "info") {
         info(words)
     } else if is(name, "x") {
         examine(words)
     } else if is(name, "disas") {
         disassemble(words)
+    } else if is(name, "last-write") {
+        last_write(words)
     } else if is(name, "quit") {
         bare(words, Command::Quit)
     } else {
@@ -107,6 +121,27 @@ fn delete(words: Words) -> Result<Command, Refusal>
     ensures value { result ≡ ok_or (numbered Command.Delete words.entry) Refusal.WrongArgument }
 {
     one_number(words).map(Command::Delete)
+}
+
+// `watch` and an address.
+fn watch(words: Words) -> Result<Command, Refusal>
+    ensures value { result ≡ ok_or (numbered Command.Watch words.entry) Refusal.WrongArgument }
+{
+    one_number(words).map(Command::Watch)
+}
+
+// `unwatch` and an address.
+fn unwatch(words: Words) -> Result<Command, Refusal>
+    ensures value { result ≡ ok_or (numbered Command.Unwatch words.entry) Refusal.WrongArgument }
+{
+    one_number(words).map(Command::Unwatch)
+}
+
+// `last-write` and an address.
+fn last_write(words: Words) -> Result<Command, Refusal>
+    ensures value { result ≡ ok_or (numbered Command.LastWrite words.entry) Refusal.WrongArgument }
+{
+    one_number(words).map(Command::LastWrite)
 }
 
 // `set` and what it changes.
@@ -205,16 +240,20 @@ fn info(mut words: Words) -> Result<Command, Refusal>
 fn examine(words: Words) -> Result<Command, Refusal>
     ensures value { result ≡ ok_or (spanned Command.Examine words.entry) Refusal.WrongArgument }
 {
-    let (address, span) = number_and_span(words)?;
-    Ok(Command::Examine { address, span })
+    match number_and_span(words) {
+        Ok((address, span)) => Ok(Command::Examine { address, span }),
+        Err(refusal) => Err(refusal),
+    }
 }
 
 // `disas`: a slot and how many instructions.
 fn disassemble(words: Words) -> Result<Command, Refusal>
     ensures value { result ≡ ok_or (spanned Command.Disassemble words.entry) Refusal.WrongArgument }
 {
-    let (slot, span) = number_and_span(words)?;
-    Ok(Command::Disassemble { slot, span })
+    match number_and_span(words) {
+        Ok((slot, span)) => Ok(Command::Disassemble { slot, span }),
+        Err(refusal) => Err(refusal),
+    }
 }
 
 // A command after whose name no word stands.

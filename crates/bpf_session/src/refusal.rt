@@ -21,9 +21,11 @@ pub enum Refusal {
     RegisterNotWritable,
     /// Q8: no instruction of the program starts at the slot.
     NoStart,
-    /// Q10: there are as many breakpoints as there can be.
+    /// Q9: no function was called that has not returned.
+    OutermostFrame,
+    /// Q10: there are as many breakpoints or watches as there can be.
     TableFull,
-    /// Q11: the breakpoint to be set is there already, or the one to be removed isn't there.
+    /// Q11: the breakpoint or watch to be set is there already, or the one to be removed isn't there.
     ThereOrNot,
     /// Q12: the line is longer than 1,024 bytes.
     LineTooLong,
@@ -47,6 +49,7 @@ impl Refusal {
             Refusal::AddressNotPresent => 6,
             Refusal::RegisterNotWritable => 7,
             Refusal::NoStart => 8,
+            Refusal::OutermostFrame => 9,
             Refusal::TableFull => 10,
             Refusal::ThereOrNot => 11,
             Refusal::LineTooLong => 12,
@@ -68,6 +71,7 @@ impl Refusal {
             Refusal::AddressNotPresent => "address not present",
             Refusal::RegisterNotWritable => "register not writable",
             Refusal::NoStart => "no instruction starts there",
+            Refusal::OutermostFrame => "outermost frame",
             Refusal::TableFull => "table is full",
             Refusal::ThereOrNot => "not there or already there",
             Refusal::LineTooLong => "line too long",

@@ -1,6 +1,7 @@
 //! Replies: the answers to commands.
 
 use crate::count::Span;
+use bpf_journal::ByteChange;
 
 /// Why a command stopped.
 #[derive(Clone, Copy)]
@@ -34,7 +35,7 @@ pub enum Reply {
     Registers,
     /// The frames of local calls.
     Frames,
-    /// The breakpoints.
+    /// The breakpoints and the watches.
     Breaks,
     /// How much is kept.
     History,
@@ -44,6 +45,10 @@ pub enum Reply {
     Bytes { address: u64, span: Span },
     /// So many instructions from a slot on, at which one starts.
     Instructions { slot: u16, span: Span },
+    /// The latest kept move that changed a byte.
+    Changed(ByteChange),
+    /// No kept move changed it.
+    Unchanged,
     /// No text.
     Nothing,
 }

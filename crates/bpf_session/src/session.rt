@@ -10,12 +10,14 @@ mod backward;
 mod forward;
 mod replies;
 mod table;
+mod watching;
 
 use crate::breakpoints::Breakpoints;
 use crate::command::Command;
 use crate::refusal::Refusal;
 use crate::reply::Reply;
 use crate::until::Until;
+use crate::watches::Watches;
 use bpf_journal::{Keeper, Timeline};
 use bpf_machine::Cpu;
 use std::marker::Model;
@@ -25,6 +27,7 @@ use std::marker::Model;
 pub struct Session<K: Keeper> {
     timeline: Timeline<K>,
     breaks: Breakpoints,
+    watches: Watches,
     limit: u64,
 }
 
@@ -34,22 +37,24 @@ impl<K: Keeper> Model for Session<K> {
 
     ghost Value = { SessionValue K };
 
-    ghost view = { λ s. record { moment = s.timeline; breaks = s.breaks; limit = s.limit } };
+    ghost view = { λ s. record { moment = s.timeline; breaks = s.breaks; watches = s.watches; limit = s.limit } };
 
     ghost invariant = { λ s. 1 ≤ s.limit };
 }
 
 impl<K: Keeper> Session<K> {
     /// A session over a machine and a keeper that holds the entries of some history that led to the machine's state.
-    /// `limit` is the most steps of a command, 1 to 1,000,000,000. There are no breakpoints.
+    /// `limit` is the most steps of a command, 1 to 1,000,000,000. There are no breakpoints
+    /// and no watches.
     pub fn open(cpu: Cpu, keeper: K, limit: u64) -> Session<K>
         requires past { HasHistory K.holds keeper cpu }
         requires limit { (1 ≤ limit) × (limit ≤ greatest_count) }
-        ensures { result ≡ record { moment = record { state = cpu; keeper = keeper }; breaks = []; limit = limit } }
+        ensures { result ≡ record { moment = record { state = cpu; keeper = keeper }; breaks = []; watches = []; limit = limit } }
     {
         Session {
             timeline: Timeline::open(cpu, keeper),
             breaks: Breakpoints::new(),
+            watches: Watches::new(),
             limit,
         }
     }
@@ -62,6 +67,7 @@ impl<K: Keeper> Session<K> {
         let Session {
             timeline,
             breaks: _,
+            watches: _,
             limit: _,
         } = self;
         timeline.close()
@@ -99,13 +105,19 @@ impl<K: Keeper> Session<K> {
     {
         match command {
             Command::Step(count) => self.go_forward(Until::Steps(*count)),
+            Command::Next => self.next(),
             Command::Continue => self.go_forward(Until::Never),
+            Command::Finish => self.finish(),
             Command::Undo(count) => self.undo(*count),
             Command::ReverseStep(count) => self.reverse_step(*count),
+            Command::ReverseNext => self.reverse_next(),
             Command::ReverseContinue => self.reverse_continue(),
+            Command::ReverseFinish => self.reverse_finish(),
             Command::Edit(edit) => self.edit(edit),
             Command::Break(slot) => self.set_break(*slot),
             Command::Delete(slot) => self.delete_break(*slot),
+            Command::Watch(address) => self.set_watch(*address),
+            Command::Unwatch(address) => self.remove_watch(*address),
             Command::InfoRegisters => Ok(Reply::Registers),
             Command::InfoFrames => Ok(Reply::Frames),
             Command::InfoBreaks => Ok(Reply::Breaks),
@@ -113,6 +125,7 @@ impl<K: Keeper> Session<K> {
             Command::InfoTrace => Ok(Reply::Trace),
             Command::Examine { address, span } => self.examine(*address, *span),
             Command::Disassemble { slot, span } => self.disassemble(*slot, *span),
+            Command::LastWrite(address) => self.last_write(*address),
             Command::Quit => Ok(Reply::Nothing),
         }
     }

@@ -7,8 +7,12 @@ pub enum Sought {
     Mark,
     /// Steps.
     Step,
-    /// Steps from breakpoints.
-    Break,
+    /// Steps from this depth or a smaller one.
+    NoDeeper(usize),
+    /// Moves from a smaller depth than this.
+    Shallower(usize),
+    /// Steps from breakpoints, and those that changed a watched byte.
+    Stop,
 }
 
 /// Where a backward command has gone.

@@ -2,6 +2,7 @@
 
 pub(crate) mod breaks;
 pub(crate) mod bytes;
+pub(crate) mod changes;
 pub(crate) mod frames;
 pub(crate) mod instructions;
 pub(crate) mod moves;

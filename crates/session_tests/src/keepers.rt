@@ -120,6 +120,10 @@ set reg r0 1|refused Q15: out of memory
 info regs|r0=0x0 r1=0x0 r2=0x0 r3=0x0 r4=0x0 r5=0x0 r6=0x0 r7=0x0 r8=0x0 r9=0x0 r10=0x200000200
 |at 0: add r0, 1
 reverse-stepi|refused Q4: no kept step
+set mem 0 00|refused Q6: address not present
+set reg r10 1|refused Q7: register not writable
+set pc 2|refused Q8: no instruction starts there
+set cell 0 0 00|refused Q14: no such cell or wrong length
 ",
     ),
     (

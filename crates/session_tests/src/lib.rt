@@ -2,10 +2,18 @@
 #![tactic(auto)]
 
 #[cfg(test)]
+mod calls;
+#[cfg(test)]
 mod faults;
 #[cfg(test)]
 mod keepers;
 #[cfg(test)]
+mod maps;
+#[cfg(test)]
 mod play;
 #[cfg(test)]
+mod refusals;
+#[cfg(test)]
 mod scripts;
+#[cfg(test)]
+mod ways;

@@ -31,12 +31,33 @@ impl Read for Slow<'_> {
     }
 }
 
-/// The machine of a program in hexadecimal digits and a context.
+/// The machine of a program in hexadecimal digits and a context, without maps.
 pub fn machine(rt: &impl Abort, alloc: Global, program: &str, context: &[u8]) -> Cpu {
+    machine_with(rt, alloc, program, &MapTable::empty(), context)
+}
+
+/// The same with the maps of a text.
+pub fn machine_on(
+    rt: &impl Abort,
+    alloc: Global,
+    program: &str,
+    maps: &str,
+    context: &[u8],
+) -> Cpu {
+    let maps = MapTable::parse(maps.as_bytes()).ok().expect(rt, "no maps");
+    machine_with(rt, alloc, program, &maps, context)
+}
+
+/// The same with these maps.
+fn machine_with(
+    rt: &impl Abort,
+    alloc: Global,
+    program: &str,
+    maps: &MapTable,
+    context: &[u8],
+) -> Cpu {
     let bytes = hex::decode(alloc, program).ok().expect(rt, "no digits");
-    let program = check(alloc, &bytes, &MapTable::empty())
-        .ok()
-        .expect(rt, "refused");
+    let program = check(alloc, &bytes, maps).ok().expect(rt, "refused");
     Cpu::open(alloc, program, context)
         .ok()
         .expect(rt, "not opened")
@@ -51,12 +72,29 @@ pub fn session(
     size: usize,
     limit: u64,
 ) -> Session<ListKeeper> {
-    let cpu = machine(rt, alloc, program, context);
+    session_over(rt, alloc, machine(rt, alloc, program, context), size, limit)
+}
+
+/// A session over a machine, with an empty journal of so many bytes and a limit of steps.
+pub fn session_over(
+    rt: &impl Abort,
+    alloc: Global,
+    cpu: Cpu,
+    size: usize,
+    limit: u64,
+) -> Session<ListKeeper> {
     let limit = Count::new(limit).expect(rt, "no limit");
     match ListKeeper::open(alloc, size) {
         Ok(keeper) => Session::open(cpu, keeper, limit.get()),
         Err(_) => panic!(rt; "no journal"),
     }
+}
+
+/// The session that closing one and opening another over what it gave makes.
+pub fn reopened<K: Keeper>(rt: &impl Abort, session: Session<K>, limit: u64) -> Session<K> {
+    let limit = Count::new(limit).expect(rt, "no limit");
+    let (cpu, keeper) = session.close();
+    Session::open(cpu, keeper, limit.get())
 }
 
 /// What a script prints that comes in pieces of `step` bytes.

@@ -3,7 +3,7 @@ use crate::play::{plays, printed, session};
 use std::test::Fail;
 
 /// A row: the program in hexadecimal digits, the context, the journal's size, the limit of steps, the transcript.
-type Row = (&'static str, &'static [u8], usize, u64, &'static str);
+pub type Row = (&'static str, &'static [u8], usize, u64, &'static str);
 
 /// mov r0, 42; exit.
 const ANSWER: &str = "b70000002a0000009500000000000000";
@@ -197,6 +197,9 @@ info trace|trace 0
 const ROWS: [Row; 11] = [
     ANSWERED, LOAD, FAULT, DROPPED, REFUSED, BREAKS, PART, DOUBLED, EDITS, TABLES, STILL,
 ];
+
+/// Those that set no breakpoints and go on to their end.
+pub const WITHOUT_BREAKPOINTS: [Row; 7] = [LOAD, FAULT, DROPPED, REFUSED, PART, DOUBLED, EDITS];
 
 #[test]
 fn worked_sessions(rt: HostRuntime) {

@@ -2,13 +2,14 @@
 ghost use Rattle.std.specs.Prelude.{List};
 ghost use Rattle.bpf_journal.specs.Histories.{Record};
 ghost use Rattle.bpf_text.specs.Writing.{Writes, WritesAfter};
-ghost use Rattle.bpf_session.specs.Replies.{IsThere, text_of_history, text_of_reply};
+ghost use Rattle.bpf_session.specs.Replies.{IsThere, text_of_history, text_of_reply, text_of_unchanged};
 ghost use Rattle.bpf_session.specs.Sessions.{HasPast, bounds_of, point_of};
 
 use super::Session;
 use crate::reply::Reply;
 use crate::text::breaks::put_breaks;
 use crate::text::bytes::put_bytes;
+use crate::text::changes::put_change;
 use crate::text::frames::put_frames;
 use crate::text::instructions::put_instructions;
 use crate::text::moves::put_move;
@@ -54,15 +55,38 @@ impl<K: Keeper> Session<K> {
             Reply::Ok => put(writer, so_far, b"ok\n"),
             Reply::Registers => put_state(writer, so_far, cpu),
             Reply::Frames => put_frames(writer, so_far, cpu),
-            Reply::Breaks => put_breaks(writer, so_far, self.breaks.as_slice()),
+            Reply::Breaks => {
+                put_breaks(
+                    writer,
+                    so_far,
+                    self.breaks.as_slice(),
+                    self.watches.as_slice(),
+                )
+            }
             Reply::History => self.put_history(writer, so_far),
             Reply::Trace => put_trace(writer, so_far, cpu),
             Reply::Bytes { address, span } => put_bytes(writer, so_far, cpu, address, span),
             Reply::Instructions { slot, span } => {
                 put_instructions(writer, so_far, cpu.program(), usize::from(slot), span)
             }
+            Reply::Changed(change) => put_change(writer, so_far, change),
+            Reply::Unchanged => self.put_unchanged(writer, so_far),
             Reply::Nothing => so_far,
         }
+    }
+
+    /// Writes how many moves are kept, none of which changed a byte.
+    fn put_unchanged<W: Write>(
+        &self,
+        writer: &mut Counted<W>,
+        so_far: Result<(), WriteFault>,
+    ) -> Result<(), WriteFault>
+        ensures { (h : List Record) → HasPast K.holds self.now h → WritesAfter W.contents writer.old so_far writer.new result
+            (text_of_unchanged (point_of self.now h)) }
+    {
+        let begun = put(writer, so_far, b"not changed in ");
+        let counted = put_decimal(writer, begun, self.timeline.len() as u64);
+        put(writer, counted, b" kept moves\n")
     }
 
     /// Writes how many moves and marked moves are kept, and their weight.

@@ -1,5 +1,6 @@
-//! Edits, breakpoints and what is shown of memory and the program.
-ghost use Rattle.std.specs.Prelude.{◌≡◌, ◌↔◌, List, IfOk, IfSome, IsSome};
+//! Edits, breakpoints, watches and what is shown of memory and the program.
+ghost use Rattle.std.specs.Prelude.{◌≡◌, ◌↔◌, List, IfOk, IfSome, IsSome, is_some};
+ghost use Rattle.bpf_machine.specs.Regions.{index_of};
 ghost use Rattle.bpf_journal.specs.Histories.{Record};
 ghost use Rattle.bpf_session.specs.Outcomes.{replied, unless_refused};
 ghost use Rattle.bpf_session.specs.Refused.{edit_refusals, refusals_of};
@@ -7,13 +8,14 @@ ghost use Rattle.bpf_session.specs.Replies.{IsThere};
 ghost use Rattle.bpf_session.specs.Sessions.{HasPast, Obeys, bounds_of, point_of};
 ghost use Rattle.bpf_session.specs.EditRefusals.{answer_to as answer_of, refusal_for};
 ghost use Rattle.bpf_isa.specs.Programs.{IsStart};
-ghost use Rattle.bpf_session.specs.Tables.{edit as edit_of, with_break, without_break};
+ghost use Rattle.bpf_session.specs.Tables.{edit as edit_of, last_write, with_break, with_watch, without_break, without_watch};
 ghost use Rattle.bpf_session.specs.declared.command.Command.TheVariants as command_of;
 
 use super::Session;
 use crate::count::Span;
 use crate::refusal::Refusal;
 use crate::reply::Reply;
+use crate::watches::byte_at;
 use bpf_journal::{Keeper, MoveFault, TimelineFault};
 use bpf_machine::{Edit, EditFault};
 
@@ -75,6 +77,63 @@ impl<K: Keeper> Session<K> {
         Ok(Reply::Ok)
     }
 
+    /// Watches the byte at an address. Q6 where there is none, Q10 where there are 4 watches, Q11 where it is watched.
+    pub(crate) fn set_watch(&mut self, address: u64) -> Result<Reply, Refusal>
+        ensures value { (h : List Record) → HasPast K.holds self.old h →
+            Obeys K.holds K.refused self.old self.new (λ _. unless_refused
+            (refusals_of (command_of.Watch address) (point_of self.old h)) (point_of self.old h)
+            (replied Reply.Ok (with_watch address (point_of self.old h)))) result }
+        ensures limit { self.new.limit ≡ self.old.limit }
+        ensures room { K.room self.new.moment.keeper ≡ K.room self.old.moment.keeper }
+        ensures there { IfOk result (λ reply. IsThere reply self.new.moment.state) }
+    {
+        if !self.has_byte(address) {
+            return Err(Refusal::AddressNotPresent);
+        }
+        if self.watches.is_full() {
+            return Err(Refusal::TableFull);
+        }
+        if self.watches.has(address) {
+            return Err(Refusal::ThereOrNot);
+        }
+        self.watches.set(address);
+        Ok(Reply::Ok)
+    }
+
+    /// No longer watches the byte at an address. Q11 where it isn't watched.
+    pub(crate) fn remove_watch(&mut self, address: u64) -> Result<Reply, Refusal>
+        ensures value { (h : List Record) → HasPast K.holds self.old h →
+            Obeys K.holds K.refused self.old self.new (λ _. unless_refused
+            (refusals_of (command_of.Unwatch address) (point_of self.old h)) (point_of self.old h)
+            (replied Reply.Ok (without_watch address (point_of self.old h)))) result }
+        ensures limit { self.new.limit ≡ self.old.limit }
+        ensures room { K.room self.new.moment.keeper ≡ K.room self.old.moment.keeper }
+        ensures there { IfOk result (λ reply. IsThere reply self.new.moment.state) }
+    {
+        if !self.watches.has(address) {
+            return Err(Refusal::ThereOrNot);
+        }
+        self.watches.remove(address);
+        Ok(Reply::Ok)
+    }
+
+    /// Shows the latest kept move that changed the byte at an address. Q6 where there is none.
+    pub(crate) fn last_write(&self, address: u64) -> Result<Reply, Refusal>
+        ensures value { (h : List Record) → HasPast K.holds self.now h → result ≡ (unless_refused
+            (refusals_of (command_of.LastWrite address) (point_of self.now h)) (point_of self.now h)
+            (last_write address (point_of self.now h))).answer }
+        ensures there { IfOk result (λ reply. IsThere reply self.now.moment.state) }
+    {
+        if !self.has_byte(address) {
+            return Err(Refusal::AddressNotPresent);
+        }
+        let value = byte_at(self.cpu(), address);
+        match self.timeline.last_change(address, value) {
+            Some(change) => Ok(Reply::Changed(change)),
+            None => Ok(Reply::Unchanged),
+        }
+    }
+
     /// Shows bytes. Q6 where some of them aren't present, or they lie in two regions.
     pub(crate) fn examine(&self, address: u64, span: Span) -> Result<Reply, Refusal>
         ensures value { (h : List Record) → result ≡ (unless_refused
@@ -100,6 +159,13 @@ impl<K: Keeper> Session<K> {
             Some(slot) => Ok(Reply::Instructions { slot, span }),
             None => Err(Refusal::NoStart),
         }
+    }
+
+    /// Whether there is a byte at an address.
+    fn has_byte(&self, address: u64) -> bool
+        ensures { result ≡ is_some (index_of self.now.moment.state.memory address 1) }
+    {
+        self.cpu().peek(address, 1).is_some()
     }
 
     /// The slot, where an instruction starts there.

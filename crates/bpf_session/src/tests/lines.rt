@@ -17,17 +17,24 @@ const COMMANDS: &str = "\
 stepi|stepi|1 0
 stepi 5|stepi|5 0
 continue|continue|0 0
+nexti|nexti|0 0
+finish|finish|0 0
 undo|undo|1 0
 undo 2|undo|2 0
 reverse-stepi|reverse-stepi|1 0
 reverse-stepi 3|reverse-stepi|3 0
 reverse-continue|reverse-continue|0 0
 rc|reverse-continue|0 0
+reverse-nexti|reverse-nexti|0 0
+reverse-finish|reverse-finish|0 0
 set reg r4 1|set reg|4 1
 set mem 0x100000004 0102030405060708|set mem|4294967300 8
 set pc 0x100000000|set pc|4294967296 0
 break 1|break|1 0
 delete 9|delete|9 0
+watch 0x100000000|watch|4294967296 0
+unwatch 18446744073709551615|unwatch|18446744073709551615 0
+last-write 0|last-write|0 0
 info regs|info regs|0 0
 info frames|info frames|0 0
 info breaks|info breaks|0 0
@@ -196,13 +203,19 @@ fn said(line: &[u8]) -> Said<'static> {
 fn said_by(command: &Command) -> Said<'static> {
     match command {
         Command::Step(count) => ("stepi", count.get(), 0),
+        Command::Next => ("nexti", 0, 0),
         Command::Continue => ("continue", 0, 0),
+        Command::Finish => ("finish", 0, 0),
         Command::Undo(count) => ("undo", count.get(), 0),
         Command::ReverseStep(count) => ("reverse-stepi", count.get(), 0),
+        Command::ReverseNext => ("reverse-nexti", 0, 0),
         Command::ReverseContinue => ("reverse-continue", 0, 0),
+        Command::ReverseFinish => ("reverse-finish", 0, 0),
         Command::Edit(edit) => said_by_edit(edit),
         Command::Break(slot) => ("break", *slot, 0),
         Command::Delete(slot) => ("delete", *slot, 0),
+        Command::Watch(address) => ("watch", *address, 0),
+        Command::Unwatch(address) => ("unwatch", *address, 0),
         Command::InfoRegisters => ("info regs", 0, 0),
         Command::InfoFrames => ("info frames", 0, 0),
         Command::InfoBreaks => ("info breaks", 0, 0),
@@ -210,6 +223,7 @@ fn said_by(command: &Command) -> Said<'static> {
         Command::InfoTrace => ("info trace", 0, 0),
         Command::Examine { address, span } => ("x", *address, span.get()),
         Command::Disassemble { slot, span } => ("disas", *slot, span.get()),
+        Command::LastWrite(address) => ("last-write", *address, 0),
         Command::Quit => ("quit", 0, 0),
     }
 }
@@ -237,7 +251,7 @@ fn try_rows(rt: &impl Abort, table: &str) {
 #[test]
 fn lines_say_commands(rt: HostRuntime) {
     try_rows(&rt, COMMANDS);
-    assert_eq!(rt; COMMANDS.lines().count(), 27);
+    assert_eq!(rt; COMMANDS.lines().count(), 34);
 }
 
 #[test]

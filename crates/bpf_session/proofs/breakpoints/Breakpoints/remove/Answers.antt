@@ -1,4 +1,4 @@
-use Rattle.std.proofs.Common.{◌≡◌, ℕ, not, ◌==◌, sym, ap, ◌∙◌, rules}
+use Rattle.std.proofs.Common.{◌≡◌, not, ◌==◌, ap, ◌∙◌, rules}
 use Rattle.std.specs.Prelude.{filter}
 use Rattle.arrayvec.proofs.ArrayVecLemmas.{filter-from_retain}
 use Rattle.bpf_session.proofs.Breaks.{marks_fewer}

@@ -1,12 +1,13 @@
-use Rattle.std.proofs.Common.{◌≤◌, ◌<◌, refl, sym, ◌∙◌, arith}
-use Rattle.bpf_session.proofs.Backwards.{seeking_step, seeking_found, seeking_on, looked}
+use Rattle.std.proofs.Common.{refl, arith}
+use Rattle.bpf_session.proofs.Backwards.{seeking_step, seeking_found, seeking_on, looked, comparing}
+use Rattle.bpf_session.specs.Sessions.{SessionValue}
 use Rattle.bpf_session.proofs.session.Session.back_to.Goals as goal
 
 pub returns-in_default-clause-back : goal.returns-in_default-clause-back
 returns-in_default-clause-back g c = λ h past.
     let n = c.len-kept.ensures h (rw (← c.self.view_is) at past) in
     let here = c.loop-k-test.true in
-    absurd (seeking_on _ _ _ _ _ _ _ _ _ _ _ (rw (← c.self-in-loop-k.view_is) at c.loop-k.invariant) (record { breaks = refl; limit = refl }) c.in_default.ensures.back refl h past (omega arith))
+    absurd (seeking_on _ _ _ _ _ _ _ _ _ _ _ _ (rw (← c.self-in-loop-k.view_is) at c.loop-k.invariant) (record { breaks = refl; watches = refl; limit = refl }) c.in_default.ensures.back refl h past (omega arith))
 
 pub overflow_sub-left : goal.overflow_sub-left
 overflow_sub-left g c =
@@ -19,9 +20,15 @@ returns-then-left-eq0-clause-back g c = λ h past.
     let i = rw (← c.self-in-loop-k.view_is) at c.loop-k.invariant in
     let n = c.len-kept.ensures h (rw (← c.self.view_is) at past) in
     let here = c.loop-k-test.true in
-    seeking_found _ _ _ _ _ _ _ _ _ _ _ i (record { breaks = refl; limit = refl }) c.in-Some.ensures.back _ (looked {K = g.row.K.Denot} c.args.self.now (record { moment = c.back.new.self; breaks = c.self-in-loop-k.inside.breaks; limit = c.self-in-loop-k.inside.limit }) _ _ _ _ i.only.breaks c.hits-left.ensures.value) c.if-left-eq0.true h past (omega arith)
+    let new : SessionValue g.row.K.Denot = record { moment = c.back.new.self; breaks = c.self-in-loop-k.inside.breaks; watches = c.self-in-loop-k.inside.watches; limit = c.self-in-loop-k.inside.limit } in
+    seeking_found _ _ _ _ _ _ _ _ _ _ _ _ i (record { breaks = refl; watches = refl; limit = refl }) c.in-Some.ensures.back _ _
+    (comparing {K = g.row.K.Denot} _ _ new _ _ _ refl c.watched_differ-differs.ensures)
+    (looked {K = g.row.K.Denot} c.args.self.now new _ _ _ _ _ i.only.breaks i.only.watches c.hits-left.ensures.value) c.if-left-eq0.true h past (omega arith)
 
 pub loop-k-preserved : goal.loop-k-preserved
 loop-k-preserved g c =
     let i = rw (← c.self-in-loop-k.view_is) at c.loop-k.invariant in
-    seeking_step _ _ _ _ _ _ _ _ _ _ _ i (record { breaks = refl; limit = refl }) c.in-Some.ensures.back _ c.in-Some.ensures.refused c.in-Some.ensures.room (looked {K = g.row.K.Denot} c.args.self.now (record { moment = c.back.new.self; breaks = c.self-in-loop-k.inside.breaks; limit = c.self-in-loop-k.inside.limit }) _ _ _ _ i.only.breaks c.hits-left.ensures.value) c.if-left-eq0.false
+    let new : SessionValue g.row.K.Denot = record { moment = c.back.new.self; breaks = c.self-in-loop-k.inside.breaks; watches = c.self-in-loop-k.inside.watches; limit = c.self-in-loop-k.inside.limit } in
+    seeking_step _ _ _ _ _ _ _ _ _ _ _ _ i (record { breaks = refl; watches = refl; limit = refl }) c.in-Some.ensures.back _ _ _ c.in-Some.ensures.refused c.in-Some.ensures.room
+    (comparing {K = g.row.K.Denot} _ _ new _ _ _ refl c.watched_differ-differs.ensures) c.seen_now-seen.ensures
+    (looked {K = g.row.K.Denot} c.args.self.now new _ _ _ _ _ i.only.breaks i.only.watches c.hits-left.ensures.value) c.if-left-eq0.false

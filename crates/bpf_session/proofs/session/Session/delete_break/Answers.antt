@@ -1,4 +1,4 @@
-use Rattle.std.proofs.Common.{◌<◌, ◌≤◌, arith}
+use Rattle.std.proofs.Common.{arith}
 use Rattle.bpf_session.proofs.Breaks.{has_none}
 use Rattle.bpf_session.proofs.Tables.{delete_refused}
 use Rattle.bpf_session.proofs.session.Session.delete_break.Goals as goal

@@ -3,4 +3,4 @@ use Rattle.bpf_session.proofs.Forwards.{Going}
 use Rattle.bpf_session.proofs.session.Session.go_forward.Given as goal
 
 abbrev pub invariant-loop-k : goal.invariant-loop-k
-invariant-loop-k g l = Going g.K.Keeper.holds g.K.Keeper.refused g.K.Keeper.room l.fn.self l.self (done_by l.until) l.k
+invariant-loop-k g l = Going g.K.Keeper.holds g.K.Keeper.refused g.K.Keeper.room l.fn.self l.self (done_by l.until) l.seen l.k

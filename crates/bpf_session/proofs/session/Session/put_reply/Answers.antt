@@ -1,7 +1,6 @@
-use Rattle.std.proofs.Common.{flat_map, sym, ap, ◌∙◌}
-use Rattle.std.proofs.lemmas.List.{append-nil}
+use Rattle.std.proofs.Common.{flat_map, ◌++◌, ap, ◌∙◌}
 use Rattle.bpf_text.proofs.Appending.{WritesAfter-text}
-use Rattle.bpf_session.specs.Replies.{break_text, or_none, text_of_breaks, text_of_reply}
+use Rattle.bpf_session.specs.Replies.{break_text, watch_text, or_none, text_of_breaks, text_of_reply}
 use Rattle.bpf_session.proofs.session.Session.put_reply.Goals as goal
 
 pub returns-in-Forward : goal.returns-in-Forward
@@ -16,9 +15,18 @@ pub returns-in-Breaks : goal.returns-in-Breaks
 unfolding text_of_breaks text_of_reply
 returns-in-Breaks g c = λ h past.
     let slots = c.as_slice.ensures ∙ ap (λ s. s.breaks) c.self.view_is in
+    let addresses = c.as_slice-in-Breaks.ensures ∙ ap (λ s. s.watches) c.self.view_is in
     rw c.in-Breaks.is (WritesAfter-text g.W.Write.contents _ _ _ _ _ _ c.put_breaks.ensures
-    (ap (λ xs. or_none (flat_map break_text xs)) slots ∙ ap or_none (sym (append-nil _))))
+    (ap (λ xs. or_none (flat_map break_text xs ++ flat_map watch_text c.as_slice-in-Breaks.result.now)) slots ∙ ap (λ ws. or_none (flat_map break_text c.args.self.now.breaks ++ flat_map watch_text ws)) addresses))
 
 pub returns-in-History : goal.returns-in-History
 unfolding text_of_reply
 returns-in-History g c = λ h past. rw c.in-History.is (c.put_history.ensures h past)
+
+pub returns-in-Changed : goal.returns-in-Changed
+unfolding text_of_reply
+returns-in-Changed g c = λ h past. rw c.in-Changed.is c.put_change.ensures
+
+pub returns-in-Unchanged : goal.returns-in-Unchanged
+unfolding text_of_reply
+returns-in-Unchanged g c = λ h past. rw c.in-Unchanged.is (c.put_unchanged.ensures h past)

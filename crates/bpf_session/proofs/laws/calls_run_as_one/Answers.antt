@@ -1,0 +1,5 @@
+use Rattle.bpf_session.proofs.CommandLaws.{calls-run-as-one}
+use Rattle.bpf_session.proofs.laws.calls_run_as_one.Goals as goal
+
+pub returns : goal.returns
+returns c = calls-run-as-one

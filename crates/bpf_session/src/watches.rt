@@ -1,0 +1,149 @@
+//! Watches: the addresses of bytes at whose change forward commands stop.
+ghost use Rattle.std.specs.Prelude.{◌≡◌, ◌<◌, ◌≤◌, ℕ, if◌then◌else◌, ◌++◌, ◌∷◌, [], false, length, filter, not, nat_le, ◌==◌};
+ghost use Rattle.std.specs.Str.{bytes_eq};
+ghost use Rattle.bpf_machine.specs.ByAddress.{byte};
+ghost use Rattle.bpf_machine.specs.State.{State};
+ghost use Rattle.bpf_session.specs.Limits.{most_watches};
+ghost use Rattle.bpf_session.specs.Stops.{has};
+ghost use Rattle.bpf_session.specs.Watched.{Compares, bytes_at};
+
+use arrayvec::ArrayVec;
+use bpf_machine::Cpu;
+use std::marker::Model;
+
+/// The most watches.
+pub const MOST_WATCHES: usize = 4;
+
+/// At most 4 addresses, in order of setting, no two alike.
+#[derive(Drop)]
+pub struct Watches {
+    addresses: ArrayVec<u64, MOST_WATCHES>,
+}
+
+impl Model for Watches {
+    ghost use Rattle.std.specs.Prelude.{ℕ, List};
+
+    ghost Value = { List ℕ };
+
+    ghost view = { λ w. w.addresses.items };
+}
+
+impl Watches {
+    /// None.
+    pub fn new() -> Watches
+        ensures { result ≡ [] }
+    {
+        Watches {
+            addresses: ArrayVec::new(),
+        }
+    }
+
+    /// In order of setting.
+    pub fn as_slice(&self) -> &[u64]
+        ensures { result.now ≡ self.now }
+    {
+        self.addresses.as_slice()
+    }
+
+    /// Whether there are as many as there can be.
+    pub fn is_full(&self) -> bool
+        ensures { result ≡ nat_le most_watches (length self.now) }
+    {
+        self.addresses.is_full()
+    }
+
+    /// Whether there is one at an address.
+    pub fn has(&self, address: u64) -> bool
+        ensures { result ≡ has self.now address }
+    {
+        self.addresses.iter().any(|other| *other == address)
+    }
+
+    /// Sets one at an address.
+    pub fn set(&mut self, address: u64)
+        requires { length self.old < most_watches }
+        ensures { self.new ≡ self.old ++ address ∷ [] }
+    {
+        self.addresses.push(address);
+    }
+
+    /// Removes the one at an address.
+    pub fn remove(&mut self, address: u64)
+        ensures { self.new ≡ filter (λ other. not (other == address)) self.old }
+    {
+        self.addresses.retain(|other| *other != address);
+    }
+
+    /// The bytes at the addresses, now.
+    pub fn bytes(&self, cpu: &Cpu) -> Seen
+        ensures { result ≡ bytes_at self.now cpu.now }
+    {
+        Seen {
+            bytes: bytes_of(self.addresses.as_slice(), cpu),
+        }
+    }
+
+    /// What is seen after a comparison: the bytes now where they differ, else those that were seen before.
+    pub fn seen_now(&self, cpu: &Cpu, seen: Seen, differs: bool) -> Seen
+        ensures { result ≡ (if differs then bytes_at self.now cpu.now else seen) }
+    {
+        if differs { self.bytes(cpu) } else { seen }
+    }
+
+    /// Whether a byte at one of the addresses differs now from what was seen before a move that replaced bytes or not.
+    pub fn differ(&self, cpu: &Cpu, seen: &Seen, replaced: bool) -> bool
+        ensures { (x : State) → seen.now ≡ bytes_at self.now x → (replaced ≡ false → (address : ℕ) → byte x address ≡ byte cpu.now address) →
+            Compares self.now seen.now x cpu.now result }
+    {
+        if !replaced {
+            return false;
+        }
+        let bytes = self.bytes(cpu);
+        !bytes.is_same(seen)
+    }
+}
+
+/// What was seen of the watched bytes.
+#[derive(Drop)]
+pub struct Seen {
+    bytes: ArrayVec<u8, MOST_WATCHES>,
+}
+
+impl Model for Seen {
+    ghost use Rattle.std.specs.Prelude.{ℕ, List};
+
+    ghost Value = { List ℕ };
+
+    ghost view = { λ s. s.bytes.items };
+}
+
+impl Seen {
+    /// Whether they are the same bytes.
+    fn is_same(&self, other: &Seen) -> bool
+        ensures { result ≡ bytes_eq self.now other.now }
+    {
+        self.bytes.as_slice() == other.bytes.as_slice()
+    }
+}
+
+/// The bytes at some addresses.
+fn bytes_of(addresses: &[u64], cpu: &Cpu) -> ArrayVec<u8, MOST_WATCHES>
+    requires { length addresses.now ≤ most_watches }
+    ensures { result.items ≡ bytes_at addresses.now cpu.now }
+{
+    let mut bytes = ArrayVec::new();
+    for address in addresses {
+        bytes.push(byte_at(cpu, *address));
+    }
+    bytes
+}
+
+/// The byte at an address, 0 where there is none.
+pub fn byte_at(cpu: &Cpu, address: u64) -> u8
+    ensures { result ≡ byte cpu.now address }
+{
+    match cpu.peek(address, 1) {
+        Some(run) => run[0],
+        None => 0,
+    }
+}

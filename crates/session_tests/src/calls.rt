@@ -1,0 +1,236 @@
+//! Worked sessions with local calls, watches and the question who wrote a byte. The expected replies were worked out by hand from what each
+//! command means; none is bpfdb's own output.
+use crate::play::{plays, session};
+
+/// A row: the program in hexadecimal digits, the context, the journal's size, the transcript.
+type Row = (&'static str, &'static [u8], usize, &'static str);
+
+/// callf 1; exit; mov r6, 5; exit.
+const CALL: &str = "85100000010000009500000000000000b7060000050000009500000000000000";
+
+const CALLED: Row = (
+    CALL,
+    &[],
+    65_536,
+    "\
+nexti|3 forward; done; at 1: exit
+info history|3 moves, 1 commands, 62 of 65536 bytes
+reverse-nexti|3 back; done; at 0: callf L2
+stepi 2|2 forward; done; at 3: exit
+info frames|depth 1
+|returns to 1 r6=0x0 r7=0x0 r8=0x0 r9=0x0
+info regs|r0=0x0 r1=0x0 r2=0x0 r3=0x0 r4=0x0 r5=0x0 r6=0x5 r7=0x0 r8=0x0 r9=0x0 r10=0x200000600
+|at 3: exit
+reverse-finish|2 back; done; at 0: callf L2
+finish|refused Q9: outermost frame
+",
+);
+
+// Each refusal of these commands, and the least of two: the first of each pair is about the status or the history.
+const REFUSED: Row = (
+    CALL,
+    &[],
+    65_536,
+    "\
+finish|refused Q9: outermost frame
+reverse-nexti|refused Q4: no kept step
+reverse-finish|refused Q4: no kept step
+stepi|1 forward; done; at 2: mov r6, 5
+finish|2 forward; done; at 1: exit
+reverse-finish|refused Q9: outermost frame
+nexti|1 forward; end; exited at 1: r0 0x0
+nexti|refused Q3: the machine has ended
+finish|refused Q3: the machine has ended
+reverse-nexti|1 back; done; at 1: exit
+nexti 2|refused Q2: wrong argument
+finish 1|refused Q2: wrong argument
+reverse-nexti 1|refused Q2: wrong argument
+reverse-finish 1|refused Q2: wrong argument
+",
+);
+
+// A breakpoint in the called function, and an edit there: it lies between two steps and is taken back with the one before it.
+const INSIDE: Row = (
+    CALL,
+    &[],
+    65_536,
+    "\
+break 2|ok
+nexti|1 forward; break; at 2: mov r6, 5
+set reg r0 1|ok
+reverse-nexti|2 back; done; at 0: callf L2
+stepi|1 forward; break; at 2: mov r6, 5
+set reg r0 1|ok
+reverse-finish|2 back; done; at 0: callf L2
+",
+);
+
+// callf -1; exit: a function that calls itself. The depth is 7 after seven calls.
+const RECURSION: Row = (
+    "85100000ffffffff9500000000000000",
+    &[],
+    65_536,
+    "\
+stepi 6|6 forward; done; at 0: callf L0
+nexti|2 forward; end; fault depth at 0
+reverse-nexti|1 back; done; at 0: callf L0
+finish|1 forward; end; fault depth at 0
+reverse-finish|2 back; done; at 0: callf L0
+reverse-finish|1 back; done; at 0: callf L0
+undo 2|refused Q5: fewer kept commands
+info history|5 moves, 1 commands, 35 of 65536 bytes
+reverse-finish|1 back; done; at 0: callf L0
+reverse-nexti|1 back; done; at 0: callf L0
+reverse-finish|1 back; done; at 0: callf L0
+",
+);
+
+/// stb [r1+0], 1; stb [r1+0], 1; stb [r1+0], 2; exit.
+const STORES: &str = "7201000001000000720100000100000072010000020000009500000000000000";
+
+const WATCHED: Row = (
+    STORES,
+    &[0],
+    65_536,
+    "\
+watch 0x100000000|ok
+continue|1 forward; watch; at 1: stb [r1+0], 1
+continue|2 forward; watch; at 3: exit
+last-write 0x100000000|changed 1 moves back: 0x1 to 0x2
+rc|1 back; watch; at 2: stb [r1+0], 2
+rc|2 back; watch; at 0: stb [r1+0], 1
+rc|refused Q4: no kept step
+last-write 0x100000000|not changed in 0 kept moves
+",
+);
+
+const EDITED: Row = (
+    STORES,
+    &[0],
+    65_536,
+    "\
+watch 0x100000000|ok
+set mem 0x100000000 05|ok
+set reg r3 1|ok
+last-write 0x100000000|changed 2 moves back: 0x0 to 0x5
+rc|refused Q4: no kept step
+stepi|1 forward; watch; at 1: stb [r1+0], 1
+rc|1 back; watch; at 0: stb [r1+0], 1
+watch 0|refused Q6: address not present
+info breaks|watch 0x100000000
+",
+);
+
+// A breakpoint comes before a watch, forward and back.
+const BOTH: Row = (
+    STORES,
+    &[0],
+    65_536,
+    "\
+watch 0x100000000|ok
+break 1|ok
+info breaks|break 1
+|watch 0x100000000
+continue|1 forward; break; at 1: stb [r1+0], 1
+rc|1 back; watch; at 0: stb [r1+0], 1
+break 0|ok
+stepi|1 forward; break; at 1: stb [r1+0], 1
+rc|1 back; break; at 0: stb [r1+0], 1
+unwatch 0x100000000|ok
+delete 0|ok
+delete 1|ok
+continue|4 forward; end; exited at 3: r0 0x0
+rc|4 back; start; at 0: stb [r1+0], 1
+",
+);
+
+// Four watches and a fifth: absent before full, full before there.
+const TABLE: Row = (
+    STORES,
+    &[0],
+    65_536,
+    "\
+info breaks|none
+unwatch 0x100000000|refused Q11: not there or already there
+watch 0x100000000|ok
+watch 0x100000000|refused Q11: not there or already there
+watch 0x2000001ff|ok
+watch 0x200001c00|ok
+watch 0x200000000|ok
+watch 0x200000001|refused Q10: table is full
+watch 0x100000000|refused Q10: table is full
+watch 0x100000001|refused Q6: address not present
+last-write 0x100000001|refused Q6: address not present
+unwatch 0x200000001|refused Q11: not there or already there
+unwatch 0x2000001ff|ok
+watch 0x2000001ff|ok
+info breaks|watch 0x100000000
+|watch 0x200001c00
+|watch 0x200000000
+|watch 0x2000001ff
+watch|refused Q2: wrong argument
+watch 1 2|refused Q2: wrong argument
+unwatch|refused Q2: wrong argument
+last-write r1|refused Q2: wrong argument
+",
+);
+
+// callf 1; exit; stb [r10-1], 7; exit: a byte of a frame above the depth.
+const FRAME: Row = (
+    "85100000010000009500000000000000720affff070000009500000000000000",
+    &[],
+    65_536,
+    "\
+watch 0x2000005ff|ok
+continue|2 forward; watch; at 3: exit
+last-write 0x2000005ff|changed 1 moves back: 0x0 to 0x7
+continue|2 forward; end; exited at 1: r0 0x0
+last-write 0x2000005ff|changed 3 moves back: 0x0 to 0x7
+rc|3 back; watch; at 2: stb [r10-1], 7
+last-write 0x2000005ff|not changed in 1 kept moves
+",
+);
+
+// atomic_fetch_add64 [r1+0], r1; exit: the sum changes the fifth byte alone.
+const ATOMIC: Row = (
+    "db110000010000009500000000000000",
+    &[1, 0, 0, 0, 0, 0, 0, 0],
+    65_536,
+    "\
+watch 0x100000000|ok
+watch 0x100000004|ok
+continue|1 forward; watch; at 1: exit
+last-write 0x100000004|changed 1 moves back: 0x0 to 0x1
+last-write 0x100000000|not changed in 1 kept moves
+unwatch 0x100000004|ok
+rc|1 back; start; at 0: atomic_fetch_add64 [r1+0], r1
+",
+);
+
+// stb [r1+0], 1; add r0, 1; ja -2: the write is dropped from a small journal.
+const DROPPED: Row = (
+    "720100000100000007000000010000000500feff00000000",
+    &[0],
+    1_024,
+    "\
+stepi|1 forward; done; at 1: add r0, 1
+last-write 0x100000000|changed 1 moves back: 0x0 to 0x1
+stepi 2|2 forward; done; at 1: add r0, 1
+last-write 0x100000000|changed 3 moves back: 0x0 to 0x1
+stepi 98|98 forward; done; at 1: add r0, 1
+last-write 0x100000000|not changed in 89 kept moves
+",
+);
+
+const ROWS: [Row; 11] = [
+    CALLED, REFUSED, INSIDE, RECURSION, WATCHED, EDITED, BOTH, TABLE, FRAME, ATOMIC, DROPPED,
+];
+
+#[test]
+fn calls_and_watches(rt: HostRuntime) {
+    let alloc = rt.alloc();
+    for (program, context, size, transcript) in ROWS {
+        let mut session = session(&rt, alloc, program, context, size, 1_000_000);
+        plays(&rt, alloc, &mut session, transcript, 7);
+    }
+}
