@@ -1,1 +1,4 @@
-pub mod Debug
+pub mod CommandLine
+pub mod Jobs
+pub mod Plans
+pub mod Refusals

@@ -1,42 +1,183 @@
 //! The program: a debugger that runs a BPF program (RFC 9669) forwards and backwards.
 #![tactic(auto)]
 
-mod debug;
+ghost use Rattle.bpfdb.specs.Plans.{IsLimit};
+
+mod command_line;
+mod fault;
+mod files;
+mod help;
 mod input;
+mod job;
+mod opening;
+mod plan;
+mod planner;
+mod refusal;
+mod report;
 #[cfg(test)]
 mod tests;
+mod tool;
 
 use bpf_text::Counted;
-use debug::debug;
+use clap::Error;
+use fault::{FileFault, JobFault};
+use files::{PROGRAM_BYTES, read_beginning, read_context, read_listing};
 use input::Input;
-use std::io;
-use std::io::{BufReader, BufWriter};
+use job::Job;
+use plan::{Plan, PlanFault, Subcommand};
+use report::give_up;
+use std::io::{BufReader, BufWriter, ErrorKind, Stderr, Write};
 use std::process::ExitCode;
+use std::{env, io};
 
-/// The program that is debugged: r0 = 42, and the end.
-const PROGRAM: [u8; 16] = [
-    0xb7, 0, 0, 0, 0x2a, 0, 0, 0, // mov r0, 42
-    0x95, 0, 0, 0, 0, 0, 0, 0, // exit
-];
+/// Standard error.
+type Errors = Counted<BufWriter<Stderr>>;
+
+/// What is debugged where the command line has no word: r0 = 42, and the end, with every option absent.
+const FIRST_JOB: Job<'static> = Job {
+    subcommand: Subcommand::Debug,
+    file: &[
+        0xb7, 0, 0, 0, 0x2a, 0, 0, 0, // mov r0, 42
+        0x95, 0, 0, 0, 0, 0, 0, 0, // exit
+    ],
+    context: &[],
+    maps: None,
+    journal: 65_536,
+    limit: 1_000_000,
+    is_listing: false,
+};
 
 fn main(rt: HostRuntime) -> ExitCode {
-    match debug_standard_input(&rt) {
-        Ok(()) => ExitCode::SUCCESS,
-        Err(()) => {
-            let _ = eprintln!(rt; "debug failed");
+    match BufWriter::new(rt.alloc(), rt.stderr()) {
+        Ok(buffer) => {
+            let mut errors = Counted::new(buffer);
+            ExitCode::from(obey(&rt, &mut errors))
+        }
+        Err(_) => {
+            let _ = eprintln!(rt; "{}", JobFault::Memory);
             ExitCode::from(2)
         }
     }
 }
 
-/// Debugs the program with the script from standard input. Where that is closed, the script is empty.
+/// Does what the command line says. Answers the exit status, as all that follows.
+fn obey(rt: &HostRuntime, errors: &mut Errors) -> u8 {
+    let words = match words_of(rt) {
+        Ok(words) => words,
+        Err(fault) => return give_up(errors, fault),
+    };
+    if words.len() < 2 {
+        return do_job(rt, &FIRST_JOB, errors);
+    }
+    let mut texts = Vec::new(rt.alloc());
+    for word in &words {
+        match texts.push(word.as_str()) {
+            Ok(()) => {}
+            Err(_) => return give_up(errors, JobFault::Memory),
+        }
+    }
+    match planner::plan(rt.alloc(), texts.as_slice()) {
+        Ok(plan) => do_plan(rt, &plan, errors),
+        Err(fault) => show(rt, &fault, errors),
+    }
+}
+
+/// The words of the command line, the program's name first.
+fn words_of(rt: &HostRuntime) -> Result<Vec<String>, JobFault> {
+    let args = match env::args(rt) {
+        Ok(args) => args,
+        Err(error) => match error.kind() {
+            ErrorKind::OutOfMemory => return Err(JobFault::Memory),
+            _ => return Err(JobFault::Words),
+        },
+    };
+    let mut words = Vec::new(rt.alloc());
+    for word in args {
+        match words.push(word) {
+            Ok(()) => {}
+            Err(_) => return Err(JobFault::Memory),
+        }
+    }
+    Ok(words)
+}
+
+/// Shows help on standard output, and what is wrong with a command line on standard error.
+fn show(rt: &HostRuntime, fault: &PlanFault, errors: &mut Errors) -> u8 {
+    match fault {
+        PlanFault::Memory => give_up(errors, JobFault::Memory),
+        PlanFault::Usage(text) => {
+            if fault.status() == 0 {
+                show_help(rt, text, errors)
+            } else {
+                let _ = write!(errors, "{text}");
+                let _ = errors.flush();
+                fault.status()
+            }
+        }
+    }
+}
+
+/// Writes help to standard output.
+fn show_help(rt: &HostRuntime, text: &Error, errors: &mut Errors) -> u8 {
+    let mut output = io::writer(rt);
+    match write!(output, "{text}") {
+        Ok(()) => 0,
+        Err(_) => give_up(errors, JobFault::Output),
+    }
+}
+
+/// Reads the files of a plan, and does its job.
+fn do_plan(rt: &HostRuntime, plan: &Plan<'_>, errors: &mut Errors) -> u8
+    requires limit { IsLimit plan.now.limit }
+{
+    let file = match read_program(rt, plan) {
+        Ok(file) => file,
+        Err(fault) => return give_up(errors, fault),
+    };
+    let context = match read_context(rt, plan.memory) {
+        Ok(context) => context,
+        Err(fault) => return give_up(errors, fault),
+    };
+    let job = Job {
+        subcommand: plan.subcommand,
+        file: file.as_slice(),
+        context: context.as_slice(),
+        maps: plan.maps.map(|text| text.as_bytes()),
+        journal: plan.journal,
+        limit: plan.limit,
+        is_listing: plan.is_listing,
+    };
+    do_job(rt, &job, errors)
+}
+
+/// The bytes of FILE, which is a listing for `asm` and where the plan says so.
+fn read_program<'a>(rt: &HostRuntime, plan: &Plan<'a>) -> Result<Vec<u8>, FileFault<'a>> {
+    match plan.subcommand {
+        Subcommand::Asm => read_listing(rt, plan.file),
+        _ => {
+            if plan.is_listing {
+                read_listing(rt, plan.file)
+            } else {
+                read_beginning(rt, plan.file, PROGRAM_BYTES)
+            }
+        }
+    }
+}
+
+/// Does a job over standard input and standard output. A standard input that is closed is an empty script.
 ///
 /// The input is read in large pieces, so a program that reads on behind `quit` in the same pipe finds less than the script
 /// left there, mostly nothing.
-fn debug_standard_input(rt: &HostRuntime) -> Result<(), ()> {
-    let input = BufReader::new(rt.alloc(), Input::new(rt.reader())).map_err(|_| ())?;
-    let output = BufWriter::new(rt.alloc(), io::writer(rt)).map_err(|_| ())?;
+fn do_job(rt: &HostRuntime, job: &Job<'_>, errors: &mut Errors) -> u8
+    requires limit { IsLimit job.now.limit }
+{
+    let Ok(input) = BufReader::new(rt.alloc(), Input::new(rt.reader())) else {
+        return give_up(errors, JobFault::Memory);
+    };
+    let Ok(output) = BufWriter::new(rt.alloc(), io::writer(rt)) else {
+        return give_up(errors, JobFault::Memory);
+    };
     let mut reader = Counted::new(input);
     let mut writer = Counted::new(output);
-    debug(rt.alloc(), &PROGRAM, &[], &mut reader, &mut writer).map_err(|_| ())
+    tool::tool(rt.alloc(), job, &mut reader, &mut writer, errors)
 }

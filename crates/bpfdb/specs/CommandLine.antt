@@ -1,0 +1,65 @@
+-- The command line as `clap` is told of it: five subcommands, the options of each, and FILE.
+use Rattle.std.specs.Prelude.{[], ◌∷◌, Some, true, codes}
+use Rattle.clap.specs.Words.{App, Rule, new_app, new_rule, with_rule, with_subcommand}
+use Rattle.clap.specs.declared.builder.action.ArgAction.TheVariants.{SetTrue}
+use Rattle.clap.specs.declared.builder.value_parser.ValueParser.TheVariants as vp
+
+-- `-m PATH`, `--mem PATH`: a file, whose bytes are the context.
+abbrev pub mem_rule : Rule
+mem_rule = record (new_rule (codes "mem")) { short = Some 109; long = Some (codes "mem"); value_names = 1 }
+
+-- `--maps VxN,VxN`: the map table.
+abbrev pub maps_rule : Rule
+maps_rule = record (new_rule (codes "maps")) { long = Some (codes "maps"); value_names = 1 }
+
+-- `--journal J`: a number below 2^64.
+abbrev pub journal_rule : Rule
+journal_rule = record (new_rule (codes "journal")) {
+  long = Some (codes "journal");
+  value_names = 1;
+  parser = Some (vp.Unsigned 0 18446744073709551615);
+  defaults = codes "65536" ∷ [];
+}
+
+-- `--steps N`: a number from 1 to 1,000,000,000.
+abbrev pub steps_rule : Rule
+steps_rule = record (new_rule (codes "steps")) {
+  long = Some (codes "steps");
+  value_names = 1;
+  parser = Some (vp.Unsigned 1 1000000000);
+  defaults = codes "1000000" ∷ [];
+}
+
+-- `--listing`: FILE is a listing.
+abbrev pub listing_rule : Rule
+listing_rule = record (new_rule (codes "listing")) { long = Some (codes "listing"); action = Some SetTrue }
+
+-- FILE, which each subcommand needs.
+abbrev pub file_rule : Rule
+file_rule = record (new_rule (codes "file")) { required = true; value_names = 1 }
+
+-- The subcommands and their options.
+abbrev pub run_app : App
+run_app = with_rule (with_rule (with_rule (with_rule (with_rule (new_app (codes "run"))
+    mem_rule) maps_rule) steps_rule) listing_rule) file_rule
+
+abbrev pub debug_app : App
+debug_app = with_rule (with_rule (with_rule (with_rule (with_rule (with_rule (new_app (codes "debug"))
+    mem_rule) maps_rule) journal_rule) steps_rule) listing_rule) file_rule
+
+abbrev pub asm_app : App
+asm_app = with_rule (new_app (codes "asm")) file_rule
+
+abbrev pub disasm_app : App
+disasm_app = with_rule (with_rule (with_rule (new_app (codes "disasm")) maps_rule) listing_rule) file_rule
+
+abbrev pub check_app : App
+check_app = with_rule (with_rule (with_rule (new_app (codes "check")) maps_rule) listing_rule) file_rule
+
+-- The command without its subcommands: it can't stand without one.
+abbrev pub bare_app : App
+bare_app = record (new_app (codes "bpfdb")) { top = record (new_app (codes "bpfdb")).top { subcommand_required = true } }
+
+abbrev pub command_app : App
+command_app = with_subcommand (with_subcommand (with_subcommand (with_subcommand (with_subcommand bare_app
+    run_app.top) debug_app.top) asm_app.top) disasm_app.top) check_app.top

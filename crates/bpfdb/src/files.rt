@@ -1,0 +1,86 @@
+//! FILE and PATH, read up to a limit.
+use crate::fault::FileFault;
+use std::fs;
+use std::fs::File;
+use std::io::{ErrorKind, Read};
+
+/// The most bytes that are read of a program: one more than any program has, so that the checker finds a longer one too long.
+pub const PROGRAM_BYTES: usize = 524_281;
+
+/// The most bytes that are read of a context: one more than any context has.
+pub const CONTEXT_BYTES: usize = 65_537;
+
+/// The most bytes of a listing: 64 MiB, about a thousand for each instruction that a program can have.
+pub const LISTING_BYTES: usize = 67_108_864;
+
+/// How many bytes are asked for at once.
+const PIECE: usize = 16_384;
+
+/// What a read came to.
+enum Piece {
+    /// So many bytes were read.
+    Bytes(usize),
+    /// There are no more.
+    End,
+    /// It was interrupted, and may be made again.
+    Again,
+}
+
+/// The bytes of a file from its beginning, at most so many.
+pub fn read_beginning<'a>(
+    rt: &HostRuntime,
+    path: &'a str,
+    most: usize,
+) -> Result<Vec<u8>, FileFault<'a>> {
+    let mut file = match fs::open(rt, path) {
+        Ok(file) => file,
+        Err(_) => return Err(FileFault::Unreadable { path }),
+    };
+    let mut bytes = Vec::new(rt.alloc());
+    for _ in 0..u64::MAX {
+        let mut piece = [0u8; PIECE];
+        let room = PIECE.min(most.saturating_sub(bytes.len()));
+        match read_piece(&mut file, &mut piece[..room]) {
+            Ok(Piece::Bytes(count)) => match bytes.extend_from_slice(&piece[..count.min(room)]) {
+                Ok(()) => {}
+                Err(_) => return Err(FileFault::Memory),
+            },
+            Ok(Piece::End) => return Ok(bytes),
+            Ok(Piece::Again) => {}
+            Err(_) => return Err(FileFault::Unreadable { path }),
+        }
+    }
+    Ok(bytes)
+}
+
+/// Reads a piece of a file.
+fn read_piece(file: &mut File, piece: &mut [u8]) -> std::io::Result<Piece> {
+    match file.read(piece) {
+        Ok(0) => Ok(Piece::End),
+        Ok(count) => Ok(Piece::Bytes(count)),
+        Err(error) => match error.kind() {
+            ErrorKind::Interrupted => Ok(Piece::Again),
+            _ => Err(error),
+        },
+    }
+}
+
+/// The bytes of a listing.
+pub fn read_listing<'a>(rt: &HostRuntime, path: &'a str) -> Result<Vec<u8>, FileFault<'a>> {
+    let text = read_beginning(rt, path, LISTING_BYTES + 1)?;
+    if text.len() > LISTING_BYTES {
+        return Err(FileFault::TooLong {
+            path,
+            most: LISTING_BYTES,
+        });
+    }
+    Ok(text)
+}
+
+/// The bytes of a context; none where there is no path.
+pub fn read_context<'a>(rt: &HostRuntime, path: Option<&'a str>) -> Result<Vec<u8>, FileFault<'a>> {
+    match path {
+        Some(path) => read_beginning(rt, path, CONTEXT_BYTES),
+        None => Ok(Vec::new(rt.alloc())),
+    }
+}

@@ -1,0 +1,136 @@
+//! The texts of help. `clap` adds the usage line, the lists of commands and options, and the defaults; it doesn't wrap lines.
+
+/// What bpfdb is.
+pub const BPFDB: &str = "Runs BPF programs (RFC 9669) forwards and backwards";
+
+pub const BPFDB_LONG: &str = "Runs BPF programs (RFC 9669) forwards and backwards.
+
+FILE holds the program's instructions as raw little-endian words, its relocations
+applied; or, with --listing, a listing, which has an instruction on a line (without
+--listing that is refused, mostly with C3 or C4). The context is the bytes that the
+program works on: their address is in r1, their number in r2.
+
+Without any word bpfdb debugs a program of its own: mov r0, 42 and exit.";
+
+pub const BPFDB_EXAMPLE: &str = "Example:
+  $ cat count.s
+  loop: add r0, 1
+  jlt r0, 3, loop
+  exit
+  $ bpfdb run --listing count.s
+  0x3
+  $ printf 'stepi 3\\nreverse-stepi\\nundo\\n' | bpfdb debug --listing count.s
+  3 forward; done; at 1: jlt r0, 3, L0
+  1 back; done; at 0: add r0, 1
+  2 back; done; at 0: add r0, 1
+
+Exit status: 0; 1 where `run` ends in a fault or at the limit of steps; 2 where the
+command line or the program is refused, input or output fails, or memory runs out.
+Results go to standard output, and so does what a session refuses. What ends the program
+with 1 or 2 is told on standard error.";
+
+pub const RUN: &str = "Runs a program to its end and prints r0";
+
+pub const RUN_LONG: &str = "Runs a program to its end and prints r0.
+
+Reads FILE, and the context from the file that -m names. Writes r0 to standard output, as
+0x and hexadecimal digits. A fault of the program, or the limit of steps, is one line on
+standard error, with the slot of the instruction; then the exit status is 1, and nothing
+is on standard output.";
+
+pub const RUN_EXAMPLE: &str = "Example:
+  $ bpfdb run --steps 5000 --listing count.s
+  0x3";
+
+pub const DEBUG: &str = "Obeys commands from standard input, forwards and backwards";
+
+pub const DEBUG_LONG: &str = "Obeys commands from standard input, forwards and backwards.
+
+Reads FILE, the context, and from standard input a script, a command a line:
+stepi, nexti, continue, finish; undo, reverse-stepi, reverse-nexti, reverse-continue,
+reverse-finish; set, break, delete, watch, unwatch; info, x, disas, last-write; quit.
+Writes the reply to each to standard output. What is refused changes nothing, and the
+session goes on; the exit status is 0 then too, and where the program faulted. The
+manual, docs/COMMANDS.md, has them all.";
+
+pub const DEBUG_EXAMPLE: &str = "Example:
+  $ printf 'break 1\\ncontinue\\nundo\\n' | bpfdb debug --journal 1048576 count.bin
+  ok
+  1 forward; break; at 1: jlt r0, 3, L0
+  1 back; done; at 0: add r0, 1";
+
+pub const ASM: &str = "Assembles a listing to raw words";
+
+pub const ASM_LONG: &str = "Assembles a listing to raw words.
+
+Reads the listing FILE (docs/LISTING.md is its grammar). Writes the words of its
+instructions, 8 or 16 bytes each, to standard output. The program isn't checked:
+`bpfdb check` does that.";
+
+pub const ASM_EXAMPLE: &str = "Example:
+  $ bpfdb asm count.s > count.bin";
+
+pub const DISASM: &str = "Writes a program as a listing";
+
+pub const DISASM_LONG: &str = "Writes a program as a listing.
+
+Reads and checks FILE. Writes its listing to standard output: a line an instruction, and
+a label before each target of a jump or call. `bpfdb asm` gives the same words back.";
+
+pub const DISASM_EXAMPLE: &str = "Example:
+  $ bpfdb disasm count.bin
+  L0:
+  add r0, 1
+  jlt r0, 3, L0
+  exit";
+
+pub const CHECK: &str = "Checks a program";
+
+pub const CHECK_LONG: &str = "Checks a program.
+
+Reads FILE. Writes to standard output how many instructions it has, and in how many slots
+of 8 bytes. The first thing that is wrong with it is one line on standard error, with its
+number and, where it has one, its slot or line; then the exit status is 2.";
+
+pub const CHECK_EXAMPLE: &str = "Example:
+  $ bpfdb check --listing count.s
+  ok 3 instructions in 3 slots";
+
+/// `-m`, `--mem`.
+pub const MEM: &str = "File with the context, 0 to 65536 bytes at r1; none without it";
+
+pub const MEM_LONG: &str =
+    "File with the context, 0 to 65536 bytes: its address is in r1, its length in r2. Without
+it the context is empty, and r1 is 0. Example: -m packet.bin";
+
+/// `--maps`.
+pub const MAPS: &str =
+    "Maps as VxN: V bytes a value, 1 to 256; N entries, 1 to 4096; none without it";
+
+pub const MAPS_LONG: &str =
+    "The program's maps, at most 16, each as VxN: V bytes a value, 1 to 256, and N entries,
+1 to 4096; at most 65536 bytes a map. Without it there are none, and a program that
+names a map is refused (C12). Example: --maps 8x2,4x256";
+
+/// `--journal`.
+pub const JOURNAL: &str = "Bytes for moves that can be taken back, 1024 to 16777216";
+
+pub const JOURNAL_LONG: &str =
+    "Size of the journal of moves that can be taken back, in bytes, 1024 to 16777216. Most
+steps take 7 or 16 of them. When it is full the oldest moves go.
+Example: --journal 1048576";
+
+/// `--steps`.
+pub const STEPS: &str = "Most steps of a run, or of one command of a session, 1 to 1000000000";
+
+pub const STEPS_LONG: &str =
+    "Most steps of a run, or of one command of a session, 1 to 1000000000. There a run ends
+with exit status 1, and a command with the word limit. Example: --steps 5000";
+
+/// `--listing`.
+pub const LISTING: &str = "FILE is a listing (docs/LISTING.md), and is assembled first";
+
+/// FILE.
+pub const PROGRAM: &str = "Program: its raw words, or with --listing its listing";
+
+pub const LISTING_FILE: &str = "Listing to be assembled";

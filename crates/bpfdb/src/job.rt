@@ -1,0 +1,20 @@
+//! What `tool` is given to do.
+use crate::plan::Subcommand;
+
+/// A subcommand with the bytes of its files and its options.
+#[derive(Clone, Copy)]
+pub struct Job<'a> {
+    pub subcommand: Subcommand,
+    /// FILE's bytes: the program's raw little-endian words, or its listing.
+    pub file: &'a [u8],
+    /// PATH's bytes, the context: at most 65,536.
+    pub context: &'a [u8],
+    /// The map table's text, as `8x2,4x256`; without one there are no maps.
+    pub maps: Option<&'a [u8]>,
+    /// The journal's size in bytes, 1,024 to 16,777,216.
+    pub journal: u64,
+    /// The most steps of a run or of a command, 1 to 1,000,000,000.
+    pub limit: u64,
+    /// FILE is a listing, assembled first.
+    pub is_listing: bool,
+}

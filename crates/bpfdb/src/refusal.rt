@@ -1,0 +1,20 @@
+//! Why a job is refused.
+use bpf_isa::{LoadFault, MapFault};
+use bpf_journal::JournalFault;
+use bpf_machine::OpenFault;
+use bpf_text::AsmFault;
+
+/// Why a job is refused, in the order in which it is looked at.
+#[derive(Clone, Copy)]
+pub enum JobRefusal {
+    /// The map table's text.
+    Maps(MapFault),
+    /// The listing.
+    Listing(AsmFault),
+    /// The checker refused the program.
+    Load(LoadFault),
+    /// The machine can't be opened on it and the context.
+    Open(OpenFault),
+    /// The journal can't be opened.
+    Journal(JournalFault),
+}

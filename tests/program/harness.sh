@@ -1,0 +1,138 @@
+# What each part of tests/program.sh stands on: how a test is run, what it is held against, and how a failure is told.
+count=0
+failures=0
+
+# begin PART: the tests of this part, in a folder of their own, so that the names of their files are short.
+begin() {
+    mkdir "$work/$1" "$work/$1/found" "$work/$1/wanted" || exit 1
+    cd "$work/$1" || exit 1
+    . "$parts/$1.sh"
+}
+
+# complain NAME: counts a test that failed and says so.
+complain() {
+    failures=$((failures + 1))
+    echo "FAILED: $1"
+}
+
+# run ARGUMENT..: runs the program on the file `script`. What is found: its status, output and standard error.
+run() {
+    "$program" "$@" < script > found/out 2> found/err
+    echo $? > found/status
+}
+
+# check NAME STATUS OUTPUT ERRORS: holds the last run against what was wanted; the texts are as printf's %b reads them.
+check() {
+    echo "$2" > wanted/status
+    printf '%b' "$3" > wanted/out
+    printf '%b' "$4" > wanted/err
+    compare "$1"
+}
+
+# agree FILE: what was found in it is what was wanted. (Where both are empty no other program is called.)
+agree() {
+    if [ -s "wanted/$1" ] || [ -s "found/$1" ]; then
+        cmp -s "wanted/$1" "found/$1"
+    fi
+}
+
+# compare NAME: holds what was found against what was wanted.
+compare() {
+    count=$((count + 1))
+    agree status && agree out && agree err && return 0
+    complain "$1"
+    for file in status out err; do
+        agree $file && continue
+        echo "  $file ('<' wanted, '>' found):"
+        diff -a "wanted/$file" "found/$file"
+    done
+    return 1
+}
+
+# row NAME STATUS SCRIPT OUTPUT ERRORS [ARGUMENT..]: runs the program with the arguments on the script, and checks it.
+row() {
+    printf '%b' "$3" > script
+    name=$1 status=$2 output=$4 errors=$5
+    shift 5
+    run "$@"
+    check "$name" "$status" "$output" "$errors"
+}
+
+# What a row without a name is about: its command line. Its script has a command that would be answered.
+script_unread='stepi\n'
+
+# result OUTPUT ARGUMENT..: the command line gives this output, and status 0.
+result() {
+    output=$1
+    shift
+    row "bpfdb $*" 0 "$script_unread" "$output" '' "$@"
+}
+
+# stopped LINE ARGUMENT..: a run that doesn't reach the program's end: status 1, and this line on standard error.
+stopped() {
+    line=$1
+    shift
+    row "bpfdb $*" 1 "$script_unread" '' "$line\n" "$@"
+}
+
+# refused LINE ARGUMENT..: the command line is answered by this line on standard error alone, and status 2.
+refused() {
+    line=$1
+    shift
+    row "bpfdb $*" 2 "$script_unread" '' "$line\n" "$@"
+}
+
+# usage TEXT ARGUMENT..: the command line is none of bpfdb's: status 2, and on standard error `error: TEXT`, perhaps more,
+# and where to find help.
+usage() {
+    text=$1
+    shift
+    printf '%b' "$script_unread" > script
+    run "$@"
+    check_usage "bpfdb $*"
+}
+
+# check_usage NAME: the last run was told that its command line is none, by $text.
+check_usage() {
+    cp found/err message
+    { head -n 1 message; tail -n 1 message; } > found/err
+    check "$1" 2 '' "error: $text\nFor more information, try '--help'.\n" || cat message
+}
+
+# session NAME SCRIPT REPLIES ARGUMENT..: the script is answered by these replies.
+session() {
+    name=$1 script=$2 replies=$3
+    shift 3
+    row "$name" 0 "$script" "$replies" '' "$@"
+}
+
+# text FILE: the lines of a file, as printf's %b reads them.
+text() {
+    sed 's/\\/\\\\/g; s/$/\\n/' "$1" | tr -d '\n'
+}
+
+# bytes FILE BYTE..: writes bytes, each as two hexadecimal digits; EXIT stands for the eight of `exit`. They are left in
+# $text as printf's %b reads them.
+bytes() {
+    file=$1 text=
+    shift
+    for byte in "$@"; do
+        case $byte in
+            EXIT) text="$text\\0225\\00\\00\\00\\00\\00\\00\\00" ;;
+            *) text="$text\\0$((0x$byte / 64))$((0x$byte / 8 % 8))$((0x$byte % 8))" ;;
+        esac
+    done
+    printf '%b' "$text" > "$file"
+}
+
+# same NAME FILE FILE: two files have the same bytes.
+same() {
+    count=$((count + 1))
+    cmp -s "$2" "$3" && return 0
+    complain "$1"
+    od -An -v -tx1 "$2" > wanted/bytes
+    od -An -v -tx1 "$3" > found/bytes
+    echo "  bytes ('<' of $2, '>' of $3):"
+    diff wanted/bytes found/bytes | head -n 10
+    return 1
+}

@@ -1,0 +1,152 @@
+# What jobs give: programs that are run, checked, assembled and written as listings, with values from RFC 9669 and the manual.
+
+# Programs that are run: the result, or the line of the fault, and the bytes.
+while IFS='|' read -r way answer hex; do
+    bytes program $hex
+    case $way in
+        result) result "$answer\n" run program ;;
+        fault) stopped "$answer" run program ;;
+    esac
+done <<'ROWS'
+result|0x2a|b7 00 00 00 2a 00 00 00 EXIT
+result|0xffffffff|b4 00 00 00 ff ff ff ff EXIT
+result|0xffffffffffffffff|b7 00 00 00 ff ff ff ff EXIT
+result|0x8000000000000000|18 00 00 00 00 00 00 00 00 00 00 00 00 00 00 80 37 00 01 00 ff ff ff ff EXIT
+result|0x5|18 00 00 00 05 00 00 00 00 00 00 00 01 00 00 00 9c 10 00 00 00 00 00 00 EXIT
+result|0x100000005|18 00 00 00 05 00 00 00 00 00 00 00 01 00 00 00 9f 10 00 00 00 00 00 00 EXIT
+result|0xffffffffffffffff|b7 00 00 00 f3 ff ff ff 97 00 01 00 03 00 00 00 EXIT
+result|0x8877|18 00 00 00 88 77 66 55 00 00 00 00 44 33 22 11 dc 00 00 00 10 00 00 00 EXIT
+result|0x88776655|18 00 00 00 88 77 66 55 00 00 00 00 44 33 22 11 d7 00 00 00 20 00 00 00 EXIT
+result|0x0|71 a0 00 fe 00 00 00 00 EXIT
+fault|fault access 0x1ffffffff at 0|71 a0 ff fd 00 00 00 00 EXIT
+fault|fault access 0x200000200 at 0|7a 0a 00 00 07 00 00 00 EXIT
+fault|fault access 0x0 at 2|18 01 00 00 ff ff ff ff 00 00 00 00 ff ff ff ff 71 10 01 00 00 00 00 00 EXIT
+fault|fault depth at 0|85 10 00 00 ff ff ff ff EXIT
+fault|fault token 0x0 at 0|85 00 00 00 01 00 00 00 EXIT
+ROWS
+
+bytes program b7 00 00 00 2a 00 00 00 EXIT
+others='r1=0x0 r2=0x0 r3=0x0 r4=0x0 r5=0x0 r6=0x0 r7=0x0 r8=0x0 r9=0x0 r10=0x200000200'
+result '0x2a\n' run --steps 2 program
+stopped 'step limit 1 reached at 1' run --steps 1 program
+session 'there and back' 'stepi\ninfo regs\nreverse-stepi\nstepi 5\nstepi\nquit\n' \
+    "1 forward; done; at 1: exit\nr0=0x2a $others\nat 1: exit\n1 back; done; at 0: mov r0, 42\n\
+2 forward; end; exited at 1: r0 0x2a\nrefused Q3: the machine has ended\n" debug program
+bytes endless 05 00 ff ff 00 00 00 00
+stopped 'step limit 7 reached at 0' run --steps 7 endless
+
+# A context that is read, and edits of it.
+bytes load 79 11 00 00 00 00 00 00 EXIT
+bytes eight 01 02 03 04 05 06 07 08
+zeros='r3=0x0 r4=0x0 r5=0x0 r6=0x0 r7=0x0 r8=0x0 r9=0x0 r10=0x200000200'
+session 'the context' 'stepi\ninfo regs\nreverse-stepi\ninfo regs\n' \
+    "1 forward; done; at 1: exit\nr0=0x0 r1=0x807060504030201 r2=0x8 $zeros\nat 1: exit\n\
+1 back; done; at 0: ldxdw r1, [r1+0]\nr0=0x0 r1=0x100000000 r2=0x8 $zeros\nat 0: ldxdw r1, [r1+0]\n" debug -m eight load
+bytes past 79 10 01 00 00 00 00 00 EXIT
+stopped 'fault access 0x100000001 at 0' run -m eight past
+
+# A journal that is full.
+bytes count 07 00 00 00 01 00 00 00 05 00 fe ff 00 00 00 00
+session 'a journal of 1,024 bytes' \
+    'stepi 100\ninfo history\nundo\nreverse-stepi 100\ninfo regs\nreverse-stepi\n' \
+    "100 forward; done; at 0: add r0, 1\n89 moves, 0 commands, 1019 of 1024 bytes\nrefused Q5: fewer kept commands\n\
+89 back; start; at 1: ja L0\nr0=0x6 $others\nat 1: ja L0\nrefused Q4: no kept step\n" debug --journal 1024 count
+
+# Maps.
+bytes update 18 51 00 00 00 00 00 00 00 00 00 00 00 00 00 00 bf a2 00 00 00 00 00 00 07 02 00 00 f8 ff ff ff \
+    18 63 00 00 00 00 00 00 00 00 00 00 04 00 00 00 85 00 00 00 02 00 00 00 EXIT
+result 'ok 6 instructions in 8 slots\n' check --maps 8x2 update
+result 'ldmap r1, 0\nmov r2, r10\nadd r2, -8\nldmapval r3, 0, 4\ncall 2\nexit\n' disasm --maps 8x2 update
+result '0x0\n' run --maps 8x2 update
+for subcommand in run debug disasm check; do
+    refused 'refused C12 at slot 0: no such map or offset' $subcommand update
+done
+session 'maps' "set cell 0 0 0102030405060708\nset cell 0 1 090a0b0c0d0e0f10\nset cell 0 1 0102\ncontinue\n\
+x 0x300000000 16\ninfo history\nundo\nx 0x300000000 16\nset reg r4 1\ncontinue\n" \
+    "ok\nok\nrefused Q14: no such cell or wrong length\n6 forward; end; exited at 7: r0 0x0\n\
+0x300000000: 05060708090a0b0c090a0b0c0d0e0f10\n8 moves, 3 commands, 142 of 65536 bytes\n6 back; done; at 0: ldmap r1, 0\n\
+0x300000000: 0102030405060708090a0b0c0d0e0f10\nok\n6 forward; end; exited at 7: r0 0xffffffffffffffef\n" debug --maps 8x2 update
+
+# assembled LISTING BYTE..: the bytes that the listing (as printf's %b reads it) is assembled to.
+assembled() {
+    listing=$1
+    shift
+    printf '%b' "$listing" > listing.s
+    bytes wanted/words "$@"
+    row "bpfdb asm of $listing" 0 '' "$text" '' asm listing.s
+    same "the bytes of $listing" wanted/words found/out
+}
+
+loop='; count\nloop: add r0, 1\njlt r0, 0x3, loop\nexit\n'
+assembled "$loop" 07 00 00 00 01 00 00 00 a5 00 fe ff 03 00 00 00 EXIT
+cp found/out loop
+cp listing.s loop.s
+result 'L0:\nadd r0, 1\njlt r0, 3, L0\nexit\n' disasm loop
+result 'L0:\nadd r0, 1\njlt r0, 3, L0\nexit\n' disasm --listing loop.s
+result 'ok 3 instructions in 3 slots\n' check loop
+result 'ok 3 instructions in 3 slots\n' check --listing loop.s
+result '0x3\n' run loop
+assembled ''
+assembled '; nothing\n\n \t\r\nlabel:\n'
+assembled 'exit' EXIT
+assembled 'exit\r\n' EXIT
+assembled 'lddw r1, -1' 18 01 00 00 ff ff ff ff 00 00 00 00 ff ff ff ff
+assembled 'stxdw [ r10 - 8 ] , r1' 7b 1a f8 ff 00 00 00 00
+assembled 'x: ja x' 05 00 ff ff 00 00 00 00
+assembled 'atomic_cmpxchg32 [r1], r2' c3 21 00 00 f1 00 00 00
+assembled 'be16 r0' dc 00 00 00 10 00 00 00
+assembled 'ja e\ne:' 05 00 00 00 00 00 00 00
+assembled 'mov r0, 10' b7 00 00 00 0a 00 00 00
+assembled 'mov r0, 4294967295\nexit\n' b7 00 00 00 ff ff ff ff EXIT
+result 'mov r0, -1\nexit\n' disasm --listing listing.s
+printf 'ja e\ne:' > listing.s
+refused 'refused C8 at slot 0: target is no instruction' check --listing listing.s
+
+# Listings of one line that are refused.
+while IFS='|' read -r answer listing; do
+    printf '%s' "$listing" > listing.s
+    refused "refused $answer" asm listing.s
+done <<'ROWS'
+A2 at line 1: wrong operands|mov r0
+A3 at line 1: number out of range|mov r0, 4294967296
+A5 at line 1: unknown label|jeq r0, 1, far
+A1 at line 1: unknown mnemonic|frob r0
+ROWS
+
+# The listings of tests/program/listings, written back, are assembled to the same bytes; and what is written back stays.
+for listing in "$parts"/listings/*.s; do
+    name=${listing##*/}
+    : > script
+    "$program" asm "$listing" > words && "$program" disasm --maps 8x256 words > canonical.s &&
+        "$program" asm canonical.s > words_again && "$program" disasm --maps 8x256 --listing canonical.s > canonical_again.s ||
+        complain "$name: asm and disasm"
+    [ -s words ] || complain "$name: no bytes"
+    same "$name: asm, disasm, asm" words words_again
+    same "$name: disasm, asm, disasm" canonical.s canonical_again.s
+    run run --maps 8x256 --listing "$listing"
+    mv found/out found/from_listing
+    run run --maps 8x256 words
+    same "$name: the listing runs as its bytes do" found/from_listing found/out
+done
+bytes wanted/words b7 00 00 00 00 00 00 00 15 02 05 00 00 00 00 00 71 13 00 00 00 00 00 00 0f 30 00 00 00 00 00 00 \
+    07 01 00 00 01 00 00 00 07 02 00 00 ff ff ff ff 05 00 fa ff 00 00 00 00 EXIT
+"$program" asm "$parts/listings/sum.s" > words
+same "sum.s: its bytes" wanted/words words
+result '0x24\n' run -m eight words
+result '0x0\n' run words
+
+# The longest program.
+yes exit | head -n 65535 > longest.s
+"$program" asm longest.s > longest
+yes "$(printf '\225\1\1\1\1\1\1')" | tr '\1\n' '\0\0' | head -c 524280 > wanted/words
+same 'the longest program' wanted/words longest
+result 'ok 65535 instructions in 65535 slots\n' check longest
+: > wanted/err
+echo 0 > wanted/status
+cp longest.s wanted/out
+run disasm longest
+compare 'bpfdb disasm longest'
+{ echo 'ja far'; yes exit | head -n 32767; echo 'far: exit'; } > far.s
+result 'ok 32769 instructions in 32769 slots\n' check --listing far.s
+{ echo 'ja32 far'; yes exit | head -n 32768; echo 'far: exit'; } > far.s
+result 'ok 32770 instructions in 32770 slots\n' check --listing far.s

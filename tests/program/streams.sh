@@ -1,0 +1,200 @@
+# Standard input, output and error that are closed or fail, devices that are full, and readers that leave.
+
+unread='cannot read input\n'
+unwritten='cannot write output\n'
+bytes program b7 00 00 00 2a 00 00 00 EXIT
+bytes endless 05 00 ff ff 00 00 00 00
+printf 'mov r0, 42\nexit\n' > program.s
+: > empty
+cp "$top/crates/bpfdb/stdin" script
+
+# found NAME STATUS OUTPUT ERRORS: holds the status that the last command left against what was wanted.
+found() {
+    echo $? > found/status
+    check "$@"
+}
+
+# Standard input that can't be read is no concern of those that don't read it.
+"$program" < . > found/out 2> found/err
+found "input that can't be read" 2 '' "$unread"
+"$program" debug program < . > found/out 2> found/err
+found "debug: input that can't be read" 2 '' "$unread"
+"$program" run program < . > found/out 2> found/err
+found "run: input that can't be read" 0 '0x2a\n' ''
+"$program" <&- > found/out 2> found/err
+found 'closed input' 0 '' ''
+"$program" debug program <&- > found/out 2> found/err
+found 'debug: closed input' 0 '' ''
+"$program" debug -m script script <&- > found/out 2> found/err
+found 'debug: closed input, a refused program' 2 '' 'refused C3: length is no multiple of 8\n'
+"$program" run -m program program <&- > found/out 2> found/err
+found 'run: closed input' 0 '0x2a\n' ''
+
+# each WAY: what each command line that writes comes to with an output that fails, with WAY to run it.
+each() {
+    : > found/out
+    while read -r arguments; do
+        "$1" $arguments
+        found "$1 $arguments" 2 '' "$unwritten"
+    done <<'ROWS'
+
+run program
+run --listing program.s
+debug program
+debug --listing program.s
+asm program.s
+disasm program
+check program
+check --listing program.s
+--help
+-h
+help
+run --help
+debug -h
+ROWS
+}
+
+# to_full ARGUMENT..: the output is a full device.
+to_full() {
+    "$program" "$@" < script > /dev/full 2> found/err
+}
+
+# to_closed ARGUMENT..: the output is closed.
+to_closed() {
+    "$program" "$@" < script >&- 2> found/err
+}
+
+# to_input ARGUMENT..: the output is open for reading alone.
+to_input() {
+    "$program" "$@" < script 1< program 2> found/err
+}
+
+# to_left ARGUMENT..: the output is a pipe whose reader has left.
+to_left() {
+    "$program" "$@" < script >&5 2> found/err
+}
+
+# (who opens a pipe to write waits for one who opens it to read; that one ends at once)
+mkfifo pipe
+: < pipe &
+exec 5> pipe
+wait
+
+[ -c /dev/full ] && each to_full
+each to_closed
+each to_input
+each to_left
+[ -c /dev/full ] && to_full asm empty
+found 'no bytes to write to a full device' 0 '' ''
+to_closed asm empty
+found 'no bytes to write to a closed output' 0 '' ''
+: > script
+to_full debug program
+found 'no reply to write to a full device' 0 '' ''
+cp "$top/crates/bpfdb/stdin" script
+
+# A fault that can't be told: the status is 2, whatever it would have been.
+: > found/out
+: > found/err
+while read -r arguments; do
+    [ -c /dev/full ] && "$program" $arguments < script > found/out 2> /dev/full
+    found "a full standard error: $arguments" 2 '' ''
+    "$program" $arguments < script > found/out 2>&-
+    found "closed standard error: $arguments" 2 '' ''
+    "$program" $arguments < script > found/out 2>&5
+    found "a standard error whose reader has left: $arguments" 2 '' ''
+    "$program" $arguments <&- >&- 2>&-
+    found "all closed: $arguments" 2 '' ''
+    [ -c /dev/full ] && "$program" $arguments < script > /dev/full 2>&1
+    found "all full: $arguments" 2 '' ''
+done <<'ROWS'
+frob
+run
+run --steps 0 program
+run missing
+run -m missing program
+run empty
+run --steps 7 endless
+run --maps 0x1 program
+debug empty
+debug --journal 1023 program
+asm program
+disasm empty
+check empty
+ROWS
+
+# What has nothing to tell needs no standard error.
+[ -c /dev/full ] && "$program" run program > found/out 2> /dev/full
+found 'run: a full standard error' 0 '0x2a\n' ''
+"$program" run program > found/out 2>&-
+found 'run: closed standard error' 0 '0x2a\n' ''
+"$program" --help > found/help 2>&-
+: > found/out
+found '--help: closed standard error' 0 '' ''
+same '--help: closed standard error' "$parts/help/bpfdb.txt" found/help
+while read -r arguments; do
+    "$program" $arguments < script >&- 2>&-
+    found "closed output and closed standard error: $arguments" 2 '' ''
+    "$program" $arguments <&- >&5 2>&5
+    found "an output and a standard error whose reader has left: $arguments" 2 '' ''
+done <<'ROWS'
+run program
+asm program.s
+disasm program
+check program
+--help
+ROWS
+"$program" debug program < script >&- 2>&-
+found 'closed output and closed standard error: debug' 2 '' ''
+"$program" < script >&- 2>&-
+found 'closed output and closed standard error' 2 '' ''
+exec 5>&-
+
+# Readers that leave in the middle: of a long output, and of a session.
+yes exit | head -n 65535 > long.s
+for arguments in 'disasm --listing long.s' 'asm long.s'; do
+    {
+        "$program" $arguments 2> found/err
+        echo $? > found/status
+    } | head -c 0
+    check "a reader that leaves at once: $arguments" 2 '' "$unwritten"
+    {
+        "$program" $arguments 2> found/err
+        echo $? > found/status
+    } | head -c 1 > found/byte
+    check "a reader that leaves after a byte: $arguments" 2 '' "$unwritten"
+done
+
+# feed SCRIPT: the script, and one more step once the reader of the replies has left, for which it waits 10 seconds at most.
+feed() {
+    printf '%b' "$1"
+    waited=0
+    until [ -e left ] || [ "$waited" -ge 10 ]; do
+        sleep 1
+        waited=$((waited + 1))
+    done
+    echo stepi
+}
+
+# obey ARGUMENT..: runs the program between two pipes.
+obey() {
+    "$program" "$@" 2> found/err
+    echo $? > found/status
+}
+
+feed '' | obey | {
+    exec <&-
+    : > left
+}
+check 'a reader that leaves at once' 2 '' "$unwritten"
+rm left
+
+# (the first reply comes while the program waits for the next line, so it was flushed)
+feed 'stepi\n' | obey debug program | {
+    read -r reply
+    echo "$reply" > found/out
+    exec <&-
+    : > left
+}
+check 'a reader that leaves after the first reply' 2 '1 forward; done; at 1: exit\n' "$unwritten"
+: > found/out

@@ -1,0 +1,162 @@
+# The command line: each subcommand with each of its options in each of their forms, command lines that are none, and help.
+
+# Programs: one gives the context's first byte, one its length, one never ends; and a listing that has a map.
+bytes first 71 10 00 00 00 00 00 00 EXIT
+bytes length bf 20 00 00 00 00 00 00 EXIT
+bytes endless 05 00 ff ff 00 00 00 00
+bytes context 2a 01 00
+bytes mapped 18 61 00 00 00 00 00 00 00 00 00 00 07 00 00 00 79 10 00 00 00 00 00 00 EXIT
+printf 'ldxb r0, [r1+0]\nexit' > first.s
+printf 'ldmapval r3, 0, 4\nldxh r0, [r1]\nexit\n' > mapped.s
+mapped='ldmapval r3, 0, 4\nldxh r0, [r1+0]\nexit\n'
+
+# run
+result '0x2a\n' run -m context first
+result '0x2a\n' run -mcontext first
+result '0x2a\n' run -m=context first
+result '0x2a\n' run --mem context first
+result '0x2a\n' run --mem=context first
+result '0x2a\n' run first --mem context
+result '0x3\n' run length --mem context
+result '0x0\n' run length
+stopped 'fault access 0x0 at 0' run first
+result '0x2a\n' run -m context --listing first.s
+result '0x12a\n' run --listing --maps 8x2 -m context --steps 1000000000 mapped.s
+result '0x12a\n' run --maps=8x2 --steps=3 --mem=context mapped.s --listing
+stopped 'step limit 1 reached at 1' run --steps 1 length
+stopped 'step limit 2 reached at 0' run --steps=2 endless
+stopped 'step limit 1000000 reached at 0' run endless
+result '0x0\n' run -- length
+
+# debug: the journal's size and the limit of steps show in replies.
+session 'debug -m, --journal, --steps' 'stepi\ninfo history\nx 0x100000000 3\n' \
+    '1 forward; done; at 1: exit\n1 moves, 1 commands, 16 of 1024 bytes\n0x100000000: 2a0100\n' \
+    debug -m context --journal 1024 --steps 7 first
+session 'debug --mem=, --journal=' 'stepi\ninfo history\n' \
+    '1 forward; done; at 1: exit\n1 moves, 1 commands, 16 of 16777216 bytes\n' \
+    debug --mem=context --journal=16777216 first
+session 'debug --mem, no other option' 'info history\nstepi 2\n' \
+    '0 moves, 0 commands, 0 of 65536 bytes\n2 forward; end; exited at 1: r0 0x2a\n' debug --mem context first
+session 'debug -mPATH' 'stepi 2\n' '2 forward; end; exited at 1: r0 0x2a\n' debug -mcontext first
+session 'debug --steps 7' 'continue\nstepi 9\n' '7 forward; limit; at 0: ja L0\n7 forward; limit; at 0: ja L0\n' \
+    debug --steps 7 endless
+session 'debug --steps=1' 'continue\n' '1 forward; limit; at 0: ja L0\n' debug --steps=1 endless
+session 'debug endless' 'continue\n' '1000000 forward; limit; at 0: ja L0\n' debug endless
+session 'debug --maps, --listing' 'disas 0 256\nset cell 0 1 0102030405060708\nx 0x300000008 8\n' \
+    '0: ldmapval r3, 0, 4\n2: ldxh r0, [r1+0]\n3: exit\nok\n0x300000008: 0102030405060708\n' \
+    debug --maps 8x2 --listing mapped.s
+session 'debug --maps=' 'stepi\n' '1 forward; done; at 2: ldxdw r0, [r1+0]\n' debug --maps=8x1 mapped
+
+# disasm, check, asm
+result "$mapped" disasm --listing --maps 8x2 mapped.s
+result "$mapped" disasm --maps=8x2 mapped.s --listing
+result 'ldmapval r1, 0, 7\nldxdw r0, [r1+0]\nexit\n' disasm --maps 8x1 mapped
+result 'ldxb r0, [r1+0]\nexit\n' disasm first
+result 'ldxb r0, [r1+0]\nexit\n' disasm -- first
+result 'ok 3 instructions in 4 slots\n' check --maps 8x2 --listing mapped.s
+result 'ok 3 instructions in 4 slots\n' check mapped --maps=8x1
+result 'ok 2 instructions in 2 slots\n' check first
+result 'ok 1 instructions in 1 slots\n' check endless
+printf '%b' "$script_unread" > script
+run asm first.s
+cp first wanted/out
+: > wanted/err
+echo 0 > wanted/status
+compare 'bpfdb asm first.s'
+
+# Options that the subcommand doesn't have.
+for absent in 'run --journal=65536' 'debug -j=65536' 'asm -m=context' 'asm --mem=context' 'asm --maps=8x2' 'asm --journal=65536' \
+    'asm --steps=7' 'asm --listing' 'disasm -m=context' 'disasm --mem=context' 'disasm --journal=65536' 'disasm --steps=7' \
+    'check -m=context' 'check --mem=context' 'check --journal=65536' 'check --steps=7'
+do
+    subcommand=${absent%% *} option=${absent#* }
+    name=${option%%=*}
+    usage "unexpected argument '$name' found" "$subcommand" "$option" first
+    case $option in
+        *=*)
+            usage "unexpected argument '$name' found" "$subcommand" "$name" "${option#*=}" first
+            usage "unexpected argument '$name' found" "$subcommand" first "$name" "${option#*=}" ;;
+    esac
+done
+
+# Other command lines that are none.
+usage "unrecognized subcommand 'frob'" frob
+usage "unrecognized subcommand 'frob'" frob first
+usage "unrecognized subcommand 'frob'" help frob
+usage "unrecognized subcommand 'RUN'" RUN first
+usage "unrecognized subcommand ''" ''
+usage "unexpected argument '--frob' found" --frob
+usage "unexpected argument '--steps' found" --steps 7 run first
+usage "unexpected argument '-x' found" run -x first
+usage "unexpected argument '--step' found" run --step 7 first
+usage "unexpected argument '--Steps' found" run --Steps 7 first
+usage "unexpected argument 'second' found" run first second
+for subcommand in run debug asm disasm check; do
+    usage 'the following required arguments were not provided:' $subcommand
+    usage "unexpected argument 'second' found" $subcommand first second
+    usage "unexpected argument '--frob' found" $subcommand --frob first
+done
+for subcommand in run debug; do
+    for number in 0 1000000001 18446744073709551615; do
+        usage "invalid value '$number' for '--steps <N>': $number is not in 1..=1000000000" $subcommand --steps $number first
+        usage "invalid value '$number' for '--steps <N>': $number is not in 1..=1000000000" $subcommand --steps=$number first
+    done
+    for number in x 0x10 1e3 1.5 ' 7' '7 '; do
+        usage "invalid value '$number' for '--steps <N>': invalid digit found in string" $subcommand --steps "$number" first
+    done
+    usage "invalid value '-1' for '--steps <N>': invalid digit found in string" $subcommand --steps=-1 first
+    usage "invalid value '18446744073709551616' for '--steps <N>': number too large to fit in target type" \
+        $subcommand --steps 18446744073709551616 first
+    usage "the argument '--steps <N>' cannot be used multiple times" $subcommand --steps 7 --steps 7 first
+    usage "the argument '--mem <PATH>' cannot be used multiple times" $subcommand -m context --mem context first
+    usage "a value is required for '--steps <N>' but none was supplied" $subcommand first --steps
+    usage "a value is required for '--mem <PATH>' but none was supplied" $subcommand first -m
+    usage "a value is required for '--mem <PATH>' but none was supplied" $subcommand first --mem
+done
+for subcommand in run debug disasm check; do
+    usage "a value is required for '--maps <VxN,VxN>' but none was supplied" $subcommand first --maps
+    usage "the argument '--maps <VxN,VxN>' cannot be used multiple times" $subcommand --maps 8x2 --maps 8x2 mapped
+    usage "the argument '--listing' cannot be used multiple times" $subcommand --listing --listing first.s
+    usage "unexpected value 'yes' for '--listing' found; no more were expected" $subcommand --listing=yes first.s
+done
+for number in 0x400 1k 1024.0; do
+    usage "invalid value '$number' for '--journal <J>': invalid digit found in string" debug --journal $number first
+done
+usage "invalid value '-1' for '--journal <J>': invalid digit found in string" debug --journal=-1 first
+usage "invalid value '18446744073709551616' for '--journal <J>': number too large to fit in target type" \
+    debug --journal=18446744073709551616 first
+usage "a value is required for '--journal <J>' but none was supplied" debug first --journal
+usage "the argument '--journal <J>' cannot be used multiple times" debug --journal 1024 --journal 1024 first
+refused 'the command line is not UTF-8 text' run "$(printf '\377')"
+
+# help TEXT ARGUMENT..: the whole text of help is that of the file (tests/program/help.sh makes them).
+help() {
+    cp "$parts/help/$1.txt" wanted/out
+    : > wanted/err
+    echo 0 > wanted/status
+    shift
+    printf '%b' "$script_unread" > script
+    run "$@"
+    compare "bpfdb $*"
+}
+
+help bpfdb --help
+help bpfdb help
+help bpfdb-short -h
+for subcommand in run debug asm disasm check; do
+    help $subcommand $subcommand --help
+    help $subcommand help $subcommand
+    help $subcommand-short $subcommand -h
+    help $subcommand $subcommand --help first
+    help $subcommand $subcommand missing --help
+done
+
+# What the texts of help show.
+printf 'loop: add r0, 1\njlt r0, 3, loop\nexit\n' > count.s
+bytes count.bin 07 00 00 00 01 00 00 00 a5 00 fe ff 03 00 00 00 EXIT
+result '0x3\n' run --listing count.s
+session 'the example of bpfdb --help' 'stepi 3\nreverse-stepi\nundo\n' \
+    '3 forward; done; at 1: jlt r0, 3, L0\n1 back; done; at 0: add r0, 1\n2 back; done; at 0: add r0, 1\n' debug --listing count.s
+session 'the example of bpfdb debug --help' 'break 1\ncontinue\nundo\n' \
+    'ok\n1 forward; break; at 1: jlt r0, 3, L0\n1 back; done; at 0: add r0, 1\n' debug --journal 1048576 count.bin
+result 'L0:\nadd r0, 1\njlt r0, 3, L0\nexit\n' disasm count.bin
