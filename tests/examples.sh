@@ -1,0 +1,122 @@
+#!/bin/sh
+# The examples, through the built program (or the one that BPFDB names): each script gives its replies, each program assembles
+# and disassembles to itself, the example of a test suite passes and can fail, and the examples in docs/COMMANDS.md print what
+# they show. What is wrong is a line each.
+set -u
+cd "$(dirname "$0")/.." || exit 1
+[ -n "${BPFDB:-}" ] || sh tests/build.sh || exit 1
+BPFDB=${BPFDB:-$PWD/crates/bpfdb/out/bpfdb}
+export BPFDB
+work=$(mktemp -d) || exit 1
+trap 'rm -rf "$work"' EXIT
+top=$PWD
+count=0
+: > "$work/faults"
+
+# fault TEXT: says what is wrong; the run fails at its end.
+fault() {
+    printf 'FAILED: %s\n' "$1" | tee -a "$work/faults"
+}
+
+# first_difference WANTED FOUND: the first line in which two files differ.
+first_difference() {
+    awk '
+        NR == FNR { wanted[FNR] = $0; n = FNR; next }
+        { m = FNR }
+        $0 != wanted[FNR] || FNR > n { printf "line %d is \"%s\", and not \"%s\"", FNR, $0, wanted[FNR]; told = 1; exit }
+        END { if (!told) printf "it ends behind line %d of %d", m, n }
+    ' "$1" "$2"
+}
+
+# expect NAME STATUS OUTPUT ERRORS: holds the last run, which left status, out and err, against a status and two files.
+expect() {
+    [ "$status" = "$2" ] || fault "$1: the exit status is $status, and not $2"
+    cmp -s "$3" "$work/out" || fault "$1: $(first_difference "$3" "$work/out")"
+    cmp -s "$4" "$work/err" || fault "$1: standard error: $(first_difference "$4" "$work/err")"
+}
+
+# replies NAME: the script of an example, obeyed in its folder.
+replies() {
+    # (The arguments are words without quotes.)
+    # shellcheck disable=SC2046
+    "$BPFDB" debug $(cat arguments) < script > "$work/out" 2> "$work/err"
+    status=$?
+    expect "examples/$1/script" 0 replies /dev/null
+}
+
+# round NAME: the program's bytes, the listing that is made of them, and its bytes again.
+round() {
+    maps=$(sed -n 's/.*--maps \([^ ]*\).*/--maps \1/p' arguments)
+    case $(cat arguments) in
+    *--listing*) "$BPFDB" asm program.s > "$work/bytes" || fault "examples/$1/program.s doesn't assemble" ;;
+    *) cp program.bin "$work/bytes" ;;
+    esac
+    # shellcheck disable=SC2086
+    "$BPFDB" disasm $maps "$work/bytes" > "$work/listing" || fault "examples/$1 doesn't disassemble"
+    "$BPFDB" asm "$work/listing" > "$work/again" || fault "examples/$1: its listing doesn't assemble"
+    cmp -s "$work/bytes" "$work/again" || fault "examples/$1: its listing has other bytes"
+}
+
+# plain NAME STATUS OUTPUT ERRORS: a run of an example without a session; the texts are lines, or empty.
+plain() {
+    cd "$top/examples/$1" || exit 1
+    # shellcheck disable=SC2046
+    "$BPFDB" run $(cat arguments) > "$work/out" 2> "$work/err"
+    status=$?
+    printf '%s' "${3:+$3
+}" > "$work/wanted-out"
+    printf '%s' "${4:+$4
+}" > "$work/wanted-err"
+    expect "bpfdb run of examples/$1" "$2" "$work/wanted-out" "$work/wanted-err"
+    cd "$top" || exit 1
+}
+
+# suite: the example of a test suite passes, and fails where the program is wrong.
+suite() {
+    sh examples/suite/test.sh > "$work/out" 2> "$work/err"
+    status=$?
+    expect 'examples/suite/test.sh' 0 /dev/null /dev/null
+    sed 's/add r3, -1/add r3, -2/' examples/suite/program.s > "$work/wrong.s"
+    sh examples/suite/test.sh "$work/wrong.s" > "$work/out" 2>&1 && fault 'examples/suite/test.sh passes a wrong program'
+}
+
+# manual: each command behind '$ ' in the examples of docs/COMMANDS.md prints the lines that follow it there. They are run in one
+# folder, in order.
+manual() {
+    mkdir "$work/manual" "$work/bin" || exit 1
+    ln -s "$BPFDB" "$work/bin/bpfdb" || exit 1
+    awk -v work="$work" '
+        /^## / { inside = $0 == "## EXAMPLES" }
+        /^```/ { block = !block; next }
+        inside && block && /^\$ / { n++; print substr($0, 3) > (work "/command-" n); printf "" > (work "/shown-" n); next }
+        inside && block { print > (work "/shown-" n) }
+    ' docs/COMMANDS.md
+    n=1
+    while [ -f "$work/command-$n" ]; do
+        (cd "$work/manual" && PATH=$work/bin:$PATH && export PATH && sh "$work/command-$n") > "$work/out" 2>&1
+        cmp -s "$work/shown-$n" "$work/out" ||
+            fault "docs/COMMANDS.md: '$(cat "$work/command-$n")': $(first_difference "$work/shown-$n" "$work/out")"
+        n=$((n + 1))
+    done
+    [ "$n" -gt 1 ] || fault 'docs/COMMANDS.md has no examples'
+}
+
+for folder in examples/*/; do
+    name=$(basename "$folder")
+    cd "$folder" || exit 1
+    replies "$name"
+    round "$name"
+    cd "$top" || exit 1
+    count=$((count + 1))
+done
+[ "$count" -ge 6 ] || fault "there are $count examples"
+plain count 0 0x3 ''
+plain checksum 0 0xb861 ''
+plain counters 0 0x1 ''
+plain fault 1 '' 'fault access 0x100000083 at 9'
+plain suite 0 0x1 ''
+plain wrong-byte 0 0x0 ''
+suite
+manual
+[ ! -s "$work/faults" ] || exit 1
+echo "tests/examples.sh: $count examples passed"
