@@ -13,6 +13,7 @@ test:
 # Makes the tables of the pages anew, and holds the pages against the repository.
 pages:
 	@sh docs/tables.sh
+	@sh docs/man.sh
 	@sh tests/pages.sh
 
 # Lays every crate out.

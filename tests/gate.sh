@@ -41,4 +41,5 @@ part 'tests/pages.sh' sh tests/pages.sh
 echo 'rt ci: every proof from nothing, the must-fail edits, each test and program (an hour or more on four cores)'
 part 'rt ci' prove
 part 'tests/program.sh' sh tests/program.sh
+part 'tests/examples.sh' sh tests/examples.sh
 tail -n 1 "$log"

@@ -1,6 +1,7 @@
 #!/bin/sh
 # What README.md and docs/ say of the repository, held against it: the tables made from the files, the files, functions,
-# clauses and definitions that a page names, the session that README shows, and the toolchain that it names.
+# clauses and definitions that a page names, the sessions that README and examples/README.md show, the commands and refusals of
+# the manual and its man page, and the toolchain that README names.
 set -u
 cd "$(dirname "$0")/.." || exit 1
 work=$(mktemp -d) || exit 1
@@ -34,7 +35,7 @@ files() {
 # names_of_files: each name of a file between backquotes on a page is one, or the end of one's path.
 names_of_files() {
     files > "$work/files"
-    for page in README.md CHANGELOG.md docs/*.md; do
+    for page in README.md CHANGELOG.md docs/*.md examples/README.md; do
         quoted < "$page" | grep -E '^[^ ]*\.(rt|antt|md|sh|txt)$' | spread | sort -u | while read -r name; do
             awk -v name="$name" '
                 $0 == name || substr($0, length($0) - length(name)) == "/" name { found = 1 }
@@ -105,10 +106,73 @@ session() {
     grep -v '^> ' "$work/session" | cmp -s - tests/session/replies || fault "README.md's session has other replies than tests/session/replies"
 }
 
+# examples: a session that examples/README.md shows under '## NAME' has the commands and the replies of examples/NAME.
+examples() {
+    shown=0
+    for folder in examples/*/; do
+        name=$(basename "$folder")
+        awk -v name="$name" '
+            /^## / { inside = $0 == "## " name }
+            /^```/ { block = !block; next }
+            inside && block && !/^\$ /
+        ' examples/README.md > "$work/session"
+        [ -s "$work/session" ] || continue
+        sed -n 's/^> //p' "$work/session" | cmp -s - "${folder}script" || fault "examples/README.md has other commands than ${folder}script"
+        grep -v '^> ' "$work/session" | cmp -s - "${folder}replies" || fault "examples/README.md has other replies than ${folder}replies"
+        shown=$((shown + 1))
+    done
+    [ "$shown" -gt 0 ] || fault "examples/README.md shows no session"
+}
+
+# commands: the commands of bpf_session's tables are the rows of docs/COMMANDS.md, in the same order.
+commands() {
+    awk -F '"' '
+        /^(settings|shows|commands) =$/ { table = substr($0, 1, length($0) - 2) }
+        /^$/ { table = "" }
+        table != "" && NF == 3 { names[table, ++count[table]] = $2; more[table, count[table]] = $3 }
+        END {
+            for (i = 1; i <= count["commands"]; i++) {
+                inner = match(more["commands", i], /one_of [a-z]+/) ? substr(more["commands", i], RSTART + 7, RLENGTH - 7) : ""
+                if (inner == "") print names["commands", i]
+                else for (j = 1; j <= count[inner]; j++) print names["commands", i], names[inner, j]
+            }
+        }
+    ' crates/bpf_session/specs/Commands.antt > "$work/commands"
+    awk -F ' *\\| *' '/^## / { inside = $0 == "## COMMANDS" } inside && NF > 3 && $2 ~ /`/ { print $2 }' docs/COMMANDS.md |
+        quoted | sed 's/ *\[*[A-Z].*//' > "$work/rows"
+    [ -s "$work/commands" ] && cmp -s "$work/commands" "$work/rows" && return
+    fault "docs/COMMANDS.md has other commands than crates/bpf_session/specs/Commands.antt, or another order"
+}
+
+# refusals: each number and text of the crates' refusals is a row of docs/COMMANDS.md, and no other is.
+refusals() {
+    cat crates/bpf_*/src/fault.rt crates/bpf_session/src/refusal.rt | awk '
+        BEGIN {
+            letter["LoadFault"] = letter["PieceFault"] = letter["WordFault"] = "C"
+            letter["LineFault"] = letter["AsmFault"] = "A"
+            letter["MapFault"] = "M"; letter["OpenFault"] = "O"; letter["JournalFault"] = "J"; letter["Refusal"] = "Q"
+        }
+        match($0, /[A-Za-z]+::[A-Za-z]+ => ([0-9]+|"[^"]*"),$/) {
+            split(substr($0, RSTART, RLENGTH - 1), parts, / => /)
+            split(parts[1], name, "::")
+            if (parts[2] ~ /^"/) print letter[name[1]] number[parts[1]], substr(parts[2], 2, length(parts[2]) - 2)
+            else number[parts[1]] = parts[2]
+        }
+    ' | sort -u > "$work/numbers"
+    sed -n 's/^| \([CAMOJQ][0-9]*\) | \([^|]*\) |.*/\1 \2/p' docs/COMMANDS.md | sort > "$work/rows"
+    diff "$work/numbers" "$work/rows" > "$work/diff" && [ -s "$work/numbers" ] && return
+    fault "docs/COMMANDS.md has other refusals ('>') than the crates ('<'):"
+    cat "$work/diff"
+}
+
 sh docs/tables.sh --check || fault 'tables of files'
 names_of_files
 contracts
 definitions
 session
+examples
+commands
+refusals
+sh docs/man.sh --check || fault 'the man page'
 grep -q -F "$(rt version)" README.md || fault "README.md does not name the toolchain, $(rt version)"
 [ ! -s "$work/faults" ]

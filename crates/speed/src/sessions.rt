@@ -1,5 +1,5 @@
-//! How fast commands run through a session: `continue` without breakpoints and with 64 that it never meets, and `reverse-continue`
-//! over what it left, beside the same steps through a timeline.
+//! How fast commands run through a session: `continue` with breakpoints and watches that it never meets and without, `last-write` and
+//! `reverse-continue` over what it left, beside the same steps through a timeline.
 
 use bpf_isa::{MapTable, check};
 use bpf_journal::{ListKeeper, Timeline};
@@ -20,8 +20,25 @@ const LOOP: [u8; 16] = [
     0x07, 0, 0, 0, 1, 0, 0, 0, 0xa5, 0, 0xfe, 0xff, 0xff, 0xff, 0xff, 0x7f,
 ];
 
+/// The address of frame 0.
+const FRAME: u64 = 0x2_0000_0000;
+
 /// exit.
 const EXIT: [u8; 8] = [0x95, 0, 0, 0, 0, 0, 0, 0];
+
+/// add r0, 1; stxdw [r10-8], r0; jlt r0, 2147483647, L0.
+const STORES: [u8; 24] = [
+    0x07, 0, 0, 0, 1, 0, 0, 0, 0x7b, 0x0a, 0xf8, 0xff, 0, 0, 0, 0, 0xa5, 0, 0xfd, 0xff, 0xff, 0xff,
+    0xff, 0x7f,
+];
+
+/// What a session is asked to stop at, and never meets.
+#[derive(Clone, Copy)]
+enum Stops {
+    Nothing,
+    Breakpoints,
+    Watches,
+}
 
 /// What is timed: the best of some rounds, in nanoseconds for so many steps.
 #[derive(Clone, Copy)]
@@ -30,38 +47,74 @@ struct Best {
     back: u128,
     on: u128,
     on_with_breaks: u128,
+    on_with_watches: u128,
     reverse: u128,
+    last_write: u128,
+    stores: u128,
+    stores_with_watches: u128,
 }
 
-/// Prints nanoseconds a step of each, and its ratio to the steps through a timeline.
+impl Best {
+    /// None yet.
+    fn new() -> Best {
+        Best {
+            steps: u128::MAX,
+            back: u128::MAX,
+            on: u128::MAX,
+            on_with_breaks: u128::MAX,
+            on_with_watches: u128::MAX,
+            reverse: u128::MAX,
+            last_write: u128::MAX,
+            stores: u128::MAX,
+            stores_with_watches: u128::MAX,
+        }
+    }
+
+    /// Prints nanoseconds a step of each, and its ratio to the same steps without what is asked for.
+    fn show(&self, rt: &HostRuntime) -> io::Result<()> {
+        show(rt, "steps through a timeline", self.steps, self.steps)?;
+        show(rt, "continue", self.on, self.steps)?;
+        show(
+            rt,
+            "continue with 64 breakpoints",
+            self.on_with_breaks,
+            self.on,
+        )?;
+        show(rt, "continue with 4 watches", self.on_with_watches, self.on)?;
+        show(rt, "continue over stores", self.stores, self.stores)?;
+        show(
+            rt,
+            "continue over stores with 4 watches",
+            self.stores_with_watches,
+            self.stores,
+        )?;
+        show(rt, "back through a timeline", self.back, self.back)?;
+        show(rt, "reverse-continue", self.reverse, self.back)?;
+        show(rt, "last-write over all of it", self.last_write, self.back)
+    }
+}
+
+/// Times sessions in some rounds.
 pub fn time_sessions(rt: &HostRuntime, rounds: u64) -> io::Result<()> {
-    let mut best = Best {
-        steps: u128::MAX,
-        back: u128::MAX,
-        on: u128::MAX,
-        on_with_breaks: u128::MAX,
-        reverse: u128::MAX,
-    };
+    let mut best = Best::new();
     for _ in 0..rounds {
         let (steps, back) = through_timeline(rt)?;
-        let (on, reverse) = through_session(rt, false)?;
-        let (on_with_breaks, _) = through_session(rt, true)?;
         best.steps = best.steps.min(steps);
         best.back = best.back.min(back);
-        best.on = best.on.min(on);
-        best.on_with_breaks = best.on_with_breaks.min(on_with_breaks);
-        best.reverse = best.reverse.min(reverse);
+        let on = through_session(rt, &LOOP, Stops::Nothing)?;
+        best.on = best.on.min(on.forward);
+        best.last_write = best.last_write.min(on.last_write);
+        best.reverse = best.reverse.min(on.reverse);
+        let with_breaks = through_session(rt, &LOOP, Stops::Breakpoints)?;
+        best.on_with_breaks = best.on_with_breaks.min(with_breaks.forward);
+        let with_watches = through_session(rt, &LOOP, Stops::Watches)?;
+        best.on_with_watches = best.on_with_watches.min(with_watches.forward);
+        let stores = through_session(rt, &STORES, Stops::Nothing)?;
+        best.stores = best.stores.min(stores.forward);
+        let watched = through_session(rt, &STORES, Stops::Watches)?;
+        best.stores_with_watches = best.stores_with_watches.min(watched.forward);
     }
-    show(rt, "steps through a timeline", best.steps, best.steps)?;
-    show(rt, "continue", best.on, best.steps)?;
-    show(
-        rt,
-        "continue with 64 breakpoints",
-        best.on_with_breaks,
-        best.steps,
-    )?;
-    show(rt, "back through a timeline", best.back, best.back)?;
-    show(rt, "reverse-continue", best.reverse, best.back)
+    best.show(rt)
 }
 
 fn show(rt: &HostRuntime, what: &str, nanoseconds: u128, beside: u128) -> io::Result<()> {
@@ -77,10 +130,10 @@ fn show(rt: &HostRuntime, what: &str, nanoseconds: u128, beside: u128) -> io::Re
     )
 }
 
-/// A machine on the loop with 64 slots behind it, if memory suffices.
-fn opened(alloc: Global) -> Option<Cpu> {
+/// A machine on a loop with 64 slots behind it, if memory suffices.
+fn opened(alloc: Global, program: &[u8]) -> Option<Cpu> {
     let mut bytes = Vec::new(alloc);
-    bytes.extend_from_slice(&LOOP).ok()?;
+    bytes.extend_from_slice(program).ok()?;
     for _ in 0..64 {
         bytes.extend_from_slice(&EXIT).ok()?;
     }
@@ -90,7 +143,7 @@ fn opened(alloc: Global) -> Option<Cpu> {
 
 /// Steps forward and back without a session.
 fn through_timeline(rt: &HostRuntime) -> io::Result<(u128, u128)> {
-    let Some(cpu) = opened(rt.alloc()) else {
+    let Some(cpu) = opened(rt.alloc(), &LOOP) else {
         return Ok((0, 0));
     };
     let Ok(keeper) = ListKeeper::open(rt.alloc(), SIZE) else {
@@ -113,24 +166,59 @@ fn through_timeline(rt: &HostRuntime) -> io::Result<(u128, u128)> {
     Ok((forward, start.elapsed(rt)?.as_nanos()))
 }
 
-/// The same as commands.
-fn through_session(rt: &HostRuntime, with_breaks: bool) -> io::Result<(u128, u128)> {
-    let Some(cpu) = opened(rt.alloc()) else {
-        return Ok((0, 0));
+/// Nanoseconds of the commands of a session.
+#[derive(Clone, Copy)]
+struct Timed {
+    forward: u128,
+    last_write: u128,
+    reverse: u128,
+}
+
+/// The same as commands: `continue`, `last-write` of a byte that never changed, `reverse-continue`.
+fn through_session(rt: &HostRuntime, program: &[u8], stops: Stops) -> io::Result<Timed> {
+    let mut timed = Timed {
+        forward: 0,
+        last_write: 0,
+        reverse: 0,
+    };
+    let Some(cpu) = opened(rt.alloc(), program) else {
+        return Ok(timed);
     };
     let Ok(keeper) = ListKeeper::open(rt.alloc(), SIZE) else {
-        return Ok((0, 0));
+        return Ok(timed);
     };
     let mut session = Session::open(cpu, keeper, STEPS);
-    if with_breaks {
-        for slot in 2..66u64 {
-            let _ = session.apply(&Command::Break(slot));
+    set_stops(&mut session, stops);
+    timed.forward = time(rt, &mut session, &Command::Continue)?;
+    timed.last_write = time(rt, &mut session, &Command::LastWrite(FRAME))?;
+    timed.reverse = time(rt, &mut session, &Command::ReverseContinue)?;
+    Ok(timed)
+}
+
+/// Sets what is never met: breakpoints behind the loop, or watches of bytes that it doesn't store to.
+fn set_stops(session: &mut Session<ListKeeper>, stops: Stops) {
+    match stops {
+        Stops::Nothing => {}
+        Stops::Breakpoints => {
+            for slot in 3..67u64 {
+                let _ = session.apply(&Command::Break(slot));
+            }
+        }
+        Stops::Watches => {
+            for offset in 0..4u64 {
+                let _ = session.apply(&Command::Watch(FRAME + offset));
+            }
         }
     }
+}
+
+/// Nanoseconds of a command.
+fn time(
+    rt: &HostRuntime,
+    session: &mut Session<ListKeeper>,
+    command: &Command,
+) -> io::Result<u128> {
     let start = Instant::now(rt)?;
-    let _ = session.apply(&Command::Continue);
-    let forward = start.elapsed(rt)?.as_nanos();
-    let start = Instant::now(rt)?;
-    let _ = session.apply(&Command::ReverseContinue);
-    Ok((forward, start.elapsed(rt)?.as_nanos()))
+    let _ = session.apply(command);
+    Ok(start.elapsed(rt)?.as_nanos())
 }
