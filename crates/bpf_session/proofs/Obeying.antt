@@ -1,8 +1,8 @@
 -- What a line leaves that was obeyed: nothing where it has no words or is `quit`, a refusal, or what its command means.
 use Rattle.std.proofs.Common.{◌≡◌, ℕ, Bool, true, false, List, [], Option, Some, None, Result, Ok, Err, IfOk, OnErr, refl, sym, ap, subst, ◌∙◌}
-use Rattle.bpf_text.specs.Counted.{Tally}
-use Rattle.bpf_text.specs.Writing.{Writes}
-use Rattle.bpf_text.proofs.Appending.{Writes-none}
+use Rattle.bpf_io.specs.Counted.{Tally}
+use Rattle.bpf_io.specs.Writing.{Writes}
+use Rattle.bpf_io.proofs.Appending.{Writes-none}
 use Rattle.bpf_journal.specs.Histories.{Record, Kept}
 use Rattle.bpf_session.specs.Points.{Point, Bounds}
 use Rattle.bpf_session.specs.Meaning.{does}

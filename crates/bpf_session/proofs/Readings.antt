@@ -2,8 +2,8 @@
 use Rattle.std.proofs.Common.{◌≡◌, ◌≢◌, ◌≤◌, ◌↔◌, ℕ, Bool, true, false, List, [], ◌∷◌, ◌++◌, Option, Some, None, Ok, Err, IsTrue, refl, sym, ap, subst, ◌∙◌, arith, append_assoc}
 use Rattle.std.proofs.lemmas.List.{append-nil}
 use Rattle.std.specs.Io.KnownBytes.{Consumes, IsAtEnd, Keeps}
-use Rattle.bpf_text.specs.Counted.{Tally, one_more}
-use Rattle.bpf_text.specs.Reading.{ReadsByte}
+use Rattle.bpf_io.specs.Counted.{Tally, one_more}
+use Rattle.bpf_io.specs.Reading.{ReadsByte}
 use Rattle.bpf_session.specs.Lines.{lines}
 use Rattle.bpf_session.specs.LineSteps.{Buffer, Holds, ReadsLine}
 use Rattle.bpf_session.specs.declared.line.NextLine.TheVariants.{Ended, Last, Missing}

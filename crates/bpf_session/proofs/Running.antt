@@ -6,8 +6,8 @@ use Rattle.std.proofs.lemmas.List.Elements.{All-push}
 use Rattle.std.proofs.Math.Seq.{take-append_seam, drop-append_seam}
 use Rattle.std.specs.List.{All}
 use Rattle.std.specs.Io.KnownBytes.{Appends}
-use Rattle.bpf_text.specs.Counted.{Tally}
-use Rattle.bpf_text.specs.Writing.{AppendsBeginning, Writes}
+use Rattle.bpf_io.specs.Counted.{Tally}
+use Rattle.bpf_io.specs.Writing.{AppendsBeginning, Writes}
 use Rattle.bpf_journal.specs.Histories.{Record, Kept}
 use Rattle.bpf_session.specs.Points.{Point, Bounds}
 use Rattle.bpf_session.specs.Sessions.{SessionValue, HasPast, StandsAt, bounds_of, point_of, refusals_with, refusals_after_all}

@@ -5,8 +5,8 @@ use Rattle.std.specs.Option.{option_map_or}
 use Rattle.std.proofs.lemmas.Bool.Decides.{nat_tests}
 use Rattle.std.proofs.lemmas.List.{append-nil, drop_more, drop_all, length-reverse, get_or-reverse}
 use Rattle.std.proofs.lemmas.Option.{get_or_from_slice_get, slice_get_cases}
-use Rattle.bpf_text.specs.Counted.{Tally}
-use Rattle.bpf_text.specs.Writing.{Writes, WritesAfter}
+use Rattle.bpf_io.specs.Counted.{Tally}
+use Rattle.bpf_io.specs.Writing.{Writes, WritesAfter}
 
 -- what was told so far, and the rest, make up the whole
 pub record Telling {W A E : Type 0} (contents : W → Option (List ℕ)) (old : Tally W) (before : Result A E) (now : Tally W) (result : Result A E) (rest whole : List ℕ) : Type 0 where

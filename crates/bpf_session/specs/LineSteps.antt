@@ -1,7 +1,7 @@
 -- Scaffolding: what a run does with one line: how it is read, and what obeying it leaves.
 use Rattle.std.specs.Prelude.{◌≡◌, ◌<◌, ◌≤◌, ◌++◌, ◌∷◌, ℕ, Bool, true, false, List, [], Option, Some, Result, Ok, Err, IfOk, OnOk, OnErr, length}
-use Rattle.bpf_text.specs.Counted.{Tally, last_count, one_more}
-use Rattle.bpf_text.specs.Writing.{Writes}
+use Rattle.bpf_io.specs.Counted.{Tally, last_count, one_more}
+use Rattle.bpf_io.specs.Writing.{Writes}
 use Rattle.bpf_journal.specs.Histories.{Record, Kept}
 use Rattle.bpf_session.specs.Sessions.{SessionValue, StandsAt, bounds_of, point_of, refusals_with}
 use Rattle.bpf_session.specs.Limits.{longest_line}

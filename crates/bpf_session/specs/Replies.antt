@@ -4,7 +4,7 @@ use lib.Chars.{codes}
 use Rattle.std.specs.Option.{option_map_or}
 use Rattle.hex.specs.Hex.{encode_lower}
 use Rattle.bpf_isa.specs.Programs.{Checked, IsStart, insn_at, slots_of}
-use Rattle.bpf_text.specs.Writing.{hexadecimal}
+use Rattle.bpf_io.specs.Writing.{hexadecimal}
 use Rattle.bpf_text.specs.Operands.{text_of_insn}
 use Rattle.bpf_machine.specs.Regions.{index_of, run_at}
 use Rattle.bpf_machine.specs.State.{State, register, depth}

@@ -1,8 +1,8 @@
 -- What a run of a script leaves: in the session, in the writer and in the reader.
 use Rattle.std.specs.Prelude.{◌≡◌, ◌≤◌, ◌+◌, ◌==◌, ℕ, suc, List, ◌++◌, Option, Some, Ok, length, take, drop, count_by}
 use Rattle.std.specs.List.{All}
-use Rattle.bpf_text.specs.Counted.{Tally, one_more}
-use Rattle.bpf_text.specs.Writing.{AppendsBeginning}
+use Rattle.bpf_io.specs.Counted.{Tally, one_more}
+use Rattle.bpf_io.specs.Writing.{AppendsBeginning}
 use Rattle.bpf_journal.specs.Histories.{Record, Kept}
 use Rattle.bpf_session.specs.Points.{Point, Bounds}
 use Rattle.bpf_session.specs.Sessions.{SessionValue, StandsAt, bounds_of, point_of, refusals_after_all}

@@ -7,7 +7,7 @@ use crate::command::Command;
 use crate::parser::{LONGEST_LINE, parse_command};
 use crate::refusal::Refusal;
 use arrayvec::ArrayVec;
-use bpf_text::{Counted, ReadFault, read_byte};
+use bpf_io::{Counted, ReadFault, read_byte};
 use std::io::Read;
 use std::marker::Model;
 

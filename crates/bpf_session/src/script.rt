@@ -1,6 +1,6 @@
 //! Scripts: lines from a reader, obeyed one after another, and their replies to a writer.
 ghost use Rattle.std.specs.Prelude.{◌≡◌, List, ℕ, IfErr, IfOk, OnOk, Some, true};
-ghost use Rattle.bpf_text.specs.Writing.{Writes};
+ghost use Rattle.bpf_io.specs.Writing.{Writes};
 ghost use Rattle.bpf_journal.specs.Histories.{Record};
 ghost use Rattle.bpf_session.specs.LineSteps.{FailsOnce, Holds, ObeysLine};
 ghost use Rattle.bpf_session.specs.Output.{is_quit};
@@ -15,8 +15,8 @@ use crate::refusal::Refusal;
 use crate::reply::Reply;
 use crate::session::Session;
 use crate::text::refusal::put_refusal;
+use bpf_io::{Counted, WriteFault};
 use bpf_journal::Keeper;
-use bpf_text::{Counted, WriteFault};
 use std::io::{Read, Write};
 
 /// Whether a command ends the session.

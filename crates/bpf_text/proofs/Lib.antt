@@ -1,9 +1,7 @@
-pub mod Appending
 pub mod CanonicalLaw
 pub mod CanonicalLines
 pub mod CanonicalRounds
 pub mod Cutting
-pub mod HexDigits
 pub mod InsnTexts
 pub mod LineTexts
 pub mod Listings

@@ -15,7 +15,7 @@ use Rattle.bpf_isa.specs.declared.instruction.Source.{Source}
 use Rattle.bpf_isa.specs.declared.instruction.Source.TheVariants as source_is
 use Rattle.bpf_text.specs.Cuts.{is_name_byte}
 use Rattle.bpf_text.specs.Tokens.{register, numeral, natural, has_prefix, is_negative, unsigned, immediate, wide, source, name, memory, base_and_offset, offset, offset_of, is_sign}
-use Rattle.bpf_text.specs.Writing.{hexadecimal}
+use Rattle.bpf_io.specs.Writing.{hexadecimal}
 use Rattle.bpf_text.specs.Operands.{register_text, label_text, operand_of, operand_text}
 use Rattle.bpf_text.proofs.PlainTexts.{are_plain, list_all-append, list_all-weaken, are_plain-decimal, position_or_len-at, before_first-at, trim-plain}
 

@@ -1,5 +1,4 @@
 pub mod Canonical
-pub mod Counted
 pub mod Cuts
 pub mod Faults
 pub mod LabelMap
@@ -8,8 +7,6 @@ pub mod Listing
 pub mod Mnemonics
 pub mod Named
 pub mod Operands
-pub mod Reading
 pub mod Statements
 pub mod TextKey
 pub mod Tokens
-pub mod Writing

@@ -10,7 +10,7 @@ use Rattle.bpf_text.specs.declared.operand.Operand.TheVariants.{Register, Signed
 use Rattle.bpf_text.specs.declared.operand.Operands.{Operands}
 use Rattle.bpf_text.specs.declared.operand.Operands.TheVariants.{Nothing, One, Two, Three}
 use Rattle.bpf_text.specs.Mnemonics.{mnemonic_of, name_of}
-use Rattle.bpf_text.specs.Writing.{hexadecimal}
+use Rattle.bpf_io.specs.Writing.{hexadecimal}
 
 -- A whole number that can be a slot.
 abbrev pub IsSlot : ℤ → Type 0

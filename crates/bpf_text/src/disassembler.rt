@@ -3,13 +3,11 @@ ghost use Rattle.std.specs.Prelude.{◌≡◌, ◌≤◌, ◌<◌, ◌++◌, ℕ
 ghost use Rattle.bpf_isa.specs.Programs.{target_of};
 ghost use Rattle.bpf_text.specs.Operands.{IsSlot};
 ghost use Rattle.bpf_text.specs.Canonical.{canon, is_target, slot_lines, label_line};
-ghost use Rattle.bpf_text.specs.Writing.{WritesAfter};
+ghost use Rattle.bpf_io.specs.Writing.{WritesAfter};
 
-use crate::counted::Counted;
-use crate::fault::WriteFault;
 use crate::insn::{put_insn, put_label};
 use crate::operand::target_of;
-use crate::writing::put;
+use bpf_io::{Counted, WriteFault, put};
 use bpf_isa::{Insn, Program};
 use std::alloc::{AllocError, Global};
 use std::io::Write;

@@ -1,14 +1,6 @@
-//! What reading, writing and assembling a text can answer.
+//! What assembling a text can answer.
 ghost use Rattle.std.specs.Prelude.{◌≡◌};
 ghost use Rattle.bpf_text.specs.Faults.{fault_number, fault_line, fault_text};
-
-/// A reader answered an error.
-#[derive(Clone, Copy)]
-pub struct ReadFault;
-
-/// A writer took no more: it answered an error, or no byte of a piece that isn't empty.
-#[derive(Clone, Copy)]
-pub struct WriteFault;
 
 /// What is wrong with operands.
 #[derive(Clone, Copy)]

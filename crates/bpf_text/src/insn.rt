@@ -2,14 +2,11 @@
 ghost use Rattle.std.specs.Prelude.{◌≤◌, ◌++◌, IfSome};
 ghost use Rattle.bpf_isa.specs.Programs.{target_of};
 ghost use Rattle.bpf_text.specs.Operands.{IsSlot, register_text, offset_text, operand_text, operands_text, text_of_insn, label_text};
-ghost use Rattle.bpf_text.specs.Writing.{Writes, WritesAfter};
+ghost use Rattle.bpf_io.specs.Writing.{Writes, WritesAfter};
 
-use crate::counted::Counted;
-use crate::fault::WriteFault;
-use crate::hexadecimal::put_hexadecimal;
 use crate::mnemonic::Mnemonic;
 use crate::operand::{Operand, Operands, operands_of};
-use crate::writing::{put, put_decimal, put_signed};
+use bpf_io::{Counted, WriteFault, put, put_decimal, put_hexadecimal, put_signed};
 use bpf_isa::{Insn, Reg};
 use std::io::Write;
 

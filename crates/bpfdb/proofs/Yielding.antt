@@ -4,8 +4,8 @@ use Rattle.std.proofs.lemmas.List.{append-nil}
 use Rattle.std.specs.Prelude.{OnOk, OnErr}
 use Rattle.std.specs.Io.KnownBytes.{Appends}
 use Rattle.bpf_isa.specs.Programs.{Checked}
-use Rattle.bpf_text.specs.Counted.{Tally}
-use Rattle.bpf_text.specs.Writing.{AppendsBeginning, Writes}
+use Rattle.bpf_io.specs.Counted.{Tally}
+use Rattle.bpf_io.specs.Writing.{AppendsBeginning, Writes}
 use Rattle.bpf_machine.specs.State.{State, initial}
 use Rattle.bpf_journal.specs.Histories.{Kept}
 use Rattle.bpf_session.specs.Lines.{lines}

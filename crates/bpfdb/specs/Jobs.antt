@@ -6,9 +6,9 @@ use Rattle.bpf_isa.specs.Maps.{IsMapList, items_of, shape_of}
 use Rattle.bpf_isa.specs.Programs.{Checked, IsProgram}
 use Rattle.bpf_isa.specs.declared.maps.MapShape.{MapShape}
 use Rattle.bpf_text.specs.Canonical.{canon}
-use Rattle.bpf_text.specs.Counted.{Tally}
+use Rattle.bpf_io.specs.Counted.{Tally}
 use Rattle.bpf_text.specs.Listing.{IsListing}
-use Rattle.bpf_text.specs.Writing.{AppendsBeginning}
+use Rattle.bpf_io.specs.Writing.{AppendsBeginning}
 use Rattle.bpf_machine.specs.Platform.{context_limit}
 use Rattle.bpf_machine.specs.State.{State, initial}
 use Rattle.bpf_journal.specs.Opening.{IsSize}

@@ -18,7 +18,7 @@ mod report;
 mod tests;
 mod tool;
 
-use bpf_text::Counted;
+use bpf_io::Counted;
 use clap::Error;
 use fault::{FileFault, JobFault};
 use files::{PROGRAM_BYTES, read_beginning, read_context, read_listing};

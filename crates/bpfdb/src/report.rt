@@ -1,11 +1,11 @@
 //! What goes to standard output at once, and what goes to standard error.
 ghost use Rattle.std.specs.Prelude.{◌≡◌, IsTrue, OnErr, OnOk};
-ghost use Rattle.bpf_text.specs.Writing.{Writes};
+ghost use Rattle.bpf_io.specs.Writing.{Writes};
 
 use crate::fault::JobFault;
+use bpf_io::{Counted, WriteFault, put, write_text};
 use bpf_machine::Cpu;
 use bpf_session::write_place;
-use bpf_text::{Counted, WriteFault, put, write_text};
 use std::fmt::Display;
 use std::io::Write;
 

@@ -5,7 +5,7 @@ ghost use Rattle.bpfdb.specs.Plans.{IsLimit};
 use crate::job::Job;
 use crate::plan::Subcommand;
 use crate::{planner, tool};
-use bpf_text::Counted;
+use bpf_io::Counted;
 use std::alloc::Global;
 use std::io;
 use std::io::{ErrorKind, Write};

@@ -10,7 +10,7 @@ mod run;
 
 use crate::job::Job;
 use crate::plan::Subcommand;
-use bpf_text::Counted;
+use bpf_io::Counted;
 use check::check_job;
 use debug::debug_job;
 use listing::{asm_job, disasm_job};

@@ -1,8 +1,8 @@
 //! Readers and writers that fail, or take little at a time.
 use crate::play::{Slow, session};
+use bpf_io::Counted;
 use bpf_isa::Reg;
 use bpf_session::{RunFault, run};
-use bpf_text::Counted;
 use std::alloc::Global;
 use std::io;
 use std::io::{Error, ErrorKind, Write};

@@ -1,10 +1,10 @@
 //! Transcripts, and sessions that they are played in. Each row of a transcript is a command and its reply, with a bar between; a further
 //! line of a reply stands behind a bar alone, and a command without a reply has no bar.
+use bpf_io::Counted;
 use bpf_isa::{MapTable, check};
 use bpf_journal::{Keeper, ListKeeper};
 use bpf_machine::Cpu;
 use bpf_session::{Count, Session, run};
-use bpf_text::Counted;
 use std::alloc::Global;
 use std::io;
 use std::io::{Error, ErrorKind, Read};

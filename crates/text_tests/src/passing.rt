@@ -1,5 +1,5 @@
 //! What a counted reader or writer passes on: no contract says that it does.
-use bpf_text::{Counted, read_byte, write_text};
+use bpf_io::{Counted, read_byte, write_text};
 use std::io;
 use std::io::{Error, ErrorKind, Read, Write};
 use std::test::Fail;

@@ -1,9 +1,7 @@
 //! Texts of numbers, instructions and faults.
+use bpf_io::{Counted, put, put_decimal, put_hexadecimal, put_signed, write_text};
 use bpf_isa::{Insn, Reg};
-use bpf_text::{
-    AsmFault, Counted, LineFault, assemble, put, put_decimal, put_hexadecimal, put_signed,
-    write_insn, write_text,
-};
+use bpf_text::{AsmFault, LineFault, assemble, write_insn};
 use std::alloc::{AllocError, Global};
 use std::test::Fail;
 

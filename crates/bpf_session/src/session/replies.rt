@@ -1,7 +1,7 @@
 //! What is printed for a reply.
 ghost use Rattle.std.specs.Prelude.{List};
 ghost use Rattle.bpf_journal.specs.Histories.{Record};
-ghost use Rattle.bpf_text.specs.Writing.{Writes, WritesAfter};
+ghost use Rattle.bpf_io.specs.Writing.{Writes, WritesAfter};
 ghost use Rattle.bpf_session.specs.Replies.{IsThere, text_of_history, text_of_reply, text_of_unchanged};
 ghost use Rattle.bpf_session.specs.Sessions.{HasPast, bounds_of, point_of};
 
@@ -15,8 +15,8 @@ use crate::text::instructions::put_instructions;
 use crate::text::moves::put_move;
 use crate::text::registers::put_state;
 use crate::text::trace::put_trace;
+use bpf_io::{Counted, WriteFault, put, put_decimal};
 use bpf_journal::Keeper;
-use bpf_text::{Counted, WriteFault, put, put_decimal};
 use std::io::Write;
 
 impl<K: Keeper> Session<K> {

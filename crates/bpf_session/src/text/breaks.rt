@@ -1,9 +1,9 @@
 //! The text of the breakpoints and the watches.
 ghost use Rattle.std.specs.Prelude.{◌≡◌, flat_map, ◌++◌, if◌then◌else◌, codes};
-ghost use Rattle.bpf_text.specs.Writing.{WritesAfter};
+ghost use Rattle.bpf_io.specs.Writing.{WritesAfter};
 ghost use Rattle.bpf_session.specs.Replies.{break_text, or_none, watch_text};
 
-use bpf_text::{Counted, WriteFault, put, put_decimal, put_hexadecimal};
+use bpf_io::{Counted, WriteFault, put, put_decimal, put_hexadecimal};
 use std::io::Write;
 
 /// Writes a line for each breakpoint and then for each watch, in order of setting; `none` where there are none.

@@ -2,12 +2,12 @@
 ghost use Rattle.std.specs.Prelude.{◌≡◌, ◌≤◌, ◌*◌, IsSome, length};
 ghost use Rattle.hex.specs.Hex.{encode_lower};
 ghost use Rattle.bpf_machine.specs.Regions.{index_of};
-ghost use Rattle.bpf_text.specs.Writing.{WritesAfter};
+ghost use Rattle.bpf_io.specs.Writing.{WritesAfter};
 ghost use Rattle.bpf_session.specs.Replies.{text_of_bytes};
 
 use crate::count::Span;
+use bpf_io::{Counted, WriteFault, put, put_hexadecimal};
 use bpf_machine::Cpu;
-use bpf_text::{Counted, WriteFault, put, put_hexadecimal};
 use hex::encode_to_slice;
 use std::io::Write;
 

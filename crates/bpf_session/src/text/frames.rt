@@ -2,11 +2,11 @@
 ghost use Rattle.std.specs.Option.{option_map_or};
 ghost use Rattle.std.specs.Prelude.{◌<◌, [], flat_map, reverse};
 ghost use Rattle.bpf_machine.specs.State.{depth, frame};
-ghost use Rattle.bpf_text.specs.Writing.{WritesAfter};
+ghost use Rattle.bpf_io.specs.Writing.{WritesAfter};
 ghost use Rattle.bpf_session.specs.Replies.{saved_text, text_of_frame, text_of_frames};
 
+use bpf_io::{Counted, WriteFault, put, put_decimal, put_hexadecimal};
 use bpf_machine::{Cpu, Frame};
-use bpf_text::{Counted, WriteFault, put, put_decimal, put_hexadecimal};
 use std::io::Write;
 
 /// Writes the depth, and a line for each pushed frame, the innermost first.

@@ -1,12 +1,13 @@
 //! The texts of instructions with their slots.
 ghost use Rattle.std.specs.Prelude.{◌++◌, codes};
 ghost use Rattle.bpf_isa.specs.Programs.{IsStart};
-ghost use Rattle.bpf_text.specs.Writing.{WritesAfter};
+ghost use Rattle.bpf_io.specs.Writing.{WritesAfter};
 ghost use Rattle.bpf_session.specs.Replies.{instructions_from, text_at};
 
 use crate::count::Span;
+use bpf_io::{Counted, WriteFault, put, put_decimal};
 use bpf_isa::Program;
-use bpf_text::{Counted, WriteFault, put, put_decimal, put_insn};
+use bpf_text::put_insn;
 use std::io::Write;
 
 /// Writes a slot and the instruction that starts there.

@@ -1,12 +1,12 @@
 //! The text of how far a command went, and why it stopped.
 ghost use Rattle.std.specs.Prelude.{◌≡◌};
-ghost use Rattle.bpf_text.specs.Writing.{WritesAfter};
+ghost use Rattle.bpf_io.specs.Writing.{WritesAfter};
 ghost use Rattle.bpf_session.specs.Replies.{text_of_move, text_of_why};
 
 use super::place::put_place;
 use crate::reply::Why;
+use bpf_io::{Counted, WriteFault, put, put_decimal};
 use bpf_machine::Cpu;
-use bpf_text::{Counted, WriteFault, put, put_decimal};
 use std::io::Write;
 
 impl Why {

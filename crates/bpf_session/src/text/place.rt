@@ -1,11 +1,11 @@
 //! The text of where a machine stands.
-ghost use Rattle.bpf_text.specs.Writing.{Writes, WritesAfter};
+ghost use Rattle.bpf_io.specs.Writing.{Writes, WritesAfter};
 ghost use Rattle.bpf_session.specs.Replies.{place, text_of_fault};
 
 use super::instructions::put_at;
 use super::registers::number_in;
+use bpf_io::{Counted, WriteFault, put, put_decimal, put_hexadecimal};
 use bpf_machine::{Cpu, Fault, Status};
-use bpf_text::{Counted, WriteFault, put, put_decimal, put_hexadecimal};
 use std::io::Write;
 
 /// Writes where a machine stands, without a line feed: the slot and the instruction to run, or how it ended.

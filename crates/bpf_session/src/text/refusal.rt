@@ -1,9 +1,9 @@
 //! The text of a refusal.
-ghost use Rattle.bpf_text.specs.Writing.{WritesAfter};
+ghost use Rattle.bpf_io.specs.Writing.{WritesAfter};
 ghost use Rattle.bpf_session.specs.Refusals.{refusal_text};
 
 use crate::refusal::Refusal;
-use bpf_text::{Counted, WriteFault, put, put_decimal};
+use bpf_io::{Counted, WriteFault, put, put_decimal};
 use std::io::Write;
 
 /// Writes the line of a refusal.

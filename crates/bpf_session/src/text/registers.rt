@@ -1,13 +1,13 @@
 //! The text of the registers.
 ghost use Rattle.std.specs.Prelude.{◌≡◌, ◌≤◌};
 ghost use Rattle.bpf_machine.specs.State.{register as register_of};
-ghost use Rattle.bpf_text.specs.Writing.{WritesAfter};
+ghost use Rattle.bpf_io.specs.Writing.{WritesAfter};
 ghost use Rattle.bpf_session.specs.Replies.{registers_from, text_of_register, text_of_registers, text_of_state};
 
 use super::place::put_place;
+use bpf_io::{Counted, WriteFault, put, put_decimal, put_hexadecimal};
 use bpf_isa::Reg;
 use bpf_machine::Cpu;
-use bpf_text::{Counted, WriteFault, put, put_decimal, put_hexadecimal};
 use std::io::Write;
 
 /// The number in a register.

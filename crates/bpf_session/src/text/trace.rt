@@ -1,10 +1,10 @@
 //! The text of the words that were traced.
 ghost use Rattle.std.specs.Prelude.{flat_map};
-ghost use Rattle.bpf_text.specs.Writing.{WritesAfter};
+ghost use Rattle.bpf_io.specs.Writing.{WritesAfter};
 ghost use Rattle.bpf_session.specs.Replies.{text_of_trace, word_text};
 
+use bpf_io::{Counted, WriteFault, put, put_decimal, put_hexadecimal};
 use bpf_machine::Cpu;
-use bpf_text::{Counted, WriteFault, put, put_decimal, put_hexadecimal};
 use std::io::Write;
 
 /// Writes how many words were traced, and the words, on one line.

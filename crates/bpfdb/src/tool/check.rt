@@ -1,6 +1,6 @@
 //! The subcommand `check`.
 ghost use Rattle.std.specs.Prelude.{◌≡◌, ◌≢◌, List, ℕ, Some, count_by, is_some};
-ghost use Rattle.bpf_text.specs.Writing.{Writes, WritesAfter};
+ghost use Rattle.bpf_io.specs.Writing.{Writes, WritesAfter};
 ghost use Rattle.bpfdb.specs.Jobs.{StopsShort, Completes, Needs, Spared, check_line};
 ghost use Rattle.bpfdb.specs.declared.plan.Subcommand.TheVariants.{Check};
 
@@ -8,8 +8,8 @@ use crate::fault::JobFault;
 use crate::job::Job;
 use crate::opening::program_of;
 use crate::report::{ended, give_up};
+use bpf_io::{Counted, WriteFault, put, put_decimal};
 use bpf_isa::Program;
-use bpf_text::{Counted, WriteFault, put, put_decimal};
 use std::alloc::Global;
 use std::io::Write;
 

@@ -8,8 +8,8 @@ use crate::fault::JobFault;
 use crate::job::Job;
 use crate::opening::session_of;
 use crate::report::give_up;
+use bpf_io::Counted;
 use bpf_session::{RunFault, run};
-use bpf_text::Counted;
 use std::alloc::Global;
 use std::io::{Read, Write};
 

@@ -8,7 +8,8 @@ use crate::job::Job;
 use crate::opening::program_of;
 use crate::refusal::JobRefusal;
 use crate::report::{ended, give_up, write_out};
-use bpf_text::{Counted, assemble, disassemble};
+use bpf_io::Counted;
+use bpf_text::{assemble, disassemble};
 use std::alloc::Global;
 use std::io::Write;
 

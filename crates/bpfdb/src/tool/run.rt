@@ -7,8 +7,8 @@ use crate::fault::JobFault;
 use crate::job::Job;
 use crate::opening::machine_of;
 use crate::report::{give_up, tell, tell_place};
+use bpf_io::Counted;
 use bpf_session::{Ending, run_plain};
-use bpf_text::Counted;
 use std::alloc::Global;
 use std::io::Write;
 

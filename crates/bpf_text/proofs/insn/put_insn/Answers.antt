@@ -2,7 +2,7 @@
 use Rattle.std.proofs.Common.{ap, ◌∙◌, ◌++◌}
 use Rattle.bpf_text.specs.Mnemonics.{name_of, mnemonic_of}
 use Rattle.bpf_text.specs.Operands.{operands_text}
-use Rattle.bpf_text.proofs.Appending.{WritesAfter-WritesAfter}
+use Rattle.bpf_io.proofs.Appending.{WritesAfter-WritesAfter}
 use Rattle.bpf_text.proofs.insn.put_insn.Goals as goal
 
 pub returns : goal.returns

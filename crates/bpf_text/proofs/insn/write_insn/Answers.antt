@@ -1,5 +1,5 @@
 -- The text after none.
-use Rattle.bpf_text.proofs.Appending.{Writes-none}
+use Rattle.bpf_io.proofs.Appending.{Writes-none}
 use Rattle.bpf_text.proofs.insn.write_insn.Goals as goal
 
 pub returns : goal.returns

@@ -1,5 +1,5 @@
 use Rattle.std.proofs.Common.{flat_map, ◌++◌, ap, ◌∙◌}
-use Rattle.bpf_text.proofs.Appending.{WritesAfter-text}
+use Rattle.bpf_io.proofs.Appending.{WritesAfter-text}
 use Rattle.bpf_session.specs.Replies.{break_text, watch_text, or_none, text_of_breaks, text_of_reply}
 use Rattle.bpf_session.proofs.session.Session.put_reply.Goals as goal
 

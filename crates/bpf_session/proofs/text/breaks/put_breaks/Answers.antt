@@ -1,5 +1,5 @@
 use Rattle.std.proofs.Common.{refl}
-use Rattle.bpf_text.proofs.Appending.{WritesAfter-text, WritesAfter-WritesAfter}
+use Rattle.bpf_io.proofs.Appending.{WritesAfter-text, WritesAfter-WritesAfter}
 use Rattle.bpf_session.proofs.text.breaks.put_breaks.Goals as goal
 
 pub returns : goal.returns

@@ -1,6 +1,6 @@
 use Rattle.std.proofs.Common.{codes, refl, sym}
-use Rattle.bpf_text.specs.Writing.{hexadecimal}
-use Rattle.bpf_text.proofs.Appending.{WritesAfter-WritesAfter}
+use Rattle.bpf_io.specs.Writing.{hexadecimal}
+use Rattle.bpf_io.proofs.Appending.{WritesAfter-WritesAfter}
 use Rattle.bpf_session.specs.Replies.{text_of_bytes}
 use Rattle.bpf_session.proofs.text.bytes.put_bytes.Goals as goal
 

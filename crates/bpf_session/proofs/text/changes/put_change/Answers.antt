@@ -1,6 +1,6 @@
 use Rattle.std.proofs.Common.{codes, decimal, refl}
-use Rattle.bpf_text.specs.Writing.{hexadecimal}
-use Rattle.bpf_text.proofs.Appending.{WritesAfter-WritesAfter}
+use Rattle.bpf_io.specs.Writing.{hexadecimal}
+use Rattle.bpf_io.proofs.Appending.{WritesAfter-WritesAfter}
 use Rattle.bpf_session.proofs.text.changes.put_change.Goals as goal
 
 pub returns : goal.returns

@@ -1,5 +1,5 @@
 use Rattle.std.proofs.Common.{codes, decimal, refl}
-use Rattle.bpf_text.proofs.Appending.{WritesAfter-WritesAfter}
+use Rattle.bpf_io.proofs.Appending.{WritesAfter-WritesAfter}
 use Rattle.bpf_session.specs.Replies.{text_of_frame}
 use Rattle.bpf_session.proofs.text.frames.put_frame.Goals as goal
 

@@ -1,4 +1,4 @@
-use Rattle.bpf_text.proofs.Appending.{Writes-none}
+use Rattle.bpf_io.proofs.Appending.{Writes-none}
 use Rattle.bpf_session.proofs.text.place.write_place.Goals as goal
 
 pub returns : goal.returns

@@ -1,5 +1,5 @@
 use Rattle.std.proofs.Common.{codes, count_by, decimal, is_some, length, refl}
-use Rattle.bpf_text.proofs.Appending.{WritesAfter-WritesAfter}
+use Rattle.bpf_io.proofs.Appending.{WritesAfter-WritesAfter}
 use Rattle.bpfdb.specs.Jobs.{check_line}
 use Rattle.bpfdb.proofs.tool.check.put_size.Goals as goal
 

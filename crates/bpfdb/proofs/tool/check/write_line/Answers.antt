@@ -1,4 +1,4 @@
-use Rattle.bpf_text.proofs.Appending.{Writes-none}
+use Rattle.bpf_io.proofs.Appending.{Writes-none}
 use Rattle.bpfdb.proofs.tool.check.write_line.Goals as goal
 
 pub returns : goal.returns

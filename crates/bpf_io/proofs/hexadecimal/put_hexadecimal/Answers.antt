@@ -1,7 +1,7 @@
 -- The prefix and then the digits.
 use Rattle.std.proofs.Common.{codes, append_assoc, ◌∙◌}
-use Rattle.bpf_text.proofs.HexDigits.{take-drop-end}
-use Rattle.bpf_text.proofs.hexadecimal.put_hexadecimal.Goals as goal
+use Rattle.bpf_io.proofs.HexDigits.{take-drop-end}
+use Rattle.bpf_io.proofs.hexadecimal.put_hexadecimal.Goals as goal
 
 pub returns : goal.returns
 returns g c = λ first front known.

@@ -18,7 +18,7 @@ pub struct Counted<T> {
 }
 
 impl<T> Model for Counted<T> {
-    ghost use Rattle.bpf_text.specs.Counted.{Tally};
+    ghost use Rattle.bpf_io.specs.Counted.{Tally};
 
     ghost Value = { Tally T };
 
@@ -59,7 +59,7 @@ impl<T> Counted<T> {
 }
 
 impl<T: Read> Read for Counted<T> {
-    ghost use Rattle.bpf_text.specs.Counted.{CountsRead};
+    ghost use Rattle.bpf_io.specs.Counted.{CountsRead};
 
     ghost remaining = { λ c. T.remaining c.inner };
 
@@ -83,7 +83,7 @@ impl<T: Read> Read for Counted<T> {
 }
 
 impl<T: Write> Write for Counted<T> {
-    ghost use Rattle.bpf_text.specs.Counted.{failures_after, failures_after_write};
+    ghost use Rattle.bpf_io.specs.Counted.{failures_after, failures_after_write};
 
     ghost contents = { λ c. T.contents c.inner };
 

@@ -2,8 +2,8 @@
 use Rattle.std.proofs.Common.{◌∙◌, ap, arith}
 use Rattle.std.proofs.lemmas.Grind.{common_steps}
 use Rattle.std.proofs.Math.ListN.{drop_of_length-le}
-use Rattle.bpf_text.proofs.HexDigits.{digits_left, digits_left-all, digits_left-write, digits_left-first, div-lt-pow, pow-two}
-use Rattle.bpf_text.proofs.hexadecimal.write_digits.Goals as goal
+use Rattle.bpf_io.proofs.HexDigits.{digits_left, digits_left-all, digits_left-write, digits_left-first, div-lt-pow, pow-two}
+use Rattle.bpf_io.proofs.hexadecimal.write_digits.Goals as goal
 
 pub loop-rest-init : goal.loop-rest-init
 loop-rest-init c = record {

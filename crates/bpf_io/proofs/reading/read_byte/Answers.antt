@@ -1,7 +1,7 @@
 -- One byte was taken from what remained, and it is the buffer's.
 use Rattle.std.proofs.Common.{ℕ, ◌≡◌, ◌≤◌, zero, suc, List, [], ◌∷◌, take, length, get_or, arith, refl}
 use Rattle.std.proofs.lemmas.Grind.{common_steps}
-use Rattle.bpf_text.proofs.reading.read_byte.Goals as goal
+use Rattle.bpf_io.proofs.reading.read_byte.Goals as goal
 
 -- the first byte of a buffer of one
 take-one : (bytes : List ℕ) (n : ℕ) → length bytes ≡ 1 → n ≤ 1 → (n ≡ 0 → ⊥) → take n bytes ≡ get_or bytes 0 0 ∷ []

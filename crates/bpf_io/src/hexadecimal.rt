@@ -1,7 +1,7 @@
 // The text of a number in hexadecimal.
 ghost use Rattle.std.specs.Prelude.{◌≡◌, ◌<◌, ◌≤◌, drop, false};
 ghost use Rattle.std.specs.Fmt.{digits, digit_glyph};
-ghost use Rattle.bpf_text.specs.Writing.{WritesAfter, hexadecimal};
+ghost use Rattle.bpf_io.specs.Writing.{WritesAfter, hexadecimal};
 
 use crate::counted::Counted;
 use crate::fault::WriteFault;

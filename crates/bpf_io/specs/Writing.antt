@@ -2,7 +2,7 @@
 use Rattle.std.specs.Prelude.{ℕ, ◌≡◌, List, ◌++◌, Option, Result, OnOk, OnErr, false, codes}
 use Rattle.std.specs.Fmt.{digits}
 use Rattle.std.specs.Io.KnownBytes.{Appends}
-use Rattle.bpf_text.specs.Counted.{Tally, one_more}
+use Rattle.bpf_io.specs.Counted.{Tally, one_more}
 
 -- Known bytes grew by a beginning of the text.
 abbrev pub AppendsBeginning : Option (List ℕ) → Option (List ℕ) → List ℕ → Type 0

@@ -1,7 +1,7 @@
 // The one loop that writes a text, and the texts of numbers.
 ghost use Rattle.std.specs.Prelude.{decimal};
 ghost use Rattle.std.specs.Fmt.{signed_decimal};
-ghost use Rattle.bpf_text.specs.Writing.{Writes, WritesAfter};
+ghost use Rattle.bpf_io.specs.Writing.{Writes, WritesAfter};
 
 use crate::counted::Counted;
 use crate::fault::WriteFault;

@@ -1,7 +1,7 @@
 use Rattle.std.proofs.Common.{◌≡◌, ◌+◌, ◌^◌, ◌<◌, ◌≤◌, drop, length, false}
 use Rattle.std.specs.Fmt.{digits}
-use Rattle.bpf_text.proofs.HexDigits.{digits_left}
-use Rattle.bpf_text.proofs.hexadecimal.write_digits.Given as goal
+use Rattle.bpf_io.proofs.HexDigits.{digits_left}
+use Rattle.bpf_io.proofs.hexadecimal.write_digits.Given as goal
 
 abbrev pub invariant-loop-rest : goal.invariant-loop-rest
 invariant-loop-rest l = record {

@@ -3,8 +3,8 @@ use Rattle.std.proofs.Common.{ℕ, ◌≡◌, ◌+◌, ◌-◌, length, List, []
 use Rattle.std.proofs.Math.Seq.{take-add}
 use Rattle.std.proofs.lemmas.List.{take-append-drop, take_rest, append-nil}
 use Rattle.std.specs.Io.KnownBytes.{Appends, Keeps}
-use Rattle.bpf_text.specs.Writing.{AppendsBeginning, Writes, WritesAfter}
-use Rattle.bpf_text.specs.Counted.{Tally, one_more}
+use Rattle.bpf_io.specs.Writing.{AppendsBeginning, Writes, WritesAfter}
+use Rattle.bpf_io.specs.Counted.{Tally, one_more}
 
 -- what is appended twice is appended
 pub Appends-Appends : (a b c : Option (List ℕ)) (s t : List ℕ) → Appends a b s → Appends b c t → Appends a c (s ++ t)

@@ -1,8 +1,8 @@
 -- Each turn appends what the writer took; an exit leaves a beginning.
 use Rattle.std.proofs.Common.{arith}
 use Rattle.std.proofs.lemmas.Grind.{common_steps}
-use Rattle.bpf_text.proofs.Appending.{Appends-none, Appends-Keeps, Appends-take, AppendsBeginning-take}
-use Rattle.bpf_text.proofs.writing.write_text.Goals as goal
+use Rattle.bpf_io.proofs.Appending.{Appends-none, Appends-Keeps, Appends-take, AppendsBeginning-take}
+use Rattle.bpf_io.proofs.writing.write_text.Goals as goal
 
 pub returns-in-Ok-eq0 : goal.returns-in-Ok-eq0
 returns-in-Ok-eq0 g c = record {

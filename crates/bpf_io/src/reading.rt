@@ -1,5 +1,5 @@
 // The read of one byte.
-ghost use Rattle.bpf_text.specs.Reading.{ReadsByte};
+ghost use Rattle.bpf_io.specs.Reading.{ReadsByte};
 
 use crate::counted::Counted;
 use crate::fault::ReadFault;

@@ -1,7 +1,7 @@
 -- How one byte is read from a counted reader.
 use Rattle.std.specs.Prelude.{ℕ, ◌≡◌, ◌+◌, ◌<◌, List, [], ◌∷◌, Option, Result, IfOk, OnOk, OnErr, MatchOption}
 use Rattle.std.specs.Io.KnownBytes.{Consumes, IsAtEnd, Keeps}
-use Rattle.bpf_text.specs.Counted.{Tally, one_more, last_count}
+use Rattle.bpf_io.specs.Counted.{Tally, one_more, last_count}
 
 -- A byte is the first of those that remain, none comes at their end; an error is one failure, and takes no byte.
 pub record ReadsByte {T E : Type 0} (remaining : T → Option (List ℕ)) (old new : Tally T)
