@@ -17,8 +17,8 @@ use Rattle.bpf_session.specs.Backward.{before_last, back_by, gone_back, to_lates
 use Rattle.bpf_session.specs.declared.reply.Why.{Why}
 use Rattle.bpf_session.specs.declared.reply.Reply.TheVariants.{Back}
 use Rattle.bpf_session.specs.declared.reply.Reply.{Reply}
-use Rattle.bpf_session.specs.declared.refusal.Refusal.{Refusal}
-use Rattle.bpf_session.specs.declared.refusal.Refusal.TheVariants.{NoKeptStep}
+use Rattle.bpf_script.specs.declared.refusal.Refusal.{Refusal}
+use Rattle.bpf_script.specs.declared.refusal.Refusal.TheVariants.{NoKeptStep}
 use Rattle.bpf_session.specs.Sessions.{SessionValue, HasPast, StandsAt, Obeys, point_of}
 use Rattle.bpf_session.specs.Sought.{GoesBackTo, test_of}
 use Rattle.bpf_session.specs.Stops.{has, breaks_at, some_differs}

@@ -25,7 +25,7 @@ use Rattle.bpf_session.proofs.Answering.{obeys_as}
 use Rattle.bpf_session.specs.declared.reply.Why.{Why}
 use Rattle.bpf_session.specs.declared.reply.Why.TheVariants.{End, Break, Watch, Done, Limit, Memory}
 use Rattle.bpf_session.specs.declared.reply.Reply.TheVariants as replies
-use Rattle.bpf_session.specs.declared.refusal.Refusal.TheVariants.{OutOfMemory, MachineEnded}
+use Rattle.bpf_script.specs.declared.refusal.Refusal.TheVariants.{OutOfMemory, MachineEnded}
 
 -- the least number is not below the first one that is tried
 pub least_from : (test : ℕ → Bool) (k n : ℕ) → k ≤ least test k n

@@ -1,15 +1,10 @@
 pub mod Answering
 pub mod Backwards
 pub mod Breaks
-pub mod Bytes
 pub mod CommandLaws
-pub mod Cuts
-pub mod Digits
 pub mod Flushing
 pub mod Forwards
-pub mod Lines
 pub mod Obeying
-pub mod Readings
 pub mod Running
 pub mod Tables
 pub mod Telling

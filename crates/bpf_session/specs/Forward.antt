@@ -12,7 +12,7 @@ use Rattle.bpf_session.specs.Stops.{breaks_at, watch_differs}
 use Rattle.bpf_session.specs.declared.reply.Why.{Why}
 use Rattle.bpf_session.specs.declared.reply.Why.TheVariants.{End, Break, Watch, Done, Limit, Memory}
 use Rattle.bpf_session.specs.declared.reply.Reply.TheVariants.{Forward}
-use Rattle.bpf_session.specs.declared.refusal.Refusal.TheVariants.{OutOfMemory}
+use Rattle.bpf_script.specs.declared.refusal.Refusal.TheVariants.{OutOfMemory}
 
 -- The state after so many steps.
 abbrev pub after : ℕ → State → State

@@ -1,8 +1,5 @@
 pub mod Limits
-pub mod Lines
 pub mod Points
-pub mod Refusals
-pub mod Commands
 pub mod Outcomes
 pub mod Stops
 pub mod Forward

@@ -17,12 +17,12 @@ use Rattle.bpf_journal.specs.Histories.{record_weight}
 use Rattle.bpf_journal.specs.declared.timeline.ByteChange.{ByteChange}
 use Rattle.bpf_session.specs.Points.{Point, Bounds}
 use Rattle.bpf_session.specs.Backward.{marks}
-use Rattle.bpf_session.specs.Refusals.{refusal_text}
+use Rattle.bpf_script.specs.Refusals.{refusal_text}
 use Rattle.bpf_session.specs.declared.reply.Why.{Why}
 use Rattle.bpf_session.specs.declared.reply.Why.TheVariants.{End, Break, Watch, Done, Limit, Memory, Start}
 use Rattle.bpf_session.specs.declared.reply.Reply.{Reply}
 use Rattle.bpf_session.specs.declared.reply.Reply.TheVariants as reply
-use Rattle.bpf_session.specs.declared.refusal.Refusal.{Refusal}
+use Rattle.bpf_script.specs.declared.refusal.Refusal.{Refusal}
 
 -- why a command stopped
 abbrev pub text_of_why : Why → List ℕ

@@ -1,15 +1,15 @@
 -- What a run of a script leaves: in the session, in the writer and in the reader.
-use Rattle.std.specs.Prelude.{◌≡◌, ◌≤◌, ◌+◌, ◌==◌, ℕ, suc, List, ◌++◌, Option, Some, Ok, length, take, drop, count_by}
+use Rattle.std.specs.Prelude.{◌≡◌, ◌≤◌, ◌+◌, ℕ, suc, List, ◌++◌, Option, Some, Ok, length, take, drop}
 use Rattle.std.specs.List.{All}
 use Rattle.bpf_io.specs.Counted.{Tally, one_more}
 use Rattle.bpf_io.specs.Writing.{AppendsBeginning}
 use Rattle.bpf_journal.specs.Histories.{Record, Kept}
 use Rattle.bpf_session.specs.Points.{Point, Bounds}
 use Rattle.bpf_session.specs.Sessions.{SessionValue, StandsAt, bounds_of, point_of, refusals_after_all}
-use Rattle.bpf_session.specs.Lines.{lines}
-use Rattle.bpf_session.specs.Commands.{command_of}
+use Rattle.bpf_script.specs.Lines.{lines, line_feeds}
+use Rattle.bpf_script.specs.Commands.{command_of}
 use Rattle.bpf_session.specs.Output.{Walk, walk}
-use Rattle.bpf_session.specs.declared.command.Command.TheVariants.{Quit}
+use Rattle.bpf_script.specs.declared.command.Command.TheVariants.{Quit}
 use Rattle.bpf_session.specs.declared.fault.RunFault.{RunFault}
 use Rattle.bpf_session.specs.declared.fault.RunFault.TheVariants.{Read, Write}
 
@@ -33,10 +33,6 @@ pub record Prints {K : Type 0} (holds : K → List Kept → Type 0) (refusals ro
 -- A line that is obeyed without ending the session.
 abbrev pub GoesOn : List ℕ → Type 0
 GoesOn line = command_of line ≡ Ok (Some Quit) → ⊥
-
--- How many line feeds a text holds.
-abbrev pub line_feeds : List ℕ → ℕ
-line_feeds text = count_by (λ byte. byte == 10) text
 
 -- What the first k lines of a script come to.
 abbrev pub first_lines : List (Option ℕ) → Bounds → List ℕ → Point → ℕ → Walk

@@ -1,7 +1,7 @@
 //! Replies: the answers to commands.
 
-use crate::count::Span;
 use bpf_journal::ByteChange;
+use bpf_script::Span;
 
 /// Why a command stopped.
 #[derive(Clone, Copy)]

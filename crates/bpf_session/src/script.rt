@@ -2,21 +2,20 @@
 ghost use Rattle.std.specs.Prelude.{◌≡◌, List, ℕ, IfErr, IfOk, OnOk, Some, true};
 ghost use Rattle.bpf_io.specs.Writing.{Writes};
 ghost use Rattle.bpf_journal.specs.Histories.{Record};
-ghost use Rattle.bpf_session.specs.LineSteps.{FailsOnce, Holds, ObeysLine};
+ghost use Rattle.bpf_script.specs.ReadLines.{Holds};
+ghost use Rattle.bpf_session.specs.LineSteps.{FailsOnce, ObeysLine};
 ghost use Rattle.bpf_session.specs.Output.{is_quit};
 ghost use Rattle.bpf_session.specs.Replies.{IsThere, text_of_answer};
 ghost use Rattle.bpf_session.specs.Runs.{BreaksOff, FailsBy, Prints};
 ghost use Rattle.bpf_session.specs.Sessions.{HasPast, bounds_of, point_of};
 
-use crate::command::Command;
 use crate::fault::RunFault;
-use crate::line::{Line, next_line};
-use crate::refusal::Refusal;
 use crate::reply::Reply;
 use crate::session::Session;
 use crate::text::refusal::put_refusal;
 use bpf_io::{Counted, WriteFault};
 use bpf_journal::Keeper;
+use bpf_script::{Command, LineBuffer, Refusal, next_line};
 use std::io::{Read, Write};
 
 /// Whether a command ends the session.
@@ -69,7 +68,7 @@ fn write_answer<K: Keeper, W: Write>(
 /// Obeys a line and writes what it prints. Answers whether the session goes on.
 fn obey<K: Keeper, W: Write>(
     session: &mut Session<K>,
-    line: &Line,
+    line: &LineBuffer,
     writer: &mut Counted<W>,
 ) -> Result<bool, WriteFault>
     ensures value { (h : List Record) (text : List ℕ) → HasPast K.holds session.old h → Holds line.now text →
@@ -113,7 +112,7 @@ pub fn run<K: Keeper, R: Read, W: Write>(
     ensures limit { session.new.limit ≡ session.old.limit }
     ensures room { K.room session.new.moment.keeper ≡ K.room session.old.moment.keeper }
 {
-    let mut line = Line::new();
+    let mut line = LineBuffer::new();
     'lines: loop {
         let next = match next_line(reader, &mut line) {
             Err(_) => return Err(RunFault::Read),

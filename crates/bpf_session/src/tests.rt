@@ -1,3 +1,2 @@
 //! Tests of what no contract says.
-mod lines;
 mod texts;

@@ -4,7 +4,8 @@
 use bpf_isa::{MapTable, check};
 use bpf_journal::{ListKeeper, Timeline};
 use bpf_machine::Cpu;
-use bpf_session::{Command, Session};
+use bpf_script::Command;
+use bpf_session::Session;
 use std::alloc::Global;
 use std::io;
 use std::time::Instant;

@@ -10,14 +10,13 @@ ghost use Rattle.bpf_session.specs.Replies.{IsThere};
 ghost use Rattle.bpf_session.specs.Sessions.{HasPast, Obeys, point_of};
 ghost use Rattle.bpf_session.specs.Sought.{GoesBackTo, test_of};
 ghost use Rattle.bpf_session.specs.Stops.{some_differs};
-ghost use Rattle.bpf_session.specs.declared.command.Command.TheVariants as command_of;
+ghost use Rattle.bpf_script.specs.declared.command.Command.TheVariants as command_of;
 
 use super::Session;
-use crate::count::Count;
-use crate::refusal::Refusal;
 use crate::reply::{Reply, Why};
 use crate::sought::{Found, Sought};
 use bpf_journal::{Keeper, Taken};
+use bpf_script::{Count, Refusal};
 
 impl<K: Keeper> Session<K> {
     /// Takes back the commands that moved, from the last marked move on to the `count`-th last one. Q5 where fewer are kept.

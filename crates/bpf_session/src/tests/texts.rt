@@ -4,11 +4,12 @@ use crate::text::frames::put_frame;
 use crate::text::place::put_fault;
 use crate::text::refusal::put_refusal;
 use crate::text::trace::put_words;
-use crate::{Command, Count, Ending, Reply, Session, Span, Why, run_plain, write_place};
+use crate::{Ending, Reply, Session, Why, run_plain, write_place};
 use bpf_io::Counted;
 use bpf_isa::{MapTable, check};
 use bpf_journal::ListKeeper;
 use bpf_machine::{Cpu, Edit, Fault, Frame};
+use bpf_script::{Command, Count, Span};
 use std::alloc::Global;
 use std::process::Abort;
 

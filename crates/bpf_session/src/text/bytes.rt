@@ -5,9 +5,9 @@ ghost use Rattle.bpf_machine.specs.Regions.{index_of};
 ghost use Rattle.bpf_io.specs.Writing.{WritesAfter};
 ghost use Rattle.bpf_session.specs.Replies.{text_of_bytes};
 
-use crate::count::Span;
 use bpf_io::{Counted, WriteFault, put, put_hexadecimal};
 use bpf_machine::Cpu;
+use bpf_script::Span;
 use hex::encode_to_slice;
 use std::io::Write;
 

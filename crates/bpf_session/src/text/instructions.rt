@@ -4,9 +4,9 @@ ghost use Rattle.bpf_isa.specs.Programs.{IsStart};
 ghost use Rattle.bpf_io.specs.Writing.{WritesAfter};
 ghost use Rattle.bpf_session.specs.Replies.{instructions_from, text_at};
 
-use crate::count::Span;
 use bpf_io::{Counted, WriteFault, put, put_decimal};
 use bpf_isa::Program;
+use bpf_script::Span;
 use bpf_text::put_insn;
 use std::io::Write;
 

@@ -1,9 +1,9 @@
 //! The text of a refusal.
 ghost use Rattle.bpf_io.specs.Writing.{WritesAfter};
-ghost use Rattle.bpf_session.specs.Refusals.{refusal_text};
+ghost use Rattle.bpf_script.specs.Refusals.{refusal_text};
 
-use crate::refusal::Refusal;
 use bpf_io::{Counted, WriteFault, put, put_decimal};
+use bpf_script::Refusal;
 use std::io::Write;
 
 /// Writes the line of a refusal.

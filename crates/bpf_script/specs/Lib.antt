@@ -1,0 +1,5 @@
+pub mod Limits
+pub mod Lines
+pub mod Refusals
+pub mod Commands
+pub mod ReadLines

@@ -1,0 +1,5 @@
+//! Tests of the lines of scripts.
+#![tactic(auto)]
+
+#[cfg(test)]
+mod lines;
