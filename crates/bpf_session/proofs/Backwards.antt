@@ -14,7 +14,7 @@ use Rattle.bpf_session.specs.Points.{Point}
 use Rattle.bpf_session.specs.Outcomes.{Outcome, unless_refused}
 use Rattle.bpf_session.specs.Refused.{when}
 use Rattle.bpf_session.specs.Backward.{before_last, back_by, gone_back, to_latest, kept_steps, stops_back, to_stop, reverse_continue}
-use Rattle.bpf_session.specs.declared.reply.Why.{Why}
+use Rattle.bpf_replies.specs.declared.why.Why.{Why}
 use Rattle.bpf_session.specs.declared.reply.Reply.TheVariants.{Back}
 use Rattle.bpf_session.specs.declared.reply.Reply.{Reply}
 use Rattle.bpf_script.specs.declared.refusal.Refusal.{Refusal}

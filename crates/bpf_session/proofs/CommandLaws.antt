@@ -29,8 +29,8 @@ use Rattle.bpf_script.specs.declared.command.Command.{Command}
 use Rattle.bpf_script.specs.declared.command.Command.TheVariants as command
 use Rattle.bpf_session.specs.declared.reply.Reply.{Reply}
 use Rattle.bpf_session.specs.declared.reply.Reply.TheVariants.{Forward, Back}
-use Rattle.bpf_session.specs.declared.reply.Why.{Why}
-use Rattle.bpf_session.specs.declared.reply.Why.TheVariants.{End, Break, Watch, Done, Limit, Memory}
+use Rattle.bpf_replies.specs.declared.why.Why.{Why}
+use Rattle.bpf_replies.specs.declared.why.Why.TheVariants.{End, Break, Watch, Done, Limit, Memory}
 use Rattle.bpf_script.specs.declared.refusal.Refusal.{Refusal}
 use Rattle.bpf_script.specs.declared.refusal.Refusal.TheVariants.{MachineEnded, NoKeptStep, FewerCommands, AddressNotPresent, RegisterNotWritable, NoStart, OutermostFrame, TableFull, ThereOrNot, NoCell, OutOfMemory}
 

@@ -22,8 +22,8 @@ use Rattle.bpf_session.specs.Forward.{Goal, after, kept, gone, stop, stop_in, le
 use Rattle.bpf_session.specs.Watched.{Compares, bytes_at}
 use Rattle.bpf_session.specs.Sessions.{SessionValue, HasPast, StandsAt, Obeys, point_of, bounds_of}
 use Rattle.bpf_session.proofs.Answering.{obeys_as}
-use Rattle.bpf_session.specs.declared.reply.Why.{Why}
-use Rattle.bpf_session.specs.declared.reply.Why.TheVariants.{End, Break, Watch, Done, Limit, Memory}
+use Rattle.bpf_replies.specs.declared.why.Why.{Why}
+use Rattle.bpf_replies.specs.declared.why.Why.TheVariants.{End, Break, Watch, Done, Limit, Memory}
 use Rattle.bpf_session.specs.declared.reply.Reply.TheVariants as replies
 use Rattle.bpf_script.specs.declared.refusal.Refusal.TheVariants.{OutOfMemory, MachineEnded}
 

@@ -7,5 +7,4 @@ pub mod Forwards
 pub mod Obeying
 pub mod Running
 pub mod Tables
-pub mod Telling
 pub mod Watching

@@ -9,8 +9,8 @@ use Rattle.bpf_journal.specs.Timelines.{record_of}
 use Rattle.bpf_session.specs.Points.{Point, Bounds}
 use Rattle.bpf_session.specs.Outcomes.{Outcome, refused, replied}
 use Rattle.bpf_session.specs.Stops.{breaks_at, watch_differs}
-use Rattle.bpf_session.specs.declared.reply.Why.{Why}
-use Rattle.bpf_session.specs.declared.reply.Why.TheVariants.{End, Break, Watch, Done, Limit, Memory}
+use Rattle.bpf_replies.specs.declared.why.Why.{Why}
+use Rattle.bpf_replies.specs.declared.why.Why.TheVariants.{End, Break, Watch, Done, Limit, Memory}
 use Rattle.bpf_session.specs.declared.reply.Reply.TheVariants.{Forward}
 use Rattle.bpf_script.specs.declared.refusal.Refusal.TheVariants.{OutOfMemory}
 

@@ -14,9 +14,9 @@ use Rattle.bpf_session.specs.Output.{walk}
 use Rattle.bpf_script.specs.declared.command.Command.{Command}
 use Rattle.bpf_script.specs.declared.command.Command.TheVariants.{InfoRegisters, InfoFrames, InfoBreaks, InfoHistory, InfoTrace, Examine, Disassemble, LastWrite, Quit, Next, Finish, Undo, ReverseStep}
 use Rattle.bpf_script.specs.declared.refusal.Refusal.{Refusal}
-use Rattle.bpf_session.specs.declared.reply.Why.{Why}
+use Rattle.bpf_replies.specs.declared.why.Why.{Why}
 use Rattle.bpf_session.specs.declared.reply.Reply.TheVariants.{Forward, Back}
-use Rattle.bpf_session.specs.declared.reply.Why.TheVariants.{Done}
+use Rattle.bpf_replies.specs.declared.why.Why.TheVariants.{Done}
 
 -- A refused command changes nothing: neither history nor state, breakpoints or watches.
 abbrev pub RefusedChangesNothing : Type 0

@@ -9,15 +9,11 @@ mod reply;
 mod script;
 mod session;
 mod sought;
-#[cfg(test)]
-mod tests;
-mod text;
 mod until;
 mod watches;
 
 pub use fault::RunFault;
 pub use plain::{Ending, run_plain};
-pub use reply::{Reply, Why};
+pub use reply::Reply;
 pub use script::run;
 pub use session::Session;
-pub use text::place::write_place;

@@ -4,9 +4,9 @@ ghost use Rattle.bpf_io.specs.Writing.{Writes, hexadecimal};
 ghost use Rattle.bpf_session.specs.Plain.{ending_of, plain_end, text_of_ending};
 
 use crate::fault::RunFault;
-use crate::text::registers::number_in;
 use bpf_io::{Counted, WriteFault, put, put_hexadecimal};
 use bpf_machine::{Cpu, Ended, Status};
+use bpf_replies::number_in;
 use std::io::Write;
 
 /// How a run ended.

@@ -12,9 +12,9 @@ ghost use Rattle.bpf_session.specs.Sessions.{HasPast, bounds_of, point_of};
 use crate::fault::RunFault;
 use crate::reply::Reply;
 use crate::session::Session;
-use crate::text::refusal::put_refusal;
 use bpf_io::{Counted, WriteFault};
 use bpf_journal::Keeper;
+use bpf_replies::put_refusal;
 use bpf_script::{Command, LineBuffer, Refusal, next_line};
 use std::io::{Read, Write};
 

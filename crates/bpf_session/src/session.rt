@@ -7,6 +7,7 @@ ghost use Rattle.bpf_session.specs.Replies.{IsThere};
 ghost use Rattle.bpf_session.specs.Sessions.{HasPast, Obeys, bounds_of, point_of};
 
 mod backward;
+mod changes;
 mod forward;
 mod replies;
 mod table;

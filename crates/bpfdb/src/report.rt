@@ -5,7 +5,7 @@ ghost use Rattle.bpf_io.specs.Writing.{Writes};
 use crate::fault::JobFault;
 use bpf_io::{Counted, WriteFault, put, write_text};
 use bpf_machine::Cpu;
-use bpf_session::write_place;
+use bpf_replies::write_place;
 use std::fmt::Display;
 use std::io::Write;
 

@@ -166,6 +166,7 @@ const TABLES: Row = (
     65_536,
     1_000_000,
     "\
+info breaks|none
 set reg r0 1|ok
 stepi 2|2 forward; done; at 0: add r0, 1
 rc|3 back; start; at 0: add r0, 1
@@ -194,8 +195,23 @@ info trace|trace 0
 ",
 );
 
-const ROWS: [Row; 11] = [
-    ANSWERED, LOAD, FAULT, DROPPED, REFUSED, BREAKS, PART, DOUBLED, EDITS, TABLES, STILL,
+// stxdw [r1+0], r1; exit.
+const STORE: Row = (
+    "7b110000000000009500000000000000",
+    &[1, 2, 3, 4, 5, 6, 0xab, 0xcd],
+    65_536,
+    1_000_000,
+    "\
+x 0x100000000 8|0x100000000: 010203040506abcd
+stepi|1 forward; done; at 1: exit
+x 0x100000000 8|0x100000000: 0000000001000000
+x 0x100000001 8|refused Q6: address not present
+info frames|depth 0
+",
+);
+
+const ROWS: [Row; 12] = [
+    ANSWERED, LOAD, FAULT, DROPPED, REFUSED, BREAKS, PART, DOUBLED, EDITS, TABLES, STILL, STORE,
 ];
 
 /// Those that set no breakpoints and go on to their end.

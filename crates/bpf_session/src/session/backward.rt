@@ -13,9 +13,10 @@ ghost use Rattle.bpf_session.specs.Stops.{some_differs};
 ghost use Rattle.bpf_script.specs.declared.command.Command.TheVariants as command_of;
 
 use super::Session;
-use crate::reply::{Reply, Why};
+use crate::reply::Reply;
 use crate::sought::{Found, Sought};
 use bpf_journal::{Keeper, Taken};
+use bpf_replies::Why;
 use bpf_script::{Count, Refusal};
 
 impl<K: Keeper> Session<K> {

@@ -13,9 +13,10 @@ ghost use Rattle.bpf_session.specs.Until.{done_by};
 ghost use Rattle.bpf_script.specs.declared.command.Command.TheVariants as command_of;
 
 use super::Session;
-use crate::reply::{Reply, Why};
+use crate::reply::Reply;
 use crate::until::Until;
 use bpf_journal::{Keeper, TimelineFault};
+use bpf_replies::Why;
 use bpf_script::Refusal;
 
 impl<K: Keeper> Session<K> {

@@ -6,17 +6,13 @@ ghost use Rattle.bpf_session.specs.Replies.{IsThere, text_of_history, text_of_re
 ghost use Rattle.bpf_session.specs.Sessions.{HasPast, bounds_of, point_of};
 
 use super::Session;
+use super::changes::put_change;
 use crate::reply::Reply;
-use crate::text::breaks::put_breaks;
-use crate::text::bytes::put_bytes;
-use crate::text::changes::put_change;
-use crate::text::frames::put_frames;
-use crate::text::instructions::put_instructions;
-use crate::text::moves::put_move;
-use crate::text::registers::put_state;
-use crate::text::trace::put_trace;
 use bpf_io::{Counted, WriteFault, put, put_decimal};
 use bpf_journal::Keeper;
+use bpf_replies::{
+    put_breaks, put_bytes, put_frames, put_instructions, put_move, put_state, put_trace,
+};
 use std::io::Write;
 
 impl<K: Keeper> Session<K> {

@@ -1,0 +1,26 @@
+//! The texts of replies: what is printed of a machine, of breakpoints and of refusals.
+#![tactic(auto)]
+
+mod breaks;
+mod bytes;
+mod frames;
+mod instructions;
+mod moves;
+mod place;
+mod refusal;
+mod registers;
+#[cfg(test)]
+mod tests;
+mod trace;
+mod why;
+
+pub use breaks::put_breaks;
+pub use bytes::put_bytes;
+pub use frames::put_frames;
+pub use instructions::put_instructions;
+pub use moves::put_move;
+pub use place::write_place;
+pub use refusal::put_refusal;
+pub use registers::{number_in, put_state};
+pub use trace::put_trace;
+pub use why::Why;

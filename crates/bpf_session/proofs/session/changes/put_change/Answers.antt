@@ -1,0 +1,14 @@
+use Rattle.std.proofs.Common.{codes, decimal, refl}
+use Rattle.bpf_io.specs.Writing.{hexadecimal}
+use Rattle.bpf_io.proofs.Appending.{WritesAfter-WritesAfter}
+use Rattle.bpf_session.proofs.session.changes.put_change.Goals as goal
+
+pub returns : goal.returns
+returns g c =
+    let after = WritesAfter-WritesAfter g.W.Write.contents in
+    let counted = after _ _ _ _ _ _ (codes "changed ") (decimal c.args.change.moves) _ c.put-begun.ensures c.put_decimal-counted.ensures refl in
+    let named = after _ _ _ _ _ _ _ (codes " moves back: ") _ counted c.put-named.ensures refl in
+    let old = after _ _ _ _ _ _ _ (hexadecimal c.args.change.old) _ named (rw c.from.ensures at c.put_hexadecimal-old.ensures) refl in
+    let parted = after _ _ _ _ _ _ _ (codes " to ") _ old c.put-parted.ensures refl in
+    let new = after _ _ _ _ _ _ _ (hexadecimal c.args.change.new) _ parted (rw c.from-2.ensures at c.put_hexadecimal-new.ensures) refl in
+    after _ _ _ _ _ _ _ (codes "\n") _ new c.put.ensures refl

@@ -1,2 +1,0 @@
-//! Tests of what no contract says.
-mod texts;
