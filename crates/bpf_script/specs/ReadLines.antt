@@ -1,4 +1,4 @@
--- Scaffolding: how a line is read into a buffer of fixed size.
+-- How a line is read into a buffer of fixed size.
 use Rattle.std.specs.Prelude.{◌≡◌, ◌<◌, ◌≤◌, ◌++◌, ◌∷◌, ℕ, Bool, true, false, List, [], Option, Some, Result, IfOk, OnOk, OnErr, length}
 use Rattle.bpf_io.specs.Counted.{Tally, last_count, one_more}
 use Rattle.bpf_script.specs.Limits.{longest_line}
