@@ -1,6 +1,6 @@
 //! Results of arithmetic, byte swaps and conditions (RFC 9669, section 4), on numbers alone.
 ghost use Rattle.std.specs.Prelude.{◌≡◌, ◌%◌, ◌^◌};
-ghost use Rattle.bpf_machine.specs.Arithmetic.{moved as moved_of};
+ghost use Rattle.bpf_machine.specs.Arithmetic.{sign_extended};
 ghost use Rattle.bpf_machine.specs.Swaps.{swapped as swapped_of};
 
 pub mod atomic;
@@ -31,8 +31,8 @@ pub fn low8(number: u64) -> u8
 }
 
 /// A move that extends the sign of the source's low bits.
-pub fn moved(extension: Extension, source: u64) -> u64
-    ensures { result ≡ moved_of extension source }
+pub fn sign_extend(extension: Extension, source: u64) -> u64
+    ensures { result ≡ sign_extended extension source }
 {
     match extension {
         Extension::Byte64 => i64::from(low8(source).cast_signed()).cast_unsigned(),

@@ -104,8 +104,8 @@ settings =
     ∷ []
 
 -- what `info` shows
-abbrev pub shows : Table
-shows =
+abbrev pub infos : Table
+infos =
     (codes "regs", bare command.InfoRegisters)
     ∷ (codes "frames", bare command.InfoFrames)
     ∷ (codes "breaks", bare command.InfoBreaks)
@@ -131,7 +131,7 @@ commands =
     ∷ (codes "delete", numbered command.Delete)
     ∷ (codes "watch", numbered command.Watch)
     ∷ (codes "unwatch", numbered command.Unwatch)
-    ∷ (codes "info", one_of shows)
+    ∷ (codes "info", one_of infos)
     ∷ (codes "x", spanned command.Examine)
     ∷ (codes "disas", spanned command.Disassemble)
     ∷ (codes "last-write", numbered command.LastWrite)

@@ -3,7 +3,7 @@ ghost use Rattle.std.specs.Prelude.{◌≡◌};
 ghost use Rattle.std.specs.Option.{ok_or};
 ghost use Rattle.std.specs.Str.{bytes_eq};
 ghost use Rattle.bpf_machine.specs.declared.edit.Edit.TheVariants as edit;
-ghost use Rattle.bpf_script.specs.Commands.{bare, bytes_of, command_named, command_of, counted, number_and_span, number_within, numbered, one_number, one_of, optional_count, set_bytes, set_cell, set_register, settings, shows, spanned};
+ghost use Rattle.bpf_script.specs.Commands.{bare, bytes_of, command_named, command_of, counted, number_and_span, number_within, numbered, one_number, one_of, optional_count, set_bytes, set_cell, set_register, settings, infos, spanned};
 ghost use Rattle.bpf_script.specs.Limits.{greatest_span};
 
 use crate::command::Command;
@@ -218,7 +218,7 @@ fn set_pc(words: Words) -> Result<Command, Refusal>
 // `info` and what it shows.
 #[tactic(auto, unfolding(crate::specs::Commands::one_of))]
 fn info(mut words: Words) -> Result<Command, Refusal>
-    ensures value { result ≡ ok_or (one_of shows words.entry) Refusal.WrongArgument }
+    ensures value { result ≡ ok_or (one_of infos words.entry) Refusal.WrongArgument }
 {
     let name = words.next_word().ok_or(Refusal::WrongArgument)?;
     if is(name, "regs") {

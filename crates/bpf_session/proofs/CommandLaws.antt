@@ -12,7 +12,7 @@ use Rattle.bpf_journal.specs.Timelines.{record_of}
 use Rattle.bpf_session.specs.Points.{Point, Bounds}
 use Rattle.bpf_session.specs.Outcomes.{Outcome, refused, replied, unless_refused}
 use Rattle.bpf_session.specs.Stops.{breaks_at, watch_differs, has}
-use Rattle.bpf_session.specs.Forward.{Goal, after, kept, gone, stop, least, steps, reason, taken, cut, forward}
+use Rattle.bpf_session.specs.Forward.{Goal, state_after, kept, gone, stop, least, steps, reason, taken, cut, forward}
 use Rattle.bpf_journal.specs.Lookups.{latest, state_before, last_change}
 use Rattle.bpf_journal.specs.declared.timeline.ByteChange.{ByteChange}
 use Rattle.bpf_session.specs.Tables.{told_of}
@@ -211,7 +211,7 @@ same-true n = grind (arith, nat_tests)
 stops-at-limit : (limit : ℕ) (done : Goal) (p : Point) (k : ℕ) → 1 ≤ k → k ≡ limit → is_some (stop limit done p k) ≡ true
 stops-at-limit limit done p zero some same = absurd (omega arith)
 stops-at-limit limit done p (suc k) some same =
-    at (has_ended (after (suc k) p.state).status) (breaks_at p (after (suc k) p.state)) (watch_differs p (after k p.state) (after (suc k) p.state)) (done (suc k) (after (suc k) p.state)) (suc k == limit) (grind (arith, nat_tests))
+    at (has_ended (state_after (suc k) p.state).status) (breaks_at p (state_after (suc k) p.state)) (watch_differs p (state_after k p.state) (state_after (suc k) p.state)) (done (suc k) (state_after (suc k) p.state)) (suc k == limit) (grind (arith, nat_tests))
   where
     at : (ended broken watched satisfied here : Bool) → here ≡ true → is_some (if ended then Some End else (if broken then Some Break else (if watched then Some Watch else (if satisfied then Some Done else (if here then Some Limit else None))))) ≡ true
     at true broken watched satisfied here h = refl
@@ -238,12 +238,12 @@ steps-are-least limit done p some =
 -- ---- breakpoints on the way
 
 -- where nothing stops, no breakpoint is there
-no-break : (limit : ℕ) (done : Goal) (p : Point) (j : ℕ) → 1 ≤ j → is_some (stop limit done p j) ≡ false → breaks_at p (after j p.state) ≡ false
+no-break : (limit : ℕ) (done : Goal) (p : Point) (j : ℕ) → 1 ≤ j → is_some (stop limit done p j) ≡ false → breaks_at p (state_after j p.state) ≡ false
 no-break limit done p zero some e = absurd (omega arith)
 no-break limit done p (suc j) some e =
-    at (has_ended (after (suc j) p.state).status) (breaks_at p (after (suc j) p.state)) e
+    at (has_ended (state_after (suc j) p.state).status) (breaks_at p (state_after (suc j) p.state)) e
   where
-    at : (ended broken : Bool) → is_some (if ended then Some End else (if broken then Some Break else (if watch_differs p (after j p.state) (after (suc j) p.state) then Some Watch else (if done (suc j) (after (suc j) p.state) then Some Done else (if suc j == limit then Some Limit else None))))) ≡ false → broken ≡ false
+    at : (ended broken : Bool) → is_some (if ended then Some End else (if broken then Some Break else (if watch_differs p (state_after j p.state) (state_after (suc j) p.state) then Some Watch else (if done (suc j) (state_after (suc j) p.state) then Some Done else (if suc j == limit then Some Limit else None))))) ≡ false → broken ≡ false
     at true broken e = absurd cc
     at false true e = absurd cc
     at false false e = refl
@@ -270,7 +270,7 @@ told-back : (found : Option ByteChange) (p : Point) (k : ℕ) (why : Why) → (r
 told-back None p k why e = cc
 told-back (Some change) p k why e = cc
 
-way : (limit : ℕ) (done : Goal) (p : Point) (k : ℕ) → k ≤ steps limit done p → (j : ℕ) → 1 ≤ j → j < k → breaks_at p (after j p.state) ≡ false
+way : (limit : ℕ) (done : Goal) (p : Point) (k : ℕ) → k ≤ steps limit done p → (j : ℕ) → 1 ≤ j → j < k → breaks_at p (state_after j p.state) ≡ false
 way limit done p k most j some less = no-break limit done p j some (least-below (λ i. is_some (stop limit done p i)) 1 limit j some (omega arith))
 
 -- a command that goes forward takes steps up to some goal
@@ -315,11 +315,11 @@ breakpoints-stop gap b c p k why e =
 -- ---- watches on the way
 
 -- where nothing stops, no watched byte has changed
-no-change : (limit : ℕ) (done : Goal) (p : Point) (j : ℕ) → is_some (stop limit done p (suc j)) ≡ false → watch_differs p (after j p.state) (after (suc j) p.state) ≡ false
+no-change : (limit : ℕ) (done : Goal) (p : Point) (j : ℕ) → is_some (stop limit done p (suc j)) ≡ false → watch_differs p (state_after j p.state) (state_after (suc j) p.state) ≡ false
 no-change limit done p j e =
-    at (has_ended (after (suc j) p.state).status) (breaks_at p (after (suc j) p.state)) (watch_differs p (after j p.state) (after (suc j) p.state)) e
+    at (has_ended (state_after (suc j) p.state).status) (breaks_at p (state_after (suc j) p.state)) (watch_differs p (state_after j p.state) (state_after (suc j) p.state)) e
   where
-    at : (ended broken watched : Bool) → is_some (if ended then Some End else (if broken then Some Break else (if watched then Some Watch else (if done (suc j) (after (suc j) p.state) then Some Done else (if suc j == limit then Some Limit else None))))) ≡ false → watched ≡ false
+    at : (ended broken watched : Bool) → is_some (if ended then Some End else (if broken then Some Break else (if watched then Some Watch else (if done (suc j) (state_after (suc j) p.state) then Some Done else (if suc j == limit then Some Limit else None))))) ≡ false → watched ≡ false
     at true broken watched e = absurd cc
     at false true watched e = absurd cc
     at false false true e = absurd cc
@@ -334,10 +334,10 @@ watches-stop gap b c p k why e j less =
 -- ---- called functions
 
 -- a command that is done has done what it was asked for
-done-reached : (limit : ℕ) (done : Goal) (p : Point) (j : ℕ) → unwrap_or (stop limit done p j) Limit ≡ Done → done j (after j p.state) ≡ true
+done-reached : (limit : ℕ) (done : Goal) (p : Point) (j : ℕ) → unwrap_or (stop limit done p j) Limit ≡ Done → done j (state_after j p.state) ≡ true
 done-reached limit done p zero e = absurd cc
 done-reached limit done p (suc j) e =
-    at (has_ended (after (suc j) p.state).status) (breaks_at p (after (suc j) p.state)) (watch_differs p (after j p.state) (after (suc j) p.state)) (done (suc j) (after (suc j) p.state)) (suc j == limit) e
+    at (has_ended (state_after (suc j) p.state).status) (breaks_at p (state_after (suc j) p.state)) (watch_differs p (state_after j p.state) (state_after (suc j) p.state)) (done (suc j) (state_after (suc j) p.state)) (suc j == limit) e
   where
     at : (ended broken watched satisfied here : Bool) → unwrap_or (if ended then Some End else (if broken then Some Break else (if watched then Some Watch else (if satisfied then Some Done else (if here then Some Limit else None))))) Limit ≡ Done → satisfied ≡ true
     at true broken watched satisfied here e = absurd cc
@@ -450,7 +450,7 @@ nothing-refused-nothing-missing (Some m ∷ gaps) n b (line ∷ lines) p low sam
 -- the history of k steps where none is dropped
 abbrev told : ℕ → Point → List Record
 told zero p = p.history
-told (suc k) p = record_of (after k p.state) Step (k == 0) ∷ told k p
+told (suc k) p = record_of (state_after k p.state) Step (k == 0) ∷ told k p
 
 -- what is left of a list is no longer, and where it is as long it is whole
 fit-at-most : (weigh : Record → ℕ) (room : ℕ) (h : List Record) → length (fit weigh room h) ≤ length h
@@ -474,14 +474,14 @@ fit-whole weigh room (r ∷ h) e = at (nat_le (weigh r) room) e (fit-whole weigh
 kept-at-most : (room k : ℕ) (p : Point) → length (kept room k p) ≤ k + length p.history
 kept-at-most room zero p = omega arith
 kept-at-most room (suc k) p =
-    let f = fit-at-most record_weight room (record_of (after k p.state) Step (k == 0) ∷ kept room k p) in
+    let f = fit-at-most record_weight room (record_of (state_after k p.state) Step (k == 0) ∷ kept room k p) in
     let i = kept-at-most room k p in
     omega arith
 
 kept-told : (room k : ℕ) (p : Point) → length (kept room k p) ≡ k + length p.history → kept room k p ≡ told k p
 kept-told room zero p e = refl
 kept-told room (suc k) p e =
-    let r = record_of (after k p.state) Step (k == 0) in
+    let r = record_of (state_after k p.state) Step (k == 0) in
     let f = fit-at-most record_weight room (r ∷ kept room k p) in
     let i = kept-at-most room k p in
     fit-whole record_weight room (r ∷ kept room k p) (omega arith) ∙ ap (λ (xs : List Record). r ∷ xs) (kept-told room k p (omega arith))
@@ -492,21 +492,21 @@ drop-told (suc k) p = drop-told k p
 
 oldest-told : (k : ℕ) (p : Point) (y : State) → state_before (suc k) (told (suc k) p) y ≡ p.state
 oldest-told zero p y = refl
-oldest-told (suc k) p y = oldest-told k p (after (suc k) p.state)
+oldest-told (suc k) p y = oldest-told k p (state_after (suc k) p.state)
 
 -- k steps from a point
 abbrev gone-told : ℕ → Point → Point
-gone-told k p = record p { history = told k p; state = after k p.state }
+gone-told k p = record p { history = told k p; state = state_after k p.state }
 
 back-told : (k : ℕ) (p : Point) → 1 ≤ k → back_by k (gone-told k p) ≡ p
 back-told zero p some = absurd (omega arith)
 back-told (suc k) p some =
     ap (λ (h : List Record). record p { history = h; state = before_last (suc k) (gone-told (suc k) p) }) (drop-told k p)
-    ∙ ap (λ (x : State). record p { state = x }) (oldest-told k p (after (suc k) p.state))
+    ∙ ap (λ (x : State). record p { state = x }) (oldest-told k p (state_after (suc k) p.state))
 
 marked-told : (k : ℕ) (p : Point) (y : State) → latest marked 1 (told (suc k) p) y ≡ Some (suc k)
 marked-told zero p y = refl
-marked-told (suc k) p y = let e : (suc k == 0) ≡ false = grind (arith, nat_tests) in rw e (ap (option_map suc) (marked-told k p (after (suc k) p.state)))
+marked-told (suc k) p y = let e : (suc k == 0) ≡ false = grind (arith, nat_tests) in rw e (ap (option_map suc) (marked-told k p (state_after (suc k) p.state)))
 
 count-more : (test : Record → Bool) (r : Record) (h : List Record) → count_by test (r ∷ h) ≡ cond (test r) 1 0 + count_by test h
 count-more test r h = sum_by-cons (λ x. cond (test x) 1 0) r h
@@ -518,18 +518,18 @@ marks-told zero p =
     omega (arith, e, one)
 marks-told (suc k) p =
     let i = marks-told k p in
-    let e = count-more (λ r. r.mark) (record_of (after (suc k) p.state) Step (suc k == 0)) (told (suc k) p) in
+    let e = count-more (λ r. r.mark) (record_of (state_after (suc k) p.state) Step (suc k == 0)) (told (suc k) p) in
     omega (arith, e, i)
 
 stepped-told : (k : ℕ) (p : Point) (y : State) → latest stepped (suc k) (told (suc k) p) y ≡ Some (suc k)
 stepped-told zero p y = refl
-stepped-told (suc k) p y = let e : (suc (suc k) == 1) ≡ false = grind (arith, nat_tests) in let d : suc (suc k) - 1 ≡ suc k = omega arith in rw (e, d) (ap (option_map suc) (stepped-told k p (after (suc k) p.state)))
+stepped-told (suc k) p y = let e : (suc (suc k) == 1) ≡ false = grind (arith, nat_tests) in let d : suc (suc k) - 1 ≡ suc k = omega arith in rw (e, d) (ap (option_map suc) (stepped-told k p (state_after (suc k) p.state)))
 
 steps-told : (k : ℕ) (p : Point) → k ≤ count_by (λ r. is_step r.move) (told k p)
 steps-told zero p = omega arith
 steps-told (suc k) p =
     let i = steps-told k p in
-    let e = count-more (λ r. is_step r.move) (record_of (after k p.state) Step (k == 0)) (told k p) in
+    let e = count-more (λ r. is_step r.move) (record_of (state_after k p.state) Step (k == 0)) (told k p) in
     let one : cond {A = ℕ} true 1 0 ≡ 1 = refl in
     omega (arith, e, one, i)
 
@@ -539,7 +539,7 @@ undo-told b later zero p some = absurd (omega arith)
 undo-told b later (suc k) p some =
     let m = marks-told k p in
     let e : nat_lt (marks (gone-told (suc k) p)) 1 ≡ false = grind (arith, nat_tests) in
-    rw e (ap (λ (o : Option ℕ). back_by (unwrap_or o (length (told (suc k) p))) (gone-told (suc k) p)) (marked-told k p (after (suc k) p.state)) ∙ back-told (suc k) p some)
+    rw e (ap (λ (o : Option ℕ). back_by (unwrap_or o (length (told (suc k) p))) (gone-told (suc k) p)) (marked-told k p (state_after (suc k) p.state)) ∙ back-told (suc k) p some)
 
 reverse-told : (b : Bounds) (later : Option ℕ) (k : ℕ) (p : Point) → 1 ≤ k → (does later b (command.ReverseStep k) (gone-told k p)).point ≡ p
 unfolding accepted
@@ -548,8 +548,8 @@ reverse-told b later (suc k) p some =
     let m = steps-told (suc k) p in
     let e : (kept_steps (gone-told (suc k) p) == 0) ≡ false = grind (arith, nat_tests) in
     let l : min (suc k) (kept_steps (gone-told (suc k) p)) ≡ suc k = omega arith in
-    rw e (ap (λ n. back_by (unwrap_or (latest stepped n (told (suc k) p) (after (suc k) p.state)) (length (told (suc k) p))) (gone-told (suc k) p)) l
-    ∙ ap (λ (o : Option ℕ). back_by (unwrap_or o (length (told (suc k) p))) (gone-told (suc k) p)) (stepped-told k p (after (suc k) p.state)) ∙ back-told (suc k) p some)
+    rw e (ap (λ n. back_by (unwrap_or (latest stepped n (told (suc k) p) (state_after (suc k) p.state)) (length (told (suc k) p))) (gone-told (suc k) p)) l
+    ∙ ap (λ (o : Option ℕ). back_by (unwrap_or o (length (told (suc k) p))) (gone-told (suc k) p)) (stepped-told k p (state_after (suc k) p.state)) ∙ back-told (suc k) p some)
 
 -- what a forward command leaves that says how many steps it took
 cut-point : (gap : Option ℕ) (room n k : ℕ) (because why : Why) (p : Point) → 1 ≤ n → (cut gap room n because p).answer ≡ Ok (Forward k why) → ((cut gap room n because p).point ≡ gone room k p) × (1 ≤ k)
@@ -567,7 +567,7 @@ going-back-gives-back gap later b c p k why e all =
     let g = cut-point gap b.room (steps b.limit w.0 p) k (reason b.limit w.0 p) why p (least-from _ 1 b.limit) (ap (λ (o : Outcome). o.answer) (sym w.1) ∙ e) in
     let there : (does gap b c p).point ≡ gone b.room k p = ap (λ (o : Outcome). o.point) w.1 ∙ g.0 in
     let whole : length (kept b.room k p) ≡ k + length p.history = ap (λ (q : Point). length q.history) (sym there) ∙ all in
-    let here : (does gap b c p).point ≡ gone-told k p = there ∙ ap (λ (h : List Record). record p { history = h; state = after k p.state }) (kept-told b.room k p whole) in
+    let here : (does gap b c p).point ≡ gone-told k p = there ∙ ap (λ (h : List Record). record p { history = h; state = state_after k p.state }) (kept-told b.room k p whole) in
     record {
       reverse = ap (λ (q : Point). (does later b (command.ReverseStep k) q).point) here ∙ reverse-told b later k p g.1;
       undo = ap (λ (q : Point). (does later b (command.Undo 1) q).point) here ∙ undo-told b later k p g.1;

@@ -18,7 +18,7 @@ use Rattle.bpf_session.specs.Points.{Point}
 use Rattle.bpf_session.specs.Outcomes.{Outcome, refused, unless_refused}
 use Rattle.bpf_session.specs.Refused.{when}
 use Rattle.bpf_session.specs.Stops.{breaks_at, some_differs, watch_differs}
-use Rattle.bpf_session.specs.Forward.{Goal, after, kept, gone, stop, stop_in, least, steps, taken, forward}
+use Rattle.bpf_session.specs.Forward.{Goal, state_after, kept, gone, stop, stop_in, least, steps, taken, forward}
 use Rattle.bpf_session.specs.Watched.{Compares, bytes_at}
 use Rattle.bpf_session.specs.Sessions.{SessionValue, HasPast, StandsAt, Obeys, point_of, bounds_of}
 use Rattle.bpf_session.proofs.Answering.{obeys_as}
@@ -82,11 +82,11 @@ pub record OnlyMoment {K : Type 0} (old now : SessionValue K) : Type 0 where
 
 module _ {K : Type 0} (holds : K → List Kept → Type 0) where
   -- where it stands after so many steps
-  pub stands_gone : (room k : ℕ) (old now : SessionValue K) (h : List Record) → OnlyMoment old now → now.moment.state ≡ after k old.moment.state → HasPast holds now (kept room k (point_of old h)) → StandsAt holds now (gone room k (point_of old h))
+  pub stands_gone : (room k : ℕ) (old now : SessionValue K) (h : List Record) → OnlyMoment old now → now.moment.state ≡ state_after k old.moment.state → HasPast holds now (kept room k (point_of old h)) → StandsAt holds now (gone room k (point_of old h))
   stands_gone room k old now h only state past = (
     ap (λ (x : State). record { history = kept room k (point_of old h); state = x; breaks = now.breaks; watches = now.watches }) state
-        ∙ ap (λ (bs : List ℕ). record { history = kept room k (point_of old h); state = after k old.moment.state; breaks = bs; watches = now.watches }) only.breaks
-        ∙ ap (λ (ws : List ℕ). record { history = kept room k (point_of old h); state = after k old.moment.state; breaks = old.breaks; watches = ws }) only.watches,
+        ∙ ap (λ (bs : List ℕ). record { history = kept room k (point_of old h); state = state_after k old.moment.state; breaks = bs; watches = now.watches }) only.breaks
+        ∙ ap (λ (ws : List ℕ). record { history = kept room k (point_of old h); state = state_after k old.moment.state; breaks = old.breaks; watches = ws }) only.watches,
     past,
   )
 
@@ -97,7 +97,7 @@ pub record Going {K : Type 0} (holds : K → List Kept → Type 0) (refusals roo
   pub running : has_ended now.moment.state.status ≡ false
   pub only : OnlyMoment old now
   pub saw : seen ≡ bytes_at now.watches now.moment.state
-  pub state : now.moment.state ≡ after k old.moment.state
+  pub state : now.moment.state ≡ state_after k old.moment.state
   pub past : (h : List Record) → HasPast holds old h → HasPast holds now (kept (room old.moment.keeper) k (point_of old h))
   pub same : refusals now.moment.keeper ≡ refusals old.moment.keeper
   pub room_same : room now.moment.keeper ≡ room old.moment.keeper
@@ -106,7 +106,7 @@ pub record Going {K : Type 0} (holds : K → List Kept → Type 0) (refusals roo
 
 module _ {K : Type 0} (holds : K → List Kept → Type 0) (refusals room : K → ℕ) (old now new : SessionValue K) (done : Goal) (seen : List ℕ) (k : ℕ) where
   -- the state and the history after one more step
-  state_more : Going holds refusals room old now done seen k → Leads now.moment.state Step new.moment.state → new.moment.state ≡ after (k + 1) old.moment.state
+  state_more : Going holds refusals room old now done seen k → Leads now.moment.state Step new.moment.state → new.moment.state ≡ state_after (k + 1) old.moment.state
   state_more i leads = rw add-one (leads.after ∙ ap next i.state)
 
   past_more : Going holds refusals room old now done seen k → Makes holds (room now.moment.keeper) Step (k == 0) now.moment new.moment → (h : List Record) → HasPast holds old h → HasPast holds new (kept (room old.moment.keeper) (k + 1) (point_of old h))
@@ -130,14 +130,14 @@ module _ {K : Type 0} (holds : K → List Kept → Type 0) (refusals room : K �
       (λ off a. kept_bytes now.moment.state new.moment.state Step leads (sym told ∙ off) a)
 
   -- why it stops or not after one more step, from where the command began
-  stop_more : Going holds refusals room old now done seen k → OnlyMoment now new → new.moment.state ≡ after (k + 1) old.moment.state → (why : Option Why) → ((h : List Record) → why ≡ stop_in new.limit done (point_of new h) (k + 1) now.moment.state new.moment.state) → (h : List Record) → stop old.limit done (point_of old h) (k + 1) ≡ why
+  stop_more : Going holds refusals room old now done seen k → OnlyMoment now new → new.moment.state ≡ state_after (k + 1) old.moment.state → (why : Option Why) → ((h : List Record) → why ≡ stop_in new.limit done (point_of new h) (k + 1) now.moment.state new.moment.state) → (h : List Record) → stop old.limit done (point_of old h) (k + 1) ≡ why
   stop_more i only e why found h =
       let all = only_more i only in
       let f = found h in
-      let from : stop_in old.limit done (point_of old h) (k + 1) (after k old.moment.state) (after (k + 1) old.moment.state) ≡ why = sym (f ∙ at_old new.limit new.breaks new.watches now.moment.state new.moment.state all.limit all.breaks all.watches i.state e) in
+      let from : stop_in old.limit done (point_of old h) (k + 1) (state_after k old.moment.state) (state_after (k + 1) old.moment.state) ≡ why = sym (f ∙ at_old new.limit new.breaks new.watches now.moment.state new.moment.state all.limit all.breaks all.watches i.state e) in
       rw add-one (rw add-one at from)
     where
-      at_old : (limit : ℕ) (breaks watches : List ℕ) (x y : State) → limit ≡ old.limit → breaks ≡ old.breaks → watches ≡ old.watches → x ≡ after k old.moment.state → y ≡ after (k + 1) old.moment.state → stop_in limit done (record { history = h; state = y; breaks = breaks; watches = watches }) (k + 1) x y ≡ stop_in old.limit done (point_of old h) (k + 1) (after k old.moment.state) (after (k + 1) old.moment.state)
+      at_old : (limit : ℕ) (breaks watches : List ℕ) (x y : State) → limit ≡ old.limit → breaks ≡ old.breaks → watches ≡ old.watches → x ≡ state_after k old.moment.state → y ≡ state_after (k + 1) old.moment.state → stop_in limit done (record { history = h; state = y; breaks = breaks; watches = watches }) (k + 1) x y ≡ stop_in old.limit done (point_of old h) (k + 1) (state_after k old.moment.state) (state_after (k + 1) old.moment.state)
       at_old limit breaks watches x y l b w q s = rw (l, b, w, q, s) refl
 
   -- one more step that stops nothing

@@ -27,7 +27,7 @@ use Rattle.bpf_journal.specs.Histories.{Record, Kept, StandsFor}
 use Rattle.bpf_journal.specs.Timelines.{Moment, Makes, Stays, Fails, refusals_by}
 use Rattle.bpf_session.specs.Outcomes.{refused, replied, unless_refused}
 use Rattle.bpf_session.specs.Sessions.{SessionValue, HasPast, StandsAt, Obeys, point_of}
-use Rattle.bpf_session.specs.Tables.{made, edit, without_break}
+use Rattle.bpf_session.specs.Tables.{with_edit, edit, without_break}
 use Rattle.bpf_session.proofs.Answering.{obeys_as, obeys_whole}
 use Rattle.bpf_session.proofs.Forwards.{OnlyMoment}
 use Rattle.bpf_script.specs.declared.refusal.Refusal.{Refusal}
@@ -88,11 +88,11 @@ edit_refused p (edit_of.Pc slot) fault.NoCell why = absurd why
 
 module _ {K : Type 0} (holds : K → List Kept → Type 0) (refusals room : K → ℕ) (old new : SessionValue K) (e : Edit) where
   -- where it stands after an edit
-  stands_made : OnlyMoment old new → Makes holds (room old.moment.keeper) (move.Edit e) true old.moment new.moment → (h : List Record) → HasPast holds old h → StandsAt holds new (made (room old.moment.keeper) e (point_of old h))
+  stands_made : OnlyMoment old new → Makes holds (room old.moment.keeper) (move.Edit e) true old.moment new.moment → (h : List Record) → HasPast holds old h → StandsAt holds new (with_edit (room old.moment.keeper) e (point_of old h))
   stands_made only m h past = (
-    ap (λ (x : State). record { history = (made (room old.moment.keeper) e (point_of old h)).history; state = x; breaks = new.breaks; watches = new.watches }) m.leads.after
-        ∙ ap (λ (bs : List ℕ). record { history = (made (room old.moment.keeper) e (point_of old h)).history; state = edited old.moment.state e; breaks = bs; watches = new.watches }) only.breaks
-        ∙ ap (λ (ws : List ℕ). record { history = (made (room old.moment.keeper) e (point_of old h)).history; state = edited old.moment.state e; breaks = old.breaks; watches = ws }) only.watches,
+    ap (λ (x : State). record { history = (with_edit (room old.moment.keeper) e (point_of old h)).history; state = x; breaks = new.breaks; watches = new.watches }) m.leads.after
+        ∙ ap (λ (bs : List ℕ). record { history = (with_edit (room old.moment.keeper) e (point_of old h)).history; state = edited old.moment.state e; breaks = bs; watches = new.watches }) only.breaks
+        ∙ ap (λ (ws : List ℕ). record { history = (with_edit (room old.moment.keeper) e (point_of old h)).history; state = edited old.moment.state e; breaks = old.breaks; watches = ws }) only.watches,
     m.kept h past,
   )
 

@@ -15,18 +15,18 @@ use Rattle.bpf_session.specs.declared.reply.Reply.TheVariants.{Forward}
 use Rattle.bpf_script.specs.declared.refusal.Refusal.TheVariants.{OutOfMemory}
 
 -- The state after so many steps.
-abbrev pub after : ℕ → State → State
-after zero x = x
-after (suc k) x = next (after k x)
+abbrev pub state_after : ℕ → State → State
+state_after zero x = x
+state_after (suc k) x = next (state_after k x)
 
 -- The history after so many steps from a point: each is kept in the journal's room, the first one with a mark.
 abbrev pub kept : ℕ → ℕ → Point → List Record
 kept room zero p = p.history
-kept room (suc k) p = keep record_weight room (kept room k p) (record_of (after k p.state) Step (k == 0))
+kept room (suc k) p = keep record_weight room (kept room k p) (record_of (state_after k p.state) Step (k == 0))
 
 -- The point after so many steps.
 abbrev pub gone : ℕ → ℕ → Point → Point
-gone room k p = record p { history = kept room k p; state = after k p.state }
+gone room k p = record p { history = kept room k p; state = state_after k p.state }
 
 -- Whether a command has done what it was asked for, after so many steps, in the state that it then has.
 abbrev pub Goal : Type 0
@@ -45,7 +45,7 @@ stop_in limit done p k x y =
 -- The same of the k-th step from the point on. (No command stops before its first step.)
 abbrev pub stop : ℕ → Goal → Point → ℕ → Option Why
 stop limit done p zero = None
-stop limit done p (suc k) = stop_in limit done p (suc k) (after k p.state) (after (suc k) p.state)
+stop limit done p (suc k) = stop_in limit done p (suc k) (state_after k p.state) (state_after (suc k) p.state)
 
 -- The least number that passes a test, of the n numbers from k on; k + n where none does.
 abbrev pub least : (ℕ → Bool) → ℕ → ℕ → ℕ

@@ -1,7 +1,7 @@
 -- Facts about the meaning of commands and of scripts, in the words of those who use them.
 use Rattle.std.specs.Prelude.{◌≡◌, ◌<◌, ◌≤◌, ◌-◌, ◌^◌, ◌+◌, ℕ, suc, Bool, true, false, List, [], ◌∷◌, length, map, take, drop, count_by, slice_get, Option, Some, Ok, Err, IsSome, IsNone, IsTrue}
 use Rattle.bpf_session.specs.Points.{Point, Bounds}
-use Rattle.bpf_session.specs.Forward.{Goal, after, stop, steps}
+use Rattle.bpf_session.specs.Forward.{Goal, state_after, stop, steps}
 use Rattle.bpf_machine.specs.State.{depth}
 use Rattle.bpf_journal.specs.Histories.{Record}
 use Rattle.bpf_session.specs.Backward.{back_by, marks}
@@ -63,12 +63,12 @@ StepsAreLeast = (limit : ℕ) (done : Goal) (p : Point) → 1 ≤ limit → IsLe
 -- No breakpoint is at a state between the first and the last one of a command that goes forward.
 abbrev pub BreakpointsStop : Type 0
 BreakpointsStop = (gap : Option ℕ) (b : Bounds) (c : Command) (p : Point) (k : ℕ) (why : Why)
-    → (does gap b c p).answer ≡ Ok (Forward k why) → (j : ℕ) → 1 ≤ j → j < k → breaks_at p (after j p.state) ≡ false
+    → (does gap b c p).answer ≡ Ok (Forward k why) → (j : ℕ) → 1 ≤ j → j < k → breaks_at p (state_after j p.state) ≡ false
 
 -- No watched byte changes between the first and the last step of a command that goes forward.
 abbrev pub WatchesStop : Type 0
 WatchesStop = (gap : Option ℕ) (b : Bounds) (c : Command) (p : Point) (k : ℕ) (why : Why)
-    → (does gap b c p).answer ≡ Ok (Forward k why) → (j : ℕ) → suc j < k → watch_differs p (after j p.state) (after (suc j) p.state) ≡ false
+    → (does gap b c p).answer ≡ Ok (Forward k why) → (j : ℕ) → suc j < k → watch_differs p (state_after j p.state) (state_after (suc j) p.state) ≡ false
 
 -- `nexti` that is done has come back to the depth where it began or a smaller one, `finish` to a smaller one.
 abbrev pub CallsRunAsOne : Type 0

@@ -12,7 +12,7 @@ pub mod Sessions
 pub mod Output
 pub mod Runs
 pub mod Laws
-pub mod Marks
+pub mod SlotTables
 pub mod Watched
 pub mod Until
 pub mod Sought

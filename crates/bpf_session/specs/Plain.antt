@@ -6,17 +6,17 @@ use Rattle.bpf_machine.specs.Status.{has_ended}
 use Rattle.bpf_machine.specs.declared.status.Status.{Status}
 use Rattle.bpf_machine.specs.declared.status.Status.TheVariants as status
 use Rattle.bpf_io.specs.Writing.{hexadecimal}
-use Rattle.bpf_session.specs.Forward.{after, least}
+use Rattle.bpf_session.specs.Forward.{state_after, least}
 use Rattle.bpf_session.specs.declared.plain.Ending.{Ending}
 use Rattle.bpf_session.specs.declared.plain.Ending.TheVariants.{Exited, Faulted, Limit}
 
 -- The least number of steps after which the machine has ended, the limit where it hasn't by then.
 abbrev pub plain_steps : ℕ → State → ℕ
-plain_steps limit x = least (λ k. has_ended (after k x).status) 0 limit
+plain_steps limit x = least (λ k. has_ended (state_after k x).status) 0 limit
 
 -- The state after them.
 abbrev pub plain_end : ℕ → State → State
-plain_end limit x = after (plain_steps limit x) x
+plain_end limit x = state_after (plain_steps limit x) x
 
 -- How a run ended, by the status that it left.
 abbrev pub ending_of : Status → Ending

@@ -57,9 +57,9 @@ pub record WritesPart (first : ℕ → Walk) (k : ℕ) (script told : List ℕ) 
   pub written : AppendsBeginning (Some (told ++ (first before).out)) after text
   pub ahead : Leaves (drop k (lines script)) left
 
-abbrev pub Breaks : RunFault → (ℕ → Walk) → ℕ → List ℕ → List ℕ → Option (List ℕ) → Option (List ℕ) → Type 0
-Breaks Read = ReadsPart
-Breaks Write = WritesPart
+abbrev pub Interrupts : RunFault → (ℕ → Walk) → ℕ → List ℕ → List ℕ → Option (List ℕ) → Option (List ℕ) → Type 0
+Interrupts Read = ReadsPart
+Interrupts Write = WritesPart
 
 -- A read or a write failed: then the session stands after the first k lines, none of them `quit`, for some gaps, one for each of them.
 pub record BreaksOff {K : Type 0} (holds : K → List Kept → Type 0) (refusals room : K → ℕ) (old new : SessionValue K) (why : RunFault)
@@ -71,7 +71,7 @@ pub record BreaksOff {K : Type 0} (holds : K → List Kept → Type 0) (refusals
   pub each : length gaps ≡ k
   pub counted : refusals new.moment.keeper ≡ refusals_after_all gaps (refusals old.moment.keeper)
   pub stands : StandsAt holds new (first_lines gaps (bounds_of room old) script (point_of old h) k).final
-  pub broken : Breaks why (first_lines gaps (bounds_of room old) script (point_of old h)) k script told after left
+  pub broken : Interrupts why (first_lines gaps (bounds_of room old) script (point_of old h)) k script told after left
 
 -- Which failures a fault of a run answers: each is counted once, at the end that failed.
 abbrev pub FailsBy : {R W : Type 0} → RunFault → Tally R → Tally R → Tally W → Tally W → Type 0

@@ -14,15 +14,15 @@ use Rattle.bpf_session.specs.declared.reply.Reply.TheVariants as reply
 use Rattle.bpf_script.specs.declared.refusal.Refusal.TheVariants.{OutOfMemory}
 
 -- An edit is a marked move.
-abbrev pub made : ℕ → Edit → Point → Point
-made room e p = record p {
+abbrev pub with_edit : ℕ → Edit → Point → Point
+with_edit room e p = record p {
   history = keep record_weight room p.history (record_of p.state (move.Edit e) true);
   state = edited p.state e;
 }
 
 -- It is refused where the keeper can't keep it.
 abbrev pub edit : Option ℕ → ℕ → Edit → Point → Outcome
-edit None room e p = replied reply.Ok (made room e p)
+edit None room e p = replied reply.Ok (with_edit room e p)
 edit (Some m) room e p = refused OutOfMemory p
 
 -- A new breakpoint goes to the end.

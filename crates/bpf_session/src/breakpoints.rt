@@ -16,18 +16,18 @@ const SLOT_COUNT: usize = 65_536;
 #[derive(Drop)]
 pub struct Breakpoints {
     slots: ArrayVec<u16, MOST_BREAKS>,
-    marks: [bool; SLOT_COUNT],
+    table: [bool; SLOT_COUNT],
 }
 
 impl Model for Breakpoints {
     ghost use Rattle.std.specs.Prelude.{ℕ, List};
-    ghost use Rattle.bpf_session.specs.Marks.{AreMarks};
+    ghost use Rattle.bpf_session.specs.SlotTables.{IsTableOf};
 
     ghost Value = { List ℕ };
 
     ghost view = { λ b. b.slots.items };
 
-    ghost invariant = { λ b. AreMarks b.slots.items b.marks };
+    ghost invariant = { λ b. IsTableOf b.slots.items b.table };
 }
 
 impl Breakpoints {
@@ -37,7 +37,7 @@ impl Breakpoints {
     {
         Breakpoints {
             slots: ArrayVec::new(),
-            marks: [false; SLOT_COUNT],
+            table: [false; SLOT_COUNT],
         }
     }
 
@@ -66,7 +66,7 @@ impl Breakpoints {
     pub fn has(&self, slot: u16) -> bool
         ensures { result ≡ has self.now slot }
     {
-        self.marks[usize::from(slot)]
+        self.table[usize::from(slot)]
     }
 
     /// Sets one at a slot.
@@ -75,7 +75,7 @@ impl Breakpoints {
         ensures { self.new ≡ self.old ++ slot ∷ [] }
     {
         self.slots.push(slot);
-        self.marks[usize::from(slot)] = true;
+        self.table[usize::from(slot)] = true;
     }
 
     /// Removes the one at a slot.
@@ -83,7 +83,7 @@ impl Breakpoints {
         ensures { self.new ≡ filter (λ other. not (other == slot)) self.old }
     {
         self.slots.retain(|other| *other != slot);
-        self.marks[usize::from(slot)] = false;
+        self.table[usize::from(slot)] = false;
     }
 }
 

@@ -116,7 +116,7 @@ impl Cpu {
 
     /// The shape of the map that a number is the token of, None where it is no map's.
     fn shape(&self, token: u64) -> Option<MapShape>
-        ensures value { result ≡ spec.shape_of self.now token }
+        ensures value { result ≡ spec.map_shape self.now token }
         ensures shape { IfSome result IsShape }
         ensures map { IfSome result (λ shape. (token_base ≤ token) × (token < token_base + 16)) }
     {

@@ -1,5 +1,5 @@
-use Rattle.bpf_session.proofs.Breaks.{no_marks}
+use Rattle.bpf_session.proofs.Breaks.{no_table}
 use Rattle.bpf_session.proofs.breakpoints.Breakpoints.new.Goals as goal
 
 pub invariant_of-result : goal.invariant_of-result
-invariant_of-result c = no_marks _ c.new.ensures
+invariant_of-result c = no_table _ c.new.ensures
