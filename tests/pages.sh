@@ -127,7 +127,7 @@ examples() {
 # commands: the commands of bpf_script's tables are the rows of docs/COMMANDS.md, in the same order.
 commands() {
     awk -F '"' '
-        /^(settings|shows|commands) =$/ { table = substr($0, 1, length($0) - 2) }
+        /^(settings|infos|commands) =$/ { table = substr($0, 1, length($0) - 2) }
         /^$/ { table = "" }
         table != "" && NF == 3 { names[table, ++count[table]] = $2; more[table, count[table]] = $3 }
         END {
