@@ -6,6 +6,7 @@ pub mod Memory
 pub mod WideLoads
 pub mod Maps
 pub mod Insns
+pub mod Mnemonics
 pub mod Words
 pub mod WordFaults
 pub mod Checker

@@ -9,6 +9,7 @@ mod fields;
 mod form;
 mod instruction;
 mod maps;
+mod mnemonic;
 mod opcode;
 mod program;
 mod register;
@@ -23,6 +24,7 @@ pub use instruction::{
     Width,
 };
 pub use maps::{MapShape, MapTable};
+pub use mnemonic::Mnemonic;
 pub use program::{Program, check};
 pub use register::Reg;
 pub use words::{Words, one_spelling};

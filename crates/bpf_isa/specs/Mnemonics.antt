@@ -1,0 +1,26 @@
+-- Mnemonics: an instruction without its operands (RFC 9669, sections 4 and 5).
+use Rattle.bpf_isa.specs.declared.instruction.Insn.{Insn}
+use Rattle.bpf_isa.specs.declared.instruction.Insn.TheVariants as insn
+use Rattle.bpf_isa.specs.declared.mnemonic.Mnemonic.{Mnemonic}
+use Rattle.bpf_isa.specs.declared.mnemonic.Mnemonic.TheVariants.{Binary, Negate, SignExtend, SwapBytes, JumpIf, Jump, JumpLong, CallHelper, CallLocal, Exit, Load, LoadSigned, StoreImmediate, StoreRegister, Atomic, LoadNumber, LoadMap, LoadMapValue}
+
+-- The mnemonic of an instruction.
+abbrev pub mnemonic_of : Insn → Mnemonic
+mnemonic_of (insn.Binary op width dst source) = Binary op width
+mnemonic_of (insn.Negate width dst) = Negate width
+mnemonic_of (insn.SignExtend extension dst src) = SignExtend extension
+mnemonic_of (insn.SwapBytes order width dst) = SwapBytes order width
+mnemonic_of (insn.JumpIf condition width dst source offset) = JumpIf condition width
+mnemonic_of (insn.Jump offset) = Jump
+mnemonic_of (insn.JumpLong distance) = JumpLong
+mnemonic_of (insn.CallHelper helper) = CallHelper
+mnemonic_of (insn.CallLocal distance) = CallLocal
+mnemonic_of insn.Exit = Exit
+mnemonic_of (insn.Load size dst src offset) = Load size
+mnemonic_of (insn.LoadSigned size dst src offset) = LoadSigned size
+mnemonic_of (insn.StoreImmediate size dst offset value) = StoreImmediate size
+mnemonic_of (insn.StoreRegister size dst src offset) = StoreRegister size
+mnemonic_of (insn.Atomic op width dst src offset) = Atomic op width
+mnemonic_of (insn.LoadNumber dst value) = LoadNumber
+mnemonic_of (insn.LoadMap dst map) = LoadMap
+mnemonic_of (insn.LoadMapValue dst map offset) = LoadMapValue
