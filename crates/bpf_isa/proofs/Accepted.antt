@@ -8,7 +8,7 @@ use Rattle.bpf_isa.specs.declared.instruction.Insn.{Insn}
 use Rattle.bpf_isa.specs.declared.maps.MapShape.{MapShape}
 use Rattle.bpf_isa.specs.Insns.{slots_of, FallsThrough, target_of, written_of}
 use Rattle.bpf_isa.specs.Maps.{AreMaps}
-use Rattle.bpf_isa.specs.Words.{row, form_of, IsWord}
+use Rattle.bpf_isa.specs.Words.{row_of, IsWord}
 use Rattle.bpf_isa.specs.Checker.{is_wide_at, is_start, IsStartIn, piece_at, after, AreSlots, IsAccepted, IsTarget}
 use Rattle.bpf_isa.specs.Scaffolding.Checking.{IsPiece, IsInsnAt, AreInsns}
 use Rattle.bpf_isa.specs.Programs.{IsStartAt, IsProgram}
@@ -37,7 +37,7 @@ after_by b p n h = grind arith
 
 after_slots : (bytes : List ℕ) (p : ℕ) (insn : Insn) → IsWord insn (piece_at bytes p) → after bytes p ≡ p + slots_of insn
 after_slots bytes p insn whole =
-    let opcode : get_or bytes (8 * p) 0 ≡ (row (form_of insn)).opcode = sym (opcode_of_piece bytes p) ∙ whole.codes.opcode in
+    let opcode : get_or bytes (8 * p) 0 ≡ (row_of insn).opcode = sym (opcode_of_piece bytes p) ∙ whole.reads.codes.opcode in
     after_by (is_wide_at bytes p) p (slots_of insn) (elim (wide_or_not insn) [ inl wide ↦ inl (wide_at bytes p (opcode ∙ wide.0), wide.1) | inr narrow ↦ inr (narrow_at bytes p (λ e. narrow.0 (sym opcode ∙ e)), narrow.1) ])
 
 -- and that slot is a start

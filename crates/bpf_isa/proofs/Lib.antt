@@ -1,5 +1,5 @@
 pub mod Spelling
-pub mod LeastFaults
+pub mod Readings
 pub mod BrokenRules
 pub mod KeptInsns
 pub mod Accepted

@@ -11,7 +11,10 @@ use Rattle.std.proofs.lemmas.List.Elements.{All-get_or}
 use Rattle.bpf_isa.specs.declared.instruction.Insn.{Insn}
 use Rattle.bpf_isa.specs.declared.fields.Fields.{Fields}
 use Rattle.bpf_isa.specs.Insns.{slots_of}
-use Rattle.bpf_isa.specs.Words.{row, form_of, fields_of, HasCodes, IsClean, HasParts, IsWord}
+use Rattle.bpf_isa.specs.declared.fault.WordFault.TheVariants.{CutOff}
+use Rattle.bpf_isa.specs.WordFaults.{HasWordFault}
+use Rattle.bpf_isa.specs.Scaffolding.Codec.{IsRead}
+use Rattle.bpf_isa.specs.Words.{row_of, fields_of, HasCodes, IsClean, HasParts, IsWord}
 
 -- the ranges of the fields
 record AreSmall (f : Fields) : Type 0 where
@@ -35,11 +38,11 @@ record Agree (f g : Fields) : Type 0 where
   reserved : f.reserved ≡ g.reserved
   next : f.next ≡ g.next
 
-agree : (insn : Insn) (f g : Fields) → AreSmall f → AreSmall g → HasCodes (row (form_of insn)) f → HasCodes (row (form_of insn)) g → IsClean (row (form_of insn)) f → IsClean (row (form_of insn)) g → HasParts insn f → HasParts insn g → Agree f g
+agree : (insn : Insn) (f g : Fields) → AreSmall f → AreSmall g → HasCodes (row_of insn) f → HasCodes (row_of insn) g → IsClean (row_of insn) f → IsClean (row_of insn) g → HasParts insn f → HasParts insn g → Agree f g
 agree insn f g small_f small_g codes_f codes_g clean_f clean_g parts_f parts_g = grind (arith, same_half, same_word)
 
 -- the opcode tells how many slots there are
-pub wide_or_not : (insn : Insn) → (((row (form_of insn)).opcode ≡ 24) × (slots_of insn ≡ 2)) ⊎ (((row (form_of insn)).opcode ≢ 24) × (slots_of insn ≡ 1))
+pub wide_or_not : (insn : Insn) → (((row_of insn).opcode ≡ 24) × (slots_of insn ≡ 2)) ⊎ (((row_of insn).opcode ≢ 24) × (slots_of insn ≡ 1))
 wide_or_not insn = grind arith
 
 -- a byte anywhere, also past the end
@@ -89,7 +92,7 @@ slots_le_two insn = grind arith
 
 pub one_word : (insn : Insn) (a b : List ℕ) → IsWord insn a → IsWord insn b → a ≡ b
 one_word insn a b in_a in_b =
-    let same = agree insn _ _ (small_fields a in_a.small) (small_fields b in_b.small) in_a.codes in_b.codes in_a.clean in_b.clean in_a.parts in_b.parts in
+    let same = agree insn _ _ (small_fields a in_a.small) (small_fields b in_b.small) in_a.reads.codes in_b.reads.codes in_a.clean in_b.clean in_a.reads.parts in_b.reads.parts in
     let two = slots_le_two insn in
     let size_a : length a ≡ 8 * slots_of insn = in_a.size in
     let size_b : length b ≡ 8 * slots_of insn = in_b.size in
@@ -107,7 +110,15 @@ none_begins i j a rest in_a in_both =
     let wide_j = wide_or_not j in
     let filled : 0 < length a = omega arith in
     let first : get_or (a ++ rest) 0 0 ≡ get_or a 0 0 = get_or_append_left a rest 0 0 filled in
-    let opcode_a : get_or a 0 0 ≡ (row (form_of i)).opcode = in_a.codes.opcode in
-    let opcode_both : get_or (a ++ rest) 0 0 ≡ (row (form_of j)).opcode = in_both.codes.opcode in
+    let opcode_a : get_or a 0 0 ≡ (row_of i).opcode = in_a.reads.codes.opcode in
+    let opcode_both : get_or (a ++ rest) 0 0 ≡ (row_of j).opcode = in_both.reads.codes.opcode in
     let same : slots_of i ≡ slots_of j = omega arith in
     no_rest a rest (omega arith)
+
+-- bytes that read as an instruction are its word, if no second slot is missing
+pub whole_word : (bytes : List ℕ) (insn : Insn) → IsRead bytes insn → (length bytes ≡ 8) ⊎ ((length bytes ≡ 16) × (get_or bytes 0 0 ≡ 24)) → (HasWordFault bytes CutOff → ⊥) → IsWord insn bytes
+whole_word bytes insn read size whole =
+    let slots = wide_or_not insn in
+    let opcode : get_or bytes 0 0 ≡ (row_of insn).opcode = read.reads.codes.opcode in
+    let is_size : length bytes ≡ 8 * slots_of insn = grind (arith, slots, opcode, size) in
+    record { small = read.small; size = is_size; reads = read.reads; clean = read.clean; registers = read.registers }

@@ -6,8 +6,8 @@ use Rattle.bpf_isa.specs.declared.instruction.BinaryOp.{BinaryOp}
 use Rattle.bpf_isa.specs.declared.instruction.BinaryOp.TheVariants.{Add, Sub, Mul, Div, SignedDiv, Or, And, LeftShift, RightShift, Mod, SignedMod, Xor, Mov, SignedRightShift}
 use Rattle.bpf_isa.specs.declared.instruction.Extension.{Extension}
 use Rattle.bpf_isa.specs.declared.instruction.Extension.TheVariants.{Byte64, Half64, Word64, Byte32, Half32}
-use Rattle.bpf_isa.specs.declared.form.SourceKind.{SourceKind}
-use Rattle.bpf_isa.specs.declared.form.SourceKind.TheVariants.{Register}
+use Rattle.bpf_isa.specs.declared.instruction.SourceKind.{SourceKind}
+use Rattle.bpf_isa.specs.declared.instruction.SourceKind.TheVariants.{Register}
 use Rattle.bpf_isa.specs.Rows.{Field, unused, code, used, Row, alu, imm_of, src_of}
 
 -- ADD to ARSH, without NEG and END: the opcodes K32 X32 K64 X64.

@@ -1,20 +1,16 @@
--- The checker: which bytes are a program. What RFC 9669 leaves to a platform (helpers, maps, r10) and all numbers of faults are bpfdb's own choice.
-use Rattle.std.specs.Prelude.{◌≡◌, ◌≢◌, ◌<◌, ◌≤◌, ◌⊎◌, ℕ, zero, suc, ℤ, pos, negsuc, ◌+◌, ◌*◌, ◌%◌, Bool, true, not, ◌&&◌, ◌==◌, if◌then◌else◌, IsTrue, List, IfSome, MatchOption, length, take, drop, slice_index, slice_get}
+-- The checker: which bytes are a program. What RFC 9669 leaves to a platform (helpers, maps, r10) is bpfdb's own choice.
+use Rattle.std.specs.Prelude.{◌≡◌, ◌≢◌, ◌<◌, ◌≤◌, ◌⊎◌, ℕ, zero, suc, ℤ, pos, negsuc, ◌+◌, ◌*◌, ◌%◌, Bool, true, not, ◌&&◌, ◌==◌, if◌then◌else◌, IsTrue, List, Some, IfSome, MatchOption, length, take, drop, slice_index, slice_get}
 use Rattle.bpf_isa.specs.declared.instruction.Insn.{Insn}
-use Rattle.bpf_isa.specs.declared.instruction.AtomicOp.TheVariants as atomic
 use Rattle.bpf_isa.specs.declared.instruction.Insn.TheVariants.{CallHelper, LoadMap, LoadMapValue}
 use Rattle.bpf_isa.specs.declared.maps.MapShape.{MapShape}
-use Rattle.bpf_isa.specs.declared.fault.WordFault.TheVariants as word_fault
 use Rattle.bpf_isa.specs.declared.fault.PieceFault.{PieceFault}
-use Rattle.bpf_isa.specs.declared.fault.PieceFault.TheVariants.{UnknownInstruction, RegisterAboveTen, UnusedField, WritesFramePointer, NoTarget, CutOff, RunsOff, UnknownHelper, NoMap}
+use Rattle.bpf_isa.specs.declared.fault.PieceFault.TheVariants.{Word, WritesFramePointer, NoTarget, RunsOff, UnknownHelper, NoMap}
 use Rattle.bpf_isa.specs.declared.fault.LoadFault.{LoadFault}
 use Rattle.bpf_isa.specs.declared.fault.LoadFault.TheVariants.{Empty, TooLong, Ragged, At, Memory}
-use Rattle.bpf_isa.specs.declared.form.Form.{Form}
-use Rattle.bpf_isa.specs.declared.form.Form.TheVariants as form
-use Rattle.bpf_isa.specs.declared.fields.Fields.{Fields}
+use Rattle.bpf_isa.specs.Faults.{IsLeast, piece_fault_number}
 use Rattle.bpf_isa.specs.WideLoads.{wide_opcode}
-use Rattle.bpf_isa.specs.Insns.{FallsThrough, target_of}
-use Rattle.bpf_isa.specs.Words.{row, fields_of, HasCodes, IsWord}
+use Rattle.bpf_isa.specs.Insns.{FallsThrough, target_of, written_of}
+use Rattle.bpf_isa.specs.Words.{fields_of, ReadsAs}
 use Rattle.bpf_isa.specs.WordFaults.{HasWordFault}
 
 -- The opcode of a slot is that of the wide loads.
@@ -37,24 +33,6 @@ piece_at bytes p = take (if is_wide_at bytes p then 16 else 8) (drop (8 * p) byt
 -- The slot after a piece.
 abbrev pub after : List ℕ → ℕ → ℕ
 after bytes p = if is_wide_at bytes p then p + 2 else p + 1
-
--- The word writes r10: as dst of arithmetic, byte swaps, loads and wide loads, as src of a fetch or exchange.
-abbrev pub WritesTen : Form → Fields → Type 0
-WritesTen (form.Binary op width source) fields = fields.dst ≡ 10
-WritesTen (form.Negate width) fields = fields.dst ≡ 10
-WritesTen (form.SignExtend extension) fields = fields.dst ≡ 10
-WritesTen (form.SwapBytes order width) fields = fields.dst ≡ 10
-WritesTen (form.Load size) fields = fields.dst ≡ 10
-WritesTen (form.LoadSigned size) fields = fields.dst ≡ 10
-WritesTen (form.Atomic atomic.FetchAdd width) fields = fields.src ≡ 10
-WritesTen (form.Atomic atomic.FetchOr width) fields = fields.src ≡ 10
-WritesTen (form.Atomic atomic.FetchAnd width) fields = fields.src ≡ 10
-WritesTen (form.Atomic atomic.FetchXor width) fields = fields.src ≡ 10
-WritesTen (form.Atomic atomic.Exchange width) fields = fields.src ≡ 10
-WritesTen form.LoadNumber fields = fields.dst ≡ 10
-WritesTen form.LoadMap fields = fields.dst ≡ 10
-WritesTen form.LoadMapValue fields = fields.dst ≡ 10
-WritesTen _ fields = ⊥
 
 -- A whole number that is a start.
 abbrev pub IsTarget : List ℕ → ℤ → Type 0
@@ -80,38 +58,26 @@ MapExists maps (LoadMap dst map) = map < length maps
 MapExists maps (LoadMapValue dst map offset) = MatchOption (slice_get maps map) ⊥ (λ shape. offset < shape.value_size * shape.entries)
 MapExists maps _ = Unit {0}
 
--- A fault of the piece at a slot, in the order of their numbers.
-abbrev pub HasFault : List ℕ → List MapShape → ℕ → PieceFault → Type 0
-HasFault bytes maps p UnknownInstruction = HasWordFault (piece_at bytes p) word_fault.UnknownInstruction
-HasFault bytes maps p RegisterAboveTen = HasWordFault (piece_at bytes p) word_fault.RegisterAboveTen
-HasFault bytes maps p UnusedField = HasWordFault (piece_at bytes p) word_fault.UnusedField
-HasFault bytes maps p WritesFramePointer = (form : Form) × HasCodes (row form) (fields_of (piece_at bytes p)) × WritesTen form (fields_of (piece_at bytes p))
-HasFault bytes maps p NoTarget = (insn : Insn) × IsWord insn (piece_at bytes p) × (Lands bytes p insn → ⊥)
-HasFault bytes maps p CutOff = HasWordFault (piece_at bytes p) word_fault.CutOff
-HasFault bytes maps p RunsOff = (length bytes ≤ 8 * after bytes p) × ((insn : Insn) → IsWord insn (piece_at bytes p) → FallsThrough insn)
-HasFault bytes maps p UnknownHelper = (insn : Insn) × IsWord insn (piece_at bytes p) × (HelperExists insn → ⊥)
-HasFault bytes maps p NoMap = (insn : Insn) × IsWord insn (piece_at bytes p) × (MapExists maps insn → ⊥)
+-- The piece at a slot reads as an instruction that something holds of.
+abbrev pub ReadsSome : List ℕ → ℕ → (Insn → Type 0) → Type 0
+ReadsSome bytes p Holds = (insn : Insn) × ReadsAs (fields_of (piece_at bytes p)) insn × Holds insn
 
--- The number that is printed after C.
-abbrev pub fault_number : PieceFault → ℕ
-fault_number UnknownInstruction = 4
-fault_number RegisterAboveTen = 5
-fault_number UnusedField = 6
-fault_number WritesFramePointer = 7
-fault_number NoTarget = 8
-fault_number CutOff = 9
-fault_number RunsOff = 10
-fault_number UnknownHelper = 11
-fault_number NoMap = 12
+-- A fault of the piece at a slot, of its bytes or of the instruction that they read as.
+abbrev pub HasFault : List ℕ → List MapShape → ℕ → PieceFault → Type 0
+HasFault bytes maps p (Word fault) = HasWordFault (piece_at bytes p) fault
+HasFault bytes maps p WritesFramePointer = ReadsSome bytes p (λ insn. written_of insn ≡ Some 10)
+HasFault bytes maps p NoTarget = ReadsSome bytes p (λ insn. Lands bytes p insn → ⊥)
+HasFault bytes maps p RunsOff = ReadsSome bytes p (λ insn. FallsThrough insn × (length bytes ≤ 8 * after bytes p))
+HasFault bytes maps p UnknownHelper = ReadsSome bytes p (λ insn. HelperExists insn → ⊥)
+HasFault bytes maps p NoMap = ReadsSome bytes p (λ insn. MapExists maps insn → ⊥)
 
 -- The piece at a slot has no fault.
 pub record HasNoFault (bytes : List ℕ) (maps : List MapShape) (p : ℕ) : Type 0 where
   pub none : (fault : PieceFault) → HasFault bytes maps p fault → ⊥
 
--- The fault with the least number, of those of the piece at a slot.
-pub record IsLeastFault (bytes : List ℕ) (maps : List MapShape) (p : ℕ) (fault : PieceFault) : Type 0 where
-  pub applies : HasFault bytes maps p fault
-  pub least : (other : PieceFault) → HasFault bytes maps p other → fault_number fault ≤ fault_number other
+-- Of the faults of the piece at a slot, the one with the least number.
+abbrev pub IsLeastFault : List ℕ → List MapShape → ℕ → PieceFault → Type 0
+IsLeastFault bytes maps p = IsLeast piece_fault_number (HasFault bytes maps p)
 
 -- 1 to 65,535 whole slots.
 pub record AreSlots (bytes : List ℕ) : Type 0 where
@@ -131,18 +97,10 @@ pub record IsFirstFault (bytes : List ℕ) (maps : List MapShape) (p : ℕ) (fau
   pub least : IsLeastFault bytes maps p fault
   pub before : (q : ℕ) → q < p → IsStartIn bytes q → HasNoFault bytes maps q
 
--- Why bytes are refused. Want of memory may be answered in place of a piece's fault.
+-- Why bytes are refused. Out of memory may be answered in place of a piece's fault.
 abbrev pub IsRefused : List ℕ → List MapShape → LoadFault → Type 0
 IsRefused bytes maps Empty = length bytes ≡ 0
 IsRefused bytes maps TooLong = 524280 < length bytes
 IsRefused bytes maps Ragged = (length bytes ≤ 524280) × (length bytes % 8 ≢ 0)
 IsRefused bytes maps (At slot fault) = IsFirstFault bytes maps slot fault
 IsRefused bytes maps Memory = AreSlots bytes
-
--- The number of a load fault that is printed after C.
-abbrev pub load_fault_number : LoadFault → ℕ
-load_fault_number Empty = 1
-load_fault_number TooLong = 2
-load_fault_number Ragged = 3
-load_fault_number (At slot fault) = fault_number fault
-load_fault_number Memory = 13

@@ -3,7 +3,7 @@ use Rattle.std.specs.Prelude.{ℕ}
 use Rattle.bpf_isa.specs.declared.instruction.Width.{Width}
 use Rattle.bpf_isa.specs.declared.instruction.Condition.{Condition}
 use Rattle.bpf_isa.specs.declared.instruction.Condition.TheVariants.{Equal, Greater, GreaterOrEqual, BitsSet, NotEqual, SignedGreater, SignedGreaterOrEqual, Less, LessOrEqual, SignedLess, SignedLessOrEqual}
-use Rattle.bpf_isa.specs.declared.form.SourceKind.{SourceKind}
+use Rattle.bpf_isa.specs.declared.instruction.SourceKind.{SourceKind}
 use Rattle.bpf_isa.specs.Rows.{unused, code, used, Row, jmp, imm_of, src_of}
 
 -- JA in class JMP: by offset.

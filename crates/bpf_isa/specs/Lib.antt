@@ -1,4 +1,5 @@
 pub mod Rows
+pub mod Faults
 pub mod Arithmetic
 pub mod Swaps
 pub mod Jumps
@@ -11,6 +12,5 @@ pub mod Words
 pub mod WordFaults
 pub mod Checker
 pub mod Programs
-pub mod FaultTexts
 pub mod Sizes
 pub mod Scaffolding

@@ -5,6 +5,7 @@ use Rattle.std.specs.Str.Parse.{IsNumeral, digits_value}
 use Rattle.bpf_isa.specs.declared.maps.MapShape.{MapShape}
 use Rattle.bpf_isa.specs.declared.fault.MapFault.{MapFault}
 use Rattle.bpf_isa.specs.declared.fault.MapFault.TheVariants.{ValueSize, Entries, Total, Full, Malformed}
+use Rattle.bpf_isa.specs.Faults.{IsLeast, map_fault_number}
 
 -- The shape of a map: 1 to 256 bytes a value, 1 to 4,096 entries, at most 65,536 bytes in all.
 pub record IsShape (shape : MapShape) : Type 0 where
@@ -26,18 +27,9 @@ HasMapFault maps value entries Total = 65536 < value * entries
 HasMapFault maps value entries Full = 16 ≤ length maps
 HasMapFault maps value entries Malformed = ⊥
 
--- The number that is printed after M.
-abbrev pub map_fault_number : MapFault → ℕ
-map_fault_number ValueSize = 1
-map_fault_number Entries = 2
-map_fault_number Total = 3
-map_fault_number Full = 4
-map_fault_number Malformed = 5
-
--- The fault with the least number.
-pub record IsLeastMapFault (maps : List MapShape) (value entries : ℕ) (fault : MapFault) : Type 0 where
-  pub applies : HasMapFault maps value entries fault
-  pub least : (other : MapFault) → HasMapFault maps value entries other → map_fault_number fault ≤ map_fault_number other
+-- Of those faults, the one with the least number.
+abbrev pub IsLeastMapFault : List MapShape → ℕ → ℕ → MapFault → Type 0
+IsLeastMapFault maps value entries = IsLeast map_fault_number (HasMapFault maps value entries)
 
 -- The letter x.
 abbrev pub is_x : ℕ → Bool

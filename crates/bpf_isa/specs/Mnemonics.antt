@@ -1,6 +1,10 @@
--- Mnemonics: an instruction without its operands (RFC 9669, sections 4 and 5).
+-- Mnemonics: an instruction without its operands, and the kind of the second operand (RFC 9669, sections 4 and 5).
 use Rattle.bpf_isa.specs.declared.instruction.Insn.{Insn}
 use Rattle.bpf_isa.specs.declared.instruction.Insn.TheVariants as insn
+use Rattle.bpf_isa.specs.declared.instruction.Source.{Source}
+use Rattle.bpf_isa.specs.declared.instruction.Source.TheVariants as source
+use Rattle.bpf_isa.specs.declared.instruction.SourceKind.{SourceKind}
+use Rattle.bpf_isa.specs.declared.instruction.SourceKind.TheVariants.{Immediate, Register}
 use Rattle.bpf_isa.specs.declared.mnemonic.Mnemonic.{Mnemonic}
 use Rattle.bpf_isa.specs.declared.mnemonic.Mnemonic.TheVariants.{Binary, Negate, SignExtend, SwapBytes, JumpIf, Jump, JumpLong, CallHelper, CallLocal, Exit, Load, LoadSigned, StoreImmediate, StoreRegister, Atomic, LoadNumber, LoadMap, LoadMapValue}
 
@@ -24,3 +28,14 @@ mnemonic_of (insn.Atomic op width dst src offset) = Atomic op width
 mnemonic_of (insn.LoadNumber dst value) = LoadNumber
 mnemonic_of (insn.LoadMap dst map) = LoadMap
 mnemonic_of (insn.LoadMapValue dst map offset) = LoadMapValue
+
+-- K for an immediate, X for a register.
+abbrev pub kind_of : Source → SourceKind
+kind_of (source.Immediate value) = Immediate
+kind_of (source.Register src) = Register
+
+-- The form of an instruction, K where its line of the tables has no choice.
+abbrev pub insn_kind : Insn → SourceKind
+insn_kind (insn.Binary op width dst source) = kind_of source
+insn_kind (insn.JumpIf condition width dst source offset) = kind_of source
+insn_kind _ = Immediate

@@ -2,8 +2,8 @@
 use Rattle.std.specs.Prelude.{◌≡◌, ℕ}
 use Rattle.bpf_isa.specs.declared.instruction.Width.{Width}
 use Rattle.bpf_isa.specs.declared.instruction.Width.TheVariants.{Bits32, Bits64}
-use Rattle.bpf_isa.specs.declared.form.SourceKind.{SourceKind}
-use Rattle.bpf_isa.specs.declared.form.SourceKind.TheVariants.{Immediate, Register}
+use Rattle.bpf_isa.specs.declared.instruction.SourceKind.{SourceKind}
+use Rattle.bpf_isa.specs.declared.instruction.SourceKind.TheVariants.{Immediate, Register}
 
 -- A field is unused and zero, or holds a number of the row, or holds a part of the instruction.
 pub data Field : Type 0 where

@@ -5,10 +5,9 @@ use Rattle.bpf_isa.specs.declared.instruction.Insn.{Insn}
 use Rattle.bpf_isa.specs.declared.instruction.Source.{Source}
 use Rattle.bpf_isa.specs.declared.instruction.Insn.TheVariants.{Binary, Negate, SignExtend, SwapBytes, JumpIf, Jump, JumpLong, CallHelper, CallLocal, Exit, Load, LoadSigned, StoreImmediate, StoreRegister, Atomic, LoadNumber, LoadMap, LoadMapValue}
 use Rattle.bpf_isa.specs.declared.instruction.Source.TheVariants.{Immediate, Register}
-use Rattle.bpf_isa.specs.declared.form.Form.{Form}
-use Rattle.bpf_isa.specs.declared.form.Form.TheVariants as form
-use Rattle.bpf_isa.specs.declared.form.SourceKind.{SourceKind}
-use Rattle.bpf_isa.specs.declared.form.SourceKind.TheVariants as kind
+use Rattle.bpf_isa.specs.declared.instruction.SourceKind.{SourceKind}
+use Rattle.bpf_isa.specs.declared.mnemonic.Mnemonic.{Mnemonic}
+use Rattle.bpf_isa.specs.declared.mnemonic.Mnemonic.TheVariants as mnemonic
 use Rattle.bpf_isa.specs.declared.fields.Fields.{Fields}
 use Rattle.bpf_isa.specs.Rows.{Row, HasCode, IsClear}
 use Rattle.bpf_isa.specs.Arithmetic.{binary_row, negate_row, extension_row}
@@ -16,54 +15,33 @@ use Rattle.bpf_isa.specs.Swaps.{swap_row}
 use Rattle.bpf_isa.specs.Jumps.{jump_row, jump_long_row, condition_row, call_helper_row, call_local_row, exit_row}
 use Rattle.bpf_isa.specs.Memory.{load_row, load_signed_row, store_immediate_row, store_register_row, atomic_row}
 use Rattle.bpf_isa.specs.WideLoads.{load_number_row, load_map_row, load_map_value_row}
+use Rattle.bpf_isa.specs.Mnemonics.{mnemonic_of, insn_kind}
 use Rattle.bpf_isa.specs.Insns.{slots_of}
 
--- The row of a form.
-abbrev pub row : Form → Row
-row (form.Binary op width source) = binary_row op width source
-row (form.Negate width) = negate_row width
-row (form.SignExtend extension) = extension_row extension
-row (form.SwapBytes order width) = swap_row order width
-row (form.JumpIf condition width source) = condition_row condition width source
-row form.Jump = jump_row
-row form.JumpLong = jump_long_row
-row form.CallHelper = call_helper_row
-row form.CallLocal = call_local_row
-row form.Exit = exit_row
-row (form.Load size) = load_row size
-row (form.LoadSigned size) = load_signed_row size
-row (form.StoreImmediate size) = store_immediate_row size
-row (form.StoreRegister size) = store_register_row size
-row (form.Atomic op width) = atomic_row op width
-row form.LoadNumber = load_number_row
-row form.LoadMap = load_map_row
-row form.LoadMapValue = load_map_value_row
+-- The row of a mnemonic in form K or X. Those without a choice have one row.
+abbrev pub row : Mnemonic → SourceKind → Row
+row (mnemonic.Binary op width) source = binary_row op width source
+row (mnemonic.Negate width) source = negate_row width
+row (mnemonic.SignExtend extension) source = extension_row extension
+row (mnemonic.SwapBytes order width) source = swap_row order width
+row (mnemonic.JumpIf condition width) source = condition_row condition width source
+row mnemonic.Jump source = jump_row
+row mnemonic.JumpLong source = jump_long_row
+row mnemonic.CallHelper source = call_helper_row
+row mnemonic.CallLocal source = call_local_row
+row mnemonic.Exit source = exit_row
+row (mnemonic.Load size) source = load_row size
+row (mnemonic.LoadSigned size) source = load_signed_row size
+row (mnemonic.StoreImmediate size) source = store_immediate_row size
+row (mnemonic.StoreRegister size) source = store_register_row size
+row (mnemonic.Atomic op width) source = atomic_row op width
+row mnemonic.LoadNumber source = load_number_row
+row mnemonic.LoadMap source = load_map_row
+row mnemonic.LoadMapValue source = load_map_value_row
 
--- K for an immediate, X for a register.
-abbrev pub kind_of : Source → SourceKind
-kind_of (Immediate value) = kind.Immediate
-kind_of (Register src) = kind.Register
-
--- The form of an instruction.
-abbrev pub form_of : Insn → Form
-form_of (Binary op width dst source) = form.Binary op width (kind_of source)
-form_of (Negate width dst) = form.Negate width
-form_of (SignExtend extension dst src) = form.SignExtend extension
-form_of (SwapBytes order width dst) = form.SwapBytes order width
-form_of (JumpIf condition width dst source offset) = form.JumpIf condition width (kind_of source)
-form_of (Jump offset) = form.Jump
-form_of (JumpLong distance) = form.JumpLong
-form_of (CallHelper helper) = form.CallHelper
-form_of (CallLocal distance) = form.CallLocal
-form_of Exit = form.Exit
-form_of (Load size dst src offset) = form.Load size
-form_of (LoadSigned size dst src offset) = form.LoadSigned size
-form_of (StoreImmediate size dst offset value) = form.StoreImmediate size
-form_of (StoreRegister size dst src offset) = form.StoreRegister size
-form_of (Atomic op width dst src offset) = form.Atomic op width
-form_of (LoadNumber dst value) = form.LoadNumber
-form_of (LoadMap dst map) = form.LoadMap
-form_of (LoadMapValue dst map offset) = form.LoadMapValue
+-- The row of an instruction.
+abbrev pub row_of : Insn → Row
+row_of insn = row (mnemonic_of insn) (insn_kind insn)
 
 -- Two bytes as a number, the low one first.
 abbrev pub u16_at : List ℕ → ℕ → ℕ
@@ -132,14 +110,18 @@ HasParts (LoadNumber dst value) fields = (fields.dst ≡ dst) × (fields.imm + 4
 HasParts (LoadMap dst map) fields = (fields.dst ≡ dst) × (fields.imm ≡ map)
 HasParts (LoadMapValue dst map offset) fields = (fields.dst ≡ dst) × (fields.imm ≡ map) × (fields.next ≡ offset)
 
--- The bytes spell the instruction.
+-- The fields read as the instruction: its row's codes and its own parts stand in them. What it doesn't use may be anything.
+pub record ReadsAs (fields : Fields) (insn : Insn) : Type 0 where
+  pub codes : HasCodes (row_of insn) fields
+  pub parts : HasParts insn fields
+
+-- The bytes spell the instruction: they read as it, and leave nothing over.
 pub record IsWord (insn : Insn) (bytes : List ℕ) : Type 0 where
   pub small : All (λ byte. byte < 256) bytes
   pub size : length bytes ≡ 8 * slots_of insn
-  pub codes : HasCodes (row (form_of insn)) (fields_of bytes)
-  pub clean : IsClean (row (form_of insn)) (fields_of bytes)
+  pub reads : ReadsAs (fields_of bytes) insn
+  pub clean : IsClean (row_of insn) (fields_of bytes)
   pub registers : HasRegisters (fields_of bytes)
-  pub parts : HasParts insn (fields_of bytes)
 
 -- An instruction has at most one word.
 abbrev pub HaveOneWord : Type 0

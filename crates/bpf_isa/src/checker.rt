@@ -1,17 +1,16 @@
 //! The checker: the first fault of the bytes, or a program.
 ghost use Rattle.std.specs.Prelude.{◌≡◌, ◌≤◌, ◌<◌, ◌⊎◌, ◌*◌, ◌↔◌, IsTrue, IfSome, IfNone, IfOk, OnOk, IfErr, List, ℕ, length, slice_index};
 ghost use Rattle.bpf_isa.specs.Checker.{IsStartIn, AreSlots, piece_at, after, HasFault, HasNoFault, IsLeastFault, IsFirstFault, IsAccepted, IsRefused};
-ghost use Rattle.bpf_isa.specs.Scaffolding.Checking.{AreStarts, AreInsns, IsLeastBroken, IsPiece, IsSound};
-ghost use Rattle.bpf_isa.specs.WordFaults.{IsLeastWordFault};
-ghost use Rattle.bpf_isa.specs.Words.{IsWord};
+ghost use Rattle.bpf_isa.specs.Scaffolding.Checking.{AreStarts, AreInsns, Breaks, IsPiece, IsSound};
+ghost use Rattle.bpf_isa.specs.Faults.{IsLeast, piece_fault_number};
+ghost use Rattle.bpf_isa.specs.WideLoads.{wide_opcode};
 ghost use Rattle.bpf_isa.specs.declared.maps.MapShape.{MapShape};
 
-use crate::decoder::decode_word;
+use crate::decoder::{is_cut_off, read_insn};
 use crate::fault::{LoadFault, PieceFault, WordFault};
-use crate::fields::{Fields, read};
 use crate::instruction::Insn;
 use crate::maps::MapTable;
-use crate::opcode::find_form;
+use crate::opcode::WIDE_OPCODE;
 use crate::rules::lands;
 use std::alloc::{AllocError, Global};
 
@@ -21,57 +20,15 @@ fn piece_of(bytes: &[u8], slot: usize) -> &[u8]
     requires start { IsStartIn bytes.now slot }
     ensures value { result.now ≡ piece_at bytes.now slot }
     ensures fits { (length result.now ≡ 8)
-        ⊎ ((length result.now ≡ 16) × (slice_index result.now 0 ≡ 24)) }
+        ⊎ ((length result.now ≡ 16) × (slice_index result.now 0 ≡ wide_opcode)) }
 {
     let from = 8 * slot;
-    let to = if bytes[from] == 0x18 && from + 16 <= bytes.len() {
+    let to = if bytes[from] == WIDE_OPCODE && from + 16 <= bytes.len() {
         from + 16
     } else {
         from + 8
     };
     &bytes[from..to]
-}
-
-/// The fault of a piece that is no word.
-fn word_fault(piece: &[u8], fault: WordFault) -> PieceFault
-    requires size { (length piece.now ≡ 8) ⊎ (length piece.now ≡ 16) }
-    requires least { IsLeastWordFault piece.now fault }
-    ensures { (bytes : List ℕ) (maps : List MapShape) (slot : ℕ)
-        → piece_at bytes slot ≡ piece.now → IsLeastFault bytes maps slot result }
-{
-    match fault {
-        WordFault::UnknownInstruction => PieceFault::UnknownInstruction,
-        WordFault::RegisterAboveTen => PieceFault::RegisterAboveTen,
-        WordFault::UnusedField => PieceFault::UnusedField,
-        WordFault::CutOff => cut_off_fault(piece),
-    }
-}
-
-/// The fault of a wide instruction without its second slot, which may write r10.
-fn cut_off_fault(piece: &[u8]) -> PieceFault
-    requires size { (length piece.now ≡ 8) ⊎ (length piece.now ≡ 16) }
-    requires least { IsLeastWordFault piece.now WordFault.CutOff }
-    ensures { (bytes : List ℕ) (maps : List MapShape) (slot : ℕ)
-        → piece_at bytes slot ≡ piece.now → IsLeastFault bytes maps slot result }
-{
-    let fields = read(piece);
-    match find_form(fields) {
-        Some(_) => {
-            if is_to_ten(fields) {
-                PieceFault::WritesFramePointer
-            } else {
-                PieceFault::CutOff
-            }
-        }
-        None => PieceFault::CutOff,
-    }
-}
-
-/// Whether the register that a wide load replaces is r10.
-fn is_to_ten(fields: Fields) -> bool
-    ensures { IsTrue result ↔ (fields.dst ≡ 10) }
-{
-    fields.dst == 10
 }
 
 /// Whether no piece follows the one at a start.
@@ -80,7 +37,7 @@ fn is_last(bytes: &[u8], slot: usize) -> bool
     requires start { IsStartIn bytes.now slot }
     ensures { IsTrue result ↔ (length bytes.now ≤ 8 * after bytes.now slot) }
 {
-    let after = if bytes[8 * slot] == 0x18 {
+    let after = if bytes[8 * slot] == WIDE_OPCODE {
         slot + 2
     } else {
         slot + 1
@@ -88,7 +45,7 @@ fn is_last(bytes: &[u8], slot: usize) -> bool
     bytes.len() <= 8 * after
 }
 
-/// The rule that an instruction at a start breaks, the one with the least number.
+/// The fault of the piece at a start that reads as an instruction, the one with the least number.
 fn broken_rule(
     insn: &Insn,
     bytes: &[u8],
@@ -99,14 +56,17 @@ fn broken_rule(
     requires slots { AreSlots bytes.now }
     requires start { IsStartIn bytes.now slot }
     requires flags { AreStarts bytes.now starts.now }
-    ensures found { IfSome result (IsLeastBroken bytes.now maps.now slot insn.now) }
+    ensures found { IfSome result (IsLeast piece_fault_number (Breaks bytes.now maps.now slot insn.now)) }
     ensures none { IfNone result (IsSound bytes.now maps.now slot insn.now) }
 {
-    if !insn.spares_ten() {
+    if insn.writes_ten() {
         return Some(PieceFault::WritesFramePointer);
     }
     if !lands(insn, slot, starts) {
         return Some(PieceFault::NoTarget);
+    }
+    if is_cut_off(piece_of(bytes, slot)) {
+        return Some(PieceFault::Word(WordFault::CutOff));
     }
     if insn.falls_through() && is_last(bytes, slot) {
         return Some(PieceFault::RunsOff);
@@ -130,9 +90,9 @@ fn piece(bytes: &[u8], slot: usize, starts: &[bool], maps: &MapTable) -> Result<
     ensures fault { IfErr result (IsLeastFault bytes.now maps.now slot) }
 {
     let piece = piece_of(bytes, slot);
-    let insn = match decode_word(piece) {
+    let insn = match read_insn(piece) {
         Ok(insn) => insn,
-        Err(fault) => return Err(word_fault(piece, fault)),
+        Err(fault) => return Err(PieceFault::Word(fault)),
     };
     match broken_rule(&insn, bytes, slot, starts, maps) {
         Some(fault) => Err(fault),
@@ -149,7 +109,7 @@ pub fn starts_of(alloc: Global, bytes: &[u8]) -> Result<Vec<bool>, AllocError>
     let mut is_start = true;
     for slot in 0..bytes.len() / 8 {
         starts.push(is_start)?;
-        is_start = !(is_start && bytes[8 * slot] == 0x18);
+        is_start = !(is_start && bytes[8 * slot] == WIDE_OPCODE);
     }
     Ok(starts)
 }

@@ -1,16 +1,20 @@
 //! From words to instructions.
 mod unused;
 
-ghost use Rattle.std.specs.Prelude.{◌≡◌, ◌⊎◌, IfOk, OnOk, IfErr, Ok, ◌++◌, length, slice_index};
-ghost use Rattle.bpf_isa.specs.Words.{kind_of, form_of, HasRegisters, HasSource, HasParts, IsWord};
-ghost use Rattle.bpf_isa.specs.Scaffolding.Codec.{HasOneForm};
-ghost use Rattle.bpf_isa.specs.WordFaults.{HasNoWordFault, IsLeastWordFault, joined};
+ghost use Rattle.std.specs.Prelude.{◌≡◌, ◌≤◌, ◌⊎◌, ◌↔◌, IsTrue, IfOk, OnOk, IfErr, Ok, ◌++◌, length, slice_index};
+ghost use Rattle.bpf_isa.specs.Mnemonics.{mnemonic_of, kind_of};
+ghost use Rattle.bpf_isa.specs.Words.{row, row_of, HasRegisters, HasSource, HasParts, IsWord};
+ghost use Rattle.bpf_isa.specs.Scaffolding.Codec.{IsRead};
+ghost use Rattle.bpf_isa.specs.Faults.{word_fault_number};
+ghost use Rattle.bpf_isa.specs.WideLoads.{wide_opcode};
+ghost use Rattle.bpf_isa.specs.WordFaults.{HasWordFault, HasNoWordFault, IsLeastWordFault, joined};
+ghost use Rattle.bpf_isa.specs.declared.fault.WordFault.TheVariants.{CutOff};
 
 use crate::fault::WordFault;
 use crate::fields::{Fields, read};
-use crate::form::{Form, SourceKind};
-use crate::instruction::{Insn, Source};
-use crate::opcode::find_form;
+use crate::instruction::{Insn, Source, SourceKind};
+use crate::mnemonic::Mnemonic;
+use crate::opcode::{WIDE_OPCODE, find_mnemonic, source_kind};
 use crate::register::Reg;
 use unused::is_clean;
 
@@ -26,89 +30,86 @@ fn source_of(kind: SourceKind, fields: Fields) -> Source
     }
 }
 
-/// The instruction of a form with the parts that stand in the fields.
-fn insn_of(form: Form, fields: Fields) -> Insn
+/// The instruction of a mnemonic with the parts that stand in the fields.
+fn insn_of(mnemonic: Mnemonic, source: SourceKind, fields: Fields) -> Insn
     requires { HasRegisters fields }
-    ensures form { form_of result ≡ form }
+    ensures mnemonic { mnemonic_of result ≡ mnemonic }
+    ensures row { row_of result ≡ row mnemonic source }
     ensures parts { HasParts result fields }
 {
     let dst = Reg::of(fields.dst);
     let src = Reg::of(fields.src);
     let offset = fields.offset.cast_signed();
-    match form {
-        Form::Binary { op, width, source } => Insn::Binary {
+    match mnemonic {
+        Mnemonic::Binary(op, width) => Insn::Binary {
             op,
             width,
             dst,
             source: source_of(source, fields),
         },
-        Form::Negate { width } => Insn::Negate { width, dst },
-        Form::SignExtend { extension } => Insn::SignExtend {
+        Mnemonic::Negate(width) => Insn::Negate { width, dst },
+        Mnemonic::SignExtend(extension) => Insn::SignExtend {
             extension,
             dst,
             src,
         },
-        Form::SwapBytes { order, width } => Insn::SwapBytes { order, width, dst },
-        Form::JumpIf {
-            condition,
-            width,
-            source,
-        } => Insn::JumpIf {
+        Mnemonic::SwapBytes(order, width) => Insn::SwapBytes { order, width, dst },
+        Mnemonic::JumpIf(condition, width) => Insn::JumpIf {
             condition,
             width,
             dst,
             source: source_of(source, fields),
             offset,
         },
-        Form::Jump => Insn::Jump { offset },
-        Form::JumpLong => Insn::JumpLong {
+        Mnemonic::Jump => Insn::Jump { offset },
+        Mnemonic::JumpLong => Insn::JumpLong {
             distance: fields.imm.cast_signed(),
         },
-        Form::CallHelper => Insn::CallHelper { helper: fields.imm },
-        Form::CallLocal => Insn::CallLocal {
+        Mnemonic::CallHelper => Insn::CallHelper { helper: fields.imm },
+        Mnemonic::CallLocal => Insn::CallLocal {
             distance: fields.imm.cast_signed(),
         },
-        Form::Exit => Insn::Exit,
-        Form::Load { size } => Insn::Load {
+        Mnemonic::Exit => Insn::Exit,
+        Mnemonic::Load(size) => Insn::Load {
             size,
             dst,
             src,
             offset,
         },
-        Form::LoadSigned { size } => Insn::LoadSigned {
+        Mnemonic::LoadSigned(size) => Insn::LoadSigned {
             size,
             dst,
             src,
             offset,
         },
-        Form::StoreImmediate { size } => Insn::StoreImmediate {
+        Mnemonic::StoreImmediate(size) => Insn::StoreImmediate {
             size,
             dst,
             offset,
             value: fields.imm.cast_signed(),
         },
-        Form::StoreRegister { size } => Insn::StoreRegister {
+        Mnemonic::StoreRegister(size) => Insn::StoreRegister {
             size,
             dst,
             src,
             offset,
         },
-        Form::Atomic { op, width } => Insn::Atomic {
+        Mnemonic::Atomic(op, width) => Insn::Atomic {
             op,
             width,
             dst,
             src,
             offset,
         },
-        Form::LoadNumber => Insn::LoadNumber {
+        Mnemonic::LoadNumber => Insn::LoadNumber {
             dst,
             value: u64::from(fields.imm) + 4294967296 * u64::from(fields.next),
         },
-        Form::LoadMap => Insn::LoadMap {
+        Mnemonic::LoadMap => Insn::LoadMap {
             dst,
             map: fields.imm,
         },
-        Form::LoadMapValue => Insn::LoadMapValue {
+        Mnemonic::LoadMapValue => Insn::LoadMapValue {
             dst,
             map: fields.imm,
             offset: fields.next,
@@ -116,30 +117,57 @@ fn insn_of(form: Form, fields: Fields) -> Insn
     }
 }
 
-/// The instruction that 8 bytes spell, or 16 that begin with the wide opcode.
-pub(crate) fn decode_word(bytes: &[u8]) -> Result<Insn, WordFault>
-    requires { (length bytes.now ≡ 8) ⊎ ((length bytes.now ≡ 16) × (slice_index bytes.now 0 ≡ 24)) }
-    ensures ok { IfOk result (λ insn. IsWord insn bytes.now) }
-    ensures clear { OnOk result (HasNoWordFault bytes.now) }
+/// The instruction that 8 or 16 bytes read as, whether a second slot is missing or not.
+#[tactic(auto, unfolding(crate::specs::WordFaults::IsLeastWordFault))]
+pub(crate) fn read_insn(bytes: &[u8]) -> Result<Insn, WordFault>
+    requires { (length bytes.now ≡ 8) ⊎ (length bytes.now ≡ 16) }
+    ensures ok { IfOk result (IsRead bytes.now) }
     ensures fault { IfErr result (IsLeastWordFault bytes.now) }
-    ensures form { IfOk result (HasOneForm bytes.now) }
+    ensures early { IfErr result (λ fault. word_fault_number fault ≤ 6) }
     ensures only { (insn : Insn) → IsWord insn bytes.now → result ≡ Ok insn }
 {
     let fields = read(bytes);
-    let form = match find_form(fields) {
-        Some(form) => form,
+    let source = source_kind(fields.opcode);
+    let mnemonic = match find_mnemonic(fields, source) {
+        Some(mnemonic) => mnemonic,
         None => return Err(WordFault::UnknownInstruction),
     };
     if fields.dst > 10 || fields.src > 10 {
         return Err(WordFault::RegisterAboveTen);
     }
-    if !is_clean(form, fields) {
+    let insn = insn_of(mnemonic, source, fields);
+    if !is_clean(mnemonic, source, fields) {
         return Err(WordFault::UnusedField);
     }
-    if fields.opcode == 0x18 && bytes.len() == 8 {
+    Ok(insn)
+}
+
+/// Whether the second slot is missing.
+pub(crate) fn is_cut_off(bytes: &[u8]) -> bool
+    requires { (length bytes.now ≡ 8) ⊎ (length bytes.now ≡ 16) }
+    ensures { IsTrue result ↔ HasWordFault bytes.now CutOff }
+{
+    bytes[0] == WIDE_OPCODE && bytes.len() == 8
+}
+
+/// The instruction that 8 bytes spell, or 16 that begin with the wide opcode.
+#[tactic(auto, unfolding(crate::specs::WordFaults::IsLeastWordFault))]
+fn decode_word(bytes: &[u8]) -> Result<Insn, WordFault>
+    requires { (length bytes.now ≡ 8)
+        ⊎ ((length bytes.now ≡ 16) × (slice_index bytes.now 0 ≡ wide_opcode)) }
+    ensures ok { IfOk result (λ insn. IsWord insn bytes.now) }
+    ensures clear { OnOk result (HasNoWordFault bytes.now) }
+    ensures fault { IfErr result (IsLeastWordFault bytes.now) }
+    ensures only { (insn : Insn) → IsWord insn bytes.now → result ≡ Ok insn }
+{
+    let insn = match read_insn(bytes) {
+        Ok(insn) => insn,
+        Err(fault) => return Err(fault),
+    };
+    if is_cut_off(bytes) {
         return Err(WordFault::CutOff);
     }
-    Ok(insn_of(form, fields))
+    Ok(insn)
 }
 
 /// The instruction that the slots spell. The second is looked at only after the opcode of the
@@ -154,7 +182,7 @@ pub fn decode(first: [u8; 8], second: Option<[u8; 8]>) -> Result<Insn, WordFault
 {
     match second {
         Some(second) => {
-            if first[0] == 0x18 {
+            if first[0] == WIDE_OPCODE {
                 decode_word(&both(first, second))
             } else {
                 decode_word(&first)

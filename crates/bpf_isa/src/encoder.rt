@@ -7,13 +7,14 @@ ghost use Rattle.bpf_isa.specs.Scaffolding.Codec.{IsAccess};
 ghost use Rattle.bpf_isa.specs.Jumps.{condition_row};
 ghost use Rattle.bpf_isa.specs.Memory.{atomic_row};
 ghost use Rattle.bpf_isa.specs.Swaps.{swap_row};
-ghost use Rattle.bpf_isa.specs.Words.{row, form_of, kind_of, HasCodes, IsClean, HasRegisters, HasParts, HasSource, IsWord};
+ghost use Rattle.bpf_isa.specs.Mnemonics.{kind_of};
+ghost use Rattle.bpf_isa.specs.Words.{row_of, HasCodes, IsClean, HasRegisters, HasParts, HasSource, IsWord};
 
 use crate::fields::Fields;
-use crate::form::SourceKind;
 use crate::instruction::{
-    AtomicOp, BinaryOp, ByteOrder, Condition, Extension, Insn, Source, SwapWidth, Width,
+    AtomicOp, BinaryOp, ByteOrder, Condition, Extension, Insn, Source, SourceKind, SwapWidth, Width,
 };
+use crate::opcode::WIDE_OPCODE;
 use crate::register::Reg;
 use crate::words::Words;
 use codes::{
@@ -152,8 +153,8 @@ fn access_fields(opcode: u8, dst: Reg, src: Reg, offset: i16) -> Fields
 
 /// The fields of an instruction.
 fn fields_with(insn: Insn) -> Fields
-    ensures codes { HasCodes (row (form_of insn)) result }
-    ensures clean { IsClean (row (form_of insn)) result }
+    ensures codes { HasCodes (row_of insn) result }
+    ensures clean { IsClean (row_of insn) result }
     ensures registers { HasRegisters result }
     ensures parts { HasParts insn result }
 {
@@ -245,21 +246,21 @@ fn fields_with(insn: Insn) -> Fields
             offset,
         } => atomic_fields(op, width, dst, src, offset),
         Insn::LoadNumber { dst, value } => Fields {
-            opcode: 0x18,
+            opcode: WIDE_OPCODE,
             dst: dst.number(),
             imm: (value % 4294967296) as u32,
             next: (value / 4294967296) as u32,
             ..ZERO
         },
         Insn::LoadMap { dst, map } => Fields {
-            opcode: 0x18,
+            opcode: WIDE_OPCODE,
             dst: dst.number(),
             src: 5,
             imm: map,
             ..ZERO
         },
         Insn::LoadMapValue { dst, map, offset } => Fields {
-            opcode: 0x18,
+            opcode: WIDE_OPCODE,
             dst: dst.number(),
             src: 6,
             imm: map,

@@ -17,18 +17,12 @@ pub enum WordFault {
 /// Why the piece at a slot is refused.
 #[derive(Clone, Copy)]
 pub enum PieceFault {
-    /// No row of the tables has this opcode with these codes.
-    UnknownInstruction,
-    /// A register field is above 10.
-    RegisterAboveTen,
-    /// A field that the instruction doesn't use isn't zero.
-    UnusedField,
+    /// Its bytes are no word.
+    Word(WordFault),
     /// The instruction writes r10.
     WritesFramePointer,
     /// The target of a jump or local call is no start.
     NoTarget,
-    /// A wide instruction has no second slot.
-    CutOff,
     /// The last piece is neither exit nor a jump that is always taken.
     RunsOff,
     /// A call of a helper that doesn't exist.
@@ -68,8 +62,8 @@ pub enum MapFault {
 }
 
 impl WordFault {
-    ghost use Rattle.bpf_isa.specs.WordFaults.{word_fault_number};
-    ghost use Rattle.bpf_isa.specs.FaultTexts.{word_fault_text};
+    ghost use Rattle.bpf_isa.specs.Faults.{word_fault_number};
+    ghost use Rattle.bpf_isa.specs.Faults.{word_fault_text};
 
     /// The number that is printed after C.
     pub fn number(self) -> u8
@@ -97,20 +91,17 @@ impl WordFault {
 }
 
 impl PieceFault {
-    ghost use Rattle.bpf_isa.specs.Checker.{fault_number};
-    ghost use Rattle.bpf_isa.specs.FaultTexts.{piece_fault_text};
+    ghost use Rattle.bpf_isa.specs.Faults.{piece_fault_number};
+    ghost use Rattle.bpf_isa.specs.Faults.{piece_fault_text};
 
     /// The number that is printed after C.
     pub fn number(self) -> u8
-        ensures { result ≡ fault_number self }
+        ensures { result ≡ piece_fault_number self }
     {
         match self {
-            PieceFault::UnknownInstruction => 4,
-            PieceFault::RegisterAboveTen => 5,
-            PieceFault::UnusedField => 6,
+            PieceFault::Word(fault) => fault.number(),
             PieceFault::WritesFramePointer => 7,
             PieceFault::NoTarget => 8,
-            PieceFault::CutOff => 9,
             PieceFault::RunsOff => 10,
             PieceFault::UnknownHelper => 11,
             PieceFault::NoMap => 12,
@@ -122,12 +113,9 @@ impl PieceFault {
         ensures { result.now ≡ piece_fault_text self }
     {
         match self {
-            PieceFault::UnknownInstruction => "unknown instruction",
-            PieceFault::RegisterAboveTen => "register above 10",
-            PieceFault::UnusedField => "unused field is not zero",
+            PieceFault::Word(fault) => fault.text(),
             PieceFault::WritesFramePointer => "write to r10",
             PieceFault::NoTarget => "target is no instruction",
-            PieceFault::CutOff => "wide instruction cut off",
             PieceFault::RunsOff => "program runs off its end",
             PieceFault::UnknownHelper => "unknown helper",
             PieceFault::NoMap => "no such map or offset",
@@ -136,8 +124,8 @@ impl PieceFault {
 }
 
 impl LoadFault {
-    ghost use Rattle.bpf_isa.specs.Checker.{load_fault_number};
-    ghost use Rattle.bpf_isa.specs.FaultTexts.{load_fault_text};
+    ghost use Rattle.bpf_isa.specs.Faults.{load_fault_number};
+    ghost use Rattle.bpf_isa.specs.Faults.{load_fault_text};
 
     /// The number that is printed after C.
     pub fn number(self) -> u8
@@ -167,8 +155,8 @@ impl LoadFault {
 }
 
 impl MapFault {
-    ghost use Rattle.bpf_isa.specs.Maps.{map_fault_number};
-    ghost use Rattle.bpf_isa.specs.FaultTexts.{map_fault_text};
+    ghost use Rattle.bpf_isa.specs.Faults.{map_fault_number};
+    ghost use Rattle.bpf_isa.specs.Faults.{map_fault_text};
 
     /// The number that is printed after M.
     pub fn number(self) -> u8

@@ -86,6 +86,13 @@ pub enum Source {
     Register(Reg),
 }
 
+/// The kind of the second operand: K (imm) or X (a register).
+#[derive(Clone, Copy)]
+pub enum SourceKind {
+    Immediate,
+    Register,
+}
+
 /// A sign-extending move: how many low bits of the source count, and the width of the result.
 #[derive(Clone, Copy)]
 pub enum Extension {

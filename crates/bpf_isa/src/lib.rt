@@ -6,7 +6,6 @@ mod decoder;
 mod encoder;
 mod fault;
 mod fields;
-mod form;
 mod instruction;
 mod maps;
 mod mnemonic;

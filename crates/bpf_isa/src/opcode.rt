@@ -1,4 +1,4 @@
-//! The form of a word, from its opcode and codes (RFC 9669, section 3).
+//! The mnemonic of a word, from its opcode and codes (RFC 9669, section 3).
 mod arithmetic;
 mod jumps;
 mod memory;
@@ -8,11 +8,14 @@ ghost use Rattle.bpf_isa.specs.Words.{row, HasCodes};
 ghost use Rattle.bpf_isa.specs.Scaffolding.Codec.{source_bit_of};
 
 use crate::fields::Fields;
-use crate::form::{Form, SourceKind};
-use crate::instruction::Width;
-use arithmetic::arithmetic_form;
-use jumps::jump_form;
-use memory::{load_form, store_immediate_form, store_register_form, wide_form};
+use crate::instruction::{SourceKind, Width};
+use crate::mnemonic::Mnemonic;
+use arithmetic::arithmetic_mnemonic;
+use jumps::jump_mnemonic;
+use memory::{load_mnemonic, store_immediate_mnemonic, store_register_mnemonic, wide_mnemonic};
+
+/// The one opcode whose instructions have two slots.
+pub const WIDE_OPCODE: u8 = 0x18;
 
 /// The kind of source that the bit in an opcode of arithmetic or of a jump tells.
 pub fn source_kind(opcode: u8) -> SourceKind
@@ -25,19 +28,21 @@ pub fn source_kind(opcode: u8) -> SourceKind
     }
 }
 
-/// The form whose row has the opcode and the codes of a word.
-pub fn find_form(fields: Fields) -> Option<Form>
-    ensures found { IfSome result (λ form. HasCodes (row form) fields) }
-    ensures only { (form : Form) → HasCodes (row form) fields → result ≡ Some form }
+/// The mnemonic whose row has the opcode and the codes of a word.
+pub fn find_mnemonic(fields: Fields, source: SourceKind) -> Option<Mnemonic>
+    requires bit { source_bit_of source ≡ fields.opcode / 8 % 2 * 8 }
+    ensures found { IfSome result (λ mnemonic. HasCodes (row mnemonic source) fields) }
+    ensures only { (mnemonic : Mnemonic) (kind : SourceKind) → HasCodes (row mnemonic kind) fields
+        → result ≡ Some mnemonic }
 {
     match fields.opcode % 8 {
-        0 => wide_form(fields),
-        1 => load_form(fields),
-        2 => store_immediate_form(fields),
-        3 => store_register_form(fields),
-        4 => arithmetic_form(fields, Width::Bits32),
-        5 => jump_form(fields, Width::Bits64),
-        6 => jump_form(fields, Width::Bits32),
-        _ => arithmetic_form(fields, Width::Bits64),
+        0 => wide_mnemonic(fields),
+        1 => load_mnemonic(fields),
+        2 => store_immediate_mnemonic(fields),
+        3 => store_register_mnemonic(fields),
+        4 => arithmetic_mnemonic(fields, Width::Bits32, source),
+        5 => jump_mnemonic(fields, Width::Bits64, source),
+        6 => jump_mnemonic(fields, Width::Bits32, source),
+        _ => arithmetic_mnemonic(fields, Width::Bits64, source),
     }
 }

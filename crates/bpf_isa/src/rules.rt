@@ -1,5 +1,5 @@
 //! What the checker asks of an instruction by itself.
-ghost use Rattle.std.specs.Prelude.{◌≡◌, ◌≤◌, ◌↔◌, IsTrue, List, ℕ};
+ghost use Rattle.std.specs.Prelude.{◌≡◌, ◌≤◌, ◌↔◌, IsTrue, List, Some, ℕ};
 ghost use Rattle.bpf_isa.specs.Checker.{HelperExists, MapExists, Lands};
 ghost use Rattle.bpf_isa.specs.Scaffolding.Checking.{AreStarts, SparesTen};
 
@@ -52,13 +52,14 @@ impl Insn {
         }
     }
 
-    /// Whether it leaves r10 as it is.
-    pub(crate) fn spares_ten(&self) -> bool
-        ensures { IsTrue result ↔ SparesTen self.now }
+    /// Whether it replaces r10.
+    pub(crate) fn writes_ten(&self) -> bool
+        ensures ten { IsTrue result → written_of self.now ≡ Some 10 }
+        ensures other { (IsTrue result → ⊥) → SparesTen self.now }
     {
         match self.written() {
-            Some(register) => register.number() < 10,
-            None => true,
+            Some(register) => register.number() == 10,
+            None => false,
         }
     }
 

@@ -329,12 +329,12 @@ fn added_maps(rt: HostRuntime) {
 /// The fault of a piece by its number.
 fn piece_fault(number: usize) -> PieceFault {
     match number {
-        4 => PieceFault::UnknownInstruction,
-        5 => PieceFault::RegisterAboveTen,
-        6 => PieceFault::UnusedField,
+        4 => PieceFault::Word(WordFault::UnknownInstruction),
+        5 => PieceFault::Word(WordFault::RegisterAboveTen),
+        6 => PieceFault::Word(WordFault::UnusedField),
         7 => PieceFault::WritesFramePointer,
         8 => PieceFault::NoTarget,
-        9 => PieceFault::CutOff,
+        9 => PieceFault::Word(WordFault::CutOff),
         10 => PieceFault::RunsOff,
         11 => PieceFault::UnknownHelper,
         _ => PieceFault::NoMap,

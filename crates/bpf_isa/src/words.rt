@@ -3,6 +3,7 @@ ghost use Rattle.std.specs.Prelude.{◌≡◌, ◌<◌, All, ℕ};
 ghost use Rattle.bpf_isa.specs.Words.{fields_of, HaveOneWord, NoneBeginsAnother};
 
 use crate::fields::{Fields, written};
+use crate::opcode::WIDE_OPCODE;
 use std::marker::Model;
 
 /// The bytes of a word: 8, or 16 of a wide instruction.
@@ -22,19 +23,20 @@ impl Model for Words {
 
 impl Words {
     ghost use Rattle.std.specs.Prelude.{◌⊎◌, ◌≢◌, length};
+    ghost use Rattle.bpf_isa.specs.WideLoads.{wide_opcode};
 
     /// The bytes of the fields.
     pub(crate) fn of(fields: Fields) -> Words
         requires registers { (fields.dst < 16) × (fields.src < 16) }
-        requires narrow { (fields.opcode ≡ 24) ⊎ ((fields.next ≡ 0) × (fields.reserved ≡ 0)) }
+        requires narrow { (fields.opcode ≡ wide_opcode) ⊎ ((fields.next ≡ 0) × (fields.reserved ≡ 0)) }
         ensures value { fields_of result ≡ fields }
         ensures within { All (λ byte. byte < 256) result }
-        ensures wide { fields.opcode ≡ 24 → length result ≡ 16 }
-        ensures short { fields.opcode ≢ 24 → length result ≡ 8 }
+        ensures wide { fields.opcode ≡ wide_opcode → length result ≡ 16 }
+        ensures short { fields.opcode ≢ wide_opcode → length result ≡ 8 }
     {
         Words {
             bytes: written(fields),
-            is_wide: fields.opcode == 0x18,
+            is_wide: fields.opcode == WIDE_OPCODE,
         }
     }
 

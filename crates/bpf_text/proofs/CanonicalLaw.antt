@@ -8,7 +8,7 @@ use Rattle.std.proofs.lemmas.List.{take-append-drop, get_or-take, get_or-drop}
 use Rattle.bpf_isa.specs.declared.instruction.Insn.{Insn}
 use Rattle.bpf_isa.specs.Programs.{Checked, IsProgram, target_of, slots_of}
 use Rattle.bpf_isa.specs.Checker.{is_start, is_wide_at, piece_at}
-use Rattle.bpf_isa.specs.Words.{IsWord, row, form_of}
+use Rattle.bpf_isa.specs.Words.{IsWord, row_of}
 use Rattle.bpf_text.specs.Cuts.{lines}
 use Rattle.bpf_text.specs.Canonical.{is_target, goes_to, canon}
 use Rattle.bpf_text.specs.Listing.{Labels, no_label, first_round, second_round, AreBytes, IsListing}
@@ -87,8 +87,8 @@ TakesSlots wide n = ((wide ≡ true) × (n ≡ 2)) ⊎ ((wide ≡ false) × (n �
 
 takes-slots : (bytes : List ℕ) (p : ℕ) (i : Insn) → IsWord i (piece_at bytes p) → TakesSlots (is_wide_at bytes p) (slots_of i)
 takes-slots bytes p i whole =
-    let opcode : get_or bytes (8 * p) 0 ≡ (row (form_of i)).opcode =
-    sym (opcode-piece (is_wide_at bytes p) (8 * p) bytes) ∙ whole.codes.opcode in
+    let opcode : get_or bytes (8 * p) 0 ≡ (row_of i).opcode =
+    sym (opcode-piece (is_wide_at bytes p) (8 * p) bytes) ∙ whole.reads.codes.opcode in
     elim (wide_or_not i) [
       | inl wide ↦ inl (wide-at bytes p (opcode ∙ wide.0), wide.1)
       | inr narrow ↦ inr (narrow-at bytes p (λ e. narrow.0 (sym opcode ∙ e)), narrow.1)

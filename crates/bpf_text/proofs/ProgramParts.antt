@@ -46,41 +46,41 @@ source-part i word (source_is.Register src) known part = src-fits i word src kno
 -- the parts of an instruction that has a word are in their ranges
 pub IsWord-fits : (i : Insn) (word : List ℕ) → IsWord i word → InsnFits i
 IsWord-fits (insn.Binary op width dst s) word known =
-    let i = insn.Binary op width dst s in (dst-fits i word dst known known.parts.0, source-part i word s known known.parts.1)
-IsWord-fits (insn.Negate width dst) word known = dst-fits (insn.Negate width dst) word dst known known.parts
+    let i = insn.Binary op width dst s in (dst-fits i word dst known known.reads.parts.0, source-part i word s known known.reads.parts.1)
+IsWord-fits (insn.Negate width dst) word known = dst-fits (insn.Negate width dst) word dst known known.reads.parts
 IsWord-fits (insn.SignExtend e dst src) word known =
-    let i = insn.SignExtend e dst src in (dst-fits i word dst known known.parts.0, src-fits i word src known known.parts.1)
-IsWord-fits (insn.SwapBytes order width dst) word known = dst-fits (insn.SwapBytes order width dst) word dst known known.parts
+    let i = insn.SignExtend e dst src in (dst-fits i word dst known known.reads.parts.0, src-fits i word src known known.reads.parts.1)
+IsWord-fits (insn.SwapBytes order width dst) word known = dst-fits (insn.SwapBytes order width dst) word dst known known.reads.parts
 IsWord-fits (insn.JumpIf c width dst s o) word known =
     let i = insn.JumpIf c width dst s o in
-    (dst-fits i word dst known known.parts.0, source-part i word s known known.parts.1, offset-fits word o known.small known.parts.2)
-IsWord-fits (insn.Jump o) word known = offset-fits word o known.small known.parts
+    (dst-fits i word dst known known.reads.parts.0, source-part i word s known known.reads.parts.1, offset-fits word o known.small known.reads.parts.2)
+IsWord-fits (insn.Jump o) word known = offset-fits word o known.small known.reads.parts
 IsWord-fits (insn.JumpLong d) word known = tt
-IsWord-fits (insn.CallHelper h) word known = let small = word-small word 4 known.small in let e = known.parts in omega (arith, small, e)
+IsWord-fits (insn.CallHelper h) word known = let small = word-small word 4 known.small in let e = known.reads.parts in omega (arith, small, e)
 IsWord-fits (insn.CallLocal d) word known = tt
 IsWord-fits insn.Exit word known = tt
 IsWord-fits (insn.Load size dst src o) word known =
     let i = insn.Load size dst src o in
-    (dst-fits i word dst known known.parts.0, src-fits i word src known known.parts.1, offset-fits word o known.small known.parts.2)
+    (dst-fits i word dst known known.reads.parts.0, src-fits i word src known known.reads.parts.1, offset-fits word o known.small known.reads.parts.2)
 IsWord-fits (insn.LoadSigned size dst src o) word known =
     let i = insn.LoadSigned size dst src o in
-    (dst-fits i word dst known known.parts.0, src-fits i word src known known.parts.1, offset-fits word o known.small known.parts.2)
+    (dst-fits i word dst known known.reads.parts.0, src-fits i word src known known.reads.parts.1, offset-fits word o known.small known.reads.parts.2)
 IsWord-fits (insn.StoreImmediate size dst o value) word known =
     let i = insn.StoreImmediate size dst o value in
-    (dst-fits i word dst known known.parts.0, offset-fits word o known.small known.parts.1, value-fits word value known.small known.parts.2)
+    (dst-fits i word dst known known.reads.parts.0, offset-fits word o known.small known.reads.parts.1, value-fits word value known.small known.reads.parts.2)
 IsWord-fits (insn.StoreRegister size dst src o) word known =
     let i = insn.StoreRegister size dst src o in
-    (dst-fits i word dst known known.parts.0, src-fits i word src known known.parts.1, offset-fits word o known.small known.parts.2)
+    (dst-fits i word dst known known.reads.parts.0, src-fits i word src known known.reads.parts.1, offset-fits word o known.small known.reads.parts.2)
 IsWord-fits (insn.Atomic op width dst src o) word known =
     let i = insn.Atomic op width dst src o in
-    (dst-fits i word dst known known.parts.0, src-fits i word src known known.parts.1, offset-fits word o known.small known.parts.2)
+    (dst-fits i word dst known known.reads.parts.0, src-fits i word src known known.reads.parts.1, offset-fits word o known.small known.reads.parts.2)
 IsWord-fits (insn.LoadNumber dst value) word known =
-    let low = word-small word 4 known.small in let high = word-small word 12 known.small in let e = known.parts.1 in
-    (dst-fits (insn.LoadNumber dst value) word dst known known.parts.0, omega (arith, low, high, e))
+    let low = word-small word 4 known.small in let high = word-small word 12 known.small in let e = known.reads.parts.1 in
+    (dst-fits (insn.LoadNumber dst value) word dst known known.reads.parts.0, omega (arith, low, high, e))
 IsWord-fits (insn.LoadMap dst m) word known =
-    let low = word-small word 4 known.small in let e = known.parts.1 in
-    (dst-fits (insn.LoadMap dst m) word dst known known.parts.0, omega (arith, low, e))
+    let low = word-small word 4 known.small in let e = known.reads.parts.1 in
+    (dst-fits (insn.LoadMap dst m) word dst known known.reads.parts.0, omega (arith, low, e))
 IsWord-fits (insn.LoadMapValue dst m o) word known =
     let low = word-small word 4 known.small in let high = word-small word 12 known.small in
-    let e = known.parts.1 in let f = known.parts.2 in
-    (dst-fits (insn.LoadMapValue dst m o) word dst known known.parts.0, omega (arith, low, e), omega (arith, high, f))
+    let e = known.reads.parts.1 in let f = known.reads.parts.2 in
+    (dst-fits (insn.LoadMapValue dst m o) word dst known known.reads.parts.0, omega (arith, low, e), omega (arith, high, f))

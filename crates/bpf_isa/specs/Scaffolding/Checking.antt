@@ -3,10 +3,12 @@ use Rattle.std.specs.Prelude.{◌≡◌, ◌<◌, ◌≤◌, ℕ, ◌*◌, Bool,
 use Rattle.bpf_isa.specs.declared.instruction.Insn.{Insn}
 use Rattle.bpf_isa.specs.declared.maps.MapShape.{MapShape}
 use Rattle.bpf_isa.specs.declared.fault.PieceFault.{PieceFault}
-use Rattle.bpf_isa.specs.declared.fault.PieceFault.TheVariants.{WritesFramePointer, NoTarget, RunsOff, UnknownHelper, NoMap}
+use Rattle.bpf_isa.specs.declared.fault.PieceFault.TheVariants.{Word, WritesFramePointer, NoTarget, RunsOff, UnknownHelper, NoMap}
+use Rattle.bpf_isa.specs.declared.fault.WordFault.TheVariants.{CutOff}
 use Rattle.bpf_isa.specs.Insns.{FallsThrough, written_of}
 use Rattle.bpf_isa.specs.Words.{IsWord}
-use Rattle.bpf_isa.specs.Checker.{is_start, IsStartIn, piece_at, after, HasNoFault, Lands, HelperExists, MapExists, fault_number}
+use Rattle.bpf_isa.specs.WordFaults.{HasWordFault}
+use Rattle.bpf_isa.specs.Checker.{is_start, IsStartIn, piece_at, after, HasNoFault, Lands, HelperExists, MapExists}
 
 -- The flags are the starts.
 pub record AreStarts (bytes : List ℕ) (starts : List Bool) : Type 0 where
@@ -17,24 +19,21 @@ pub record AreStarts (bytes : List ℕ) (starts : List Bool) : Type 0 where
 abbrev pub SparesTen : Insn → Type 0
 SparesTen insn = IfSome (written_of insn) (λ r. r < 10)
 
--- A rule that a whole instruction breaks at a slot.
+-- A fault of the piece at a slot that reads as an instruction and leaves nothing over.
 abbrev pub Breaks : List ℕ → List MapShape → ℕ → Insn → PieceFault → Type 0
-Breaks bytes maps p insn WritesFramePointer = SparesTen insn → ⊥
+Breaks bytes maps p insn (Word CutOff) = HasWordFault (piece_at bytes p) CutOff
+Breaks bytes maps p insn (Word _) = ⊥
+Breaks bytes maps p insn WritesFramePointer = written_of insn ≡ Some 10
 Breaks bytes maps p insn NoTarget = Lands bytes p insn → ⊥
-Breaks bytes maps p insn RunsOff = (length bytes ≤ 8 * after bytes p) × FallsThrough insn
+Breaks bytes maps p insn RunsOff = FallsThrough insn × (length bytes ≤ 8 * after bytes p)
 Breaks bytes maps p insn UnknownHelper = HelperExists insn → ⊥
 Breaks bytes maps p insn NoMap = MapExists maps insn → ⊥
-Breaks bytes maps p insn _ = ⊥
-
--- The broken rule with the least number.
-pub record IsLeastBroken (bytes : List ℕ) (maps : List MapShape) (p : ℕ) (insn : Insn) (fault : PieceFault) : Type 0 where
-  pub applies : Breaks bytes maps p insn fault
-  pub least : (other : PieceFault) → Breaks bytes maps p insn other → fault_number fault ≤ fault_number other
 
 -- An instruction at a slot breaks no rule.
 pub record IsSound (bytes : List ℕ) (maps : List MapShape) (p : ℕ) (insn : Insn) : Type 0 where
   pub spares : SparesTen insn
   pub lands : Lands bytes p insn
+  pub whole : HasWordFault (piece_at bytes p) CutOff → ⊥
   pub falls : FallsThrough insn → 8 * after bytes p < length bytes
   pub helper : HelperExists insn
   pub names : MapExists maps insn

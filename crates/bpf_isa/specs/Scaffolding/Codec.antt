@@ -1,16 +1,15 @@
 -- Scaffolding: no public contract cites this. The parts of an opcode (RFC 9669, sections 3.1 and 4), and what the decoder and the encoder ask of their own functions.
-use Rattle.std.specs.Prelude.{◌≡◌, ℕ, ℤ, Bool, true, false, List}
+use Rattle.std.specs.Prelude.{◌≡◌, ◌<◌, ℕ, ℤ, Bool, true, false, List, All}
 use Rattle.std.specs.Int.{w16, cast_signed}
 use Rattle.bpf_isa.specs.declared.fields.Fields.{Fields}
 use Rattle.bpf_isa.specs.declared.instruction.Width.{Width}
 use Rattle.bpf_isa.specs.declared.instruction.Width.TheVariants.{Bits32, Bits64}
-use Rattle.bpf_isa.specs.declared.form.SourceKind.{SourceKind}
-use Rattle.bpf_isa.specs.declared.form.SourceKind.TheVariants.{Immediate, Register}
+use Rattle.bpf_isa.specs.declared.instruction.SourceKind.{SourceKind}
+use Rattle.bpf_isa.specs.declared.instruction.SourceKind.TheVariants.{Immediate, Register}
 use Rattle.bpf_isa.specs.declared.decoder.unused.Unused.{Unused}
 use Rattle.bpf_isa.specs.declared.instruction.Insn.{Insn}
-use Rattle.bpf_isa.specs.declared.form.Form.{Form}
 use Rattle.bpf_isa.specs.Rows.{Field, unused, code, used, Row}
-use Rattle.bpf_isa.specs.Words.{row, form_of, fields_of, HasCodes}
+use Rattle.bpf_isa.specs.Words.{row_of, fields_of, IsClean, HasRegisters, ReadsAs}
 
 -- The source bit: K is 0, X is 1, in the place of 8.
 abbrev pub source_bit_of : SourceKind → ℕ
@@ -51,6 +50,10 @@ pub record IsAccess (opcode dst src : ℕ) (offset : ℤ) (fields : Fields) : Ty
   pub reserved : fields.reserved ≡ 0
   pub next : fields.next ≡ 0
 
--- The form of the instruction is the only one whose opcode and numbers stand in the bytes.
-abbrev pub HasOneForm : List ℕ → Insn → Type 0
-HasOneForm bytes insn = (other : Form) → HasCodes (row other) (fields_of bytes) → other ≡ form_of insn
+-- What the bytes read as, without fault but that a second slot may be missing.
+pub record IsRead (bytes : List ℕ) (insn : Insn) : Type 0 where
+  pub small : All (λ byte. byte < 256) bytes
+  pub reads : ReadsAs (fields_of bytes) insn
+  pub clean : IsClean (row_of insn) (fields_of bytes)
+  pub registers : HasRegisters (fields_of bytes)
+  pub only : (other : Insn) → ReadsAs (fields_of bytes) other → other ≡ insn

@@ -3,8 +3,8 @@ ghost use Rattle.std.specs.Prelude.{◌≡◌, ◌↔◌, IsTrue};
 ghost use Rattle.bpf_isa.specs.Words.{row, IsClean};
 
 use crate::fields::Fields;
-use crate::form::{Form, SourceKind};
-use crate::instruction::BinaryOp;
+use crate::instruction::{BinaryOp, SourceKind};
+use crate::mnemonic::Mnemonic;
 
 /// Which fields a row leaves unused.
 #[derive(Clone, Copy)]
@@ -35,7 +35,7 @@ const USED: Unused = Unused {
 };
 
 impl SourceKind {
-    ghost use Rattle.bpf_isa.specs.declared.form.SourceKind.TheVariants.{Register};
+    ghost use Rattle.bpf_isa.specs.declared.instruction.SourceKind.TheVariants.{Register};
 
     /// Whether the second operand is a register.
     fn is_register(self) -> bool
@@ -64,68 +64,68 @@ impl Unused {
         }
     }
 
-    /// The unused fields of a form.
-    fn of(form: Form) -> Unused
-        ensures { AreUnused (row form) result }
+    /// The unused fields of a row.
+    fn of(mnemonic: Mnemonic, source: SourceKind) -> Unused
+        ensures { AreUnused (row mnemonic source) result }
     {
-        match form {
-            Form::Binary { op, source, .. } => Unused {
+        match mnemonic {
+            Mnemonic::Binary(op, _) => Unused {
                 dst: false,
                 src: !source.is_register(),
                 offset: Unused::offset_of(op, source),
                 imm: source.is_register(),
                 ..NONE
             },
-            Form::Negate { .. } => Unused { dst: false, ..NONE },
-            Form::SignExtend { .. } => Unused {
+            Mnemonic::Negate(_) => Unused { dst: false, ..NONE },
+            Mnemonic::SignExtend(_) => Unused {
                 dst: false,
                 src: false,
                 offset: false,
                 ..NONE
             },
-            Form::SwapBytes { .. } => Unused {
+            Mnemonic::SwapBytes(_, _) => Unused {
                 dst: false,
                 imm: false,
                 ..NONE
             },
-            Form::JumpIf { source, .. } => Unused {
+            Mnemonic::JumpIf(_, _) => Unused {
                 dst: false,
                 src: !source.is_register(),
                 offset: false,
                 imm: source.is_register(),
                 ..NONE
             },
-            Form::Jump => Unused {
+            Mnemonic::Jump => Unused {
                 offset: false,
                 ..NONE
             },
-            Form::JumpLong => Unused { imm: false, ..NONE },
-            Form::CallHelper | Form::CallLocal => Unused {
+            Mnemonic::JumpLong => Unused { imm: false, ..NONE },
+            Mnemonic::CallHelper | Mnemonic::CallLocal => Unused {
                 src: false,
                 imm: false,
                 ..NONE
             },
-            Form::Exit => NONE,
-            Form::Load { .. } | Form::LoadSigned { .. } | Form::StoreRegister { .. } => Unused {
+            Mnemonic::Exit => NONE,
+            Mnemonic::Load(_) | Mnemonic::LoadSigned(_) | Mnemonic::StoreRegister(_) => Unused {
                 dst: false,
                 src: false,
                 offset: false,
                 ..NONE
             },
-            Form::StoreImmediate { .. } => Unused {
+            Mnemonic::StoreImmediate(_) => Unused {
                 dst: false,
                 offset: false,
                 imm: false,
                 ..NONE
             },
-            Form::Atomic { .. } => Unused { next: true, ..USED },
-            Form::LoadMap => Unused {
+            Mnemonic::Atomic(_, _) => Unused { next: true, ..USED },
+            Mnemonic::LoadMap => Unused {
                 dst: false,
                 src: false,
                 imm: false,
                 ..NONE
             },
-            Form::LoadNumber | Form::LoadMapValue => Unused {
+            Mnemonic::LoadNumber | Mnemonic::LoadMapValue => Unused {
                 offset: true,
                 ..USED
             },
@@ -153,9 +153,9 @@ impl Unused {
     }
 }
 
-/// Whether the fields that a form doesn't use are zero.
-pub fn is_clean(form: Form, fields: Fields) -> bool
-    ensures { IsTrue result ↔ IsClean (row form) fields }
+/// Whether the fields that a row doesn't use are zero.
+pub fn is_clean(mnemonic: Mnemonic, source: SourceKind, fields: Fields) -> bool
+    ensures { IsTrue result ↔ IsClean (row mnemonic source) fields }
 {
-    Unused::of(form).is_clean(fields)
+    Unused::of(mnemonic, source).is_clean(fields)
 }

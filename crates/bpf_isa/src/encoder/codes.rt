@@ -5,8 +5,7 @@ ghost use Rattle.bpf_isa.specs.Scaffolding.Codec.{source_bit_of, class_of, jump_
 ghost use Rattle.bpf_isa.specs.Jumps.{condition_opcode};
 ghost use Rattle.bpf_isa.specs.Memory.{sizes, load_signed_opcode, atomic_code};
 
-use crate::form::SourceKind;
-use crate::instruction::{AtomicOp, BinaryOp, Condition, SignedSize, Size, Width};
+use crate::instruction::{AtomicOp, BinaryOp, Condition, SignedSize, Size, SourceKind, Width};
 
 /// The class and source bit of arithmetic.
 pub fn arithmetic_bits(width: Width, source: SourceKind) -> u8

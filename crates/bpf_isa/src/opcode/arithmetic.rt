@@ -1,66 +1,65 @@
-//! The forms of arithmetic and byte swaps (RFC 9669, sections 4.1 and 4.2).
-ghost use Rattle.std.specs.Prelude.{◌≡◌, ◌%◌, ◌+◌, IfSome, Some};
+//! The mnemonics of arithmetic and byte swaps (RFC 9669, sections 4.1 and 4.2).
+ghost use Rattle.std.specs.Prelude.{◌≡◌, ◌/◌, ◌%◌, ◌*◌, ◌+◌, IfSome, Some};
 ghost use Rattle.bpf_isa.specs.Words.{row, HasCodes};
 ghost use Rattle.bpf_isa.specs.Scaffolding.Codec.{class_of, source_bit_of};
 
 use crate::fields::Fields;
-use crate::form::{Form, SourceKind};
-use crate::instruction::{BinaryOp, ByteOrder, Extension, SwapWidth, Width};
-use crate::opcode::source_kind;
+use crate::instruction::{BinaryOp, ByteOrder, Extension, SourceKind, SwapWidth, Width};
+use crate::mnemonic::Mnemonic;
 
 /// DIV and SDIV, told apart by the offset.
-fn division_form(fields: Fields, width: Width, source: SourceKind) -> Option<Form>
+fn division_mnemonic(fields: Fields, width: Width, source: SourceKind) -> Option<Mnemonic>
     requires { fields.opcode ≡ 48 + source_bit_of source + class_of width }
-    ensures found { IfSome result (λ form. HasCodes (row form) fields) }
-    ensures only { (form : Form) → HasCodes (row form) fields → result ≡ Some form }
+    ensures found { IfSome result (λ mnemonic. HasCodes (row mnemonic source) fields) }
+    ensures only { (mnemonic : Mnemonic) (kind : SourceKind) → HasCodes (row mnemonic kind) fields
+        → result ≡ Some mnemonic }
 {
     let op = match fields.offset {
         0 => BinaryOp::Div,
         1 => BinaryOp::SignedDiv,
         _ => return None,
     };
-    Some(Form::Binary { op, width, source })
+    Some(Mnemonic::Binary(op, width))
 }
 
 /// MOD and SMOD, told apart by the offset.
-fn modulo_form(fields: Fields, width: Width, source: SourceKind) -> Option<Form>
+fn modulo_mnemonic(fields: Fields, width: Width, source: SourceKind) -> Option<Mnemonic>
     requires { fields.opcode ≡ 144 + source_bit_of source + class_of width }
-    ensures found { IfSome result (λ form. HasCodes (row form) fields) }
-    ensures only { (form : Form) → HasCodes (row form) fields → result ≡ Some form }
+    ensures found { IfSome result (λ mnemonic. HasCodes (row mnemonic source) fields) }
+    ensures only { (mnemonic : Mnemonic) (kind : SourceKind) → HasCodes (row mnemonic kind) fields
+        → result ≡ Some mnemonic }
 {
     let op = match fields.offset {
         0 => BinaryOp::Mod,
         1 => BinaryOp::SignedMod,
         _ => return None,
     };
-    Some(Form::Binary { op, width, source })
+    Some(Mnemonic::Binary(op, width))
 }
 
 /// NEG, which has no form X.
-fn negate_form(fields: Fields, width: Width, source: SourceKind) -> Option<Form>
+fn negate_mnemonic(fields: Fields, width: Width, source: SourceKind) -> Option<Mnemonic>
     requires { fields.opcode ≡ 128 + source_bit_of source + class_of width }
-    ensures found { IfSome result (λ form. HasCodes (row form) fields) }
-    ensures only { (form : Form) → HasCodes (row form) fields → result ≡ Some form }
+    ensures found { IfSome result (λ mnemonic. HasCodes (row mnemonic source) fields) }
+    ensures only { (mnemonic : Mnemonic) (kind : SourceKind) → HasCodes (row mnemonic kind) fields
+        → result ≡ Some mnemonic }
 {
     match source {
-        SourceKind::Immediate => Some(Form::Negate { width }),
+        SourceKind::Immediate => Some(Mnemonic::Negate(width)),
         SourceKind::Register => None,
     }
 }
 
 /// MOV and MOVSX, told apart by the offset in form X.
-fn move_form(fields: Fields, width: Width, source: SourceKind) -> Option<Form>
+fn move_mnemonic(fields: Fields, width: Width, source: SourceKind) -> Option<Mnemonic>
     requires { fields.opcode ≡ 176 + source_bit_of source + class_of width }
-    ensures found { IfSome result (λ form. HasCodes (row form) fields) }
-    ensures only { (form : Form) → HasCodes (row form) fields → result ≡ Some form }
+    ensures found { IfSome result (λ mnemonic. HasCodes (row mnemonic source) fields) }
+    ensures only { (mnemonic : Mnemonic) (kind : SourceKind) → HasCodes (row mnemonic kind) fields
+        → result ≡ Some mnemonic }
 {
     let extension = match (source, fields.offset, width) {
         (SourceKind::Immediate, _, _) | (SourceKind::Register, 0, _) => {
-            return Some(Form::Binary {
-                op: BinaryOp::Mov,
-                width,
-                source,
-            });
+            return Some(Mnemonic::Binary(BinaryOp::Mov, width));
         }
         (SourceKind::Register, 8, Width::Bits64) => Extension::Byte64,
         (SourceKind::Register, 16, Width::Bits64) => Extension::Half64,
@@ -69,14 +68,15 @@ fn move_form(fields: Fields, width: Width, source: SourceKind) -> Option<Form>
         (SourceKind::Register, 16, Width::Bits32) => Extension::Half32,
         _ => return None,
     };
-    Some(Form::SignExtend { extension })
+    Some(Mnemonic::SignExtend(extension))
 }
 
 /// END: byte swaps, whose width is imm.
-fn swap_form(fields: Fields, width: Width, source: SourceKind) -> Option<Form>
+fn swap_mnemonic(fields: Fields, width: Width, source: SourceKind) -> Option<Mnemonic>
     requires { fields.opcode ≡ 208 + source_bit_of source + class_of width }
-    ensures found { IfSome result (λ form. HasCodes (row form) fields) }
-    ensures only { (form : Form) → HasCodes (row form) fields → result ≡ Some form }
+    ensures found { IfSome result (λ mnemonic. HasCodes (row mnemonic source) fields) }
+    ensures only { (mnemonic : Mnemonic) (kind : SourceKind) → HasCodes (row mnemonic kind) fields
+        → result ≡ Some mnemonic }
 {
     let order = match (width, source) {
         (Width::Bits32, SourceKind::Immediate) => ByteOrder::Little,
@@ -90,32 +90,33 @@ fn swap_form(fields: Fields, width: Width, source: SourceKind) -> Option<Form>
         64 => SwapWidth::Bits64,
         _ => return None,
     };
-    Some(Form::SwapBytes { order, width })
+    Some(Mnemonic::SwapBytes(order, width))
 }
 
 /// Classes ALU and ALU64.
-pub fn arithmetic_form(fields: Fields, width: Width) -> Option<Form>
-    requires { fields.opcode % 8 ≡ class_of width }
-    ensures found { IfSome result (λ form. HasCodes (row form) fields) }
-    ensures only { (form : Form) → HasCodes (row form) fields → result ≡ Some form }
+pub fn arithmetic_mnemonic(fields: Fields, width: Width, source: SourceKind) -> Option<Mnemonic>
+    requires bit { source_bit_of source ≡ fields.opcode / 8 % 2 * 8 }
+    requires class { fields.opcode % 8 ≡ class_of width }
+    ensures found { IfSome result (λ mnemonic. HasCodes (row mnemonic source) fields) }
+    ensures only { (mnemonic : Mnemonic) (kind : SourceKind) → HasCodes (row mnemonic kind) fields
+        → result ≡ Some mnemonic }
 {
-    let source = source_kind(fields.opcode);
     let op = match fields.opcode / 16 {
         0 => BinaryOp::Add,
         1 => BinaryOp::Sub,
         2 => BinaryOp::Mul,
-        3 => return division_form(fields, width, source),
+        3 => return division_mnemonic(fields, width, source),
         4 => BinaryOp::Or,
         5 => BinaryOp::And,
         6 => BinaryOp::LeftShift,
         7 => BinaryOp::RightShift,
-        8 => return negate_form(fields, width, source),
-        9 => return modulo_form(fields, width, source),
+        8 => return negate_mnemonic(fields, width, source),
+        9 => return modulo_mnemonic(fields, width, source),
         10 => BinaryOp::Xor,
-        11 => return move_form(fields, width, source),
+        11 => return move_mnemonic(fields, width, source),
         12 => BinaryOp::SignedRightShift,
-        13 => return swap_form(fields, width, source),
+        13 => return swap_mnemonic(fields, width, source),
         _ => return None,
     };
-    Some(Form::Binary { op, width, source })
+    Some(Mnemonic::Binary(op, width))
 }

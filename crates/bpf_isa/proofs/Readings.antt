@@ -1,0 +1,80 @@
+-- What fields read as: a row whose codes stand in them gives an instruction, and one alone.
+use Rattle.std.proofs.Common.{◌≡◌, ◌≤◌, ◌<◌, ◌+◌, ◌*◌, ℕ, List, Result, Ok, arith, sym, subst, ap}
+use Rattle.std.specs.Prelude.{All}
+use Rattle.std.specs.Int.{w16, w32, cast_signed}
+use Rattle.bpf_isa.specs.declared.instruction.Insn.{Insn}
+use Rattle.bpf_isa.specs.declared.instruction.Insn.TheVariants as insn
+use Rattle.bpf_isa.specs.declared.instruction.Source.{Source}
+use Rattle.bpf_isa.specs.declared.instruction.Source.TheVariants as source
+use Rattle.bpf_isa.specs.declared.instruction.SourceKind.{SourceKind}
+use Rattle.bpf_isa.specs.declared.instruction.SourceKind.TheVariants.{Immediate, Register}
+use Rattle.bpf_isa.specs.declared.mnemonic.Mnemonic.{Mnemonic}
+use Rattle.bpf_isa.specs.declared.mnemonic.Mnemonic.TheVariants.{Binary, Negate, SignExtend, SwapBytes, JumpIf, Jump, JumpLong, CallHelper, CallLocal, Exit, Load, LoadSigned, StoreImmediate, StoreRegister, Atomic, LoadNumber, LoadMap, LoadMapValue}
+use Rattle.bpf_isa.specs.declared.fields.Fields.{Fields}
+use Rattle.bpf_isa.specs.declared.fault.WordFault.{WordFault}
+use Rattle.bpf_isa.specs.declared.fault.WordFault.TheVariants.{UnknownInstruction, RegisterAboveTen, UnusedField, CutOff}
+use Rattle.bpf_isa.specs.Faults.{word_fault_number}
+use Rattle.bpf_isa.specs.Mnemonics.{mnemonic_of}
+use Rattle.bpf_isa.specs.WordFaults.{HasWordFault, IsLeastWordFault}
+use Rattle.bpf_isa.specs.Words.{row, row_of, fields_of, HasCodes, HasRegisters, IsClean, ReadsAs, IsWord}
+use Rattle.bpf_isa.specs.Scaffolding.Codec.{IsRead}
+
+abbrev operand : SourceKind → Fields → Source
+operand Immediate f = source.Immediate (cast_signed w32 f.imm)
+operand Register f = source.Register f.src
+
+abbrev reading : Mnemonic → SourceKind → Fields → Insn
+reading (Binary op width) kind f = insn.Binary op width f.dst (operand kind f)
+reading (Negate width) kind f = insn.Negate width f.dst
+reading (SignExtend extension) kind f = insn.SignExtend extension f.dst f.src
+reading (SwapBytes order width) kind f = insn.SwapBytes order width f.dst
+reading (JumpIf condition width) kind f = insn.JumpIf condition width f.dst (operand kind f) (cast_signed w16 f.offset)
+reading Jump kind f = insn.Jump (cast_signed w16 f.offset)
+reading JumpLong kind f = insn.JumpLong (cast_signed w32 f.imm)
+reading CallHelper kind f = insn.CallHelper f.imm
+reading CallLocal kind f = insn.CallLocal (cast_signed w32 f.imm)
+reading Exit kind f = insn.Exit
+reading (Load size) kind f = insn.Load size f.dst f.src (cast_signed w16 f.offset)
+reading (LoadSigned size) kind f = insn.LoadSigned size f.dst f.src (cast_signed w16 f.offset)
+reading (StoreImmediate size) kind f = insn.StoreImmediate size f.dst (cast_signed w16 f.offset) (cast_signed w32 f.imm)
+reading (StoreRegister size) kind f = insn.StoreRegister size f.dst f.src (cast_signed w16 f.offset)
+reading (Atomic op width) kind f = insn.Atomic op width f.dst f.src (cast_signed w16 f.offset)
+reading LoadNumber kind f = insn.LoadNumber f.dst (f.imm + 4294967296 * f.next)
+reading LoadMap kind f = insn.LoadMap f.dst f.imm
+reading LoadMapValue kind f = insn.LoadMapValue f.dst f.imm f.next
+
+reads_as : (mnemonic : Mnemonic) (kind : SourceKind) (f : Fields) → HasCodes (row mnemonic kind) f → ReadsAs f (reading mnemonic kind f)
+reads_as mnemonic kind f codes = grind arith
+
+-- two instructions of one mnemonic that the fields read as are one
+pub one_reading : (i j : Insn) (f : Fields) → ReadsAs f i → ReadsAs f j → mnemonic_of i ≡ mnemonic_of j → i ≡ j
+one_reading i j f read_i read_j same = grind arith
+
+-- a register field is above 10
+least_five : (bytes : List ℕ) (insn : Insn) → ReadsAs (fields_of bytes) insn → (other : WordFault) → HasWordFault bytes other → 5 ≤ word_fault_number other
+least_five bytes insn reads UnknownInstruction has = absurd (has insn reads)
+least_five bytes insn reads RegisterAboveTen has = omega arith
+least_five bytes insn reads UnusedField has = omega arith
+least_five bytes insn reads CutOff has = omega arith
+
+pub register_fault : (bytes : List ℕ) (f : Fields) (mnemonic : Mnemonic) (kind : SourceKind) → f ≡ fields_of bytes → HasCodes (row mnemonic kind) f → (HasRegisters f → ⊥) → IsLeastWordFault bytes RegisterAboveTen
+unfolding IsLeastWordFault
+register_fault bytes f mnemonic kind e codes above =
+    let reads : ReadsAs (fields_of bytes) (reading mnemonic kind f) = subst (λ (g : Fields). ReadsAs g (reading mnemonic kind f)) e (reads_as mnemonic kind f codes) in
+    record { applies = subst (λ (g : Fields). HasRegisters g → ⊥) e above; least = least_five bytes (reading mnemonic kind f) reads }
+
+-- an instruction was read
+pub is_read : (bytes : List ℕ) (f : Fields) (i : Insn) → f ≡ fields_of bytes → All (λ byte. byte < 256) bytes → ReadsAs f i → IsClean (row_of i) f → HasRegisters f → ((other : Insn) → ReadsAs f other → mnemonic_of other ≡ mnemonic_of i) → IsRead bytes i
+is_read bytes f i e small reads clean registers same =
+    let reads_here : ReadsAs (fields_of bytes) i = subst (λ (g : Fields). ReadsAs g i) e reads in
+    record {
+      small = small;
+      reads = reads_here;
+      clean = subst (IsClean (row_of i)) e clean;
+      registers = subst HasRegisters e registers;
+      only = λ other read. one_reading other i (fields_of bytes) read reads_here (same other (subst (λ (g : Fields). ReadsAs g other) (sym e) read));
+    }
+
+-- it is the only one
+pub ok_reading : (bytes : List ℕ) (i other : Insn) → IsRead bytes i → IsWord other bytes → ◌≡◌ {A = Result Insn WordFault} (Ok i) (Ok other)
+ok_reading bytes i other read whole = ap Ok (sym (read.only other whole.reads))
