@@ -16,8 +16,8 @@ use Rattle.bpf_isa.specs.declared.fault.WordFault.TheVariants.{UnknownInstructio
 use Rattle.bpf_isa.specs.Faults.{word_fault_number}
 use Rattle.bpf_isa.specs.Mnemonics.{mnemonic_of}
 use Rattle.bpf_isa.specs.WordFaults.{HasWordFault, IsLeastWordFault}
-use Rattle.bpf_isa.specs.Words.{row, row_of, fields_of, HasCodes, HasRegisters, IsClean, ReadsAs, IsWord}
-use Rattle.bpf_isa.specs.Scaffolding.Codec.{IsRead}
+use Rattle.bpf_isa.specs.Words.{row, row_of, fields_of, HasCodes, HasRegisters, HasParts, IsClean, ReadsAs, IsWord}
+use Rattle.bpf_isa.specs.Scaffolding.Codec.{IsLaid, IsRead}
 
 abbrev operand : SourceKind → Fields → Source
 operand Immediate f = source.Immediate (cast_signed w32 f.imm)
@@ -78,3 +78,10 @@ is_read bytes f i e small reads clean registers same =
 -- it is the only one
 pub ok_reading : (bytes : List ℕ) (i other : Insn) → IsRead bytes i → IsWord other bytes → ◌≡◌ {A = Result Insn WordFault} (Ok i) (Ok other)
 ok_reading bytes i other read whole = ap Ok (sym (read.only other whole.reads))
+
+-- parts stay where the codes of a row are laid over them
+pub laid_parts : (i : Insn) (parts f : Fields) → IsLaid (row_of i) parts f → HasParts i parts → HasParts i f
+laid_parts i parts f laid has = grind arith
+
+pub laid_registers : (i : Insn) (parts f : Fields) → IsLaid (row_of i) parts f → HasCodes (row_of i) f → IsClean (row_of i) f → HasRegisters parts → HasRegisters f
+laid_registers i parts f laid codes clean registers = grind arith

@@ -8,7 +8,10 @@ use Rattle.bpf_isa.specs.declared.instruction.Extension.{Extension}
 use Rattle.bpf_isa.specs.declared.instruction.Extension.TheVariants.{Byte64, Half64, Word64, Byte32, Half32}
 use Rattle.bpf_isa.specs.declared.instruction.SourceKind.{SourceKind}
 use Rattle.bpf_isa.specs.declared.instruction.SourceKind.TheVariants.{Register}
-use Rattle.bpf_isa.specs.Rows.{Field, unused, code, used, Row, alu, imm_of, src_of}
+use Rattle.bpf_isa.specs.declared.row.Field.{Field}
+use Rattle.bpf_isa.specs.declared.row.Field.TheVariants.{Unused, Code, Used}
+use Rattle.bpf_isa.specs.declared.row.Row.{Row}
+use Rattle.bpf_isa.specs.Rows.{alu, imm_of, src_of}
 
 -- ADD to ARSH, without NEG and END: the opcodes K32 X32 K64 X64.
 abbrev pub binary_opcode : BinaryOp → Width → SourceKind → ℕ
@@ -29,16 +32,16 @@ binary_opcode SignedRightShift = alu 0xc4 0xcc 0xc7 0xcf
 
 -- The offset tells signed division and modulo, and the extending moves.
 abbrev pub binary_offset : BinaryOp → SourceKind → Field
-binary_offset Div source = code 0
-binary_offset SignedDiv source = code 1
-binary_offset Mod source = code 0
-binary_offset SignedMod source = code 1
-binary_offset Mov Register = code 0
-binary_offset _ _ = unused
+binary_offset Div source = Code 0
+binary_offset SignedDiv source = Code 1
+binary_offset Mod source = Code 0
+binary_offset SignedMod source = Code 1
+binary_offset Mov Register = Code 0
+binary_offset _ _ = Unused
 
 -- Form K uses dst and imm, form X uses dst and src.
 abbrev pub binary_row : BinaryOp → Width → SourceKind → Row
-binary_row op width source = record { opcode = binary_opcode op width source; dst = used; src = src_of source; offset = binary_offset op source; imm = imm_of source; next = unused }
+binary_row op width source = record { opcode = binary_opcode op width source; dst = Used; src = src_of source; offset = binary_offset op source; imm = imm_of source; next = Unused }
 
 -- NEG uses dst alone.
 abbrev pub negate_opcode : Width → ℕ
@@ -47,12 +50,12 @@ negate_opcode Bits64 = 0x87
 
 -- The row of NEG.
 abbrev pub negate_row : Width → Row
-negate_row width = record { opcode = negate_opcode width; dst = used; src = unused; offset = unused; imm = unused; next = unused }
+negate_row width = record { opcode = negate_opcode width; dst = Used; src = Unused; offset = Unused; imm = Unused; next = Unused }
 
 -- MOVSX: an opcode, and in offset how many low bits of src count.
 abbrev pub extension_row : Extension → Row
-extension_row Byte64 = record { opcode = 0xbf; dst = used; src = used; offset = code 8; imm = unused; next = unused }
-extension_row Half64 = record { opcode = 0xbf; dst = used; src = used; offset = code 16; imm = unused; next = unused }
-extension_row Word64 = record { opcode = 0xbf; dst = used; src = used; offset = code 32; imm = unused; next = unused }
-extension_row Byte32 = record { opcode = 0xbc; dst = used; src = used; offset = code 8; imm = unused; next = unused }
-extension_row Half32 = record { opcode = 0xbc; dst = used; src = used; offset = code 16; imm = unused; next = unused }
+extension_row Byte64 = record { opcode = 0xbf; dst = Used; src = Used; offset = Code 8; imm = Unused; next = Unused }
+extension_row Half64 = record { opcode = 0xbf; dst = Used; src = Used; offset = Code 16; imm = Unused; next = Unused }
+extension_row Word64 = record { opcode = 0xbf; dst = Used; src = Used; offset = Code 32; imm = Unused; next = Unused }
+extension_row Byte32 = record { opcode = 0xbc; dst = Used; src = Used; offset = Code 8; imm = Unused; next = Unused }
+extension_row Half32 = record { opcode = 0xbc; dst = Used; src = Used; offset = Code 16; imm = Unused; next = Unused }

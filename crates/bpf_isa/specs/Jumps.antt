@@ -4,15 +4,17 @@ use Rattle.bpf_isa.specs.declared.instruction.Width.{Width}
 use Rattle.bpf_isa.specs.declared.instruction.Condition.{Condition}
 use Rattle.bpf_isa.specs.declared.instruction.Condition.TheVariants.{Equal, Greater, GreaterOrEqual, BitsSet, NotEqual, SignedGreater, SignedGreaterOrEqual, Less, LessOrEqual, SignedLess, SignedLessOrEqual}
 use Rattle.bpf_isa.specs.declared.instruction.SourceKind.{SourceKind}
-use Rattle.bpf_isa.specs.Rows.{unused, code, used, Row, jmp, imm_of, src_of}
+use Rattle.bpf_isa.specs.declared.row.Field.TheVariants.{Unused, Code, Used}
+use Rattle.bpf_isa.specs.declared.row.Row.{Row}
+use Rattle.bpf_isa.specs.Rows.{jmp, imm_of, src_of}
 
 -- JA in class JMP: by offset.
 abbrev pub jump_row : Row
-jump_row = record { opcode = 0x05; dst = unused; src = unused; offset = used; imm = unused; next = unused }
+jump_row = record { opcode = 0x05; dst = Unused; src = Unused; offset = Used; imm = Unused; next = Unused }
 
 -- JA in class JMP32: by imm.
 abbrev pub jump_long_row : Row
-jump_long_row = record { opcode = 0x06; dst = unused; src = unused; offset = unused; imm = used; next = unused }
+jump_long_row = record { opcode = 0x06; dst = Unused; src = Unused; offset = Unused; imm = Used; next = Unused }
 
 -- JEQ to JSGE and JLT to JSLE: the opcodes K64 X64 K32 X32.
 abbrev pub condition_opcode : Condition → Width → SourceKind → ℕ
@@ -30,16 +32,16 @@ condition_opcode SignedLessOrEqual = jmp 0xd5 0xdd 0xd6 0xde
 
 -- Form K compares dst with imm, form X with src.
 abbrev pub condition_row : Condition → Width → SourceKind → Row
-condition_row condition width source = record { opcode = condition_opcode condition width source; dst = used; src = src_of source; offset = used; imm = imm_of source; next = unused }
+condition_row condition width source = record { opcode = condition_opcode condition width source; dst = Used; src = src_of source; offset = Used; imm = imm_of source; next = Unused }
 
 -- CALL: src_reg 0 calls a helper, imm is its number; src_reg 1 calls a local function.
 abbrev pub call_helper_row : Row
-call_helper_row = record { opcode = 0x85; dst = unused; src = code 0; offset = unused; imm = used; next = unused }
+call_helper_row = record { opcode = 0x85; dst = Unused; src = Code 0; offset = Unused; imm = Used; next = Unused }
 
 -- CALL of a local function: imm is the distance.
 abbrev pub call_local_row : Row
-call_local_row = record { opcode = 0x85; dst = unused; src = code 1; offset = unused; imm = used; next = unused }
+call_local_row = record { opcode = 0x85; dst = Unused; src = Code 1; offset = Unused; imm = Used; next = Unused }
 
 -- EXIT uses nothing.
 abbrev pub exit_row : Row
-exit_row = record { opcode = 0x95; dst = unused; src = unused; offset = unused; imm = unused; next = unused }
+exit_row = record { opcode = 0x95; dst = Unused; src = Unused; offset = Unused; imm = Unused; next = Unused }

@@ -8,7 +8,8 @@ use Rattle.bpf_isa.specs.declared.instruction.SignedSize.{SignedSize}
 use Rattle.bpf_isa.specs.declared.instruction.SignedSize.TheVariants.{Word as SignedWord, Half as SignedHalf, Byte as SignedByte}
 use Rattle.bpf_isa.specs.declared.instruction.AtomicOp.{AtomicOp}
 use Rattle.bpf_isa.specs.declared.instruction.AtomicOp.TheVariants.{Add, Or, And, Xor, FetchAdd, FetchOr, FetchAnd, FetchXor, Exchange, CompareExchange}
-use Rattle.bpf_isa.specs.Rows.{unused, code, used, Row}
+use Rattle.bpf_isa.specs.declared.row.Field.TheVariants.{Unused, Code, Used}
+use Rattle.bpf_isa.specs.declared.row.Row.{Row}
 
 -- The opcodes of the sizes W, H, B, DW.
 abbrev pub sizes : ℕ → ℕ → ℕ → ℕ → Size → ℕ
@@ -23,7 +24,7 @@ load_opcode = sizes 0x61 0x69 0x71 0x79
 
 -- dst takes what stands at src + offset.
 abbrev pub load_row : Size → Row
-load_row size = record { opcode = load_opcode size; dst = used; src = used; offset = used; imm = unused; next = unused }
+load_row size = record { opcode = load_opcode size; dst = Used; src = Used; offset = Used; imm = Unused; next = Unused }
 
 -- MEMSX in class LDX.
 abbrev pub load_signed_opcode : SignedSize → ℕ
@@ -33,7 +34,7 @@ load_signed_opcode SignedByte = 0x91
 
 -- The same, with its sign extended.
 abbrev pub load_signed_row : SignedSize → Row
-load_signed_row size = record { opcode = load_signed_opcode size; dst = used; src = used; offset = used; imm = unused; next = unused }
+load_signed_row size = record { opcode = load_signed_opcode size; dst = Used; src = Used; offset = Used; imm = Unused; next = Unused }
 
 -- MEM in class ST.
 abbrev pub store_immediate_opcode : Size → ℕ
@@ -41,7 +42,7 @@ store_immediate_opcode = sizes 0x62 0x6a 0x72 0x7a
 
 -- imm is stored at dst + offset.
 abbrev pub store_immediate_row : Size → Row
-store_immediate_row size = record { opcode = store_immediate_opcode size; dst = used; src = unused; offset = used; imm = used; next = unused }
+store_immediate_row size = record { opcode = store_immediate_opcode size; dst = Used; src = Unused; offset = Used; imm = Used; next = Unused }
 
 -- MEM in class STX.
 abbrev pub store_register_opcode : Size → ℕ
@@ -49,7 +50,7 @@ store_register_opcode = sizes 0x63 0x6b 0x73 0x7b
 
 -- src is stored at dst + offset.
 abbrev pub store_register_row : Size → Row
-store_register_row size = record { opcode = store_register_opcode size; dst = used; src = used; offset = used; imm = unused; next = unused }
+store_register_row size = record { opcode = store_register_opcode size; dst = Used; src = Used; offset = Used; imm = Unused; next = Unused }
 
 -- ATOMIC in class STX, of 4 and 8 bytes.
 abbrev pub atomic_opcode : Width → ℕ
@@ -71,4 +72,4 @@ atomic_code CompareExchange = 0xf1
 
 -- The operation is on what stands at dst + offset, with src.
 abbrev pub atomic_row : AtomicOp → Width → Row
-atomic_row op width = record { opcode = atomic_opcode width; dst = used; src = used; offset = used; imm = code (atomic_code op); next = unused }
+atomic_row op width = record { opcode = atomic_opcode width; dst = Used; src = Used; offset = Used; imm = Code (atomic_code op); next = Unused }

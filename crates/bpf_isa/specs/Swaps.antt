@@ -4,7 +4,8 @@ use Rattle.bpf_isa.specs.declared.instruction.ByteOrder.{ByteOrder}
 use Rattle.bpf_isa.specs.declared.instruction.ByteOrder.TheVariants.{Little, Big, Swap}
 use Rattle.bpf_isa.specs.declared.instruction.SwapWidth.{SwapWidth}
 use Rattle.bpf_isa.specs.declared.instruction.SwapWidth.TheVariants.{Bits16, Bits32, Bits64}
-use Rattle.bpf_isa.specs.Rows.{unused, code, used, Row}
+use Rattle.bpf_isa.specs.declared.row.Field.TheVariants.{Unused, Code, Used}
+use Rattle.bpf_isa.specs.declared.row.Row.{Row}
 
 -- LE and BE in class ALU, and the unconditional swap in class ALU64.
 abbrev pub swap_opcode : ByteOrder → ℕ
@@ -20,4 +21,4 @@ swap_bits Bits64 = 64
 
 -- A swap uses dst alone.
 abbrev pub swap_row : ByteOrder → SwapWidth → Row
-swap_row order width = record { opcode = swap_opcode order; dst = used; src = unused; offset = unused; imm = code (swap_bits width); next = unused }
+swap_row order width = record { opcode = swap_opcode order; dst = Used; src = Unused; offset = Unused; imm = Code (swap_bits width); next = Unused }

@@ -9,7 +9,8 @@ use Rattle.bpf_isa.specs.declared.instruction.SourceKind.{SourceKind}
 use Rattle.bpf_isa.specs.declared.mnemonic.Mnemonic.{Mnemonic}
 use Rattle.bpf_isa.specs.declared.mnemonic.Mnemonic.TheVariants as mnemonic
 use Rattle.bpf_isa.specs.declared.fields.Fields.{Fields}
-use Rattle.bpf_isa.specs.Rows.{Row, HasCode, IsClear}
+use Rattle.bpf_isa.specs.declared.row.Row.{Row}
+use Rattle.bpf_isa.specs.Rows.{HasCode, IsClear}
 use Rattle.bpf_isa.specs.Arithmetic.{binary_row, negate_row, extension_row}
 use Rattle.bpf_isa.specs.Swaps.{swap_row}
 use Rattle.bpf_isa.specs.Jumps.{jump_row, jump_long_row, condition_row, call_helper_row, call_local_row, exit_row}

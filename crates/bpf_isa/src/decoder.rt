@@ -1,6 +1,4 @@
 //! From words to instructions.
-mod unused;
-
 ghost use Rattle.std.specs.Prelude.{◌≡◌, ◌≤◌, ◌⊎◌, ◌↔◌, IsTrue, IfOk, OnOk, IfErr, Ok, ◌++◌, length, slice_index};
 ghost use Rattle.bpf_isa.specs.Mnemonics.{mnemonic_of, kind_of};
 ghost use Rattle.bpf_isa.specs.Words.{row, row_of, HasRegisters, HasSource, HasParts, IsWord};
@@ -16,7 +14,7 @@ use crate::instruction::{Insn, Source, SourceKind};
 use crate::mnemonic::Mnemonic;
 use crate::opcode::{WIDE_OPCODE, find_mnemonic, source_kind};
 use crate::register::Reg;
-use unused::is_clean;
+use crate::row::Row;
 
 /// The second operand.
 fn source_of(kind: SourceKind, fields: Fields) -> Source
@@ -136,7 +134,7 @@ pub(crate) fn read_insn(bytes: &[u8]) -> Result<Insn, WordFault>
         return Err(WordFault::RegisterAboveTen);
     }
     let insn = insn_of(mnemonic, source, fields);
-    if !is_clean(mnemonic, source, fields) {
+    if !Row::of(mnemonic, source).is_clean(fields) {
         return Err(WordFault::UnusedField);
     }
     Ok(insn)

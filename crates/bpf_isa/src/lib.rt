@@ -12,6 +12,7 @@ mod mnemonic;
 mod opcode;
 mod program;
 mod register;
+mod row;
 mod rules;
 mod words;
 

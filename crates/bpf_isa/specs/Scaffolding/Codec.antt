@@ -1,14 +1,14 @@
 -- Scaffolding: no public contract cites this. The parts of an opcode (RFC 9669, sections 3.1 and 4), and what the decoder and the encoder ask of their own functions.
-use Rattle.std.specs.Prelude.{◌≡◌, ◌<◌, ℕ, ℤ, Bool, true, false, List, All}
-use Rattle.std.specs.Int.{w16, cast_signed}
+use Rattle.std.specs.Prelude.{◌≡◌, ◌<◌, ℕ, List, All}
 use Rattle.bpf_isa.specs.declared.fields.Fields.{Fields}
 use Rattle.bpf_isa.specs.declared.instruction.Width.{Width}
 use Rattle.bpf_isa.specs.declared.instruction.Width.TheVariants.{Bits32, Bits64}
 use Rattle.bpf_isa.specs.declared.instruction.SourceKind.{SourceKind}
 use Rattle.bpf_isa.specs.declared.instruction.SourceKind.TheVariants.{Immediate, Register}
-use Rattle.bpf_isa.specs.declared.decoder.unused.Unused.{Unused}
 use Rattle.bpf_isa.specs.declared.instruction.Insn.{Insn}
-use Rattle.bpf_isa.specs.Rows.{Field, unused, code, used, Row}
+use Rattle.bpf_isa.specs.declared.row.Field.{Field}
+use Rattle.bpf_isa.specs.declared.row.Field.TheVariants.{Unused, Used}
+use Rattle.bpf_isa.specs.declared.row.Row.{Row}
 use Rattle.bpf_isa.specs.Words.{row_of, fields_of, IsClean, HasRegisters, ReadsAs}
 
 -- The source bit: K is 0, X is 1, in the place of 8.
@@ -26,29 +26,22 @@ abbrev pub jump_class_of : Width → ℕ
 jump_class_of Bits32 = 6
 jump_class_of Bits64 = 5
 
--- Whether a field is unused.
-abbrev pub is_unused : Field → Bool
-is_unused unused = true
-is_unused (code k) = false
-is_unused used = false
+-- A field of a word holds the part of the instruction where the row uses it.
+abbrev pub IsKept : Field → ℕ → ℕ → Type 0
+IsKept Used part n = n ≡ part
+IsKept _ part n = Unit {0}
 
--- The unused fields of a row.
-pub record AreUnused (row : Row) (flags : Unused) : Type 0 where
-  pub dst : flags.dst ≡ is_unused row.dst
-  pub src : flags.src ≡ is_unused row.src
-  pub offset : flags.offset ≡ is_unused row.offset
-  pub imm : flags.imm ≡ is_unused row.imm
-  pub next : flags.next ≡ is_unused row.next
+-- The fields that a row uses hold the parts.
+pub record IsLaid (row : Row) (parts fields : Fields) : Type 0 where
+  pub dst : IsKept row.dst parts.dst fields.dst
+  pub src : IsKept row.src parts.src fields.src
+  pub offset : IsKept row.offset parts.offset fields.offset
+  pub imm : IsKept row.imm parts.imm fields.imm
+  pub next : IsKept row.next parts.next fields.next
 
--- The fields of an access by two registers and an offset.
-pub record IsAccess (opcode dst src : ℕ) (offset : ℤ) (fields : Fields) : Type 0 where
-  pub opcode_is : fields.opcode ≡ opcode
-  pub dst_is : fields.dst ≡ dst
-  pub src_is : fields.src ≡ src
-  pub offset_is : cast_signed w16 fields.offset ≡ offset
-  pub imm : fields.imm ≡ 0
-  pub reserved : fields.reserved ≡ 0
-  pub next : fields.next ≡ 0
+-- The row of an access by two registers and an offset.
+abbrev pub access_row : ℕ → Row
+access_row opcode = record { opcode = opcode; dst = Used; src = Used; offset = Used; imm = Unused; next = Unused }
 
 -- What the bytes read as, without fault but that a second slot may be missing.
 pub record IsRead (bytes : List ℕ) (insn : Insn) : Type 0 where

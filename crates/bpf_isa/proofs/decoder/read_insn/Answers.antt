@@ -24,7 +24,7 @@ returns-clause-ok c =
     let i = c.insn_of-insn.result in
     let registers : HasRegisters f = record { dst = omega (arith, c.if-fields-gt10.false); src = omega (arith, c.if-fields-gt10-2.false) } in
     let reads : ReadsAs f i = record { codes = subst (λ r. HasCodes r f) (sym c.insn_of-insn.ensures.row) c.in-Some.ensures.found; parts = c.insn_of-insn.ensures.parts } in
-    let clean : IsClean (row_of i) f = subst (λ r. IsClean r f) (sym c.insn_of-insn.ensures.row) (c.if-not-is_clean.ensures.0 refl) in
+    let clean : IsClean (row_of i) f = subst (λ r. IsClean r f) (c.of.ensures ∙ sym c.insn_of-insn.ensures.row) (c.if-not-is_clean.ensures.0 refl) in
     let same : (other : Insn) → ReadsAs f other → mnemonic_of other ≡ mnemonic_of i = λ other read. same_of _ _ (c.in-Some.ensures.only (mnemonic_of other) (insn_kind other) read.codes) ∙ sym c.insn_of-insn.ensures.mnemonic in
     is_read c.args.bytes.now f i c.read-fields.ensures.value c.read-fields.ensures.within reads clean registers same
 
@@ -34,7 +34,7 @@ returns-clause-only c =
     let i = c.insn_of-insn.result in
     let registers : HasRegisters f = record { dst = omega (arith, c.if-fields-gt10.false); src = omega (arith, c.if-fields-gt10-2.false) } in
     let reads : ReadsAs f i = record { codes = subst (λ r. HasCodes r f) (sym c.insn_of-insn.ensures.row) c.in-Some.ensures.found; parts = c.insn_of-insn.ensures.parts } in
-    let clean : IsClean (row_of i) f = subst (λ r. IsClean r f) (sym c.insn_of-insn.ensures.row) (c.if-not-is_clean.ensures.0 refl) in
+    let clean : IsClean (row_of i) f = subst (λ r. IsClean r f) (c.of.ensures ∙ sym c.insn_of-insn.ensures.row) (c.if-not-is_clean.ensures.0 refl) in
     let same : (other : Insn) → ReadsAs f other → mnemonic_of other ≡ mnemonic_of i = λ other read. same_of _ _ (c.in-Some.ensures.only (mnemonic_of other) (insn_kind other) read.codes) ∙ sym c.insn_of-insn.ensures.mnemonic in
     let read = is_read c.args.bytes.now f i c.read-fields.ensures.value c.read-fields.ensures.within reads clean registers same in
     λ other whole. ok_reading c.args.bytes.now i other read whole

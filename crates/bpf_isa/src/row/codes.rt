@@ -107,7 +107,7 @@ pub fn signed_size_bits(size: SignedSize) -> u8
 }
 
 /// The imm of an atomic operation.
-pub fn atomic_imm(op: AtomicOp) -> u32
+pub fn atomic_imm(op: AtomicOp) -> u8
     ensures { result ≡ atomic_code op }
 {
     match op {

@@ -1,0 +1,310 @@
+//! Rows of the tables (RFC 9669, appendix A): an opcode, and what the other fields of a word hold.
+mod codes;
+
+ghost use Rattle.std.specs.Prelude.{◌≡◌, ◌≤◌, ◌⊎◌, ◌↔◌, IsTrue};
+ghost use Rattle.bpf_isa.specs.Arithmetic.{binary_row, extension_row};
+ghost use Rattle.bpf_isa.specs.Jumps.{condition_row};
+ghost use Rattle.bpf_isa.specs.Memory.{atomic_row};
+ghost use Rattle.bpf_isa.specs.Rows.{HasCode, IsClear};
+ghost use Rattle.bpf_isa.specs.Swaps.{swap_row};
+ghost use Rattle.bpf_isa.specs.WideLoads.{wide_row};
+ghost use Rattle.bpf_isa.specs.Words.{row, HasCodes, IsClean};
+ghost use Rattle.bpf_isa.specs.Scaffolding.Codec.{IsKept, IsLaid, access_row};
+
+use crate::fields::Fields;
+use crate::instruction::{
+    AtomicOp, BinaryOp, ByteOrder, Condition, Extension, SourceKind, SwapWidth, Width,
+};
+use crate::mnemonic::Mnemonic;
+use crate::opcode::WIDE_OPCODE;
+use codes::{
+    arithmetic_bits, atomic_imm, binary_code, condition_code, jump_bits, signed_size_bits,
+    size_bits,
+};
+
+/// What a row says of a field.
+#[derive(Clone, Copy)]
+pub enum Field {
+    /// The instruction doesn't use it: it is zero.
+    Unused,
+    /// It holds a number of the row.
+    Code(u8),
+    /// It holds a part of the instruction.
+    Used,
+}
+
+/// A row of the tables.
+#[derive(Clone, Copy)]
+pub struct Row {
+    pub opcode: u8,
+    pub dst: Field,
+    pub src: Field,
+    pub offset: Field,
+    pub imm: Field,
+    /// The imm of a wide instruction's second slot.
+    pub next: Field,
+}
+
+/// A row that uses no field.
+const NONE: Row = Row {
+    opcode: 0,
+    dst: Field::Unused,
+    src: Field::Unused,
+    offset: Field::Unused,
+    imm: Field::Unused,
+    next: Field::Unused,
+};
+
+impl Field {
+    ghost use Rattle.bpf_isa.specs.Rows.{src_of, imm_of};
+
+    /// What src holds in form K or X.
+    fn src_of(source: SourceKind) -> Field
+        ensures { result ≡ src_of source }
+    {
+        match source {
+            SourceKind::Immediate => Field::Unused,
+            SourceKind::Register => Field::Used,
+        }
+    }
+
+    /// What imm holds in form K or X.
+    fn imm_of(source: SourceKind) -> Field
+        ensures { result ≡ imm_of source }
+    {
+        match source {
+            SourceKind::Immediate => Field::Used,
+            SourceKind::Register => Field::Unused,
+        }
+    }
+
+    /// Whether the field is zero where it is unused.
+    fn is_clear(self, value: u32) -> bool
+        ensures { IsTrue result ↔ IsClear self value }
+    {
+        match self {
+            Field::Unused => value == 0,
+            _ => true,
+        }
+    }
+
+    /// What the field holds: a part of the instruction, unless the row says otherwise.
+    fn laid(self, part: u32) -> u32
+        ensures code { HasCode self result }
+        ensures clear { IsClear self result }
+        ensures kept { IsKept self part result }
+        ensures fits { (result ≤ 255) ⊎ (result ≤ part) }
+    {
+        match self {
+            Field::Unused => 0,
+            Field::Code(code) => u32::from(code),
+            Field::Used => part,
+        }
+    }
+}
+
+/// The row of arithmetic.
+fn binary_row(op: BinaryOp, width: Width, source: SourceKind) -> Row
+    ensures { result ≡ binary_row op width source }
+{
+    let offset = match (op, source) {
+        (BinaryOp::SignedDiv | BinaryOp::SignedMod, _) => Field::Code(1),
+        (BinaryOp::Div | BinaryOp::Mod, _) | (BinaryOp::Mov, SourceKind::Register) => {
+            Field::Code(0)
+        }
+        _ => Field::Unused,
+    };
+    Row {
+        opcode: 16 * binary_code(op) + arithmetic_bits(width, source),
+        dst: Field::Used,
+        src: Field::src_of(source),
+        offset,
+        imm: Field::imm_of(source),
+        ..NONE
+    }
+}
+
+/// The row of an extending move.
+fn extension_row(extension: Extension) -> Row
+    ensures { result ≡ extension_row extension }
+{
+    let (opcode, bits) = match extension {
+        Extension::Byte64 => (0xbf, 8),
+        Extension::Half64 => (0xbf, 16),
+        Extension::Word64 => (0xbf, 32),
+        Extension::Byte32 => (0xbc, 8),
+        Extension::Half32 => (0xbc, 16),
+    };
+    Row {
+        opcode,
+        dst: Field::Used,
+        src: Field::Used,
+        offset: Field::Code(bits),
+        ..NONE
+    }
+}
+
+/// The row of a byte swap.
+fn swap_row(order: ByteOrder, width: SwapWidth) -> Row
+    ensures { result ≡ swap_row order width }
+{
+    let opcode = match order {
+        ByteOrder::Little => 0xd4,
+        ByteOrder::Big => 0xdc,
+        ByteOrder::Swap => 0xd7,
+    };
+    let bits = match width {
+        SwapWidth::Bits16 => 16,
+        SwapWidth::Bits32 => 32,
+        SwapWidth::Bits64 => 64,
+    };
+    Row {
+        opcode,
+        dst: Field::Used,
+        imm: Field::Code(bits),
+        ..NONE
+    }
+}
+
+/// The row of a conditional jump.
+fn condition_row(condition: Condition, width: Width, source: SourceKind) -> Row
+    ensures { result ≡ condition_row condition width source }
+{
+    Row {
+        opcode: 16 * condition_code(condition) + jump_bits(width, source),
+        dst: Field::Used,
+        src: Field::src_of(source),
+        offset: Field::Used,
+        imm: Field::imm_of(source),
+        ..NONE
+    }
+}
+
+/// The row of an access to memory with two registers and an offset.
+fn access_row(opcode: u8) -> Row
+    ensures { result ≡ access_row opcode }
+{
+    Row {
+        opcode,
+        dst: Field::Used,
+        src: Field::Used,
+        offset: Field::Used,
+        ..NONE
+    }
+}
+
+/// The row of an atomic operation.
+fn atomic_row(op: AtomicOp, width: Width) -> Row
+    ensures { result ≡ atomic_row op width }
+{
+    let opcode = match width {
+        Width::Bits32 => 0xc3,
+        Width::Bits64 => 0xdb,
+    };
+    Row {
+        imm: Field::Code(atomic_imm(op)),
+        ..access_row(opcode)
+    }
+}
+
+/// The row of a wide load, of the kind that src tells.
+fn wide_row(src: u8, next: Field) -> Row
+    ensures { result ≡ wide_row src next }
+{
+    Row {
+        opcode: WIDE_OPCODE,
+        dst: Field::Used,
+        src: Field::Code(src),
+        imm: Field::Used,
+        next,
+        ..NONE
+    }
+}
+
+impl Row {
+    /// The row of a mnemonic in form K or X.
+    pub fn of(mnemonic: Mnemonic, source: SourceKind) -> Row
+        ensures { result ≡ row mnemonic source }
+    {
+        match mnemonic {
+            Mnemonic::Binary(op, width) => binary_row(op, width, source),
+            Mnemonic::Negate(width) => Row {
+                opcode: 0x80 + arithmetic_bits(width, SourceKind::Immediate),
+                dst: Field::Used,
+                ..NONE
+            },
+            Mnemonic::SignExtend(extension) => extension_row(extension),
+            Mnemonic::SwapBytes(order, width) => swap_row(order, width),
+            Mnemonic::JumpIf(condition, width) => condition_row(condition, width, source),
+            Mnemonic::Jump => Row {
+                opcode: 0x05,
+                offset: Field::Used,
+                ..NONE
+            },
+            Mnemonic::JumpLong => Row {
+                opcode: 0x06,
+                imm: Field::Used,
+                ..NONE
+            },
+            Mnemonic::CallHelper => Row {
+                opcode: 0x85,
+                src: Field::Code(0),
+                imm: Field::Used,
+                ..NONE
+            },
+            Mnemonic::CallLocal => Row {
+                opcode: 0x85,
+                src: Field::Code(1),
+                imm: Field::Used,
+                ..NONE
+            },
+            Mnemonic::Exit => Row {
+                opcode: 0x95,
+                ..NONE
+            },
+            Mnemonic::Load(size) => access_row(size_bits(size) + 1),
+            Mnemonic::LoadSigned(size) => access_row(signed_size_bits(size) + 1),
+            Mnemonic::StoreImmediate(size) => Row {
+                opcode: size_bits(size) + 2,
+                dst: Field::Used,
+                offset: Field::Used,
+                imm: Field::Used,
+                ..NONE
+            },
+            Mnemonic::StoreRegister(size) => access_row(size_bits(size) + 3),
+            Mnemonic::Atomic(op, width) => atomic_row(op, width),
+            Mnemonic::LoadNumber => wide_row(0, Field::Used),
+            Mnemonic::LoadMap => wide_row(5, Field::Unused),
+            Mnemonic::LoadMapValue => wide_row(6, Field::Used),
+        }
+    }
+
+    /// Whether the fields that it doesn't use are zero.
+    pub fn is_clean(self, fields: Fields) -> bool
+        ensures { IsTrue result ↔ IsClean self fields }
+    {
+        self.dst.is_clear(u32::from(fields.dst))
+            && self.src.is_clear(u32::from(fields.src))
+            && self.offset.is_clear(u32::from(fields.offset))
+            && self.imm.is_clear(fields.imm)
+            && self.next.is_clear(fields.next)
+            && fields.reserved == 0
+    }
+
+    /// The fields of a word with the parts of an instruction: its codes are laid over them.
+    pub fn laid(self, parts: Fields) -> Fields
+        ensures codes { HasCodes self result }
+        ensures clean { IsClean self result }
+        ensures parts { IsLaid self parts result }
+    {
+        Fields {
+            opcode: self.opcode,
+            dst: self.dst.laid(u32::from(parts.dst)) as u8,
+            src: self.src.laid(u32::from(parts.src)) as u8,
+            offset: self.offset.laid(u32::from(parts.offset)) as u16,
+            imm: self.imm.laid(parts.imm),
+            reserved: 0,
+            next: self.next.laid(parts.next),
+        }
+    }
+}
