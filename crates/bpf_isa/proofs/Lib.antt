@@ -5,3 +5,4 @@ pub mod KeptInsns
 pub mod Accepted
 pub mod MapLists
 pub mod SplitTurns
+pub mod Pieces

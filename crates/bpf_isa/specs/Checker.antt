@@ -1,5 +1,6 @@
 -- The checker: which bytes are a program. What RFC 9669 leaves to a platform (helpers, maps, r10) is bpfdb's own choice.
-use Rattle.std.specs.Prelude.{◌≡◌, ◌≢◌, ◌<◌, ◌≤◌, ◌⊎◌, ℕ, zero, suc, ℤ, pos, negsuc, ◌+◌, ◌*◌, ◌%◌, Bool, true, not, ◌&&◌, ◌==◌, if◌then◌else◌, IsTrue, List, Some, IfSome, MatchOption, length, take, drop, slice_index, slice_get}
+use Rattle.std.specs.Prelude.{◌≡◌, ◌≢◌, ◌<◌, ◌≤◌, ◌⊎◌, ℕ, zero, suc, ℤ, pos, negsuc, ◌+◌, ◌*◌, ◌/◌, ◌%◌, Bool, true, not, ◌&&◌, ◌==◌, if◌then◌else◌, IsTrue, List, Some, IfSome, MatchOption, length, map, take, drop, slice_index, slice_get}
+use Rattle.std.specs.List.{concat, filter, range_with_len}
 use Rattle.bpf_isa.specs.declared.instruction.Insn.{Insn}
 use Rattle.bpf_isa.specs.declared.instruction.Insn.TheVariants.{CallHelper, LoadMap, LoadMapValue}
 use Rattle.bpf_isa.specs.declared.maps.MapShape.{MapShape}
@@ -29,6 +30,14 @@ IsStartIn bytes p = (8 * p < length bytes) × IsTrue (is_start bytes p)
 -- The bytes of the piece at a slot: two slots after the wide opcode, as far as they are there, else one.
 abbrev pub piece_at : List ℕ → ℕ → List ℕ
 piece_at bytes p = take (if is_wide_at bytes p then 16 else 8) (drop (8 * p) bytes)
+
+-- The starts, in order.
+abbrev pub starts_of : List ℕ → List ℕ
+starts_of bytes = filter (is_start bytes) (range_with_len 0 (length bytes / 8))
+
+-- The pieces at the starts, put together in order, are the bytes: the cut loses none and takes none twice.
+abbrev pub PiecesAreTheBytes : Type 0
+PiecesAreTheBytes = (bytes : List ℕ) → length bytes % 8 ≡ 0 → concat (map (piece_at bytes) (starts_of bytes)) ≡ bytes
 
 -- The slot after a piece.
 abbrev pub after : List ℕ → ℕ → ℕ

@@ -7,6 +7,7 @@ mod encoder;
 mod fault;
 mod fields;
 mod instruction;
+mod laws;
 mod maps;
 mod mnemonic;
 mod opcode;
@@ -23,11 +24,12 @@ pub use instruction::{
     AtomicOp, BinaryOp, ByteOrder, Condition, Extension, Insn, SignedSize, Size, Source, SwapWidth,
     Width,
 };
+pub use laws::{cut_into_pieces, one_spelling};
 pub use maps::{MapShape, MapTable};
 pub use mnemonic::Mnemonic;
 pub use program::{Program, check};
 pub use register::Reg;
-pub use words::{Words, one_spelling};
+pub use words::Words;
 
 #[cfg(test)]
 mod tests;

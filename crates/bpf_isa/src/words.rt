@@ -1,6 +1,6 @@
 //! The bytes of a word.
 ghost use Rattle.std.specs.Prelude.{◌≡◌, ◌<◌, All, ℕ};
-ghost use Rattle.bpf_isa.specs.Words.{fields_of, HaveOneWord, NoneBeginsAnother};
+ghost use Rattle.bpf_isa.specs.Words.{fields_of};
 
 use crate::fields::{Fields, written};
 use crate::opcode::WIDE_OPCODE;
@@ -51,10 +51,3 @@ impl Words {
         }
     }
 }
-
-/// An instruction has one spelling, and a text of words can be cut in one way alone.
-#[tactic(none)]
-pub fn one_spelling()
-    ensures only { HaveOneWord }
-    ensures within { NoneBeginsAnother }
-{}

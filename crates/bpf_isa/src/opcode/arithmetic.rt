@@ -9,7 +9,7 @@ use crate::mnemonic::Mnemonic;
 
 /// DIV and SDIV, told apart by the offset.
 fn division_mnemonic(fields: Fields, width: Width, source: SourceKind) -> Option<Mnemonic>
-    requires { fields.opcode ≡ 48 + source_bit_of source + class_of width }
+    requires { fields.opcode ≡ 0x30 + source_bit_of source + class_of width }
     ensures found { IfSome result (λ mnemonic. HasCodes (row mnemonic source) fields) }
     ensures only { (mnemonic : Mnemonic) (kind : SourceKind) → HasCodes (row mnemonic kind) fields
         → result ≡ Some mnemonic }
@@ -24,7 +24,7 @@ fn division_mnemonic(fields: Fields, width: Width, source: SourceKind) -> Option
 
 /// MOD and SMOD, told apart by the offset.
 fn modulo_mnemonic(fields: Fields, width: Width, source: SourceKind) -> Option<Mnemonic>
-    requires { fields.opcode ≡ 144 + source_bit_of source + class_of width }
+    requires { fields.opcode ≡ 0x90 + source_bit_of source + class_of width }
     ensures found { IfSome result (λ mnemonic. HasCodes (row mnemonic source) fields) }
     ensures only { (mnemonic : Mnemonic) (kind : SourceKind) → HasCodes (row mnemonic kind) fields
         → result ≡ Some mnemonic }
@@ -39,7 +39,7 @@ fn modulo_mnemonic(fields: Fields, width: Width, source: SourceKind) -> Option<M
 
 /// NEG, which has no form X.
 fn negate_mnemonic(fields: Fields, width: Width, source: SourceKind) -> Option<Mnemonic>
-    requires { fields.opcode ≡ 128 + source_bit_of source + class_of width }
+    requires { fields.opcode ≡ 0x80 + source_bit_of source + class_of width }
     ensures found { IfSome result (λ mnemonic. HasCodes (row mnemonic source) fields) }
     ensures only { (mnemonic : Mnemonic) (kind : SourceKind) → HasCodes (row mnemonic kind) fields
         → result ≡ Some mnemonic }
@@ -52,7 +52,7 @@ fn negate_mnemonic(fields: Fields, width: Width, source: SourceKind) -> Option<M
 
 /// MOV and MOVSX, told apart by the offset in form X.
 fn move_mnemonic(fields: Fields, width: Width, source: SourceKind) -> Option<Mnemonic>
-    requires { fields.opcode ≡ 176 + source_bit_of source + class_of width }
+    requires { fields.opcode ≡ 0xb0 + source_bit_of source + class_of width }
     ensures found { IfSome result (λ mnemonic. HasCodes (row mnemonic source) fields) }
     ensures only { (mnemonic : Mnemonic) (kind : SourceKind) → HasCodes (row mnemonic kind) fields
         → result ≡ Some mnemonic }
@@ -73,7 +73,7 @@ fn move_mnemonic(fields: Fields, width: Width, source: SourceKind) -> Option<Mne
 
 /// END: byte swaps, whose width is imm.
 fn swap_mnemonic(fields: Fields, width: Width, source: SourceKind) -> Option<Mnemonic>
-    requires { fields.opcode ≡ 208 + source_bit_of source + class_of width }
+    requires { fields.opcode ≡ 0xd0 + source_bit_of source + class_of width }
     ensures found { IfSome result (λ mnemonic. HasCodes (row mnemonic source) fields) }
     ensures only { (mnemonic : Mnemonic) (kind : SourceKind) → HasCodes (row mnemonic kind) fields
         → result ≡ Some mnemonic }

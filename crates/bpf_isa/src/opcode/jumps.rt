@@ -23,7 +23,7 @@ fn always_mnemonic(fields: Fields, width: Width, source: SourceKind) -> Option<M
 
 /// CALL, of a helper or of a local function by the source register.
 fn call_mnemonic(fields: Fields, width: Width, source: SourceKind) -> Option<Mnemonic>
-    requires { fields.opcode ≡ 128 + source_bit_of source + jump_class_of width }
+    requires { fields.opcode ≡ 0x80 + source_bit_of source + jump_class_of width }
     ensures found { IfSome result (λ mnemonic. HasCodes (row mnemonic source) fields) }
     ensures only { (mnemonic : Mnemonic) (kind : SourceKind) → HasCodes (row mnemonic kind) fields
         → result ≡ Some mnemonic }
@@ -37,7 +37,7 @@ fn call_mnemonic(fields: Fields, width: Width, source: SourceKind) -> Option<Mne
 
 /// EXIT.
 fn exit_mnemonic(fields: Fields, width: Width, source: SourceKind) -> Option<Mnemonic>
-    requires { fields.opcode ≡ 144 + source_bit_of source + jump_class_of width }
+    requires { fields.opcode ≡ 0x90 + source_bit_of source + jump_class_of width }
     ensures found { IfSome result (λ mnemonic. HasCodes (row mnemonic source) fields) }
     ensures only { (mnemonic : Mnemonic) (kind : SourceKind) → HasCodes (row mnemonic kind) fields
         → result ≡ Some mnemonic }

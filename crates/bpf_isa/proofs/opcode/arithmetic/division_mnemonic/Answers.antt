@@ -9,7 +9,7 @@ use Rattle.bpf_isa.specs.Scaffolding.Codec.{source_bit_of, class_of}
 use Rattle.bpf_isa.specs.Words.{row, HasCodes}
 use Rattle.bpf_isa.proofs.opcode.arithmetic.division_mnemonic.Goals as goal
 
-is_division : (mnemonic : Mnemonic) (kind : SourceKind) (fields : Fields) (width : Width) (source : SourceKind) → fields.opcode ≡ 48 + source_bit_of source + class_of width → fields.offset ≡ 0 → HasCodes (row mnemonic kind) fields → Some (Binary Div width) ≡ Some mnemonic
+is_division : (mnemonic : Mnemonic) (kind : SourceKind) (fields : Fields) (width : Width) (source : SourceKind) → fields.opcode ≡ 0x30 + source_bit_of source + class_of width → fields.offset ≡ 0 → HasCodes (row mnemonic kind) fields → Some (Binary Div width) ≡ Some mnemonic
 is_division mnemonic kind fields width source opcode offset codes = grind arith
 
 pub returns-in-0-clause-only : goal.returns-in-0-clause-only

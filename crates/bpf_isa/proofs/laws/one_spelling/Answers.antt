@@ -1,5 +1,5 @@
 use Rattle.bpf_isa.proofs.Spelling.{one_word, none_begins}
-use Rattle.bpf_isa.proofs.words.one_spelling.Goals as goal
+use Rattle.bpf_isa.proofs.laws.one_spelling.Goals as goal
 
 pub returns-clause-only : goal.returns-clause-only
 returns-clause-only c = one_word
