@@ -12,6 +12,7 @@ use Rattle.bpf_isa.specs.declared.instruction.Insn.TheVariants as insn
 use Rattle.bpf_isa.specs.Programs.{target_of, slots_of}
 use Rattle.bpf_isa.specs.Words.{IsWord}
 use Rattle.bpf_text.specs.Operands.{text_of_insn, label_text}
+use Rattle.bpf_text.specs.Lines.{read_line}
 use Rattle.bpf_text.specs.Listing.{Labels, labels_with, slot_after, line_end, first_round, second_round, resolved, with_target, with_distance, fits_offset, AreBytes}
 use Rattle.bpf_text.proofs.InsnTexts.{InsnFits, TargetFits, unplaced, target_text}
 use Rattle.bpf_text.proofs.LineTexts.{Reads-insn, Reads-label}
@@ -57,18 +58,18 @@ slots_of-unplaced i = refl
 
 -- the first round at an instruction's line
 line_end-insn : (labels : Labels) (p : ℕ) (i : Insn) → InsnFits i → TargetFits (target_of p i) → p + slots_of i ≤ 65535
-    → line_end labels p (text_of_insn p i) ≡ Ok (p + slots_of i)
+    → line_end labels p (read_line (text_of_insn p i)) ≡ Ok (p + slots_of i)
 line_end-insn labels p i fits t room =
     let read = Reads-insn p i fits t in
     let within : nat_le (p + slots_of i) 65535 ≡ true = grind (arith, nat_tests) in
-    rw (read.clean, read.label, read.insn, slots_of-unplaced i, within) refl
+    rw (read.says, slots_of-unplaced i, within) refl
 
 -- the first round at a label's line
 line_end-label : (labels : Labels) (p : ℕ) → p ≤ 65535 → labels (label_text p) ≡ None
-    → line_end labels p (label_text p ++ codes ":") ≡ Ok p
+    → line_end labels p (read_line (label_text p ++ codes ":")) ≡ Ok p
 line_end-label labels p h none =
     let read = Reads-label p (omega arith) in
-    rw (read.clean, read.label, none, read.insn) refl
+    rw (read.says, none) refl
 
 -- a label differs from those of other slots
 label-other : (p q : ℕ) → p ≤ 65535 → q ≤ 65535 → (p ≡ q → ⊥) → bytes_eq (label_text p) (label_text q) ≡ false
@@ -95,13 +96,13 @@ first_round-slot : (b : Bool) (labels : Labels) (p line_number next : ℕ) (i : 
     → first_round labels p line_number (slot_list b p (Some i) ++ tail) ≡ result
 first_round-slot false labels p line_number next i tail result h fresh fits t room e follows =
     let read = Reads-insn p i fits t in
-    rw (line_end-insn labels p i fits t room, read.label, ← e) (follows (line_number + 1))
+    rw (line_end-insn labels p i fits t room, read.says, ← e) (follows (line_number + 1))
 first_round-slot true labels p line_number next i tail result h fresh fits t room e follows =
     let named = Reads-label p (omega arith) in
     let read = Reads-insn p i fits t in
     let here = line_end-label labels p h (fresh p (omega arith) h) in
     let there = line_end-insn (labels_with labels p (Some (label_text p))) p i fits t room in
-    rw (here, named.label, there, read.label, ← e) (follows (line_number + 1 + 1))
+    rw (here, named.says, there, read.says, ← e) (follows (line_number + 1 + 1))
 
 pub first_round-canonical : (f : ℕ → Bool) (labels : Labels) (p line_number : ℕ) (rest : List (Option Insn))
     → p + length rest ≤ 65535 → AllFit p rest → WellCut p rest → Fresh labels p
@@ -170,13 +171,13 @@ fits-offset (negsuc n) fits = let h : n < 32768 = fits.sfits in grind (arith, na
 
 -- the label of a target is found
 with_target-at : (labels : Labels) (p : ℕ) (i : Insn) (z : ℤ) → Reaches labels (Some z)
-    → with_target labels p (Ok (Some i)) (target_text (Some z)) ≡ with_distance i (z -ℤ pos (p + 1))
+    → with_target labels p i (target_text (Some z)) ≡ with_distance i (z -ℤ pos (p + 1))
 with_target-at labels p i (pos t) reach = rw reach.1 refl
 with_target-at labels p i (negsuc n) reach = absurd reach
 
 -- an instruction gets its target back
 with_target-canonical : (labels : Labels) (p : ℕ) (i : Insn) → InsnFits i → Reaches labels (target_of p i)
-    → with_target labels p (Ok (Some (unplaced i))) (target_text (target_of p i)) ≡ Ok (Some i)
+    → with_target labels p (unplaced i) (target_text (target_of p i)) ≡ Ok (Some i)
 with_target-canonical labels p (insn.JumpIf c width dst s o) fits reach =
     with_target-at labels p (insn.JumpIf c width dst s (pos 0)) (pos (p + 1) +ℤ o) reach
     ∙ rw (distance-back p o, fits-offset o fits.2) refl
@@ -196,13 +197,13 @@ reaches-fits labels (Some (negsuc n)) reach = absurd reach
 
 -- the second round at an instruction's line, and at a label's
 resolved-insn : (labels : Labels) (p : ℕ) (i : Insn) → InsnFits i → Reaches labels (target_of p i)
-    → resolved labels p (text_of_insn p i) ≡ Ok (Some i)
+    → resolved labels p (read_line (text_of_insn p i)) ≡ Ok (Some i)
 resolved-insn labels p i fits reach =
     let read = Reads-insn p i fits (reaches-fits labels (target_of p i) reach) in
-    rw (read.insn, read.target) (with_target-canonical labels p i fits reach)
+    rw read.says (with_target-canonical labels p i fits reach)
 
-resolved-label : (labels : Labels) (p : ℕ) → p ≤ 65535 → resolved labels p (label_text p ++ codes ":") ≡ Ok None
-resolved-label labels p h = let read = Reads-label p (omega arith) in rw read.insn refl
+resolved-label : (labels : Labels) (p : ℕ) → p ≤ 65535 → resolved labels p (read_line (label_text p ++ codes ":")) ≡ Ok None
+resolved-label labels p h = let read = Reads-label p (omega arith) in rw read.says refl
 
 slot_after-insn : (p : ℕ) (i : Insn) → p + slots_of i ≤ 65535 → slot_after p (Ok (Some i)) ≡ Ok (p + slots_of i)
 slot_after-insn p i room = let within : nat_le (p + slots_of i) 65535 ≡ true = grind (arith, nat_tests) in rw within refl

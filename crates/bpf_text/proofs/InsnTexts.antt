@@ -1,5 +1,5 @@
 -- The canonical operands of an instruction are read back.
-use Rattle.std.proofs.Common.{ℕ, ℤ, pos, negsuc, zero, suc, ◌≡◌, ◌<◌, ◌≤◌, ◌+◌, ◌+ℤ◌, ◌^◌, ◌==◌, Bool, true, false, List, [], ◌∷◌, ◌++◌, length, refl, ap, ◌∙◌, arith, codes, Option, Some, None, Ok, w16, w32, SFits, decimal, if◌then◌else◌, ◌/◌, ◌%◌}
+use Rattle.std.proofs.Common.{ℕ, ℤ, pos, negsuc, zero, suc, ◌≡◌, ◌<◌, ◌≤◌, ◌+◌, ◌+ℤ◌, ◌^◌, ◌==◌, Bool, true, false, List, [], ◌∷◌, ◌++◌, length, refl, arith, codes, Option, Some, None, Ok, w16, w32, SFits, decimal, if◌then◌else◌, ◌/◌, ◌%◌}
 use Rattle.std.specs.Fmt.{digits, digits_onto, digit_glyph}
 use Rattle.std.proofs.lemmas.Fmt.{decimal_nonempty}
 use Rattle.std.proofs.lemmas.Bool.Decides.{nat_tests}
@@ -12,13 +12,22 @@ use Rattle.bpf_text.specs.declared.operand.Operand.{Operand}
 use Rattle.bpf_text.specs.declared.operand.Operand.TheVariants.{Register, Signed, Unsigned, Hexadecimal, Memory, Target}
 use Rattle.bpf_text.specs.declared.operand.Operands.{Operands}
 use Rattle.bpf_text.specs.declared.operand.Operands.TheVariants.{Nothing, One, Two, Three}
+use Rattle.bpf_text.specs.declared.term.OperandForm.{OperandForm}
+use Rattle.bpf_text.specs.declared.term.OperandForm.TheVariants as form
+use Rattle.bpf_text.specs.declared.term.OperandForms.{OperandForms}
+use Rattle.bpf_text.specs.declared.term.OperandForms.TheVariants as forms
+use Rattle.bpf_text.specs.declared.term.Term.{Term}
+use Rattle.bpf_text.specs.declared.term.Term.TheVariants as term
+use Rattle.bpf_text.specs.declared.term.Terms.{Terms}
+use Rattle.bpf_text.specs.declared.statement.Statement.{Statement}
 use Rattle.bpf_text.specs.Cuts.{first_operand, other_operands}
 use Rattle.bpf_text.specs.Mnemonics.{mnemonic_of}
-use Rattle.bpf_text.specs.Operands.{operand_text, operands_of, operand_of, register_text, target_operand, IsSlot}
-use Rattle.bpf_text.specs.Tokens.{Reading, register, source, memory, name, immediate, unsigned, wide}
-use Rattle.bpf_text.specs.Statements.{two, instruction, target_name}
+use Rattle.bpf_text.specs.Operands.{operand_text, operands_of, operand_of, register_text, label_text, target_operand, IsSlot}
+use Rattle.bpf_text.specs.Tokens.{number_of}
+use Rattle.bpf_text.specs.Terms.{term_of, terms_of, one, two, three, source_in, name_in, target_in}
+use Rattle.bpf_text.specs.Statements.{forms_of, insn_with, of_mnemonic}
 use Rattle.bpf_text.proofs.PlainTexts.{is_plain, are_plain, plain-comma, before_first-at, after_first-at, trim-plain, list_all-append, are_plain-decimal, Snug, Snug-plain, Snug-append, Snug-trim-blank}
-use Rattle.bpf_text.proofs.TokenTexts.{register-text, unsigned-decimal, immediate-signed, wide-hexadecimal, name-label, source-text, SourceFits, memory-text}
+use Rattle.bpf_text.proofs.TokenTexts.{SourceFits, number_from, register-text, natural-decimal, signed-signed, signed-hexadecimal, register-signed, memory-text, name-label, unsigned-fits, immediate-fits, wide-fits, offset-fits}
 
 -- operands, each after a comma and a blank
 abbrev pub joined : List ℕ → List ℕ → List ℕ
@@ -32,11 +41,6 @@ first_operand-at a b p =
 other_operands-at : (a b : List ℕ) → are_plain a ≡ true → Snug b → other_operands (joined a b) ≡ b
 other_operands-at a b p t =
     rw (after_first-at (λ x. x == 44) is_plain a 44 (32 ∷ b) plain-comma refl p) (Snug-trim-blank b t)
-
--- two operands are read
-two-at : {A B : Type 0} (first : List ℕ → Reading A) (second : List ℕ → Reading B) (a b : List ℕ) (x : A) (y : B)
-    → are_plain a ≡ true → Snug b → first a ≡ Ok x → second b ≡ Ok y → two first second (joined a b) ≡ Ok (x, y)
-two-at first second a b x y p t e f = rw (first_operand-at a b p, other_operands-at a b p t, e, f) refl
 
 -- an operand in its range
 abbrev pub OperandFits : Operand → Type 0
@@ -137,94 +141,188 @@ pub target-fits : (z : ℤ) → IsSlot z → OperandFits (target_operand z)
 target-fits (pos p) h = h
 target-fits (negsuc n) h = absurd h
 
-name-target : (z : ℤ) → IsSlot z → name (operand_text (target_operand z)) ≡ Ok tt
-name-target (pos p) h = name-label p (omega arith)
-name-target (negsuc n) h = absurd h
-
 pub snug-operand : (o : Operand) → OperandFits o → Snug (operand_text o)
 snug-operand o fits = let p = plain-operand o fits in Snug-plain (operand_text o) p.1 p.0
 
 pub snug-joined : (a b : Operand) → OperandFits a → OperandFits b → Snug (joined (operand_text a) (operand_text b))
 snug-joined a b p q = Snug-append (operand_text a) (44 ∷ 32 ∷ []) (operand_text b) (snug-operand a p) (snug-operand b q)
 
--- two operands of an instruction
-pub two-operands : {A B : Type 0} (first : List ℕ → Reading A) (second : List ℕ → Reading B) (a b : Operand) (x : A) (y : B)
-    → OperandFits a → OperandFits b → first (operand_text a) ≡ Ok x → second (operand_text b) ≡ Ok y
-    → two first second (joined (operand_text a) (operand_text b)) ≡ Ok (x, y)
-two-operands first second a b x y p q e f =
-    two-at first second (operand_text a) (operand_text b) x y (plain-operand a p).0 (snug-operand b q) e f
+-- operands in their ranges
+abbrev pub OperandsFit : Operands → Type 0
+OperandsFit Nothing = Unit {0}
+OperandsFit (One a) = OperandFits a
+OperandsFit (Two a b) = OperandFits a × OperandFits b
+OperandsFit (Three a b c) = OperandFits a × OperandFits b × OperandFits c
 
--- three operands of an instruction
-pub three-operands : {A B C : Type 0} (first : List ℕ → Reading A) (second : List ℕ → Reading B) (third : List ℕ → Reading C)
-    (a b c : Operand) (x : A) (y : B) (z : C) → OperandFits a → OperandFits b → OperandFits c
-    → first (operand_text a) ≡ Ok x → second (operand_text b) ≡ Ok y → third (operand_text c) ≡ Ok z
-    → two first (two second third) (joined (operand_text a) (joined (operand_text b) (operand_text c))) ≡ Ok (x, (y, z))
-three-operands first second third a b c x y z p q r e f g =
-    two-at first (two second third) (operand_text a) (joined (operand_text b) (operand_text c)) x (y, z) (plain-operand a p).0
-    (snug-joined b c q r) e (two-operands second third b c y z q r f g)
+-- the forms in which an operand is written
+abbrev pub HasForm : OperandForm → Operand → Type 0
+HasForm form.Register (Register r) = Unit {0}
+HasForm form.Unsigned (Unsigned n) = Unit {0}
+HasForm form.Signed (Signed z) = Unit {0}
+HasForm form.Signed (Hexadecimal n) = Unit {0}
+HasForm form.Source (Register r) = Unit {0}
+HasForm form.Source (Signed z) = Unit {0}
+HasForm form.Memory (Memory r o) = Unit {0}
+HasForm form.Name (Target p) = Unit {0}
+HasForm f o = ⊥
 
--- each instruction is read back from its canonical operands
-pub instruction-text : (p : ℕ) (i : Insn) → InsnFits i → TargetFits (target_of p i)
-    → instruction (mnemonic_of i) (operands_of_text (operands_of p i)) ≡ Ok (unplaced i)
-instruction-text p (insn.Binary op width dst s) fits t =
-    rw (two-operands register source (Register dst) (operand_of s) dst s fits.0 (source-fits s fits.1)
-    (register-text dst fits.0) (source-text s fits.1)) refl
-instruction-text p (insn.Negate width dst) fits t = rw (register-text dst fits) refl
-instruction-text p (insn.SignExtend e dst src) fits t =
-    rw (two-operands register register (Register dst) (Register src) dst src fits.0 fits.1
-    (register-text dst fits.0) (register-text src fits.1)) refl
-instruction-text p (insn.SwapBytes order width dst) fits t = rw (register-text dst fits) refl
-instruction-text p (insn.JumpIf c width dst s o) fits t =
-    let target = target_operand (pos (p + 1) +ℤ o) in
-    rw (three-operands register source name (Register dst) (operand_of s) target dst s tt fits.0 (source-fits s fits.1)
-    (target-fits (pos (p + 1) +ℤ o) t) (register-text dst fits.0) (source-text s fits.1) (name-target (pos (p + 1) +ℤ o) t)) refl
-instruction-text p (insn.Jump o) fits t = rw (name-target (pos (p + 1) +ℤ o) t) refl
-instruction-text p (insn.JumpLong d) fits t = rw (name-target (pos (p + 1) +ℤ d) t) refl
-instruction-text p (insn.CallHelper h) fits t = rw (unsigned-decimal h fits) refl
-instruction-text p (insn.CallLocal d) fits t = rw (name-target (pos (p + 1) +ℤ d) t) refl
-instruction-text p insn.Exit fits t = refl
-instruction-text p (insn.Load size dst src o) fits t =
-    rw (two-operands register memory (Register dst) (Memory src o) dst (src, o) fits.0 (fits.1, fits.2)
-    (register-text dst fits.0) (memory-text src o fits.1 fits.2)) refl
-instruction-text p (insn.LoadSigned size dst src o) fits t =
-    rw (two-operands register memory (Register dst) (Memory src o) dst (src, o) fits.0 (fits.1, fits.2)
-    (register-text dst fits.0) (memory-text src o fits.1 fits.2)) refl
-instruction-text p (insn.StoreImmediate size dst o value) fits t =
-    rw (two-operands memory immediate (Memory dst o) (Signed value) (dst, o) value (fits.0, fits.1) fits.2
-    (memory-text dst o fits.0 fits.1) (immediate-signed value fits.2)) refl
-instruction-text p (insn.StoreRegister size dst src o) fits t =
-    rw (two-operands memory register (Memory dst o) (Register src) (dst, o) src (fits.0, fits.2) fits.1
-    (memory-text dst o fits.0 fits.2) (register-text src fits.1)) refl
-instruction-text p (insn.Atomic op width dst src o) fits t =
-    rw (two-operands memory register (Memory dst o) (Register src) (dst, o) src (fits.0, fits.2) fits.1
-    (memory-text dst o fits.0 fits.2) (register-text src fits.1)) refl
-instruction-text p (insn.LoadNumber dst value) fits t =
-    rw (two-operands register wide (Register dst) (Hexadecimal value) dst value fits.0 fits.1
-    (register-text dst fits.0) (wide-hexadecimal value fits.1)) refl
-instruction-text p (insn.LoadMap dst m) fits t =
-    rw (two-operands register unsigned (Register dst) (Unsigned m) dst m fits.0 fits.1
-    (register-text dst fits.0) (unsigned-decimal m fits.1)) refl
-instruction-text p (insn.LoadMapValue dst m o) fits t =
-    rw (three-operands register unsigned unsigned (Register dst) (Unsigned m) (Unsigned o) dst m o fits.0 fits.1 fits.2
-    (register-text dst fits.0) (unsigned-decimal m fits.1) (unsigned-decimal o fits.2)) refl
+abbrev pub HaveForms : OperandForms → Operands → Type 0
+HaveForms forms.Nothing Nothing = Unit {0}
+HaveForms (forms.One f) (One a) = HasForm f a
+HaveForms (forms.Two f g) (Two a b) = HasForm f a × HasForm g b
+HaveForms (forms.Three f g h) (Three a b c) = HasForm f a × HasForm g b × HasForm h c
+HaveForms fs os = ⊥
+
+-- what is read of an operand's canonical text
+abbrev pub term_from : Operand → Term
+term_from (Register r) = term.Register r
+term_from (Signed z) = term.Number (number_from z)
+term_from (Unsigned n) = term.Number (number_of false n)
+term_from (Hexadecimal n) = term.Number (number_of false n)
+term_from (Memory r o) = term.Memory r (number_from o)
+term_from (Target p) = term.Name (label_text p)
+
+abbrev pub terms_from : Operands → Terms
+terms_from Nothing = one term.Absent
+terms_from (One a) = one (term_from a)
+terms_from (Two a b) = two (term_from a) (term_from b)
+terms_from (Three a b c) = three (term_from a) (term_from b) (term_from c)
+
+-- an operand is read back
+pub term-text : (f : OperandForm) (o : Operand) → OperandFits o → HasForm f o → term_of f (operand_text o) ≡ Some (term_from o)
+term-text form.Register (Register r) fits h = rw (register-text r fits) refl
+term-text form.Unsigned (Unsigned n) fits h = rw (natural-decimal n (omega arith)) refl
+term-text form.Signed (Signed z) fits h = rw (signed-signed z fits) refl
+term-text form.Signed (Hexadecimal n) fits h = rw (signed-hexadecimal n fits) refl
+term-text form.Source (Register r) fits h = rw (register-text r fits) refl
+term-text form.Source (Signed z) fits h = rw (register-signed z fits, signed-signed z fits) refl
+term-text form.Memory (Memory r o) fits h = memory-text r o fits.0 fits.1
+term-text form.Name (Target p) fits h = rw (name-label p (omega arith)) refl
+term-text f o fits h = absurd h
+
+-- operands are read back
+pub terms-text : (fs : OperandForms) (os : Operands) → OperandsFit os → HaveForms fs os
+    → terms_of fs (operands_of_text os) ≡ Some (terms_from os)
+terms-text forms.Nothing Nothing fits h = refl
+terms-text (forms.One f) (One a) fits h = rw (term-text f a fits h) refl
+terms-text (forms.Two f g) (Two a b) fits h =
+    let p = (plain-operand a fits.0).0 in
+    rw (
+      first_operand-at (operand_text a) (operand_text b) p,
+      other_operands-at (operand_text a) (operand_text b) p (snug-operand b fits.1),
+      term-text f a fits.0 h.0,
+      term-text g b fits.1 h.1,
+    ) refl
+terms-text (forms.Three f g k) (Three a b c) fits h =
+    let p = (plain-operand a fits.0).0 in
+    let q = (plain-operand b fits.1).0 in
+    let rest = joined (operand_text b) (operand_text c) in
+    rw (
+      first_operand-at (operand_text a) rest p,
+      other_operands-at (operand_text a) rest p (snug-joined b c fits.1 fits.2),
+      first_operand-at (operand_text b) (operand_text c) q,
+      other_operands-at (operand_text b) (operand_text c) q (snug-operand c fits.2),
+      term-text f a fits.0 h.0,
+      term-text g b fits.1 h.1,
+      term-text k c fits.2 h.2,
+    ) refl
+terms-text fs os fits h = absurd h
+
+-- the operands of an instruction are in the forms of its mnemonic
+source-form : (s : Source) → HasForm form.Source (operand_of s)
+source-form (source_is.Immediate value) = tt
+source-form (source_is.Register r) = tt
+
+target-form : (z : ℤ) → HasForm form.Name (target_operand z)
+target-form (pos p) = tt
+target-form (negsuc n) = tt
+
+pub insn-forms : (p : ℕ) (i : Insn) → HaveForms (forms_of (mnemonic_of i)) (operands_of p i)
+insn-forms p (insn.Binary op width dst s) = (tt, source-form s)
+insn-forms p (insn.JumpIf c width dst s o) = (tt, source-form s, target-form (pos (p + 1) +ℤ o))
+insn-forms p (insn.Jump o) = target-form (pos (p + 1) +ℤ o)
+insn-forms p (insn.JumpLong d) = target-form (pos (p + 1) +ℤ d)
+insn-forms p (insn.CallLocal d) = target-form (pos (p + 1) +ℤ d)
+insn-forms p (insn.LoadMapValue dst m o) = (tt, tt, tt)
+insn-forms p (insn.Negate width dst) = tt
+insn-forms p (insn.SwapBytes order width dst) = tt
+insn-forms p (insn.CallHelper h) = tt
+insn-forms p insn.Exit = tt
+insn-forms p i = (tt, tt)
+
+-- a second operand is taken back
+source-back : (s : Source) → SourceFits s → source_in (term_from (operand_of s)) ≡ Some s
+source-back (source_is.Immediate value) fits = rw (immediate-fits value fits) refl
+source-back (source_is.Register r) fits = refl
+
+-- each instruction is made of its canonical operands
+pub insn-back : (p : ℕ) (i : Insn) → InsnFits i → insn_with (mnemonic_of i) (terms_from (operands_of p i)) ≡ Some (unplaced i)
+insn-back p (insn.Binary op width dst s) fits = rw (source-back s fits.1) refl
+insn-back p (insn.Negate width dst) fits = refl
+insn-back p (insn.SignExtend e dst src) fits = refl
+insn-back p (insn.SwapBytes order width dst) fits = refl
+insn-back p (insn.JumpIf c width dst s o) fits = rw (source-back s fits.1) refl
+insn-back p (insn.Jump o) fits = refl
+insn-back p (insn.JumpLong d) fits = refl
+insn-back p (insn.CallHelper h) fits = rw (unsigned-fits h fits) refl
+insn-back p (insn.CallLocal d) fits = refl
+insn-back p insn.Exit fits = refl
+insn-back p (insn.Load size dst src o) fits = rw (offset-fits o fits.2) refl
+insn-back p (insn.LoadSigned size dst src o) fits = rw (offset-fits o fits.2) refl
+insn-back p (insn.StoreImmediate size dst o value) fits = rw (offset-fits o fits.1, immediate-fits value fits.2) refl
+insn-back p (insn.StoreRegister size dst src o) fits = rw (offset-fits o fits.2) refl
+insn-back p (insn.Atomic op width dst src o) fits = rw (offset-fits o fits.2) refl
+insn-back p (insn.LoadNumber dst value) fits = rw (wide-fits value fits.1) refl
+insn-back p (insn.LoadMap dst m) fits = rw (unsigned-fits m fits.1) refl
+insn-back p (insn.LoadMapValue dst m o) fits = rw (unsigned-fits m fits.1, unsigned-fits o fits.2) refl
 
 -- the text of a target, if there is one
 abbrev pub target_text : Option ℤ → Option (List ℕ)
 target_text None = None
 target_text (Some z) = Some (operand_text (target_operand z))
 
+name-back : (z : ℤ) → name_in (term_from (target_operand z)) ≡ Some (operand_text (target_operand z))
+name-back (pos p) = refl
+name-back (negsuc n) = refl
+
 -- the name of the target is read back
-pub target-text : (p : ℕ) (i : Insn) → InsnFits i → TargetFits (target_of p i)
-    → target_name (mnemonic_of i) (operands_of_text (operands_of p i)) ≡ target_text (target_of p i)
-target-text p (insn.JumpIf c width dst s o) fits t =
-    let target = target_operand (pos (p + 1) +ℤ o) in
-    let far = target-fits (pos (p + 1) +ℤ o) t in
-    let others = other_operands-at (register_text dst) (joined (operand_text (operand_of s)) (operand_text target))
-    (plain-operand (Register dst) fits.0).0 (snug-joined (operand_of s) target (source-fits s fits.1) far) in
-    let last = other_operands-at (operand_text (operand_of s)) (operand_text target)
-    (plain-operand (operand_of s) (source-fits s fits.1)).0 (snug-operand target far) in
-    ap (λ x. Some (other_operands x)) others ∙ ap Some last
-target-text p (insn.Jump o) fits t = refl
-target-text p (insn.JumpLong d) fits t = refl
-target-text p (insn.CallLocal d) fits t = refl
-target-text p i fits t = refl
+pub target-back : (p : ℕ) (i : Insn) → target_in (terms_from (operands_of p i)) ≡ target_text (target_of p i)
+target-back p (insn.JumpIf c width dst s o) = rw (name-back (pos (p + 1) +ℤ o)) refl
+target-back p (insn.Jump o) = rw (name-back (pos (p + 1) +ℤ o)) refl
+target-back p (insn.JumpLong d) = rw (name-back (pos (p + 1) +ℤ d)) refl
+target-back p (insn.CallLocal d) = rw (name-back (pos (p + 1) +ℤ d)) refl
+target-back p i = refl
+
+-- the operands of an instruction are in their ranges
+pub operands-fit : (p : ℕ) (i : Insn) → InsnFits i → TargetFits (target_of p i) → OperandsFit (operands_of p i)
+operands-fit p (insn.Binary op width dst s) fits t = (fits.0, source-fits s fits.1)
+operands-fit p (insn.Negate width dst) fits t = fits
+operands-fit p (insn.SignExtend e dst src) fits t = fits
+operands-fit p (insn.SwapBytes order width dst) fits t = fits
+operands-fit p (insn.JumpIf c width dst s o) fits t = (fits.0, source-fits s fits.1, target-fits (pos (p + 1) +ℤ o) t)
+operands-fit p (insn.Jump o) fits t = target-fits (pos (p + 1) +ℤ o) t
+operands-fit p (insn.JumpLong d) fits t = target-fits (pos (p + 1) +ℤ d) t
+operands-fit p (insn.CallHelper h) fits t = fits
+operands-fit p (insn.CallLocal d) fits t = target-fits (pos (p + 1) +ℤ d) t
+operands-fit p insn.Exit fits t = tt
+operands-fit p (insn.Load size dst src o) fits t = (fits.0, (fits.1, fits.2))
+operands-fit p (insn.LoadSigned size dst src o) fits t = (fits.0, (fits.1, fits.2))
+operands-fit p (insn.StoreImmediate size dst o value) fits t = ((fits.0, fits.1), fits.2)
+operands-fit p (insn.StoreRegister size dst src o) fits t = ((fits.0, fits.2), fits.1)
+operands-fit p (insn.Atomic op width dst src o) fits t = ((fits.0, fits.2), fits.1)
+operands-fit p (insn.LoadNumber dst value) fits t = fits
+operands-fit p (insn.LoadMap dst m) fits t = fits
+operands-fit p (insn.LoadMapValue dst m o) fits t = fits
+
+-- the statement of an instruction is read back
+abbrev pub statement_from : ℕ → Insn → Statement
+statement_from p i = record { insn = unplaced i; target = target_text (target_of p i) }
+
+pub statement-text : (p : ℕ) (i : Insn) → InsnFits i → TargetFits (target_of p i)
+    → of_mnemonic (Some (mnemonic_of i)) (operands_of_text (operands_of p i)) ≡ Ok (Some (statement_from p i))
+statement-text p i fits t =
+    rw (
+      terms-text (forms_of (mnemonic_of i)) (operands_of p i) (operands-fit p i fits t) (insn-forms p i),
+      insn-back p i fits,
+      target-back p i,
+    ) refl

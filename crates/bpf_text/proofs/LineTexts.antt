@@ -1,26 +1,25 @@
 -- The canonical lines are read back.
-use Rattle.std.proofs.Common.{ℕ, pos, ◌≡◌, ◌<◌, ◌+◌, ◌+ℤ◌, ◌^◌, ◌==◌, Bool, true, false, ◌&&◌, not, nat_lt, nat_le, List, [], ◌∷◌, ◌++◌, length, refl, ap, ◌∙◌, arith, codes, if◌then◌else◌, Option, Some, None, Ok, Err, length-append, append_assoc}
+use Rattle.std.proofs.Common.{ℕ, ◌≡◌, ◌<◌, ◌^◌, ◌==◌, Bool, true, false, ◌&&◌, not, nat_lt, nat_le, List, [], ◌∷◌, ◌++◌, length, refl, ap, ◌∙◌, arith, codes, Option, Some, None, Ok, length-append, append_assoc}
 use Rattle.std.specs.List.{list_all, position_or_len}
 use Rattle.std.proofs.lemmas.Bool.Decides.{nat_tests}
 use Rattle.std.proofs.lemmas.List.{append-nil}
 use Rattle.bpf_isa.specs.declared.instruction.Insn.{Insn}
-use Rattle.bpf_isa.specs.declared.instruction.Insn.TheVariants as insn
 use Rattle.bpf_isa.specs.Programs.{target_of}
 use Rattle.bpf_text.specs.declared.operand.Operand.{Operand}
 use Rattle.bpf_text.specs.declared.operand.Operands.{Operands}
 use Rattle.bpf_text.specs.declared.operand.Operands.TheVariants.{Nothing, One, Two, Three}
-use Rattle.bpf_text.specs.Cuts.{is_blank, is_text, is_name, lines, before, after, trim, trim_start, code_of, label_of, body_of, is_labelled, mnemonic_part}
+use Rattle.bpf_text.specs.declared.statement.Statement.{Statement}
+use Rattle.bpf_text.specs.Cuts.{is_blank, is_text, is_name, before, after, trim, trim_start, code_of, is_labelled, mnemonic_part}
 use Rattle.bpf_text.specs.Cuts as cuts
+use Rattle.bpf_text.specs.Lines.{read_line}
 use Rattle.bpf_text.specs.Mnemonics.{mnemonic_of, name_of}
-use Rattle.bpf_text.specs.Operands.{operand_text, operands_text, operands_of, text_of_insn, label_text}
 use Rattle.bpf_text.specs.Named.{named}
-use Rattle.bpf_text.specs.Tokens.{Reading, name}
-use Rattle.bpf_text.specs.declared.fault.OperandFault.TheVariants.{Wrong}
-use Rattle.bpf_text.specs.Listing.{insn_of, insn_of_body, insn_of_mnemonic, target_of_body, target_of_mnemonic, target_of_line}
+use Rattle.bpf_text.specs.Operands.{operand_text, operands_text, operands_of, text_of_insn, label_text}
+use Rattle.bpf_text.specs.Statements.{read_statement, of_mnemonic}
 use Rattle.bpf_text.proofs.PlainTexts.{is_plain, are_plain, list_all-append, list_all-weaken, are_plain-decimal, plain-blank, position_or_len-at, position_or_len-none, before_first-at, before_first-none, plain-colon, and-join, after_first-at, after_first-none, Snug, Snug-plain, Snug-append, Snug-trim}
 use Rattle.bpf_text.proofs.MnemonicNames.{named-name_of, plain-name_of}
 use Rattle.bpf_text.proofs.TokenTexts.{name-label}
-use Rattle.bpf_text.proofs.InsnTexts.{operands_of_text, joined, OperandFits, plain-operand, snug-operand, snug-joined, InsnFits, TargetFits, unplaced, instruction-text, target-text, target_text, source-fits, target-fits}
+use Rattle.bpf_text.proofs.InsnTexts.{operands_of_text, joined, OperandFits, OperandsFit, plain-operand, snug-operand, snug-joined, InsnFits, TargetFits, operands-fit, statement_from, statement-text}
 
 -- a byte that may stand in an instruction's line
 abbrev pub is_code : ℕ → Bool
@@ -40,13 +39,6 @@ code-colon b p = grind (arith, nat_tests)
 
 pub code-feed : (b : ℕ) → is_code b ≡ true → (b == 10) ≡ false
 code-feed b p = grind (arith, nat_tests)
-
--- operands in their ranges
-abbrev pub OperandsFit : Operands → Type 0
-OperandsFit Nothing = Unit {0}
-OperandsFit (One a) = OperandFits a
-OperandsFit (Two a b) = OperandFits a × OperandFits b
-OperandsFit (Three a b c) = OperandFits a × OperandFits b × OperandFits c
 
 -- what an instruction's line is: a name, and then nothing, or a blank and a text without blanks at its ends
 pub record IsInsnLine (name rest line : List ℕ) : Type 0 where
@@ -103,44 +95,15 @@ line-operands name (Three a b c) p some fits =
     rw (append_assoc (operand_text a) (44 ∷ 32 ∷ operand_text b) (44 ∷ 32 ∷ operand_text c))
     (line-some name whole p some code snug)
 
--- the operands of an instruction are in their ranges
-operands-fit : (p : ℕ) (i : Insn) → InsnFits i → TargetFits (target_of p i) → OperandsFit (operands_of p i)
-operands-fit p (insn.Binary op width dst s) fits t = (fits.0, source-fits s fits.1)
-operands-fit p (insn.Negate width dst) fits t = fits
-operands-fit p (insn.SignExtend e dst src) fits t = fits
-operands-fit p (insn.SwapBytes order width dst) fits t = fits
-operands-fit p (insn.JumpIf c width dst s o) fits t = (fits.0, source-fits s fits.1, target-fits (pos (p + 1) +ℤ o) t)
-operands-fit p (insn.Jump o) fits t = target-fits (pos (p + 1) +ℤ o) t
-operands-fit p (insn.JumpLong d) fits t = target-fits (pos (p + 1) +ℤ d) t
-operands-fit p (insn.CallHelper h) fits t = fits
-operands-fit p (insn.CallLocal d) fits t = target-fits (pos (p + 1) +ℤ d) t
-operands-fit p insn.Exit fits t = tt
-operands-fit p (insn.Load size dst src o) fits t = (fits.0, (fits.1, fits.2))
-operands-fit p (insn.LoadSigned size dst src o) fits t = (fits.0, (fits.1, fits.2))
-operands-fit p (insn.StoreImmediate size dst o value) fits t = ((fits.0, fits.1), fits.2)
-operands-fit p (insn.StoreRegister size dst src o) fits t = ((fits.0, fits.2), fits.1)
-operands-fit p (insn.Atomic op width dst src o) fits t = ((fits.0, fits.2), fits.1)
-operands-fit p (insn.LoadNumber dst value) fits t = fits
-operands-fit p (insn.LoadMap dst m) fits t = fits
-operands-fit p (insn.LoadMapValue dst m o) fits t = fits
-
 -- what is read of a line
-pub record Reads (line : List ℕ) (name : Option (List ℕ)) (i : Option Insn) (goes : Option (List ℕ)) : Type 0 where
+pub record Reads (line : List ℕ) (name : Option (List ℕ)) (statement : Option Statement) : Type 0 where
   pub feedless : list_all (λ b. not (b == 10)) line ≡ true
-  pub clean : list_all is_text (code_of line) ≡ true
-  pub label : label_of line ≡ name
-  pub insn : insn_of line ≡ Ok i
-  pub target : target_of_line line ≡ goes
+  pub says : read_line line ≡ Ok (record { label = name; statement = Ok statement })
 
-insn_of_body-some : (s : List ℕ) → 0 < length s
-    → insn_of_body s ≡ insn_of_mnemonic (named (mnemonic_part s)) (cuts.operands_part s)
-insn_of_body-some [] h = absurd (omega arith)
-insn_of_body-some (b ∷ s) h = refl
-
-target_of_body-some : (s : List ℕ) → 0 < length s
-    → target_of_body s ≡ target_of_mnemonic (named (mnemonic_part s)) (cuts.operands_part s)
-target_of_body-some [] h = absurd (omega arith)
-target_of_body-some (b ∷ s) h = refl
+read_statement-some : (s : List ℕ) → 0 < length s
+    → read_statement s ≡ of_mnemonic (named (mnemonic_part s)) (cuts.operands_part s)
+read_statement-some [] h = absurd (omega arith)
+read_statement-some (b ∷ s) h = refl
 
 -- a line of code without a label
 snug-start : (s : List ℕ) → Snug s → trim_start s ≡ s
@@ -163,22 +126,18 @@ plain-line name rest line known =
     )
 
 pub Reads-insn : (p : ℕ) (i : Insn) → InsnFits i → TargetFits (target_of p i)
-    → Reads (text_of_insn p i) None (Some (unplaced i)) (target_text (target_of p i))
+    → Reads (text_of_insn p i) None (Some (statement_from p i))
 Reads-insn p i fits t =
     let m = mnemonic_of i in
     let name = plain-name_of m in
     let known = line-operands (name_of m) (operands_of p i) name.0 name.1 (operands-fit p i fits t) in
     let line = text_of_insn p i in
     let cut = plain-line (name_of m) (operands_of_text (operands_of p i)) line known in
-    let body : body_of line ≡ line = rw (cut.0, cut.2, cut.1) cut.3 in
+    let statement : read_statement line ≡ Ok (Some (statement_from p i)) =
+    read_statement-some line known.snug.some ∙ rw (known.mnemonic, known.operands, named-name_of m) (statement-text p i fits t) in
     record {
       feedless = list_all-weaken is_code (λ b. not (b == 10)) line not-feed known.code;
-      clean = rw cut.0 (list_all-weaken is_code is_text line code-text known.code);
-      label = rw (cut.0, cut.2, cut.1) refl;
-      insn = ap insn_of_body body ∙ insn_of_body-some line known.snug.some
-          ∙ rw (known.mnemonic, known.operands, named-name_of m, instruction-text p i fits t) refl;
-      target = ap target_of_body body ∙ target_of_body-some line known.snug.some
-          ∙ rw (known.mnemonic, known.operands, named-name_of m) (target-text p i fits t);
+      says = rw (cut.0, list_all-weaken is_code is_text line code-text known.code, cut.2, cut.1, cut.3, statement) refl;
     }
 
 -- the line of a label
@@ -200,16 +159,7 @@ plain-semicolon b p = grind (arith, nat_tests)
 less-true : (a b : ℕ) → a < b → nat_lt a b ≡ true
 less-true a b h = grind (arith, nat_tests)
 
-abbrev named_if : Bool → Reading (Unit {0})
-named_if b = if b then Ok tt else Err Wrong
-
-name-true : (s : List ℕ) → name s ≡ Ok tt → is_name s ≡ true
-name-true s e = go (is_name s) refl e where
-  go : (b : Bool) → is_name s ≡ b → named_if b ≡ Ok tt → is_name s ≡ true
-  go true e h = e
-  go false e h = cc
-
-pub Reads-label : (p : ℕ) → p < 2 ^ 64 → Reads (label_text p ++ codes ":") (Some (label_text p)) None None
+pub Reads-label : (p : ℕ) → p < 2 ^ 64 → Reads (label_text p ++ codes ":") (Some (label_text p)) None
 Reads-label p h =
     let label = label_text p in
     let line = label ++ 58 ∷ [] in
@@ -225,12 +175,9 @@ Reads-label p h =
     ∙ less-true (length label) (length line) (omega (arith, length-append label (58 ∷ []))) in
     let labelled : is_labelled line ≡ true =
     and-join (nat_lt (position_or_len (λ b. b == 58) line) (length line)) (is_name (before 58 line)) within
-    (ap is_name front ∙ name-true label (name-label p h)) in
-    let body : body_of line ≡ [] = rw (code, start, labelled) (ap trim back) in
+    (ap is_name front ∙ name-label p h) in
+    let text = list_all-append is_text label (58 ∷ []) (list_all-weaken is_plain is_text label plain-text plain) refl in
     record {
       feedless = list_all-append (λ b. not (b == 10)) label (58 ∷ []) (list_all-weaken is_plain (λ b. not (b == 10)) label plain-feed plain) refl;
-      clean = rw code (list_all-append is_text label (58 ∷ []) (list_all-weaken is_plain is_text label plain-text plain) refl);
-      label = rw (code, start, labelled) (ap Some front);
-      insn = ap insn_of_body body;
-      target = ap target_of_body body;
+      says = rw (code, text, start, labelled, front, back) refl;
     }

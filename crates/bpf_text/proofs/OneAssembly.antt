@@ -4,7 +4,9 @@ use Rattle.bpf_isa.specs.declared.instruction.Insn.{Insn}
 use Rattle.bpf_isa.specs.Programs.{slots_of}
 use Rattle.bpf_isa.proofs.Spelling.{one_word}
 use Rattle.bpf_text.specs.Cuts.{lines}
-use Rattle.bpf_text.specs.Listing.{Labels, LineReading, Spells, AreBytes, resolved, IsListing}
+use Rattle.bpf_text.specs.Lines.{read_line}
+use Rattle.bpf_text.specs.Statements.{LineReading}
+use Rattle.bpf_text.specs.Listing.{Labels, Spells, AreBytes, resolved, IsListing}
 
 -- the bytes of a line and of what follows are determined
 Spells-only : (reading : LineReading (Option Insn)) (slot : ℕ) (a b : List ℕ) (Follows : ℕ → List ℕ → Type 0)
@@ -21,7 +23,7 @@ AreBytes-only : (labels : Labels) (slot : ℕ) (rest : List (List ℕ)) (a b : L
     → AreBytes labels slot rest a → AreBytes labels slot rest b → a ≡ b
 AreBytes-only labels slot [] a b p q = p ∙ sym q
 AreBytes-only labels slot (line ∷ rest) a b p q =
-    Spells-only (resolved labels slot line) slot a b (λ s x. AreBytes labels s rest x)
+    Spells-only (resolved labels slot (read_line line)) slot a b (λ s x. AreBytes labels s rest x)
     (λ s x y. AreBytes-only labels s rest x y) p q
 
 pub one-assembly : (text a b : List ℕ) → IsListing text a → IsListing text b → a ≡ b

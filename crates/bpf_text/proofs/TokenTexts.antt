@@ -1,5 +1,5 @@
 -- Canonical operands are read back.
-use Rattle.std.proofs.Common.{ℕ, ℤ, pos, negsuc, zero, suc, ◌≡◌, ◌<◌, ◌≤◌, ◌+◌, ◌-◌, ◌%◌, ◌^◌, ◌==◌, Bool, true, false, ◌&&◌, not, min, List, [], ◌∷◌, ◌++◌, length, refl, ap, ◌∙◌, arith, inl, inr, lit<, lit≤, nat_lt, nat_le, Some, Ok, Err, w32, w16, SFits, slice_index, length-append}
+use Rattle.std.proofs.Common.{ℕ, ℤ, pos, negsuc, zero, suc, ◌≡◌, ◌<◌, ◌≤◌, ◌+◌, ◌-◌, ◌%◌, ◌^◌, ◌==◌, Bool, true, false, ◌&&◌, not, List, [], ◌∷◌, ◌++◌, length, refl, ap, ◌∙◌, arith, inl, inr, lit<, lit≤, nat_lt, nat_le, Some, option_map, Ok, Err, w32, w16, SFits, slice_index, length-append}
 use Rattle.std.proofs.Math.Seq.{get_or-append_seam, drop-append-add, take-append_seam}
 use Rattle.std.proofs.lemmas.Bool.{eq-eqb}
 use Rattle.bpf_text.specs.declared.operand.Operand.TheVariants.{Memory}
@@ -13,10 +13,14 @@ use Rattle.std.proofs.lemmas.Int.{to_z_pos}
 use Rattle.bpf_text.specs.declared.fault.OperandFault.TheVariants.{Wrong}
 use Rattle.bpf_isa.specs.declared.instruction.Source.{Source}
 use Rattle.bpf_isa.specs.declared.instruction.Source.TheVariants as source_is
-use Rattle.bpf_text.specs.Cuts.{is_name_byte}
-use Rattle.bpf_text.specs.Tokens.{register, numeral, natural, has_prefix, is_negative, unsigned, immediate, wide, source, name, memory, base_and_offset, offset, offset_of, is_sign}
+use Rattle.bpf_text.specs.declared.number.Number.{Number}
+use Rattle.bpf_text.specs.declared.term.Term.{Term}
+use Rattle.bpf_text.specs.declared.term.Term.TheVariants as term
+use Rattle.bpf_text.specs.Cuts.{is_name, is_name_byte}
+use Rattle.bpf_text.specs.Tokens.{register, numeral, natural, has_prefix, is_negative, signed, number_of, unsigned, immediate, wide, offset, is_sign}
+use Rattle.bpf_text.specs.Terms.{memory, base_and_displacement, displacement}
 use Rattle.bpf_io.specs.Writing.{hexadecimal}
-use Rattle.bpf_text.specs.Operands.{register_text, label_text, operand_of, operand_text}
+use Rattle.bpf_text.specs.Operands.{register_text, label_text, operand_text}
 use Rattle.bpf_text.proofs.PlainTexts.{are_plain, list_all-append, list_all-weaken, are_plain-decimal, position_or_len-at, before_first-at, trim-plain}
 
 -- a decimal digit
@@ -75,13 +79,11 @@ list_all-AllDigits radix (b ∷ s) p =
       less : (a b : ℕ) → a < b → nat_lt a b ≡ true
       less a b h = grind (arith, nat_tests)
 
-pub numeral-digits : (radix n : ℕ) (s : List ℕ) → IsNumeral radix s → digits_value radix s ≡ n → n < 2 ^ 64
-    → numeral radix s ≡ Some n
-numeral-digits radix n [] known e h = absurd (omega (arith, known.0))
-numeral-digits radix n (c ∷ s) known e h =
+pub numeral-digits : (radix n : ℕ) (s : List ℕ) → IsNumeral radix s → digits_value radix s ≡ n → numeral radix s ≡ Some n
+numeral-digits radix n [] known e = absurd (omega (arith, known.0))
+numeral-digits radix n (c ∷ s) known e =
     let whole = list_all-AllDigits radix (c ∷ s) known.1 in
-    let short : min n (2 ^ 64) ≡ n = omega arith in
-    rw (whole, e) (ap Some short)
+    rw whole (ap Some e)
 
 -- a decimal number
 has_prefix-decimal : (s : List ℕ) → list_all is_decimal s ≡ true → has_prefix s ≡ false
@@ -94,39 +96,60 @@ has_prefix-decimal s p = and-false (slice_index s 0 == 48) (slice_index s 1 == 1
 pub natural-decimal : (n : ℕ) → n < 2 ^ 64 → natural (decimal n) ≡ Some n
 natural-decimal n h =
     let known = decimal_is_IsNumeral n h in
-    rw (has_prefix-decimal (decimal n) (are_decimal n h)) (numeral-digits 10 n (decimal n) known.0 known.1 h)
+    rw (has_prefix-decimal (decimal n) (are_decimal n h)) (numeral-digits 10 n (decimal n) known.0 known.1)
 
 -- a number with a minus or none
 is_negative-decimal : (s : List ℕ) → list_all is_decimal s ≡ true → is_negative s ≡ false
 is_negative-decimal s p = slice_index-other is_decimal 45 s 0 (λ b d. grind (arith, nat_tests)) refl p
 
--- a number below 2^32
-pub unsigned-decimal : (n : ℕ) → n < 2 ^ 32 → unsigned (decimal n) ≡ Ok n
-unsigned-decimal n h =
-    let less : nat_lt n (2 ^ 32) ≡ true = grind (arith, nat_tests) in
-    rw (natural-decimal n (omega arith), less) refl
+-- a whole number as it is written
+abbrev pub number_from : ℤ → Number
+number_from (pos n) = number_of false n
+number_from (negsuc n) = number_of true (suc n)
 
--- a signed number of 32 bits
-pub immediate-signed : (z : ℤ) → SFits w32 z → immediate (signed_decimal z) ≡ Ok z
-immediate-signed (pos n) fits =
+pub signed-signed : (z : ℤ) → SFits w32 z → signed (signed_decimal z) ≡ Some (number_from z)
+signed-signed (pos n) fits =
     let small : n < 2 ^ 31 = fits.sfits in
-    let plus = is_negative-decimal (decimal n) (are_decimal n (omega arith)) in
-    let less : nat_lt n (2 ^ 32) ≡ true = grind (arith, nat_tests) in
-    rw (plus, natural-decimal n (omega arith), less) (ap Ok (to_z_pos w32 n small))
-immediate-signed (negsuc n) fits =
+    rw (is_negative-decimal (decimal n) (are_decimal n (omega arith)), natural-decimal n (omega arith)) refl
+signed-signed (negsuc n) fits =
     let small : n < 2 ^ 31 = fits.sfits in
-    let less : nat_le (suc n) (2 ^ 31) ≡ true = grind (arith, nat_tests) in
-    rw (natural-decimal (suc n) (omega arith), less) refl
+    rw (natural-decimal (suc n) (omega arith)) refl
 
 -- a number of 64 bits in hexadecimal
-pub wide-hexadecimal : (n : ℕ) → n < 2 ^ 64 → wide (hexadecimal n) ≡ Ok n
-wide-hexadecimal n h =
+pub signed-hexadecimal : (n : ℕ) → n < 2 ^ 64 → signed (hexadecimal n) ≡ Some (number_of false n)
+signed-hexadecimal n h =
     let known = digits_is_IsNumeral 16 false (lit≤ tt) (lit≤ tt) n (omega arith) in
-    let less : nat_lt n (2 ^ 64) ≡ true = grind (arith, nat_tests) in
-    rw (numeral-digits 16 n (digits 16 false n) known.0 known.1 h, less) refl
+    rw (numeral-digits 16 n (digits 16 false n) known.0 known.1) refl
+
+-- numbers in their ranges
+pub unsigned-fits : (n : ℕ) → n < 2 ^ 32 → unsigned (number_of false n) ≡ Some n
+unsigned-fits n h = let less : nat_lt n (2 ^ 32) ≡ true = grind (arith, nat_tests) in rw less refl
+
+pub immediate-fits : (z : ℤ) → SFits w32 z → immediate (number_from z) ≡ Some z
+immediate-fits (pos n) fits =
+    let small : n < 2 ^ 31 = fits.sfits in
+    let less : nat_lt n (2 ^ 32) ≡ true = grind (arith, nat_tests) in
+    rw less (ap Some (to_z_pos w32 n small))
+immediate-fits (negsuc n) fits =
+    let small : n < 2 ^ 31 = fits.sfits in
+    let less : nat_le (suc n) (2 ^ 31) ≡ true = grind (arith, nat_tests) in
+    rw less refl
+
+pub wide-fits : (n : ℕ) → n < 2 ^ 64 → wide (number_of false n) ≡ Some n
+wide-fits n h = let less : nat_lt n (2 ^ 64) ≡ true = grind (arith, nat_tests) in rw less refl
+
+pub offset-fits : (z : ℤ) → SFits w16 z → offset (number_from z) ≡ Some z
+offset-fits (pos n) fits =
+    let small : n < 32768 = fits.sfits in
+    let less : nat_lt n 32768 ≡ true = grind (arith, nat_tests) in
+    rw less refl
+offset-fits (negsuc n) fits =
+    let small : n < 32768 = fits.sfits in
+    let less : nat_le (suc n) 32768 ≡ true = grind (arith, nat_tests) in
+    rw less refl
 
 -- a name
-pub name-label : (p : ℕ) → p < 2 ^ 64 → name (label_text p) ≡ Ok tt
+pub name-label : (p : ℕ) → p < 2 ^ 64 → is_name (label_text p) ≡ true
 name-label p h =
     let all = list_all-weaken is_decimal is_name_byte (decimal p) (λ b d. grind (arith, nat_tests)) (are_decimal p h) in
     rw all refl
@@ -145,15 +168,14 @@ signed-other (pos n) fits =
     slice_index-other is_decimal 114 (decimal n) 0 (λ b d. grind (arith, nat_tests)) refl (are_decimal n (omega arith))
 signed-other (negsuc n) fits = refl
 
--- a second operand
+-- a second operand in its range
 abbrev pub SourceFits : Source → Type 0
 SourceFits (source_is.Immediate value) = SFits w32 value
 SourceFits (source_is.Register reg) = reg ≤ 10
 
-pub source-text : (s : Source) → SourceFits s → source (operand_text (operand_of s)) ≡ Ok s
-source-text (source_is.Immediate value) fits =
-    rw (register-other (signed_decimal value) (signed-other value fits), immediate-signed value fits) refl
-source-text (source_is.Register reg) fits = rw (register-text reg fits) refl
+-- a number is no register
+pub register-signed : (z : ℤ) → SFits w32 z → register (signed_decimal z) ≡ Err Wrong
+register-signed z fits = register-other (signed_decimal z) (signed-other z fits)
 
 -- a byte that closes no bracket, and one that is no sign
 abbrev pub is_open : ℕ → Bool
@@ -181,57 +203,54 @@ same-eqb a b e = eq-eqb a b e
 less-eqb : (a b : ℕ) → a < b → (a == b) ≡ false
 less-eqb a b h = grind (arith, nat_tests)
 
--- an offset behind a register
-offset-at : (reg : List ℕ) (sign : ℕ) (digits : List ℕ) → list_all no_sign reg ≡ true → is_sign sign ≡ true
-    → are_plain digits ≡ true
-    → offset (reg ++ sign ∷ digits) ≡ offset_of (sign == 45) (natural digits)
-offset-at reg sign digits none e plain =
-    let here = position_or_len-at is_sign no_sign reg sign digits no_sign-sign e none in
-    let within : length reg < length (reg ++ sign ∷ digits) = omega (arith, length-append reg (sign ∷ digits)) in
+-- a displacement behind a register
+displacement-at : (reg : List ℕ) (sign : ℕ) (number : List ℕ) → list_all no_sign reg ≡ true → is_sign sign ≡ true
+    → are_plain number ≡ true
+    → displacement (reg ++ sign ∷ number) ≡ option_map (number_of (sign == 45)) (natural number)
+displacement-at reg sign number none e plain =
+    let here = position_or_len-at is_sign no_sign reg sign number no_sign-sign e none in
+    let within : length reg < length (reg ++ sign ∷ number) = omega (arith, length-append reg (sign ∷ number)) in
     rw (
       here,
-      less-eqb (length reg) (length (reg ++ sign ∷ digits)) within,
-      get_or-append_seam reg sign digits 0,
-      drop-append-add reg (sign ∷ digits) 1,
-      trim-plain digits plain,
+      less-eqb (length reg) (length (reg ++ sign ∷ number)) within,
+      get_or-append_seam reg sign number 0,
+      drop-append-add reg (sign ∷ number) 1,
+      trim-plain number plain,
     ) refl
 
-base_and_offset-at : (reg : List ℕ) (r sign : ℕ) (digits : List ℕ) (o : ℤ) → list_all no_sign reg ≡ true → is_sign sign ≡ true
-    → are_plain reg ≡ true → are_plain digits ≡ true → register reg ≡ Ok r
-    → offset_of (sign == 45) (natural digits) ≡ Ok o → base_and_offset (reg ++ sign ∷ digits) ≡ Ok (r, o)
-base_and_offset-at reg r sign digits o none e plain digits_plain read known =
-    let moved = offset-at reg sign digits none e digits_plain in
-    let front = before_first-at is_sign no_sign reg sign digits no_sign-sign e none in
+base_and_displacement-at : (reg : List ℕ) (r sign : ℕ) (number : List ℕ) (n : ℕ) → list_all no_sign reg ≡ true
+    → is_sign sign ≡ true → are_plain reg ≡ true → are_plain number ≡ true → register reg ≡ Ok r → natural number ≡ Some n
+    → base_and_displacement (reg ++ sign ∷ number) ≡ Some (term.Memory r (number_of (sign == 45) n))
+base_and_displacement-at reg r sign number n none e plain number_plain read known =
+    let moved = displacement-at reg sign number none e number_plain in
+    let front = before_first-at is_sign no_sign reg sign number no_sign-sign e none in
     rw (front, trim-plain reg plain, read, moved, known) refl
 
-memory-at : (inner : List ℕ) (r : ℕ) (o : ℤ) → list_all is_open inner ≡ true → base_and_offset inner ≡ Ok (r, o)
-    → memory (91 ∷ (inner ++ 93 ∷ [])) ≡ Ok (r, o)
-memory-at inner r o none read =
+memory-at : (inner : List ℕ) (m : Term) → list_all is_open inner ≡ true → base_and_displacement inner ≡ Some m
+    → memory (91 ∷ (inner ++ 93 ∷ [])) ≡ Some m
+memory-at inner m none read =
     let here = position_or_len-at (λ b. b == 93) is_open inner 93 [] open-close refl none in
     let end : 1 + length inner + 1 ≡ suc (length (inner ++ 93 ∷ [])) = omega (arith, length-append inner (93 ∷ [])) in
     rw (here, same-eqb (1 + length inner + 1) (suc (length (inner ++ 93 ∷ []))) end, take-append_seam inner (93 ∷ [])) read
 
 -- memory at a register and an offset
-memory-signed : (r sign n : ℕ) (o : ℤ) → r ≤ 10 → n < 2 ^ 64 → is_sign sign ≡ true → is_open sign ≡ true
-    → offset_of (sign == 45) (Some n) ≡ Ok o
-    → memory (91 ∷ ((register_text r ++ sign ∷ decimal n) ++ 93 ∷ [])) ≡ Ok (r, o)
-memory-signed r sign n o low h e f known =
+memory-signed : (r sign n : ℕ) → r ≤ 10 → n < 2 ^ 64 → is_sign sign ≡ true → is_open sign ≡ true
+    → memory (91 ∷ ((register_text r ++ sign ∷ decimal n) ++ 93 ∷ [])) ≡ Some (term.Memory r (number_of (sign == 45) n))
+memory-signed r sign n low h e f =
     let reg_digits = are_decimal r (omega arith) in
     let digits_n = are_decimal n h in
     let reg_no_sign = list_all-weaken is_decimal no_sign (decimal r) decimal-no_sign reg_digits in
     let reg_open = list_all-weaken is_decimal is_open (decimal r) decimal-open reg_digits in
     let number_open = list_all-weaken is_decimal is_open (decimal n) decimal-open digits_n in
     let inner_open = list_all-append is_open (decimal r) (sign ∷ decimal n) reg_open (rw (f, number_open) refl) in
-    memory-at (register_text r ++ sign ∷ decimal n) r o inner_open
-    (base_and_offset-at (register_text r) r sign (decimal n) o reg_no_sign e (are_plain-decimal r (omega arith)) (are_plain-decimal n h)
-    (register-text r low) (ap (offset_of (sign == 45)) (natural-decimal n h) ∙ known))
+    memory-at (register_text r ++ sign ∷ decimal n) (term.Memory r (number_of (sign == 45) n)) inner_open
+    (base_and_displacement-at (register_text r) r sign (decimal n) n reg_no_sign e (are_plain-decimal r (omega arith))
+    (are_plain-decimal n h) (register-text r low) (natural-decimal n h))
 
-pub memory-text : (r : ℕ) (o : ℤ) → r ≤ 10 → SFits w16 o → memory (operand_text (Memory r o)) ≡ Ok (r, o)
+pub memory-text : (r : ℕ) (o : ℤ) → r ≤ 10 → SFits w16 o → memory (operand_text (Memory r o)) ≡ Some (term.Memory r (number_from o))
 memory-text r (pos n) low fits =
     let small : n < 32768 = fits.sfits in
-    let less : nat_lt n 32768 ≡ true = grind (arith, nat_tests) in
-    memory-signed r 43 n (pos n) low (omega arith) refl refl (rw less refl)
+    memory-signed r 43 n low (omega arith) refl refl
 memory-text r (negsuc n) low fits =
     let small : n < 32768 = fits.sfits in
-    let less : nat_le (suc n) 32768 ≡ true = grind (arith, nat_tests) in
-    memory-signed r 45 (suc n) (negsuc n) low (omega arith) refl refl (rw less refl)
+    memory-signed r 45 (suc n) low (omega arith) refl refl

@@ -1,5 +1,5 @@
 -- How a listing is cut into lines, labels, mnemonics and operands. The listing's grammar is bpfdb's own choice.
-use Rattle.std.specs.Prelude.{ℕ, Bool, false, ◌==◌, ◌&&◌, ◌||◌, not, nat_le, nat_lt, if◌then◌else◌, List, [], ◌∷◌, drop, length, Option, Some, None}
+use Rattle.std.specs.Prelude.{ℕ, Bool, false, ◌==◌, ◌&&◌, ◌||◌, not, nat_le, nat_lt, if◌then◌else◌, List, [], ◌∷◌, drop, length}
 use Rattle.std.specs.List.{list_all, position_or_len, before_first, after_first}
 
 -- A blank: space, tab, carriage return.
@@ -64,14 +64,6 @@ is_name (b ∷ s) = is_letter b && list_all is_name_byte s
 -- Whether a colon stands directly after a name.
 abbrev pub is_labelled : List ℕ → Bool
 is_labelled s = nat_lt (position_or_len (λ b. b == 58) s) (length s) && is_name (before 58 s)
-
--- The label of a line, if it has one.
-abbrev pub label_of : List ℕ → Option (List ℕ)
-label_of line = let s = trim_start (code_of line) in if is_labelled s then Some (before 58 s) else None
-
--- The rest of a line: its instruction, or nothing.
-abbrev pub body_of : List ℕ → List ℕ
-body_of line = let s = trim_start (code_of line) in trim (if is_labelled s then after 58 s else s)
 
 -- The mnemonic of an instruction: all up to the next blank.
 abbrev pub mnemonic_part : List ℕ → List ℕ

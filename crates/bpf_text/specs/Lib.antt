@@ -3,10 +3,12 @@ pub mod Cuts
 pub mod Faults
 pub mod LabelMap
 pub mod Laws
+pub mod Lines
 pub mod Listing
 pub mod Mnemonics
 pub mod Named
 pub mod Operands
 pub mod Statements
+pub mod Terms
 pub mod TextKey
 pub mod Tokens

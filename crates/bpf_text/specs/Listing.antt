@@ -1,42 +1,18 @@
 -- A listing: its lines, its faults in two rounds, and its bytes. It is bpfdb's own choice.
-use Rattle.std.specs.Prelude.{ℕ, ℤ, pos, negsuc, ◌≡◌, ◌+◌, ◌-ℤ◌, Bool, true, false, not, nat_le, nat_lt, is_some, if◌then◌else◌, List, [], ◌∷◌, ◌++◌, Option, Some, None, Result, Ok, Err, ⊤}
-use Rattle.std.specs.List.{list_all}
+use Rattle.std.specs.Prelude.{ℕ, ℤ, pos, negsuc, ◌≡◌, ◌+◌, ◌-ℤ◌, Bool, true, false, nat_le, nat_lt, is_some, if◌then◌else◌, List, [], ◌∷◌, ◌++◌, Option, Some, None, Result, Ok, Err, ⊤}
 use Rattle.std.specs.Str.{bytes_eq}
 use Rattle.bpf_isa.specs.declared.instruction.Insn.{Insn}
 use Rattle.bpf_isa.specs.declared.instruction.Insn.TheVariants.{JumpIf, Jump, JumpLong, CallLocal}
 use Rattle.bpf_isa.specs.Programs.{slots_of}
 use Rattle.bpf_isa.specs.Words.{IsWord}
-use Rattle.bpf_text.specs.declared.fault.OperandFault.TheVariants as operand
-use Rattle.bpf_text.specs.declared.fault.LineFault.{LineFault}
-use Rattle.bpf_text.specs.declared.fault.LineFault.TheVariants.{UnknownMnemonic, WrongOperands, OutOfRange, LabelTwice, UnknownLabel, NotText, TooManySlots}
+use Rattle.bpf_text.specs.declared.fault.LineFault.TheVariants.{OutOfRange, LabelTwice, UnknownLabel, TooManySlots}
 use Rattle.bpf_text.specs.declared.fault.AsmFault.{AsmFault}
 use Rattle.bpf_text.specs.declared.fault.AsmFault.TheVariants.{Line, Memory}
-use Rattle.bpf_text.specs.declared.mnemonic.Mnemonic.{Mnemonic}
-use Rattle.bpf_text.specs.Cuts.{is_text, lines, code_of, label_of, body_of, mnemonic_part, operands_part}
-use Rattle.bpf_text.specs.Named.{named}
-use Rattle.bpf_text.specs.Statements.{instruction, target_name}
-use Rattle.bpf_text.specs.Tokens.{Reading}
-
--- What reading a line gives.
-abbrev pub LineReading : Type 0 → Type 0
-LineReading A = Result A LineFault
-
--- The instruction of a line, if it has one. The distance of its target is still 0.
-abbrev pub read_insn : Reading Insn → LineReading (Option Insn)
-read_insn (Ok insn) = Ok (Some insn)
-read_insn (Err operand.Wrong) = Err WrongOperands
-read_insn (Err operand.OutOfRange) = Err OutOfRange
-
-abbrev pub insn_of_mnemonic : Option Mnemonic → List ℕ → LineReading (Option Insn)
-insn_of_mnemonic None operands = Err UnknownMnemonic
-insn_of_mnemonic (Some mnemonic) operands = read_insn (instruction mnemonic operands)
-
-abbrev pub insn_of_body : List ℕ → LineReading (Option Insn)
-insn_of_body [] = Ok None
-insn_of_body (b ∷ s) = insn_of_mnemonic (named (mnemonic_part (b ∷ s))) (operands_part (b ∷ s))
-
-abbrev pub insn_of : List ℕ → LineReading (Option Insn)
-insn_of line = insn_of_body (body_of line)
+use Rattle.bpf_text.specs.declared.line.Line.{Line as LineSaid}
+use Rattle.bpf_text.specs.declared.statement.Statement.{Statement}
+use Rattle.bpf_text.specs.Cuts.{lines}
+use Rattle.bpf_text.specs.Lines.{read_line}
+use Rattle.bpf_text.specs.Statements.{LineReading}
 
 -- Where labels stand: the slot of a name.
 abbrev pub Labels : Type 0
@@ -60,12 +36,21 @@ slot_after slot (Err fault) = Err fault
 slot_after slot (Ok None) = Ok slot
 slot_after slot (Ok (Some insn)) = if nat_le (slot + slots_of insn) 65535 then Ok (slot + slots_of insn) else Err TooManySlots
 
+-- The instruction of a statement, if there is one. The distance of its target is still 0.
+abbrev pub insn_of : LineReading (Option Statement) → LineReading (Option Insn)
+insn_of (Err fault) = Err fault
+insn_of (Ok None) = Ok None
+insn_of (Ok (Some statement)) = Ok (Some statement.insn)
+
 -- The first round at a line: the slot after it, or its first fault.
-abbrev pub line_end : Labels → ℕ → List ℕ → LineReading ℕ
-line_end labels slot line =
-    if not (list_all is_text (code_of line)) then Err NotText
-    else if is_defined labels (label_of line) then Err LabelTwice
-    else slot_after slot (insn_of line)
+abbrev pub line_end : Labels → ℕ → LineReading LineSaid → LineReading ℕ
+line_end labels slot (Err fault) = Err fault
+line_end labels slot (Ok line) = if is_defined labels line.label then Err LabelTwice else slot_after slot (insn_of line.statement)
+
+-- The label of a line, if it has one.
+abbrev pub label_of : LineReading LineSaid → Option (List ℕ)
+label_of (Err fault) = None
+label_of (Ok line) = line.label
 
 -- The first round over the lines from a slot and a line number on: all labels, or the first fault.
 abbrev pub line_or : {A B : Type 0} → LineReading A → ℕ → (A → Result B AsmFault) → Result B AsmFault
@@ -74,25 +59,13 @@ line_or (Ok value) line_number next = next value
 
 abbrev pub first_round : Labels → ℕ → ℕ → List (List ℕ) → Result Labels AsmFault
 first_round labels slot line_number [] = Ok labels
-first_round labels slot line_number (line ∷ rest) = line_or (line_end labels slot line) line_number
-    (λ next. first_round (labels_with labels slot (label_of line)) next (line_number + 1) rest)
+first_round labels slot line_number (line ∷ rest) = line_or (line_end labels slot (read_line line)) line_number
+    (λ next. first_round (labels_with labels slot (label_of (read_line line))) next (line_number + 1) rest)
 
 -- Want of memory may be answered instead of a fault; else it is this one.
 abbrev pub IsFaultOf : {A : Type 0} → Result A AsmFault → AsmFault → Type 0
 IsFaultOf reading Memory = ⊤
 IsFaultOf reading (Line fault line_number) = reading ≡ Err (Line fault line_number)
-
--- The name of a line's target, if its instruction has one.
-abbrev pub target_of_mnemonic : Option Mnemonic → List ℕ → Option (List ℕ)
-target_of_mnemonic None operands = None
-target_of_mnemonic (Some mnemonic) operands = target_name mnemonic operands
-
-abbrev pub target_of_body : List ℕ → Option (List ℕ)
-target_of_body [] = None
-target_of_body (b ∷ s) = target_of_mnemonic (named (mnemonic_part (b ∷ s))) (operands_part (b ∷ s))
-
-abbrev pub target_of_line : List ℕ → Option (List ℕ)
-target_of_line line = target_of_body (body_of line)
 
 -- Whether a distance fits the offset of ja and of a conditional jump, of 16 bits.
 abbrev pub fits_offset : ℤ → Bool
@@ -117,18 +90,24 @@ abbrev pub with_label : ℕ → Insn → Option ℕ → LineReading (Option Insn
 with_label slot insn None = Err UnknownLabel
 with_label slot insn (Some target) = with_distance insn (pos target -ℤ pos (slot + 1))
 
-abbrev pub with_target : Labels → ℕ → LineReading (Option Insn) → Option (List ℕ) → LineReading (Option Insn)
-with_target labels slot (Ok (Some insn)) (Some name) = with_label slot insn (labels name)
-with_target labels slot reading target = reading
+abbrev pub with_target : Labels → ℕ → Insn → Option (List ℕ) → LineReading (Option Insn)
+with_target labels slot insn None = Ok (Some insn)
+with_target labels slot insn (Some name) = with_label slot insn (labels name)
 
--- The instruction of a line in a slot, its label replaced by the distance, or the fault of the second round.
-abbrev pub resolved : Labels → ℕ → List ℕ → LineReading (Option Insn)
-resolved labels slot line = with_target labels slot (insn_of line) (target_of_line line)
+-- The instruction of a statement in a slot, its label replaced by the distance, or the fault of the second round.
+abbrev pub placed : Labels → ℕ → LineReading (Option Statement) → LineReading (Option Insn)
+placed labels slot (Err fault) = Err fault
+placed labels slot (Ok None) = Ok None
+placed labels slot (Ok (Some statement)) = with_target labels slot statement.insn statement.target
+
+abbrev pub resolved : Labels → ℕ → LineReading LineSaid → LineReading (Option Insn)
+resolved labels slot (Err fault) = Err fault
+resolved labels slot (Ok line) = placed labels slot line.statement
 
 -- The second round over the lines from a slot and a line number on.
 abbrev pub second_round : Labels → ℕ → ℕ → List (List ℕ) → Result (Unit {0}) AsmFault
 second_round labels slot line_number [] = Ok tt
-second_round labels slot line_number (line ∷ rest) = line_or (slot_after slot (resolved labels slot line)) line_number
+second_round labels slot line_number (line ∷ rest) = line_or (slot_after slot (resolved labels slot (read_line line))) line_number
     (λ next. second_round labels next (line_number + 1) rest)
 
 -- Both rounds.
@@ -148,7 +127,7 @@ Spells (Ok (Some insn)) slot bytes Follows = (word rest : List ℕ) × (bytes �
 -- The bytes of lines from a slot on.
 abbrev pub AreBytes : Labels → ℕ → List (List ℕ) → List ℕ → Type 0
 AreBytes labels slot [] bytes = bytes ≡ []
-AreBytes labels slot (line ∷ rest) bytes = Spells (resolved labels slot line) slot bytes (λ next more. AreBytes labels next rest more)
+AreBytes labels slot (line ∷ rest) bytes = Spells (resolved labels slot (read_line line)) slot bytes (λ next more. AreBytes labels next rest more)
 
 -- Bytes that grew by those of an instruction, if there is one.
 abbrev pub AppendsWord : LineReading (Option Insn) → List ℕ → List ℕ → Type 0

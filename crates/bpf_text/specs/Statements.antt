@@ -1,53 +1,100 @@
 -- The instructions of a listing: the operands of each mnemonic. They are bpfdb's own choice.
-use Rattle.std.specs.Prelude.{ℕ, pos, List, [], ◌∷◌, Option, Some, None, Ok, Err}
+use Rattle.std.specs.Prelude.{ℕ, pos, List, [], ◌∷◌, Option, Some, None, Result, Ok, Err}
 use Rattle.bpf_isa.specs.declared.instruction.Insn.{Insn}
 use Rattle.bpf_isa.specs.declared.instruction.Insn.TheVariants as insn
-use Rattle.bpf_text.specs.declared.fault.OperandFault.TheVariants.{Wrong}
+use Rattle.bpf_text.specs.declared.fault.LineFault.{LineFault}
+use Rattle.bpf_text.specs.declared.fault.LineFault.TheVariants.{UnknownMnemonic, WrongOperands, OutOfRange}
 use Rattle.bpf_text.specs.declared.mnemonic.Mnemonic.{Mnemonic}
 use Rattle.bpf_text.specs.declared.mnemonic.Mnemonic.TheVariants.{Binary, Negate, SignExtend, SwapBytes, JumpIf, Jump, JumpLong, CallHelper, CallLocal, Exit, Load, LoadSigned, StoreImmediate, StoreRegister, Atomic, LoadNumber, LoadMap, LoadMapValue}
-use Rattle.bpf_text.specs.Cuts.{first_operand, other_operands}
-use Rattle.bpf_text.specs.Tokens.{Reading, both, register, source, memory, name, immediate, unsigned, wide}
+use Rattle.bpf_text.specs.declared.term.OperandForm.TheVariants.{Register, Unsigned, Signed, Source, Memory, Name}
+use Rattle.bpf_text.specs.declared.term.OperandForms.{OperandForms}
+use Rattle.bpf_text.specs.declared.term.OperandForms.TheVariants.{Nothing, One, Two, Three}
+use Rattle.bpf_text.specs.declared.term.Terms.{Terms}
+use Rattle.bpf_text.specs.declared.statement.Statement.{Statement}
+use Rattle.bpf_text.specs.Cuts.{mnemonic_part, operands_part}
+use Rattle.bpf_text.specs.Named.{named}
+use Rattle.bpf_text.specs.Terms.{terms_of, register_in, unsigned_in, immediate_in, wide_in, source_in, memory_in, target_in}
 
--- What is made of operands that were read.
-abbrev pub made : {A B : Type 0} → Reading A → (A → B) → Reading B
-made (Ok a) f = Ok (f a)
-made (Err fault) f = Err fault
+-- How the operands of each mnemonic are written.
+abbrev pub forms_of : Mnemonic → OperandForms
+forms_of (Binary op width) = Two Register Source
+forms_of (Negate width) = One Register
+forms_of (SignExtend extension) = Two Register Register
+forms_of (SwapBytes order width) = One Register
+forms_of (JumpIf condition width) = Three Register Source Name
+forms_of Jump = One Name
+forms_of JumpLong = One Name
+forms_of CallHelper = One Unsigned
+forms_of CallLocal = One Name
+forms_of Exit = Nothing
+forms_of (Load size) = Two Register Memory
+forms_of (LoadSigned size) = Two Register Memory
+forms_of (StoreImmediate size) = Two Memory Signed
+forms_of (StoreRegister size) = Two Memory Register
+forms_of (Atomic op width) = Two Memory Register
+forms_of LoadNumber = Two Register Signed
+forms_of LoadMap = Two Register Unsigned
+forms_of LoadMapValue = Three Register Unsigned Unsigned
 
--- No operand.
-abbrev pub none : List ℕ → Reading (Unit {0})
-none [] = Ok tt
-none (b ∷ s) = Err Wrong
+-- What is made of operands that are in their ranges.
+abbrev pub of_one : {A : Type 0} → Option A → (A → Insn) → Option Insn
+of_one (Some a) f = Some (f a)
+of_one None f = None
 
--- Two operands, separated by a comma.
-abbrev pub two : {A B : Type 0} → (List ℕ → Reading A) → (List ℕ → Reading B) → List ℕ → Reading (A × B)
-two first second s = both (first (first_operand s)) (second (other_operands s))
+abbrev pub of_two : {A B : Type 0} → Option A → Option B → (A → B → Insn) → Option Insn
+of_two (Some a) b f = of_one b (f a)
+of_two None b f = None
 
--- The instruction of a mnemonic and operands. The distance of a target is 0 here: it comes from the label.
-abbrev pub instruction : Mnemonic → List ℕ → Reading Insn
-instruction (Binary op width) s = made (two register source s) (λ o. insn.Binary op width o.0 o.1)
-instruction (Negate width) s = made (register s) (λ dst. insn.Negate width dst)
-instruction (SignExtend extension) s = made (two register register s) (λ o. insn.SignExtend extension o.0 o.1)
-instruction (SwapBytes order width) s = made (register s) (λ dst. insn.SwapBytes order width dst)
-instruction (JumpIf condition width) s =
-    made (two register (two source name) s) (λ o. insn.JumpIf condition width o.0 o.1.0 (pos 0))
-instruction Jump s = made (name s) (λ _. insn.Jump (pos 0))
-instruction JumpLong s = made (name s) (λ _. insn.JumpLong (pos 0))
-instruction CallHelper s = made (unsigned s) (λ helper. insn.CallHelper helper)
-instruction CallLocal s = made (name s) (λ _. insn.CallLocal (pos 0))
-instruction Exit s = made (none s) (λ _. insn.Exit)
-instruction (Load size) s = made (two register memory s) (λ o. insn.Load size o.0 o.1.0 o.1.1)
-instruction (LoadSigned size) s = made (two register memory s) (λ o. insn.LoadSigned size o.0 o.1.0 o.1.1)
-instruction (StoreImmediate size) s = made (two memory immediate s) (λ o. insn.StoreImmediate size o.0.0 o.0.1 o.1)
-instruction (StoreRegister size) s = made (two memory register s) (λ o. insn.StoreRegister size o.0.0 o.1 o.0.1)
-instruction (Atomic op width) s = made (two memory register s) (λ o. insn.Atomic op width o.0.0 o.1 o.0.1)
-instruction LoadNumber s = made (two register wide s) (λ o. insn.LoadNumber o.0 o.1)
-instruction LoadMap s = made (two register unsigned s) (λ o. insn.LoadMap o.0 o.1)
-instruction LoadMapValue s = made (two register (two unsigned unsigned) s) (λ o. insn.LoadMapValue o.0 o.1.0 o.1.1)
+abbrev pub of_three : {A B C : Type 0} → Option A → Option B → Option C → (A → B → C → Insn) → Option Insn
+of_three (Some a) b c f = of_two b c (f a)
+of_three None b c f = None
 
--- The name of the target, where the mnemonic has one.
-abbrev pub target_name : Mnemonic → List ℕ → Option (List ℕ)
-target_name (JumpIf condition width) s = Some (other_operands (other_operands s))
-target_name Jump s = Some s
-target_name JumpLong s = Some s
-target_name CallLocal s = Some s
-target_name _ s = None
+-- The instruction of a mnemonic and operands of its forms, if their numbers are in their ranges. The distance of a target is 0
+-- here: it comes from the label.
+abbrev pub insn_with : Mnemonic → Terms → Option Insn
+insn_with (Binary op width) t = of_two (register_in t.first) (source_in t.second) (insn.Binary op width)
+insn_with (Negate width) t = of_one (register_in t.first) (insn.Negate width)
+insn_with (SignExtend extension) t = of_two (register_in t.first) (register_in t.second) (insn.SignExtend extension)
+insn_with (SwapBytes order width) t = of_one (register_in t.first) (insn.SwapBytes order width)
+insn_with (JumpIf condition width) t =
+    of_two (register_in t.first) (source_in t.second) (λ dst source. insn.JumpIf condition width dst source (pos 0))
+insn_with Jump t = Some (insn.Jump (pos 0))
+insn_with JumpLong t = Some (insn.JumpLong (pos 0))
+insn_with CallHelper t = of_one (unsigned_in t.first) insn.CallHelper
+insn_with CallLocal t = Some (insn.CallLocal (pos 0))
+insn_with Exit t = Some insn.Exit
+insn_with (Load size) t = of_two (register_in t.first) (memory_in t.second) (λ dst src. insn.Load size dst src.0 src.1)
+insn_with (LoadSigned size) t =
+    of_two (register_in t.first) (memory_in t.second) (λ dst src. insn.LoadSigned size dst src.0 src.1)
+insn_with (StoreImmediate size) t =
+    of_two (memory_in t.first) (immediate_in t.second) (λ dst value. insn.StoreImmediate size dst.0 dst.1 value)
+insn_with (StoreRegister size) t =
+    of_two (memory_in t.first) (register_in t.second) (λ dst src. insn.StoreRegister size dst.0 src dst.1)
+insn_with (Atomic op width) t =
+    of_two (memory_in t.first) (register_in t.second) (λ dst src. insn.Atomic op width dst.0 src dst.1)
+insn_with LoadNumber t = of_two (register_in t.first) (wide_in t.second) insn.LoadNumber
+insn_with LoadMap t = of_two (register_in t.first) (unsigned_in t.second) insn.LoadMap
+insn_with LoadMapValue t =
+    of_three (register_in t.first) (unsigned_in t.second) (unsigned_in t.third) insn.LoadMapValue
+
+-- What reading a line, or a part of it, gives.
+abbrev pub LineReading : Type 0 → Type 0
+LineReading A = Result A LineFault
+
+-- The statement of a mnemonic and its operands, which are looked at for their forms first, and then for their ranges.
+abbrev pub in_ranges : Option Insn → Terms → LineReading (Option Statement)
+in_ranges None terms = Err OutOfRange
+in_ranges (Some insn) terms = Ok (Some (record { insn = insn; target = target_in terms }))
+
+abbrev pub of_forms : Mnemonic → Option Terms → LineReading (Option Statement)
+of_forms mnemonic None = Err WrongOperands
+of_forms mnemonic (Some terms) = in_ranges (insn_with mnemonic terms) terms
+
+abbrev pub of_mnemonic : Option Mnemonic → List ℕ → LineReading (Option Statement)
+of_mnemonic None operands = Err UnknownMnemonic
+of_mnemonic (Some mnemonic) operands = of_forms mnemonic (terms_of (forms_of mnemonic) operands)
+
+-- What a line says behind its label: nothing, or an instruction.
+abbrev pub read_statement : List ℕ → LineReading (Option Statement)
+read_statement [] = Ok None
+read_statement (b ∷ s) = of_mnemonic (named (mnemonic_part (b ∷ s))) (operands_part (b ∷ s))

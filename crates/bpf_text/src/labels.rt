@@ -1,8 +1,9 @@
 //! Where labels stand.
-ghost use Rattle.std.specs.Prelude.{◌≡◌, ℕ, List, Some, None, OnOk, option_map};
+ghost use Rattle.std.specs.Prelude.{◌≡◌, ℕ, List, Some, None, OnOk};
 ghost use Rattle.bpf_text.specs.Listing.{labels_with, is_defined};
 ghost use Rattle.bpf_text.specs.LabelMap.{labels_in};
 
+use crate::term::Name;
 use crate::text_key::TextKey;
 use indexmap::IndexMap;
 use std::alloc::{AllocError, Global};
@@ -20,24 +21,24 @@ pub fn no_labels<'a>(alloc: Global, text: &[u8]) -> LabelMap<'a>
 /// Puts a line's label, if it has one, at a slot.
 pub fn put_labels<'a>(
     labels: &mut LabelMap<'a>,
-    label: Option<&'a [u8]>,
+    label: Option<Name<'a>>,
     slot: u16,
 ) -> Result<(), AllocError>
     ensures { OnOk result ((q : List ℕ) → labels_in labels.new q
-        ≡ labels_with (labels_in labels.old) slot (option_map (λ r. r.now) label.entry) q) }
+        ≡ labels_with (labels_in labels.old) slot label.entry q) }
 {
     match label {
-        Some(name) => put_label(labels, name, slot),
+        Some(name) => put_label(labels, name.bytes, slot),
         None => Ok(()),
     }
 }
 
 /// Whether a line's label is there already.
-pub fn is_defined(labels: &LabelMap<'_>, label: Option<&[u8]>) -> bool
-    ensures { result ≡ is_defined (labels_in labels.now) (option_map (λ r. r.now) label.entry) }
+pub fn is_defined(labels: &LabelMap<'_>, label: &Option<Name<'_>>) -> bool
+    ensures { result ≡ is_defined (labels_in labels.now) label.now }
 {
     match label {
-        Some(name) => slot_of(labels, name).is_some(),
+        Some(name) => slot_of(labels, name.bytes).is_some(),
         None => false,
     }
 }

@@ -1,13 +1,16 @@
 //! The second round over a listing: each label is replaced by its distance, and the bytes follow.
-ghost use Rattle.std.specs.Prelude.{◌≡◌, ◌≤◌, ◌+◌, ◌≤ℤ◌, ◌-ℤ◌, pos, IfOk, IfErr, OnOk, Ok, Err, Some, if◌then◌else◌, ℕ, List, option_map};
+ghost use Rattle.std.specs.Prelude.{◌≡◌, ◌≤◌, ◌+◌, ◌≤ℤ◌, ◌-ℤ◌, pos, IfOk, IfErr, OnOk, Ok, Err, Some, if◌then◌else◌};
 ghost use Rattle.bpf_text.specs.Cuts.{lines};
-ghost use Rattle.bpf_text.specs.Listing.{resolved, with_distance, with_label, with_target, second_round, AreBytes, AppendsWord, IsFaultOf, fits_offset};
+ghost use Rattle.bpf_text.specs.Listing.{resolved, with_distance, with_label, with_target, slot_after, second_round, AreBytes, AppendsWord, IsFaultOf, fits_offset};
 ghost use Rattle.bpf_text.specs.LabelMap.{labels_in};
 
 use crate::cut::{after, before};
 use crate::fault::{AsmFault, LineFault};
+use crate::first_round::slot_plus;
 use crate::labels::{LabelMap, slot_of};
-use crate::line::{insn_of, slot_after, target_of_line};
+use crate::line::{Line, read_line};
+use crate::statement::Statement;
+use crate::term::Name;
 use bpf_isa::{Insn, encode};
 use std::alloc::{AllocError, Global};
 
@@ -24,8 +27,7 @@ pub fn second_round(alloc: Global, text: &[u8], labels: &LabelMap<'_>) -> Result
     let mut line_number = 1;
     let mut rest = text;
     while !rest.is_empty() {
-        let line = before(rest, b'\n');
-        let insn = resolved(labels, slot, line);
+        let insn = resolved(labels, slot, read_line(before(rest, b'\n')));
         match slot_after(slot, &insn) {
             Ok(next) => match put_word(&mut bytes, insn) {
                 Ok(()) => slot = next,
@@ -49,15 +51,35 @@ fn put_word(bytes: &mut Vec<u8>, insn: Result<Option<Insn>, LineFault>) -> Resul
     }
 }
 
-// The instruction of a line in a slot, its label replaced by the distance.
-fn resolved(labels: &LabelMap<'_>, slot: usize, line: &[u8]) -> Result<Option<Insn>, LineFault>
+// The slot after an instruction: the same one where there is none.
+fn slot_after(slot: usize, insn: &Result<Option<Insn>, LineFault>) -> Result<usize, LineFault>
     requires { slot ≤ 65535 }
-    ensures { result ≡ resolved (labels_in labels.now) slot line.now }
+    ensures value { result ≡ slot_after slot insn.now }
+    ensures within { IfOk result (λ next. next ≤ 65535) }
 {
-    match insn_of(line) {
+    match insn {
+        Err(fault) => Err(*fault),
+        Ok(None) => Ok(slot),
+        Ok(Some(insn)) => slot_plus(slot, insn.slots()),
+    }
+}
+
+// The instruction of a line in a slot, its label replaced by the distance.
+fn resolved(
+    labels: &LabelMap<'_>,
+    slot: usize,
+    line: Result<Line<'_>, LineFault>,
+) -> Result<Option<Insn>, LineFault>
+    requires { slot ≤ 65535 }
+    ensures { result ≡ resolved (labels_in labels.now) slot line.entry }
+{
+    match line {
         Err(fault) => Err(fault),
-        Ok(None) => Ok(None),
-        Ok(Some(insn)) => with_target(labels, slot, insn, target_of_line(line)),
+        Ok(line) => match line.statement {
+            Err(fault) => Err(fault),
+            Ok(None) => Ok(None),
+            Ok(Some(Statement { insn, target })) => with_target(labels, slot, insn, target),
+        },
     }
 }
 
@@ -65,15 +87,14 @@ fn with_target(
     labels: &LabelMap<'_>,
     slot: usize,
     insn: Insn,
-    target: Option<&[u8]>,
+    target: Option<Name<'_>>,
 ) -> Result<Option<Insn>, LineFault>
     requires { slot ≤ 65535 }
-    ensures { result ≡ with_target (labels_in labels.now) slot (Ok (Some insn))
-        (option_map (λ r. r.now) target.entry) }
+    ensures { result ≡ with_target (labels_in labels.now) slot insn target.entry }
 {
     match target {
         None => Ok(Some(insn)),
-        Some(name) => with_label(slot, insn, slot_of(labels, name)),
+        Some(name) => with_label(slot, insn, slot_of(labels, name.bytes)),
     }
 }
 

@@ -1,271 +1,226 @@
-//! The instructions of a listing: a mnemonic and its operands.
-ghost use Rattle.std.specs.Prelude.{◌≡◌, option_map};
-ghost use Rattle.bpf_text.specs.Cuts.{first_operand, other_operands};
-ghost use Rattle.bpf_text.specs.Tokens.{register, memory};
-ghost use Rattle.bpf_text.specs.Statements.{instruction, target_name, two};
+//! The statement of a line: a mnemonic and its operands.
+ghost use Rattle.std.specs.Prelude.{◌≡◌};
+ghost use Rattle.bpf_text.specs.Cuts.{mnemonic_part, operands_part};
+ghost use Rattle.bpf_text.specs.Statements.{forms_of, insn_with, read_statement, of_mnemonic};
 
-use crate::cut::{after, before, trim};
-use crate::fault::OperandFault;
+use crate::cut::{find_blank, trim};
+use crate::fault::LineFault;
 use crate::mnemonic::Mnemonic;
-use crate::token::{both, immediate, memory, name, register, source, unsigned, wide};
-use bpf_isa::{
-    AtomicOp, BinaryOp, ByteOrder, Condition, Extension, Insn, Reg, SignedSize, Size, SwapWidth,
-    Width,
-};
+use crate::table::named;
+use crate::term::{Name, OperandForm, OperandForms, Terms, read_terms};
+use bpf_isa::Insn;
 
-fn first_operand(text: &[u8]) -> &[u8]
-    ensures { result.now ≡ first_operand text.now }
-{
-    trim(before(text, b','))
+/// An instruction of a listing, and the name of its target, if it has one.
+#[derive(Drop)]
+pub struct Statement<'a> {
+    /// The instruction. The distance of its target is 0: it comes from the label.
+    pub insn: Insn,
+    /// The label that is its target.
+    pub target: Option<Name<'a>>,
 }
 
-fn other_operands(text: &[u8]) -> &[u8]
-    ensures { result.now ≡ other_operands text.now }
+/// What a line says behind its label: nothing, or an instruction.
+pub fn read_statement(text: &[u8]) -> Result<Option<Statement<'_>>, LineFault>
+    ensures { result ≡ read_statement text.now }
 {
-    trim(after(text, b','))
-}
-
-/// The instruction of a mnemonic and operands. The distance of a target is 0: it comes from the label.
-pub fn instruction(mnemonic: Mnemonic, operands: &[u8]) -> Result<Insn, OperandFault>
-    ensures { result ≡ instruction mnemonic operands.now }
-{
-    match mnemonic {
-        Mnemonic::Binary(op, width) => binary(op, width, operands),
-        Mnemonic::Negate(width) => negate(width, operands),
-        Mnemonic::SignExtend(extension) => sign_extend(extension, operands),
-        Mnemonic::SwapBytes(order, width) => swap_bytes(order, width, operands),
-        Mnemonic::JumpIf(condition, width) => jump_if(condition, width, operands),
-        Mnemonic::Jump => jump(operands),
-        Mnemonic::JumpLong => jump_long(operands),
-        Mnemonic::CallHelper => call_helper(operands),
-        Mnemonic::CallLocal => call_local(operands),
-        Mnemonic::Exit => exit(operands),
-        Mnemonic::Load(size) => load(size, operands),
-        Mnemonic::LoadSigned(size) => load_signed(size, operands),
-        Mnemonic::StoreImmediate(size) => store_immediate(size, operands),
-        Mnemonic::StoreRegister(size) => store_register(size, operands),
-        Mnemonic::Atomic(op, width) => atomic(op, width, operands),
-        Mnemonic::LoadNumber => load_number(operands),
-        Mnemonic::LoadMap => load_map(operands),
-        Mnemonic::LoadMapValue => load_map_value(operands),
+    if text.is_empty() {
+        return Ok(None);
+    }
+    match named(mnemonic_part(text)) {
+        None => Err(LineFault::UnknownMnemonic),
+        Some(mnemonic) => statement_of(mnemonic, operands_part(text)),
     }
 }
 
-/// The name of the target, where the mnemonic has one.
-pub fn target_name(mnemonic: Mnemonic, operands: &[u8]) -> Option<&[u8]>
-    ensures { option_map (λ r. r.now) result ≡ target_name mnemonic operands.now }
+fn mnemonic_part(text: &[u8]) -> &[u8]
+    ensures { result.now ≡ mnemonic_part text.now }
 {
-    match mnemonic {
-        Mnemonic::JumpIf(_, _) => Some(other_operands(other_operands(operands))),
-        Mnemonic::Jump | Mnemonic::JumpLong | Mnemonic::CallLocal => Some(operands),
-        _ => None,
-    }
+    &text[..find_blank(text)]
 }
 
-fn binary(op: BinaryOp, width: Width, operands: &[u8]) -> Result<Insn, OperandFault>
-    ensures { result ≡ instruction (Mnemonic.Binary op width) operands.now }
+fn operands_part(text: &[u8]) -> &[u8]
+    ensures { result.now ≡ operands_part text.now }
 {
-    let second = source(other_operands(operands));
-    let (dst, source) = both(register(first_operand(operands)), second)?;
-    Ok(Insn::Binary {
-        op,
-        width,
-        dst,
-        source,
-    })
-}
-
-fn negate(width: Width, operands: &[u8]) -> Result<Insn, OperandFault>
-    ensures { result ≡ instruction (Mnemonic.Negate width) operands.now }
-{
-    let dst = register(operands)?;
-    Ok(Insn::Negate { width, dst })
-}
-
-fn two_registers(operands: &[u8]) -> Result<(Reg, Reg), OperandFault>
-    ensures { result ≡ two register register operands.now }
-{
-    both(
-        register(first_operand(operands)),
-        register(other_operands(operands)),
-    )
-}
-
-fn sign_extend(extension: Extension, operands: &[u8]) -> Result<Insn, OperandFault>
-    ensures { result ≡ instruction (Mnemonic.SignExtend extension) operands.now }
-{
-    let (dst, src) = two_registers(operands)?;
-    Ok(Insn::SignExtend {
-        extension,
-        dst,
-        src,
-    })
-}
-
-fn swap_bytes(order: ByteOrder, width: SwapWidth, operands: &[u8]) -> Result<Insn, OperandFault>
-    ensures { result ≡ instruction (Mnemonic.SwapBytes order width) operands.now }
-{
-    let dst = register(operands)?;
-    Ok(Insn::SwapBytes { order, width, dst })
-}
-
-fn jump_if(condition: Condition, width: Width, operands: &[u8]) -> Result<Insn, OperandFault>
-    ensures { result ≡ instruction (Mnemonic.JumpIf condition width) operands.now }
-{
-    let rest = other_operands(operands);
-    let others = both(source(first_operand(rest)), name(other_operands(rest)));
-    let (dst, (source, ())) = both(register(first_operand(operands)), others)?;
-    Ok(Insn::JumpIf {
-        condition,
-        width,
-        dst,
-        source,
-        offset: 0,
-    })
-}
-
-fn jump(operands: &[u8]) -> Result<Insn, OperandFault>
-    ensures { result ≡ instruction Mnemonic.Jump operands.now }
-{
-    name(operands)?;
-    Ok(Insn::Jump { offset: 0 })
-}
-
-fn jump_long(operands: &[u8]) -> Result<Insn, OperandFault>
-    ensures { result ≡ instruction Mnemonic.JumpLong operands.now }
-{
-    name(operands)?;
-    Ok(Insn::JumpLong { distance: 0 })
-}
-
-fn call_helper(operands: &[u8]) -> Result<Insn, OperandFault>
-    ensures { result ≡ instruction Mnemonic.CallHelper operands.now }
-{
-    let helper = unsigned(operands)?;
-    Ok(Insn::CallHelper { helper })
-}
-
-fn call_local(operands: &[u8]) -> Result<Insn, OperandFault>
-    ensures { result ≡ instruction Mnemonic.CallLocal operands.now }
-{
-    name(operands)?;
-    Ok(Insn::CallLocal { distance: 0 })
-}
-
-fn exit(operands: &[u8]) -> Result<Insn, OperandFault>
-    ensures { result ≡ instruction Mnemonic.Exit operands.now }
-{
-    if operands.is_empty() {
-        Ok(Insn::Exit)
+    let end = find_blank(text);
+    if end < text.len() {
+        trim(&text[end + 1..])
     } else {
-        Err(OperandFault::Wrong)
+        trim(&[])
     }
 }
 
-fn register_and_memory(operands: &[u8]) -> Result<(Reg, (Reg, i16)), OperandFault>
-    ensures { result ≡ two register memory operands.now }
+// The operands are looked at for their forms first, and then for their ranges.
+fn statement_of(mnemonic: Mnemonic, operands: &[u8]) -> Result<Option<Statement<'_>>, LineFault>
+    ensures { result ≡ of_mnemonic (Some mnemonic) operands.now }
 {
-    both(
-        register(first_operand(operands)),
-        memory(other_operands(operands)),
-    )
+    match read_terms(forms_of(mnemonic), operands) {
+        None => Err(LineFault::WrongOperands),
+        Some(terms) => match insn_with(mnemonic, &terms) {
+            None => Err(LineFault::OutOfRange),
+            Some(insn) => Ok(Some(Statement {
+                insn,
+                target: terms.target(),
+            })),
+        },
+    }
 }
 
-fn memory_and_register(operands: &[u8]) -> Result<((Reg, i16), Reg), OperandFault>
-    ensures { result ≡ two memory register operands.now }
+/// How the operands of a mnemonic are written.
+fn forms_of(mnemonic: Mnemonic) -> OperandForms
+    ensures { result ≡ forms_of mnemonic }
 {
-    both(
-        memory(first_operand(operands)),
-        register(other_operands(operands)),
-    )
+    match mnemonic {
+        Mnemonic::Binary(_, _) => OperandForms::Two(OperandForm::Register, OperandForm::Source),
+        Mnemonic::Negate(_) | Mnemonic::SwapBytes(_, _) => OperandForms::One(OperandForm::Register),
+        Mnemonic::SignExtend(_) => OperandForms::Two(OperandForm::Register, OperandForm::Register),
+        Mnemonic::JumpIf(_, _) => {
+            OperandForms::Three(
+                OperandForm::Register,
+                OperandForm::Source,
+                OperandForm::Name,
+            )
+        }
+        Mnemonic::Jump | Mnemonic::JumpLong | Mnemonic::CallLocal => {
+            OperandForms::One(OperandForm::Name)
+        }
+        Mnemonic::CallHelper => OperandForms::One(OperandForm::Unsigned),
+        Mnemonic::Exit => OperandForms::Nothing,
+        Mnemonic::Load(_) | Mnemonic::LoadSigned(_) => {
+            OperandForms::Two(OperandForm::Register, OperandForm::Memory)
+        }
+        Mnemonic::StoreImmediate(_) => OperandForms::Two(OperandForm::Memory, OperandForm::Signed),
+        Mnemonic::StoreRegister(_) | Mnemonic::Atomic(_, _) => {
+            OperandForms::Two(OperandForm::Memory, OperandForm::Register)
+        }
+        Mnemonic::LoadNumber => OperandForms::Two(OperandForm::Register, OperandForm::Signed),
+        Mnemonic::LoadMap => OperandForms::Two(OperandForm::Register, OperandForm::Unsigned),
+        Mnemonic::LoadMapValue => {
+            OperandForms::Three(
+                OperandForm::Register,
+                OperandForm::Unsigned,
+                OperandForm::Unsigned,
+            )
+        }
+    }
 }
 
-fn load(size: Size, operands: &[u8]) -> Result<Insn, OperandFault>
-    ensures { result ≡ instruction (Mnemonic.Load size) operands.now }
+/// The instruction of a mnemonic and operands of its forms, if their numbers are in their ranges.
+fn insn_with(mnemonic: Mnemonic, terms: &Terms<'_>) -> Option<Insn>
+    ensures { result ≡ insn_with mnemonic terms.now }
 {
-    let (dst, (src, offset)) = register_and_memory(operands)?;
-    Ok(Insn::Load {
-        size,
-        dst,
-        src,
-        offset,
-    })
-}
-
-fn load_signed(size: SignedSize, operands: &[u8]) -> Result<Insn, OperandFault>
-    ensures { result ≡ instruction (Mnemonic.LoadSigned size) operands.now }
-{
-    let (dst, (src, offset)) = register_and_memory(operands)?;
-    Ok(Insn::LoadSigned {
-        size,
-        dst,
-        src,
-        offset,
-    })
-}
-
-fn store_immediate(size: Size, operands: &[u8]) -> Result<Insn, OperandFault>
-    ensures { result ≡ instruction (Mnemonic.StoreImmediate size) operands.now }
-{
-    let second = immediate(other_operands(operands));
-    let ((dst, offset), value) = both(memory(first_operand(operands)), second)?;
-    Ok(Insn::StoreImmediate {
-        size,
-        dst,
-        offset,
-        value,
-    })
-}
-
-fn store_register(size: Size, operands: &[u8]) -> Result<Insn, OperandFault>
-    ensures { result ≡ instruction (Mnemonic.StoreRegister size) operands.now }
-{
-    let ((dst, offset), src) = memory_and_register(operands)?;
-    Ok(Insn::StoreRegister {
-        size,
-        dst,
-        src,
-        offset,
-    })
-}
-
-fn atomic(op: AtomicOp, width: Width, operands: &[u8]) -> Result<Insn, OperandFault>
-    ensures { result ≡ instruction (Mnemonic.Atomic op width) operands.now }
-{
-    let ((dst, offset), src) = memory_and_register(operands)?;
-    Ok(Insn::Atomic {
-        op,
-        width,
-        dst,
-        src,
-        offset,
-    })
-}
-
-fn load_number(operands: &[u8]) -> Result<Insn, OperandFault>
-    ensures { result ≡ instruction Mnemonic.LoadNumber operands.now }
-{
-    let second = wide(other_operands(operands));
-    let (dst, value) = both(register(first_operand(operands)), second)?;
-    Ok(Insn::LoadNumber { dst, value })
-}
-
-fn load_map(operands: &[u8]) -> Result<Insn, OperandFault>
-    ensures { result ≡ instruction Mnemonic.LoadMap operands.now }
-{
-    let second = unsigned(other_operands(operands));
-    let (dst, map) = both(register(first_operand(operands)), second)?;
-    Ok(Insn::LoadMap { dst, map })
-}
-
-fn load_map_value(operands: &[u8]) -> Result<Insn, OperandFault>
-    ensures { result ≡ instruction Mnemonic.LoadMapValue operands.now }
-{
-    let rest = other_operands(operands);
-    let others = both(
-        unsigned(first_operand(rest)),
-        unsigned(other_operands(rest)),
-    );
-    let (dst, (map, offset)) = both(register(first_operand(operands)), others)?;
-    Ok(Insn::LoadMapValue { dst, map, offset })
+    match mnemonic {
+        Mnemonic::Binary(op, width) => {
+            let dst = terms.first.register()?;
+            let source = terms.second.source()?;
+            Some(Insn::Binary {
+                op,
+                width,
+                dst,
+                source,
+            })
+        }
+        Mnemonic::Negate(width) => {
+            let dst = terms.first.register()?;
+            Some(Insn::Negate { width, dst })
+        }
+        Mnemonic::SignExtend(extension) => {
+            let dst = terms.first.register()?;
+            let src = terms.second.register()?;
+            Some(Insn::SignExtend {
+                extension,
+                dst,
+                src,
+            })
+        }
+        Mnemonic::SwapBytes(order, width) => {
+            let dst = terms.first.register()?;
+            Some(Insn::SwapBytes { order, width, dst })
+        }
+        Mnemonic::JumpIf(condition, width) => {
+            let dst = terms.first.register()?;
+            let source = terms.second.source()?;
+            Some(Insn::JumpIf {
+                condition,
+                width,
+                dst,
+                source,
+                offset: 0,
+            })
+        }
+        Mnemonic::Jump => Some(Insn::Jump { offset: 0 }),
+        Mnemonic::JumpLong => Some(Insn::JumpLong { distance: 0 }),
+        Mnemonic::CallHelper => {
+            let helper = terms.first.unsigned()?;
+            Some(Insn::CallHelper { helper })
+        }
+        Mnemonic::CallLocal => Some(Insn::CallLocal { distance: 0 }),
+        Mnemonic::Exit => Some(Insn::Exit),
+        Mnemonic::Load(size) => {
+            let dst = terms.first.register()?;
+            let (src, offset) = terms.second.memory()?;
+            Some(Insn::Load {
+                size,
+                dst,
+                src,
+                offset,
+            })
+        }
+        Mnemonic::LoadSigned(size) => {
+            let dst = terms.first.register()?;
+            let (src, offset) = terms.second.memory()?;
+            Some(Insn::LoadSigned {
+                size,
+                dst,
+                src,
+                offset,
+            })
+        }
+        Mnemonic::StoreImmediate(size) => {
+            let (dst, offset) = terms.first.memory()?;
+            let value = terms.second.immediate()?;
+            Some(Insn::StoreImmediate {
+                size,
+                dst,
+                offset,
+                value,
+            })
+        }
+        Mnemonic::StoreRegister(size) => {
+            let (dst, offset) = terms.first.memory()?;
+            let src = terms.second.register()?;
+            Some(Insn::StoreRegister {
+                size,
+                dst,
+                src,
+                offset,
+            })
+        }
+        Mnemonic::Atomic(op, width) => {
+            let (dst, offset) = terms.first.memory()?;
+            let src = terms.second.register()?;
+            Some(Insn::Atomic {
+                op,
+                width,
+                dst,
+                src,
+                offset,
+            })
+        }
+        Mnemonic::LoadNumber => {
+            let dst = terms.first.register()?;
+            let value = terms.second.wide()?;
+            Some(Insn::LoadNumber { dst, value })
+        }
+        Mnemonic::LoadMap => {
+            let dst = terms.first.register()?;
+            let map = terms.second.unsigned()?;
+            Some(Insn::LoadMap { dst, map })
+        }
+        Mnemonic::LoadMapValue => {
+            let dst = terms.first.register()?;
+            let map = terms.second.unsigned()?;
+            let offset = terms.third.unsigned()?;
+            Some(Insn::LoadMapValue { dst, map, offset })
+        }
+    }
 }

@@ -10,8 +10,8 @@ pub returns-in-Err-clause-err : goal.returns-in-Err-clause-err
 returns-in-Err-clause-err c =
     let more : 0 < length c.loop-rest.rest.now = grind (arith, common_steps) in
     sym c.loop-rest.invariant.round
-    ∙ first_round-Err (labels_in c.loop-rest.labels) c.loop-rest.slot c.loop-rest.line_number c.loop-rest.rest.now _ _ more
-    c.before-line.ensures (sym c.in-Err.ensures.value)
+    ∙ first_round-Err (labels_in c.loop-rest.labels) c.loop-rest.slot c.loop-rest.line_number c.loop-rest.rest.now _ _ _ more
+    c.before-in-loop-rest.ensures c.read_line-line.ensures (sym c.in-Err.ensures.value)
 
 pub loop-rest-preserved : goal.loop-rest-preserved
 loop-rest-preserved c =
@@ -20,7 +20,7 @@ loop-rest-preserved c =
       within = c.in-Ok.ensures.within;
       count = omega (arith, length-after 10 c.loop-rest.rest.now more, ap length c.after-rest.ensures);
       round = first_round-Ok (labels_in c.loop-rest.labels) (labels_in c.put_labels.new.labels) c.loop-rest.slot c.loop-rest.line_number
-          c.loop-rest.rest.now _ _ _ c.in-Ok.next more c.before-line.ensures c.after-rest.ensures c.label_of.ensures
+          c.loop-rest.rest.now _ _ _ _ c.in-Ok.next more c.before-in-loop-rest.ensures c.after-rest.ensures c.read_line-line.ensures c.label_of.ensures
           (sym c.in-Ok.ensures.value) c.in-Ok-put_labels.ensures
           ∙ c.loop-rest.invariant.round;
     }
