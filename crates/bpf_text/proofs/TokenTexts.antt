@@ -10,7 +10,7 @@ use Rattle.std.specs.Char.{digit_value}
 use Rattle.std.proofs.lemmas.Fmt.{decimal_by_steps, decimal_digit, decimal_step, decimal_is_IsNumeral, digits_is_IsNumeral}
 use Rattle.std.proofs.lemmas.Bool.Decides.{nat_tests, leb_tells}
 use Rattle.std.proofs.lemmas.Int.{to_z_pos}
-use Rattle.bpf_text.specs.declared.fault.OperandFault.TheVariants.{Wrong}
+use Rattle.bpf_text.specs.declared.fault.LineFault.TheVariants.{WrongOperands}
 use Rattle.bpf_isa.specs.declared.instruction.Source.{Source}
 use Rattle.bpf_isa.specs.declared.instruction.Source.TheVariants as source_is
 use Rattle.bpf_text.specs.declared.number.Number.{Number}
@@ -155,7 +155,7 @@ name-label p h =
     rw all refl
 
 -- what doesn't begin with r is no register
-register-other : (s : List ℕ) → (slice_index s 0 == 114) ≡ false → register s ≡ Err Wrong
+register-other : (s : List ℕ) → (slice_index s 0 == 114) ≡ false → register s ≡ Err WrongOperands
 register-other [] e = refl
 register-other (a ∷ []) e = refl
 register-other (a ∷ b ∷ []) e = rw e refl
@@ -174,7 +174,7 @@ SourceFits (source_is.Immediate value) = SFits w32 value
 SourceFits (source_is.Register reg) = reg ≤ 10
 
 -- a number is no register
-pub register-signed : (z : ℤ) → SFits w32 z → register (signed_decimal z) ≡ Err Wrong
+pub register-signed : (z : ℤ) → SFits w32 z → register (signed_decimal z) ≡ Err WrongOperands
 register-signed z fits = register-other (signed_decimal z) (signed-other z fits)
 
 -- a byte that closes no bracket, and one that is no sign

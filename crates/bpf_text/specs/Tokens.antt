@@ -4,19 +4,15 @@ use Rattle.std.specs.List.{list_all, position_or_len}
 use Rattle.std.specs.Str.Parse.{digits_value}
 use Rattle.std.specs.Char.{digit_value}
 use Rattle.std.specs.Int.{w32, cast_signed}
-use Rattle.bpf_text.specs.declared.fault.OperandFault.{OperandFault}
-use Rattle.bpf_text.specs.declared.fault.OperandFault.TheVariants.{Wrong}
+use Rattle.bpf_text.specs.declared.fault.LineFault.{LineFault}
+use Rattle.bpf_text.specs.declared.fault.LineFault.TheVariants.{WrongOperands}
 use Rattle.bpf_text.specs.declared.number.Number.{Number}
 
--- What reading an operand gives.
-abbrev pub Reading : Type 0 → Type 0
-Reading A = Result A OperandFault
-
 -- A register: r0 to r10.
-abbrev pub register : List ℕ → Reading ℕ
-register (a ∷ b ∷ []) = if a == 114 && nat_le 48 b && nat_le b 57 then Ok (b - 48) else Err Wrong
-register (a ∷ b ∷ c ∷ []) = if a == 114 && b == 49 && c == 48 then Ok 10 else Err Wrong
-register _ = Err Wrong
+abbrev pub register : List ℕ → Result ℕ LineFault
+register (a ∷ b ∷ []) = if a == 114 && nat_le 48 b && nat_le b 57 then Ok (b - 48) else Err WrongOperands
+register (a ∷ b ∷ c ∷ []) = if a == 114 && b == 49 && c == 48 then Ok 10 else Err WrongOperands
+register _ = Err WrongOperands
 
 -- Digits of a radix as a number.
 abbrev pub numeral : ℕ → List ℕ → Option ℕ

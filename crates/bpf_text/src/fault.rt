@@ -2,15 +2,6 @@
 ghost use Rattle.std.specs.Prelude.{◌≡◌};
 ghost use Rattle.bpf_text.specs.Faults.{fault_number, fault_line, fault_text};
 
-/// What is wrong with operands.
-#[derive(Clone, Copy)]
-pub enum OperandFault {
-    /// They are not of the mnemonic's form.
-    Wrong,
-    /// They are, and a number is out of its range.
-    OutOfRange,
-}
-
 /// What is wrong with a line of a listing.
 #[derive(Clone, Copy)]
 pub enum LineFault {

@@ -3,19 +3,19 @@ ghost use Rattle.std.specs.Prelude.{◌≡◌};
 ghost use Rattle.std.specs.Result.{result_ok};
 ghost use Rattle.bpf_text.specs.Tokens.{register};
 
-use crate::fault::OperandFault;
+use crate::fault::LineFault;
 use bpf_isa::Reg;
 
 /// A register: r0 to r10.
-pub fn register(text: &[u8]) -> Result<Reg, OperandFault>
+pub fn register(text: &[u8]) -> Result<Reg, LineFault>
     ensures { result ≡ register text.now }
 {
     let number = match text {
         [b'r', digit @ b'0'..=b'9'] => *digit - b'0',
         [b'r', b'1', b'0'] => 10,
-        _ => return Err(OperandFault::Wrong),
+        _ => return Err(LineFault::WrongOperands),
     };
-    Reg::new(number).ok_or(OperandFault::Wrong)
+    Reg::new(number).ok_or(LineFault::WrongOperands)
 }
 
 /// The register that a word names, r0 to r10; None where it is another word.
