@@ -21,7 +21,7 @@ use Rattle.bpf_text.specs.declared.term.Term.TheVariants as term
 use Rattle.bpf_text.specs.declared.term.Terms.{Terms}
 use Rattle.bpf_text.specs.declared.statement.Statement.{Statement}
 use Rattle.bpf_text.specs.Cuts.{first_operand, other_operands}
-use Rattle.bpf_text.specs.Mnemonics.{mnemonic_of}
+use Rattle.bpf_isa.specs.Mnemonics.{mnemonic_of}
 use Rattle.bpf_text.specs.Operands.{operand_text, operands_of, operand_of, register_text, label_text, target_operand, IsSlot}
 use Rattle.bpf_text.specs.Tokens.{number_of}
 use Rattle.bpf_text.specs.Terms.{term_of, terms_of, one, two, three, source_in, name_in, target_in}

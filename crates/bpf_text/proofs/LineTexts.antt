@@ -12,7 +12,8 @@ use Rattle.bpf_text.specs.declared.statement.Statement.{Statement}
 use Rattle.bpf_text.specs.Cuts.{is_blank, is_text, is_name, before, after, trim, trim_start, code_of, is_labelled, mnemonic_part}
 use Rattle.bpf_text.specs.Cuts as cuts
 use Rattle.bpf_text.specs.Lines.{read_line}
-use Rattle.bpf_text.specs.Mnemonics.{mnemonic_of, name_of}
+use Rattle.bpf_isa.specs.Mnemonics.{mnemonic_of}
+use Rattle.bpf_text.specs.Mnemonics.{name_of}
 use Rattle.bpf_text.specs.Named.{named}
 use Rattle.bpf_text.specs.Operands.{operand_text, operands_text, operands_of, text_of_insn, label_text}
 use Rattle.bpf_text.specs.Statements.{read_statement, of_mnemonic}

@@ -19,8 +19,8 @@ use Rattle.bpf_isa.specs.declared.instruction.Condition.{Condition}
 use Rattle.bpf_isa.specs.declared.instruction.Condition.TheVariants as condition
 use Rattle.bpf_isa.specs.declared.instruction.AtomicOp.{AtomicOp}
 use Rattle.bpf_isa.specs.declared.instruction.AtomicOp.TheVariants as atomic
-use Rattle.bpf_text.specs.declared.mnemonic.Mnemonic.{Mnemonic}
-use Rattle.bpf_text.specs.declared.mnemonic.Mnemonic.TheVariants.{Binary, Negate, SignExtend, SwapBytes, JumpIf, Jump, Load, LoadSigned, StoreImmediate, StoreRegister, Atomic}
+use Rattle.bpf_isa.specs.declared.mnemonic.Mnemonic.{Mnemonic}
+use Rattle.bpf_isa.specs.declared.mnemonic.Mnemonic.TheVariants.{Binary, Negate, SignExtend, SwapBytes, JumpIf, Jump, Load, LoadSigned, StoreImmediate, StoreRegister, Atomic}
 use Rattle.bpf_text.specs.Mnemonics.{name_of, binary_name, width_suffix, condition_name, atomic_name}
 use Rattle.bpf_text.specs.Named.{named}
 

@@ -1,7 +1,5 @@
--- Mnemonics (the tables of RFC 9669, sections 4 and 5, a row an equation). The names are bpfdb's own choice.
+-- The names of mnemonics (the tables of RFC 9669, sections 4 and 5, a row an equation). They are bpfdb's own choice.
 use Rattle.std.specs.Prelude.{ℕ, List, [], ◌++◌, codes}
-use Rattle.bpf_isa.specs.declared.instruction.Insn.{Insn}
-use Rattle.bpf_isa.specs.declared.instruction.Insn.TheVariants as insn
 use Rattle.bpf_isa.specs.declared.instruction.Width.{Width}
 use Rattle.bpf_isa.specs.declared.instruction.Width.TheVariants.{Bits32, Bits64}
 use Rattle.bpf_isa.specs.declared.instruction.Size.{Size}
@@ -20,8 +18,8 @@ use Rattle.bpf_isa.specs.declared.instruction.Condition.{Condition}
 use Rattle.bpf_isa.specs.declared.instruction.Condition.TheVariants as condition
 use Rattle.bpf_isa.specs.declared.instruction.AtomicOp.{AtomicOp}
 use Rattle.bpf_isa.specs.declared.instruction.AtomicOp.TheVariants as atomic
-use Rattle.bpf_text.specs.declared.mnemonic.Mnemonic.{Mnemonic}
-use Rattle.bpf_text.specs.declared.mnemonic.Mnemonic.TheVariants.{Binary, Negate, SignExtend, SwapBytes, JumpIf, Jump, JumpLong, CallHelper, CallLocal, Exit, Load, LoadSigned, StoreImmediate, StoreRegister, Atomic, LoadNumber, LoadMap, LoadMapValue}
+use Rattle.bpf_isa.specs.declared.mnemonic.Mnemonic.{Mnemonic}
+use Rattle.bpf_isa.specs.declared.mnemonic.Mnemonic.TheVariants.{Binary, Negate, SignExtend, SwapBytes, JumpIf, Jump, JumpLong, CallHelper, CallLocal, Exit, Load, LoadSigned, StoreImmediate, StoreRegister, Atomic, LoadNumber, LoadMap, LoadMapValue}
 
 -- Arithmetic (section 4.1).
 abbrev pub binary_name : BinaryOp → List ℕ
@@ -130,24 +128,3 @@ name_of (Atomic op width) = atomic_name op ++ atomic_suffix width
 name_of LoadNumber = codes "lddw"
 name_of LoadMap = codes "ldmap"
 name_of LoadMapValue = codes "ldmapval"
-
--- The mnemonic of an instruction.
-abbrev pub mnemonic_of : Insn → Mnemonic
-mnemonic_of (insn.Binary op width dst source) = Binary op width
-mnemonic_of (insn.Negate width dst) = Negate width
-mnemonic_of (insn.SignExtend extension dst src) = SignExtend extension
-mnemonic_of (insn.SwapBytes order width dst) = SwapBytes order width
-mnemonic_of (insn.JumpIf condition width dst source offset) = JumpIf condition width
-mnemonic_of (insn.Jump offset) = Jump
-mnemonic_of (insn.JumpLong distance) = JumpLong
-mnemonic_of (insn.CallHelper helper) = CallHelper
-mnemonic_of (insn.CallLocal distance) = CallLocal
-mnemonic_of insn.Exit = Exit
-mnemonic_of (insn.Load size dst src offset) = Load size
-mnemonic_of (insn.LoadSigned size dst src offset) = LoadSigned size
-mnemonic_of (insn.StoreImmediate size dst offset value) = StoreImmediate size
-mnemonic_of (insn.StoreRegister size dst src offset) = StoreRegister size
-mnemonic_of (insn.Atomic op width dst src offset) = Atomic op width
-mnemonic_of (insn.LoadNumber dst value) = LoadNumber
-mnemonic_of (insn.LoadMap dst map) = LoadMap
-mnemonic_of (insn.LoadMapValue dst map offset) = LoadMapValue

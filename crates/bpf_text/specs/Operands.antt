@@ -9,7 +9,8 @@ use Rattle.bpf_text.specs.declared.operand.Operand.{Operand}
 use Rattle.bpf_text.specs.declared.operand.Operand.TheVariants.{Register, Signed, Unsigned, Hexadecimal, Memory, Target}
 use Rattle.bpf_text.specs.declared.operand.Operands.{Operands}
 use Rattle.bpf_text.specs.declared.operand.Operands.TheVariants.{Nothing, One, Two, Three}
-use Rattle.bpf_text.specs.Mnemonics.{mnemonic_of, name_of}
+use Rattle.bpf_isa.specs.Mnemonics.{mnemonic_of}
+use Rattle.bpf_text.specs.Mnemonics.{name_of}
 use Rattle.bpf_io.specs.Writing.{hexadecimal}
 
 -- A whole number that can be a slot.

@@ -4,8 +4,8 @@ use Rattle.bpf_isa.specs.declared.instruction.Insn.{Insn}
 use Rattle.bpf_isa.specs.declared.instruction.Insn.TheVariants as insn
 use Rattle.bpf_text.specs.declared.fault.LineFault.{LineFault}
 use Rattle.bpf_text.specs.declared.fault.LineFault.TheVariants.{UnknownMnemonic, WrongOperands, OutOfRange}
-use Rattle.bpf_text.specs.declared.mnemonic.Mnemonic.{Mnemonic}
-use Rattle.bpf_text.specs.declared.mnemonic.Mnemonic.TheVariants.{Binary, Negate, SignExtend, SwapBytes, JumpIf, Jump, JumpLong, CallHelper, CallLocal, Exit, Load, LoadSigned, StoreImmediate, StoreRegister, Atomic, LoadNumber, LoadMap, LoadMapValue}
+use Rattle.bpf_isa.specs.declared.mnemonic.Mnemonic.{Mnemonic}
+use Rattle.bpf_isa.specs.declared.mnemonic.Mnemonic.TheVariants.{Binary, Negate, SignExtend, SwapBytes, JumpIf, Jump, JumpLong, CallHelper, CallLocal, Exit, Load, LoadSigned, StoreImmediate, StoreRegister, Atomic, LoadNumber, LoadMap, LoadMapValue}
 use Rattle.bpf_text.specs.declared.term.OperandForm.TheVariants.{Register, Unsigned, Signed, Source, Memory, Name}
 use Rattle.bpf_text.specs.declared.term.OperandForms.{OperandForms}
 use Rattle.bpf_text.specs.declared.term.OperandForms.TheVariants.{Nothing, One, Two, Three}

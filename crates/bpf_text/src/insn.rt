@@ -4,10 +4,10 @@ ghost use Rattle.bpf_isa.specs.Programs.{target_of};
 ghost use Rattle.bpf_text.specs.Operands.{IsSlot, register_text, offset_text, operand_text, operands_text, text_of_insn, label_text};
 ghost use Rattle.bpf_io.specs.Writing.{Writes, WritesAfter};
 
-use crate::mnemonic::Mnemonic;
+use crate::names::name_of;
 use crate::operand::{Operand, Operands, operands_of};
 use bpf_io::{Counted, WriteFault, put, put_decimal, put_hexadecimal, put_signed};
-use bpf_isa::{Insn, Reg};
+use bpf_isa::{Insn, Mnemonic, Reg};
 use std::io::Write;
 
 /// Writes the canonical text of the instruction in this slot, without a line feed. The slot is 0 to
@@ -36,7 +36,7 @@ pub fn put_insn<W: Write>(
     requires target { IfSome (target_of slot insn) IsSlot }
     ensures { WritesAfter W.contents writer.old so_far writer.new result (text_of_insn slot insn) }
 {
-    let named = put(writer, so_far, Mnemonic::of(&insn).name().as_bytes());
+    let named = put(writer, so_far, name_of(&Mnemonic::of(&insn)).as_bytes());
     put_operands(writer, named, &operands_of(slot, &insn))
 }
 

@@ -10,7 +10,6 @@ mod insn;
 mod labels;
 mod laws;
 mod line;
-mod mnemonic;
 mod names;
 mod number;
 mod operand;

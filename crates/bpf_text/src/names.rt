@@ -1,13 +1,40 @@
 //! The names of the mnemonics, a row an arm (RFC 9669, sections 4 and 5).
 ghost use Rattle.std.specs.Prelude.{◌≡◌, ◌++◌, codes};
-ghost use Rattle.bpf_text.specs.Mnemonics.{binary_name, width_suffix, extension_name, order_name, swap_suffix, condition_name, size_suffix, signed_suffix, atomic_name, atomic_suffix};
+ghost use Rattle.bpf_text.specs.Mnemonics.{binary_name, width_suffix, extension_name, order_name, swap_suffix, condition_name, size_suffix, signed_suffix, atomic_name, atomic_suffix, name_of};
 
 use bpf_isa::{
-    AtomicOp, BinaryOp, ByteOrder, Condition, Extension, SignedSize, Size, SwapWidth, Width,
+    AtomicOp, BinaryOp, ByteOrder, Condition, Extension, Mnemonic, SignedSize, Size, SwapWidth,
+    Width,
 };
 
+/// The name of a mnemonic in a listing.
+pub fn name_of(mnemonic: &Mnemonic) -> &'static str
+    ensures { result.now ≡ name_of mnemonic.now }
+{
+    match *mnemonic {
+        Mnemonic::Binary(op, width) => binary_name(op, width),
+        Mnemonic::Negate(width) => negate_name(width),
+        Mnemonic::SignExtend(extension) => extension_name(extension),
+        Mnemonic::SwapBytes(order, width) => swap_name(order, width),
+        Mnemonic::JumpIf(condition, width) => jump_name(condition, width),
+        Mnemonic::Jump => "ja",
+        Mnemonic::JumpLong => "ja32",
+        Mnemonic::CallHelper => "call",
+        Mnemonic::CallLocal => "callf",
+        Mnemonic::Exit => "exit",
+        Mnemonic::Load(size) => load_name(size),
+        Mnemonic::LoadSigned(size) => signed_load_name(size),
+        Mnemonic::StoreImmediate(size) => store_name(size),
+        Mnemonic::StoreRegister(size) => store_register_name(size),
+        Mnemonic::Atomic(op, width) => atomic_name(op, width),
+        Mnemonic::LoadNumber => "lddw",
+        Mnemonic::LoadMap => "ldmap",
+        Mnemonic::LoadMapValue => "ldmapval",
+    }
+}
+
 /// Arithmetic of two operands (section 4.1).
-pub fn binary_name(op: BinaryOp, width: Width) -> &'static str
+fn binary_name(op: BinaryOp, width: Width) -> &'static str
     ensures { result.now ≡ binary_name op ++ width_suffix width }
 {
     match (op, width) {
@@ -43,7 +70,7 @@ pub fn binary_name(op: BinaryOp, width: Width) -> &'static str
 }
 
 /// Negation (section 4.1).
-pub fn negate_name(width: Width) -> &'static str
+fn negate_name(width: Width) -> &'static str
     ensures { result.now ≡ codes "neg" ++ width_suffix width }
 {
     match width {
@@ -53,7 +80,7 @@ pub fn negate_name(width: Width) -> &'static str
 }
 
 /// Moves that extend the sign (section 4.1).
-pub fn extension_name(extension: Extension) -> &'static str
+fn extension_name(extension: Extension) -> &'static str
     ensures { result.now ≡ extension_name extension }
 {
     match extension {
@@ -66,7 +93,7 @@ pub fn extension_name(extension: Extension) -> &'static str
 }
 
 /// Byte swaps (section 4.2).
-pub fn swap_name(order: ByteOrder, width: SwapWidth) -> &'static str
+fn swap_name(order: ByteOrder, width: SwapWidth) -> &'static str
     ensures { result.now ≡ order_name order ++ swap_suffix width }
 {
     match (order, width) {
@@ -83,7 +110,7 @@ pub fn swap_name(order: ByteOrder, width: SwapWidth) -> &'static str
 }
 
 /// Conditional jumps (section 4.3).
-pub fn jump_name(condition: Condition, width: Width) -> &'static str
+fn jump_name(condition: Condition, width: Width) -> &'static str
     ensures { result.now ≡ condition_name condition ++ width_suffix width }
 {
     match (condition, width) {
@@ -113,7 +140,7 @@ pub fn jump_name(condition: Condition, width: Width) -> &'static str
 }
 
 /// Loads (section 5.1).
-pub fn load_name(size: Size) -> &'static str
+fn load_name(size: Size) -> &'static str
     ensures { result.now ≡ codes "ldx" ++ size_suffix size }
 {
     match size {
@@ -125,7 +152,7 @@ pub fn load_name(size: Size) -> &'static str
 }
 
 /// Loads that extend the sign (section 5.2).
-pub fn signed_load_name(size: SignedSize) -> &'static str
+fn signed_load_name(size: SignedSize) -> &'static str
     ensures { result.now ≡ codes "ldxs" ++ signed_suffix size }
 {
     match size {
@@ -136,7 +163,7 @@ pub fn signed_load_name(size: SignedSize) -> &'static str
 }
 
 /// Stores of an immediate number (section 5.1).
-pub fn store_name(size: Size) -> &'static str
+fn store_name(size: Size) -> &'static str
     ensures { result.now ≡ codes "st" ++ size_suffix size }
 {
     match size {
@@ -148,7 +175,7 @@ pub fn store_name(size: Size) -> &'static str
 }
 
 /// Stores of a register (section 5.1).
-pub fn store_register_name(size: Size) -> &'static str
+fn store_register_name(size: Size) -> &'static str
     ensures { result.now ≡ codes "stx" ++ size_suffix size }
 {
     match size {
@@ -160,7 +187,7 @@ pub fn store_register_name(size: Size) -> &'static str
 }
 
 /// Atomic operations (section 5.3).
-pub fn atomic_name(op: AtomicOp, width: Width) -> &'static str
+fn atomic_name(op: AtomicOp, width: Width) -> &'static str
     ensures { result.now ≡ atomic_name op ++ atomic_suffix width }
 {
     match (op, width) {

@@ -5,10 +5,9 @@ ghost use Rattle.bpf_text.specs.Statements.{forms_of, insn_with, read_statement,
 
 use crate::cut::{find_blank, trim};
 use crate::fault::LineFault;
-use crate::mnemonic::Mnemonic;
 use crate::table::named;
 use crate::term::{Name, OperandForm, OperandForms, Terms, read_terms};
-use bpf_isa::Insn;
+use bpf_isa::{Insn, Mnemonic};
 
 /// An instruction of a listing, and the name of its target, if it has one.
 #[derive(Drop)]

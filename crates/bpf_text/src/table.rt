@@ -2,9 +2,10 @@
 ghost use Rattle.std.specs.Prelude.{◌≡◌};
 ghost use Rattle.bpf_text.specs.Named.{named};
 
-use crate::mnemonic::Mnemonic;
+use crate::names::name_of;
 use bpf_isa::{
-    AtomicOp, BinaryOp, ByteOrder, Condition, Extension, SignedSize, Size, SwapWidth, Width,
+    AtomicOp, BinaryOp, ByteOrder, Condition, Extension, Mnemonic, SignedSize, Size, SwapWidth,
+    Width,
 };
 
 /// Each mnemonic once, in the order of RFC 9669's tables.
@@ -128,5 +129,5 @@ pub fn named(name: &[u8]) -> Option<Mnemonic>
     MNEMONICS
         .iter()
         .copied()
-        .find(|mnemonic| mnemonic.name().as_bytes() == name)
+        .find(|mnemonic| name_of(mnemonic).as_bytes() == name)
 }
