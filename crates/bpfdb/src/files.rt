@@ -1,4 +1,6 @@
 //! FILE and PATH, read up to a limit.
+ghost use Rattle.std.specs.Prelude.{◌≤◌, IfOk, length};
+
 use crate::fault::FileFault;
 use std::fs;
 use std::fs::File;
@@ -31,7 +33,9 @@ pub fn read_beginning<'a>(
     rt: &HostRuntime,
     path: &'a str,
     most: usize,
-) -> Result<Vec<u8>, FileFault<'a>> {
+) -> Result<Vec<u8>, FileFault<'a>>
+    ensures { IfOk result (λ bytes. length bytes.items ≤ most) }
+{
     let mut file = match fs::open(rt, path) {
         Ok(file) => file,
         Err(_) => return Err(FileFault::Unreadable { path }),
@@ -66,7 +70,9 @@ fn read_piece(file: &mut File, piece: &mut [u8]) -> std::io::Result<Piece> {
 }
 
 /// The bytes of a listing.
-pub fn read_listing<'a>(rt: &HostRuntime, path: &'a str) -> Result<Vec<u8>, FileFault<'a>> {
+pub fn read_listing<'a>(rt: &HostRuntime, path: &'a str) -> Result<Vec<u8>, FileFault<'a>>
+    ensures { IfOk result (λ bytes. length bytes.items ≤ LISTING_BYTES) }
+{
     let text = read_beginning(rt, path, LISTING_BYTES + 1)?;
     if text.len() > LISTING_BYTES {
         return Err(FileFault::TooLong {
@@ -78,7 +84,9 @@ pub fn read_listing<'a>(rt: &HostRuntime, path: &'a str) -> Result<Vec<u8>, File
 }
 
 /// The bytes of a context; none where there is no path.
-pub fn read_context<'a>(rt: &HostRuntime, path: Option<&'a str>) -> Result<Vec<u8>, FileFault<'a>> {
+pub fn read_context<'a>(rt: &HostRuntime, path: Option<&'a str>) -> Result<Vec<u8>, FileFault<'a>>
+    ensures { IfOk result (λ bytes. length bytes.items ≤ CONTEXT_BYTES) }
+{
     match path {
         Some(path) => read_beginning(rt, path, CONTEXT_BYTES),
         None => Ok(Vec::new(rt.alloc())),

@@ -1,4 +1,6 @@
 //! Standard input as a script is read from it.
+ghost use Rattle.std.specs.Prelude.{◌≡◌};
+
 use std::io;
 use std::io::Read;
 
@@ -13,7 +15,9 @@ pub struct Input<R> {
 
 impl<R> Input<R> {
     /// Wraps a reader of a descriptor.
-    pub fn new(inner: R) -> Input<R> {
+    pub fn new(inner: R) -> Input<R>
+        ensures { result ≡ record { inner = inner } }
+    {
         Input { inner }
     }
 }
