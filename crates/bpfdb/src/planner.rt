@@ -1,5 +1,6 @@
 //! From the words of a command line to a plan.
-ghost use Rattle.std.specs.Prelude.{◌≡◌, IfOk, IfSome, Some, List, map, option_map};
+ghost use Rattle.std.specs.Prelude.{◌≡◌, ◌<◌, ◌^◌, IfNone, IfOk, IfSome, MatchOption, Some, List, map, option_map};
+ghost use Rattle.std.specs.Str.Parse.{IsNumeral, digits_value, without_leading_plus};
 ghost use Rattle.clap.specs.Words.{Row, Text, first_of, found_of, rows_of, subcommand_rows_of};
 ghost use Rattle.bpfdb.specs.Plans.{IsLimit, IsPlan, Says, is_given, subcommand_name, number_or};
 
@@ -96,7 +97,8 @@ fn plan_in<'a>(name: &'a str, found: &ArgMatches<'a>) -> Option<Plan<'a>>
 
 /// The subcommand of this name.
 fn subcommand_named(name: &str) -> Option<Subcommand>
-    ensures { IfSome result (λ subcommand. subcommand_name subcommand ≡ name.now) }
+    ensures found { IfSome result (λ subcommand. subcommand_name subcommand ≡ name.now) }
+    ensures none { IfNone result ((subcommand : Subcommand) → subcommand_name subcommand ≡ name.now → ⊥) }
 {
     match name {
         "run" => Some(Subcommand::Run),
@@ -117,7 +119,8 @@ fn text_of<'a>(found: &ArgMatches<'a>, id: &str) -> Option<&'a str>
 
 /// The number of an option; None where its text is no number below 2^64.
 fn number_or(text: Option<&str>, default: u64) -> Option<u64>
-    ensures { IfSome result (λ number. number ≡ number_or default (option_map (λ t. t.now) text.entry)) }
+    ensures found { IfSome result (λ number. number ≡ number_or default (option_map (λ t. t.now) text.entry)) }
+    ensures none { IfNone result (MatchOption text.entry ⊥ (λ t. IsNumeral 10 (without_leading_plus t.now) → digits_value 10 (without_leading_plus t.now) < 2 ^ 64 → ⊥)) }
 {
     match text {
         None => Some(default),
