@@ -45,56 +45,59 @@ fn is_last(bytes: &[u8], slot: usize) -> bool
     bytes.len() <= 8 * after
 }
 
+/// What the checker looks at: the bytes of a program, its starts, one flag a slot, and its maps.
+#[derive(Clone, Copy)]
+pub struct Draft<'a> {
+    pub bytes: &'a [u8],
+    pub starts: &'a [bool],
+    pub maps: &'a MapTable,
+}
+
 /// The fault of the piece at a start that reads as an instruction, the one with the least number.
-fn broken_rule(
-    insn: &Insn,
-    bytes: &[u8],
-    slot: usize,
-    starts: &[bool],
-    maps: &MapTable,
-) -> Option<PieceFault>
-    requires slots { AreSlots bytes.now }
-    requires start { IsStartIn bytes.now slot }
-    requires flags { AreStarts bytes.now starts.now }
-    ensures found { IfSome result (IsLeast piece_fault_number (Breaks bytes.now maps.now slot insn.now)) }
-    ensures none { IfNone result (IsSound bytes.now maps.now slot insn.now) }
+fn broken_rule(draft: &Draft<'_>, slot: usize, insn: &Insn) -> Option<PieceFault>
+    requires slots { AreSlots draft.now.bytes.now }
+    requires start { IsStartIn draft.now.bytes.now slot }
+    requires flags { AreStarts draft.now.bytes.now draft.now.starts.now }
+    ensures found { IfSome result
+        (IsLeast piece_fault_number (Breaks draft.now.bytes.now draft.now.maps.now slot insn.now)) }
+    ensures none { IfNone result (IsSound draft.now.bytes.now draft.now.maps.now slot insn.now) }
 {
     if insn.writes_ten() {
         return Some(PieceFault::WritesFramePointer);
     }
-    if !lands(insn, slot, starts) {
+    if !lands(insn, slot, draft.starts) {
         return Some(PieceFault::NoTarget);
     }
-    if is_cut_off(piece_of(bytes, slot)) {
+    if is_cut_off(piece_of(draft.bytes, slot)) {
         return Some(PieceFault::Word(WordFault::CutOff));
     }
-    if insn.falls_through() && is_last(bytes, slot) {
+    if insn.falls_through() && is_last(draft.bytes, slot) {
         return Some(PieceFault::RunsOff);
     }
     if !insn.helper_exists() {
         return Some(PieceFault::UnknownHelper);
     }
-    if !insn.map_exists(maps) {
+    if !insn.map_exists(draft.maps) {
         return Some(PieceFault::NoMap);
     }
     None
 }
 
 /// The instruction at a start, or its fault with the least number.
-fn piece(bytes: &[u8], slot: usize, starts: &[bool], maps: &MapTable) -> Result<Insn, PieceFault>
-    requires slots { AreSlots bytes.now }
-    requires start { IsStartIn bytes.now slot }
-    requires flags { AreStarts bytes.now starts.now }
-    ensures ok { IfOk result (IsPiece bytes.now maps.now slot) }
-    ensures clear { OnOk result (HasNoFault bytes.now maps.now slot) }
-    ensures fault { IfErr result (IsLeastFault bytes.now maps.now slot) }
+fn piece(draft: &Draft<'_>, slot: usize) -> Result<Insn, PieceFault>
+    requires slots { AreSlots draft.now.bytes.now }
+    requires start { IsStartIn draft.now.bytes.now slot }
+    requires flags { AreStarts draft.now.bytes.now draft.now.starts.now }
+    ensures ok { IfOk result (IsPiece draft.now.bytes.now draft.now.maps.now slot) }
+    ensures clear { OnOk result (HasNoFault draft.now.bytes.now draft.now.maps.now slot) }
+    ensures fault { IfErr result (IsLeastFault draft.now.bytes.now draft.now.maps.now slot) }
 {
-    let piece = piece_of(bytes, slot);
+    let piece = piece_of(draft.bytes, slot);
     let insn = match read_insn(piece) {
         Ok(insn) => insn,
         Err(fault) => return Err(PieceFault::Word(fault)),
     };
-    match broken_rule(&insn, bytes, slot, starts, maps) {
+    match broken_rule(draft, slot, &insn) {
         Some(fault) => Err(fault),
         None => Ok(insn),
     }
@@ -115,25 +118,20 @@ pub fn starts_of(alloc: Global, bytes: &[u8]) -> Result<Vec<bool>, AllocError>
 }
 
 /// The instructions at the starts, or the first fault.
-pub fn insns_of(
-    alloc: Global,
-    bytes: &[u8],
-    starts: &[bool],
-    maps: &MapTable,
-) -> Result<Vec<Option<Insn>>, LoadFault>
-    requires slots { AreSlots bytes.now }
-    requires flags { AreStarts bytes.now starts.now }
+pub fn insns_of(alloc: Global, draft: &Draft<'_>) -> Result<Vec<Option<Insn>>, LoadFault>
+    requires slots { AreSlots draft.now.bytes.now }
+    requires flags { AreStarts draft.now.bytes.now draft.now.starts.now }
     ensures ok { IfOk result (λ insns.
-        AreInsns bytes.now maps.now insns.items (length starts.now)) }
-    ensures fault { IfErr result (IsRefused bytes.now maps.now) }
+        AreInsns draft.now.bytes.now draft.now.maps.now insns.items (length draft.now.starts.now)) }
+    ensures fault { IfErr result (IsRefused draft.now.bytes.now draft.now.maps.now) }
 {
-    let mut insns = match Vec::with_capacity(alloc, starts.len()) {
+    let mut insns = match Vec::with_capacity(alloc, draft.starts.len()) {
         Ok(insns) => insns,
         Err(_) => return Err(LoadFault::Memory),
     };
-    for slot in 0..starts.len() {
-        if starts[slot] {
-            match piece(bytes, slot, starts, maps) {
+    for slot in 0..draft.starts.len() {
+        if draft.starts[slot] {
+            match piece(draft, slot) {
                 Ok(insn) => {
                     if insns.push(Some(insn)).is_err() {
                         return Err(LoadFault::Memory);

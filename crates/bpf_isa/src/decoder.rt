@@ -158,10 +158,7 @@ fn decode_word(bytes: &[u8]) -> Result<Insn, WordFault>
     ensures fault { IfErr result (IsLeastWordFault bytes.now) }
     ensures only { (insn : Insn) → IsWord insn bytes.now → result ≡ Ok insn }
 {
-    let insn = match read_insn(bytes) {
-        Ok(insn) => insn,
-        Err(fault) => return Err(fault),
-    };
+    let insn = read_insn(bytes)?;
     if is_cut_off(bytes) {
         return Err(WordFault::CutOff);
     }

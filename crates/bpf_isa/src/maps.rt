@@ -156,16 +156,8 @@ fn shape_in(item: &[u8]) -> Option<(u32, u32)>
     ensures value { IfSome result (λ m. m.0 ≡ min (shape_of item.now).value_size 4294967295) }
     ensures entries { IfSome result (λ m. m.1 ≡ min (shape_of item.now).entries 4294967295) }
 {
-    let at = match x_in(item) {
-        Some(at) => at,
-        None => return None,
-    };
-    let value_size = match numeral_value(&item[..at]) {
-        Some(value_size) => value_size,
-        None => return None,
-    };
-    match numeral_value(&item[at + 1..]) {
-        Some(entries) => Some((value_size, entries)),
-        None => None,
-    }
+    let at = x_in(item)?;
+    let value_size = numeral_value(&item[..at])?;
+    let entries = numeral_value(&item[at + 1..])?;
+    Some((value_size, entries))
 }

@@ -3,7 +3,7 @@ ghost use Rattle.std.specs.Prelude.{◌≡◌, ◌↔◌, IsTrue, OnOk, IfOk, If
 ghost use Rattle.bpf_isa.specs.Checker.{AreSlots, IsAccepted, IsRefused};
 ghost use Rattle.bpf_isa.specs.declared.maps.MapShape.{MapShape};
 
-use crate::checker::{insns_of, starts_of};
+use crate::checker::{Draft, insns_of, starts_of};
 use crate::fault::LoadFault;
 use crate::instruction::Insn;
 use crate::maps::MapTable;
@@ -94,18 +94,19 @@ pub fn check(alloc: Global, bytes: &[u8], maps: &MapTable) -> Result<Program, Lo
         (program.bytes ≡ bytes.now) × (program.maps ≡ maps.now)) }
     ensures fault { IfErr result (IsRefused bytes.now maps.now) }
 {
-    match length_fault(bytes) {
-        Some(fault) => return Err(fault),
-        None => {}
+    if let Some(fault) = length_fault(bytes) {
+        return Err(fault);
     }
     let starts = match starts_of(alloc, bytes) {
         Ok(starts) => starts,
         Err(_) => return Err(LoadFault::Memory),
     };
-    let insns = match insns_of(alloc, bytes, &starts, maps) {
-        Ok(insns) => insns,
-        Err(fault) => return Err(fault),
+    let draft = Draft {
+        bytes,
+        starts: &starts,
+        maps,
     };
+    let insns = insns_of(alloc, &draft)?;
     match Vec::from_slice(alloc, bytes) {
         Ok(bytes) => Ok(Program {
             bytes,

@@ -16,9 +16,9 @@ pub invariant_of-result : goal.invariant_of-result
 invariant_of-result c =
     let bytes = c.args.bytes.now in
     let slots : AreSlots bytes = search rules in
-    let kept : AreInsns bytes c.args.maps.now c.in-Ok-insns_of.insns.items (length c.in-Ok.starts.items) = subst (λ starts. AreInsns bytes c.args.maps.now c.in-Ok-insns_of.insns.items (length starts)) c.deref.ensures.value c.in-Ok-insns_of.ensures.ok in
+    let kept : AreInsns bytes c.args.maps.now c.in_ok-insns.insns.items (length c.in-Ok.starts.items) = subst (λ starts. AreInsns bytes c.args.maps.now c.in_ok-insns.insns.items (length starts)) c.deref.ensures.value c.in_ok-insns.ensures.ok in
     copied_program bytes _ _ c.args.maps.now _ c.in-Ok-from_slice.ensures.items c.copied.ensures.value
-    (is_program bytes c.in-Ok-insns_of.insns.items c.args.maps.now (length c.in-Ok.starts.items) c.in-Ok.ensures.slots slots c.copied.ensures.fits kept)
+    (is_program bytes c.in_ok-insns.insns.items c.args.maps.now (length c.in-Ok.starts.items) c.in-Ok.ensures.slots slots c.copied.ensures.fits kept)
 
 pub returns-in-Some-clause-fault : goal.returns-in-Some-clause-fault
 returns-in-Some-clause-fault c = c.in-Some.ensures.found c.args.maps.now
