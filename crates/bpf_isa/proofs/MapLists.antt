@@ -1,7 +1,6 @@
 -- Lists of maps: what one more item does to the table so far.
-use Rattle.std.proofs.Common.{◌≡◌, ◌<◌, ◌≤◌, inl, inr, ℕ, ◌+◌, min, true, false, List, [], ◌∷◌, ◌++◌, Some, Result, Ok, Err, length, get_or, take, sym, ap, ◌∙◌, subst, arith, lit<, lit≤, length-append}
-use Rattle.std.specs.Prelude.{OnOk, IfErr, map}
-use Rattle.std.specs.Result.{is_ok}
+use Rattle.std.proofs.Common.{◌≡◌, ◌<◌, ◌≤◌, inl, inr, ℕ, ◌+◌, min, List, [], ◌∷◌, ◌++◌, Some, length, get_or, take, sym, ap, ◌∙◌, subst, arith, lit<, lit≤, length-append}
+use Rattle.std.specs.Prelude.{map}
 use Rattle.std.proofs.lemmas.Bool.{cases_lt}
 use Rattle.std.proofs.lemmas.List.{take_more, take_all, get_or-map}
 use Rattle.std.proofs.Math.Seq.{get_or-append_seam}
@@ -62,11 +61,6 @@ module _ (table : List MapShape) (v e w x m : ℕ) (cut_v : w ≡ min v m) (cut_
   uncut Full h = same_least Full (value_same 4 (omega arith) h.least) (entries_same 4 (omega arith) h.least) h
   uncut Malformed h = absurd h.applies
 
--- The first k maps were added, or one of them was the first that couldn't be.
-abbrev pub IsOutcome : {U : Type 0} → Result U MapFault → List MapShape → List MapShape → ℕ → Type 0
-IsOutcome (Ok u) table maps k = (table ≡ take k maps) × AreMaps table
-IsOutcome (Err fault) table maps k = IsFirstBadMap maps fault
-
 -- the first k items are well formed
 abbrev pub AreItems : List (List ℕ) → ℕ → Type 0
 AreItems items k = (j : ℕ) → j < k → IsItem (get_or items j [])
@@ -89,7 +83,7 @@ same_shape v e w x m p q large small few =
     cc
 
 -- an item was added
-added : (items : List (List ℕ)) (k w x : ℕ) (old new : List MapShape) → k < length items → w ≡ min (shape_of (get_or items k [])).value_size 4294967295 → x ≡ min (shape_of (get_or items k [])).entries 4294967295 → (old ≡ take k (map shape_of items)) × AreMaps old → new ≡ old ++ record { value_size = w; entries = x } ∷ [] → AreMaps new → (new ≡ take (k + 1) (map shape_of items)) × AreMaps new
+pub added : (items : List (List ℕ)) (k w x : ℕ) (old new : List MapShape) → k < length items → w ≡ min (shape_of (get_or items k [])).value_size 4294967295 → x ≡ min (shape_of (get_or items k [])).entries 4294967295 → (old ≡ take k (map shape_of items)) × AreMaps old → new ≡ old ++ record { value_size = w; entries = x } ∷ [] → AreMaps new → (new ≡ take (k + 1) (map shape_of items)) × AreMaps new
 added items k w x old new inside value entries before grown are =
     let item = get_or items k [] in
     let fits : IsShape (record { value_size = w; entries = x }) = last_shape old (record { value_size = w; entries = x }) (subst AreMaps grown are) in
@@ -101,7 +95,7 @@ added items k w x old new inside value entries before grown are =
     (grown ∙ ap (λ l. l ++ record { value_size = w; entries = x } ∷ []) before.0 ∙ ap (λ s. take k maps ++ s ∷ []) (shape ∙ sym at) ∙ sym more, are)
 
 -- an item couldn't be added
-refused : (items : List (List ℕ)) (k w x : ℕ) (old : List MapShape) (fault : MapFault) → k < length items → w ≡ min (shape_of (get_or items k [])).value_size 4294967295 → x ≡ min (shape_of (get_or items k [])).entries 4294967295 → (old ≡ take k (map shape_of items)) × AreMaps old → IsLeastMapFault old w x fault → IsFirstBadMap (map shape_of items) fault
+pub refused : (items : List (List ℕ)) (k w x : ℕ) (old : List MapShape) (fault : MapFault) → k < length items → w ≡ min (shape_of (get_or items k [])).value_size 4294967295 → x ≡ min (shape_of (get_or items k [])).entries 4294967295 → (old ≡ take k (map shape_of items)) × AreMaps old → IsLeastMapFault old w x fault → IsFirstBadMap (map shape_of items) fault
 refused items k w x old fault inside value entries before least =
     let item = get_or items k [] in
     let maps = map shape_of items in
@@ -128,13 +122,3 @@ list_fault text Entries form bad = (form, bad)
 list_fault text Total form bad = (form, bad)
 list_fault text Full form bad = (form, bad)
 list_fault text Malformed form bad = absurd bad.least.applies
-
--- a turn of the loop
-pub turn_ok : {U : Type 0} (items : List (List ℕ)) (k w x : ℕ) (old new : List MapShape) (o r : Result U MapFault) → is_ok o ≡ true → k < length items → w ≡ min (shape_of (get_or items k [])).value_size 4294967295 → x ≡ min (shape_of (get_or items k [])).entries 4294967295 → IsOutcome o old (map shape_of items) k → OnOk r (new ≡ old ++ record { value_size = w; entries = x } ∷ []) → OnOk r (AreMaps new) → IfErr r (IsLeastMapFault old w x) → IsOutcome r new (map shape_of items) (k + 1)
-turn_ok items k w x old new (Ok u) (Ok v) ok inside value entries before grown are least = added items k w x old new inside value entries before grown are
-turn_ok items k w x old new (Ok u) (Err fault) ok inside value entries before grown are least = refused items k w x old fault inside value entries before least
-turn_ok items k w x old new (Err e) r ok inside value entries before grown are least = cc
-
-pub turn_err : {U : Type 0} (maps table : List MapShape) (k n : ℕ) (o : Result U MapFault) → is_ok o ≡ false → IsOutcome o table maps k → IsOutcome o table maps n
-turn_err maps table k n (Ok u) err before = cc
-turn_err maps table k n (Err e) err before = before

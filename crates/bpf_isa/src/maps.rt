@@ -1,5 +1,5 @@
 //! Map tables.
-ghost use Rattle.std.specs.Prelude.{◌≡◌, ◌↔◌, [], ◌∷◌, ◌++◌, IfErr, IfOk, IfNone, IfSome, IsSome, OnSome, OnErr, OnOk, length, map, min, position, slice_get};
+ghost use Rattle.std.specs.Prelude.{◌≡◌, ◌↔◌, [], ◌∷◌, ◌++◌, IfErr, IfOk, IfNone, IfSome, IsSome, IsTrue, OnSome, OnErr, OnOk, length, map, min, position, slice_get};
 ghost use Rattle.std.specs.Str.Parse.{IsNumeral, digits_value};
 ghost use Rattle.bpf_isa.specs.Maps.{AreMaps, IsLeastMapFault, is_x, IsItem, shape_of, items_of, IsMapList, IsListFault};
 
@@ -106,22 +106,32 @@ impl MapTable {
         ensures value { IfOk result (λ maps. maps ≡ map shape_of (items_of text.now)) }
         ensures fault { IfErr result (IsListFault text.now) }
     {
+        if !is_map_list(text) {
+            return Err(MapFault::Malformed);
+        }
         let mut maps = MapTable::empty();
-        let mut outcome = Ok(());
         for item in text.split(|byte| *byte == b',') {
-            let (value_size, entries) = match shape_in(item) {
-                Some(shape) => shape,
-                None => return Err(MapFault::Malformed),
-            };
-            if outcome.is_ok() {
-                outcome = maps.add(value_size, entries);
+            if let Some((value_size, entries)) = shape_in(item) {
+                match maps.add(value_size, entries) {
+                    Ok(()) => {}
+                    Err(fault) => return Err(fault),
+                }
             }
         }
-        match outcome {
-            Ok(()) => Ok(maps),
-            Err(fault) => Err(fault),
+        Ok(maps)
+    }
+}
+
+/// Whether a text has the form of a list of maps.
+fn is_map_list(text: &[u8]) -> bool
+    ensures { IsTrue result ↔ IsMapList text.now }
+{
+    for item in text.split(|byte| *byte == b',') {
+        if shape_in(item).is_none() {
+            return false;
         }
     }
+    true
 }
 
 /// The value of a numeral, at most 2^32 - 1, or None where the digits are no numeral.
