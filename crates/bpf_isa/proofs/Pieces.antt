@@ -35,9 +35,9 @@ left : (p : ℕ → Bool) (n : ℕ) → p n ≡ false → filter p (n ∷ []) �
 left p n e = cc
 
 -- a start's piece goes on where the pieces before it ended
-joined : (bytes : List ℕ) (n : ℕ) (wide : Bool) → take (8 * n) bytes ++ take (if wide then 16 else 8) (drop (8 * n) bytes) ≡ take (reach (not (true && wide)) (n + 1)) bytes
-joined bytes n true = sym (take-add (8 * n) 16 bytes) ∙ ap (λ k. take k bytes) (omega arith)
-joined bytes n false = sym (take-add (8 * n) 8 bytes) ∙ ap (λ k. take k bytes) (omega arith)
+piece_joined : (bytes : List ℕ) (n : ℕ) (wide : Bool) → take (8 * n) bytes ++ take (if wide then 16 else 8) (drop (8 * n) bytes) ≡ take (reach (not (true && wide)) (n + 1)) bytes
+piece_joined bytes n true = sym (take-add (8 * n) 16 bytes) ∙ ap (λ k. take k bytes) (omega arith)
+piece_joined bytes n false = sym (take-add (8 * n) 8 bytes) ∙ ap (λ k. take k bytes) (omega arith)
 
 step : (bytes : List ℕ) (n : ℕ) (b : Bool) → is_start bytes n ≡ b → before bytes n ≡ take (reach b n) bytes → before bytes (suc n) ≡ take (reach (not (b && is_wide_at bytes n)) (n + 1)) bytes
 step bytes n true e so_far =
@@ -45,7 +45,7 @@ step bytes n true e so_far =
     ∙ ap (λ l. before bytes n ++ concat (map (piece_at bytes) l)) (kept (is_start bytes) n e)
     ∙ ap (λ l. before bytes n ++ l) (append-nil (piece_at bytes n))
     ∙ ap (λ l. l ++ piece_at bytes n) so_far
-    ∙ joined bytes n (is_wide_at bytes n)
+    ∙ piece_joined bytes n (is_wide_at bytes n)
 step bytes n false e so_far =
     one_more bytes n
     ∙ ap (λ l. before bytes n ++ concat (map (piece_at bytes) l)) (left (is_start bytes) n e)

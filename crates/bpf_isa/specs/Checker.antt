@@ -32,12 +32,12 @@ abbrev pub piece_at : List ℕ → ℕ → List ℕ
 piece_at bytes p = take (if is_wide_at bytes p then 16 else 8) (drop (8 * p) bytes)
 
 -- The starts, in order.
-abbrev pub starts_of : List ℕ → List ℕ
-starts_of bytes = filter (is_start bytes) (range_with_len 0 (length bytes / 8))
+abbrev pub starts_in : List ℕ → List ℕ
+starts_in bytes = filter (is_start bytes) (range_with_len 0 (length bytes / 8))
 
 -- The pieces at the starts, put together in order, are the bytes: the cut loses none and takes none twice.
 abbrev pub PiecesAreTheBytes : Type 0
-PiecesAreTheBytes = (bytes : List ℕ) → length bytes % 8 ≡ 0 → concat (map (piece_at bytes) (starts_of bytes)) ≡ bytes
+PiecesAreTheBytes = (bytes : List ℕ) → length bytes % 8 ≡ 0 → concat (map (piece_at bytes) (starts_in bytes)) ≡ bytes
 
 -- The slot after a piece.
 abbrev pub after : List ℕ → ℕ → ℕ

@@ -28,6 +28,13 @@ fn source_of(kind: SourceKind, fields: Fields) -> Source
     }
 }
 
+/// Whether both register fields are at most 10.
+fn has_registers(fields: Fields) -> bool
+    ensures { IsTrue result ↔ HasRegisters fields }
+{
+    fields.dst <= 10 && fields.src <= 10
+}
+
 /// The instruction of a mnemonic with the parts that stand in the fields.
 fn insn_of(mnemonic: Mnemonic, source: SourceKind, fields: Fields) -> Insn
     requires { HasRegisters fields }
@@ -130,7 +137,7 @@ pub(crate) fn read_insn(bytes: &[u8]) -> Result<Insn, WordFault>
         Some(mnemonic) => mnemonic,
         None => return Err(WordFault::UnknownInstruction),
     };
-    if fields.dst > 10 || fields.src > 10 {
+    if !has_registers(fields) {
         return Err(WordFault::RegisterAboveTen);
     }
     let insn = insn_of(mnemonic, source, fields);
