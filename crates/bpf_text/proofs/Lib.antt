@@ -12,4 +12,5 @@ pub mod PlainTexts
 pub mod ProgramParts
 pub mod Rounds
 pub mod Saturating
+pub mod TokenGrammar
 pub mod TokenTexts

@@ -71,7 +71,7 @@ register-text r h = elim (leb_tells 10 r) [
 ]
 
 -- digits as a number
-list_all-AllDigits : (radix : ℕ) (s : List ℕ) → AllDigits radix s → list_all (λ d. nat_lt (digit_value d) radix) s ≡ true
+pub list_all-AllDigits : (radix : ℕ) (s : List ℕ) → AllDigits radix s → list_all (λ d. nat_lt (digit_value d) radix) s ≡ true
 list_all-AllDigits radix [] p = refl
 list_all-AllDigits radix (b ∷ s) p =
     let here : nat_lt (digit_value b) radix ≡ true = less (digit_value b) radix p.0 in

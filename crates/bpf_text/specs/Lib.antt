@@ -1,6 +1,7 @@
 pub mod Canonical
 pub mod Cuts
 pub mod Faults
+pub mod Grammar
 pub mod LabelMap
 pub mod Laws
 pub mod Lines

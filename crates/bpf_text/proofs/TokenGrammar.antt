@@ -1,0 +1,144 @@
+-- What is read of registers and numbers is what their grammar says.
+use Rattle.std.proofs.Common.{ℕ, ◌≡◌, ◌<◌, ◌≤◌, ◌+◌, ◌-◌, ◌==◌, Bool, true, false, ◌&&◌, ◌↔◌, List, [], ◌∷◌, ◌++◌, refl, ap, sym, ◌∙◌, arith, inl, inr, lit<, lit≤, nat_lt, nat_le, Option, Some, None, option_map, Ok, Err, slice_index, drop, if◌then◌else◌}
+use Rattle.std.specs.List.{list_all}
+use Rattle.std.specs.Fmt.{decimal}
+use Rattle.std.specs.Str.Parse.{AllDigits, digits_value}
+use Rattle.std.specs.Char.{digit_value}
+use Rattle.std.proofs.lemmas.Bool.{eqb-true}
+use Rattle.std.proofs.lemmas.Bool.Decides.{nat_tests}
+use Rattle.std.proofs.lemmas.Fmt.{decimal_digit, decimal_step}
+use Rattle.bpf_text.specs.declared.fault.LineFault.TheVariants.{WrongOperands}
+use Rattle.bpf_text.specs.declared.number.Number.{Number}
+use Rattle.bpf_text.specs.Grammar.{IsRegister, AreDigits, IsNatural, IsSigned}
+use Rattle.bpf_text.specs.Tokens.{register, numeral, natural, has_prefix, is_negative, signed, number_of}
+use Rattle.bpf_text.proofs.PlainTexts.{and-both}
+use Rattle.bpf_text.proofs.TokenTexts.{register-text, numeral-digits, list_all-AllDigits, slice_index-other}
+
+-- registers
+decimal-ten : decimal 10 ≡ 49 ∷ 48 ∷ []
+decimal-ten = decimal_step 10 (lit≤ tt) (lit< tt) ∙ ap (λ d. d ++ 48 ∷ []) (decimal_digit 1 (lit< tt))
+
+abbrev is_one_digit : ℕ → ℕ → Bool
+is_one_digit a b = a == 114 && nat_le 48 b && nat_le b 57
+
+abbrev is_ten : ℕ → ℕ → ℕ → Bool
+is_ten a b c = a == 114 && b == 49 && c == 48
+
+one-digit : (a b : ℕ) → is_one_digit a b ≡ true → (a ≡ 114) × (48 ≤ b) × (b ≤ 57)
+one-digit a b h = (grind (arith, nat_tests), grind (arith, nat_tests), grind (arith, nat_tests))
+
+ten : (a b c : ℕ) → is_ten a b c ≡ true → (a ≡ 114) × (b ≡ 49) × (c ≡ 48)
+ten a b c h = (grind (arith, nat_tests), grind (arith, nat_tests), grind (arith, nat_tests))
+
+register-says : (s : List ℕ) (r : ℕ) → register s ≡ Ok r → IsRegister s r
+register-says [] r e = cc
+register-says (a ∷ []) r e = cc
+register-says (a ∷ b ∷ []) r e = go (is_one_digit a b) refl e where
+  go : (t : Bool) → is_one_digit a b ≡ t → (if t then Ok (b - 48) else Err WrongOperands) ≡ Ok r → IsRegister (a ∷ b ∷ []) r
+  go true h e =
+      let parts = one-digit a b h in
+      let value : b - 48 ≡ r = cc in
+      let back : 48 + r ≡ b = omega (arith, parts.1, value) in
+      (omega (arith, parts.1, parts.2, value), rw (parts.0, decimal_digit r (omega (arith, parts.2, value)), back) refl)
+  go false h e = cc
+register-says (a ∷ b ∷ c ∷ []) r e = go (is_ten a b c) refl e where
+  go : (t : Bool) → is_ten a b c ≡ t → (if t then Ok 10 else Err WrongOperands) ≡ Ok r → IsRegister (a ∷ b ∷ c ∷ []) r
+  go true h e =
+      let parts = ten a b c h in
+      let value : r ≡ 10 = cc in
+      (omega (arith, value), rw (parts.0, parts.1, parts.2, value, decimal-ten) refl)
+  go false h e = cc
+register-says (a ∷ b ∷ c ∷ d ∷ s) r e = cc
+
+pub registers : (s : List ℕ) (r : ℕ) → (register s ≡ Ok r) ↔ IsRegister s r
+registers s r = (register-says s r, λ known. ap register known.1 ∙ register-text r known.0)
+
+-- digits
+AllDigits-list_all : (radix : ℕ) (s : List ℕ) → list_all (λ d. nat_lt (digit_value d) radix) s ≡ true → AllDigits radix s
+AllDigits-list_all radix [] p = tt
+AllDigits-list_all radix (b ∷ s) p =
+    let parts = and-both (nat_lt (digit_value b) radix) (list_all (λ d. nat_lt (digit_value d) radix) s) p in
+    (less (digit_value b) radix parts.0, AllDigits-list_all radix s parts.1) where
+      less : (a b : ℕ) → nat_lt a b ≡ true → a < b
+      less a b h = grind (arith, nat_tests)
+
+numeral-says : (radix n : ℕ) (s : List ℕ) → numeral radix s ≡ Some n → AreDigits radix s n
+numeral-says radix n [] e = cc
+numeral-says radix n (c ∷ s) e = go (list_all (λ d. nat_lt (digit_value d) radix) (c ∷ s)) refl e where
+  go : (t : Bool) → list_all (λ d. nat_lt (digit_value d) radix) (c ∷ s) ≡ t
+      → (if t then Some (digits_value radix (c ∷ s)) else None) ≡ Some n → AreDigits radix (c ∷ s) n
+  go true h e = let value : digits_value radix (c ∷ s) ≡ n = cc in ((omega arith, AllDigits-list_all radix (c ∷ s) h), value)
+  go false h e = cc
+
+-- a number without a sign
+prefix-says : (s : List ℕ) → has_prefix s ≡ true → s ≡ 48 ∷ 120 ∷ drop 2 s
+prefix-says [] h = cc
+prefix-says (a ∷ []) h = let parts = and-both (a == 48) false h in cc
+prefix-says (a ∷ b ∷ s) h =
+    let parts = and-both (a == 48) (b == 120) h in
+    rw (eqb-true a 48 parts.0, eqb-true b 120 parts.1) refl
+
+natural-says : (s : List ℕ) (n : ℕ) → natural s ≡ Some n → IsNatural s n
+natural-says s n e = go (has_prefix s) refl e where
+  go : (t : Bool) → has_prefix s ≡ t → (if t then numeral 16 (drop 2 s) else numeral 10 s) ≡ Some n → IsNatural s n
+  go true h e = inr (drop 2 s, prefix-says s h, numeral-says 16 n (drop 2 s) e)
+  go false h e = inl (numeral-says 10 n s e)
+
+digit-other : (c b : ℕ) → nat_lt (digit_value c) 10 ≡ false → nat_lt (digit_value b) 10 ≡ true → (b == c) ≡ false
+digit-other c b misses passes = go (b == c) refl where
+  go : (t : Bool) → (b == c) ≡ t → (b == c) ≡ false
+  go true e = let same = eqb-true b c e in let clash = rw same at passes in cc
+  go false e = e
+
+decimal-no-prefix : (s : List ℕ) → AllDigits 10 s → has_prefix s ≡ false
+decimal-no-prefix s p = and-false (slice_index s 0 == 48) (slice_index s 1 == 120)
+    (slice_index-other (λ d. nat_lt (digit_value d) 10) 120 s 1 (λ b d. digit-other 120 b refl d) refl (list_all-AllDigits 10 s p)) where
+      and-false : (a b : Bool) → b ≡ false → (a && b) ≡ false
+      and-false true b h = h
+      and-false false b h = refl
+
+says-natural : (s : List ℕ) (n : ℕ) → IsNatural s n → natural s ≡ Some n
+says-natural s n (inl known) = rw (decimal-no-prefix s known.0.1) (numeral-digits 10 n s known.0 known.1)
+says-natural s n (inr known) = ap natural known.1 ∙ numeral-digits 16 n known.0 known.2.0 known.2.1
+
+pub naturals : (s : List ℕ) (n : ℕ) → (natural s ≡ Some n) ↔ IsNatural s n
+naturals s n = (natural-says s n, says-natural s n)
+
+-- a number with a sign or none
+minus-says : (s : List ℕ) → is_negative s ≡ true → s ≡ 45 ∷ drop 1 s
+minus-says [] h = cc
+minus-says (a ∷ s) h = rw (eqb-true a 45 h) refl
+
+map-says : (negative : Bool) (o : Option ℕ) (number : Number) → option_map (number_of negative) o ≡ Some number
+    → (o ≡ Some number.magnitude) × (number.negative ≡ negative)
+map-says negative None number e = cc
+map-says negative (Some n) number e =
+    let same : number_of negative n ≡ number = cc in
+    (ap (λ x. Some x.magnitude) same, sym (ap (λ x. x.negative) same))
+
+signed-says : (s : List ℕ) (number : Number) → signed s ≡ Some number → IsSigned s number
+signed-says s number e = go (is_negative s) refl e where
+  go : (t : Bool) → is_negative s ≡ t
+      → (if t then option_map (number_of true) (natural (drop 1 s)) else option_map (number_of false) (natural s)) ≡ Some number
+      → IsSigned s number
+  go true h e =
+      let parts = map-says true (natural (drop 1 s)) number e in
+      inr (drop 1 s, minus-says s h, parts.1, natural-says (drop 1 s) number.magnitude parts.0)
+  go false h e =
+      let parts = map-says false (natural s) number e in
+      inl (parts.1, natural-says s number.magnitude parts.0)
+
+natural-no-minus : (s : List ℕ) (n : ℕ) → IsNatural s n → is_negative s ≡ false
+natural-no-minus s n (inl known) =
+    slice_index-other (λ d. nat_lt (digit_value d) 10) 45 s 0 (λ b d. digit-other 45 b refl d) refl (list_all-AllDigits 10 s known.0.1)
+natural-no-minus s n (inr known) = ap is_negative known.1
+
+says-signed : (s : List ℕ) (number : Number) → IsSigned s number → signed s ≡ Some number
+says-signed s number (inl known) =
+    rw (natural-no-minus s number.magnitude known.1, says-natural s number.magnitude known.1, ← known.0) refl
+says-signed s number (inr known) =
+    ap signed known.1 ∙ ap (option_map (number_of true)) (says-natural known.0 number.magnitude known.3)
+    ∙ ap (λ b. Some (number_of b number.magnitude)) (sym known.2)
+
+pub signed-numbers : (s : List ℕ) (number : Number) → (signed s ≡ Some number) ↔ IsSigned s number
+signed-numbers s number = (signed-says s number, says-signed s number)
