@@ -8,6 +8,7 @@ pub mod Listings
 pub mod MnemonicNames
 pub mod Offsets
 pub mod OneAssembly
+pub mod OperandGrammar
 pub mod PlainTexts
 pub mod ProgramParts
 pub mod Rounds

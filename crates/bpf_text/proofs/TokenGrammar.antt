@@ -1,5 +1,5 @@
 -- What is read of registers and numbers is what their grammar says.
-use Rattle.std.proofs.Common.{ℕ, ◌≡◌, ◌<◌, ◌≤◌, ◌+◌, ◌-◌, ◌==◌, Bool, true, false, ◌&&◌, ◌↔◌, List, [], ◌∷◌, ◌++◌, refl, ap, sym, ◌∙◌, arith, inl, inr, lit<, lit≤, nat_lt, nat_le, Option, Some, None, option_map, Ok, Err, slice_index, drop, if◌then◌else◌}
+use Rattle.std.proofs.Common.{ℕ, ◌≡◌, ◌<◌, ◌≤◌, ◌+◌, ◌-◌, ◌==◌, Bool, true, false, ◌&&◌, List, [], ◌∷◌, ◌++◌, refl, ap, sym, ◌∙◌, arith, inl, inr, lit<, lit≤, nat_lt, nat_le, Option, Some, None, option_map, Ok, Err, slice_index, drop, if◌then◌else◌}
 use Rattle.std.specs.List.{list_all}
 use Rattle.std.specs.Fmt.{decimal}
 use Rattle.std.specs.Str.Parse.{AllDigits, digits_value}
@@ -30,7 +30,7 @@ one-digit a b h = (grind (arith, nat_tests), grind (arith, nat_tests), grind (ar
 ten : (a b c : ℕ) → is_ten a b c ≡ true → (a ≡ 114) × (b ≡ 49) × (c ≡ 48)
 ten a b c h = (grind (arith, nat_tests), grind (arith, nat_tests), grind (arith, nat_tests))
 
-register-says : (s : List ℕ) (r : ℕ) → register s ≡ Ok r → IsRegister s r
+pub register-says : (s : List ℕ) (r : ℕ) → register s ≡ Ok r → IsRegister s r
 register-says [] r e = cc
 register-says (a ∷ []) r e = cc
 register-says (a ∷ b ∷ []) r e = go (is_one_digit a b) refl e where
@@ -50,8 +50,8 @@ register-says (a ∷ b ∷ c ∷ []) r e = go (is_ten a b c) refl e where
   go false h e = cc
 register-says (a ∷ b ∷ c ∷ d ∷ s) r e = cc
 
-pub registers : (s : List ℕ) (r : ℕ) → (register s ≡ Ok r) ↔ IsRegister s r
-registers s r = (register-says s r, λ known. ap register known.1 ∙ register-text r known.0)
+pub says-register : (s : List ℕ) (r : ℕ) → IsRegister s r → register s ≡ Ok r
+says-register s r known = ap register known.1 ∙ register-text r known.0
 
 -- digits
 AllDigits-list_all : (radix : ℕ) (s : List ℕ) → list_all (λ d. nat_lt (digit_value d) radix) s ≡ true → AllDigits radix s
@@ -78,13 +78,13 @@ prefix-says (a ∷ b ∷ s) h =
     let parts = and-both (a == 48) (b == 120) h in
     rw (eqb-true a 48 parts.0, eqb-true b 120 parts.1) refl
 
-natural-says : (s : List ℕ) (n : ℕ) → natural s ≡ Some n → IsNatural s n
+pub natural-says : (s : List ℕ) (n : ℕ) → natural s ≡ Some n → IsNatural s n
 natural-says s n e = go (has_prefix s) refl e where
   go : (t : Bool) → has_prefix s ≡ t → (if t then numeral 16 (drop 2 s) else numeral 10 s) ≡ Some n → IsNatural s n
   go true h e = inr (drop 2 s, prefix-says s h, numeral-says 16 n (drop 2 s) e)
   go false h e = inl (numeral-says 10 n s e)
 
-digit-other : (c b : ℕ) → nat_lt (digit_value c) 10 ≡ false → nat_lt (digit_value b) 10 ≡ true → (b == c) ≡ false
+pub digit-other : (c b : ℕ) → nat_lt (digit_value c) 10 ≡ false → nat_lt (digit_value b) 10 ≡ true → (b == c) ≡ false
 digit-other c b misses passes = go (b == c) refl where
   go : (t : Bool) → (b == c) ≡ t → (b == c) ≡ false
   go true e = let same = eqb-true b c e in let clash = rw same at passes in cc
@@ -97,26 +97,23 @@ decimal-no-prefix s p = and-false (slice_index s 0 == 48) (slice_index s 1 == 12
       and-false true b h = h
       and-false false b h = refl
 
-says-natural : (s : List ℕ) (n : ℕ) → IsNatural s n → natural s ≡ Some n
+pub says-natural : (s : List ℕ) (n : ℕ) → IsNatural s n → natural s ≡ Some n
 says-natural s n (inl known) = rw (decimal-no-prefix s known.0.1) (numeral-digits 10 n s known.0 known.1)
 says-natural s n (inr known) = ap natural known.1 ∙ numeral-digits 16 n known.0 known.2.0 known.2.1
-
-pub naturals : (s : List ℕ) (n : ℕ) → (natural s ≡ Some n) ↔ IsNatural s n
-naturals s n = (natural-says s n, says-natural s n)
 
 -- a number with a sign or none
 minus-says : (s : List ℕ) → is_negative s ≡ true → s ≡ 45 ∷ drop 1 s
 minus-says [] h = cc
 minus-says (a ∷ s) h = rw (eqb-true a 45 h) refl
 
-map-says : (negative : Bool) (o : Option ℕ) (number : Number) → option_map (number_of negative) o ≡ Some number
+pub map-says : (negative : Bool) (o : Option ℕ) (number : Number) → option_map (number_of negative) o ≡ Some number
     → (o ≡ Some number.magnitude) × (number.negative ≡ negative)
 map-says negative None number e = cc
 map-says negative (Some n) number e =
     let same : number_of negative n ≡ number = cc in
     (ap (λ x. Some x.magnitude) same, sym (ap (λ x. x.negative) same))
 
-signed-says : (s : List ℕ) (number : Number) → signed s ≡ Some number → IsSigned s number
+pub signed-says : (s : List ℕ) (number : Number) → signed s ≡ Some number → IsSigned s number
 signed-says s number e = go (is_negative s) refl e where
   go : (t : Bool) → is_negative s ≡ t
       → (if t then option_map (number_of true) (natural (drop 1 s)) else option_map (number_of false) (natural s)) ≡ Some number
@@ -133,12 +130,9 @@ natural-no-minus s n (inl known) =
     slice_index-other (λ d. nat_lt (digit_value d) 10) 45 s 0 (λ b d. digit-other 45 b refl d) refl (list_all-AllDigits 10 s known.0.1)
 natural-no-minus s n (inr known) = ap is_negative known.1
 
-says-signed : (s : List ℕ) (number : Number) → IsSigned s number → signed s ≡ Some number
+pub says-signed : (s : List ℕ) (number : Number) → IsSigned s number → signed s ≡ Some number
 says-signed s number (inl known) =
     rw (natural-no-minus s number.magnitude known.1, says-natural s number.magnitude known.1, ← known.0) refl
 says-signed s number (inr known) =
     ap signed known.1 ∙ ap (option_map (number_of true)) (says-natural known.0 number.magnitude known.3)
     ∙ ap (λ b. Some (number_of b number.magnitude)) (sym known.2)
-
-pub signed-numbers : (s : List ℕ) (number : Number) → (signed s ≡ Some number) ↔ IsSigned s number
-signed-numbers s number = (signed-says s number, says-signed s number)

@@ -16,7 +16,7 @@ use Rattle.bpf_isa.specs.declared.instruction.Source.TheVariants as source_is
 use Rattle.bpf_text.specs.declared.number.Number.{Number}
 use Rattle.bpf_text.specs.declared.term.Term.{Term}
 use Rattle.bpf_text.specs.declared.term.Term.TheVariants as term
-use Rattle.bpf_text.specs.Cuts.{is_name, is_name_byte}
+use Rattle.bpf_text.specs.Cuts.{is_name, is_name_byte, trim}
 use Rattle.bpf_text.specs.Tokens.{register, numeral, natural, has_prefix, is_negative, signed, number_of, unsigned, immediate, wide, offset, is_sign}
 use Rattle.bpf_text.specs.Terms.{memory, base_and_displacement, displacement}
 use Rattle.bpf_io.specs.Writing.{hexadecimal}
@@ -204,10 +204,9 @@ less-eqb : (a b : ℕ) → a < b → (a == b) ≡ false
 less-eqb a b h = grind (arith, nat_tests)
 
 -- a displacement behind a register
-displacement-at : (reg : List ℕ) (sign : ℕ) (number : List ℕ) → list_all no_sign reg ≡ true → is_sign sign ≡ true
-    → are_plain number ≡ true
-    → displacement (reg ++ sign ∷ number) ≡ option_map (number_of (sign == 45)) (natural number)
-displacement-at reg sign number none e plain =
+pub displacement-at : (reg : List ℕ) (sign : ℕ) (number : List ℕ) → list_all no_sign reg ≡ true → is_sign sign ≡ true
+    → displacement (reg ++ sign ∷ number) ≡ option_map (number_of (sign == 45)) (natural (trim number))
+displacement-at reg sign number none e =
     let here = position_or_len-at is_sign no_sign reg sign number no_sign-sign e none in
     let within : length reg < length (reg ++ sign ∷ number) = omega (arith, length-append reg (sign ∷ number)) in
     rw (
@@ -215,18 +214,17 @@ displacement-at reg sign number none e plain =
       less-eqb (length reg) (length (reg ++ sign ∷ number)) within,
       get_or-append_seam reg sign number 0,
       drop-append-add reg (sign ∷ number) 1,
-      trim-plain number plain,
     ) refl
 
 base_and_displacement-at : (reg : List ℕ) (r sign : ℕ) (number : List ℕ) (n : ℕ) → list_all no_sign reg ≡ true
     → is_sign sign ≡ true → are_plain reg ≡ true → are_plain number ≡ true → register reg ≡ Ok r → natural number ≡ Some n
     → base_and_displacement (reg ++ sign ∷ number) ≡ Some (term.Memory r (number_of (sign == 45) n))
 base_and_displacement-at reg r sign number n none e plain number_plain read known =
-    let moved = displacement-at reg sign number none e number_plain in
+    let moved = displacement-at reg sign number none e ∙ ap (λ x. option_map (number_of (sign == 45)) (natural x)) (trim-plain number number_plain) in
     let front = before_first-at is_sign no_sign reg sign number no_sign-sign e none in
     rw (front, trim-plain reg plain, read, moved, known) refl
 
-memory-at : (inner : List ℕ) (m : Term) → list_all is_open inner ≡ true → base_and_displacement inner ≡ Some m
+pub memory-at : (inner : List ℕ) (m : Term) → list_all is_open inner ≡ true → base_and_displacement inner ≡ Some m
     → memory (91 ∷ (inner ++ 93 ∷ [])) ≡ Some m
 memory-at inner m none read =
     let here = position_or_len-at (λ b. b == 93) is_open inner 93 [] open-close refl none in

@@ -1,7 +1,14 @@
--- How registers and numbers are written in a listing, in words of their pieces. It is bpfdb's own choice.
-use Rattle.std.specs.Prelude.{ℕ, ◌≡◌, ◌≤◌, ◌⊎◌, true, false, List, ◌++◌, codes, decimal}
+-- How the operands of a listing are written, in words of their pieces. It is bpfdb's own choice.
+use Rattle.std.specs.Prelude.{ℕ, ◌≡◌, ◌≤◌, ◌⊎◌, Bool, true, false, List, ◌∷◌, ◌++◌, codes, decimal}
+use Rattle.std.specs.List.{list_all}
 use Rattle.std.specs.Str.Parse.{IsNumeral, digits_value}
 use Rattle.bpf_text.specs.declared.number.Number.{Number}
+use Rattle.bpf_text.specs.declared.term.OperandForm.{OperandForm}
+use Rattle.bpf_text.specs.declared.term.OperandForm.TheVariants as form
+use Rattle.bpf_text.specs.declared.term.Term.{Term}
+use Rattle.bpf_text.specs.declared.term.Term.TheVariants.{Register, Number as Num, Memory, Name}
+use Rattle.bpf_text.specs.Cuts.{is_blank, is_name}
+use Rattle.bpf_text.specs.Tokens.{number_of}
 
 -- A register: r and one of the numbers 0 to 10, without a zero in front.
 abbrev pub IsRegister : List ℕ → ℕ → Type 0
@@ -19,3 +26,28 @@ IsNatural s n = AreDigits 10 s n ⊎ ((digits : List ℕ) × (s ≡ codes "0x" +
 abbrev pub IsSigned : List ℕ → Number → Type 0
 IsSigned s number = ((number.negative ≡ false) × IsNatural s number.magnitude)
     ⊎ ((rest : List ℕ) × (s ≡ codes "-" ++ rest) × (number.negative ≡ true) × IsNatural rest number.magnitude)
+
+-- A text with blanks on both sides.
+abbrev pub Padded : (List ℕ → Type 0) → List ℕ → Type 0
+Padded Is s = (front x back : List ℕ) × (s ≡ front ++ (x ++ back)) × (list_all is_blank front ≡ true) × Is x
+    × (list_all is_blank back ≡ true)
+
+-- What stands in brackets: a register, and then nothing, or a sign (43 is +, 45 is -) and a number.
+abbrev pub IsDisplaced : Bool → ℕ → List ℕ → ℕ → Number → Type 0
+IsDisplaced negative sign s base number = (a b : List ℕ) × (s ≡ a ++ sign ∷ b) × Padded (λ x. IsRegister x base) a
+    × Padded (λ x. IsNatural x number.magnitude) b × (number.negative ≡ negative)
+
+abbrev pub IsInside : List ℕ → ℕ → Number → Type 0
+IsInside s base number = (Padded (λ x. IsRegister x base) s × (number ≡ number_of false 0))
+    ⊎ IsDisplaced false 43 s base number ⊎ IsDisplaced true 45 s base number
+
+-- An operand that is written in a form.
+abbrev pub IsOperand : OperandForm → List ℕ → Term → Type 0
+IsOperand form.Register s (Register reg) = IsRegister s reg
+IsOperand form.Unsigned s (Num number) = (number.negative ≡ false) × IsNatural s number.magnitude
+IsOperand form.Signed s (Num number) = IsSigned s number
+IsOperand form.Source s (Register reg) = IsRegister s reg
+IsOperand form.Source s (Num number) = IsSigned s number
+IsOperand form.Memory s (Memory base number) = (inside : List ℕ) × (s ≡ codes "[" ++ inside ++ codes "]") × IsInside inside base number
+IsOperand form.Name s (Name name) = (name ≡ s) × (is_name s ≡ true)
+IsOperand f s t = ⊥

@@ -1,9 +1,10 @@
 -- Laws of listings.
-use Rattle.std.specs.Prelude.{ℕ, ◌≡◌, ◌↔◌, List, Some, Ok}
+use Rattle.std.specs.Prelude.{ℕ, ◌≡◌, ◌↔◌, List, Some}
 use Rattle.bpf_isa.specs.declared.mnemonic.Mnemonic.{Mnemonic}
-use Rattle.bpf_text.specs.declared.number.Number.{Number}
-use Rattle.bpf_text.specs.Grammar.{IsRegister, IsNatural, IsSigned}
-use Rattle.bpf_text.specs.Tokens.{register, natural, signed}
+use Rattle.bpf_text.specs.declared.term.OperandForm.{OperandForm}
+use Rattle.bpf_text.specs.declared.term.Term.{Term}
+use Rattle.bpf_text.specs.Grammar.{IsOperand}
+use Rattle.bpf_text.specs.Terms.{term_of}
 use Rattle.bpf_text.specs.Mnemonics.{name_of}
 use Rattle.bpf_text.specs.Named.{named}
 use Rattle.bpf_text.specs.Listing.{IsListing}
@@ -12,15 +13,9 @@ use Rattle.bpf_text.specs.Listing.{IsListing}
 abbrev pub HaveOneMnemonic : Type 0
 HaveOneMnemonic = (mnemonic : Mnemonic) → named (name_of mnemonic) ≡ Some mnemonic
 
--- What is read as a register or as a number is what the grammar says of it, and nothing else.
-abbrev pub HaveRegisters : Type 0
-HaveRegisters = (s : List ℕ) (r : ℕ) → (register s ≡ Ok r) ↔ IsRegister s r
-
-abbrev pub HaveNaturals : Type 0
-HaveNaturals = (s : List ℕ) (n : ℕ) → (natural s ≡ Some n) ↔ IsNatural s n
-
-abbrev pub HaveSignedNumbers : Type 0
-HaveSignedNumbers = (s : List ℕ) (number : Number) → (signed s ≡ Some number) ↔ IsSigned s number
+-- What is read of an operand in a form is what the grammar says of it, and nothing else.
+abbrev pub HaveOperands : Type 0
+HaveOperands = (f : OperandForm) (s : List ℕ) (t : Term) → (term_of f s ≡ Some t) ↔ IsOperand f s t
 
 -- A listing has the bytes of one program at most.
 abbrev pub HaveOneAssembly : Type 0

@@ -1,14 +1,12 @@
 -- The laws of definitions.
 use Rattle.bpf_text.proofs.MnemonicNames.{named-name_of}
 use Rattle.bpf_text.proofs.OneAssembly.{one-assembly}
-use Rattle.bpf_text.proofs.TokenGrammar.{registers, naturals, signed-numbers}
+use Rattle.bpf_text.proofs.OperandGrammar.{operands}
 use Rattle.bpf_text.proofs.laws.one_reading.Goals as goal
 
 pub returns : goal.returns
 returns c = record {
   value = named-name_of;
   only = one-assembly;
-  registers = registers;
-  naturals = naturals;
-  numbers = signed-numbers;
+  operands = operands;
 }
