@@ -13,5 +13,6 @@ pub mod PlainTexts
 pub mod ProgramParts
 pub mod Rounds
 pub mod Saturating
+pub mod StatementGrammar
 pub mod TokenGrammar
 pub mod TokenTexts

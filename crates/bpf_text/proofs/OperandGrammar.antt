@@ -25,7 +25,7 @@ use Rattle.bpf_text.proofs.TokenTexts.{slice_index-other, list_all-AllDigits, is
 use Rattle.bpf_text.proofs.TokenGrammar.{digit-other, register-says, says-register, natural-says, says-natural, signed-says, says-signed, map-says}
 
 -- the first byte that passes, and what stands on both sides
-abbrev Splits : (ℕ → Bool) → List ℕ → Type 0
+abbrev pub Splits : (ℕ → Bool) → List ℕ → Type 0
 Splits p s = (c : ℕ) × (s ≡ before_first p s ++ c ∷ after_first p s) × (p c ≡ true) × (slice_index s (position_or_len p s) ≡ c)
 
 splits-next : (p : ℕ → Bool) (x : ℕ) (s : List ℕ) → p x ≡ false → Splits p s → Splits p (x ∷ s)
@@ -34,7 +34,7 @@ splits-next p x s e rest =
     let next : suc (position_or_len p s) + 1 ≡ suc (position_or_len p s + 1) = omega arith in
     (rest.0, rw (e, shifted, next) (ap (λ r. x ∷ r) rest.1), rest.2, rw (e, shifted) rest.3)
 
-split-first : (p : ℕ → Bool) (s : List ℕ) → position_or_len p s < length s → Splits p s
+pub split-first : (p : ℕ → Bool) (s : List ℕ) → position_or_len p s < length s → Splits p s
 split-first p [] h = absurd (omega arith)
 split-first p (x ∷ s) h = go (p x) refl h (λ less. split-first p s less) where
   go : (t : Bool) → p x ≡ t → position_or_len p (x ∷ s) < suc (length s) → (position_or_len p s < length s → Splits p s)
@@ -85,7 +85,7 @@ not-true : (b : Bool) → not b ≡ true → b ≡ false
 not-true true h = cc
 not-true false h = refl
 
-trim_start-blanks : (front s : List ℕ) → list_all is_blank front ≡ true → trim_start (front ++ s) ≡ trim_start s
+pub trim_start-blanks : (front s : List ℕ) → list_all is_blank front ≡ true → trim_start (front ++ s) ≡ trim_start s
 trim_start-blanks [] s p = refl
 trim_start-blanks (b ∷ front) s p =
     let parts = and-both (is_blank b) (list_all is_blank front) p in
@@ -121,7 +121,7 @@ trim-padded front (b ∷ x) back p q r =
     ∙ trim_end-solid (b ∷ x) back q r
 
 -- digits and letters
-abbrev is_mark : ℕ → Bool
+abbrev pub is_mark : ℕ → Bool
 is_mark b = nat_lt (digit_value b) 36
 
 mark-other : (c b : ℕ) → is_mark c ≡ false → is_mark b ≡ true → (b == c) ≡ false
@@ -148,11 +148,11 @@ digits-marks radix (b ∷ s) h p = and-join (is_mark b) (list_all is_mark s) (le
   less : (a : ℕ) → a < 36 → nat_lt a 36 ≡ true
   less a h = grind (arith, nat_tests)
 
-register-marks : (s : List ℕ) (r : ℕ) → IsRegister s r → list_all is_mark s ≡ true
+pub register-marks : (s : List ℕ) (r : ℕ) → IsRegister s r → list_all is_mark s ≡ true
 register-marks s r known =
     rw known.1 (list_all-weaken is_decimal is_mark (decimal r) decimal-mark (are_decimal r (let h = known.0 in omega (arith, h))))
 
-natural-marks : (s : List ℕ) (n : ℕ) → IsNatural s n → list_all is_mark s ≡ true
+pub natural-marks : (s : List ℕ) (n : ℕ) → IsNatural s n → list_all is_mark s ≡ true
 natural-marks s n (inl known) = digits-marks 10 s (omega arith) known.0.1
 natural-marks s n (inr known) = rw known.1 (digits-marks 16 known.0 (omega arith) known.2.0.1)
 
@@ -162,7 +162,7 @@ marks-trim Is s marks known =
     let solid = list_all-weaken is_mark no_blank known.1 mark-no-blank (marks known.1 known.5) in
     subst Is (sym (ap trim known.3 ∙ trim-padded known.0 known.1 known.2 known.4 solid known.6)) known.5
 
-padded-all : (test : ℕ → Bool) (Is : List ℕ → Type 0) (s : List ℕ) → ((b : ℕ) → is_blank b ≡ true → test b ≡ true)
+pub padded-all : (test : ℕ → Bool) (Is : List ℕ → Type 0) (s : List ℕ) → ((b : ℕ) → is_blank b ≡ true → test b ≡ true)
     → ((b : ℕ) → is_mark b ≡ true → test b ≡ true) → ((x : List ℕ) → Is x → list_all is_mark x ≡ true) → Padded Is s
     → list_all test s ≡ true
 padded-all test Is s blank mark marks known =
@@ -316,7 +316,7 @@ no-other s t e = go (result_ok (register (trim (before_first is_sign s)))) e whe
   go None e = cc
   go (Some b) e = let part = map-some (term.Memory b) (displacement s) t e in (b, part.0, sym part.2)
 
-inside-open : (s : List ℕ) (base : ℕ) (number : Number) → IsInside s base number → list_all is_open s ≡ true
+pub inside-open : (s : List ℕ) (base : ℕ) (number : Number) → IsInside s base number → list_all is_open s ≡ true
 inside-open s base number (inl known) =
     padded-all is_open (λ x. IsRegister x base) s blank-open mark-open (λ x h. register-marks x base h) known.0
 inside-open s base number (inr (inl known)) = displaced-open false 43 s base number refl known

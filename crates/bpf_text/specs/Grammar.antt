@@ -6,7 +6,11 @@ use Rattle.bpf_text.specs.declared.number.Number.{Number}
 use Rattle.bpf_text.specs.declared.term.OperandForm.{OperandForm}
 use Rattle.bpf_text.specs.declared.term.OperandForm.TheVariants as form
 use Rattle.bpf_text.specs.declared.term.Term.{Term}
-use Rattle.bpf_text.specs.declared.term.Term.TheVariants.{Register, Number as Num, Memory, Name}
+use Rattle.bpf_text.specs.declared.term.Term.TheVariants.{Register, Number as Num, Memory, Name, Absent}
+use Rattle.bpf_text.specs.declared.term.Terms.{Terms}
+use Rattle.bpf_text.specs.declared.term.OperandForms.{OperandForms}
+use Rattle.bpf_text.specs.declared.term.OperandForms.TheVariants.{Nothing, One, Two, Three}
+use Rattle.bpf_text.specs.Terms.{one, two, three}
 use Rattle.bpf_text.specs.Cuts.{is_blank, is_name}
 use Rattle.bpf_text.specs.Tokens.{number_of}
 
@@ -51,3 +55,13 @@ IsOperand form.Source s (Num number) = IsSigned s number
 IsOperand form.Memory s (Memory base number) = (inside : List ℕ) × (s ≡ codes "[" ++ inside ++ codes "]") × IsInside inside base number
 IsOperand form.Name s (Name name) = (name ≡ s) × (is_name s ≡ true)
 IsOperand f s t = ⊥
+
+-- Operands in their forms, with blanks around each, and a comma after each but the last.
+abbrev pub AreOperands : OperandForms → List ℕ → Terms → Type 0
+AreOperands Nothing s terms = (list_all is_blank s ≡ true) × (terms ≡ one Absent)
+AreOperands (One f) s terms = (a : Term) × Padded (λ x. IsOperand f x a) s × (terms ≡ one a)
+AreOperands (Two f g) s terms = (front back : List ℕ) × (a b : Term) × (s ≡ front ++ 44 ∷ back)
+    × Padded (λ x. IsOperand f x a) front × Padded (λ x. IsOperand g x b) back × (terms ≡ two a b)
+AreOperands (Three f g h) s terms = (front middle back : List ℕ) × (a b c : Term) × (s ≡ front ++ 44 ∷ (middle ++ 44 ∷ back))
+    × Padded (λ x. IsOperand f x a) front × Padded (λ x. IsOperand g x b) middle × Padded (λ x. IsOperand h x c) back
+    × (terms ≡ three a b c)

@@ -2,9 +2,12 @@
 use Rattle.std.specs.Prelude.{ℕ, ◌≡◌, ◌↔◌, List, Some}
 use Rattle.bpf_isa.specs.declared.mnemonic.Mnemonic.{Mnemonic}
 use Rattle.bpf_text.specs.declared.term.OperandForm.{OperandForm}
+use Rattle.bpf_text.specs.declared.term.OperandForms.{OperandForms}
 use Rattle.bpf_text.specs.declared.term.Term.{Term}
-use Rattle.bpf_text.specs.Grammar.{IsOperand}
-use Rattle.bpf_text.specs.Terms.{term_of}
+use Rattle.bpf_text.specs.declared.term.Terms.{Terms}
+use Rattle.bpf_text.specs.Cuts.{trim}
+use Rattle.bpf_text.specs.Grammar.{IsOperand, AreOperands}
+use Rattle.bpf_text.specs.Terms.{term_of, terms_of}
 use Rattle.bpf_text.specs.Mnemonics.{name_of}
 use Rattle.bpf_text.specs.Named.{named}
 use Rattle.bpf_text.specs.Listing.{IsListing}
@@ -16,6 +19,10 @@ HaveOneMnemonic = (mnemonic : Mnemonic) → named (name_of mnemonic) ≡ Some mn
 -- What is read of an operand in a form is what the grammar says of it, and nothing else.
 abbrev pub HaveOperands : Type 0
 HaveOperands = (f : OperandForm) (s : List ℕ) (t : Term) → (term_of f s ≡ Some t) ↔ IsOperand f s t
+
+-- Operands as the grammar has them are read so: then a text has one reading at most.
+abbrev pub HaveStatements : Type 0
+HaveStatements = (fs : OperandForms) (s : List ℕ) (terms : Terms) → AreOperands fs s terms → terms_of fs (trim s) ≡ Some terms
 
 -- A listing has the bytes of one program at most.
 abbrev pub HaveOneAssembly : Type 0
