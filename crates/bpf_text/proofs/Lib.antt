@@ -9,10 +9,10 @@ pub mod MnemonicNames
 pub mod Offsets
 pub mod OneAssembly
 pub mod OperandGrammar
+pub mod OperandLists
 pub mod PlainTexts
 pub mod ProgramParts
 pub mod Rounds
 pub mod Saturating
-pub mod StatementGrammar
 pub mod TokenGrammar
 pub mod TokenTexts

@@ -177,7 +177,7 @@ blank-open : (b : ℕ) → is_blank b ≡ true → is_open b ≡ true
 blank-open b h = grind (arith, nat_tests)
 
 -- what stands in brackets
-map-some : {A B : Type 0} (f : A → B) (o : Option A) (b : B) → option_map f o ≡ Some b → (a : A) × (o ≡ Some a) × (f a ≡ b)
+pub map-some : {A B : Type 0} (f : A → B) (o : Option A) (b : B) → option_map f o ≡ Some b → (a : A) × (o ≡ Some a) × (f a ≡ b)
 map-some f None b e = cc
 map-some f (Some a) b e = (a, refl, (let same : f a ≡ b = cc in same))
 

@@ -20,9 +20,9 @@ HaveOneMnemonic = (mnemonic : Mnemonic) → named (name_of mnemonic) ≡ Some mn
 abbrev pub HaveOperands : Type 0
 HaveOperands = (f : OperandForm) (s : List ℕ) (t : Term) → (term_of f s ≡ Some t) ↔ IsOperand f s t
 
--- Operands as the grammar has them are read so: then a text has one reading at most.
-abbrev pub HaveStatements : Type 0
-HaveStatements = (fs : OperandForms) (s : List ℕ) (terms : Terms) → AreOperands fs s terms → terms_of fs (trim s) ≡ Some terms
+-- What is read of an instruction's operands is what the grammar says of them, and nothing else.
+abbrev pub HaveOperandLists : Type 0
+HaveOperandLists = (fs : OperandForms) (s : List ℕ) (terms : Terms) → (terms_of fs (trim s) ≡ Some terms) ↔ AreOperands fs s terms
 
 -- A listing has the bytes of one program at most.
 abbrev pub HaveOneAssembly : Type 0

@@ -1,7 +1,7 @@
 //! Laws of listings.
 ghost use Rattle.std.specs.Prelude.{◌≡◌, Some};
 ghost use Rattle.bpf_text.specs.Canonical.{canon};
-ghost use Rattle.bpf_text.specs.Laws.{HaveOneMnemonic, HaveOneAssembly, HaveOperands, HaveStatements};
+ghost use Rattle.bpf_text.specs.Laws.{HaveOneMnemonic, HaveOneAssembly, HaveOperands, HaveOperandLists};
 ghost use Rattle.bpf_text.specs.Listing.{IsListing};
 
 use bpf_isa::Program;
@@ -20,5 +20,5 @@ pub fn one_reading()
     ensures value { HaveOneMnemonic }
     ensures only { HaveOneAssembly }
     ensures operands { HaveOperands }
-    ensures statements { HaveStatements }
+    ensures lists { HaveOperandLists }
 {}

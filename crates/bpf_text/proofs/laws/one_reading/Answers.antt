@@ -2,7 +2,7 @@
 use Rattle.bpf_text.proofs.MnemonicNames.{named-name_of}
 use Rattle.bpf_text.proofs.OneAssembly.{one-assembly}
 use Rattle.bpf_text.proofs.OperandGrammar.{operands}
-use Rattle.bpf_text.proofs.StatementGrammar.{says-operands}
+use Rattle.bpf_text.proofs.OperandLists.{operand-lists}
 use Rattle.bpf_text.proofs.laws.one_reading.Goals as goal
 
 pub returns : goal.returns
@@ -10,5 +10,5 @@ returns c = record {
   value = named-name_of;
   only = one-assembly;
   operands = operands;
-  statements = says-operands;
+  lists = operand-lists;
 }

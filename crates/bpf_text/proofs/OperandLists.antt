@@ -1,6 +1,5 @@
 -- What is read of an instruction's operands is what their grammar says.
-use Rattle.std.proofs.Common.{ℕ, ◌≡◌, ◌<◌, ◌==◌, Bool, true, false, not, List, [], ◌∷◌, ◌++◌, length, refl, ap, sym, ◌∙◌, arith, Some, subst, append_assoc, inl, inr}
-use Rattle.std.specs.List.{list_all}
+use Rattle.std.proofs.Common.{ℕ, ◌≡◌, ◌<◌, ◌+◌, ◌==◌, Bool, true, false, not, ◌↔◌, List, [], ◌∷◌, ◌++◌, length, length-append, refl, ap, sym, ◌∙◌, arith, Option, Some, None, option_map, option_and_then, subst, append_assoc, inl, inr}
 use Rattle.std.proofs.lemmas.List.{append-nil}
 use Rattle.std.proofs.lemmas.Bool.Decides.{nat_tests}
 use Rattle.bpf_text.specs.declared.number.Number.{Number}
@@ -11,12 +10,16 @@ use Rattle.bpf_text.specs.declared.term.OperandForms.TheVariants as forms
 use Rattle.bpf_text.specs.declared.term.Term.{Term}
 use Rattle.bpf_text.specs.declared.term.Term.TheVariants as term
 use Rattle.bpf_text.specs.declared.term.Terms.{Terms}
-use Rattle.bpf_text.specs.Cuts.{is_blank, is_letter, is_name, is_name_byte, trim, trim_end, first_operand, other_operands}
-use Rattle.bpf_text.specs.Grammar.{IsRegister, IsNatural, IsSigned, IsInside, IsDisplaced, IsOperand, AreOperands}
-use Rattle.bpf_text.specs.Terms.{terms_of, two, three}
+use Rattle.bpf_text.specs.Cuts.{is_blank, is_letter, is_name, is_name_byte, trim, trim_end, first_operand, other_operands, before, after}
+use Rattle.bpf_text.specs.Grammar.{IsRegister, IsNatural, IsSigned, IsInside, IsDisplaced, IsOperand, AreOperands, Padded}
+use Rattle.bpf_text.specs.Terms.{terms_of, two, three, term_of, one}
 use Rattle.bpf_text.proofs.Cutting.{trim_end-blank}
 use Rattle.bpf_text.proofs.PlainTexts.{is_plain, are_plain, and-both, and-join, list_all-append, list_all-weaken, before_first-at, after_first-at, Snug, Snug-plain, Snug-append}
-use Rattle.bpf_text.proofs.OperandGrammar.{is_mark, register-marks, natural-marks, padded-all, trim_start-blanks, says-operand}
+use Rattle.bpf_text.proofs.OperandGrammar.{is_mark, register-marks, natural-marks, padded-all, trim_start-blanks, says-operand, map-some, padded-trim, split-first, operand-says}
+use Rattle.std.proofs.Math.ListN.{drop_of_length-le}
+use Rattle.std.proofs.lemmas.List.Sums.{prefix_len-le-length}
+use Rattle.std.proofs.lemmas.Bool.{eqb-true}
+use Rattle.std.specs.List.{list_all, position_or_len}
 
 -- an operand begins and ends with no blank, and has no comma
 mark-plain : (b : ℕ) → is_mark b ≡ true → is_plain b ≡ true
@@ -175,7 +178,7 @@ regroup-three : (p x q m y r l z t : List ℕ)
 regroup-three p x q m y r l z t = simp append_assoc
 
 -- operands as the grammar has them are read so
-pub says-operands : (fs : OperandForms) (s : List ℕ) (terms : Terms) → AreOperands fs s terms → terms_of fs (trim s) ≡ Some terms
+says-operands : (fs : OperandForms) (s : List ℕ) (terms : Terms) → AreOperands fs s terms → terms_of fs (trim s) ≡ Some terms
 says-operands forms.Nothing s terms known =
     let nothing : trim s ≡ [] = ap trim (sym (append-nil s)) ∙ ap trim_end (trim_start-blanks s [] known.0) in
     rw (nothing, known.1) refl
@@ -213,3 +216,139 @@ says-operands (forms.Three f g h) s terms known =
     (ap trim text
     ∙ trim-snug a.0 core c.2 a.4 (core-snug a.1 a.2 b.0 rest first (core-snug b.1 b.2 c.0 c.1 second third.snug)) c.6)
     ∙ says-three f g h a.1 a.2 b.0 b.1 b.2 c.0 c.1 known.3 known.4 known.5 a.5 a.6 b.4 b.5 b.6 c.4 c.5 ∙ ap Some (sym known.10)
+
+-- what is read of operands is said by the grammar
+and-some : {A B : Type 0} (f : A → Option B) (o : Option A) (b : B) → option_and_then f o ≡ Some b → (a : A) × (o ≡ Some a) × (f a ≡ Some b)
+and-some f None b e = cc
+and-some f (Some a) b e = (a, refl, e)
+
+pad-front : (Is : List ℕ → Type 0) (front s : List ℕ) → list_all is_blank front ≡ true → Padded Is s → Padded Is (front ++ s)
+pad-front Is front s p known =
+    let text : front ++ s ≡ (front ++ known.0) ++ (known.1 ++ known.2) =
+    ap (λ l. front ++ l) known.3 ∙ sym (append_assoc front known.0 (known.1 ++ known.2)) in
+    (front ++ known.0, known.1, known.2, text, list_all-append is_blank front known.0 p known.4, known.5, known.6)
+
+pad-back : (Is : List ℕ → Type 0) (s back : List ℕ) → Padded Is s → list_all is_blank back ≡ true → Padded Is (s ++ back)
+pad-back Is s back known p =
+    let group : (a x b : List ℕ) → (a ++ (x ++ b)) ++ back ≡ a ++ (x ++ (b ++ back)) = λ a x b. simp append_assoc in
+    let text : s ++ back ≡ known.0 ++ (known.1 ++ (known.2 ++ back)) =
+    ap (λ l. l ++ back) known.3 ∙ group known.0 known.1 known.2 in
+    (known.0, known.1, known.2 ++ back, text, known.4, known.5, list_all-append is_blank known.2 back known.6 p)
+
+-- a comma stands where something stands behind it
+comma-in : (s : List ℕ) → 0 < length (other_operands s) → s ≡ before 44 s ++ 44 ∷ after 44 s
+comma-in s some = go (position_or_len (λ b. b == 44) s == length s) refl where
+  go : (t : Bool) → (position_or_len (λ b. b == 44) s == length s) ≡ t → s ≡ before 44 s ++ 44 ∷ after 44 s
+  go true h =
+      let all = eqb-true (position_or_len (λ b. b == 44) s) (length s) h in
+      let none : after 44 s ≡ [] = drop_of_length-le s {i = position_or_len (λ b. b == 44) s + 1} (omega (arith, all)) in
+      let empty : length (other_operands s) ≡ 0 = ap (λ l. length (trim l)) none in
+      absurd (omega (arith, some, empty))
+  go false h =
+      let cut = split-first (λ b. b == 44) s (short h) in
+      cut.1 ∙ ap (λ c. before 44 s ++ c ∷ after 44 s) (eqb-true cut.0 44 cut.2) where
+        short : (position_or_len (λ b. b == 44) s == length s) ≡ false → position_or_len (λ b. b == 44) s < length s
+        short h = let most = prefix_len-le-length (λ x. not (x == 44)) s in grind (arith, nat_tests)
+
+two-say : (f g : OperandForm) (s : List ℕ) (terms : Terms) → terms_of (forms.Two f g) s ≡ Some terms → AreOperands (forms.Two f g) s terms
+two-say f g s terms e =
+    let one_of = and-some (λ a. option_map (two a) (term_of g (other_operands s))) (term_of f (first_operand s)) terms e in
+    let two_of = map-some (two one_of.0) (term_of g (other_operands s)) terms one_of.2 in
+    let is_a = operand-says f (first_operand s) one_of.0 one_of.1 in
+    let is_b = operand-says g (other_operands s) two_of.0 two_of.1 in (
+      before 44 s,
+      after 44 s,
+      one_of.0,
+      two_of.0,
+      comma-in s (tight-operand g (other_operands s) two_of.0 is_b).snug.some,
+      padded-trim (λ x. IsOperand f x one_of.0) (before 44 s) is_a,
+      padded-trim (λ x. IsOperand g x two_of.0) (after 44 s) is_b,
+      sym two_of.2,
+    )
+
+two-padded : (f g : OperandForm) (s : List ℕ) (terms : Terms) → AreOperands (forms.Two f g) (trim s) terms → AreOperands (forms.Two f g) s terms
+two-padded f g s terms known =
+    let around = padded-trim (λ x. x ≡ trim s) s refl in
+    let group : (p a b q : List ℕ) → p ++ ((a ++ 44 ∷ b) ++ q) ≡ (p ++ a) ++ 44 ∷ (b ++ q) = λ p a b q. simp append_assoc in
+    let text : s ≡ (around.0 ++ known.0) ++ 44 ∷ (known.1 ++ around.2) =
+    around.3 ∙ ap (λ l. around.0 ++ (l ++ around.2)) (around.5 ∙ known.4) ∙ group around.0 known.0 known.1 around.2 in (
+      around.0 ++ known.0,
+      known.1 ++ around.2,
+      known.2,
+      known.3,
+      text,
+      pad-front (λ x. IsOperand f x known.2) around.0 known.0 around.4 known.5,
+      pad-back (λ x. IsOperand g x known.3) known.1 around.2 known.6 around.6,
+      known.7,
+    )
+
+two-from : (f g : OperandForm) (s : List ℕ) (a b : Term) → term_of f (first_operand s) ≡ Some a → term_of g (other_operands s) ≡ Some b
+    → terms_of (forms.Two f g) s ≡ Some (two a b)
+two-from f g s a b p q = rw (p, q) refl
+
+three-say : (f g h : OperandForm) (s : List ℕ) (terms : Terms) → terms_of (forms.Three f g h) s ≡ Some terms
+    → AreOperands (forms.Three f g h) s terms
+three-say f g h s terms e =
+    let rest = other_operands s in
+    let one_of = and-some (λ a. option_and_then (λ b. option_map (three a b) (term_of h (other_operands rest))) (term_of g (first_operand rest)))
+    (term_of f (first_operand s)) terms e in
+    let two_of = and-some (λ b. option_map (three one_of.0 b) (term_of h (other_operands rest))) (term_of g (first_operand rest)) terms one_of.2 in
+    let three_of = map-some (three one_of.0 two_of.0) (term_of h (other_operands rest)) terms two_of.2 in
+    let others : terms_of (forms.Two g h) rest ≡ Some (two two_of.0 three_of.0) = two-from g h rest two_of.0 three_of.0 two_of.1 three_of.1 in
+    let behind = two-say g h rest (two two_of.0 three_of.0) others in
+    let padded = two-padded g h (after 44 s) (two two_of.0 three_of.0) behind in
+    let some : 0 < length rest = omega (arith, ap length behind.4, length-append behind.0 (44 ∷ behind.1)) in
+    let same : three one_of.0 padded.2 padded.3 ≡ terms =
+    ap (λ t. three one_of.0 t.first t.second) (sym padded.7) ∙ three_of.2 in (
+      before 44 s,
+      padded.0,
+      padded.1,
+      one_of.0,
+      padded.2,
+      padded.3,
+      comma-in s some ∙ ap (λ l. before 44 s ++ 44 ∷ l) padded.4,
+      padded-trim (λ x. IsOperand f x one_of.0) (before 44 s) (operand-says f (first_operand s) one_of.0 one_of.1),
+      padded.5,
+      padded.6,
+      sym same,
+    )
+
+three-padded : (f g h : OperandForm) (s : List ℕ) (terms : Terms) → AreOperands (forms.Three f g h) (trim s) terms
+    → AreOperands (forms.Three f g h) s terms
+three-padded f g h s terms known =
+    let around = padded-trim (λ x. x ≡ trim s) s refl in
+    let group : (p a b c q : List ℕ) → p ++ ((a ++ 44 ∷ (b ++ 44 ∷ c)) ++ q) ≡ (p ++ a) ++ 44 ∷ (b ++ 44 ∷ (c ++ q)) =
+    λ p a b c q. simp append_assoc in
+    let text : s ≡ (around.0 ++ known.0) ++ 44 ∷ (known.1 ++ 44 ∷ (known.2 ++ around.2)) =
+    around.3 ∙ ap (λ l. around.0 ++ (l ++ around.2)) (around.5 ∙ known.6) ∙ group around.0 known.0 known.1 known.2 around.2 in (
+      around.0 ++ known.0,
+      known.1,
+      known.2 ++ around.2,
+      known.3,
+      known.4,
+      known.5,
+      text,
+      pad-front (λ x. IsOperand f x known.3) around.0 known.0 around.4 known.7,
+      known.8,
+      pad-back (λ x. IsOperand h x known.5) known.2 around.2 known.9 around.6,
+      known.10,
+    )
+
+operands-say : (fs : OperandForms) (s : List ℕ) (terms : Terms) → terms_of fs (trim s) ≡ Some terms → AreOperands fs s terms
+operands-say forms.Nothing s terms e = go (trim s) refl e where
+  go : (t : List ℕ) → trim s ≡ t → terms_of forms.Nothing t ≡ Some terms → AreOperands forms.Nothing s terms
+  go [] h e =
+      let around = padded-trim (λ x. x ≡ []) s h in
+      let blank = list_all-append is_blank around.0 (around.1 ++ around.2) around.4
+      (list_all-append is_blank around.1 around.2 (ap (list_all is_blank) around.5) around.6) in
+      let same : one term.Absent ≡ terms = cc in
+      (ap (list_all is_blank) around.3 ∙ blank, sym same)
+  go (b ∷ t) h e = cc
+operands-say (forms.One f) s terms e =
+    let part = map-some one (term_of f (trim s)) terms e in
+    (part.0, padded-trim (λ x. IsOperand f x part.0) s (operand-says f (trim s) part.0 part.1), sym part.2)
+operands-say (forms.Two f g) s terms e = two-padded f g s terms (two-say f g (trim s) terms e)
+operands-say (forms.Three f g h) s terms e = three-padded f g h s terms (three-say f g h (trim s) terms e)
+
+pub operand-lists : (fs : OperandForms) (s : List ℕ) (terms : Terms) → (terms_of fs (trim s) ≡ Some terms) ↔ AreOperands fs s terms
+operand-lists fs s terms = (operands-say fs s terms, says-operands fs s terms)
