@@ -3,6 +3,7 @@ pub mod CanonicalLines
 pub mod CanonicalRounds
 pub mod Cutting
 pub mod InsnTexts
+pub mod LineGrammar
 pub mod LineTexts
 pub mod Listings
 pub mod MnemonicNames

@@ -43,15 +43,15 @@ split-first p (x ∷ s) h = go (p x) refl h (λ less. split-first p s less) wher
   go false e h more = let less = rw e at h in splits-next p x s e (more (omega (arith, less)))
 
 -- blanks in front and at the end
-trim_start-blank : (b : ℕ) (s : List ℕ) → is_blank b ≡ true → trim_start (b ∷ s) ≡ trim_start s
+pub trim_start-blank : (b : ℕ) (s : List ℕ) → is_blank b ≡ true → trim_start (b ∷ s) ≡ trim_start s
 trim_start-blank b s e =
     let shifted : 1 + position_or_len (λ x. not (is_blank x)) s ≡ suc (position_or_len (λ x. not (is_blank x)) s) = omega arith in
     rw (e, shifted) refl
 
-trim_start-other : (b : ℕ) (s : List ℕ) → is_blank b ≡ false → trim_start (b ∷ s) ≡ b ∷ s
+pub trim_start-other : (b : ℕ) (s : List ℕ) → is_blank b ≡ false → trim_start (b ∷ s) ≡ b ∷ s
 trim_start-other b s e = rw e refl
 
-trim_start-says : (s : List ℕ) → (front : List ℕ) × (s ≡ front ++ trim_start s) × (list_all is_blank front ≡ true)
+pub trim_start-says : (s : List ℕ) → (front : List ℕ) × (s ≡ front ++ trim_start s) × (list_all is_blank front ≡ true)
 trim_start-says [] = ([], refl, refl)
 trim_start-says (b ∷ s) = go (is_blank b) refl (trim_start-says s) where
   go : (t : Bool) → is_blank b ≡ t → (front : List ℕ) × (s ≡ front ++ trim_start s) × (list_all is_blank front ≡ true)
@@ -60,7 +60,7 @@ trim_start-says (b ∷ s) = go (is_blank b) refl (trim_start-says s) where
       (b ∷ rest.0, ap (λ r. b ∷ r) (rest.1 ∙ ap (λ r. rest.0 ++ r) (sym (trim_start-blank b s e))), rw (e, rest.2) refl)
   go false e rest = ([], sym (trim_start-other b s e), refl)
 
-trim_end-says : (s : List ℕ) → (back : List ℕ) × (s ≡ trim_end s ++ back) × (list_all is_blank back ≡ true)
+pub trim_end-says : (s : List ℕ) → (back : List ℕ) × (s ≡ trim_end s ++ back) × (list_all is_blank back ≡ true)
 trim_end-says [] = ([], refl, refl)
 trim_end-says (b ∷ s) = let rest = trim_end-says s in go (trim_end s) rest.0 rest.1 rest.2 where
   go : (t back : List ℕ) → s ≡ t ++ back → list_all is_blank back ≡ true

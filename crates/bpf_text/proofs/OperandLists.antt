@@ -40,7 +40,7 @@ name-byte-plain b h = grind (arith, nat_tests)
 letter-plain : (b : ℕ) → is_letter b ≡ true → is_plain b ≡ true
 letter-plain b h = grind (arith, nat_tests)
 
-name-plain : (s : List ℕ) → is_name s ≡ true → (0 < length s) × (are_plain s ≡ true)
+pub name-plain : (s : List ℕ) → is_name s ≡ true → (0 < length s) × (are_plain s ≡ true)
 name-plain [] h = cc
 name-plain (b ∷ s) h =
     let parts = and-both (is_letter b) (list_all is_name_byte s) h in
@@ -107,13 +107,13 @@ tight-operand form.Name s (term.Name name) known = let plain = name-plain s know
 tight-operand f s t known = absurd known
 
 -- blanks around it
-trim_end-blanks : (s back : List ℕ) → list_all is_blank back ≡ true → trim_end (s ++ back) ≡ trim_end s
+pub trim_end-blanks : (s back : List ℕ) → list_all is_blank back ≡ true → trim_end (s ++ back) ≡ trim_end s
 trim_end-blanks s [] p = ap trim_end (append-nil s)
 trim_end-blanks s (b ∷ back) p =
     let parts = and-both (is_blank b) (list_all is_blank back) p in
     ap trim_end (sym (append_assoc s (b ∷ []) back)) ∙ trim_end-blanks (s ++ b ∷ []) back parts.1 ∙ trim_end-blank s b parts.0
 
-trim-snug : (front core back : List ℕ) → list_all is_blank front ≡ true → Snug core → list_all is_blank back ≡ true
+pub trim-snug : (front core back : List ℕ) → list_all is_blank front ≡ true → Snug core → list_all is_blank back ≡ true
     → trim (front ++ (core ++ back)) ≡ core
 trim-snug front core back p snug q =
     ap trim_end (trim_start-blanks front (core ++ back) p ∙ snug.start back) ∙ trim_end-blanks core back q ∙ snug.end

@@ -4,6 +4,7 @@ pub mod Faults
 pub mod Grammar
 pub mod LabelMap
 pub mod Laws
+pub mod LineGrammar
 pub mod Lines
 pub mod Listing
 pub mod Mnemonics

@@ -1,7 +1,7 @@
 //! Laws of listings.
 ghost use Rattle.std.specs.Prelude.{◌≡◌, Some};
 ghost use Rattle.bpf_text.specs.Canonical.{canon};
-ghost use Rattle.bpf_text.specs.Laws.{HaveOneMnemonic, HaveOneAssembly, HaveOperands, HaveOperandLists};
+ghost use Rattle.bpf_text.specs.Laws.{HaveOneMnemonic, HaveOneAssembly, HaveOperands, HaveOperandLists, HaveLines};
 ghost use Rattle.bpf_text.specs.Listing.{IsListing};
 
 use bpf_isa::Program;
@@ -14,11 +14,12 @@ pub fn canonical_listing(program: &Program)
 }
 
 /// Each mnemonic is the one that its name finds, and a listing has one assembly at most. What is
-/// read of an operand is what the grammar says of it.
+/// read of an operand, of an instruction's operands and of a line is what the grammar says of it.
 #[tactic(none)]
 pub fn one_reading()
     ensures value { HaveOneMnemonic }
     ensures only { HaveOneAssembly }
     ensures operands { HaveOperands }
     ensures lists { HaveOperandLists }
+    ensures lines { HaveLines }
 {}

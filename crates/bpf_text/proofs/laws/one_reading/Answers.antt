@@ -2,6 +2,7 @@
 use Rattle.bpf_text.proofs.MnemonicNames.{named-name_of}
 use Rattle.bpf_text.proofs.OneAssembly.{one-assembly}
 use Rattle.bpf_text.proofs.OperandGrammar.{operands}
+use Rattle.bpf_text.proofs.LineGrammar.{lines}
 use Rattle.bpf_text.proofs.OperandLists.{operand-lists}
 use Rattle.bpf_text.proofs.laws.one_reading.Goals as goal
 
@@ -11,4 +12,5 @@ returns c = record {
   only = one-assembly;
   operands = operands;
   lists = operand-lists;
+  lines = lines;
 }
