@@ -12,7 +12,7 @@ use Rattle.bpf_script.specs.Lines.{lines}
 use Rattle.bpf_session.specs.Output.{walk}
 use Rattle.bpf_session.specs.Plain.{plain_end}
 use Rattle.bpf_session.specs.Points.{Bounds, Point}
-use Rattle.bpf_session.specs.Runs.{BreaksOff, Breaks, Prints, first_lines}
+use Rattle.bpf_session.specs.Runs.{BreaksOff, Interrupts, Prints, first_lines}
 use Rattle.bpf_session.specs.Sessions.{SessionValue, point_of}
 use Rattle.bpf_session.specs.declared.fault.RunFault.{RunFault}
 use Rattle.bpfdb.specs.Jobs.{BeginsYield, Completes, DebugsPart, Opens, StopsShort, Yield, Yields, bounds_of_job, debug_yield, run_yield}
@@ -70,8 +70,8 @@ debug-begins holds refusals room job old new why script told after left o p = re
   within = p.within;
   on = p.on;
   broken =
-      subst (λ (q : Point). Breaks why (first_lines p.gaps (bounds_of_job job) script q) p.k script told after left) o.begins
-      (subst (λ (b : Bounds). Breaks why (first_lines p.gaps b script (point_of old [])) p.k script told after left) o.bounded p.broken);
+      subst (λ (q : Point). Interrupts why (first_lines p.gaps (bounds_of_job job) script q) p.k script told after left) o.begins
+      (subst (λ (b : Bounds). Interrupts why (first_lines p.gaps b script (point_of old [])) p.k script told after left) o.bounded p.broken);
 }
 
 -- the same of a job's own subcommand, and of what its reader has left

@@ -16,7 +16,7 @@ use Rattle.bpf_script.specs.Lines.{lines}
 use Rattle.bpf_session.specs.Output.{Walk, walk}
 use Rattle.bpf_session.specs.Plain.{ending_of, plain_end, text_of_ending}
 use Rattle.bpf_session.specs.Points.{Bounds, Point, opening}
-use Rattle.bpf_session.specs.Runs.{Breaks, GoesOn, Leaves, first_lines}
+use Rattle.bpf_session.specs.Runs.{Interrupts, GoesOn, Leaves, first_lines}
 use Rattle.bpf_session.specs.declared.fault.RunFault.{RunFault}
 use Rattle.bpf_session.specs.declared.plain.Ending.{Ending}
 use Rattle.bpf_session.specs.declared.plain.Ending.TheVariants.{Exited, Faulted, Limit}
@@ -116,7 +116,7 @@ pub record DebugsPart (job : Job) (script told : List ℕ) (after left : Option 
   pub k : ℕ
   pub within : k ≤ length (lines script)
   pub on : All GoesOn (take k (lines script))
-  pub broken : Breaks why (first_lines gaps (bounds_of_job job) script (beginning job code)) k script told after left
+  pub broken : Interrupts why (first_lines gaps (bounds_of_job job) script (beginning job code)) k script told after left
 
 -- A beginning of the answer was written.
 abbrev pub BeginsYield : Subcommand → Job → List ℕ → List ℕ → Option (List ℕ) → Option (List ℕ) → Type 0
