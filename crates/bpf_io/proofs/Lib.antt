@@ -1,2 +1,5 @@
 pub mod Appending
 pub mod HexDigits
+pub mod Lines
+pub mod Numerals
+pub mod Places
