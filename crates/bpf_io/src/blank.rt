@@ -11,15 +11,12 @@ pub fn is_blank(byte: u8) -> bool
 }
 
 /// Where a blank first stands, or the length.
-#[tactic(auto, using(crate::proofs::Places::position_none))]
+#[tactic(auto, using(crate::proofs::Places::unwrap_or_position))]
 pub fn find_blank(text: &[u8]) -> usize
     ensures value { result ≡ position_or_len is_blank text.now }
     ensures within { result ≤ length text.now }
 {
-    match blank_position(text) {
-        Some(at) => at,
-        None => text.len(),
-    }
+    blank_position(text).unwrap_or(text.len())
 }
 
 fn blank_position(text: &[u8]) -> Option<usize>

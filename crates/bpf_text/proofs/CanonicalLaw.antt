@@ -9,7 +9,7 @@ use Rattle.bpf_isa.specs.declared.instruction.Insn.{Insn}
 use Rattle.bpf_isa.specs.Programs.{Checked, IsProgram, target_of, slots_of}
 use Rattle.bpf_isa.specs.Checker.{is_start, is_wide_at, piece_at}
 use Rattle.bpf_isa.specs.Words.{IsWord, row_of}
-use Rattle.bpf_text.specs.Cuts.{lines}
+use Rattle.bpf_io.specs.Lines.{lines}
 use Rattle.bpf_text.specs.Canonical.{is_target, goes_to, canon}
 use Rattle.bpf_text.specs.Listing.{Labels, no_label, first_round, second_round, AreBytes, IsListing}
 use Rattle.bpf_text.proofs.Listings.{start-within}

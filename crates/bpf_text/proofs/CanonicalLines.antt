@@ -1,13 +1,11 @@
 -- The lines of the canonical listing.
-use Rattle.std.proofs.Common.{ℕ, ◌≡◌, ◌<◌, ◌+◌, ◌^◌, ◌==◌, Bool, true, false, not, List, [], ◌∷◌, ◌++◌, length, refl, ap, ◌∙◌, arith, codes, Option, Some, None, length-append, append_assoc}
-use Rattle.std.specs.List.{list_all}
+use Rattle.std.proofs.Common.{ℕ, ◌≡◌, ◌<◌, ◌+◌, ◌^◌, Bool, true, false, List, [], ◌∷◌, ◌++◌, length, refl, ap, ◌∙◌, arith, codes, Option, Some, None, append_assoc}
 use Rattle.bpf_isa.specs.declared.instruction.Insn.{Insn}
 use Rattle.bpf_isa.specs.Programs.{target_of}
-use Rattle.bpf_text.specs.Cuts.{lines, after}
+use Rattle.bpf_io.specs.Lines.{lines}
 use Rattle.bpf_text.specs.Operands.{text_of_insn, label_text}
 use Rattle.bpf_text.specs.Canonical.{slot_lines, lines_from}
-use Rattle.bpf_text.proofs.PlainTexts.{before_first-at, after_first-at}
-use Rattle.bpf_text.proofs.Cutting.{lines-cut}
+use Rattle.bpf_io.proofs.Lines.{lines-first}
 use Rattle.bpf_text.proofs.InsnTexts.{InsnFits, TargetFits}
 use Rattle.bpf_text.proofs.LineTexts.{Reads-insn, Reads-label}
 
@@ -34,20 +32,6 @@ abbrev pub AllFit : ℕ → List (Option Insn) → Type 0
 AllFit p [] = Unit {0}
 AllFit p (i ∷ rest) = EntryFits p i × AllFit (p + 1) rest
 
--- a line, a line feed and what follows
-lines-feed : (line rest : List ℕ) → list_all (λ b. not (b == 10)) line ≡ true
-    → lines (line ++ 10 ∷ rest) ≡ line ∷ lines rest
-lines-feed line rest p =
-    let none = λ (b : ℕ) (h : not (b == 10) ≡ true). not-feed b h in
-    lines-cut (line ++ 10 ∷ rest) (omega (arith, length-append line (10 ∷ rest)))
-    ∙ ap (λ l. l ∷ lines (after 10 (line ++ 10 ∷ rest))) (before_first-at (λ b. b == 10) (λ b. not (b == 10)) line 10 rest none refl p)
-    ∙ ap (λ l. line ∷ lines l) (after_first-at (λ b. b == 10) (λ b. not (b == 10)) line 10 rest none refl p) where
-      not-feed : (b : ℕ) → not (b == 10) ≡ true → (b == 10) ≡ false
-      not-feed b h = go (b == 10) h where
-        go : (t : Bool) → not t ≡ true → t ≡ false
-        go true h = cc
-        go false h = refl
-
 -- two line feeds
 feeds : (label text rest : List ℕ)
     → ((label ++ 58 ∷ 10 ∷ []) ++ text ++ 10 ∷ []) ++ rest ≡ (label ++ 58 ∷ []) ++ 10 ∷ (text ++ 10 ∷ rest)
@@ -59,15 +43,15 @@ lines-slot : (labelled : Bool) (p : ℕ) (i : Option Insn) (rest : List ℕ) →
 lines-slot labelled p None rest h fits = refl
 lines-slot false p (Some i) rest h fits =
     let read = Reads-insn p i fits.0 fits.1 in
-    rw (append_assoc (text_of_insn p i) (10 ∷ []) rest) (lines-feed (text_of_insn p i) rest read.feedless)
+    rw (append_assoc (text_of_insn p i) (10 ∷ []) rest) (lines-first (text_of_insn p i) rest read.feedless)
 lines-slot true p (Some i) rest h fits =
     let read = Reads-insn p i fits.0 fits.1 in
     let named = Reads-label p h in
     let text = text_of_insn p i in
     let label = label_text p ++ codes ":" in
     ap lines (feeds (label_text p) text rest)
-    ∙ lines-feed label (text ++ 10 ∷ rest) named.feedless
-    ∙ ap (λ l. label ∷ l) (lines-feed text rest read.feedless)
+    ∙ lines-first label (text ++ 10 ∷ rest) named.feedless
+    ∙ ap (λ l. label ∷ l) (lines-first text rest read.feedless)
 
 -- the lines of all slots
 pub lines-listing : (f : ℕ → Bool) (p : ℕ) (insns : List (Option Insn)) → p + length insns < 2 ^ 64 → AllFit p insns

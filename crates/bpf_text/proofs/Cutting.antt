@@ -1,18 +1,9 @@
 -- Where a text is cut.
-use Rattle.std.proofs.Common.{ℕ, suc, ◌==◌, length-drop, ◌≡◌, ◌<◌, ◌≤◌, ◌+◌, ◌-◌, Bool, true, false, not, List, [], ◌∷◌, ◌++◌, take, length, get_or, Some, None, unwrap_or, cond, refl, ap, sym, ◌∙◌, arith, nat_lt}
-use Rattle.std.specs.List.{position, position_or_len}
-use Rattle.std.proofs.lemmas.List.Sums.{prefix_len-le-length}
+use Rattle.std.proofs.Common.{ℕ, suc, ◌==◌, length-drop, ◌≡◌, ◌<◌, ◌≤◌, ◌+◌, ◌-◌, Bool, true, false, List, [], ◌∷◌, ◌++◌, take, length, get_or, refl, ap, sym, ◌∙◌, arith}
+use Rattle.std.specs.List.{position_or_len}
 use Rattle.std.proofs.lemmas.List.{take_more}
-use Rattle.std.proofs.lemmas.Bool.Decides.{nat_tests}
-use Rattle.bpf_text.specs.Cuts.{is_blank, onto_trimmed, trim_end, lines, onto_line, before, after}
-
--- the index of an element, or the length
-pub unwrap_or-position : (p : ℕ → Bool) (xs : List ℕ) → unwrap_or (position p xs) (length xs) ≡ position_or_len p xs
-unwrap_or-position p xs = go (nat_lt (position_or_len p xs) (length xs)) refl where
-  go : (b : Bool) → nat_lt (position_or_len p xs) (length xs) ≡ b
-      → unwrap_or (cond b (Some (position_or_len p xs)) None) (length xs) ≡ position_or_len p xs
-  go true e = refl
-  go false e = let most = prefix_len-le-length (λ x. not (p x)) xs in grind (arith, nat_tests)
+use Rattle.bpf_io.specs.Lines.{is_blank, lines, onto_line}
+use Rattle.bpf_text.specs.Cuts.{onto_trimmed, trim_end, before, after}
 
 -- a blank at the end is trimmed
 pub trim_end-blank : (xs : List ℕ) (b : ℕ) → is_blank b ≡ true → trim_end (xs ++ b ∷ []) ≡ trim_end xs

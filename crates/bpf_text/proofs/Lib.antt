@@ -14,6 +14,5 @@ pub mod OperandLists
 pub mod PlainTexts
 pub mod ProgramParts
 pub mod Rounds
-pub mod Saturating
 pub mod TokenGrammar
 pub mod TokenTexts

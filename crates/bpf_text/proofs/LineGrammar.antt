@@ -12,7 +12,8 @@ use Rattle.bpf_isa.specs.declared.mnemonic.Mnemonic.{Mnemonic}
 use Rattle.bpf_text.specs.declared.statement.Statement.{Statement}
 use Rattle.bpf_text.specs.declared.table.TheConstants.{MNEMONICS}
 use Rattle.bpf_text.specs.declared.term.Terms.{Terms}
-use Rattle.bpf_text.specs.Cuts.{is_blank, is_letter, is_name, is_name_byte, is_text, is_labelled, before, after, code_of, trim, trim_start, trim_end, mnemonic_part}
+use Rattle.bpf_io.specs.Lines.{is_blank, trim_start}
+use Rattle.bpf_text.specs.Cuts.{is_letter, is_name, is_name_byte, is_text, is_labelled, before, after, code_of, trim, trim_end, mnemonic_part}
 use Rattle.bpf_text.specs.Cuts as cuts
 use Rattle.bpf_text.specs.LineGrammar.{IsComment, IsLabel, IsApart, IsInstruction, IsStatement, Says}
 use Rattle.bpf_text.specs.Lines.{read_line, line_of, line_with}

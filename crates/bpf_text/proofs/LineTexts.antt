@@ -9,7 +9,8 @@ use Rattle.bpf_text.specs.declared.operand.Operand.{Operand}
 use Rattle.bpf_text.specs.declared.operand.Operands.{Operands}
 use Rattle.bpf_text.specs.declared.operand.Operands.TheVariants.{Nothing, One, Two, Three}
 use Rattle.bpf_text.specs.declared.statement.Statement.{Statement}
-use Rattle.bpf_text.specs.Cuts.{is_blank, is_text, is_name, before, after, trim, trim_start, code_of, is_labelled, mnemonic_part}
+use Rattle.bpf_io.specs.Lines.{is_blank, trim_start}
+use Rattle.bpf_text.specs.Cuts.{is_text, is_name, before, after, trim, code_of, is_labelled, mnemonic_part}
 use Rattle.bpf_text.specs.Cuts as cuts
 use Rattle.bpf_text.specs.Lines.{read_line}
 use Rattle.bpf_isa.specs.Mnemonics.{mnemonic_of}

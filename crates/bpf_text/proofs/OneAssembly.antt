@@ -3,7 +3,7 @@ use Rattle.std.proofs.Common.{ℕ, ◌≡◌, ◌+◌, List, [], ◌∷◌, ◌+
 use Rattle.bpf_isa.specs.declared.instruction.Insn.{Insn}
 use Rattle.bpf_isa.specs.Programs.{slots_of}
 use Rattle.bpf_isa.proofs.Spelling.{one_word}
-use Rattle.bpf_text.specs.Cuts.{lines}
+use Rattle.bpf_io.specs.Lines.{lines}
 use Rattle.bpf_text.specs.Lines.{read_line}
 use Rattle.bpf_text.specs.Statements.{LineReading}
 use Rattle.bpf_text.specs.Listing.{Labels, Spells, AreBytes, resolved, IsListing}

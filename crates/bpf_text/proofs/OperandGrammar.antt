@@ -16,13 +16,15 @@ use Rattle.bpf_text.specs.declared.term.OperandForm.{OperandForm}
 use Rattle.bpf_text.specs.declared.term.OperandForm.TheVariants as form
 use Rattle.bpf_text.specs.declared.term.Term.{Term}
 use Rattle.bpf_text.specs.declared.term.Term.TheVariants as term
-use Rattle.bpf_text.specs.Cuts.{is_blank, is_name, trim, trim_start, trim_end, onto_trimmed, before}
-use Rattle.bpf_text.specs.Grammar.{IsRegister, IsNatural, IsSigned, Padded, IsDisplaced, IsInside, IsOperand}
-use Rattle.bpf_text.specs.Tokens.{register, natural, signed, number_of, is_sign, is_bracketed}
+use Rattle.bpf_io.specs.Lines.{is_blank, trim_start}
+use Rattle.bpf_text.specs.Cuts.{is_name, trim, trim_end, onto_trimmed, before}
+use Rattle.bpf_io.specs.Numerals.{IsNatural, natural}
+use Rattle.bpf_text.specs.Grammar.{IsRegister, IsSigned, Padded, IsDisplaced, IsInside, IsOperand}
+use Rattle.bpf_text.specs.Tokens.{register, signed, number_of, is_sign, is_bracketed}
 use Rattle.bpf_text.specs.Terms.{term_of, memory, base_and_displacement, displacement, register_or}
 use Rattle.bpf_text.proofs.PlainTexts.{and-both, and-join, list_all-append, list_all-weaken, before_first-at, before_first-none, position_or_len-none}
-use Rattle.bpf_text.proofs.TokenTexts.{slice_index-other, list_all-AllDigits, is_decimal, are_decimal, is_open, no_sign, displacement-at, memory-at}
-use Rattle.bpf_text.proofs.TokenGrammar.{digit-other, register-says, says-register, natural-says, says-natural, signed-says, says-signed, map-says}
+use Rattle.bpf_text.proofs.TokenTexts.{digit-other, slice_index-other, list_all-AllDigits, is_decimal, are_decimal, is_open, no_sign, displacement-at, memory-at}
+use Rattle.bpf_text.proofs.TokenGrammar.{register-says, says-register, natural-says, says-natural, signed-says, says-signed, map-says}
 
 -- the first byte that passes, and what stands on both sides
 abbrev pub Splits : (ℕ → Bool) → List ℕ → Type 0

@@ -10,8 +10,10 @@ use Rattle.bpf_text.specs.declared.term.OperandForms.TheVariants as forms
 use Rattle.bpf_text.specs.declared.term.Term.{Term}
 use Rattle.bpf_text.specs.declared.term.Term.TheVariants as term
 use Rattle.bpf_text.specs.declared.term.Terms.{Terms}
-use Rattle.bpf_text.specs.Cuts.{is_blank, is_letter, is_name, is_name_byte, trim, trim_end, first_operand, other_operands, before, after}
-use Rattle.bpf_text.specs.Grammar.{IsRegister, IsNatural, IsSigned, IsInside, IsDisplaced, IsOperand, AreOperands, Padded}
+use Rattle.bpf_io.specs.Lines.{is_blank}
+use Rattle.bpf_text.specs.Cuts.{is_letter, is_name, is_name_byte, trim, trim_end, first_operand, other_operands, before, after}
+use Rattle.bpf_io.specs.Numerals.{IsNatural}
+use Rattle.bpf_text.specs.Grammar.{IsRegister, IsSigned, IsInside, IsDisplaced, IsOperand, AreOperands, Padded}
 use Rattle.bpf_text.specs.Terms.{terms_of, two, three, term_of, one}
 use Rattle.bpf_text.proofs.Cutting.{trim_end-blank}
 use Rattle.bpf_text.proofs.PlainTexts.{is_plain, are_plain, and-both, and-join, list_all-append, list_all-weaken, before_first-at, after_first-at, Snug, Snug-plain, Snug-append}

@@ -5,7 +5,8 @@ use Rattle.std.proofs.lemmas.List.{append-nil}
 use Rattle.bpf_text.specs.declared.fault.LineFault.{LineFault}
 use Rattle.bpf_text.specs.declared.fault.AsmFault.TheVariants.{Line}
 use Rattle.bpf_text.specs.declared.line.Line.{Line as LineSaid}
-use Rattle.bpf_text.specs.Cuts.{lines, before, after}
+use Rattle.bpf_io.specs.Lines.{lines}
+use Rattle.bpf_text.specs.Cuts.{before, after}
 use Rattle.bpf_text.specs.Lines.{read_line}
 use Rattle.bpf_text.specs.Statements.{LineReading}
 use Rattle.bpf_isa.specs.declared.instruction.Insn.{Insn}

@@ -1,5 +1,5 @@
 -- What is read of registers and numbers is what their grammar says.
-use Rattle.std.proofs.Common.{ℕ, ◌≡◌, ◌<◌, ◌≤◌, ◌+◌, ◌-◌, ◌==◌, Bool, true, false, ◌&&◌, List, [], ◌∷◌, ◌++◌, refl, ap, sym, ◌∙◌, arith, inl, inr, lit<, lit≤, nat_lt, nat_le, Option, Some, None, option_map, Ok, Err, slice_index, drop, if◌then◌else◌}
+use Rattle.std.proofs.Common.{ℕ, ◌≡◌, ◌<◌, ◌≤◌, ◌+◌, ◌-◌, ◌==◌, Bool, true, false, ◌&&◌, List, [], ◌∷◌, ◌++◌, refl, ap, sym, ◌∙◌, arith, inl, inr, lit<, lit≤, nat_lt, nat_le, Option, Some, None, option_map, Ok, Err, drop, if◌then◌else◌}
 use Rattle.std.specs.List.{list_all}
 use Rattle.std.specs.Fmt.{decimal}
 use Rattle.std.specs.Str.Parse.{AllDigits, digits_value}
@@ -9,10 +9,11 @@ use Rattle.std.proofs.lemmas.Bool.Decides.{nat_tests}
 use Rattle.std.proofs.lemmas.Fmt.{decimal_digit, decimal_step}
 use Rattle.bpf_text.specs.declared.fault.LineFault.TheVariants.{WrongOperands}
 use Rattle.bpf_text.specs.declared.number.Number.{Number}
-use Rattle.bpf_text.specs.Grammar.{IsRegister, AreDigits, IsNatural, IsSigned}
-use Rattle.bpf_text.specs.Tokens.{register, numeral, natural, has_prefix, is_negative, signed, number_of}
+use Rattle.bpf_io.specs.Numerals.{AreDigits, IsNatural, numeral, natural, has_prefix}
+use Rattle.bpf_text.specs.Grammar.{IsRegister, IsSigned}
+use Rattle.bpf_text.specs.Tokens.{register, is_negative, signed, number_of}
 use Rattle.bpf_text.proofs.PlainTexts.{and-both}
-use Rattle.bpf_text.proofs.TokenTexts.{register-text, numeral-digits, list_all-AllDigits, slice_index-other}
+use Rattle.bpf_text.proofs.TokenTexts.{register-text, numeral-digits, decimal-no-prefix, digit-other, list_all-AllDigits, slice_index-other}
 
 -- registers
 decimal-ten : decimal 10 ≡ 49 ∷ 48 ∷ []
@@ -75,27 +76,14 @@ prefix-says : (s : List ℕ) → has_prefix s ≡ true → s ≡ 48 ∷ 120 ∷ 
 prefix-says [] h = cc
 prefix-says (a ∷ []) h = let parts = and-both (a == 48) false h in cc
 prefix-says (a ∷ b ∷ s) h =
-    let parts = and-both (a == 48) (b == 120) h in
-    rw (eqb-true a 48 parts.0, eqb-true b 120 parts.1) refl
+    let parts = and-both (a == 48) ((b == 120) && true) h in
+    rw (eqb-true a 48 parts.0, eqb-true b 120 (and-both (b == 120) true parts.1).0) refl
 
 pub natural-says : (s : List ℕ) (n : ℕ) → natural s ≡ Some n → IsNatural s n
 natural-says s n e = go (has_prefix s) refl e where
   go : (t : Bool) → has_prefix s ≡ t → (if t then numeral 16 (drop 2 s) else numeral 10 s) ≡ Some n → IsNatural s n
   go true h e = inr (drop 2 s, prefix-says s h, numeral-says 16 n (drop 2 s) e)
   go false h e = inl (numeral-says 10 n s e)
-
-pub digit-other : (c b : ℕ) → nat_lt (digit_value c) 10 ≡ false → nat_lt (digit_value b) 10 ≡ true → (b == c) ≡ false
-digit-other c b misses passes = go (b == c) refl where
-  go : (t : Bool) → (b == c) ≡ t → (b == c) ≡ false
-  go true e = let same = eqb-true b c e in let clash = rw same at passes in cc
-  go false e = e
-
-decimal-no-prefix : (s : List ℕ) → AllDigits 10 s → has_prefix s ≡ false
-decimal-no-prefix s p = and-false (slice_index s 0 == 48) (slice_index s 1 == 120)
-    (slice_index-other (λ d. nat_lt (digit_value d) 10) 120 s 1 (λ b d. digit-other 120 b refl d) refl (list_all-AllDigits 10 s p)) where
-      and-false : (a b : Bool) → b ≡ false → (a && b) ≡ false
-      and-false true b h = h
-      and-false false b h = refl
 
 pub says-natural : (s : List ℕ) (n : ℕ) → IsNatural s n → natural s ≡ Some n
 says-natural s n (inl known) = rw (decimal-no-prefix s known.0.1) (numeral-digits 10 n s known.0 known.1)

@@ -1,7 +1,7 @@
 -- Canonical operands are read back.
 use Rattle.std.proofs.Common.{ℕ, ℤ, pos, negsuc, zero, suc, ◌≡◌, ◌<◌, ◌≤◌, ◌+◌, ◌-◌, ◌%◌, ◌^◌, ◌==◌, Bool, true, false, ◌&&◌, not, List, [], ◌∷◌, ◌++◌, length, refl, ap, ◌∙◌, arith, inl, inr, lit<, lit≤, nat_lt, nat_le, Some, option_map, Ok, Err, w32, w16, SFits, slice_index, length-append}
 use Rattle.std.proofs.Math.Seq.{get_or-append_seam, drop-append-add, take-append_seam}
-use Rattle.std.proofs.lemmas.Bool.{eq-eqb}
+use Rattle.std.proofs.lemmas.Bool.{eq-eqb, eqb-true}
 use Rattle.bpf_text.specs.declared.operand.Operand.TheVariants.{Memory}
 use Rattle.std.specs.List.{list_all}
 use Rattle.std.specs.Fmt.{decimal, digits, signed_decimal}
@@ -17,11 +17,12 @@ use Rattle.bpf_text.specs.declared.number.Number.{Number}
 use Rattle.bpf_text.specs.declared.term.Term.{Term}
 use Rattle.bpf_text.specs.declared.term.Term.TheVariants as term
 use Rattle.bpf_text.specs.Cuts.{is_name, is_name_byte, trim}
-use Rattle.bpf_text.specs.Tokens.{register, numeral, natural, has_prefix, is_negative, signed, number_of, unsigned, immediate, wide, offset, is_sign}
+use Rattle.bpf_io.specs.Numerals.{numeral, natural, has_prefix}
+use Rattle.bpf_text.specs.Tokens.{register, is_negative, signed, number_of, unsigned, immediate, wide, offset, is_sign}
 use Rattle.bpf_text.specs.Terms.{memory, base_and_displacement, displacement}
 use Rattle.bpf_io.specs.Writing.{hexadecimal}
 use Rattle.bpf_text.specs.Operands.{register_text, label_text, operand_text}
-use Rattle.bpf_text.proofs.PlainTexts.{are_plain, list_all-append, list_all-weaken, are_plain-decimal, position_or_len-at, before_first-at, trim-plain}
+use Rattle.bpf_text.proofs.PlainTexts.{and-both, are_plain, list_all-append, list_all-weaken, are_plain-decimal, position_or_len-at, before_first-at, trim-plain}
 
 -- a decimal digit
 abbrev pub is_decimal : ℕ → Bool
@@ -36,22 +37,18 @@ are_decimal = decimal_by_steps (λ n ds. list_all is_decimal ds ≡ true)
     (λ n h. rw (is_decimal-digit n h) refl)
     (λ n ds h p. list_all-append is_decimal ds ((48 + n % 10) ∷ []) p (rw (is_decimal-digit (n % 10) (omega arith)) refl))
 
--- both of two facts
-and-first : (a b : Bool) → (a && b) ≡ true → a ≡ true
-and-first true b h = refl
-and-first false b h = cc
-
-and-second : (a b : Bool) → (a && b) ≡ true → b ≡ true
-and-second true b h = h
-and-second false b h = cc
+-- one of two facts fails
+and-false : (a b : Bool) → b ≡ false → (a && b) ≡ false
+and-false true b h = h
+and-false false b h = refl
 
 -- a byte that no byte of a text is, and that isn't 0
 pub slice_index-other : (test : ℕ → Bool) (c : ℕ) (s : List ℕ) (i : ℕ)
     → ((b : ℕ) → test b ≡ true → (b == c) ≡ false) → (0 == c) ≡ false → list_all test s ≡ true
     → (slice_index s i == c) ≡ false
 slice_index-other test c [] i none z p = z
-slice_index-other test c (b ∷ s) zero none z p = none b (and-first (test b) (list_all test s) p)
-slice_index-other test c (b ∷ s) (suc i) none z p = slice_index-other test c s i none z (and-second (test b) (list_all test s) p)
+slice_index-other test c (b ∷ s) zero none z p = none b (and-both (test b) (list_all test s) p).0
+slice_index-other test c (b ∷ s) (suc i) none z p = slice_index-other test c s i none z (and-both (test b) (list_all test s) p).1
 
 -- registers
 register-digit : (b : ℕ) → is_decimal b ≡ true → register (114 ∷ b ∷ []) ≡ Ok (b - 48)
@@ -85,18 +82,25 @@ numeral-digits radix n (c ∷ s) known e =
     let whole = list_all-AllDigits radix (c ∷ s) known.1 in
     rw whole (ap Some e)
 
+-- a decimal digit is no byte that is none
+pub digit-other : (c b : ℕ) → nat_lt (digit_value c) 10 ≡ false → nat_lt (digit_value b) 10 ≡ true → (b == c) ≡ false
+digit-other c b misses passes = go (b == c) refl where
+  go : (t : Bool) → (b == c) ≡ t → (b == c) ≡ false
+  go true e = let same = eqb-true b c e in let clash = rw same at passes in cc
+  go false e = e
+
 -- a decimal number
-has_prefix-decimal : (s : List ℕ) → list_all is_decimal s ≡ true → has_prefix s ≡ false
-has_prefix-decimal s p = and-false (slice_index s 0 == 48) (slice_index s 1 == 120)
-    (slice_index-other is_decimal 120 s 1 (λ b d. grind (arith, nat_tests)) refl p) where
-      and-false : (a b : Bool) → b ≡ false → (a && b) ≡ false
-      and-false true b h = h
-      and-false false b h = refl
+pub decimal-no-prefix : (s : List ℕ) → AllDigits 10 s → has_prefix s ≡ false
+decimal-no-prefix [] p = refl
+decimal-no-prefix (a ∷ []) p = and-false (a == 48) false refl
+decimal-no-prefix (a ∷ b ∷ s) p =
+    let other = digit-other 120 b refl (and-both (nat_lt (digit_value b) 10) (list_all (λ d. nat_lt (digit_value d) 10) s) (list_all-AllDigits 10 (b ∷ s) p.1)).0 in
+    and-false (a == 48) ((b == 120) && true) (rw other refl)
 
 pub natural-decimal : (n : ℕ) → n < 2 ^ 64 → natural (decimal n) ≡ Some n
 natural-decimal n h =
     let known = decimal_is_IsNumeral n h in
-    rw (has_prefix-decimal (decimal n) (are_decimal n h)) (numeral-digits 10 n (decimal n) known.0 known.1)
+    rw (decimal-no-prefix (decimal n) known.0.1) (numeral-digits 10 n (decimal n) known.0 known.1)
 
 -- a number with a minus or none
 is_negative-decimal : (s : List ℕ) → list_all is_decimal s ≡ true → is_negative s ≡ false

@@ -1,23 +1,11 @@
--- How a listing is cut into lines, labels, mnemonics and operands. The listing's grammar is bpfdb's own choice.
-use Rattle.std.specs.Prelude.{ℕ, Bool, false, ◌==◌, ◌&&◌, ◌||◌, not, nat_le, nat_lt, if◌then◌else◌, List, [], ◌∷◌, drop, length}
+-- How a line of a listing is cut into its label, its mnemonic and its operands. The listing's grammar is bpfdb's own choice.
+use Rattle.std.specs.Prelude.{ℕ, Bool, false, ◌==◌, ◌&&◌, ◌||◌, nat_le, nat_lt, if◌then◌else◌, List, [], ◌∷◌, length}
 use Rattle.std.specs.List.{list_all, position_or_len, before_first, after_first}
-
--- A blank: space, tab, carriage return.
-abbrev pub is_blank : ℕ → Bool
-is_blank b = b == 32 || b == 9 || b == 13
+use Rattle.bpf_io.specs.Lines.{is_blank, trim_start}
 
 -- What may stand outside comments: printing ASCII and blanks.
 abbrev pub is_text : ℕ → Bool
 is_text b = (nat_le 32 b && nat_le b 126) || is_blank b
-
--- The lines of a text: it is cut at line feeds, and a last line without one counts.
-abbrev pub onto_line : ℕ → List (List ℕ) → List (List ℕ)
-onto_line b [] = (b ∷ []) ∷ []
-onto_line b (line ∷ lines) = (b ∷ line) ∷ lines
-
-abbrev pub lines : List ℕ → List (List ℕ)
-lines [] = []
-lines (b ∷ bytes) = if b == 10 then [] ∷ lines bytes else onto_line b (lines bytes)
 
 -- What stands before the first byte, or all.
 abbrev pub before : ℕ → List ℕ → List ℕ
@@ -26,10 +14,6 @@ before byte s = before_first (λ b. b == byte) s
 -- What stands after the first byte, or nothing.
 abbrev pub after : ℕ → List ℕ → List ℕ
 after byte s = after_first (λ b. b == byte) s
-
--- Without the blanks in front.
-abbrev pub trim_start : List ℕ → List ℕ
-trim_start s = drop (position_or_len (λ b. not (is_blank b)) s) s
 
 -- Without the blanks at the end.
 abbrev pub onto_trimmed : ℕ → List ℕ → List ℕ

@@ -1,7 +1,6 @@
 -- How the operands of a listing are written, in words of their pieces. It is bpfdb's own choice.
 use Rattle.std.specs.Prelude.{ℕ, ◌≡◌, ◌≤◌, ◌⊎◌, Bool, true, false, List, ◌∷◌, ◌++◌, codes, decimal}
 use Rattle.std.specs.List.{list_all}
-use Rattle.std.specs.Str.Parse.{IsNumeral, digits_value}
 use Rattle.bpf_text.specs.declared.number.Number.{Number}
 use Rattle.bpf_text.specs.declared.term.OperandForm.{OperandForm}
 use Rattle.bpf_text.specs.declared.term.OperandForm.TheVariants as form
@@ -11,20 +10,14 @@ use Rattle.bpf_text.specs.declared.term.Terms.{Terms}
 use Rattle.bpf_text.specs.declared.term.OperandForms.{OperandForms}
 use Rattle.bpf_text.specs.declared.term.OperandForms.TheVariants.{Nothing, One, Two, Three}
 use Rattle.bpf_text.specs.Terms.{one, two, three}
-use Rattle.bpf_text.specs.Cuts.{is_blank, is_name}
+use Rattle.bpf_io.specs.Lines.{is_blank}
+use Rattle.bpf_io.specs.Numerals.{IsNatural}
+use Rattle.bpf_text.specs.Cuts.{is_name}
 use Rattle.bpf_text.specs.Tokens.{number_of}
 
 -- A register: r and one of the numbers 0 to 10, without a zero in front.
 abbrev pub IsRegister : List ℕ → ℕ → Type 0
 IsRegister s reg = (reg ≤ 10) × (s ≡ codes "r" ++ decimal reg)
-
--- Digits of a radix, one at least and as many as there are, and their value.
-abbrev pub AreDigits : ℕ → List ℕ → ℕ → Type 0
-AreDigits radix s n = IsNumeral radix s × (digits_value radix s ≡ n)
-
--- A number without a sign: decimal digits, or 0x and hexadecimal digits.
-abbrev pub IsNatural : List ℕ → ℕ → Type 0
-IsNatural s n = AreDigits 10 s n ⊎ ((digits : List ℕ) × (s ≡ codes "0x" ++ digits) × AreDigits 16 digits n)
 
 -- A number, directly behind a minus or without one.
 abbrev pub IsSigned : List ℕ → Number → Type 0

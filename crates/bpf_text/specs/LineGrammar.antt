@@ -4,7 +4,8 @@ use Rattle.std.specs.List.{list_all}
 use Rattle.bpf_isa.specs.declared.mnemonic.Mnemonic.{Mnemonic}
 use Rattle.bpf_text.specs.declared.statement.Statement.{Statement}
 use Rattle.bpf_text.specs.declared.term.Terms.{Terms}
-use Rattle.bpf_text.specs.Cuts.{is_blank, is_name, is_text}
+use Rattle.bpf_io.specs.Lines.{is_blank}
+use Rattle.bpf_text.specs.Cuts.{is_name, is_text}
 use Rattle.bpf_text.specs.Grammar.{AreOperands}
 use Rattle.bpf_text.specs.Mnemonics.{name_of}
 use Rattle.bpf_text.specs.Statements.{forms_of, insn_with}

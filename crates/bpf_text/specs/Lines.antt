@@ -3,7 +3,8 @@ use Rattle.std.specs.Prelude.{ℕ, if◌then◌else◌, List, Option, Some, None
 use Rattle.std.specs.List.{list_all}
 use Rattle.bpf_text.specs.declared.fault.LineFault.TheVariants.{NotText}
 use Rattle.bpf_text.specs.declared.line.Line.{Line}
-use Rattle.bpf_text.specs.Cuts.{is_text, before, after, trim, trim_start, code_of, is_labelled}
+use Rattle.bpf_io.specs.Lines.{trim_start}
+use Rattle.bpf_text.specs.Cuts.{is_text, before, after, trim, code_of, is_labelled}
 use Rattle.bpf_text.specs.Statements.{LineReading, read_statement}
 
 -- A label, or none, and what stands behind it.

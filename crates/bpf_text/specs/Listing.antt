@@ -10,7 +10,7 @@ use Rattle.bpf_text.specs.declared.fault.AsmFault.{AsmFault}
 use Rattle.bpf_text.specs.declared.fault.AsmFault.TheVariants.{Line, Memory}
 use Rattle.bpf_text.specs.declared.line.Line.{Line as LineSaid}
 use Rattle.bpf_text.specs.declared.statement.Statement.{Statement}
-use Rattle.bpf_text.specs.Cuts.{lines}
+use Rattle.bpf_io.specs.Lines.{lines}
 use Rattle.bpf_text.specs.Lines.{read_line}
 use Rattle.bpf_text.specs.Statements.{LineReading}
 

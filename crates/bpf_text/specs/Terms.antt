@@ -13,7 +13,8 @@ use Rattle.bpf_text.specs.declared.term.Term.{Term}
 use Rattle.bpf_text.specs.declared.term.Term.TheVariants.{Register, Number as Num, Memory, Name, Absent}
 use Rattle.bpf_text.specs.declared.term.Terms.{Terms}
 use Rattle.bpf_text.specs.Cuts.{trim, before, is_name, first_operand, other_operands}
-use Rattle.bpf_text.specs.Tokens.{register, natural, signed, number_of, is_sign, is_bracketed, unsigned, immediate, wide, offset}
+use Rattle.bpf_io.specs.Numerals.{natural}
+use Rattle.bpf_text.specs.Tokens.{register, signed, number_of, is_sign, is_bracketed, unsigned, immediate, wide, offset}
 
 -- What stands behind the register in brackets: nothing, or a sign and a number.
 abbrev pub displacement : List ℕ → Option Number

@@ -1,9 +1,8 @@
 -- The registers and numbers of a listing. Their grammar is bpfdb's own choice.
 use Rattle.std.specs.Prelude.{ℕ, ℤ, pos, neg_ℤ, ◌+◌, ◌-◌, ◌%◌, ◌^◌, Bool, true, false, ◌==◌, ◌&&◌, ◌||◌, nat_lt, nat_le, if◌then◌else◌, List, [], ◌∷◌, drop, length, slice_index, Option, Some, None, option_map, Result, Ok, Err}
-use Rattle.std.specs.List.{list_all, position_or_len}
-use Rattle.std.specs.Str.Parse.{digits_value}
-use Rattle.std.specs.Char.{digit_value}
+use Rattle.std.specs.List.{position_or_len}
 use Rattle.std.specs.Int.{w32, cast_signed}
+use Rattle.bpf_io.specs.Numerals.{natural}
 use Rattle.bpf_text.specs.declared.fault.LineFault.{LineFault}
 use Rattle.bpf_text.specs.declared.fault.LineFault.TheVariants.{WrongOperands}
 use Rattle.bpf_text.specs.declared.number.Number.{Number}
@@ -13,20 +12,6 @@ abbrev pub register : List ℕ → Result ℕ LineFault
 register (a ∷ b ∷ []) = if a == 114 && nat_le 48 b && nat_le b 57 then Ok (b - 48) else Err WrongOperands
 register (a ∷ b ∷ c ∷ []) = if a == 114 && b == 49 && c == 48 then Ok 10 else Err WrongOperands
 register _ = Err WrongOperands
-
--- Digits of a radix as a number.
-abbrev pub numeral : ℕ → List ℕ → Option ℕ
-numeral radix [] = None
-numeral radix (c ∷ s) =
-    if list_all (λ d. nat_lt (digit_value d) radix) (c ∷ s) then Some (digits_value radix (c ∷ s)) else None
-
--- Whether a text begins with 0x.
-abbrev pub has_prefix : List ℕ → Bool
-has_prefix s = slice_index s 0 == 48 && slice_index s 1 == 120
-
--- A number without a sign: decimal digits, or 0x and hexadecimal digits.
-abbrev pub natural : List ℕ → Option ℕ
-natural s = if has_prefix s then numeral 16 (drop 2 s) else numeral 10 s
 
 -- A number behind a minus, or without one.
 abbrev pub number_of : Bool → ℕ → Number

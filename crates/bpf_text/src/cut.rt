@@ -1,14 +1,9 @@
 //! Cuts of lines into labels, mnemonics and operands.
-ghost use Rattle.std.specs.Prelude.{◌≡◌, ◌==◌, ◌≤◌, not, length, take, IfSome, option_map, drop, position};
-ghost use Rattle.std.specs.List.{position_or_len, after_first, before_first, list_all};
-ghost use Rattle.bpf_text.specs.Cuts.{is_blank, is_text, before, after, trim_start, trim_end, trim, is_name, is_name_byte, is_letter};
+ghost use Rattle.std.specs.Prelude.{◌≡◌, ◌==◌, ◌≤◌, length, position};
+ghost use Rattle.std.specs.List.{position_or_len, list_all};
+ghost use Rattle.bpf_text.specs.Cuts.{is_text, before, after, trim_end, trim, is_name, is_name_byte, is_letter};
 
-/// Whether a byte is a blank.
-pub fn is_blank(byte: u8) -> bool
-    ensures { result ≡ is_blank byte }
-{
-    matches!(byte, b' ' | b'\t' | b'\r')
-}
+use bpf_io::{is_blank, trim_start};
 
 /// Whether a byte may stand outside comments.
 pub fn is_text(byte: u8) -> bool
@@ -18,6 +13,7 @@ pub fn is_text(byte: u8) -> bool
 }
 
 /// Where the byte first stands, or the length.
+#[tactic(auto, using(bpf_io::proofs::Places::unwrap_or_position))]
 pub fn find(text: &[u8], byte: u8) -> usize
     ensures value { result ≡ position_or_len (λ b. b == byte) text.now }
     ensures within { result ≤ length text.now }
@@ -29,20 +25,6 @@ fn position(text: &[u8], byte: u8) -> Option<usize>
     ensures { result ≡ position (λ b. b == byte) text.now }
 {
     text.iter().position(|b| *b == byte)
-}
-
-/// Where a blank first stands, or the length.
-pub fn find_blank(text: &[u8]) -> usize
-    ensures value { result ≡ position_or_len is_blank text.now }
-    ensures within { result ≤ length text.now }
-{
-    blank_position(text).unwrap_or(text.len())
-}
-
-fn blank_position(text: &[u8]) -> Option<usize>
-    ensures { result ≡ position is_blank text.now }
-{
-    text.iter().position(|b| is_blank(*b))
 }
 
 /// The text before the first such byte, or all of it.
@@ -62,19 +44,6 @@ pub fn after(text: &[u8], byte: u8) -> &[u8]
     } else {
         &[]
     }
-}
-
-/// The text without the blanks in front.
-pub fn trim_start(text: &[u8]) -> &[u8]
-    ensures { result.now ≡ trim_start text.now }
-{
-    &text[start_position(text).unwrap_or(text.len())..]
-}
-
-fn start_position(text: &[u8]) -> Option<usize>
-    ensures { result ≡ position (λ b. not (is_blank b)) text.now }
-{
-    text.iter().position(|b| !is_blank(*b))
 }
 
 /// The text without the blanks at its end.

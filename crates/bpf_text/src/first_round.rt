@@ -1,6 +1,6 @@
 //! The first round over a listing: its labels, and the faults of its lines.
 ghost use Rattle.std.specs.Prelude.{◌≡◌, ◌≤◌, ◌+◌, IfOk, IfErr, Ok, Err, nat_le, if◌then◌else◌};
-ghost use Rattle.bpf_text.specs.Cuts.{lines};
+ghost use Rattle.bpf_io.specs.Lines.{lines};
 ghost use Rattle.bpf_text.specs.Listing.{first_round, line_end, slot_after, insn_of, label_of, no_label, IsFaultOf};
 ghost use Rattle.bpf_text.specs.LabelMap.{labels_in};
 

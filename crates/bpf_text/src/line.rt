@@ -4,10 +4,11 @@ ghost use Rattle.std.specs.List.{list_all};
 ghost use Rattle.bpf_text.specs.Cuts.{is_text, is_labelled};
 ghost use Rattle.bpf_text.specs.Lines.{read_line, line_of};
 
-use crate::cut::{after, before, find, is_name, is_text, trim, trim_start};
+use crate::cut::{after, before, find, is_name, is_text, trim};
 use crate::fault::LineFault;
 use crate::statement::{Statement, read_statement};
 use crate::term::Name;
+use bpf_io::trim_start;
 
 /// What a line says.
 #[derive(Drop)]

@@ -1,6 +1,6 @@
 //! The second round over a listing: each label is replaced by its distance, and the bytes follow.
 ghost use Rattle.std.specs.Prelude.{◌≡◌, ◌≤◌, ◌+◌, ◌≤ℤ◌, ◌-ℤ◌, pos, IfOk, IfErr, OnOk, Ok, Err, Some, if◌then◌else◌};
-ghost use Rattle.bpf_text.specs.Cuts.{lines};
+ghost use Rattle.bpf_io.specs.Lines.{lines};
 ghost use Rattle.bpf_text.specs.Listing.{resolved, with_distance, with_label, with_target, slot_after, second_round, AreBytes, AppendsWord, IsFaultOf, fits_offset};
 ghost use Rattle.bpf_text.specs.LabelMap.{labels_in};
 

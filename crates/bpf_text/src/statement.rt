@@ -3,10 +3,11 @@ ghost use Rattle.std.specs.Prelude.{◌≡◌};
 ghost use Rattle.bpf_text.specs.Cuts.{mnemonic_part, operands_part};
 ghost use Rattle.bpf_text.specs.Statements.{forms_of, insn_with, read_statement, of_mnemonic};
 
-use crate::cut::{find_blank, trim};
+use crate::cut::trim;
 use crate::fault::LineFault;
 use crate::table::named;
 use crate::term::{Name, OperandForm, OperandForms, Terms, read_terms};
+use bpf_io::find_blank;
 use bpf_isa::{Insn, Mnemonic};
 
 /// An instruction of a listing, and the name of its target, if it has one.

@@ -6,8 +6,9 @@ ghost use Rattle.bpf_text.specs.Terms.{term_of, memory, displacement, base_and_d
 ghost use Rattle.bpf_text.specs.Cuts.{first_operand, other_operands};
 
 use crate::cut::{after, before, find, is_name, trim};
-use crate::number::{Number, Numeral, natural, signed};
+use crate::number::{Number, signed};
 use crate::register::parse_register;
+use bpf_io::{Numeral, natural};
 use bpf_isa::{Reg, Source};
 use std::marker::Model;
 
@@ -291,6 +292,7 @@ fn sign_position(text: &[u8]) -> Option<usize>
     text.iter().position(|byte| is_sign(*byte))
 }
 
+#[tactic(auto, using(bpf_io::proofs::Places::unwrap_or_position))]
 fn find_sign(text: &[u8]) -> usize
     ensures value { result ≡ position_or_len is_sign text.now }
     ensures within { result ≤ length text.now }

@@ -1,5 +1,5 @@
 use Rattle.std.proofs.Common.{◌≡◌, ◌≤◌, ◌+◌, length}
-use Rattle.bpf_text.specs.Cuts.{lines}
+use Rattle.bpf_io.specs.Lines.{lines}
 use Rattle.bpf_text.specs.Listing.{first_round, no_label}
 use Rattle.bpf_text.specs.LabelMap.{labels_in}
 use Rattle.bpf_text.proofs.first_round.first_round.Given as goal

@@ -1,7 +1,7 @@
 -- Each turn is a step of the round.
 use Rattle.std.proofs.Common.{◌≡◌, ◌<◌, ◌∙◌, length, ap, sym, arith}
 use Rattle.std.proofs.lemmas.Grind.{common_steps}
-use Rattle.bpf_text.specs.Cuts.{lines}
+use Rattle.bpf_io.specs.Lines.{lines}
 use Rattle.bpf_text.specs.Listing.{AreBytes, resolved}
 use Rattle.bpf_text.specs.LabelMap.{labels_in}
 use Rattle.bpf_text.proofs.Cutting.{length-after}

@@ -1,5 +1,5 @@
 use Rattle.std.proofs.Common.{ℕ, ◌≡◌, ◌≤◌, ◌+◌, ◌++◌, List, length}
-use Rattle.bpf_text.specs.Cuts.{lines}
+use Rattle.bpf_io.specs.Lines.{lines}
 use Rattle.bpf_text.specs.Listing.{second_round, AreBytes}
 use Rattle.bpf_text.specs.LabelMap.{labels_in}
 use Rattle.bpf_text.proofs.second_round.second_round.Given as goal
