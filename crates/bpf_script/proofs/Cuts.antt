@@ -1,22 +1,14 @@
 -- The first word of a line, cut off.
-use Rattle.std.proofs.Common.{◌≡◌, ℕ, ◌+◌, ◌<◌, ◌≤◌, Bool, true, false, cond, ltb, List, [], ◌∷◌, take, drop, length, get_or, Some, None, ap, refl, sym, ◌∙◌, arith, inl, inr}
+use Rattle.std.proofs.Common.{◌≡◌, ℕ, ◌+◌, ◌<◌, ◌≤◌, Bool, true, false, cond, ltb, List, [], ◌∷◌, take, drop, length, get_or, ap, refl, sym, ◌∙◌, arith, inl, inr}
 use Rattle.std.specs.Prelude.{not}
-use Rattle.std.specs.Option.{unwrap_or}
 use Rattle.std.specs.List.{slice_split, filter, position_or_len, after_first}
 use Rattle.std.proofs.Math.Numerals.{one-add}
-use Rattle.std.proofs.lemmas.Bool.{lt-ltb, ltb-false, cases_lt}
+use Rattle.std.proofs.lemmas.Bool.{lt-ltb, cases_lt}
 use Rattle.std.proofs.lemmas.List.{take_all, drop_all, drop_more, length-drop, length-take-le}
 use Rattle.std.proofs.lemmas.List.Sums.{prefix_len-le-length, fails_before_first, passes_at_first}
 use Rattle.std.proofs.lemmas.List.Splits.{slice_split-cons_yes, slice_split_none, slice_split_first}
-use Rattle.bpf_script.specs.Lines.{is_blank, words}
-
-unwrap_or-tested : (n len : ℕ) (v : Bool) → ltb n len ≡ v → n ≤ len → unwrap_or (cond v (Some n) None) len ≡ n
-unwrap_or-tested n len true inside h = refl
-unwrap_or-tested n len false outside h = omega (arith, ltb-false n len outside)
-
--- what `position` and a default of the length give together
-pub unwrap_or-position : (p : ℕ → Bool) (line : List ℕ) → unwrap_or (cond (ltb (position_or_len p line) (length line)) (Some (position_or_len p line)) None) (length line) ≡ position_or_len p line
-unwrap_or-position p line = unwrap_or-tested _ _ _ refl (prefix_len-le-length (λ byte. not (p byte)) line)
+use Rattle.bpf_io.specs.Lines.{is_blank}
+use Rattle.bpf_script.specs.Lines.{words}
 
 -- a byte of a word
 abbrev pub is_word_byte : ℕ → Bool

@@ -1,48 +1,34 @@
 -- The lines of a text, for a reader that takes one byte at a time.
-use Rattle.std.proofs.Common.{◌≡◌, ◌≢◌, ℕ, suc, ◌<◌, false, List, [], ◌∷◌, ◌++◌, Err, length, ap, refl, ◌∙◌, arith}
-use Rattle.std.specs.Prelude.{◌==◌}
-use Rattle.std.specs.List.{All}
-use Rattle.std.proofs.lemmas.List.Splits.{slice_split_at, slice_split_none, length-slice_split}
-use Rattle.std.proofs.lemmas.List.Elements.{All-push}
+use Rattle.std.proofs.Common.{◌≡◌, ◌≢◌, ℕ, ◌<◌, Bool, true, false, not, ◌&&◌, ◌==◌, List, [], ◌∷◌, ◌++◌, Err, length, refl, ◌∙◌}
+use Rattle.std.specs.List.{list_all}
+use Rattle.std.proofs.lemmas.List.Folds.{list_all-append}
 use Rattle.std.proofs.lemmas.Bool.{ne_eqb, lt-ltb}
-use Rattle.bpf_script.specs.Lines.{lines, without_empty_last}
+use Rattle.bpf_io.specs.Lines.{lines}
 use Rattle.bpf_script.specs.Lines.{line_feeds}
 use Rattle.bpf_script.specs.Commands.{command_of}
 use Rattle.bpf_script.specs.declared.refusal.Refusal.TheVariants.{LineTooLong}
 
 -- no byte is a line feed
 abbrev pub HasNoLineFeed : List ℕ → Type 0
-HasNoLineFeed bytes = All (λ byte. byte ≢ 10) bytes
-
-pub HasNoLineFeed-empty : HasNoLineFeed []
-HasNoLineFeed-empty k d h = absurd (omega arith)
+HasNoLineFeed bytes = list_all (λ byte. not (byte == 10)) bytes ≡ true
 
 pub HasNoLineFeed-push : (line : List ℕ) (byte : ℕ) → HasNoLineFeed line → byte ≢ 10 → HasNoLineFeed (line ++ byte ∷ [])
-HasNoLineFeed-push line byte h other = All-push (λ byte. byte ≢ 10) line byte h other
+HasNoLineFeed-push line byte h other =
+    list_all-append (λ byte. not (byte == 10)) line (byte ∷ []) ∙ rw (h, ne_eqb byte 10 other) refl
 
--- a part with others behind it stays
-without_empty_last-cons : (part : List ℕ) (parts : List (List ℕ)) → 0 < length parts → without_empty_last (part ∷ parts) ≡ part ∷ without_empty_last parts
-without_empty_last-cons part [] some = absurd (omega arith)
-without_empty_last-cons part (next ∷ parts) some = refl
-
-no_cut : (line : List ℕ) → HasNoLineFeed line → All (λ byte. (byte == 10) ≡ false) line
-no_cut line h k d inside = ne_eqb _ 10 (h k d inside)
-
--- an empty text has no line
-pub lines-empty : lines [] ≡ []
-lines-empty = refl
+-- a byte that is no line feed, and none behind it
+HasNoLineFeed-first : (byte : ℕ) (line : List ℕ) → HasNoLineFeed (byte ∷ line) → ((byte == 10) ≡ false) × HasNoLineFeed line
+HasNoLineFeed-first byte line h = go (byte == 10) h where
+  go : (t : Bool) → (not t && list_all (λ byte. not (byte == 10)) line) ≡ true → (t ≡ false) × HasNoLineFeed line
+  go true h = cc
+  go false h = (refl, h)
 
 -- a text without a line feed is one line, unless it is empty
-pub lines-last : (line : List ℕ) → HasNoLineFeed line → 0 < length line → lines line ≡ line ∷ []
-lines-last line h some =
-    ap without_empty_last (slice_split_none (λ byte. byte == 10) line (no_cut line h))
-    ∙ rw (ne_eqb (length line) 0 (λ none. omega arith)) refl
-
--- a line and its line feed, then the lines of the rest
-pub lines-first : (line rest : List ℕ) → HasNoLineFeed line → lines (line ++ 10 ∷ rest) ≡ line ∷ lines rest
-lines-first line rest h =
-    ap without_empty_last (slice_split_at (λ byte. byte == 10) line 10 rest (no_cut line h) refl)
-    ∙ without_empty_last-cons line _ (omega (arith, length-slice_split (λ byte. byte == 10) rest))
+pub lines-last : (byte : ℕ) (line : List ℕ) → HasNoLineFeed (byte ∷ line) → lines (byte ∷ line) ≡ (byte ∷ line) ∷ []
+lines-last byte [] h = rw (HasNoLineFeed-first byte [] h).0 refl
+lines-last byte (next ∷ line) h =
+    let parts = HasNoLineFeed-first byte (next ∷ line) h in
+    rw (parts.0, lines-last next line parts.1) refl
 
 -- a line that is too long is refused, whatever its bytes
 pub command_of-long : (line : List ℕ) → 1024 < length line → command_of line ≡ Err LineTooLong
@@ -53,5 +39,5 @@ command_of-long line long = rw (lt-ltb 1024 (length line) long) refl
 pub line_feeds-none : (line : List ℕ) → HasNoLineFeed line → line_feeds line ≡ 0
 line_feeds-none [] none = refl
 line_feeds-none (byte ∷ line) none =
-    let e : (byte == 10) ≡ false = ne_eqb byte 10 (none 0 0 (omega arith)) in
-    rw e (line_feeds-none line (λ k d inside. none (suc k) d (omega arith)))
+    let parts = HasNoLineFeed-first byte line none in
+    rw parts.0 (line_feeds-none line parts.1)

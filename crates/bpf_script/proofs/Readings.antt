@@ -4,10 +4,11 @@ use Rattle.std.proofs.lemmas.List.{append-nil}
 use Rattle.std.specs.Io.KnownBytes.{Consumes, IsAtEnd, Keeps}
 use Rattle.bpf_io.specs.Counted.{Tally, one_more}
 use Rattle.bpf_io.specs.Reading.{ReadsByte}
-use Rattle.bpf_script.specs.Lines.{lines}
+use Rattle.bpf_io.specs.Lines.{lines}
 use Rattle.bpf_script.specs.ReadLines.{Buffer, Holds, ReadsLine}
 use Rattle.bpf_script.specs.declared.line.NextLine.TheVariants.{Ended, Last, Missing}
-use Rattle.bpf_script.proofs.Lines.{HasNoLineFeed, HasNoLineFeed-empty, HasNoLineFeed-push, lines-last, lines-first, line_feeds-none}
+use Rattle.bpf_io.proofs.Lines.{lines-first}
+use Rattle.bpf_script.proofs.Lines.{HasNoLineFeed, HasNoLineFeed-push, lines-last, line_feeds-none}
 
 -- what a consumed byte leaves
 consumed : (old new : Option (List ℕ)) (byte : ℕ) (rest : List ℕ) → old ≡ Some rest → Consumes old new (byte ∷ []) → (left : List ℕ) × (new ≡ Some left) × (rest ≡ byte ∷ left)
@@ -40,7 +41,7 @@ module _ {R : Type 0} (remaining : R → Option (List ℕ)) where
     same = refl;
     nearer = omega arith;
     front = [];
-    none = HasNoLineFeed-empty;
+    none = refl;
     held = h;
     came = λ text e. (text, e, refl);
   }
@@ -105,7 +106,7 @@ module _ {R : Type 0} (remaining : R → Option (List ℕ)) where
   -- a last line that isn't empty
   last-line : (front : List ℕ) → HasNoLineFeed front → (front ≡ [] → ⊥) → lines front ≡ front ∷ []
   last-line [] none some = absurd (some refl)
-  last-line (byte ∷ front) none some = lines-last (byte ∷ front) none (omega arith)
+  last-line (byte ∷ front) none some = lines-last byte front none
 
   pub Reading-last : {E : Type 0} (old now new : Tally R) (buffer : Buffer) (empty : Bool) → Reading old now buffer → ReadsByte {E = E} remaining now new (Ok None) → ((line : List ℕ) → Holds buffer line → (IsTrue empty ↔ (line ≡ []))) → empty ≡ false → ReadsLine {E = E} remaining old new buffer (Ok Last)
   Reading-last old now new buffer empty i r is some_byte = let p = r.passed in let j = i.nearer in record {

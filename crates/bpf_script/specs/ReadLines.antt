@@ -2,7 +2,8 @@
 use Rattle.std.specs.Prelude.{◌≡◌, ◌<◌, ◌≤◌, ◌++◌, ◌∷◌, ℕ, Bool, true, false, List, [], Option, Some, Result, IfOk, OnOk, OnErr, length}
 use Rattle.bpf_io.specs.Counted.{Tally, last_count, one_more}
 use Rattle.bpf_script.specs.Limits.{longest_line}
-use Rattle.bpf_script.specs.Lines.{lines, line_feeds}
+use Rattle.bpf_io.specs.Lines.{lines}
+use Rattle.bpf_script.specs.Lines.{line_feeds}
 use Rattle.bpf_script.specs.declared.line.NextLine.{NextLine}
 use Rattle.bpf_script.specs.declared.line.NextLine.TheVariants.{Ended, Last, Missing}
 

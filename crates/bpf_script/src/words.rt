@@ -1,9 +1,9 @@
 //! The words of a line.
-ghost use Rattle.std.specs.Prelude.{◌≡◌, [], ◌∷◌, drop, not, IfNone, IsOk, IfErr, MatchOption, ◌↔◌};
-ghost use Rattle.std.specs.List.{position_or_len};
-ghost use Rattle.bpf_script.specs.Lines.{is_blank, words};
+ghost use Rattle.std.specs.Prelude.{◌≡◌, [], ◌∷◌, IfNone, IsOk, IfErr, MatchOption, ◌↔◌};
+ghost use Rattle.bpf_script.specs.Lines.{words};
 
 use crate::refusal::Refusal;
+use bpf_io::{find_blank, trim_start};
 use std::marker::Model;
 
 /// The words of a line that are still to be read. Space, tab and carriage return stand between words.
@@ -34,11 +34,11 @@ impl<'a> Words<'a> {
         ensures next { MatchOption result (self.old ≡ []) (λ word. self.old ≡ word.now ∷ self.new) }
         ensures same { IfNone result (self.new ≡ self.old) }
     {
-        let line = without_blanks(self.line);
+        let line = trim_start(self.line);
         if line.is_empty() {
             return None;
         }
-        let (word, rest) = line.split_at(word_len(line));
+        let (word, rest) = line.split_at(find_blank(line));
         self.line = rest;
         Some(word)
     }
@@ -53,28 +53,4 @@ impl<'a> Words<'a> {
             Some(_) => Err(Refusal::WrongArgument),
         }
     }
-}
-
-// A line from its first word on.
-fn without_blanks(line: &[u8]) -> &[u8]
-    ensures value { result.now
-        ≡ drop (position_or_len (λ byte. not (is_blank byte)) line.now) line.now }
-{
-    let start = line.iter().position(|byte| !is_blank(*byte));
-    &line[start.unwrap_or(line.len())..]
-}
-
-// How many bytes a line has before its first blank.
-fn word_len(line: &[u8]) -> usize
-    ensures value { result ≡ position_or_len is_blank line.now }
-{
-    let end = line.iter().position(|byte| is_blank(*byte));
-    end.unwrap_or(line.len())
-}
-
-// Whether a byte stands between words.
-fn is_blank(byte: u8) -> bool
-    ensures value { result ≡ is_blank byte }
-{
-    matches!(byte, b' ' | b'\t' | b'\r')
 }
