@@ -11,7 +11,7 @@ use Rattle.bpf_io.specs.Writing.{AppendsBeginning, Writes}
 use Rattle.bpf_journal.specs.Histories.{Record, Kept}
 use Rattle.bpf_session.specs.Points.{Point, Bounds}
 use Rattle.bpf_session.specs.Sessions.{SessionValue, HasPast, StandsAt, bounds_of, point_of, refusals_with, refusals_after_all}
-use Rattle.bpf_script.specs.Lines.{lines}
+use Rattle.bpf_io.specs.Lines.{lines}
 use Rattle.bpf_script.specs.Commands.{command_of}
 use Rattle.bpf_session.specs.Output.{Effect, effect, Walk, walk}
 use Rattle.bpf_script.specs.Lines.{line_feeds}

@@ -1,5 +1,5 @@
 -- The texts of replies (bpfdb's own choice).
-use Rattle.std.specs.Prelude.{ℕ, List, [], ◌∷◌, ◌++◌, Result, Ok, Err, IsSome, decimal, length, flat_map, sum_by}
+use Rattle.std.specs.Prelude.{ℕ, List, [], ◌++◌, Result, Ok, Err, IsSome, decimal, length, flat_map, sum_by}
 use lib.Chars.{codes}
 use Rattle.bpf_isa.specs.Programs.{IsStart}
 use Rattle.bpf_io.specs.Writing.{hexadecimal}

@@ -6,7 +6,8 @@ use Rattle.bpf_io.specs.Writing.{AppendsBeginning}
 use Rattle.bpf_journal.specs.Histories.{Record, Kept}
 use Rattle.bpf_session.specs.Points.{Point, Bounds}
 use Rattle.bpf_session.specs.Sessions.{SessionValue, StandsAt, bounds_of, point_of, refusals_after_all}
-use Rattle.bpf_script.specs.Lines.{lines, line_feeds}
+use Rattle.bpf_io.specs.Lines.{lines}
+use Rattle.bpf_script.specs.Lines.{line_feeds}
 use Rattle.bpf_script.specs.Commands.{command_of}
 use Rattle.bpf_session.specs.Output.{Walk, walk}
 use Rattle.bpf_script.specs.declared.command.Command.TheVariants.{Quit}
