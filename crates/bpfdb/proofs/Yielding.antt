@@ -8,7 +8,7 @@ use Rattle.bpf_io.specs.Counted.{Tally}
 use Rattle.bpf_io.specs.Writing.{AppendsBeginning, Writes}
 use Rattle.bpf_machine.specs.State.{State, initial}
 use Rattle.bpf_journal.specs.Histories.{Kept}
-use Rattle.bpf_script.specs.Lines.{lines}
+use Rattle.bpf_io.specs.Lines.{lines}
 use Rattle.bpf_session.specs.Output.{walk}
 use Rattle.bpf_session.specs.Plain.{plain_end}
 use Rattle.bpf_session.specs.Points.{Bounds, Point}

@@ -12,7 +12,7 @@ use Rattle.bpf_io.specs.Writing.{AppendsBeginning}
 use Rattle.bpf_machine.specs.Platform.{context_limit}
 use Rattle.bpf_machine.specs.State.{State, initial}
 use Rattle.bpf_journal.specs.Opening.{IsSize}
-use Rattle.bpf_script.specs.Lines.{lines}
+use Rattle.bpf_io.specs.Lines.{lines}
 use Rattle.bpf_session.specs.Output.{Walk, walk}
 use Rattle.bpf_session.specs.Plain.{ending_of, plain_end, text_of_ending}
 use Rattle.bpf_session.specs.Points.{Bounds, Point, opening}
