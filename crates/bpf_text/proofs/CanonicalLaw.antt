@@ -1,5 +1,5 @@
 -- The canonical listing of a checked program has no fault, and its bytes are the program's.
-use Rattle.std.proofs.Common.{ℕ, ℤ, pos, negsuc, suc, zero, ◌≡◌, ◌<◌, ◌≤◌, ◌+◌, ◌*◌, ◌||◌, ◌&&◌, not, Bool, true, false, List, [], ◌∷◌, ◌++◌, take, drop, length, refl, ap, sym, ◌∙◌, arith, subst, Option, Some, None, Ok, IsSome, is_some, unwrap_or, slice_get, if◌then◌else◌, add-one, ◌⊎◌, inl, inr, get_or, lit<, length-take, length-drop, drop-drop, zero-add}
+use Rattle.std.proofs.Common.{ℕ, ℤ, pos, negsuc, suc, zero, ◌≡◌, ◌<◌, ◌≤◌, ◌+◌, ◌*◌, ◌||◌, ◌&&◌, not, Bool, true, false, List, [], ◌∷◌, ◌++◌, take, drop, length, refl, ap, sym, ◌∙◌, arith, subst, map, Option, Some, None, Ok, IsSome, is_some, unwrap_or, slice_get, if◌then◌else◌, add-one, ◌⊎◌, inl, inr, get_or, lit<, length-take, length-drop, drop-drop, zero-add}
 use Rattle.std.proofs.lemmas.Bool.Decides.{nat_tests}
 use Rattle.bpf_isa.proofs.Spelling.{wide_or_not}
 use Rattle.std.proofs.Math.ListN.{drop_of_length-le}
@@ -11,10 +11,12 @@ use Rattle.bpf_isa.specs.Checker.{is_start, is_wide_at, piece_at}
 use Rattle.bpf_isa.specs.Words.{IsWord, row_of}
 use Rattle.bpf_io.specs.Lines.{lines}
 use Rattle.bpf_text.specs.Canonical.{is_target, goes_to, canon}
-use Rattle.bpf_text.specs.Listing.{Labels, no_label, first_round, second_round, AreBytes, IsListing}
+use Rattle.bpf_text.specs.Lines.{read_line}
+use Rattle.bpf_text.specs.Listing.{Labels, no_label, nothing, first_round, after_first_round, rounds, AreWords, IsListing}
+use Rattle.bpf_text.proofs.Assembling.{is-listing}
 use Rattle.bpf_text.proofs.Listings.{start-within}
 use Rattle.bpf_text.proofs.CanonicalLines.{EntryFits, AllFit, lines-listing, line_list}
-use Rattle.bpf_text.proofs.CanonicalRounds.{slot_of, WellCut, labels_after, Reaches, AllReach, EntryReaches, AllSpell, EntrySpells, labels_after-has, first_round-canonical, second_round-canonical, AreBytes-canonical, reaches-fits}
+use Rattle.bpf_text.proofs.CanonicalRounds.{slot_of, WellCut, labels_after, Reaches, AllReach, EntryReaches, AllSpell, EntrySpells, labels_after-has, placed_list, insns_in, first_round-canonical, second_round-canonical, AreWords-canonical, reaches-fits}
 use Rattle.bpf_text.proofs.ProgramParts.{IsWord-fits}
 
 -- the entry of slot k of a list
@@ -263,15 +265,11 @@ canonical-listing code known =
     (program-end code known) in
     let text : lines (canon code) ≡ line_list f 0 insns = lines-listing f 0 insns (omega (arith, room)) fits in
     let zero_first = slot-first insns known.first in
-    let First : ℕ → Type 0 = λ s. first_round no_label s 1 (line_list f 0 insns) ≡ Ok labels in
-    let Second : ℕ → Type 0 = λ s. second_round labels s 1 (line_list f 0 insns) ≡ Ok tt in
-    let Bytes : ℕ → Type 0 = λ s. AreBytes labels s (line_list f 0 insns) (drop (8 * s) code.bytes) in
-    let found = subst First zero_first (first_round-canonical f no_label 0 1 insns room fits cut (λ q low high. refl)) in
-    let clear = subst Second zero_first (second_round-canonical f labels 0 1 insns room fits cut reach) in
-    let bytes = subst Bytes zero_first (AreBytes-canonical f labels code.bytes 0 insns room fits cut reach spelled) in
-    record {
-      labels = labels;
-      found = rw text found;
-      clear = rw (text, found) clear;
-      spelled = rw text bytes;
-    }
+    let placed = placed_list f 0 1 insns in
+    let First : ℕ → Type 0 = λ s. first_round nothing s 1 (map read_line (line_list f 0 insns)) ≡ Ok (labels, placed) in
+    let Bytes : ℕ → Type 0 = λ s. AreWords (insns_in insns) (drop (8 * s) code.bytes) in
+    let found = subst First zero_first (first_round-canonical f no_label [] 0 1 insns room fits cut (λ q low high. refl)) in
+    let clear = second_round-canonical f labels 0 1 insns fits reach in
+    is-listing (canon code) code.bytes (insns_in insns)
+    (ap (λ t. rounds (map read_line t)) text ∙ ap after_first_round found ∙ clear)
+    (subst Bytes zero_first (AreWords-canonical code.bytes 0 insns cut spelled))

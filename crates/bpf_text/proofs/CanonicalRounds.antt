@@ -1,5 +1,5 @@
 -- The two rounds over the canonical listing.
-use Rattle.std.proofs.Common.{ℕ, ℤ, pos, negsuc, suc, zero, ◌≡◌, ◌<◌, ◌≤◌, ◌+◌, ◌*◌, ◌+ℤ◌, ◌-ℤ◌, Bool, true, false, nat_le, List, [], ◌∷◌, ◌++◌, drop, length, refl, ap, sym, ◌∙◌, arith, codes, subst, Option, Some, None, Ok, Result, w16, SFits, decimal, IsSome, unwrap_or, slice_get}
+use Rattle.std.proofs.Common.{ℕ, ℤ, pos, negsuc, suc, zero, ◌≡◌, ◌<◌, ◌≤◌, ◌+◌, ◌*◌, ◌+ℤ◌, ◌-ℤ◌, Bool, true, false, nat_le, List, [], ◌∷◌, ◌++◌, drop, length, refl, ap, sym, ◌∙◌, arith, codes, subst, append_assoc, map, Option, Some, None, Ok, Result, w16, SFits, decimal, IsSome, unwrap_or, slice_get}
 use Rattle.std.specs.Cmp.Lexicographic.{same_text}
 use Rattle.std.proofs.lemmas.Bool.{eq-eqb}
 use Rattle.std.proofs.lemmas.Int.{ints}
@@ -7,14 +7,16 @@ use Rattle.bpf_text.specs.declared.fault.AsmFault.{AsmFault}
 use Rattle.std.specs.Str.{bytes_eq}
 use Rattle.std.proofs.lemmas.Bool.Decides.{nat_tests}
 use Rattle.std.proofs.lemmas.Fmt.{decimal_injective}
+use Rattle.std.proofs.lemmas.List.{append-nil}
 use Rattle.bpf_isa.specs.declared.instruction.Insn.{Insn}
 use Rattle.bpf_isa.specs.declared.instruction.Insn.TheVariants as insn
 use Rattle.bpf_isa.specs.Programs.{target_of, slots_of}
 use Rattle.bpf_isa.specs.Words.{IsWord}
 use Rattle.bpf_text.specs.Operands.{text_of_insn, label_text}
 use Rattle.bpf_text.specs.Lines.{read_line}
-use Rattle.bpf_text.specs.Listing.{Labels, labels_with, slot_after, line_end, first_round, second_round, resolved, with_target, with_distance, fits_offset, AreBytes}
-use Rattle.bpf_text.proofs.InsnTexts.{InsnFits, TargetFits, unplaced, target_text}
+use Rattle.bpf_text.specs.declared.first_round.Placed.{Placed}
+use Rattle.bpf_text.specs.Listing.{Labels, Outline, labels_with, line_end, first_round, second_round, insns_with, insn_at, with_target, with_distance, fits_offset, AreWords}
+use Rattle.bpf_text.proofs.InsnTexts.{InsnFits, TargetFits, unplaced, target_text, statement_from}
 use Rattle.bpf_text.proofs.LineTexts.{Reads-insn, Reads-label}
 use Rattle.bpf_text.proofs.CanonicalLines.{slot_list, line_list, AllFit}
 
@@ -88,35 +90,56 @@ Fresh-next false labels p h fresh q more most = fresh q (omega arith) most
 Fresh-next true labels p h fresh q more most =
     rw (label-other p q h most (λ e. absurd (omega arith))) (fresh q (omega arith) most)
 
+-- the statement of an instruction in slot p, whose label's line is the first of so many
+abbrev pub line_of_insn : Bool → ℕ → ℕ
+line_of_insn false line_number = line_number
+line_of_insn true line_number = line_number + 1
+
+abbrev pub placed_at : Bool → ℕ → ℕ → Insn → Placed
+placed_at b p line_number i = record { line = line_of_insn b line_number; slot = p; statement = statement_from p i }
+
+abbrev pub placed_list : (ℕ → Bool) → ℕ → ℕ → List (Option Insn) → List Placed
+placed_list f p line_number [] = []
+placed_list f p line_number (None ∷ rest) = placed_list f (p + 1) line_number rest
+placed_list f p line_number (Some i ∷ rest) =
+    placed_at (f p) p line_number i ∷ placed_list f (p + 1) (line_of_insn (f p) line_number + 1) rest
+
 -- the first round at a slot, and over all
-first_round-slot : (b : Bool) (labels : Labels) (p line_number next : ℕ) (i : Insn) (tail : List (List ℕ)) (result : Result Labels AsmFault)
+first_round-slot : (b : Bool) (labels : Labels) (placed : List Placed) (p line_number next : ℕ) (i : Insn) (tail : List (List ℕ))
+    (result : Result Outline AsmFault)
     → p ≤ 65535 → Fresh labels p → InsnFits i → TargetFits (target_of p i) → p + slots_of i ≤ 65535
     → next ≡ p + slots_of i
-    → ((count : ℕ) → first_round (labels_at b labels p) next count tail ≡ result)
-    → first_round labels p line_number (slot_list b p (Some i) ++ tail) ≡ result
-first_round-slot false labels p line_number next i tail result h fresh fits t room e follows =
+    → first_round (labels_at b labels p, placed ++ placed_at b p line_number i ∷ []) next (line_of_insn b line_number + 1) (map read_line tail)
+    ≡ result
+    → first_round (labels, placed) p line_number (map read_line (slot_list b p (Some i) ++ tail)) ≡ result
+first_round-slot false labels placed p line_number next i tail result h fresh fits t room e follows =
     let read = Reads-insn p i fits t in
-    rw (line_end-insn labels p i fits t room, read.says, ← e) (follows (line_number + 1))
-first_round-slot true labels p line_number next i tail result h fresh fits t room e follows =
+    rw (line_end-insn labels p i fits t room, read.says, ← e) follows
+first_round-slot true labels placed p line_number next i tail result h fresh fits t room e follows =
     let named = Reads-label p (omega arith) in
     let read = Reads-insn p i fits t in
     let here = line_end-label labels p h (fresh p (omega arith) h) in
     let there = line_end-insn (labels_with labels p (Some (label_text p))) p i fits t room in
-    rw (here, named.says, there, read.says, ← e) (follows (line_number + 1 + 1))
+    rw (here, named.says, there, read.says, ← e) follows
 
-pub first_round-canonical : (f : ℕ → Bool) (labels : Labels) (p line_number : ℕ) (rest : List (Option Insn))
+pub first_round-canonical : (f : ℕ → Bool) (labels : Labels) (placed : List Placed) (p line_number : ℕ) (rest : List (Option Insn))
     → p + length rest ≤ 65535 → AllFit p rest → WellCut p rest → Fresh labels p
-    → first_round labels (slot_of p rest) line_number (line_list f p rest) ≡ Ok (labels_after f labels p rest)
-first_round-canonical f labels p line_number [] h fits cut fresh = refl
-first_round-canonical f labels p line_number (None ∷ rest) h fits cut fresh =
-    let S : ℕ → Type 0 = λ s. first_round labels s line_number (line_list f (p + 1) rest) ≡ Ok (labels_after f labels (p + 1) rest) in
-    subst S cut.0 (first_round-canonical f labels (p + 1) line_number rest (omega arith) fits.1 cut.1 (λ q more most. fresh q (omega arith) most))
-first_round-canonical f labels p line_number (Some i ∷ rest) h fits cut fresh =
+    → first_round (labels, placed) (slot_of p rest) line_number (map read_line (line_list f p rest))
+    ≡ Ok (labels_after f labels p rest, placed ++ placed_list f p line_number rest)
+first_round-canonical f labels placed p line_number [] h fits cut fresh = ap (λ l. Ok (labels, l)) (sym (append-nil placed))
+first_round-canonical f labels placed p line_number (None ∷ rest) h fits cut fresh =
+    let S : ℕ → Type 0 = λ s. first_round (labels, placed) s line_number (map read_line (line_list f (p + 1) rest))
+    ≡ Ok (labels_after f labels (p + 1) rest, placed ++ placed_list f (p + 1) line_number rest) in
+    subst S cut.0 (first_round-canonical f labels placed (p + 1) line_number rest (omega arith) fits.1 cut.1 (λ q more most. fresh q (omega arith) most))
+first_round-canonical f labels placed p line_number (Some i ∷ rest) h fits cut fresh =
     let most = slot_of-le (p + 1) rest in
-    first_round-slot (f p) labels p line_number (slot_of (p + 1) rest) i (line_list f (p + 1) rest) _ (omega arith) fresh
+    let here = placed_at (f p) p line_number i in
+    let after = line_of_insn (f p) line_number + 1 in
+    let next = first_round-canonical f (labels_at (f p) labels p) (placed ++ here ∷ []) (p + 1) after rest (omega arith) fits.1 cut.1
+    (Fresh-next (f p) labels p (omega arith) fresh) in
+    first_round-slot (f p) labels placed p line_number (slot_of (p + 1) rest) i (line_list f (p + 1) rest) _ (omega arith) fresh
     fits.0.0 fits.0.1 (omega (arith, cut.0, most)) cut.0
-    (λ count. first_round-canonical f (labels_at (f p) labels p) (p + 1) count rest (omega arith) fits.1 cut.1
-    (Fresh-next (f p) labels p (omega arith) fresh))
+    (next ∙ ap (λ l. Ok (labels_after f (labels_at (f p) labels p) (p + 1) rest, l)) (append_assoc placed (here ∷ []) (placed_list f (p + 1) after rest)))
 
 -- earlier labels stay
 labels_after-keeps : (f : ℕ → Bool) (labels : Labels) (p t : ℕ) (rest : List (Option Insn)) → p + length rest ≤ 65535 → t < p
@@ -177,7 +200,7 @@ with_target-at labels p i (negsuc n) reach = absurd reach
 
 -- an instruction gets its target back
 with_target-canonical : (labels : Labels) (p : ℕ) (i : Insn) → InsnFits i → Reaches labels (target_of p i)
-    → with_target labels p (unplaced i) (target_text (target_of p i)) ≡ Ok (Some i)
+    → with_target labels p (unplaced i) (target_text (target_of p i)) ≡ Ok i
 with_target-canonical labels p (insn.JumpIf c width dst s o) fits reach =
     with_target-at labels p (insn.JumpIf c width dst s (pos 0)) (pos (p + 1) +ℤ o) reach
     ∙ rw (distance-back p o, fits-offset o fits.2) refl
@@ -195,41 +218,21 @@ reaches-fits labels None reach = tt
 reaches-fits labels (Some (pos t)) reach = reach.0
 reaches-fits labels (Some (negsuc n)) reach = absurd reach
 
--- the second round at an instruction's line, and at a label's
-resolved-insn : (labels : Labels) (p : ℕ) (i : Insn) → InsnFits i → Reaches labels (target_of p i)
-    → resolved labels p (read_line (text_of_insn p i)) ≡ Ok (Some i)
-resolved-insn labels p i fits reach =
-    let read = Reads-insn p i fits (reaches-fits labels (target_of p i) reach) in
-    rw read.says (with_target-canonical labels p i fits reach)
+-- the instructions of slots
+abbrev pub insns_in : List (Option Insn) → List Insn
+insns_in [] = []
+insns_in (None ∷ rest) = insns_in rest
+insns_in (Some i ∷ rest) = i ∷ insns_in rest
 
-resolved-label : (labels : Labels) (p : ℕ) → p ≤ 65535 → resolved labels p (read_line (label_text p ++ codes ":")) ≡ Ok None
-resolved-label labels p h = let read = Reads-label p (omega arith) in rw read.says refl
-
-slot_after-insn : (p : ℕ) (i : Insn) → p + slots_of i ≤ 65535 → slot_after p (Ok (Some i)) ≡ Ok (p + slots_of i)
-slot_after-insn p i room = let within : nat_le (p + slots_of i) 65535 ≡ true = grind (arith, nat_tests) in rw within refl
-
--- the second round at a slot, and over all
-second_round-slot : (b : Bool) (labels : Labels) (p line_number next : ℕ) (i : Insn) (tail : List (List ℕ))
-    → p ≤ 65535 → InsnFits i → Reaches labels (target_of p i) → p + slots_of i ≤ 65535 → next ≡ p + slots_of i
-    → ((count : ℕ) → second_round labels next count tail ≡ Ok tt)
-    → second_round labels p line_number (slot_list b p (Some i) ++ tail) ≡ Ok tt
-second_round-slot false labels p line_number next i tail h fits reach room e follows =
-    rw (resolved-insn labels p i fits reach, slot_after-insn p i room, ← e) (follows (line_number + 1))
-second_round-slot true labels p line_number next i tail h fits reach room e follows =
-    rw (resolved-label labels p h, resolved-insn labels p i fits reach, slot_after-insn p i room, ← e) (follows (line_number + 1 + 1))
-
+-- the second round over them
 pub second_round-canonical : (f : ℕ → Bool) (labels : Labels) (p line_number : ℕ) (rest : List (Option Insn))
-    → p + length rest ≤ 65535 → AllFit p rest → WellCut p rest → AllReach labels p rest
-    → second_round labels (slot_of p rest) line_number (line_list f p rest) ≡ Ok tt
-second_round-canonical f labels p line_number [] h fits cut reach = refl
-second_round-canonical f labels p line_number (None ∷ rest) h fits cut reach =
-    let S : ℕ → Type 0 = λ s. second_round labels s line_number (line_list f (p + 1) rest) ≡ Ok tt in
-    subst S cut.0 (second_round-canonical f labels (p + 1) line_number rest (omega arith) fits.1 cut.1 reach.1)
-second_round-canonical f labels p line_number (Some i ∷ rest) h fits cut reach =
-    let most = slot_of-le (p + 1) rest in
-    second_round-slot (f p) labels p line_number (slot_of (p + 1) rest) i (line_list f (p + 1) rest) (omega arith)
-    fits.0.0 reach.0 (omega (arith, cut.0, most)) cut.0
-    (λ count. second_round-canonical f labels (p + 1) count rest (omega arith) fits.1 cut.1 reach.1)
+    → AllFit p rest → AllReach labels p rest → second_round labels (placed_list f p line_number rest) ≡ Ok (insns_in rest)
+second_round-canonical f labels p line_number [] fits reach = refl
+second_round-canonical f labels p line_number (None ∷ rest) fits reach =
+    second_round-canonical f labels (p + 1) line_number rest fits.1 reach.1
+second_round-canonical f labels p line_number (Some i ∷ rest) fits reach =
+    let here : insn_at labels (placed_at (f p) p line_number i) ≡ Ok i = with_target-canonical labels p i fits.0.0 reach.0 in
+    rw here (ap (insns_with i) (second_round-canonical f labels (p + 1) (line_of_insn (f p) line_number + 1) rest fits.1 reach.1))
 
 -- the bytes of the instructions from slot p on
 abbrev pub EntrySpells : List ℕ → ℕ → Option Insn → Type 0
@@ -240,31 +243,18 @@ abbrev pub AllSpell : List ℕ → ℕ → List (Option Insn) → Type 0
 AllSpell bytes p [] = drop (8 * p) bytes ≡ []
 AllSpell bytes p (i ∷ rest) = EntrySpells bytes p i × AllSpell bytes (p + 1) rest
 
-AreBytes-insn : (labels : Labels) (bytes : List ℕ) (p next : ℕ) (i : Insn) (tail : List (List ℕ))
-    → InsnFits i → Reaches labels (target_of p i) → EntrySpells bytes p (Some i) → next ≡ p + slots_of i
-    → AreBytes labels next tail (drop (8 * next) bytes)
-    → AreBytes labels p (text_of_insn p i ∷ tail) (drop (8 * p) bytes)
-AreBytes-insn labels bytes p next i tail fits reach spelled e follows =
-    let F : ℕ → Type 0 = λ s. AreBytes labels s tail (drop (8 * s) bytes) in
-    rw (resolved-insn labels p i fits reach)
-    (spelled.0, drop (8 * (p + slots_of i)) bytes, spelled.1, spelled.2, subst F e follows)
-
-AreBytes-slot : (b : Bool) (labels : Labels) (bytes : List ℕ) (p next : ℕ) (i : Insn) (tail : List (List ℕ))
-    → p ≤ 65535 → InsnFits i → Reaches labels (target_of p i) → EntrySpells bytes p (Some i) → next ≡ p + slots_of i
-    → AreBytes labels next tail (drop (8 * next) bytes)
-    → AreBytes labels p (slot_list b p (Some i) ++ tail) (drop (8 * p) bytes)
-AreBytes-slot false labels bytes p next i tail h fits reach spelled e follows =
-    AreBytes-insn labels bytes p next i tail fits reach spelled e follows
-AreBytes-slot true labels bytes p next i tail h fits reach spelled e follows =
-    rw (resolved-label labels p h) (AreBytes-insn labels bytes p next i tail fits reach spelled e follows)
-
-pub AreBytes-canonical : (f : ℕ → Bool) (labels : Labels) (bytes : List ℕ) (p : ℕ) (rest : List (Option Insn))
-    → p + length rest ≤ 65535 → AllFit p rest → WellCut p rest → AllReach labels p rest → AllSpell bytes p rest
-    → AreBytes labels (slot_of p rest) (line_list f p rest) (drop (8 * slot_of p rest) bytes)
-AreBytes-canonical f labels bytes p [] h fits cut reach spelled = spelled
-AreBytes-canonical f labels bytes p (None ∷ rest) h fits cut reach spelled =
-    let S : ℕ → Type 0 = λ s. AreBytes labels s (line_list f (p + 1) rest) (drop (8 * s) bytes) in
-    subst S cut.0 (AreBytes-canonical f labels bytes (p + 1) rest (omega arith) fits.1 cut.1 reach.1 spelled.1)
-AreBytes-canonical f labels bytes p (Some i ∷ rest) h fits cut reach spelled =
-    AreBytes-slot (f p) labels bytes p (slot_of (p + 1) rest) i (line_list f (p + 1) rest) (omega arith) fits.0.0 reach.0
-    spelled.0 cut.0 (AreBytes-canonical f labels bytes (p + 1) rest (omega arith) fits.1 cut.1 reach.1 spelled.1)
+pub AreWords-canonical : (bytes : List ℕ) (p : ℕ) (rest : List (Option Insn)) → WellCut p rest → AllSpell bytes p rest
+    → AreWords (insns_in rest) (drop (8 * slot_of p rest) bytes)
+AreWords-canonical bytes p [] cut spelled = spelled
+AreWords-canonical bytes p (None ∷ rest) cut spelled =
+    let S : ℕ → Type 0 = λ s. AreWords (insns_in rest) (drop (8 * s) bytes) in
+    subst S cut.0 (AreWords-canonical bytes (p + 1) rest cut.1 spelled.1)
+AreWords-canonical bytes p (Some i ∷ rest) cut spelled =
+    let S : ℕ → Type 0 = λ s. AreWords (insns_in rest) (drop (8 * s) bytes) in
+    (
+      spelled.0.0,
+      drop (8 * (p + slots_of i)) bytes,
+      spelled.0.1,
+      spelled.0.2,
+      subst S cut.0 (AreWords-canonical bytes (p + 1) rest cut.1 spelled.1),
+    )

@@ -8,7 +8,7 @@ pub mod LineTexts
 pub mod Listings
 pub mod MnemonicNames
 pub mod Offsets
-pub mod OneAssembly
+pub mod Assembling
 pub mod OperandGrammar
 pub mod OperandLists
 pub mod PlainTexts

@@ -1,5 +1,5 @@
 -- What is read of a line is what its grammar says.
-use Rattle.std.proofs.Common.{ℕ, suc, ◌≡◌, ◌<◌, ◌+◌, ◌==◌, Bool, true, false, ◌&&◌, not, ◌↔◌, List, [], ◌∷◌, ◌++◌, drop, length, length-append, refl, ap, sym, ◌∙◌, arith, Option, Some, None, Ok, nat_lt, subst, append_assoc}
+use Rattle.std.proofs.Common.{ℕ, suc, ◌≡◌, ◌<◌, ◌+◌, ◌==◌, Bool, true, false, ◌&&◌, not, ◌↔◌, List, [], ◌∷◌, ◌++◌, drop, length, length-append, refl, ap, sym, ◌∙◌, arith, Option, Some, None, Result, Ok, Err, nat_lt, subst, append_assoc}
 use Rattle.std.specs.Prelude.{find}
 use Rattle.std.specs.List.{list_all, position_or_len, before_first, after_first}
 use Rattle.std.specs.Str.{bytes_eq}
@@ -15,17 +15,20 @@ use Rattle.bpf_text.specs.declared.term.Terms.{Terms}
 use Rattle.bpf_io.specs.Lines.{is_blank, trim_start}
 use Rattle.bpf_text.specs.Cuts.{is_letter, is_name, is_name_byte, is_text, is_labelled, before, after, code_of, trim, trim_end, mnemonic_part}
 use Rattle.bpf_text.specs.Cuts as cuts
-use Rattle.bpf_text.specs.LineGrammar.{IsComment, IsLabel, IsApart, IsInstruction, IsStatement, Says}
+use Rattle.bpf_text.specs.Grammar.{AreOperands}
+use Rattle.bpf_text.specs.LineGrammar.{IsComment, IsLabelled, IsLabel, IsApart, IsInstruction, IsStatement, Says, HasStranger, IsReading}
 use Rattle.bpf_text.specs.Lines.{read_line, line_of, line_with}
 use Rattle.bpf_text.specs.declared.line.Line.{Line}
 use Rattle.bpf_text.specs.Mnemonics.{name_of}
 use Rattle.bpf_text.specs.Named.{named}
-use Rattle.bpf_text.specs.Statements.{forms_of, insn_with, read_statement, of_mnemonic, of_forms, in_ranges}
+use Rattle.bpf_text.specs.declared.fault.LineFault.{LineFault}
+use Rattle.bpf_text.specs.declared.fault.LineFault.TheVariants.{UnknownMnemonic, WrongOperands, OutOfRange, LabelTwice, UnknownLabel, NotText, TooManySlots}
+use Rattle.bpf_text.specs.Statements.{LineReading, forms_of, insn_with, read_statement, of_mnemonic, of_forms, in_ranges}
 use Rattle.bpf_text.specs.Terms.{terms_of, target_in}
 use Rattle.bpf_text.proofs.MnemonicNames.{named-name_of, plain-name_of}
 use Rattle.bpf_text.proofs.OperandGrammar.{split-first, trim_start-blank, trim_start-other, trim_start-blanks, trim_start-says, trim_end-says, padded-trim}
 use Rattle.bpf_text.proofs.OperandLists.{name-plain, trim_end-blanks, trim-snug, operand-lists}
-use Rattle.bpf_text.proofs.PlainTexts.{is_plain, are_plain, and-both, and-join, list_all-append, position_or_len-at, position_or_len-none, before_first-at, before_first-none, after_first-at, after_first-none, plain-blank, plain-colon, Snug, Snug-plain, Snug-append}
+use Rattle.bpf_text.proofs.PlainTexts.{is_plain, are_plain, and-both, and-join, list_all-append, no_blank, not-true, solid-blank, are_plain-solid, position_or_len-at, position_or_len-none, before_first-at, before_first-none, after_first-at, after_first-none, plain-colon, Snug, Snug-solid, Snug-plain, Snug-append}
 
 -- ---- cuts
 
@@ -130,14 +133,14 @@ record HasBody (rest name operands : List ℕ) : Type 0 where
   pub mnemonic : mnemonic_part (trim rest) ≡ name
   pub operands_are : cuts.operands_part (trim rest) ≡ trim operands
 
-body-of : (front name operands : List ℕ) → list_all is_blank front ≡ true → are_plain name ≡ true → 0 < length name
+body-of : (front name operands : List ℕ) → list_all is_blank front ≡ true → list_all no_blank name ≡ true → 0 < length name
     → IsApart operands → HasBody (front ++ (name ++ operands)) name operands
-body-of front name operands p plain some apart = go (trim operands) refl where
+body-of front name operands p solid some apart = go (trim operands) refl where
   around : (pad : List ℕ) × (x : List ℕ) × (back : List ℕ) × (operands ≡ pad ++ (x ++ back)) × (list_all is_blank pad ≡ true) × (x ≡ trim operands) × (list_all is_blank back ≡ true)
   around = padded-trim (λ x. x ≡ trim operands) operands refl
 
   snug : Snug name
-  snug = Snug-plain name some plain
+  snug = Snug-solid name some solid
 
   go : (core : List ℕ) → trim operands ≡ core → HasBody (front ++ (name ++ operands)) name operands
   go [] h =
@@ -147,8 +150,8 @@ body-of front name operands p plain some apart = go (trim operands) refl where
       let body : trim (front ++ (name ++ operands)) ≡ name = trim-snug front name operands p snug blank in
       record {
         some = rw body some;
-        mnemonic = rw body (before_first-none is_blank is_plain name plain-blank plain);
-        operands_are = rw (body, h) (ap trim (after_first-none is_blank is_plain name plain-blank plain));
+        mnemonic = rw body (before_first-none is_blank no_blank name solid-blank solid);
+        operands_are = rw (body, h) (ap trim (after_first-none is_blank no_blank name solid-blank solid));
       }
   go (c ∷ core) h =
       let tight = trimmed-snug operands c core h in
@@ -156,8 +159,8 @@ body-of front name operands p plain some apart = go (trim operands) refl where
       between around.0 around.2 around.4 around.6 text tight.0 tight.1 where
         between : (pad back : List ℕ) → list_all is_blank pad ≡ true → list_all is_blank back ≡ true → operands ≡ pad ++ ((c ∷ core) ++ back)
             → Snug (c ∷ core) → is_blank c ≡ false → HasBody (front ++ (name ++ operands)) name operands
-        between [] back q r text tight solid = let b = subst IsApart text apart in cc
-        between (b ∷ pad) back q r text tight solid =
+        between [] back q r text tight firm = let b = subst IsApart text apart in cc
+        between (b ∷ pad) back q r text tight firm =
             let parts = and-both (is_blank b) (list_all is_blank pad) q in
             let line = name ++ ((b ∷ pad) ++ (c ∷ core)) in
             let group : (n x y z : List ℕ) → n ++ (x ++ (y ++ z)) ≡ (n ++ (x ++ y)) ++ z = λ n x y z. simp append_assoc in
@@ -168,26 +171,56 @@ body-of front name operands p plain some apart = go (trim operands) refl where
             ap (λ l. trim (pad ++ l)) (sym (append-nil (c ∷ core))) ∙ trim-snug pad (c ∷ core) [] parts.1 tight refl in
             record {
               some = rw body (omega (arith, some, length-append name ((b ∷ pad) ++ (c ∷ core))));
-              mnemonic = rw body (before_first-at is_blank is_plain name b (pad ++ (c ∷ core)) plain-blank parts.0 plain);
-              operands_are = rw (body, h) (ap trim (after_first-at is_blank is_plain name b (pad ++ (c ∷ core)) plain-blank parts.0 plain) ∙ behind);
+              mnemonic = rw body (before_first-at is_blank no_blank name b (pad ++ (c ∷ core)) solid-blank parts.0 solid);
+              operands_are = rw (body, h) (ap trim (after_first-at is_blank no_blank name b (pad ++ (c ∷ core)) solid-blank parts.0 solid) ∙ behind);
             }
 
 read_statement-some : (s : List ℕ) → 0 < length s → read_statement s ≡ of_mnemonic (named (mnemonic_part s)) (cuts.operands_part s)
 read_statement-some [] h = absurd (omega arith)
 read_statement-some (b ∷ s) h = refl
 
-says-statement : (rest : List ℕ) (said : Option Statement) → IsStatement rest said → read_statement (trim rest) ≡ Ok said
-says-statement rest None known = ap (λ s. read_statement (trim_end s)) (all-blank rest known)
-says-statement rest (Some said) known =
-    let m = known.0 in
-    let i = known.2 in
-    let name = plain-name_of m in
-    let body = body-of i.front (name_of m) i.operands i.blank name.0 name.1 i.apart in
-    let terms = (operand-lists (forms_of m) i.operands known.1).1 i.fits in
-    let read : read_statement (trim (i.front ++ (name_of m ++ i.operands))) ≡ Ok (Some said) =
-    read_statement-some _ body.some
-    ∙ rw (body.mnemonic, body.operands_are, named-name_of m, terms, known.3, known.4) refl in
-    ap (λ s. read_statement (trim s)) i.written ∙ read
+-- a statement is read so
+word-body : (rest word operands : List ℕ) → IsInstruction rest word operands → HasBody rest word operands
+word-body rest word operands i =
+    subst (λ r. HasBody r word operands) (sym i.written) (body-of i.front word operands i.blank i.solid i.some i.apart)
+
+found-so : (rest word operands : List ℕ) (m : Option Mnemonic) → IsInstruction rest word operands → named word ≡ m
+    → read_statement (trim rest) ≡ of_mnemonic m (trim operands)
+found-so rest word operands m i k =
+    let body = word-body rest word operands i in
+    read_statement-some (trim rest) body.some ∙ rw (body.mnemonic, body.operands_are, k) refl
+
+formed-so : (rest operands : List ℕ) (m : Mnemonic) (t : Option Terms) → IsInstruction rest (name_of m) operands
+    → terms_of (forms_of m) (trim operands) ≡ t → read_statement (trim rest) ≡ of_forms m t
+formed-so rest operands m t i e = found-so rest (name_of m) operands (Some m) i (named-name_of m) ∙ ap (of_forms m) e
+
+unnamed : (word : List ℕ) → ((m : Mnemonic) → name_of m ≡ word → ⊥) → named word ≡ None
+unnamed word none = go (named word) refl where
+  go : (t : Option Mnemonic) → named word ≡ t → named word ≡ None
+  go None e = e
+  go (Some m) e = absurd (none m (named-sound word m e))
+
+unformed : (m : Mnemonic) (operands : List ℕ) → ((terms : Terms) → AreOperands (forms_of m) operands terms → ⊥)
+    → terms_of (forms_of m) (trim operands) ≡ None
+unformed m operands none = go (terms_of (forms_of m) (trim operands)) refl where
+  go : (t : Option Terms) → terms_of (forms_of m) (trim operands) ≡ t → terms_of (forms_of m) (trim operands) ≡ None
+  go None e = e
+  go (Some terms) e = absurd (none terms ((operand-lists (forms_of m) operands terms).0 e))
+
+says-statement : (rest : List ℕ) (r : LineReading (Option Statement)) → IsStatement rest r → read_statement (trim rest) ≡ r
+says-statement rest (Ok None) known = ap (λ s. read_statement (trim_end s)) (all-blank rest known)
+says-statement rest (Ok (Some said)) known =
+    let terms = (operand-lists (forms_of known.0) known.1 known.2).1 known.4 in
+    formed-so rest known.1 known.0 (Some known.2) known.3 terms ∙ rw (known.5, known.6) refl
+says-statement rest (Err UnknownMnemonic) known = found-so rest known.0 known.1 None known.2 (unnamed known.0 known.3)
+says-statement rest (Err WrongOperands) known = formed-so rest known.1 known.0 None known.2 (unformed known.0 known.1 known.3)
+says-statement rest (Err OutOfRange) known =
+    let terms = (operand-lists (forms_of known.0) known.1 known.2).1 known.4 in
+    formed-so rest known.1 known.0 (Some known.2) known.3 terms ∙ rw known.5 refl
+says-statement rest (Err LabelTwice) known = absurd known
+says-statement rest (Err UnknownLabel) known = absurd known
+says-statement rest (Err NotText) known = absurd known
+says-statement rest (Err TooManySlots) known = absurd known
 
 -- what stands behind a mnemonic
 apart-append : (t back : List ℕ) → Begins is_blank t → list_all is_blank back ≡ true → IsApart (t ++ back)
@@ -199,59 +232,75 @@ behind-trim : (t back : List ℕ) → Begins is_blank t → list_all is_blank ba
 behind-trim [] back b q = ap trim_end (all-blank back q)
 behind-trim (c ∷ t) back b q = trim-inside (c ∷ []) t back (and-join (is_blank c) true b refl) q
 
--- an instruction, from what was read of it
-instruction-from : (rest body pad back : List ℕ) (m : Mnemonic) (terms : Terms) → rest ≡ pad ++ (body ++ back) → list_all is_blank pad ≡ true
-    → list_all is_blank back ≡ true → named (mnemonic_part body) ≡ Some m
-    → terms_of (forms_of m) (cuts.operands_part body) ≡ Some terms → IsInstruction rest m terms
-instruction-from rest body pad back m terms text p q k e =
-    let cut = cut-at-first is_blank body in
-    let name = named-sound (mnemonic_part body) m k in
+-- the word that a text behind a label begins with, and what is apart from it
+pub record HasWord (rest body : List ℕ) : Type 0 where
+  pub operands : List ℕ
+  pub whole : IsInstruction rest (mnemonic_part body) operands
+  pub same : trim operands ≡ cuts.operands_part body
+
+solid-some : (body : List ℕ) (cut : IsCut is_blank body) (b : ℕ) (s : List ℕ) → body ≡ b ∷ s → is_blank b ≡ false
+    → 0 < length (mnemonic_part body)
+solid-some body cut b s e firm = go (mnemonic_part body) refl where
+  go : (word : List ℕ) → mnemonic_part body ≡ word → 0 < length (mnemonic_part body)
+  go (c ∷ word) h = rw h (omega arith)
+  go [] h =
+      let first : b ∷ s ≡ cut.rest = sym e ∙ cut.written ∙ ap (λ w. w ++ cut.rest) h in
+      let blank : is_blank b ≡ true = subst (Begins is_blank) (sym first) cut.begins in cc
+
+word-from : (rest pad back : List ℕ) (b : ℕ) (s : List ℕ) → rest ≡ pad ++ ((b ∷ s) ++ back) → list_all is_blank pad ≡ true
+    → list_all is_blank back ≡ true → is_blank b ≡ false → HasWord rest (b ∷ s)
+word-from rest pad back b s text p q firm =
+    let cut = cut-at-first is_blank (b ∷ s) in
     let group : (x y : List ℕ) → (x ++ y) ++ back ≡ x ++ (y ++ back) = λ x y. append_assoc x y back in
-    let same : trim (cut.rest ++ back) ≡ cuts.operands_part body = behind-trim cut.rest back cut.begins q ∙ ap trim (sym cut.after) in
     record {
-      front = pad;
       operands = cut.rest ++ back;
-      written = text ∙ ap (λ x. pad ++ (x ++ back)) cut.written ∙ ap (λ x. pad ++ x) (group (mnemonic_part body) cut.rest)
-          ∙ ap (λ n. pad ++ (n ++ (cut.rest ++ back))) (sym name);
-      blank = p;
-      apart = apart-append cut.rest back cut.begins q;
-      fits = (operand-lists (forms_of m) (cut.rest ++ back) terms).0 (ap (terms_of (forms_of m)) same ∙ e);
+      whole = record {
+            front = pad;
+            written = text ∙ ap (λ x. pad ++ (x ++ back)) cut.written ∙ ap (λ x. pad ++ x) (group (mnemonic_part (b ∷ s)) cut.rest);
+            blank = p;
+            some = solid-some (b ∷ s) cut b s refl firm;
+            solid = cut.none;
+            apart = apart-append cut.rest back cut.begins q;
+          };
+      same = behind-trim cut.rest back cut.begins q ∙ ap trim (sym cut.after);
     }
 
 -- what a statement was read from
-statement-of : (rest : List ℕ) (said : Option Statement) (m : Mnemonic) (operands : List ℕ)
-    → ((terms : Terms) → terms_of (forms_of m) operands ≡ Some terms → IsInstruction rest m terms)
-    → (t : Option Terms) → terms_of (forms_of m) operands ≡ t → of_forms m t ≡ Ok said → IsStatement rest said
-statement-of rest said m operands known None q e = cc
-statement-of rest said m operands known (Some terms) q e = ranged (insn_with m terms) refl e where
-  ranged : (i : Option Insn) → insn_with m terms ≡ i → in_ranges i terms ≡ Ok said → IsStatement rest said
-  ranged None r e = cc
-  ranged (Some insn) r e =
-      let same : Some (record { insn = insn; target = target_in terms }) ≡ said = cc in
-      subst (IsStatement rest) same (m, terms, known terms q, r, refl)
+statement-of : (rest body : List ℕ) (m : Mnemonic) → HasWord rest body → name_of m ≡ mnemonic_part body → (t : Option Terms)
+    → terms_of (forms_of m) (cuts.operands_part body) ≡ t → IsStatement rest (of_forms m t)
+statement-of rest body m word name t e = formed t (ap (terms_of (forms_of m)) word.same ∙ e) where
+  whole : IsInstruction rest (name_of m) word.operands
+  whole = subst (λ n. IsInstruction rest n word.operands) (sym name) word.whole
 
-statement-says : (rest : List ℕ) (said : Option Statement) → read_statement (trim rest) ≡ Ok said → IsStatement rest said
-statement-says rest said e = go (trim rest) refl e where
+  formed : (t : Option Terms) → terms_of (forms_of m) (trim word.operands) ≡ t → IsStatement rest (of_forms m t)
+  formed None e = (m, word.operands, whole, λ terms fits. let read = (operand-lists (forms_of m) word.operands terms).1 fits in cc)
+  formed (Some terms) e = ranged (insn_with m terms) refl where
+    fits : AreOperands (forms_of m) word.operands terms
+    fits = (operand-lists (forms_of m) word.operands terms).0 e
+
+    ranged : (i : Option Insn) → insn_with m terms ≡ i → IsStatement rest (in_ranges i terms)
+    ranged None r = (m, word.operands, terms, whole, fits, r)
+    ranged (Some insn) r = (m, word.operands, terms, whole, fits, r, refl)
+
+statement-reads : (rest : List ℕ) → IsStatement rest (read_statement (trim rest))
+statement-reads rest = go (trim rest) refl where
   around : (pad : List ℕ) × (x : List ℕ) × (back : List ℕ) × (rest ≡ pad ++ (x ++ back)) × (list_all is_blank pad ≡ true) × (x ≡ trim rest) × (list_all is_blank back ≡ true)
   around = padded-trim (λ x. x ≡ trim rest) rest refl
 
-  go : (body : List ℕ) → trim rest ≡ body → read_statement body ≡ Ok said → IsStatement rest said
-  go [] h e =
-      let nothing : None ≡ said = cc in
-      let blank : list_all is_blank rest ≡ true =
+  go : (body : List ℕ) → trim rest ≡ body → IsStatement rest (read_statement body)
+  go [] h =
       ap (list_all is_blank) around.3 ∙ list_all-append is_blank around.0 (around.1 ++ around.2) around.4
-      (list_all-append is_blank around.1 around.2 (ap (list_all is_blank) (around.5 ∙ h)) around.6) in
-      subst (IsStatement rest) nothing blank
-  go (b ∷ s) h e =
-      let text : rest ≡ around.0 ++ ((b ∷ s) ++ around.2) = around.3 ∙ ap (λ x. around.0 ++ (x ++ around.2)) (around.5 ∙ h) in
-      found text (named (mnemonic_part (b ∷ s))) refl e where
-        found : rest ≡ around.0 ++ ((b ∷ s) ++ around.2) → (m : Option Mnemonic) → named (mnemonic_part (b ∷ s)) ≡ m
-            → of_mnemonic m (cuts.operands_part (b ∷ s)) ≡ Ok said → IsStatement rest said
-        found text None k e = cc
-        found text (Some m) k e =
-            statement-of rest said m (cuts.operands_part (b ∷ s))
-            (λ terms q. instruction-from rest (b ∷ s) around.0 around.2 m terms text around.4 around.6 k q)
-            (terms_of (forms_of m) (cuts.operands_part (b ∷ s))) refl e
+      (list_all-append is_blank around.1 around.2 (ap (list_all is_blank) (around.5 ∙ h)) around.6)
+  go (b ∷ s) h = found (named (mnemonic_part (b ∷ s))) refl where
+    word : HasWord rest (b ∷ s)
+    word =
+        let text : rest ≡ around.0 ++ ((b ∷ s) ++ around.2) = around.3 ∙ ap (λ x. around.0 ++ (x ++ around.2)) (around.5 ∙ h) in
+        word-from rest around.0 around.2 b s text around.4 around.6 (trimmed-snug rest b s h).1
+
+    found : (m : Option Mnemonic) → named (mnemonic_part (b ∷ s)) ≡ m → IsStatement rest (of_mnemonic m (cuts.operands_part (b ∷ s)))
+    found None k =
+        (mnemonic_part (b ∷ s), word.operands, word.whole, λ m e. let known = named-name_of m in let same = ap named e in cc)
+    found (Some m) k = statement-of rest (b ∷ s) m word (named-sound (mnemonic_part (b ∷ s)) m k) _ refl
 
 -- ---- labels
 
@@ -273,9 +322,6 @@ less-true a b h = grind (arith, nat_tests)
 blank-colon : (b : ℕ) → is_blank b ≡ true → (b == 58) ≡ false
 blank-colon b p = grind (arith, nat_tests)
 
-blank-name : (b : ℕ) → is_blank b ≡ true → is_name_byte b ≡ false
-blank-name b p = grind (arith, nat_tests)
-
 -- a name and a colon are a label
 labelled : (name rest : List ℕ) → is_name name ≡ true
     → (is_labelled (name ++ 58 ∷ rest) ≡ true) × (before 58 (name ++ 58 ∷ rest) ≡ name) × (after 58 (name ++ 58 ∷ rest) ≡ rest)
@@ -289,35 +335,38 @@ labelled name rest known =
     ∙ less-true (length name) (length (name ++ 58 ∷ rest)) (omega (arith, length-append name (58 ∷ rest))) in
     (and-join _ (is_name (before 58 (name ++ 58 ∷ rest))) within (ap is_name front ∙ known), front, back)
 
--- a mnemonic and what is apart from it have none
-and-no : (a b : Bool) → b ≡ false → (a && b) ≡ false
-and-no true b h = h
-and-no false b h = refl
+-- a text that is labelled, cut at its colon
+labelled-says : (code : List ℕ) → is_labelled (trim_start code) ≡ true
+    → IsLabelled code (before 58 (trim_start code)) (after 58 (trim_start code))
+labelled-says code h =
+    let start = trim_start-says code in
+    let t = trim_start code in
+    let parts = and-both (nat_lt (position_or_len (λ b. b == 58) t) (length t)) (is_name (before 58 t)) h in
+    let cut = split-first (λ b. b == 58) t (true-less (position_or_len (λ b. b == 58) t) (length t) parts.0) in record {
+      front = start.0;
+      written = start.1 ∙ ap (λ x. start.0 ++ x) (cut.1 ∙ ap (λ c. before 58 t ++ c ∷ after 58 t) (eqb-true cut.0 58 cut.2));
+      blank = start.2;
+      named = parts.1;
+    }
 
-list_all-no : (test : ℕ → Bool) (s : List ℕ) (c : ℕ) (t : List ℕ) → test c ≡ false → list_all test (s ++ c ∷ t) ≡ false
-list_all-no test [] c t h = rw h refl
-list_all-no test (b ∷ s) c t h = and-no (test b) (list_all test (s ++ c ∷ t)) (list_all-no test s c t h)
+-- what is read of it
+record ReadsLabel (code name rest : List ℕ) : Type 0 where
+  pub labelled : is_labelled (trim_start code) ≡ true
+  pub name_is : before 58 (trim_start code) ≡ name
+  pub rest_is : after 58 (trim_start code) ≡ rest
 
-before-append : (name t : List ℕ) → are_plain name ≡ true → before 58 (name ++ t) ≡ name ++ before 58 t
-before-append [] t p = refl
-before-append (b ∷ name) t p =
-    let parts = and-both (is_plain b) (are_plain name) p in
-    let shifted : 1 + position_or_len (λ x. x == 58) (name ++ t) ≡ suc (position_or_len (λ x. x == 58) (name ++ t)) = omega arith in
-    rw (plain-colon b parts.0, shifted) (ap (λ s. b ∷ s) (before-append name t parts.1))
-
-unlabelled : (name operands : List ℕ) → are_plain name ≡ true → 0 < length name → IsApart operands → is_labelled (name ++ operands) ≡ false
-unlabelled name [] plain some apart =
-    let here = position_or_len-none (λ b. b == 58) is_plain (name ++ []) plain-colon (list_all-append is_plain name [] plain refl) in
-    rw (here, nat_lt-self (length (name ++ []))) refl
-unlabelled [] (b ∷ s) plain some apart = absurd (omega arith)
-unlabelled (n ∷ name) (b ∷ s) plain some apart =
-    let whole = n ∷ (name ++ b ∷ s) in
-    let behind : before 58 (b ∷ s) ≡ b ∷ before 58 s =
-    (let shifted : 1 + position_or_len (λ x. x == 58) s ≡ suc (position_or_len (λ x. x == 58) s) = omega arith in rw (blank-colon b apart, shifted) refl) in
-    let front : before 58 whole ≡ n ∷ (name ++ b ∷ before 58 s) =
-    before-append (n ∷ name) (b ∷ s) plain ∙ ap (λ t. n ∷ (name ++ t)) behind in
-    and-no _ (is_name (before 58 whole))
-    (ap is_name front ∙ and-no (is_letter n) _ (list_all-no is_name_byte name b (before 58 s) (blank-name b apart)))
+says-labelled : (code name rest : List ℕ) → IsLabelled code name rest → ReadsLabel code name rest
+says-labelled code name rest known =
+    let tight = name-plain name known.named in
+    let start : trim_start code ≡ name ++ 58 ∷ rest =
+    ap trim_start known.written ∙ trim_start-blanks known.front (name ++ 58 ∷ rest) known.blank
+    ∙ (Snug-plain name tight.0 tight.1).start (58 ∷ rest) in
+    let parts = labelled name rest known.named in
+    record {
+      labelled = ap is_labelled start ∙ parts.0;
+      name_is = ap (before 58) start ∙ parts.1;
+      rest_is = ap (after 58) start ∙ parts.2;
+    }
 
 -- ---- lines
 
@@ -328,99 +377,131 @@ code-before code [] p c =
 code-before code (b ∷ s) p c =
     before_first-at (λ b. b == 59) no_semicolon code b s not-semicolon (ap (λ x. x == 59) c) p
 
--- what is read of it
-says-code : (front rest : List ℕ) (label : Option (List ℕ)) (said : Option Statement) → IsLabel front label → IsStatement rest said
-    → line_of (trim_start (front ++ rest)) ≡ record { label = label; statement = Ok said }
-says-code front rest (Some name) said known states =
-    let tight = name-plain name known.3 in
-    let group : (f : List ℕ) → (f ++ (name ++ 58 ∷ [])) ++ rest ≡ f ++ (name ++ 58 ∷ rest) = λ f. simp append_assoc in
-    let start : trim_start (front ++ rest) ≡ name ++ 58 ∷ rest =
-    ap (λ s. trim_start (s ++ rest)) known.1 ∙ ap trim_start (group known.0) ∙ trim_start-blanks known.0 (name ++ 58 ∷ rest) known.2
-    ∙ (Snug-plain name tight.0 tight.1).start (58 ∷ rest) in
-    let parts = labelled name rest known.3 in
-    rw (start, parts.0, parts.1, parts.2, says-statement rest said states) refl
-says-code front rest None said known states =
-    ap (λ s. line_of (trim_start (s ++ rest))) known ∙ alone said states where
-      alone : (said : Option Statement) → IsStatement rest said → line_of (trim_start rest) ≡ record { label = None; statement = Ok said }
-      alone None states = rw (all-blank rest states) refl
-      alone (Some said) states =
-          let m = states.0 in
-          let i = states.2 in
-          let name = plain-name_of m in
-          let start : trim_start rest ≡ name_of m ++ i.operands =
-          ap trim_start i.written ∙ trim_start-blanks i.front (name_of m ++ i.operands) i.blank
-          ∙ (Snug-plain (name_of m) name.1 name.0).start i.operands in
-          let bare : is_labelled (trim_start rest) ≡ false = ap is_labelled start ∙ unlabelled (name_of m) i.operands name.0 name.1 i.apart in
-          let read : read_statement (trim (trim_start rest)) ≡ Ok (Some said) =
-          ap (λ s. read_statement (trim_end s)) (trim_start-again rest) ∙ says-statement rest (Some said) states in
-          rw (bare, read) refl
+-- a byte outside text among others
+and-no : (a b : Bool) → b ≡ false → (a && b) ≡ false
+and-no true b h = h
+and-no false b h = refl
 
-says-line : (line : List ℕ) (label : Option (List ℕ)) (said : Option Statement) → Says line label said
-    → read_line line ≡ Ok (record { label = label; statement = Ok said })
-says-line line label said known =
-    let code = ap code_of known.written ∙ code-before (known.front ++ known.rest) known.comment known.plain known.comments in
-    rw (code, known.text, says-code known.front known.rest label said known.labels known.states) refl
+list_all-no : (test : ℕ → Bool) (s : List ℕ) (c : ℕ) (t : List ℕ) → test c ≡ false → list_all test (s ++ c ∷ t) ≡ false
+list_all-no test [] c t h = rw h refl
+list_all-no test (b ∷ s) c t h = and-no (test b) (list_all test (s ++ c ∷ t)) (list_all-no test s c t h)
+
+-- the first that fails, where not all pass
+record HasFailing (test : ℕ → Bool) (s : List ℕ) : Type 0 where
+  pub front : List ℕ
+  pub byte : ℕ
+  pub rest : List ℕ
+  pub written : s ≡ front ++ byte ∷ rest
+  pub fails : test byte ≡ false
+
+failing-in : (test : ℕ → Bool) (s : List ℕ) → list_all test s ≡ false → HasFailing test s
+failing-in test [] h = cc
+failing-in test (b ∷ s) h = go (test b) refl (λ e. failing-in test s e) where
+  go : (t : Bool) → test b ≡ t → (list_all test s ≡ false → HasFailing test s) → HasFailing test (b ∷ s)
+  go false e more = record { front = []; byte = b; rest = s; written = refl; fails = e }
+  go true e more =
+      let found = more (rw e at h) in
+      record { front = b ∷ found.front; byte = found.byte; rest = found.rest; written = ap (λ r. b ∷ r) found.written; fails = found.fails }
+
+list_all-front : (test : ℕ → Bool) (s t : List ℕ) → list_all test (s ++ t) ≡ true → list_all test s ≡ true
+list_all-front test [] t p = refl
+list_all-front test (b ∷ s) t p =
+    let parts = and-both (test b) (list_all test (s ++ t)) p in and-join (test b) (list_all test s) parts.0 (list_all-front test s t parts.1)
+
+code-past : (front t : List ℕ) → list_all no_semicolon front ≡ true → code_of (front ++ t) ≡ front ++ code_of t
+code-past [] t p = refl
+code-past (b ∷ front) t p =
+    let parts = and-both (no_semicolon b) (list_all no_semicolon front) p in
+    let shifted : 1 + position_or_len (λ x. x == 59) (front ++ t) ≡ suc (position_or_len (λ x. x == 59) (front ++ t)) = omega arith in
+    rw (not-semicolon b parts.0, shifted) (ap (λ s. b ∷ s) (code-past front t parts.1))
+
+strange-semicolon : (b : ℕ) → is_text b ≡ false → no_semicolon b ≡ true
+strange-semicolon b h = grind (arith, nat_tests)
+
+-- what is read of a line's code
+says-code : (code rest : List ℕ) (label : Option (List ℕ)) (r : LineReading (Option Statement)) → IsLabel label code rest
+    → IsStatement rest r → line_of (trim_start code) ≡ record { label = label; statement = r }
+says-code code rest (Some name) r known states =
+    let read = says-labelled code name rest known in
+    rw (read.labelled, read.name_is, read.rest_is, says-statement rest r states) refl
+says-code code rest None r known states = go (is_labelled (trim_start code)) refl where
+  go : (t : Bool) → is_labelled (trim_start code) ≡ t → line_of (trim_start code) ≡ record { label = None; statement = r }
+  go true h = absurd (known.1 (before 58 (trim_start code)) (after 58 (trim_start code)) (labelled-says code h))
+  go false h =
+      let read : read_statement (trim (trim_start code)) ≡ r =
+      ap (λ s. read_statement (trim_end s)) (trim_start-again code) ∙ ap (λ s. read_statement (trim s)) known.0 ∙ says-statement rest r states in
+      rw (h, read) refl
+
+pub says-line : (line : List ℕ) (r : LineReading Line) → IsReading line r → read_line line ≡ r
+says-line line (Ok said) known =
+    let code = ap code_of known.written ∙ code-before known.code known.comment known.plain known.comments in
+    rw (code, known.text, says-code known.code known.rest said.label said.statement known.labels known.states) refl
+says-line line (Err NotText) known =
+    let whole = known.front ++ known.byte ∷ known.rest in
+    let code : code_of whole ≡ known.front ++ known.byte ∷ code_of known.rest =
+    code-past known.front (known.byte ∷ known.rest) known.plain
+    ∙ ap (λ s. known.front ++ s) (code-past (known.byte ∷ []) known.rest (and-join _ true (strange-semicolon known.byte known.strange) refl)) in
+    let strange : list_all is_text (code_of line) ≡ false =
+    ap (λ l. list_all is_text (code_of l)) known.written ∙ ap (list_all is_text) code
+    ∙ list_all-no is_text known.front known.byte (code_of known.rest) known.strange in
+    rw strange refl
+says-line line (Err UnknownMnemonic) known = absurd known
+says-line line (Err WrongOperands) known = absurd known
+says-line line (Err OutOfRange) known = absurd known
+says-line line (Err LabelTwice) known = absurd known
+says-line line (Err UnknownLabel) known = absurd known
+says-line line (Err TooManySlots) known = absurd known
 
 -- what it was read from
 comment-of : (s : List ℕ) → Begins (λ b. b == 59) s → IsComment s
 comment-of [] b = tt
 comment-of (c ∷ s) b = eqb-true c 59 b
 
-code-says : (code : List ℕ) (label : Option (List ℕ)) (said : Option Statement)
-    → line_of (trim_start code) ≡ record { label = label; statement = Ok said }
-    → (front : List ℕ) × (rest : List ℕ) × (code ≡ front ++ rest) × IsLabel front label × IsStatement rest said
-code-says code label said e = go (is_labelled (trim_start code)) refl e where
-  start : (front : List ℕ) × (code ≡ front ++ trim_start code) × (list_all is_blank front ≡ true)
-  start = trim_start-says code
+pub record HasParts (code : List ℕ) (said : Line) : Type 0 where
+  pub rest : List ℕ
+  pub labels : IsLabel said.label code rest
+  pub states : IsStatement rest said.statement
 
-  go : (t : Bool) → is_labelled (trim_start code) ≡ t → line_of (trim_start code) ≡ record { label = label; statement = Ok said }
-      → (front : List ℕ) × (rest : List ℕ) × (code ≡ front ++ rest) × IsLabel front label × IsStatement rest said
-  go true h e =
-      let t = trim_start code in
-      let parts = and-both (nat_lt (position_or_len (λ b. b == 58) t) (length t)) (is_name (before 58 t)) h in
-      let cut = split-first (λ b. b == 58) t (true-less (position_or_len (λ b. b == 58) t) (length t) parts.0) in
-      let same : line_with (Some (before 58 t)) (after 58 t) ≡ record { label = label; statement = Ok said } = rw h at e in
-      let text : code ≡ (start.0 ++ (before 58 t ++ 58 ∷ [])) ++ after 58 t =
-      start.1 ∙ ap (λ x. start.0 ++ x) (cut.1 ∙ ap (λ c. before 58 t ++ c ∷ after 58 t) (eqb-true cut.0 58 cut.2))
-      ∙ sym (group start.0 (before 58 t) (after 58 t)) in (
-        start.0 ++ (before 58 t ++ 58 ∷ []),
-        after 58 t,
-        text,
-        subst (IsLabel (start.0 ++ (before 58 t ++ 58 ∷ []))) (ap (λ (l : Line). l.label) same) (start.0, refl, start.2, parts.1),
-        statement-says (after 58 t) said (ap (λ (l : Line). l.statement) same),
-      ) where
-        group : (f name rest : List ℕ) → (f ++ (name ++ 58 ∷ [])) ++ rest ≡ f ++ (name ++ 58 ∷ rest)
-        group f name rest = simp append_assoc
-  go false h e =
-      let same : line_with None (trim_start code) ≡ record { label = label; statement = Ok said } = rw h at e in (
-        [],
-        code,
-        refl,
-        subst (IsLabel []) (ap (λ (l : Line). l.label) same) refl,
-        statement-says code said (ap (λ s. read_statement (trim_end s)) (sym (trim_start-again code)) ∙ ap (λ (l : Line). l.statement) same),
-      )
+code-reads : (code : List ℕ) → HasParts code (line_of (trim_start code))
+code-reads code = go (is_labelled (trim_start code)) refl where
+  go : (t : Bool) → is_labelled (trim_start code) ≡ t → HasParts code (line_of (trim_start code))
+  go true h = rw h (record {
+        rest = after 58 (trim_start code);
+        labels = labelled-says code h;
+        states = statement-reads (after 58 (trim_start code));
+      })
+  go false h = rw h (record {
+        rest = code;
+        labels = (refl, λ name more known. let read = says-labelled code name more known in let yes = read.labelled in cc);
+        states = subst (λ s. IsStatement code (read_statement (trim_end s))) (sym (trim_start-again code)) (statement-reads code);
+      })
 
-line-says : (line : List ℕ) (label : Option (List ℕ)) (said : Option Statement)
-    → read_line line ≡ Ok (record { label = label; statement = Ok said }) → Says line label said
-line-says line label said e = go (list_all is_text (code_of line)) refl e where
-  go : (t : Bool) → list_all is_text (code_of line) ≡ t → read_line line ≡ Ok (record { label = label; statement = Ok said }) → Says line label said
-  go true h e =
-      let read : Ok (line_of (trim_start (code_of line))) ≡ Ok (record { label = label; statement = Ok said }) = rw h at e in
-      let same : line_of (trim_start (code_of line)) ≡ record { label = label; statement = Ok said } = cc in
-      let cut = cut-at-first (λ b. b == 59) line in
-      let parts = code-says (code_of line) label said same in record {
-        front = parts.0;
-        rest = parts.1;
+pub line-reads : (line : List ℕ) → IsReading line (read_line line)
+line-reads line = go (list_all is_text (code_of line)) refl where
+  cut : IsCut (λ b. b == 59) line
+  cut = cut-at-first (λ b. b == 59) line
+
+  go : (t : Bool) → list_all is_text (code_of line) ≡ t → IsReading line (read_line line)
+  go true h =
+      let parts = code-reads (code_of line) in
+      rw h (record {
+        code = code_of line;
+        rest = parts.rest;
         comment = cut.rest;
-        written = cut.written ∙ ap (λ c. c ++ cut.rest) parts.2;
-        text = ap (list_all is_text) (sym parts.2) ∙ h;
-        plain = ap (list_all no_semicolon) (sym parts.2) ∙ cut.none;
+        written = cut.written;
+        text = h;
+        plain = cut.none;
         comments = comment-of cut.rest cut.begins;
-        labels = parts.3;
-        states = parts.4;
-      }
-  go false h e = let none = rw h at e in cc
-
-pub lines : (line : List ℕ) (label : Option (List ℕ)) (said : Option Statement)
-    → (read_line line ≡ Ok (record { label = label; statement = Ok said })) ↔ Says line label said
-lines line label said = (line-says line label said, says-line line label said)
+        labels = parts.labels;
+        states = parts.states;
+      })
+  go false h =
+      let found = failing-in is_text (code_of line) h in
+      rw h (record {
+        front = found.front;
+        byte = found.byte;
+        rest = found.rest ++ cut.rest;
+        written = cut.written ∙ ap (λ c. c ++ cut.rest) found.written ∙ append_assoc found.front (found.byte ∷ found.rest) cut.rest;
+        plain = list_all-front no_semicolon found.front (found.byte ∷ found.rest) (ap (list_all no_semicolon) (sym found.written) ∙ cut.none);
+        strange = found.fails;
+      })

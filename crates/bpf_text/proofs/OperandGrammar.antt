@@ -22,7 +22,7 @@ use Rattle.bpf_io.specs.Numerals.{IsNatural, natural}
 use Rattle.bpf_text.specs.Grammar.{IsRegister, IsSigned, Padded, IsDisplaced, IsInside, IsOperand}
 use Rattle.bpf_text.specs.Tokens.{register, signed, number_of, is_sign, is_bracketed}
 use Rattle.bpf_text.specs.Terms.{term_of, memory, base_and_displacement, displacement, register_or}
-use Rattle.bpf_text.proofs.PlainTexts.{and-both, and-join, list_all-append, list_all-weaken, before_first-at, before_first-none, position_or_len-none}
+use Rattle.bpf_text.proofs.PlainTexts.{no_blank, not-true, and-both, and-join, list_all-append, list_all-weaken, before_first-at, before_first-none, position_or_len-none}
 use Rattle.bpf_text.proofs.TokenTexts.{digit-other, slice_index-other, list_all-AllDigits, is_decimal, are_decimal, is_open, no_sign, displacement-at, memory-at}
 use Rattle.bpf_text.proofs.TokenGrammar.{register-says, says-register, natural-says, says-natural, signed-says, says-signed, map-says}
 
@@ -79,14 +79,7 @@ padded-trim Is s h =
     let end = trim_end-says (trim_start s) in
     (start.0, trim s, end.0, start.1 ∙ ap (λ r. start.0 ++ r) end.1, start.2, h, end.2)
 
--- a text without blanks
-abbrev pub no_blank : ℕ → Bool
-no_blank b = not (is_blank b)
-
-not-true : (b : Bool) → not b ≡ true → b ≡ false
-not-true true h = cc
-not-true false h = refl
-
+-- a text behind blanks
 pub trim_start-blanks : (front s : List ℕ) → list_all is_blank front ≡ true → trim_start (front ++ s) ≡ trim_start s
 trim_start-blanks [] s p = refl
 trim_start-blanks (b ∷ front) s p =

@@ -114,12 +114,33 @@ trim_end-append (b ∷ s) t some h = rw (trim_end-append s t some h) (onto_trimm
   onto_trimmed-some b [] h = absurd (omega arith)
   onto_trimmed-some b (c ∷ s) h = refl
 
--- nothing is trimmed of a plain text
+-- a byte that is no blank
+abbrev pub no_blank : ℕ → Bool
+no_blank b = not (is_blank b)
+
+pub not-true : (b : Bool) → not b ≡ true → b ≡ false
+not-true true h = cc
+not-true false h = refl
+
+pub solid-blank : (b : ℕ) → no_blank b ≡ true → is_blank b ≡ false
+solid-blank b h = not-true (is_blank b) h
+
+plain-solid : (b : ℕ) → is_plain b ≡ true → no_blank b ≡ true
+plain-solid b p = rw (plain-blank b p) refl
+
+pub are_plain-solid : (s : List ℕ) → are_plain s ≡ true → list_all no_blank s ≡ true
+are_plain-solid s p = list_all-weaken is_plain no_blank s plain-solid p
+
+-- nothing is trimmed of a text without blanks
+trim_end-solid : (s : List ℕ) → list_all no_blank s ≡ true → trim_end s ≡ s
+trim_end-solid [] p = refl
+trim_end-solid (b ∷ []) p = let parts = and-both (no_blank b) true p in rw (solid-blank b parts.0) refl
+trim_end-solid (b ∷ c ∷ s) p =
+    let parts = and-both (no_blank b) (list_all no_blank (c ∷ s)) p in rw (trim_end-solid (c ∷ s) parts.1) refl
+
+-- nor of a plain one
 pub trim_end-plain : (s : List ℕ) → are_plain s ≡ true → trim_end s ≡ s
-trim_end-plain [] p = refl
-trim_end-plain (b ∷ []) p = let parts = and-both (is_plain b) true p in rw (plain-blank b parts.0) refl
-trim_end-plain (b ∷ c ∷ s) p =
-    let parts = and-both (is_plain b) (are_plain (c ∷ s)) p in rw (trim_end-plain (c ∷ s) parts.1) refl
+trim_end-plain s p = trim_end-solid s (are_plain-solid s p)
 
 pub trim-plain : (s : List ℕ) → are_plain s ≡ true → trim s ≡ s
 trim-plain [] p = refl
@@ -141,15 +162,18 @@ pub record Snug (s : List ℕ) : Type 0 where
   pub blank : (t : List ℕ) → trim_start (32 ∷ (s ++ t)) ≡ s ++ t
   pub end : trim_end s ≡ s
 
-pub Snug-plain : (s : List ℕ) → 0 < length s → are_plain s ≡ true → Snug s
-Snug-plain [] some p = absurd (omega arith)
-Snug-plain (b ∷ s) some p =
-    let parts = and-both (is_plain b) (are_plain s) p in record {
+pub Snug-solid : (s : List ℕ) → 0 < length s → list_all no_blank s ≡ true → Snug s
+Snug-solid [] some p = absurd (omega arith)
+Snug-solid (b ∷ s) some p =
+    let parts = and-both (no_blank b) (list_all no_blank s) p in record {
       some = some;
-      start = λ t. trim_start-plain b (s ++ t) parts.0;
-      blank = λ t. rw (plain-blank b parts.0) refl;
-      end = trim_end-plain (b ∷ s) p;
+      start = λ t. rw (solid-blank b parts.0) refl;
+      blank = λ t. rw (solid-blank b parts.0) refl;
+      end = trim_end-solid (b ∷ s) p;
     }
+
+pub Snug-plain : (s : List ℕ) → 0 < length s → are_plain s ≡ true → Snug s
+Snug-plain s some p = Snug-solid s some (are_plain-solid s p)
 
 pub Snug-append : (a mid b : List ℕ) → Snug a → Snug b → Snug (a ++ (mid ++ b))
 Snug-append a mid b p q = record {

@@ -3,7 +3,16 @@ use Rattle.std.specs.Prelude.{ℕ, List}
 use Rattle.std.specs.Str.{bytes_eq}
 use Rattle.indexmap.specs.IndexMap.{IndexMap, get_by}
 use Rattle.std.specs.Borrow.{Bor}
+use Rattle.bpf_text.specs.declared.first_round.Outline.{Outline}
+use Rattle.bpf_text.specs.declared.first_round.Placed.{Placed}
 use Rattle.bpf_text.specs.Listing.{Labels}
 
 abbrev pub labels_in : {S : Type 0} → IndexMap (Bor (List ℕ)) ℕ S → Labels
 labels_in map = λ q. get_by (λ name. bytes_eq q name.now) map
+
+-- The labels and the statements of an outline.
+abbrev pub labels_of : Outline → Labels
+labels_of outline = labels_in outline.labels
+
+abbrev pub placed_of : Outline → List Placed
+placed_of outline = outline.placed.items

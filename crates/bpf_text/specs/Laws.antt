@@ -1,38 +1,43 @@
 -- Laws of listings.
-use Rattle.std.specs.Prelude.{ℕ, ◌≡◌, ◌↔◌, List, Option, Some, Ok}
+use Rattle.std.specs.Prelude.{ℕ, ◌≡◌, List}
 use Rattle.bpf_isa.specs.declared.mnemonic.Mnemonic.{Mnemonic}
-use Rattle.bpf_text.specs.declared.statement.Statement.{Statement}
+use Rattle.bpf_text.specs.declared.fault.LineFault.{LineFault}
+use Rattle.bpf_text.specs.declared.fault.AsmFault.{AsmFault}
+use Rattle.bpf_text.specs.declared.fault.AsmFault.TheVariants.{Line as AtLine}
+use Rattle.bpf_text.specs.declared.line.Line.{Line}
 use Rattle.bpf_text.specs.declared.term.OperandForm.{OperandForm}
 use Rattle.bpf_text.specs.declared.term.OperandForms.{OperandForms}
 use Rattle.bpf_text.specs.declared.term.Term.{Term}
 use Rattle.bpf_text.specs.declared.term.Terms.{Terms}
-use Rattle.bpf_text.specs.Cuts.{trim}
 use Rattle.bpf_text.specs.Grammar.{IsOperand, AreOperands}
-use Rattle.bpf_text.specs.LineGrammar.{Says}
-use Rattle.bpf_text.specs.Lines.{read_line}
-use Rattle.bpf_text.specs.Terms.{term_of, terms_of}
+use Rattle.bpf_text.specs.LineGrammar.{IsReading}
+use Rattle.bpf_text.specs.Listing.{IsListing, IsFaultOf}
 use Rattle.bpf_text.specs.Mnemonics.{name_of}
-use Rattle.bpf_text.specs.Named.{named}
-use Rattle.bpf_text.specs.Listing.{IsListing}
+use Rattle.bpf_text.specs.Statements.{LineReading}
 
--- A mnemonic is the one that its name finds: so no two have one name.
+-- No two mnemonics have one name.
 abbrev pub HaveOneMnemonic : Type 0
-HaveOneMnemonic = (mnemonic : Mnemonic) → named (name_of mnemonic) ≡ Some mnemonic
+HaveOneMnemonic = (a b : Mnemonic) → name_of a ≡ name_of b → a ≡ b
 
--- What is read of an operand in a form is what the grammar says of it, and nothing else.
-abbrev pub HaveOperands : Type 0
-HaveOperands = (f : OperandForm) (s : List ℕ) (t : Term) → (term_of f s ≡ Some t) ↔ IsOperand f s t
+-- An operand in a form says one thing at most, and so do the operands of an instruction.
+abbrev pub HaveOneTerm : Type 0
+HaveOneTerm = (form : OperandForm) (s : List ℕ) (a b : Term) → IsOperand form s a → IsOperand form s b → a ≡ b
 
--- What is read of an instruction's operands is what the grammar says of them, and nothing else.
-abbrev pub HaveOperandLists : Type 0
-HaveOperandLists = (fs : OperandForms) (s : List ℕ) (terms : Terms) → (terms_of fs (trim s) ≡ Some terms) ↔ AreOperands fs s terms
+abbrev pub HaveOneTermList : Type 0
+HaveOneTermList = (forms : OperandForms) (s : List ℕ) (a b : Terms) → AreOperands forms s a → AreOperands forms s b → a ≡ b
 
--- What is read of a line is what the grammar says of it, and nothing else: so a line says one thing at most, and what is refused is
--- said by nothing.
-abbrev pub HaveLines : Type 0
-HaveLines = (line : List ℕ) (label : Option (List ℕ)) (said : Option Statement)
-    → (read_line line ≡ Ok (record { label = label; statement = Ok said })) ↔ Says line label said
+-- A line has exactly one reading: it says one thing, or one thing is wrong with it.
+pub record HasOneReading (line : List ℕ) : Type 0 where
+  pub reading : LineReading Line
+  pub reads : IsReading line reading
+  pub only : (other : LineReading Line) → IsReading line other → other ≡ reading
 
--- A listing has the bytes of one program at most.
-abbrev pub HaveOneAssembly : Type 0
-HaveOneAssembly = (text a b : List ℕ) → IsListing text a → IsListing text b → a ≡ b
+abbrev pub HaveOneReading : Type 0
+HaveOneReading = (line : List ℕ) → HasOneReading line
+
+-- A listing has the bytes of one program or one fault of a line, and not both.
+pub record HaveOneAssembly : Type 0 where
+  pub bytes : (text a b : List ℕ) → IsListing text a → IsListing text b → a ≡ b
+  pub fault : (text : List ℕ) (a b : LineFault) (m n : ℕ) → IsFaultOf text (AtLine a m) → IsFaultOf text (AtLine b n)
+      → AtLine a m ≡ AtLine b n
+  pub either : (text bytes : List ℕ) (fault : LineFault) (n : ℕ) → IsListing text bytes → IsFaultOf text (AtLine fault n) → ⊥

@@ -1,14 +1,16 @@
--- What a line of a listing says, in words of its pieces. It is bpfdb's own choice.
-use Rattle.std.specs.Prelude.{ℕ, ◌≡◌, ◌==◌, not, true, List, [], ◌∷◌, ◌++◌, Option, Some, None}
+-- What a line of a listing says, or what is wrong with it, in words of its pieces. It is bpfdb's own choice.
+use Rattle.std.specs.Prelude.{ℕ, ◌≡◌, ◌<◌, ◌==◌, not, true, false, List, [], ◌∷◌, ◌++◌, length, Option, Some, None, Result, Ok, Err}
 use Rattle.std.specs.List.{list_all}
 use Rattle.bpf_isa.specs.declared.mnemonic.Mnemonic.{Mnemonic}
+use Rattle.bpf_text.specs.declared.fault.LineFault.TheVariants.{UnknownMnemonic, WrongOperands, OutOfRange, NotText}
+use Rattle.bpf_text.specs.declared.line.Line.{Line}
 use Rattle.bpf_text.specs.declared.statement.Statement.{Statement}
 use Rattle.bpf_text.specs.declared.term.Terms.{Terms}
 use Rattle.bpf_io.specs.Lines.{is_blank}
 use Rattle.bpf_text.specs.Cuts.{is_name, is_text}
 use Rattle.bpf_text.specs.Grammar.{AreOperands}
 use Rattle.bpf_text.specs.Mnemonics.{name_of}
-use Rattle.bpf_text.specs.Statements.{forms_of, insn_with}
+use Rattle.bpf_text.specs.Statements.{LineReading, forms_of, insn_with}
 use Rattle.bpf_text.specs.Terms.{target_in}
 
 -- A comment: nothing, or a semicolon (59) and whatever follows.
@@ -16,39 +18,70 @@ abbrev pub IsComment : List ℕ → Type 0
 IsComment [] = Unit {0}
 IsComment (b ∷ s) = b ≡ 59
 
--- A label: a name behind blanks, and a colon (58); or nothing.
-abbrev pub IsLabel : List ℕ → Option (List ℕ) → Type 0
-IsLabel s None = s ≡ []
-IsLabel s (Some name) = (front : List ℕ) × (s ≡ front ++ (name ++ 58 ∷ [])) × (list_all is_blank front ≡ true) × (is_name name ≡ true)
+-- A label: a name behind blanks, and a colon (58).
+pub record IsLabelled (s name rest : List ℕ) : Type 0 where
+  pub front : List ℕ
+  pub written : s ≡ front ++ (name ++ 58 ∷ rest)
+  pub blank : list_all is_blank front ≡ true
+  pub named : is_name name ≡ true
+
+-- The label of a line, if it has one, and what stands behind it.
+abbrev pub IsLabel : Option (List ℕ) → List ℕ → List ℕ → Type 0
+IsLabel (Some name) s rest = IsLabelled s name rest
+IsLabel None s rest = (s ≡ rest) × ((name more : List ℕ) → IsLabelled s name more → ⊥)
 
 -- Nothing, or a blank and whatever follows.
 abbrev pub IsApart : List ℕ → Type 0
 IsApart [] = Unit {0}
 IsApart (b ∷ s) = is_blank b ≡ true
 
--- An instruction: its mnemonic's name behind blanks, and its operands, parted from it by a blank where there are any.
-pub record IsInstruction (s : List ℕ) (mnemonic : Mnemonic) (terms : Terms) : Type 0 where
+-- An instruction: a word behind blanks, and its operands, parted from it by a blank where there are any.
+pub record IsInstruction (s word operands : List ℕ) : Type 0 where
   pub front : List ℕ
-  pub operands : List ℕ
-  pub written : s ≡ front ++ (name_of mnemonic ++ operands)
+  pub written : s ≡ front ++ (word ++ operands)
   pub blank : list_all is_blank front ≡ true
+  pub some : 0 < length word
+  pub solid : list_all (λ b. not (is_blank b)) word ≡ true
   pub apart : IsApart operands
-  pub fits : AreOperands (forms_of mnemonic) operands terms
 
--- What stands behind a label: blanks alone, or an instruction whose numbers are in their ranges.
-abbrev pub IsStatement : List ℕ → Option Statement → Type 0
-IsStatement s None = list_all is_blank s ≡ true
-IsStatement s (Some said) = (mnemonic : Mnemonic) × (terms : Terms) × IsInstruction s mnemonic terms
+-- What stands behind a label: blanks alone; an instruction of a mnemonic, its operands and numbers in their ranges; or what is
+-- wrong with it.
+abbrev pub IsStatement : List ℕ → LineReading (Option Statement) → Type 0
+IsStatement s (Ok None) = list_all is_blank s ≡ true
+IsStatement s (Ok (Some said)) = (mnemonic : Mnemonic) × (operands : List ℕ) × (terms : Terms)
+    × IsInstruction s (name_of mnemonic) operands × AreOperands (forms_of mnemonic) operands terms
     × (insn_with mnemonic terms ≡ Some said.insn) × (target_in terms ≡ said.target)
+IsStatement s (Err UnknownMnemonic) = (word operands : List ℕ) × IsInstruction s word operands
+    × ((mnemonic : Mnemonic) → name_of mnemonic ≡ word → ⊥)
+IsStatement s (Err WrongOperands) = (mnemonic : Mnemonic) × (operands : List ℕ) × IsInstruction s (name_of mnemonic) operands
+    × ((terms : Terms) → AreOperands (forms_of mnemonic) operands terms → ⊥)
+IsStatement s (Err OutOfRange) = (mnemonic : Mnemonic) × (operands : List ℕ) × (terms : Terms)
+    × IsInstruction s (name_of mnemonic) operands × AreOperands (forms_of mnemonic) operands terms × (insn_with mnemonic terms ≡ None)
+IsStatement s (Err _) = ⊥
 
 -- What a line says: text without a semicolon, in which a label and a statement stand, and a comment.
-pub record Says (line : List ℕ) (label : Option (List ℕ)) (said : Option Statement) : Type 0 where
-  pub front : List ℕ
+pub record Says (line : List ℕ) (said : Line) : Type 0 where
+  pub code : List ℕ
   pub rest : List ℕ
   pub comment : List ℕ
-  pub written : line ≡ (front ++ rest) ++ comment
-  pub text : list_all is_text (front ++ rest) ≡ true
-  pub plain : list_all (λ b. not (b == 59)) (front ++ rest) ≡ true
+  pub written : line ≡ code ++ comment
+  pub text : list_all is_text code ≡ true
+  pub plain : list_all (λ b. not (b == 59)) code ≡ true
   pub comments : IsComment comment
-  pub labels : IsLabel front label
-  pub states : IsStatement rest said
+  pub labels : IsLabel said.label code rest
+  pub states : IsStatement rest said.statement
+
+-- A byte outside text, before which no semicolon stands.
+pub record HasStranger (line : List ℕ) : Type 0 where
+  pub front : List ℕ
+  pub byte : ℕ
+  pub rest : List ℕ
+  pub written : line ≡ front ++ byte ∷ rest
+  pub plain : list_all (λ b. not (b == 59)) front ≡ true
+  pub strange : is_text byte ≡ false
+
+-- What is read of a line.
+abbrev pub IsReading : List ℕ → LineReading Line → Type 0
+IsReading line (Ok said) = Says line said
+IsReading line (Err NotText) = HasStranger line
+IsReading line (Err _) = ⊥

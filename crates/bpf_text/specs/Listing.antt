@@ -1,4 +1,4 @@
--- A listing: its lines, its faults in two rounds, and its bytes. It is bpfdb's own choice.
+-- A listing: what its lines say, its faults in two rounds, and its bytes. It is bpfdb's own choice.
 use Rattle.std.specs.Prelude.{ℕ, ℤ, pos, negsuc, ◌≡◌, ◌+◌, ◌-ℤ◌, Bool, true, false, nat_le, nat_lt, is_some, if◌then◌else◌, List, [], ◌∷◌, ◌++◌, Option, Some, None, Result, Ok, Err, ⊤}
 use Rattle.std.specs.Str.{bytes_eq}
 use Rattle.bpf_isa.specs.declared.instruction.Insn.{Insn}
@@ -8,11 +8,18 @@ use Rattle.bpf_isa.specs.Words.{IsWord}
 use Rattle.bpf_text.specs.declared.fault.LineFault.TheVariants.{OutOfRange, LabelTwice, UnknownLabel, TooManySlots}
 use Rattle.bpf_text.specs.declared.fault.AsmFault.{AsmFault}
 use Rattle.bpf_text.specs.declared.fault.AsmFault.TheVariants.{Line, Memory}
+use Rattle.bpf_text.specs.declared.first_round.Placed.{Placed}
 use Rattle.bpf_text.specs.declared.line.Line.{Line as LineSaid}
 use Rattle.bpf_text.specs.declared.statement.Statement.{Statement}
 use Rattle.bpf_io.specs.Lines.{lines}
-use Rattle.bpf_text.specs.Lines.{read_line}
+use Rattle.bpf_text.specs.LineGrammar.{IsReading}
 use Rattle.bpf_text.specs.Statements.{LineReading}
+
+-- What is read of lines, one by one.
+abbrev pub AreReadings : List (List ℕ) → List (LineReading LineSaid) → Type 0
+AreReadings [] [] = Unit {0}
+AreReadings (line ∷ lines) (reading ∷ readings) = IsReading line reading × AreReadings lines readings
+AreReadings lines readings = ⊥
 
 -- Where labels stand: the slot of a name.
 abbrev pub Labels : Type 0
@@ -30,42 +37,55 @@ abbrev pub is_defined : Labels → Option (List ℕ) → Bool
 is_defined labels None = false
 is_defined labels (Some name) = is_some (labels name)
 
--- The slot after an instruction, which can't pass slot 65,534.
-abbrev pub slot_after : ℕ → LineReading (Option Insn) → LineReading ℕ
+-- The label of a line, and its statement, if it has them.
+abbrev pub label_of : LineReading LineSaid → Option (List ℕ)
+label_of (Ok line) = line.label
+label_of (Err fault) = None
+
+abbrev pub statement_or_none : LineReading (Option Statement) → Option Statement
+statement_or_none (Ok statement) = statement
+statement_or_none (Err fault) = None
+
+abbrev pub statement_of : LineReading LineSaid → Option Statement
+statement_of (Ok line) = statement_or_none line.statement
+statement_of (Err fault) = None
+
+-- The slot after a statement, which can't pass slot 65,534.
+abbrev pub slot_after : ℕ → LineReading (Option Statement) → LineReading ℕ
 slot_after slot (Err fault) = Err fault
 slot_after slot (Ok None) = Ok slot
-slot_after slot (Ok (Some insn)) = if nat_le (slot + slots_of insn) 65535 then Ok (slot + slots_of insn) else Err TooManySlots
-
--- The instruction of a statement, if there is one. The distance of its target is still 0.
-abbrev pub insn_of : LineReading (Option Statement) → LineReading (Option Insn)
-insn_of (Err fault) = Err fault
-insn_of (Ok None) = Ok None
-insn_of (Ok (Some statement)) = Ok (Some statement.insn)
+slot_after slot (Ok (Some statement)) =
+    if nat_le (slot + slots_of statement.insn) 65535 then Ok (slot + slots_of statement.insn) else Err TooManySlots
 
 -- The first round at a line: the slot after it, or its first fault.
 abbrev pub line_end : Labels → ℕ → LineReading LineSaid → LineReading ℕ
 line_end labels slot (Err fault) = Err fault
-line_end labels slot (Ok line) = if is_defined labels line.label then Err LabelTwice else slot_after slot (insn_of line.statement)
+line_end labels slot (Ok line) = if is_defined labels line.label then Err LabelTwice else slot_after slot line.statement
 
--- The label of a line, if it has one.
-abbrev pub label_of : LineReading LineSaid → Option (List ℕ)
-label_of (Err fault) = None
-label_of (Ok line) = line.label
-
--- The first round over the lines from a slot and a line number on: all labels, or the first fault.
+-- What follows a line, unless it has a fault.
 abbrev pub line_or : {A B : Type 0} → LineReading A → ℕ → (A → Result B AsmFault) → Result B AsmFault
 line_or (Err fault) line_number next = Err (Line fault line_number)
 line_or (Ok value) line_number next = next value
 
-abbrev pub first_round : Labels → ℕ → ℕ → List (List ℕ) → Result Labels AsmFault
-first_round labels slot line_number [] = Ok labels
-first_round labels slot line_number (line ∷ rest) = line_or (line_end labels slot (read_line line)) line_number
-    (λ next. first_round (labels_with labels slot (label_of (read_line line))) next (line_number + 1) rest)
+-- The first round over lines from a slot and a line number on: all labels and all statements in their places, or the first fault.
+abbrev pub Outline : Type 0
+Outline = Labels × List Placed
 
--- Want of memory may be answered instead of a fault; else it is this one.
-abbrev pub IsFaultOf : {A : Type 0} → Result A AsmFault → AsmFault → Type 0
-IsFaultOf reading Memory = ⊤
-IsFaultOf reading (Line fault line_number) = reading ≡ Err (Line fault line_number)
+abbrev pub placed_with : List Placed → ℕ → ℕ → Option Statement → List Placed
+placed_with placed slot line_number None = placed
+placed_with placed slot line_number (Some statement) = placed ++ record { line = line_number; slot = slot; statement = statement } ∷ []
+
+abbrev pub outline_with : Outline → ℕ → ℕ → LineReading LineSaid → Outline
+outline_with outline slot line_number reading =
+    (labels_with outline.0 slot (label_of reading), placed_with outline.1 slot line_number (statement_of reading))
+
+abbrev pub nothing : Outline
+nothing = (no_label, [])
+
+abbrev pub first_round : Outline → ℕ → ℕ → List (LineReading LineSaid) → Result Outline AsmFault
+first_round outline slot line_number [] = Ok outline
+first_round outline slot line_number (reading ∷ rest) = line_or (line_end outline.0 slot reading) line_number
+    (λ next. first_round (outline_with outline slot line_number reading) next (line_number + 1) rest)
 
 -- Whether a distance fits the offset of ja and of a conditional jump, of 16 bits.
 abbrev pub fits_offset : ℤ → Bool
@@ -73,70 +93,62 @@ fits_offset (pos n) = nat_lt n 32768
 fits_offset (negsuc n) = nat_lt n 32768
 
 -- An instruction with the distance of its target.
-abbrev pub fitting : Bool → Insn → LineReading (Option Insn)
-fitting true insn = Ok (Some insn)
+abbrev pub fitting : Bool → Insn → LineReading Insn
+fitting true insn = Ok insn
 fitting false insn = Err OutOfRange
 
-abbrev pub with_distance : Insn → ℤ → LineReading (Option Insn)
+abbrev pub with_distance : Insn → ℤ → LineReading Insn
 with_distance (JumpIf condition width dst source offset) distance =
     fitting (fits_offset distance) (JumpIf condition width dst source distance)
 with_distance (Jump offset) distance = fitting (fits_offset distance) (Jump distance)
-with_distance (JumpLong old) distance = Ok (Some (JumpLong distance))
-with_distance (CallLocal old) distance = Ok (Some (CallLocal distance))
-with_distance insn distance = Ok (Some insn)
+with_distance (JumpLong old) distance = Ok (JumpLong distance)
+with_distance (CallLocal old) distance = Ok (CallLocal distance)
+with_distance insn distance = Ok insn
 
 -- The instruction in a slot whose target is a label: the distance is counted from the next slot.
-abbrev pub with_label : ℕ → Insn → Option ℕ → LineReading (Option Insn)
+abbrev pub with_label : ℕ → Insn → Option ℕ → LineReading Insn
 with_label slot insn None = Err UnknownLabel
 with_label slot insn (Some target) = with_distance insn (pos target -ℤ pos (slot + 1))
 
-abbrev pub with_target : Labels → ℕ → Insn → Option (List ℕ) → LineReading (Option Insn)
-with_target labels slot insn None = Ok (Some insn)
+abbrev pub with_target : Labels → ℕ → Insn → Option (List ℕ) → LineReading Insn
+with_target labels slot insn None = Ok insn
 with_target labels slot insn (Some name) = with_label slot insn (labels name)
 
--- The instruction of a statement in a slot, its label replaced by the distance, or the fault of the second round.
-abbrev pub placed : Labels → ℕ → LineReading (Option Statement) → LineReading (Option Insn)
-placed labels slot (Err fault) = Err fault
-placed labels slot (Ok None) = Ok None
-placed labels slot (Ok (Some statement)) = with_target labels slot statement.insn statement.target
+-- The second round over statements: their instructions, labels replaced by distances, or the first fault.
+abbrev pub insn_at : Labels → Placed → LineReading Insn
+insn_at labels placed = with_target labels placed.slot placed.statement.insn placed.statement.target
 
-abbrev pub resolved : Labels → ℕ → LineReading LineSaid → LineReading (Option Insn)
-resolved labels slot (Err fault) = Err fault
-resolved labels slot (Ok line) = placed labels slot line.statement
+abbrev pub insns_with : Insn → Result (List Insn) AsmFault → Result (List Insn) AsmFault
+insns_with insn (Ok insns) = Ok (insn ∷ insns)
+insns_with insn (Err fault) = Err fault
 
--- The second round over the lines from a slot and a line number on.
-abbrev pub second_round : Labels → ℕ → ℕ → List (List ℕ) → Result (Unit {0}) AsmFault
-second_round labels slot line_number [] = Ok tt
-second_round labels slot line_number (line ∷ rest) = line_or (slot_after slot (resolved labels slot (read_line line))) line_number
-    (λ next. second_round labels next (line_number + 1) rest)
+abbrev pub second_round : Labels → List Placed → Result (List Insn) AsmFault
+second_round labels [] = Ok []
+second_round labels (placed ∷ rest) = line_or (insn_at labels placed) placed.line (λ insn. insns_with insn (second_round labels rest))
 
--- Both rounds.
-abbrev pub after_first_round : Result Labels AsmFault → List (List ℕ) → Result (Unit {0}) AsmFault
-after_first_round (Ok labels) text = second_round labels 0 1 text
-after_first_round (Err fault) text = Err fault
+-- Both rounds over what is read of a listing's lines: its instructions, or its first fault.
+abbrev pub after_first_round : Result Outline AsmFault → Result (List Insn) AsmFault
+after_first_round (Ok outline) = second_round outline.0 outline.1
+after_first_round (Err fault) = Err fault
 
-abbrev pub rounds : List ℕ → Result (Unit {0}) AsmFault
-rounds text = after_first_round (first_round no_label 0 1 (lines text)) (lines text)
+abbrev pub rounds : List (LineReading LineSaid) → Result (List Insn) AsmFault
+rounds readings = after_first_round (first_round nothing 0 1 readings)
 
--- The bytes of an instruction in a slot, and those of what follows it.
-abbrev pub Spells : LineReading (Option Insn) → ℕ → List ℕ → (ℕ → List ℕ → Type 0) → Type 0
-Spells (Err fault) slot bytes Follows = ⊥
-Spells (Ok None) slot bytes Follows = Follows slot bytes
-Spells (Ok (Some insn)) slot bytes Follows = (word rest : List ℕ) × (bytes ≡ word ++ rest) × IsWord insn word × Follows (slot + slots_of insn) rest
-
--- The bytes of lines from a slot on.
-abbrev pub AreBytes : Labels → ℕ → List (List ℕ) → List ℕ → Type 0
-AreBytes labels slot [] bytes = bytes ≡ []
-AreBytes labels slot (line ∷ rest) bytes = Spells (resolved labels slot (read_line line)) slot bytes (λ next more. AreBytes labels next rest more)
-
--- Bytes that grew by those of an instruction, if there is one.
-abbrev pub AppendsWord : LineReading (Option Insn) → List ℕ → List ℕ → Type 0
-AppendsWord (Ok (Some insn)) old new = (word : List ℕ) × (new ≡ old ++ word) × IsWord insn word
-AppendsWord reading old new = new ≡ old
+-- The bytes of instructions, one behind the other.
+abbrev pub AreWords : List Insn → List ℕ → Type 0
+AreWords [] bytes = bytes ≡ []
+AreWords (insn ∷ rest) bytes = (word more : List ℕ) × (bytes ≡ word ++ more) × IsWord insn word × AreWords rest more
 
 -- A listing without a fault, and its bytes.
 pub record IsListing (text bytes : List ℕ) : Type 0 where
-  pub labels : Labels
-  pub found : first_round no_label 0 1 (lines text) ≡ Ok labels
-  pub clear : rounds text ≡ Ok tt
-  pub spelled : AreBytes labels 0 (lines text) bytes
+  pub readings : List (LineReading LineSaid)
+  pub read : AreReadings (lines text) readings
+  pub insns : List Insn
+  pub clear : rounds readings ≡ Ok insns
+  pub spelled : AreWords insns bytes
+
+-- Want of memory may be answered instead of a fault; else it is the listing's.
+abbrev pub IsFaultOf : List ℕ → AsmFault → Type 0
+IsFaultOf text Memory = ⊤
+IsFaultOf text (Line fault line_number) = (readings : List (LineReading LineSaid)) × AreReadings (lines text) readings
+    × (rounds readings ≡ Err (Line fault line_number))

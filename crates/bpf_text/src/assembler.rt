@@ -1,6 +1,6 @@
 //! The assembler.
 ghost use Rattle.std.specs.Prelude.{IfOk, IfErr};
-ghost use Rattle.bpf_text.specs.Listing.{IsListing, IsFaultOf, rounds};
+ghost use Rattle.bpf_text.specs.Listing.{IsListing, IsFaultOf};
 
 use crate::fault::AsmFault;
 use crate::first_round::first_round;
@@ -11,10 +11,10 @@ use std::alloc::Global;
 /// round, else that of the first line with a fault in the second. The program isn't checked.
 pub fn assemble(alloc: Global, text: &[u8]) -> Result<Vec<u8>, AsmFault>
     ensures ok { IfOk result (λ bytes. IsListing text.now bytes.items) }
-    ensures err { IfErr result (IsFaultOf (rounds text.now)) }
+    ensures err { IfErr result (IsFaultOf text.now) }
 {
     match first_round(alloc, text) {
-        Ok(labels) => second_round(alloc, text, &labels),
+        Ok(outline) => second_round(alloc, &outline),
         Err(fault) => Err(fault),
     }
 }

@@ -1,7 +1,6 @@
 //! Laws of listings.
-ghost use Rattle.std.specs.Prelude.{◌≡◌, Some};
 ghost use Rattle.bpf_text.specs.Canonical.{canon};
-ghost use Rattle.bpf_text.specs.Laws.{HaveOneMnemonic, HaveOneAssembly, HaveOperands, HaveOperandLists, HaveLines};
+ghost use Rattle.bpf_text.specs.Laws.{HaveOneMnemonic, HaveOneTerm, HaveOneTermList, HaveOneReading, HaveOneAssembly};
 ghost use Rattle.bpf_text.specs.Listing.{IsListing};
 
 use bpf_isa::Program;
@@ -13,13 +12,13 @@ pub fn canonical_listing(program: &Program)
     program.invariant();
 }
 
-/// Each mnemonic is the one that its name finds, and a listing has one assembly at most. What is
-/// read of an operand, of an instruction's operands and of a line is what the grammar says of it.
+/// No two mnemonics have one name, operands say one thing at most, a line has exactly one reading,
+/// and a listing has the bytes of one program or one fault.
 #[tactic(none)]
 pub fn one_reading()
     ensures value { HaveOneMnemonic }
+    ensures operands { HaveOneTerm }
+    ensures lists { HaveOneTermList }
+    ensures lines { HaveOneReading }
     ensures only { HaveOneAssembly }
-    ensures operands { HaveOperands }
-    ensures lists { HaveOperandLists }
-    ensures lines { HaveLines }
 {}
