@@ -8,9 +8,9 @@ use Rattle.bpf_text.specs.declared.fault.AsmFault.TheVariants.{Line, Memory}
 use Rattle.bpf_text.specs.declared.line.Line.{Line as LineSaid}
 use Rattle.bpf_io.specs.Lines.{lines}
 use Rattle.bpf_text.specs.Laws.{HasOneReading, HaveOneAssembly}
-use Rattle.bpf_text.specs.Lines.{read_line, MemoryOr}
+use Rattle.bpf_text.specs.Scaffolding.Lines.{read_line, MemoryOr}
 use Rattle.bpf_text.specs.Listing.{Outline, AreReadings, AreWords, IsListing, IsFaultOf, after_first_round, second_round, rounds}
-use Rattle.bpf_text.specs.Statements.{LineReading}
+use Rattle.bpf_text.specs.LineGrammar.{LineReading}
 use Rattle.bpf_text.proofs.LineGrammar.{line-reads, says-line}
 
 -- what is read of lines

@@ -13,7 +13,7 @@ use Rattle.bpf_isa.specs.declared.instruction.Insn.TheVariants as insn
 use Rattle.bpf_isa.specs.Programs.{target_of, slots_of}
 use Rattle.bpf_isa.specs.Words.{IsWord}
 use Rattle.bpf_text.specs.Operands.{text_of_insn, label_text}
-use Rattle.bpf_text.specs.Lines.{read_line}
+use Rattle.bpf_text.specs.Scaffolding.Lines.{read_line}
 use Rattle.bpf_text.specs.declared.first_round.Placed.{Placed}
 use Rattle.bpf_text.specs.Listing.{Labels, Outline, labels_with, line_end, first_round, second_round, insns_with, insn_at, with_target, with_distance, fits_offset, AreWords}
 use Rattle.bpf_text.proofs.InsnTexts.{InsnFits, TargetFits, unplaced, target_text, statement_from}
@@ -250,8 +250,7 @@ AreWords-canonical bytes p (None ∷ rest) cut spelled =
     let S : ℕ → Type 0 = λ s. AreWords (insns_in rest) (drop (8 * s) bytes) in
     subst S cut.0 (AreWords-canonical bytes (p + 1) rest cut.1 spelled.1)
 AreWords-canonical bytes p (Some i ∷ rest) cut spelled =
-    let S : ℕ → Type 0 = λ s. AreWords (insns_in rest) (drop (8 * s) bytes) in
-    (
+    let S : ℕ → Type 0 = λ s. AreWords (insns_in rest) (drop (8 * s) bytes) in (
       spelled.0.0,
       drop (8 * (p + slots_of i)) bytes,
       spelled.0.1,

@@ -3,7 +3,7 @@ use Rattle.std.proofs.Common.{ℕ, suc, ◌==◌, length-drop, ◌≡◌, ◌<�
 use Rattle.std.specs.List.{position_or_len}
 use Rattle.std.proofs.lemmas.List.{take_more}
 use Rattle.bpf_io.specs.Lines.{is_blank, lines, onto_line}
-use Rattle.bpf_text.specs.Cuts.{onto_trimmed, trim_end, before, after}
+use Rattle.bpf_text.specs.Scaffolding.Cuts.{onto_trimmed, trim_end, before, after}
 
 -- a blank at the end is trimmed
 pub trim_end-blank : (xs : List ℕ) (b : ℕ) → is_blank b ≡ true → trim_end (xs ++ b ∷ []) ≡ trim_end xs

@@ -20,12 +20,15 @@ use Rattle.bpf_text.specs.declared.term.Term.{Term}
 use Rattle.bpf_text.specs.declared.term.Term.TheVariants as term
 use Rattle.bpf_text.specs.declared.term.Terms.{Terms}
 use Rattle.bpf_text.specs.declared.statement.Statement.{Statement}
-use Rattle.bpf_text.specs.Cuts.{first_operand, other_operands}
+use Rattle.bpf_text.specs.Scaffolding.Cuts.{first_operand, other_operands}
 use Rattle.bpf_isa.specs.Mnemonics.{mnemonic_of}
 use Rattle.bpf_text.specs.Operands.{operand_text, operands_of, operand_of, register_text, label_text, target_operand, IsSlot}
 use Rattle.bpf_text.specs.Tokens.{number_of}
-use Rattle.bpf_text.specs.Terms.{term_of, terms_of, one, two, three, source_in, name_in, target_in}
-use Rattle.bpf_text.specs.Statements.{forms_of, insn_with, of_mnemonic}
+use Rattle.bpf_text.specs.Grammar.{one, two, three}
+use Rattle.bpf_text.specs.Instructions.{source_in, name_in, target_in}
+use Rattle.bpf_text.specs.Scaffolding.Terms.{term_of, terms_of}
+use Rattle.bpf_text.specs.Instructions.{forms_of, insn_with}
+use Rattle.bpf_text.specs.Scaffolding.Lines.{of_mnemonic}
 use Rattle.bpf_text.proofs.PlainTexts.{is_plain, are_plain, plain-comma, before_first-at, after_first-at, trim-plain, list_all-append, are_plain-decimal, Snug, Snug-plain, Snug-append, Snug-trim-blank}
 use Rattle.bpf_text.proofs.TokenTexts.{SourceFits, number_from, register-text, natural-decimal, signed-signed, signed-hexadecimal, register-signed, memory-text, name-label, unsigned-fits, immediate-fits, wide-fits, offset-fits}
 

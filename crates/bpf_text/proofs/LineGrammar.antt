@@ -1,5 +1,5 @@
 -- What is read of a line is what its grammar says.
-use Rattle.std.proofs.Common.{ℕ, suc, ◌≡◌, ◌<◌, ◌+◌, ◌==◌, Bool, true, false, ◌&&◌, not, ◌↔◌, List, [], ◌∷◌, ◌++◌, drop, length, length-append, refl, ap, sym, ◌∙◌, arith, Option, Some, None, Result, Ok, Err, nat_lt, subst, append_assoc}
+use Rattle.std.proofs.Common.{ℕ, suc, ◌≡◌, ◌<◌, ◌+◌, ◌==◌, Bool, true, false, ◌&&◌, not, List, [], ◌∷◌, ◌++◌, drop, length, length-append, refl, ap, sym, ◌∙◌, arith, Option, Some, None, Ok, Err, nat_lt, subst, append_assoc}
 use Rattle.std.specs.Prelude.{find}
 use Rattle.std.specs.List.{list_all, position_or_len, before_first, after_first}
 use Rattle.std.specs.Str.{bytes_eq}
@@ -13,22 +13,24 @@ use Rattle.bpf_text.specs.declared.statement.Statement.{Statement}
 use Rattle.bpf_text.specs.declared.table.TheConstants.{MNEMONICS}
 use Rattle.bpf_text.specs.declared.term.Terms.{Terms}
 use Rattle.bpf_io.specs.Lines.{is_blank, trim_start}
-use Rattle.bpf_text.specs.Cuts.{is_letter, is_name, is_name_byte, is_text, is_labelled, before, after, code_of, trim, trim_end, mnemonic_part}
-use Rattle.bpf_text.specs.Cuts as cuts
+use Rattle.bpf_text.specs.Characters.{is_name, is_text}
+use Rattle.bpf_text.specs.Scaffolding.Cuts.{is_labelled, before, after, code_of, trim, trim_end, mnemonic_part}
+use Rattle.bpf_text.specs.Scaffolding.Cuts as cuts
 use Rattle.bpf_text.specs.Grammar.{AreOperands}
-use Rattle.bpf_text.specs.LineGrammar.{IsComment, IsLabelled, IsLabel, IsApart, IsInstruction, IsStatement, Says, HasStranger, IsReading}
-use Rattle.bpf_text.specs.Lines.{read_line, line_of, line_with}
+use Rattle.bpf_text.specs.LineGrammar.{IsComment, IsLabelled, IsLabel, IsApart, IsInstruction, IsStatement, IsReading}
+use Rattle.bpf_text.specs.Scaffolding.Lines.{read_line, line_of}
 use Rattle.bpf_text.specs.declared.line.Line.{Line}
 use Rattle.bpf_text.specs.Mnemonics.{name_of}
-use Rattle.bpf_text.specs.Named.{named}
-use Rattle.bpf_text.specs.declared.fault.LineFault.{LineFault}
+use Rattle.bpf_text.specs.Scaffolding.Named.{named}
 use Rattle.bpf_text.specs.declared.fault.LineFault.TheVariants.{UnknownMnemonic, WrongOperands, OutOfRange, LabelTwice, UnknownLabel, NotText, TooManySlots}
-use Rattle.bpf_text.specs.Statements.{LineReading, forms_of, insn_with, read_statement, of_mnemonic, of_forms, in_ranges}
-use Rattle.bpf_text.specs.Terms.{terms_of, target_in}
-use Rattle.bpf_text.proofs.MnemonicNames.{named-name_of, plain-name_of}
+use Rattle.bpf_text.specs.Instructions.{forms_of, insn_with}
+use Rattle.bpf_text.specs.LineGrammar.{LineReading}
+use Rattle.bpf_text.specs.Scaffolding.Lines.{read_statement, of_mnemonic, of_forms, in_ranges}
+use Rattle.bpf_text.specs.Scaffolding.Terms.{terms_of}
+use Rattle.bpf_text.proofs.MnemonicNames.{named-name_of}
 use Rattle.bpf_text.proofs.OperandGrammar.{split-first, trim_start-blank, trim_start-other, trim_start-blanks, trim_start-says, trim_end-says, padded-trim}
 use Rattle.bpf_text.proofs.OperandLists.{name-plain, trim_end-blanks, trim-snug, operand-lists}
-use Rattle.bpf_text.proofs.PlainTexts.{is_plain, are_plain, and-both, and-join, list_all-append, no_blank, not-true, solid-blank, are_plain-solid, position_or_len-at, position_or_len-none, before_first-at, before_first-none, after_first-at, after_first-none, plain-colon, Snug, Snug-solid, Snug-plain, Snug-append}
+use Rattle.bpf_text.proofs.PlainTexts.{is_plain, and-both, and-join, list_all-append, no_blank, solid-blank, position_or_len-at, before_first-at, before_first-none, after_first-at, after_first-none, plain-colon, Snug, Snug-solid, Snug-plain, Snug-append}
 
 -- ---- cuts
 
@@ -255,13 +257,13 @@ word-from rest pad back b s text p q firm =
     record {
       operands = cut.rest ++ back;
       whole = record {
-            front = pad;
-            written = text ∙ ap (λ x. pad ++ (x ++ back)) cut.written ∙ ap (λ x. pad ++ x) (group (mnemonic_part (b ∷ s)) cut.rest);
-            blank = p;
-            some = solid-some (b ∷ s) cut b s refl firm;
-            solid = cut.none;
-            apart = apart-append cut.rest back cut.begins q;
-          };
+        front = pad;
+        written = text ∙ ap (λ x. pad ++ (x ++ back)) cut.written ∙ ap (λ x. pad ++ x) (group (mnemonic_part (b ∷ s)) cut.rest);
+        blank = p;
+        some = solid-some (b ∷ s) cut b s refl firm;
+        solid = cut.none;
+        apart = apart-append cut.rest back cut.begins q;
+      };
       same = behind-trim cut.rest back cut.begins q ∙ ap trim (sym cut.after);
     }
 
@@ -466,15 +468,15 @@ code-reads : (code : List ℕ) → HasParts code (line_of (trim_start code))
 code-reads code = go (is_labelled (trim_start code)) refl where
   go : (t : Bool) → is_labelled (trim_start code) ≡ t → HasParts code (line_of (trim_start code))
   go true h = rw h (record {
-        rest = after 58 (trim_start code);
-        labels = labelled-says code h;
-        states = statement-reads (after 58 (trim_start code));
-      })
+    rest = after 58 (trim_start code);
+    labels = labelled-says code h;
+    states = statement-reads (after 58 (trim_start code));
+  })
   go false h = rw h (record {
-        rest = code;
-        labels = (refl, λ name more known. let read = says-labelled code name more known in let yes = read.labelled in cc);
-        states = subst (λ s. IsStatement code (read_statement (trim_end s))) (sym (trim_start-again code)) (statement-reads code);
-      })
+    rest = code;
+    labels = (refl, λ name more known. let read = says-labelled code name more known in let yes = read.labelled in cc);
+    states = subst (λ s. IsStatement code (read_statement (trim_end s))) (sym (trim_start-again code)) (statement-reads code);
+  })
 
 pub line-reads : (line : List ℕ) → IsReading line (read_line line)
 line-reads line = go (list_all is_text (code_of line)) refl where

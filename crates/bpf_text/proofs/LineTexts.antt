@@ -10,14 +10,15 @@ use Rattle.bpf_text.specs.declared.operand.Operands.{Operands}
 use Rattle.bpf_text.specs.declared.operand.Operands.TheVariants.{Nothing, One, Two, Three}
 use Rattle.bpf_text.specs.declared.statement.Statement.{Statement}
 use Rattle.bpf_io.specs.Lines.{is_blank, trim_start}
-use Rattle.bpf_text.specs.Cuts.{is_text, is_name, before, after, trim, code_of, is_labelled, mnemonic_part}
-use Rattle.bpf_text.specs.Cuts as cuts
-use Rattle.bpf_text.specs.Lines.{read_line}
+use Rattle.bpf_text.specs.Characters.{is_text, is_name}
+use Rattle.bpf_text.specs.Scaffolding.Cuts.{before, after, trim, code_of, is_labelled, mnemonic_part}
+use Rattle.bpf_text.specs.Scaffolding.Cuts as cuts
+use Rattle.bpf_text.specs.Scaffolding.Lines.{read_line}
 use Rattle.bpf_isa.specs.Mnemonics.{mnemonic_of}
 use Rattle.bpf_text.specs.Mnemonics.{name_of}
-use Rattle.bpf_text.specs.Named.{named}
+use Rattle.bpf_text.specs.Scaffolding.Named.{named}
 use Rattle.bpf_text.specs.Operands.{operand_text, operands_text, operands_of, text_of_insn, label_text}
-use Rattle.bpf_text.specs.Statements.{read_statement, of_mnemonic}
+use Rattle.bpf_text.specs.Scaffolding.Lines.{read_statement, of_mnemonic}
 use Rattle.bpf_text.proofs.PlainTexts.{is_plain, are_plain, list_all-append, list_all-weaken, are_plain-decimal, plain-blank, position_or_len-at, position_or_len-none, before_first-at, before_first-none, plain-colon, and-join, after_first-at, after_first-none, Snug, Snug-plain, Snug-append, Snug-trim}
 use Rattle.bpf_text.proofs.MnemonicNames.{named-name_of, plain-name_of}
 use Rattle.bpf_text.proofs.TokenTexts.{name-label}

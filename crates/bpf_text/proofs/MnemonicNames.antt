@@ -22,7 +22,7 @@ use Rattle.bpf_isa.specs.declared.instruction.AtomicOp.TheVariants as atomic
 use Rattle.bpf_isa.specs.declared.mnemonic.Mnemonic.{Mnemonic}
 use Rattle.bpf_isa.specs.declared.mnemonic.Mnemonic.TheVariants.{Binary, Negate, SignExtend, SwapBytes, JumpIf, Jump, Load, LoadSigned, StoreImmediate, StoreRegister, Atomic}
 use Rattle.bpf_text.specs.Mnemonics.{name_of, binary_name, width_suffix, condition_name, atomic_name}
-use Rattle.bpf_text.specs.Named.{named}
+use Rattle.bpf_text.specs.Scaffolding.Named.{named}
 
 -- arithmetic
 named-binary : (width : Width) (op : BinaryOp) → named (name_of (Binary op width)) ≡ Some (Binary op width)

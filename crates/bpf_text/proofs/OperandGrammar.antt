@@ -17,11 +17,13 @@ use Rattle.bpf_text.specs.declared.term.OperandForm.TheVariants as form
 use Rattle.bpf_text.specs.declared.term.Term.{Term}
 use Rattle.bpf_text.specs.declared.term.Term.TheVariants as term
 use Rattle.bpf_io.specs.Lines.{is_blank, trim_start}
-use Rattle.bpf_text.specs.Cuts.{is_name, trim, trim_end, onto_trimmed, before}
+use Rattle.bpf_text.specs.Characters.{is_name}
+use Rattle.bpf_text.specs.Scaffolding.Cuts.{trim, trim_end, onto_trimmed, before}
 use Rattle.bpf_io.specs.Numerals.{IsNatural, natural}
 use Rattle.bpf_text.specs.Grammar.{IsRegister, IsSigned, Padded, IsDisplaced, IsInside, IsOperand}
-use Rattle.bpf_text.specs.Tokens.{register, signed, number_of, is_sign, is_bracketed}
-use Rattle.bpf_text.specs.Terms.{term_of, memory, base_and_displacement, displacement, register_or}
+use Rattle.bpf_text.specs.Scaffolding.Terms.{signed, is_sign, is_bracketed}
+use Rattle.bpf_text.specs.Tokens.{register, number_of}
+use Rattle.bpf_text.specs.Scaffolding.Terms.{term_of, memory, base_and_displacement, displacement, register_or}
 use Rattle.bpf_text.proofs.PlainTexts.{no_blank, not-true, and-both, and-join, list_all-append, list_all-weaken, before_first-at, before_first-none, position_or_len-none}
 use Rattle.bpf_text.proofs.TokenTexts.{digit-other, slice_index-other, list_all-AllDigits, is_decimal, are_decimal, is_open, no_sign, displacement-at, memory-at}
 use Rattle.bpf_text.proofs.TokenGrammar.{register-says, says-register, natural-says, says-natural, signed-says, says-signed, map-says}

@@ -1,5 +1,5 @@
 -- The rounds over a listing, line by line and statement by statement.
-use Rattle.std.proofs.Common.{ℕ, ◌≡◌, ◌<◌, ◌+◌, ◌++◌, append_assoc, List, [], ◌∷◌, length, Option, Ok, Err, Result, refl, ap, sym, ◌∙◌, arith, map, take, drop, get_or}
+use Rattle.std.proofs.Common.{ℕ, ◌≡◌, ◌<◌, ◌+◌, ◌++◌, append_assoc, List, [], ◌∷◌, length, Ok, Err, Result, refl, ap, sym, ◌∙◌, map, take, drop, get_or}
 use mathlib.Core.Path.{fun_ext}
 use Rattle.std.proofs.lemmas.List.{append-nil, take_more, take-append-drop}
 use Rattle.bpf_isa.specs.declared.instruction.Insn.{Insn}
@@ -10,9 +10,9 @@ use Rattle.bpf_text.specs.declared.fault.AsmFault.TheVariants.{Line}
 use Rattle.bpf_text.specs.declared.first_round.Placed.{Placed}
 use Rattle.bpf_text.specs.declared.line.Line.{Line as LineSaid}
 use Rattle.bpf_io.specs.Lines.{lines}
-use Rattle.bpf_text.specs.Cuts.{before, after}
-use Rattle.bpf_text.specs.Lines.{read_line}
-use Rattle.bpf_text.specs.Statements.{LineReading}
+use Rattle.bpf_text.specs.Scaffolding.Cuts.{before, after}
+use Rattle.bpf_text.specs.Scaffolding.Lines.{read_line}
+use Rattle.bpf_text.specs.LineGrammar.{LineReading}
 use Rattle.bpf_text.specs.Listing.{Labels, Outline, labels_with, label_of, placed_with, statement_of, line_end, first_round, second_round, insn_at, insns_with, AreWords}
 use Rattle.bpf_text.proofs.Cutting.{lines-cut}
 

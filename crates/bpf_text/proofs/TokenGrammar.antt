@@ -11,7 +11,8 @@ use Rattle.bpf_text.specs.declared.fault.LineFault.TheVariants.{WrongOperands}
 use Rattle.bpf_text.specs.declared.number.Number.{Number}
 use Rattle.bpf_io.specs.Numerals.{AreDigits, IsNatural, numeral, natural, has_prefix}
 use Rattle.bpf_text.specs.Grammar.{IsRegister, IsSigned}
-use Rattle.bpf_text.specs.Tokens.{register, is_negative, signed, number_of}
+use Rattle.bpf_text.specs.Scaffolding.Terms.{is_negative, signed}
+use Rattle.bpf_text.specs.Tokens.{register, number_of}
 use Rattle.bpf_text.proofs.PlainTexts.{and-both}
 use Rattle.bpf_text.proofs.TokenTexts.{register-text, numeral-digits, decimal-no-prefix, digit-other, list_all-AllDigits, slice_index-other}
 

@@ -16,10 +16,12 @@ use Rattle.bpf_isa.specs.declared.instruction.Source.TheVariants as source_is
 use Rattle.bpf_text.specs.declared.number.Number.{Number}
 use Rattle.bpf_text.specs.declared.term.Term.{Term}
 use Rattle.bpf_text.specs.declared.term.Term.TheVariants as term
-use Rattle.bpf_text.specs.Cuts.{is_name, is_name_byte, trim}
+use Rattle.bpf_text.specs.Characters.{is_name, is_name_byte}
+use Rattle.bpf_text.specs.Scaffolding.Cuts.{trim}
 use Rattle.bpf_io.specs.Numerals.{numeral, natural, has_prefix}
-use Rattle.bpf_text.specs.Tokens.{register, is_negative, signed, number_of, unsigned, immediate, wide, offset, is_sign}
-use Rattle.bpf_text.specs.Terms.{memory, base_and_displacement, displacement}
+use Rattle.bpf_text.specs.Scaffolding.Terms.{is_negative, signed, is_sign}
+use Rattle.bpf_text.specs.Tokens.{register, number_of, unsigned, immediate, wide, offset}
+use Rattle.bpf_text.specs.Scaffolding.Terms.{memory, base_and_displacement, displacement}
 use Rattle.bpf_io.specs.Writing.{hexadecimal}
 use Rattle.bpf_text.specs.Operands.{register_text, label_text, operand_text}
 use Rattle.bpf_text.proofs.PlainTexts.{and-both, are_plain, list_all-append, list_all-weaken, are_plain-decimal, position_or_len-at, before_first-at, trim-plain}

@@ -9,10 +9,9 @@ use Rattle.bpf_text.specs.declared.term.Term.TheVariants.{Register, Number as Nu
 use Rattle.bpf_text.specs.declared.term.Terms.{Terms}
 use Rattle.bpf_text.specs.declared.term.OperandForms.{OperandForms}
 use Rattle.bpf_text.specs.declared.term.OperandForms.TheVariants.{Nothing, One, Two, Three}
-use Rattle.bpf_text.specs.Terms.{one, two, three}
 use Rattle.bpf_io.specs.Lines.{is_blank}
 use Rattle.bpf_io.specs.Numerals.{IsNatural}
-use Rattle.bpf_text.specs.Cuts.{is_name}
+use Rattle.bpf_text.specs.Characters.{is_name}
 use Rattle.bpf_text.specs.Tokens.{number_of}
 
 -- A register: r and one of the numbers 0 to 10, without a zero in front.
@@ -48,6 +47,16 @@ IsOperand form.Source s (Num number) = IsSigned s number
 IsOperand form.Memory s (Memory base number) = (inside : List ℕ) × (s ≡ codes "[" ++ inside ++ codes "]") × IsInside inside base number
 IsOperand form.Name s (Name name) = (name ≡ s) × (is_name s ≡ true)
 IsOperand f s t = ⊥
+
+-- The operands of an instruction: at most three.
+abbrev pub one : Term → Terms
+one a = record { first = a; second = Absent; third = Absent }
+
+abbrev pub two : Term → Term → Terms
+two a b = record { first = a; second = b; third = Absent }
+
+abbrev pub three : Term → Term → Term → Terms
+three a b c = record { first = a; second = b; third = c }
 
 -- Operands in their forms, with blanks around each, and a comma after each but the last.
 abbrev pub AreOperands : OperandForms → List ℕ → Terms → Type 0

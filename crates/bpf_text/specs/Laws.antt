@@ -2,7 +2,6 @@
 use Rattle.std.specs.Prelude.{ℕ, ◌≡◌, List}
 use Rattle.bpf_isa.specs.declared.mnemonic.Mnemonic.{Mnemonic}
 use Rattle.bpf_text.specs.declared.fault.LineFault.{LineFault}
-use Rattle.bpf_text.specs.declared.fault.AsmFault.{AsmFault}
 use Rattle.bpf_text.specs.declared.fault.AsmFault.TheVariants.{Line as AtLine}
 use Rattle.bpf_text.specs.declared.line.Line.{Line}
 use Rattle.bpf_text.specs.declared.term.OperandForm.{OperandForm}
@@ -13,7 +12,7 @@ use Rattle.bpf_text.specs.Grammar.{IsOperand, AreOperands}
 use Rattle.bpf_text.specs.LineGrammar.{IsReading}
 use Rattle.bpf_text.specs.Listing.{IsListing, IsFaultOf}
 use Rattle.bpf_text.specs.Mnemonics.{name_of}
-use Rattle.bpf_text.specs.Statements.{LineReading}
+use Rattle.bpf_text.specs.LineGrammar.{LineReading}
 
 -- No two mnemonics have one name.
 abbrev pub HaveOneMnemonic : Type 0

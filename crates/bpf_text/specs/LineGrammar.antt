@@ -2,16 +2,21 @@
 use Rattle.std.specs.Prelude.{ℕ, ◌≡◌, ◌<◌, ◌==◌, not, true, false, List, [], ◌∷◌, ◌++◌, length, Option, Some, None, Result, Ok, Err}
 use Rattle.std.specs.List.{list_all}
 use Rattle.bpf_isa.specs.declared.mnemonic.Mnemonic.{Mnemonic}
+use Rattle.bpf_text.specs.declared.fault.LineFault.{LineFault}
 use Rattle.bpf_text.specs.declared.fault.LineFault.TheVariants.{UnknownMnemonic, WrongOperands, OutOfRange, NotText}
 use Rattle.bpf_text.specs.declared.line.Line.{Line}
 use Rattle.bpf_text.specs.declared.statement.Statement.{Statement}
 use Rattle.bpf_text.specs.declared.term.Terms.{Terms}
 use Rattle.bpf_io.specs.Lines.{is_blank}
-use Rattle.bpf_text.specs.Cuts.{is_name, is_text}
+use Rattle.bpf_text.specs.Characters.{is_name, is_text}
 use Rattle.bpf_text.specs.Grammar.{AreOperands}
 use Rattle.bpf_text.specs.Mnemonics.{name_of}
-use Rattle.bpf_text.specs.Statements.{LineReading, forms_of, insn_with}
-use Rattle.bpf_text.specs.Terms.{target_in}
+use Rattle.bpf_text.specs.Instructions.{forms_of, insn_with}
+use Rattle.bpf_text.specs.Instructions.{target_in}
+
+-- What reading a line, or a part of it, gives.
+abbrev pub LineReading : Type 0 → Type 0
+LineReading A = Result A LineFault
 
 -- A comment: nothing, or a semicolon (59) and whatever follows.
 abbrev pub IsComment : List ℕ → Type 0

@@ -13,7 +13,7 @@ use Rattle.bpf_text.specs.declared.line.Line.{Line as LineSaid}
 use Rattle.bpf_text.specs.declared.statement.Statement.{Statement}
 use Rattle.bpf_io.specs.Lines.{lines}
 use Rattle.bpf_text.specs.LineGrammar.{IsReading}
-use Rattle.bpf_text.specs.Statements.{LineReading}
+use Rattle.bpf_text.specs.LineGrammar.{LineReading}
 
 -- What is read of lines, one by one.
 abbrev pub AreReadings : List (List ℕ) → List (LineReading LineSaid) → Type 0

@@ -1,8 +1,6 @@
--- The registers and numbers of a listing. Their grammar is bpfdb's own choice.
-use Rattle.std.specs.Prelude.{ℕ, ℤ, pos, neg_ℤ, ◌+◌, ◌-◌, ◌%◌, ◌^◌, Bool, true, false, ◌==◌, ◌&&◌, ◌||◌, nat_lt, nat_le, if◌then◌else◌, List, [], ◌∷◌, drop, length, slice_index, Option, Some, None, option_map, Result, Ok, Err}
-use Rattle.std.specs.List.{position_or_len}
+-- The registers of a listing, and the ranges of its numbers. They are bpfdb's own choice.
+use Rattle.std.specs.Prelude.{ℕ, ℤ, pos, neg_ℤ, ◌-◌, ◌%◌, ◌^◌, Bool, true, false, ◌==◌, ◌&&◌, nat_lt, nat_le, if◌then◌else◌, List, [], ◌∷◌, Option, Some, None, Result, Ok, Err}
 use Rattle.std.specs.Int.{w32, cast_signed}
-use Rattle.bpf_io.specs.Numerals.{natural}
 use Rattle.bpf_text.specs.declared.fault.LineFault.{LineFault}
 use Rattle.bpf_text.specs.declared.fault.LineFault.TheVariants.{WrongOperands}
 use Rattle.bpf_text.specs.declared.number.Number.{Number}
@@ -16,22 +14,6 @@ register _ = Err WrongOperands
 -- A number behind a minus, or without one.
 abbrev pub number_of : Bool → ℕ → Number
 number_of negative n = record { negative = negative; magnitude = n }
-
--- Whether a text begins with a minus.
-abbrev pub is_negative : List ℕ → Bool
-is_negative s = slice_index s 0 == 45
-
--- A number, directly behind a minus or without one.
-abbrev pub signed : List ℕ → Option Number
-signed s = if is_negative s then option_map (number_of true) (natural (drop 1 s)) else option_map (number_of false) (natural s)
-
--- A sign in brackets.
-abbrev pub is_sign : ℕ → Bool
-is_sign b = b == 43 || b == 45
-
--- Whether a text begins with an opening bracket, and ends at the closing one.
-abbrev pub is_bracketed : List ℕ → Bool
-is_bracketed s = slice_index s 0 == 91 && position_or_len (λ b. b == 93) s + 1 == length s
 
 -- A value, if it is in its range.
 abbrev pub in_range : {A : Type 0} → Bool → A → Option A

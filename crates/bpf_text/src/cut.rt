@@ -1,7 +1,8 @@
 //! Cuts of lines into labels, mnemonics and operands.
 ghost use Rattle.std.specs.Prelude.{◌≡◌, ◌==◌, ◌≤◌, length, position};
 ghost use Rattle.std.specs.List.{position_or_len, list_all};
-ghost use Rattle.bpf_text.specs.Cuts.{is_text, before, after, trim_end, trim, is_name, is_name_byte, is_letter};
+ghost use Rattle.bpf_text.specs.Characters.{is_text, is_name, is_name_byte, is_letter};
+ghost use Rattle.bpf_text.specs.Scaffolding.Cuts.{before, after, trim_end, trim};
 
 use bpf_io::{is_blank, trim_start};
 

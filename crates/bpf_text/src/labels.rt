@@ -1,7 +1,7 @@
 //! Where labels stand.
 ghost use Rattle.std.specs.Prelude.{◌≡◌, ℕ, List, Some, None, OnOk};
 ghost use Rattle.bpf_text.specs.Listing.{labels_with, is_defined};
-ghost use Rattle.bpf_text.specs.LabelMap.{labels_in};
+ghost use Rattle.bpf_text.specs.Scaffolding.Labels.{labels_in};
 
 use crate::term::Name;
 use crate::text_key::TextKey;

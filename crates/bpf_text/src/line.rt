@@ -1,8 +1,9 @@
 //! The lines of a listing.
 ghost use Rattle.std.specs.Prelude.{◌≡◌, ◌≤◌, Ok, Err, nat_le, IfOk, ◌+◌, if◌then◌else◌};
 ghost use Rattle.std.specs.List.{list_all};
-ghost use Rattle.bpf_text.specs.Cuts.{is_text, is_labelled};
-ghost use Rattle.bpf_text.specs.Lines.{read_line, line_of};
+ghost use Rattle.bpf_text.specs.Characters.{is_text};
+ghost use Rattle.bpf_text.specs.Scaffolding.Cuts.{is_labelled};
+ghost use Rattle.bpf_text.specs.Scaffolding.Lines.{read_line, line_of};
 
 use crate::cut::{after, before, find, is_name, is_text, trim};
 use crate::fault::LineFault;

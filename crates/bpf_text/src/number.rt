@@ -1,6 +1,7 @@
 //! Numbers of a listing, which may have a minus.
 ghost use Rattle.std.specs.Prelude.{◌≡◌};
-ghost use Rattle.bpf_text.specs.Tokens.{is_negative, signed, unsigned, immediate, wide, offset};
+ghost use Rattle.bpf_text.specs.Scaffolding.Terms.{is_negative, signed};
+ghost use Rattle.bpf_text.specs.Tokens.{unsigned, immediate, wide, offset};
 
 use bpf_io::{Numeral, natural};
 

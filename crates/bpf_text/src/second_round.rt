@@ -1,9 +1,9 @@
 //! The second round over a listing: each label is replaced by its distance, and the bytes follow.
 ghost use Rattle.std.specs.Prelude.{◌≡◌, ◌+◌, ◌≤ℤ◌, ◌-ℤ◌, pos, List, IfOk, IfErr, Ok, Err, if◌then◌else◌};
 ghost use Rattle.bpf_isa.specs.declared.instruction.Insn.{Insn};
-ghost use Rattle.bpf_text.specs.Lines.{MemoryOr};
+ghost use Rattle.bpf_text.specs.Scaffolding.Lines.{MemoryOr};
 ghost use Rattle.bpf_text.specs.Listing.{insn_at, with_distance, with_label, second_round, AreWords, fits_offset};
-ghost use Rattle.bpf_text.specs.LabelMap.{labels_in, labels_of, placed_of};
+ghost use Rattle.bpf_text.specs.Scaffolding.Labels.{labels_in, labels_of, placed_of};
 
 use crate::fault::{AsmFault, LineFault};
 use crate::first_round::{Outline, Placed};

@@ -1,7 +1,8 @@
 //! The statement of a line: a mnemonic and its operands.
 ghost use Rattle.std.specs.Prelude.{◌≡◌};
-ghost use Rattle.bpf_text.specs.Cuts.{mnemonic_part, operands_part};
-ghost use Rattle.bpf_text.specs.Statements.{forms_of, insn_with, read_statement, of_mnemonic};
+ghost use Rattle.bpf_text.specs.Scaffolding.Cuts.{mnemonic_part, operands_part};
+ghost use Rattle.bpf_text.specs.Instructions.{forms_of, insn_with};
+ghost use Rattle.bpf_text.specs.Scaffolding.Lines.{read_statement, of_mnemonic};
 
 use crate::cut::trim;
 use crate::fault::LineFault;

@@ -1,6 +1,6 @@
 //! The mnemonics of listings.
 ghost use Rattle.std.specs.Prelude.{◌≡◌};
-ghost use Rattle.bpf_text.specs.Named.{named};
+ghost use Rattle.bpf_text.specs.Scaffolding.Named.{named};
 
 use crate::names::name_of;
 use bpf_isa::{
@@ -122,7 +122,7 @@ pub const MNEMONICS: [Mnemonic; 109] = [
 ];
 
 /// The mnemonic of this name, if there is one.
-#[tactic(auto, unfolding(crate::specs::Named::named))]
+#[tactic(auto, unfolding(crate::specs::Scaffolding::Named::named))]
 pub fn named(name: &[u8]) -> Option<Mnemonic>
     ensures { result ≡ named name.now }
 {

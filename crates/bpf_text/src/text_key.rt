@@ -1,6 +1,6 @@
 // A key for hashes that is made of a whole listing.
 ghost use Rattle.std.specs.Prelude.{◌≡◌};
-ghost use Rattle.bpf_text.specs.TextKey.{key_of};
+ghost use Rattle.bpf_text.specs.Scaffolding.TextKey.{key_of};
 
 use std::hash::{BuildHasher, DefaultHasher, Hasher};
 

@@ -5,7 +5,7 @@ use Rattle.bpf_isa.specs.Checker.{IsRefused}
 use Rattle.bpf_isa.specs.Maps.{IsListFault}
 use Rattle.bpf_isa.specs.Programs.{Checked}
 use Rattle.bpf_isa.specs.declared.maps.MapShape.{MapShape}
-use Rattle.bpf_text.specs.Listing.{IsFaultOf, rounds}
+use Rattle.bpf_text.specs.Listing.{IsFaultOf}
 use Rattle.bpf_machine.specs.Opening.{Refused}
 use Rattle.bpf_journal.specs.Opening.{IsSize}
 use Rattle.bpf_journal.specs.Histories.{Kept}
@@ -20,7 +20,7 @@ use Rattle.bpfdb.specs.declared.refusal.JobRefusal.TheVariants.{Maps, Listing, L
 abbrev pub Refuses : Job → JobRefusal → Type 0
 Refuses job (Maps fault) = (text : Bor (List ℕ)) × (job.maps ≡ Some text) × IsListFault text.now fault
 Refuses job (Listing fault) = (shapes : List MapShape) × HasMaps job.maps shapes × (job.is_listing ≡ true)
-    × IsFaultOf (rounds job.file.now) fault
+    × IsFaultOf job.file.now fault
 Refuses job (Load fault) = (shapes : List MapShape) × HasMaps job.maps shapes
     × (words : List ℕ) × HasWords job.is_listing job.file.now words × IsRefused words shapes fault
 Refuses job (Open fault) = (code : Checked) × IsProgramOf job code × Refused job.context.now fault

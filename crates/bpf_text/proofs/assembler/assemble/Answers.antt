@@ -1,8 +1,6 @@
 -- Both rounds.
-use Rattle.std.proofs.Common.{◌∙◌, ap, map}
+use Rattle.std.proofs.Common.{◌∙◌, ap}
 use Rattle.std.proofs.lemmas.Result.{IfOk-weaker, IfErr-weaker}
-use Rattle.bpf_io.specs.Lines.{lines}
-use Rattle.bpf_text.specs.Lines.{read_line}
 use Rattle.bpf_text.specs.Listing.{after_first_round}
 use Rattle.bpf_text.proofs.Assembling.{is-listing, is-fault, fault-after, fault-before}
 use Rattle.bpf_text.proofs.assembler.assemble.Goals as goal

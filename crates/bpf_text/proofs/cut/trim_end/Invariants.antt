@@ -1,5 +1,5 @@
 use Rattle.std.proofs.Common.{◌≡◌, ◌≤◌, take, length}
-use Rattle.bpf_text.specs.Cuts.{trim_end}
+use Rattle.bpf_text.specs.Scaffolding.Cuts.{trim_end}
 use Rattle.bpf_text.proofs.cut.trim_end.Given as goal
 
 abbrev pub invariant-loop-end : goal.invariant-loop-end

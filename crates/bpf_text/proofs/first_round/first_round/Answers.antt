@@ -3,7 +3,7 @@ use Rattle.std.proofs.Common.{◌<◌, ◌∙◌, length, ap, sym, arith}
 use Rattle.std.proofs.lemmas.Grind.{common_steps}
 use Rattle.bpf_text.proofs.Cutting.{length-after}
 use Rattle.bpf_text.proofs.Rounds.{first_round-Err, first_round-Ok}
-use Rattle.bpf_text.specs.LabelMap.{labels_of, placed_of}
+use Rattle.bpf_text.specs.Scaffolding.Labels.{labels_of, placed_of}
 use Rattle.bpf_text.proofs.first_round.first_round.Goals as goal
 
 pub returns-in-Err-clause-err : goal.returns-in-Err-clause-err

@@ -1,8 +1,8 @@
 use Rattle.std.proofs.Common.{◌≡◌, ◌≤◌, ◌+◌, length, map}
 use Rattle.bpf_io.specs.Lines.{lines}
-use Rattle.bpf_text.specs.Lines.{read_line}
+use Rattle.bpf_text.specs.Scaffolding.Lines.{read_line}
 use Rattle.bpf_text.specs.Listing.{first_round, nothing}
-use Rattle.bpf_text.specs.LabelMap.{labels_of, placed_of}
+use Rattle.bpf_text.specs.Scaffolding.Labels.{labels_of, placed_of}
 use Rattle.bpf_text.proofs.first_round.first_round.Given as goal
 
 abbrev pub invariant-loop-rest : goal.invariant-loop-rest

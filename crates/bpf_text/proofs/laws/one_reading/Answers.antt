@@ -1,7 +1,6 @@
 -- The laws of definitions.
 use Rattle.std.proofs.Common.{◌∙◌, ap, sym}
-use Rattle.bpf_text.specs.Named.{named}
-use Rattle.bpf_text.specs.Terms.{terms_of}
+use Rattle.bpf_text.specs.Scaffolding.Named.{named}
 use Rattle.bpf_text.proofs.Assembling.{one-reading, one-assembly}
 use Rattle.bpf_text.proofs.MnemonicNames.{named-name_of}
 use Rattle.bpf_text.proofs.OperandGrammar.{operands}

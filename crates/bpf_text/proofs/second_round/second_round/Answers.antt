@@ -1,6 +1,6 @@
 -- Each turn is a statement.
 use Rattle.std.proofs.Common.{◌≡◌, ◌++◌, ◌∙◌, refl, sym}
-use Rattle.bpf_text.specs.LabelMap.{labels_of, placed_of}
+use Rattle.bpf_text.specs.Scaffolding.Labels.{labels_of, placed_of}
 use Rattle.bpf_text.proofs.Rounds.{second_round-Err, second_round-Ok}
 use Rattle.bpf_text.proofs.second_round.second_round.Goals as goal
 

@@ -1,4 +1,4 @@
-use Rattle.bpf_text.specs.LabelMap.{labels_of, placed_of}
+use Rattle.bpf_text.specs.Scaffolding.Labels.{labels_of, placed_of}
 use Rattle.bpf_text.proofs.Rounds.{IsDone}
 use Rattle.bpf_text.proofs.second_round.second_round.Given as goal
 

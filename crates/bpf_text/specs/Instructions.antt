@@ -1,40 +1,77 @@
--- The instructions of a listing: the operands of each mnemonic. They are bpfdb's own choice.
-use Rattle.std.specs.Prelude.{ℕ, pos, List, [], ◌∷◌, Option, Some, None, Result, Ok, Err}
+-- The instructions of a listing: how the operands of each mnemonic are written, and what they make. They are bpfdb's own choice.
+use Rattle.std.specs.Prelude.{ℕ, ℤ, pos, List, Option, Some, None, option_map}
 use Rattle.bpf_isa.specs.declared.instruction.Insn.{Insn}
 use Rattle.bpf_isa.specs.declared.instruction.Insn.TheVariants as insn
-use Rattle.bpf_text.specs.declared.fault.LineFault.{LineFault}
-use Rattle.bpf_text.specs.declared.fault.LineFault.TheVariants.{UnknownMnemonic, WrongOperands, OutOfRange}
+use Rattle.bpf_isa.specs.declared.instruction.Source.{Source}
+use Rattle.bpf_isa.specs.declared.instruction.Source.TheVariants as source
 use Rattle.bpf_isa.specs.declared.mnemonic.Mnemonic.{Mnemonic}
 use Rattle.bpf_isa.specs.declared.mnemonic.Mnemonic.TheVariants.{Binary, Negate, SignExtend, SwapBytes, JumpIf, Jump, JumpLong, CallHelper, CallLocal, Exit, Load, LoadSigned, StoreImmediate, StoreRegister, Atomic, LoadNumber, LoadMap, LoadMapValue}
-use Rattle.bpf_text.specs.declared.term.OperandForm.TheVariants.{Register, Unsigned, Signed, Source, Memory, Name}
+use Rattle.bpf_text.specs.declared.term.OperandForm.TheVariants as form
 use Rattle.bpf_text.specs.declared.term.OperandForms.{OperandForms}
 use Rattle.bpf_text.specs.declared.term.OperandForms.TheVariants.{Nothing, One, Two, Three}
+use Rattle.bpf_text.specs.declared.term.Term.{Term}
+use Rattle.bpf_text.specs.declared.term.Term.TheVariants.{Register, Number as Num, Memory, Name}
 use Rattle.bpf_text.specs.declared.term.Terms.{Terms}
-use Rattle.bpf_text.specs.declared.statement.Statement.{Statement}
-use Rattle.bpf_text.specs.Cuts.{mnemonic_part, operands_part}
-use Rattle.bpf_text.specs.Named.{named}
-use Rattle.bpf_text.specs.Terms.{terms_of, register_in, unsigned_in, immediate_in, wide_in, source_in, memory_in, target_in}
+use Rattle.bpf_text.specs.Tokens.{unsigned, immediate, wide, offset}
 
 -- How the operands of each mnemonic are written.
 abbrev pub forms_of : Mnemonic → OperandForms
-forms_of (Binary op width) = Two Register Source
-forms_of (Negate width) = One Register
-forms_of (SignExtend extension) = Two Register Register
-forms_of (SwapBytes order width) = One Register
-forms_of (JumpIf condition width) = Three Register Source Name
-forms_of Jump = One Name
-forms_of JumpLong = One Name
-forms_of CallHelper = One Unsigned
-forms_of CallLocal = One Name
+forms_of (Binary op width) = Two form.Register form.Source
+forms_of (Negate width) = One form.Register
+forms_of (SignExtend extension) = Two form.Register form.Register
+forms_of (SwapBytes order width) = One form.Register
+forms_of (JumpIf condition width) = Three form.Register form.Source form.Name
+forms_of Jump = One form.Name
+forms_of JumpLong = One form.Name
+forms_of CallHelper = One form.Unsigned
+forms_of CallLocal = One form.Name
 forms_of Exit = Nothing
-forms_of (Load size) = Two Register Memory
-forms_of (LoadSigned size) = Two Register Memory
-forms_of (StoreImmediate size) = Two Memory Signed
-forms_of (StoreRegister size) = Two Memory Register
-forms_of (Atomic op width) = Two Memory Register
-forms_of LoadNumber = Two Register Signed
-forms_of LoadMap = Two Register Unsigned
-forms_of LoadMapValue = Three Register Unsigned Unsigned
+forms_of (Load size) = Two form.Register form.Memory
+forms_of (LoadSigned size) = Two form.Register form.Memory
+forms_of (StoreImmediate size) = Two form.Memory form.Signed
+forms_of (StoreRegister size) = Two form.Memory form.Register
+forms_of (Atomic op width) = Two form.Memory form.Register
+forms_of LoadNumber = Two form.Register form.Signed
+forms_of LoadMap = Two form.Register form.Unsigned
+forms_of LoadMapValue = Three form.Register form.Unsigned form.Unsigned
+
+-- What an operand is to an instruction, if it is of the kind, and its number in its range.
+abbrev pub register_in : Term → Option ℕ
+register_in (Register reg) = Some reg
+register_in _ = None
+
+abbrev pub unsigned_in : Term → Option ℕ
+unsigned_in (Num number) = unsigned number
+unsigned_in _ = None
+
+abbrev pub immediate_in : Term → Option ℤ
+immediate_in (Num number) = immediate number
+immediate_in _ = None
+
+abbrev pub wide_in : Term → Option ℕ
+wide_in (Num number) = wide number
+wide_in _ = None
+
+abbrev pub source_in : Term → Option Source
+source_in (Register reg) = Some (source.Register reg)
+source_in (Num number) = option_map source.Immediate (immediate number)
+source_in _ = None
+
+abbrev pub memory_in : Term → Option (ℕ × ℤ)
+memory_in (Memory base number) = option_map (λ o. (base, o)) (offset number)
+memory_in _ = None
+
+abbrev pub name_in : Term → Option (List ℕ)
+name_in (Name name) = Some name
+name_in _ = None
+
+-- The name of the target: the last operand.
+abbrev pub name_or : Option (List ℕ) → Term → Option (List ℕ)
+name_or (Some name) term = Some name
+name_or None term = name_in term
+
+abbrev pub target_in : Terms → Option (List ℕ)
+target_in terms = name_or (name_in terms.third) terms.first
 
 -- What is made of operands that are in their ranges.
 abbrev pub of_one : {A : Type 0} → Option A → (A → Insn) → Option Insn
@@ -76,25 +113,3 @@ insn_with LoadNumber t = of_two (register_in t.first) (wide_in t.second) insn.Lo
 insn_with LoadMap t = of_two (register_in t.first) (unsigned_in t.second) insn.LoadMap
 insn_with LoadMapValue t =
     of_three (register_in t.first) (unsigned_in t.second) (unsigned_in t.third) insn.LoadMapValue
-
--- What reading a line, or a part of it, gives.
-abbrev pub LineReading : Type 0 → Type 0
-LineReading A = Result A LineFault
-
--- The statement of a mnemonic and its operands, which are looked at for their forms first, and then for their ranges.
-abbrev pub in_ranges : Option Insn → Terms → LineReading (Option Statement)
-in_ranges None terms = Err OutOfRange
-in_ranges (Some insn) terms = Ok (Some (record { insn = insn; target = target_in terms }))
-
-abbrev pub of_forms : Mnemonic → Option Terms → LineReading (Option Statement)
-of_forms mnemonic None = Err WrongOperands
-of_forms mnemonic (Some terms) = in_ranges (insn_with mnemonic terms) terms
-
-abbrev pub of_mnemonic : Option Mnemonic → List ℕ → LineReading (Option Statement)
-of_mnemonic None operands = Err UnknownMnemonic
-of_mnemonic (Some mnemonic) operands = of_forms mnemonic (terms_of (forms_of mnemonic) operands)
-
--- What a line says behind its label: nothing, or an instruction.
-abbrev pub read_statement : List ℕ → LineReading (Option Statement)
-read_statement [] = Ok None
-read_statement (b ∷ s) = of_mnemonic (named (mnemonic_part (b ∷ s))) (operands_part (b ∷ s))

@@ -1,11 +1,8 @@
--- How a line of a listing is cut into its label, its mnemonic and its operands. The listing's grammar is bpfdb's own choice.
-use Rattle.std.specs.Prelude.{ℕ, Bool, false, ◌==◌, ◌&&◌, ◌||◌, nat_le, nat_lt, if◌then◌else◌, List, [], ◌∷◌, length}
-use Rattle.std.specs.List.{list_all, position_or_len, before_first, after_first}
+-- How a line is cut as it is read.
+use Rattle.std.specs.Prelude.{ℕ, Bool, ◌==◌, ◌&&◌, nat_lt, if◌then◌else◌, List, [], ◌∷◌, length}
+use Rattle.std.specs.List.{position_or_len, before_first, after_first}
 use Rattle.bpf_io.specs.Lines.{is_blank, trim_start}
-
--- What may stand outside comments: printing ASCII and blanks.
-abbrev pub is_text : ℕ → Bool
-is_text b = (nat_le 32 b && nat_le b 126) || is_blank b
+use Rattle.bpf_text.specs.Characters.{is_name}
 
 -- What stands before the first byte, or all.
 abbrev pub before : ℕ → List ℕ → List ℕ
@@ -31,19 +28,6 @@ trim s = trim_end (trim_start s)
 -- The code of a line: what stands before its comment.
 abbrev pub code_of : List ℕ → List ℕ
 code_of line = before 59 line
-
--- A letter or an underscore.
-abbrev pub is_letter : ℕ → Bool
-is_letter b = (nat_le 65 b && nat_le b 90) || (nat_le 97 b && nat_le b 122) || b == 95
-
--- A letter, an underscore or a digit.
-abbrev pub is_name_byte : ℕ → Bool
-is_name_byte b = is_letter b || (nat_le 48 b && nat_le b 57)
-
--- A name: a letter or an underscore, and then letters, digits and underscores.
-abbrev pub is_name : List ℕ → Bool
-is_name [] = false
-is_name (b ∷ s) = is_letter b && list_all is_name_byte s
 
 -- Whether a colon stands directly after a name.
 abbrev pub is_labelled : List ℕ → Bool
