@@ -65,7 +65,7 @@ bytes_of word = option_and_then byte_string (result_ok (decode_of word))
 -- `set reg`: a register and a number
 abbrev pub set_register : Arguments
 set_register (word ∷ value ∷ []) =
-    option_and_then (λ r. option_map (λ n. command.Edit (edit.Register r n)) (number value)) (result_ok (register word))
+    option_and_then (λ r. option_map (λ n. command.Edit (edit.Register r n)) (number value)) (register word)
 set_register _ = None
 
 -- `set mem`: an address and bytes

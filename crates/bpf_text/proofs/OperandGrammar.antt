@@ -178,12 +178,6 @@ pub map-some : {A B : Type 0} (f : A → B) (o : Option A) (b : B) → option_ma
 map-some f None b e = cc
 map-some f (Some a) b e = (a, refl, (let same : f a ≡ b = cc in same))
 
-ok-some : (s : List ℕ) (r : ℕ) → result_ok (register s) ≡ Some r → register s ≡ Ok r
-ok-some s r e = go (register s) refl e where
-  go : (o : Result ℕ LineFault) → register s ≡ o → result_ok o ≡ Some r → register s ≡ Ok r
-  go (Ok x) h e = h ∙ (let same : x ≡ r = cc in ap Ok same)
-  go (Err fault) h e = cc
-
 sign-of : (c : ℕ) → is_sign c ≡ true → ((c ≡ 43) × ((c == 45) ≡ false)) ⊎ ((c ≡ 45) × ((c == 45) ≡ true))
 sign-of c h = go (c == 43) refl where
   go : (t : Bool) → (c == 43) ≡ t → ((c ≡ 43) × ((c == 45) ≡ false)) ⊎ ((c ≡ 45) × ((c == 45) ≡ true))
@@ -192,15 +186,15 @@ sign-of c h = go (c == 43) refl where
 
 inside-says : (s : List ℕ) (base : ℕ) (number : Number) → base_and_displacement s ≡ Some (term.Memory base number)
     → IsInside s base number
-inside-says s base number e = go (result_ok (register (trim (before_first is_sign s)))) refl e where
-  go : (o : Option ℕ) → result_ok (register (trim (before_first is_sign s))) ≡ o
+inside-says s base number e = go (register (trim (before_first is_sign s))) refl e where
+  go : (o : Option ℕ) → register (trim (before_first is_sign s)) ≡ o
       → option_and_then (λ b. option_map (term.Memory b) (displacement s)) o ≡ Some (term.Memory base number) → IsInside s base number
   go None h e = cc
   go (Some b) h e =
       let part = map-some (term.Memory b) (displacement s) (term.Memory base number) e in
       let same : b ≡ base = (let q = part.2 in cc) in
       let numbers : part.0 ≡ number = (let q = part.2 in cc) in
-      let reg = register-says (trim (before_first is_sign s)) base (ok-some (trim (before_first is_sign s)) base (h ∙ ap Some same)) in
+      let reg = register-says (trim (before_first is_sign s)) base ((h ∙ ap Some same)) in
       whole (position_or_len is_sign s == length s) refl reg (part.1 ∙ ap Some numbers) where
         whole : (t : Bool) → (position_or_len is_sign s == length s) ≡ t → IsRegister (trim (before_first is_sign s)) base
             → displacement s ≡ Some number → IsInside s base number
@@ -307,7 +301,7 @@ bracketed-says (a ∷ s) h =
     ∙ ap (λ c. before 93 s ++ c ∷ []) (eqb-true cut.0 93 cut.2)))
 
 no-other : (s : List ℕ) (t : Term) → base_and_displacement s ≡ Some t → (base : ℕ) × (number : Number) × (t ≡ term.Memory base number)
-no-other s t e = go (result_ok (register (trim (before_first is_sign s)))) e where
+no-other s t e = go (register (trim (before_first is_sign s))) e where
   go : (o : Option ℕ) → option_and_then (λ b. option_map (term.Memory b) (displacement s)) o ≡ Some t
       → (base : ℕ) × (number : Number) × (t ≡ term.Memory base number)
   go None e = cc
@@ -332,17 +326,17 @@ memory-says s t e = go (is_bracketed s) refl e where
 -- operands
 pub operand-says : (f : OperandForm) (s : List ℕ) (t : Term) → term_of f s ≡ Some t → IsOperand f s t
 operand-says form.Register s t e =
-    let part = map-some term.Register (result_ok (register s)) t e in
-    subst (IsOperand form.Register s) part.2 (register-says s part.0 (ok-some s part.0 part.1))
+    let part = map-some term.Register (register s) t e in
+    subst (IsOperand form.Register s) part.2 (register-says s part.0 (part.1))
 operand-says form.Unsigned s t e =
     let part = map-some _ (natural s) t e in
     subst (IsOperand form.Unsigned s) part.2 (refl, natural-says s part.0 part.1)
 operand-says form.Signed s t e =
     let part = map-some term.Number (signed s) t e in
     subst (IsOperand form.Signed s) part.2 (signed-says s part.0 part.1)
-operand-says form.Source s t e = go (result_ok (register s)) refl e where
-  go : (o : Option ℕ) → result_ok (register s) ≡ o → register_or o s ≡ Some t → IsOperand form.Source s t
-  go (Some r) h e = let same : term.Register r ≡ t = cc in subst (IsOperand form.Source s) same (register-says s r (ok-some s r h))
+operand-says form.Source s t e = go (register s) refl e where
+  go : (o : Option ℕ) → register s ≡ o → register_or o s ≡ Some t → IsOperand form.Source s t
+  go (Some r) h e = let same : term.Register r ≡ t = cc in subst (IsOperand form.Source s) same (register-says s r (h))
   go None h e =
       let part = map-some term.Number (signed s) t e in
       subst (IsOperand form.Source s) part.2 (signed-says s part.0 part.1)
@@ -370,11 +364,11 @@ apart s number r (inr known) reg =
     let minus : slice_index s 0 ≡ 45 = ap (λ x. slice_index x 0) known.1 in
     absurd (omega (arith, r_first, minus))
 
-no-register : (s : List ℕ) (number : Number) → IsSigned s number → result_ok (register s) ≡ None
-no-register s number known = go (result_ok (register s)) refl where
-  go : (o : Option ℕ) → result_ok (register s) ≡ o → result_ok (register s) ≡ None
+no-register : (s : List ℕ) (number : Number) → IsSigned s number → register s ≡ None
+no-register s number known = go (register s) refl where
+  go : (o : Option ℕ) → register s ≡ o → register s ≡ None
   go None h = h
-  go (Some r) h = absurd (apart s number r known (register-says s r (ok-some s r h)))
+  go (Some r) h = absurd (apart s number r known (register-says s r (h)))
 
 pub says-operand : (f : OperandForm) (s : List ℕ) (t : Term) → IsOperand f s t → term_of f s ≡ Some t
 says-operand form.Register s (term.Register r) known = rw (says-register s r known) refl

@@ -32,11 +32,11 @@ one-digit a b h = (grind (arith, nat_tests), grind (arith, nat_tests), grind (ar
 ten : (a b c : ℕ) → is_ten a b c ≡ true → (a ≡ 114) × (b ≡ 49) × (c ≡ 48)
 ten a b c h = (grind (arith, nat_tests), grind (arith, nat_tests), grind (arith, nat_tests))
 
-pub register-says : (s : List ℕ) (r : ℕ) → register s ≡ Ok r → IsRegister s r
+pub register-says : (s : List ℕ) (r : ℕ) → register s ≡ Some r → IsRegister s r
 register-says [] r e = cc
 register-says (a ∷ []) r e = cc
 register-says (a ∷ b ∷ []) r e = go (is_one_digit a b) refl e where
-  go : (t : Bool) → is_one_digit a b ≡ t → (if t then Ok (b - 48) else Err WrongOperands) ≡ Ok r → IsRegister (a ∷ b ∷ []) r
+  go : (t : Bool) → is_one_digit a b ≡ t → (if t then Some (b - 48) else None) ≡ Some r → IsRegister (a ∷ b ∷ []) r
   go true h e =
       let parts = one-digit a b h in
       let value : b - 48 ≡ r = cc in
@@ -44,7 +44,7 @@ register-says (a ∷ b ∷ []) r e = go (is_one_digit a b) refl e where
       (omega (arith, parts.1, parts.2, value), rw (parts.0, decimal_digit r (omega (arith, parts.2, value)), back) refl)
   go false h e = cc
 register-says (a ∷ b ∷ c ∷ []) r e = go (is_ten a b c) refl e where
-  go : (t : Bool) → is_ten a b c ≡ t → (if t then Ok 10 else Err WrongOperands) ≡ Ok r → IsRegister (a ∷ b ∷ c ∷ []) r
+  go : (t : Bool) → is_ten a b c ≡ t → (if t then Some 10 else None) ≡ Some r → IsRegister (a ∷ b ∷ c ∷ []) r
   go true h e =
       let parts = ten a b c h in
       let value : r ≡ 10 = cc in
@@ -52,7 +52,7 @@ register-says (a ∷ b ∷ c ∷ []) r e = go (is_ten a b c) refl e where
   go false h e = cc
 register-says (a ∷ b ∷ c ∷ d ∷ s) r e = cc
 
-pub says-register : (s : List ℕ) (r : ℕ) → IsRegister s r → register s ≡ Ok r
+pub says-register : (s : List ℕ) (r : ℕ) → IsRegister s r → register s ≡ Some r
 says-register s r known = ap register known.1 ∙ register-text r known.0
 
 -- digits

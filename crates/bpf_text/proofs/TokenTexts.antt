@@ -1,5 +1,5 @@
 -- Canonical operands are read back.
-use Rattle.std.proofs.Common.{ℕ, ℤ, pos, negsuc, zero, suc, ◌≡◌, ◌<◌, ◌≤◌, ◌+◌, ◌-◌, ◌%◌, ◌^◌, ◌==◌, Bool, true, false, ◌&&◌, not, List, [], ◌∷◌, ◌++◌, length, refl, ap, ◌∙◌, arith, inl, inr, lit<, lit≤, nat_lt, nat_le, Some, option_map, Ok, Err, w32, w16, SFits, slice_index, length-append}
+use Rattle.std.proofs.Common.{ℕ, ℤ, pos, negsuc, zero, suc, ◌≡◌, ◌<◌, ◌≤◌, ◌+◌, ◌-◌, ◌%◌, ◌^◌, ◌==◌, Bool, true, false, ◌&&◌, not, List, [], ◌∷◌, ◌++◌, length, refl, ap, ◌∙◌, arith, inl, inr, lit<, lit≤, nat_lt, nat_le, Some, None, option_map, Ok, Err, w32, w16, SFits, slice_index, length-append}
 use Rattle.std.proofs.Math.Seq.{get_or-append_seam, drop-append-add, take-append_seam}
 use Rattle.std.proofs.lemmas.Bool.{eq-eqb, eqb-true}
 use Rattle.bpf_text.specs.declared.operand.Operand.TheVariants.{Memory}
@@ -53,20 +53,20 @@ slice_index-other test c (b ∷ s) zero none z p = none b (and-both (test b) (li
 slice_index-other test c (b ∷ s) (suc i) none z p = slice_index-other test c s i none z (and-both (test b) (list_all test s) p).1
 
 -- registers
-register-digit : (b : ℕ) → is_decimal b ≡ true → register (114 ∷ b ∷ []) ≡ Ok (b - 48)
+register-digit : (b : ℕ) → is_decimal b ≡ true → register (114 ∷ b ∷ []) ≡ Some (b - 48)
 register-digit b p = rw p refl
 
-register-ten : (s : List ℕ) → s ≡ 49 ∷ 48 ∷ [] → register (114 ∷ s) ≡ Ok 10
+register-ten : (s : List ℕ) → s ≡ 49 ∷ 48 ∷ [] → register (114 ∷ s) ≡ Some 10
 register-ten s e = rw e refl
 
-pub register-text : (r : ℕ) → r ≤ 10 → register (register_text r) ≡ Ok r
+pub register-text : (r : ℕ) → r ≤ 10 → register (register_text r) ≡ Some r
 register-text r h = elim (leb_tells 10 r) [
   | inl t ↦
       let ten : r ≡ 10 = omega (arith, t.1) in
       rw ten (register-ten (decimal 10) (decimal_step 10 (lit≤ tt) (lit< tt) ∙ ap (λ d. d ++ 48 ∷ []) (decimal_digit 1 (lit< tt))))
   | inr t ↦
       let back : 48 + r - 48 ≡ r = omega arith in
-      rw (decimal_digit r t.1) (register-digit (48 + r) (is_decimal-digit r t.1) ∙ ap Ok back)
+      rw (decimal_digit r t.1) (register-digit (48 + r) (is_decimal-digit r t.1) ∙ ap Some back)
 ]
 
 -- digits as a number
@@ -161,7 +161,7 @@ name-label p h =
     rw all refl
 
 -- what doesn't begin with r is no register
-register-other : (s : List ℕ) → (slice_index s 0 == 114) ≡ false → register s ≡ Err WrongOperands
+register-other : (s : List ℕ) → (slice_index s 0 == 114) ≡ false → register s ≡ None
 register-other [] e = refl
 register-other (a ∷ []) e = refl
 register-other (a ∷ b ∷ []) e = rw e refl
@@ -180,7 +180,7 @@ SourceFits (source_is.Immediate value) = SFits w32 value
 SourceFits (source_is.Register reg) = reg ≤ 10
 
 -- a number is no register
-pub register-signed : (z : ℤ) → SFits w32 z → register (signed_decimal z) ≡ Err WrongOperands
+pub register-signed : (z : ℤ) → SFits w32 z → register (signed_decimal z) ≡ None
 register-signed z fits = register-other (signed_decimal z) (signed-other z fits)
 
 -- a byte that closes no bracket, and one that is no sign
@@ -223,7 +223,7 @@ displacement-at reg sign number none e =
     ) refl
 
 base_and_displacement-at : (reg : List ℕ) (r sign : ℕ) (number : List ℕ) (n : ℕ) → list_all no_sign reg ≡ true
-    → is_sign sign ≡ true → are_plain reg ≡ true → are_plain number ≡ true → register reg ≡ Ok r → natural number ≡ Some n
+    → is_sign sign ≡ true → are_plain reg ≡ true → are_plain number ≡ true → register reg ≡ Some r → natural number ≡ Some n
     → base_and_displacement (reg ++ sign ∷ number) ≡ Some (term.Memory r (number_of (sign == 45) n))
 base_and_displacement-at reg r sign number n none e plain number_plain read known =
     let moved = displacement-at reg sign number none e ∙ ap (λ x. option_map (number_of (sign == 45)) (natural x)) (trim-plain number number_plain) in

@@ -5,11 +5,11 @@ use Rattle.bpf_text.specs.declared.fault.LineFault.{LineFault}
 use Rattle.bpf_text.specs.declared.fault.LineFault.TheVariants.{WrongOperands}
 use Rattle.bpf_text.specs.declared.number.Number.{Number}
 
--- A register: r0 to r10.
-abbrev pub register : List ℕ → Result ℕ LineFault
-register (a ∷ b ∷ []) = if a == 114 && nat_le 48 b && nat_le b 57 then Ok (b - 48) else Err WrongOperands
-register (a ∷ b ∷ c ∷ []) = if a == 114 && b == 49 && c == 48 then Ok 10 else Err WrongOperands
-register _ = Err WrongOperands
+-- A register, r0 to r10.
+abbrev pub register : List ℕ → Option ℕ
+register (a ∷ b ∷ []) = if a == 114 && nat_le 48 b && nat_le b 57 then Some (b - 48) else None
+register (a ∷ b ∷ c ∷ []) = if a == 114 && b == 49 && c == 48 then Some 10 else None
+register _ = None
 
 -- A number behind a minus, or without one.
 abbrev pub number_of : Bool → ℕ → Number

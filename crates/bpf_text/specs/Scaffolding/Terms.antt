@@ -41,7 +41,7 @@ displacement s = let sign = position_or_len is_sign s in
 -- What stands in brackets: a register and a displacement.
 abbrev pub base_and_displacement : List ℕ → Option Term
 base_and_displacement s =
-    option_and_then (λ base. option_map (Memory base) (displacement s)) (result_ok (register (trim (before_first is_sign s))))
+    option_and_then (λ base. option_map (Memory base) (displacement s)) (register (trim (before_first is_sign s)))
 
 -- Memory: a register and a displacement in brackets.
 abbrev pub memory : List ℕ → Option Term
@@ -54,10 +54,10 @@ register_or None s = option_map Num (signed s)
 
 -- An operand of a form.
 abbrev pub term_of : OperandForm → List ℕ → Option Term
-term_of form.Register s = option_map Register (result_ok (register s))
+term_of form.Register s = option_map Register (register s)
 term_of form.Unsigned s = option_map (λ n. Num (number_of false n)) (natural s)
 term_of form.Signed s = option_map Num (signed s)
-term_of form.Source s = register_or (result_ok (register s)) s
+term_of form.Source s = register_or (register s) s
 term_of form.Memory s = memory s
 term_of form.Name s = if is_name s then Some (Name s) else None
 
