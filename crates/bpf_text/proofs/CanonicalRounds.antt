@@ -14,7 +14,7 @@ use Rattle.bpf_isa.specs.Programs.{target_of, slots_of}
 use Rattle.bpf_isa.specs.Words.{IsWord}
 use Rattle.bpf_text.specs.Operands.{text_of_insn, label_text}
 use Rattle.bpf_text.specs.Scaffolding.Lines.{read_line}
-use Rattle.bpf_text.specs.declared.first_round.Placed.{Placed}
+use Rattle.bpf_text.specs.declared.read.first_round.Placed.{Placed}
 use Rattle.bpf_text.specs.Listing.{Labels, Outline, labels_with, line_end, first_round, second_round, insns_with, insn_at, with_target, with_distance, fits_offset, AreWords}
 use Rattle.bpf_text.proofs.InsnTexts.{InsnFits, TargetFits, unplaced, target_text, statement_from}
 use Rattle.bpf_text.proofs.LineTexts.{Reads-insn, Reads-label}

@@ -8,18 +8,18 @@ use Rattle.bpf_isa.specs.declared.instruction.Insn.TheVariants as insn
 use Rattle.bpf_isa.specs.declared.instruction.Source.{Source}
 use Rattle.bpf_isa.specs.declared.instruction.Source.TheVariants as source_is
 use Rattle.bpf_isa.specs.Programs.{target_of}
-use Rattle.bpf_text.specs.declared.operand.Operand.{Operand}
-use Rattle.bpf_text.specs.declared.operand.Operand.TheVariants.{Register, Signed, Unsigned, Hexadecimal, Memory, Target}
-use Rattle.bpf_text.specs.declared.operand.Operands.{Operands}
-use Rattle.bpf_text.specs.declared.operand.Operands.TheVariants.{Nothing, One, Two, Three}
-use Rattle.bpf_text.specs.declared.term.OperandForm.{OperandForm}
-use Rattle.bpf_text.specs.declared.term.OperandForm.TheVariants as form
-use Rattle.bpf_text.specs.declared.term.OperandForms.{OperandForms}
-use Rattle.bpf_text.specs.declared.term.OperandForms.TheVariants as forms
-use Rattle.bpf_text.specs.declared.term.Term.{Term}
-use Rattle.bpf_text.specs.declared.term.Term.TheVariants as term
-use Rattle.bpf_text.specs.declared.term.Terms.{Terms}
-use Rattle.bpf_text.specs.declared.statement.Statement.{Statement}
+use Rattle.bpf_text.specs.declared.write.operand.Operand.{Operand}
+use Rattle.bpf_text.specs.declared.write.operand.Operand.TheVariants.{Register, Signed, Unsigned, Hexadecimal, Memory, Target}
+use Rattle.bpf_text.specs.declared.write.operand.Operands.{Operands}
+use Rattle.bpf_text.specs.declared.write.operand.Operands.TheVariants.{Nothing, One, Two, Three}
+use Rattle.bpf_text.specs.declared.read.term.OperandForm.{OperandForm}
+use Rattle.bpf_text.specs.declared.read.term.OperandForm.TheVariants as form
+use Rattle.bpf_text.specs.declared.read.term.OperandForms.{OperandForms}
+use Rattle.bpf_text.specs.declared.read.term.OperandForms.TheVariants as forms
+use Rattle.bpf_text.specs.declared.read.term.Term.{Term}
+use Rattle.bpf_text.specs.declared.read.term.Term.TheVariants as term
+use Rattle.bpf_text.specs.declared.read.term.Terms.{Terms}
+use Rattle.bpf_text.specs.declared.read.statement.Statement.{Statement}
 use Rattle.bpf_text.specs.Scaffolding.Cuts.{first_operand, other_operands}
 use Rattle.bpf_isa.specs.Mnemonics.{mnemonic_of}
 use Rattle.bpf_text.specs.Operands.{operand_text, operands_of, operand_of, register_text, label_text, target_operand, IsSlot}

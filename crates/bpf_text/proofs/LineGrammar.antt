@@ -9,9 +9,9 @@ use Rattle.std.proofs.lemmas.Bool.Decides.{nat_tests}
 use Rattle.std.proofs.lemmas.List.{append-nil}
 use Rattle.bpf_isa.specs.declared.instruction.Insn.{Insn}
 use Rattle.bpf_isa.specs.declared.mnemonic.Mnemonic.{Mnemonic}
-use Rattle.bpf_text.specs.declared.statement.Statement.{Statement}
-use Rattle.bpf_text.specs.declared.table.TheConstants.{MNEMONICS}
-use Rattle.bpf_text.specs.declared.term.Terms.{Terms}
+use Rattle.bpf_text.specs.declared.read.statement.Statement.{Statement}
+use Rattle.bpf_text.specs.declared.read.table.TheConstants.{MNEMONICS}
+use Rattle.bpf_text.specs.declared.read.term.Terms.{Terms}
 use Rattle.bpf_io.specs.Lines.{is_blank, trim_start}
 use Rattle.bpf_text.specs.Characters.{is_name, is_text}
 use Rattle.bpf_text.specs.Scaffolding.Cuts.{is_labelled, before, after, code_of, trim, trim_end, mnemonic_part}
@@ -19,7 +19,7 @@ use Rattle.bpf_text.specs.Scaffolding.Cuts as cuts
 use Rattle.bpf_text.specs.Grammar.{AreOperands}
 use Rattle.bpf_text.specs.LineGrammar.{IsComment, IsLabelled, IsLabel, IsApart, IsInstruction, IsStatement, IsReading}
 use Rattle.bpf_text.specs.Scaffolding.Lines.{read_line, line_of}
-use Rattle.bpf_text.specs.declared.line.Line.{Line}
+use Rattle.bpf_text.specs.declared.read.line.Line.{Line}
 use Rattle.bpf_text.specs.Mnemonics.{name_of}
 use Rattle.bpf_text.specs.Scaffolding.Named.{named}
 use Rattle.bpf_text.specs.declared.fault.LineFault.TheVariants.{UnknownMnemonic, WrongOperands, OutOfRange, LabelTwice, UnknownLabel, NotText, TooManySlots}

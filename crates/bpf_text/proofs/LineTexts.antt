@@ -5,10 +5,10 @@ use Rattle.std.proofs.lemmas.Bool.Decides.{nat_tests}
 use Rattle.std.proofs.lemmas.List.{append-nil}
 use Rattle.bpf_isa.specs.declared.instruction.Insn.{Insn}
 use Rattle.bpf_isa.specs.Programs.{target_of}
-use Rattle.bpf_text.specs.declared.operand.Operand.{Operand}
-use Rattle.bpf_text.specs.declared.operand.Operands.{Operands}
-use Rattle.bpf_text.specs.declared.operand.Operands.TheVariants.{Nothing, One, Two, Three}
-use Rattle.bpf_text.specs.declared.statement.Statement.{Statement}
+use Rattle.bpf_text.specs.declared.write.operand.Operand.{Operand}
+use Rattle.bpf_text.specs.declared.write.operand.Operands.{Operands}
+use Rattle.bpf_text.specs.declared.write.operand.Operands.TheVariants.{Nothing, One, Two, Three}
+use Rattle.bpf_text.specs.declared.read.statement.Statement.{Statement}
 use Rattle.bpf_io.specs.Lines.{is_blank, trim_start}
 use Rattle.bpf_text.specs.Characters.{is_text, is_name}
 use Rattle.bpf_text.specs.Scaffolding.Cuts.{before, after, trim, code_of, is_labelled, mnemonic_part}

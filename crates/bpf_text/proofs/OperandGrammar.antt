@@ -1,21 +1,19 @@
 -- What is read of an operand is what its grammar says.
-use Rattle.std.proofs.Common.{ℕ, suc, ◌≡◌, ◌<◌, ◌≤◌, ◌+◌, ◌==◌, Bool, true, false, not, ◌↔◌, List, [], ◌∷◌, ◌++◌, take, drop, length, refl, ap, sym, ◌∙◌, arith, inl, inr, nat_lt, ◌⊎◌, Option, Some, None, option_map, option_and_then, Ok, Err, Result, slice_index, subst, if◌then◌else◌}
+use Rattle.std.proofs.Common.{ℕ, suc, ◌≡◌, ◌<◌, ◌≤◌, ◌+◌, ◌==◌, Bool, true, false, not, ◌↔◌, List, [], ◌∷◌, ◌++◌, take, drop, length, refl, ap, sym, ◌∙◌, arith, inl, inr, nat_lt, ◌⊎◌, Option, Some, None, option_map, option_and_then, slice_index, subst, if◌then◌else◌}
 use Rattle.std.specs.List.{list_all, position_or_len, before_first, after_first}
 use Rattle.std.proofs.Math.ListN.{drop_of_length-le}
 use Rattle.std.proofs.Math.Seq.{take-length}
 use Rattle.std.specs.Fmt.{decimal}
-use Rattle.std.specs.Result.{result_ok}
 use Rattle.std.specs.Str.Parse.{AllDigits}
 use Rattle.std.specs.Char.{digit_value}
 use Rattle.std.proofs.lemmas.Bool.{eq-eqb, eqb-true}
 use Rattle.std.proofs.lemmas.Bool.Decides.{nat_tests}
 use Rattle.std.proofs.lemmas.List.Sums.{prefix_len-le-length}
-use Rattle.bpf_text.specs.declared.fault.LineFault.{LineFault}
-use Rattle.bpf_text.specs.declared.number.Number.{Number}
-use Rattle.bpf_text.specs.declared.term.OperandForm.{OperandForm}
-use Rattle.bpf_text.specs.declared.term.OperandForm.TheVariants as form
-use Rattle.bpf_text.specs.declared.term.Term.{Term}
-use Rattle.bpf_text.specs.declared.term.Term.TheVariants as term
+use Rattle.bpf_text.specs.declared.read.number.Number.{Number}
+use Rattle.bpf_text.specs.declared.read.term.OperandForm.{OperandForm}
+use Rattle.bpf_text.specs.declared.read.term.OperandForm.TheVariants as form
+use Rattle.bpf_text.specs.declared.read.term.Term.{Term}
+use Rattle.bpf_text.specs.declared.read.term.Term.TheVariants as term
 use Rattle.bpf_io.specs.Lines.{is_blank, trim_start}
 use Rattle.bpf_text.specs.Characters.{is_name}
 use Rattle.bpf_text.specs.Scaffolding.Cuts.{trim, trim_end, onto_trimmed, before}

@@ -2,14 +2,14 @@
 use Rattle.std.proofs.Common.{ℕ, ◌≡◌, ◌<◌, ◌+◌, ◌==◌, Bool, true, false, not, ◌↔◌, List, [], ◌∷◌, ◌++◌, length, length-append, refl, ap, sym, ◌∙◌, arith, Option, Some, None, option_map, option_and_then, subst, append_assoc, inl, inr}
 use Rattle.std.proofs.lemmas.List.{append-nil}
 use Rattle.std.proofs.lemmas.Bool.Decides.{nat_tests}
-use Rattle.bpf_text.specs.declared.number.Number.{Number}
-use Rattle.bpf_text.specs.declared.term.OperandForm.{OperandForm}
-use Rattle.bpf_text.specs.declared.term.OperandForm.TheVariants as form
-use Rattle.bpf_text.specs.declared.term.OperandForms.{OperandForms}
-use Rattle.bpf_text.specs.declared.term.OperandForms.TheVariants as forms
-use Rattle.bpf_text.specs.declared.term.Term.{Term}
-use Rattle.bpf_text.specs.declared.term.Term.TheVariants as term
-use Rattle.bpf_text.specs.declared.term.Terms.{Terms}
+use Rattle.bpf_text.specs.declared.read.number.Number.{Number}
+use Rattle.bpf_text.specs.declared.read.term.OperandForm.{OperandForm}
+use Rattle.bpf_text.specs.declared.read.term.OperandForm.TheVariants as form
+use Rattle.bpf_text.specs.declared.read.term.OperandForms.{OperandForms}
+use Rattle.bpf_text.specs.declared.read.term.OperandForms.TheVariants as forms
+use Rattle.bpf_text.specs.declared.read.term.Term.{Term}
+use Rattle.bpf_text.specs.declared.read.term.Term.TheVariants as term
+use Rattle.bpf_text.specs.declared.read.term.Terms.{Terms}
 use Rattle.bpf_io.specs.Lines.{is_blank}
 use Rattle.bpf_text.specs.Characters.{is_letter, is_name, is_name_byte}
 use Rattle.bpf_text.specs.Scaffolding.Cuts.{trim, trim_end, first_operand, other_operands, before, after}

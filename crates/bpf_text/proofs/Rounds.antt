@@ -7,8 +7,8 @@ use Rattle.bpf_isa.specs.Words.{IsWord}
 use Rattle.bpf_text.specs.declared.fault.LineFault.{LineFault}
 use Rattle.bpf_text.specs.declared.fault.AsmFault.{AsmFault}
 use Rattle.bpf_text.specs.declared.fault.AsmFault.TheVariants.{Line}
-use Rattle.bpf_text.specs.declared.first_round.Placed.{Placed}
-use Rattle.bpf_text.specs.declared.line.Line.{Line as LineSaid}
+use Rattle.bpf_text.specs.declared.read.first_round.Placed.{Placed}
+use Rattle.bpf_text.specs.declared.read.line.Line.{Line as LineSaid}
 use Rattle.bpf_io.specs.Lines.{lines}
 use Rattle.bpf_text.specs.Scaffolding.Cuts.{before, after}
 use Rattle.bpf_text.specs.Scaffolding.Lines.{read_line}

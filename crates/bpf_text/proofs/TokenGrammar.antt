@@ -1,5 +1,5 @@
 -- What is read of registers and numbers is what their grammar says.
-use Rattle.std.proofs.Common.{ℕ, ◌≡◌, ◌<◌, ◌≤◌, ◌+◌, ◌-◌, ◌==◌, Bool, true, false, ◌&&◌, List, [], ◌∷◌, ◌++◌, refl, ap, sym, ◌∙◌, arith, inl, inr, lit<, lit≤, nat_lt, nat_le, Option, Some, None, option_map, Ok, Err, drop, if◌then◌else◌}
+use Rattle.std.proofs.Common.{ℕ, ◌≡◌, ◌<◌, ◌≤◌, ◌+◌, ◌-◌, ◌==◌, Bool, true, false, ◌&&◌, List, [], ◌∷◌, ◌++◌, refl, ap, sym, ◌∙◌, arith, inl, inr, lit<, lit≤, nat_lt, nat_le, Option, Some, None, option_map, drop, if◌then◌else◌}
 use Rattle.std.specs.List.{list_all}
 use Rattle.std.specs.Fmt.{decimal}
 use Rattle.std.specs.Str.Parse.{AllDigits, digits_value}
@@ -7,8 +7,7 @@ use Rattle.std.specs.Char.{digit_value}
 use Rattle.std.proofs.lemmas.Bool.{eqb-true}
 use Rattle.std.proofs.lemmas.Bool.Decides.{nat_tests}
 use Rattle.std.proofs.lemmas.Fmt.{decimal_digit, decimal_step}
-use Rattle.bpf_text.specs.declared.fault.LineFault.TheVariants.{WrongOperands}
-use Rattle.bpf_text.specs.declared.number.Number.{Number}
+use Rattle.bpf_text.specs.declared.read.number.Number.{Number}
 use Rattle.bpf_io.specs.Numerals.{AreDigits, IsNatural, numeral, natural, has_prefix}
 use Rattle.bpf_text.specs.Grammar.{IsRegister, IsSigned}
 use Rattle.bpf_text.specs.Scaffolding.Terms.{is_negative, signed}

@@ -1,14 +1,14 @@
 -- How the operands of a listing are written, in words of their pieces. It is bpfdb's own choice.
 use Rattle.std.specs.Prelude.{ℕ, ◌≡◌, ◌≤◌, ◌⊎◌, Bool, true, false, List, ◌∷◌, ◌++◌, codes, decimal}
 use Rattle.std.specs.List.{list_all}
-use Rattle.bpf_text.specs.declared.number.Number.{Number}
-use Rattle.bpf_text.specs.declared.term.OperandForm.{OperandForm}
-use Rattle.bpf_text.specs.declared.term.OperandForm.TheVariants as form
-use Rattle.bpf_text.specs.declared.term.Term.{Term}
-use Rattle.bpf_text.specs.declared.term.Term.TheVariants.{Register, Number as Num, Memory, Name, Absent}
-use Rattle.bpf_text.specs.declared.term.Terms.{Terms}
-use Rattle.bpf_text.specs.declared.term.OperandForms.{OperandForms}
-use Rattle.bpf_text.specs.declared.term.OperandForms.TheVariants.{Nothing, One, Two, Three}
+use Rattle.bpf_text.specs.declared.read.number.Number.{Number}
+use Rattle.bpf_text.specs.declared.read.term.OperandForm.{OperandForm}
+use Rattle.bpf_text.specs.declared.read.term.OperandForm.TheVariants as form
+use Rattle.bpf_text.specs.declared.read.term.Term.{Term}
+use Rattle.bpf_text.specs.declared.read.term.Term.TheVariants.{Register, Number as Num, Memory, Name, Absent}
+use Rattle.bpf_text.specs.declared.read.term.Terms.{Terms}
+use Rattle.bpf_text.specs.declared.read.term.OperandForms.{OperandForms}
+use Rattle.bpf_text.specs.declared.read.term.OperandForms.TheVariants.{Nothing, One, Two, Three}
 use Rattle.bpf_io.specs.Lines.{is_blank}
 use Rattle.bpf_io.specs.Numerals.{IsNatural}
 use Rattle.bpf_text.specs.Characters.{is_name}

@@ -6,12 +6,12 @@ use Rattle.bpf_isa.specs.declared.instruction.Source.{Source}
 use Rattle.bpf_isa.specs.declared.instruction.Source.TheVariants as source
 use Rattle.bpf_isa.specs.declared.mnemonic.Mnemonic.{Mnemonic}
 use Rattle.bpf_isa.specs.declared.mnemonic.Mnemonic.TheVariants.{Binary, Negate, SignExtend, SwapBytes, JumpIf, Jump, JumpLong, CallHelper, CallLocal, Exit, Load, LoadSigned, StoreImmediate, StoreRegister, Atomic, LoadNumber, LoadMap, LoadMapValue}
-use Rattle.bpf_text.specs.declared.term.OperandForm.TheVariants as form
-use Rattle.bpf_text.specs.declared.term.OperandForms.{OperandForms}
-use Rattle.bpf_text.specs.declared.term.OperandForms.TheVariants.{Nothing, One, Two, Three}
-use Rattle.bpf_text.specs.declared.term.Term.{Term}
-use Rattle.bpf_text.specs.declared.term.Term.TheVariants.{Register, Number as Num, Memory, Name}
-use Rattle.bpf_text.specs.declared.term.Terms.{Terms}
+use Rattle.bpf_text.specs.declared.read.term.OperandForm.TheVariants as form
+use Rattle.bpf_text.specs.declared.read.term.OperandForms.{OperandForms}
+use Rattle.bpf_text.specs.declared.read.term.OperandForms.TheVariants.{Nothing, One, Two, Three}
+use Rattle.bpf_text.specs.declared.read.term.Term.{Term}
+use Rattle.bpf_text.specs.declared.read.term.Term.TheVariants.{Register, Number as Num, Memory, Name}
+use Rattle.bpf_text.specs.declared.read.term.Terms.{Terms}
 use Rattle.bpf_text.specs.Tokens.{unsigned, immediate, wide, offset}
 
 -- How the operands of each mnemonic are written.

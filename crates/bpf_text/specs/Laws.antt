@@ -3,11 +3,11 @@ use Rattle.std.specs.Prelude.{ℕ, ◌≡◌, List}
 use Rattle.bpf_isa.specs.declared.mnemonic.Mnemonic.{Mnemonic}
 use Rattle.bpf_text.specs.declared.fault.LineFault.{LineFault}
 use Rattle.bpf_text.specs.declared.fault.AsmFault.TheVariants.{Line as AtLine}
-use Rattle.bpf_text.specs.declared.line.Line.{Line}
-use Rattle.bpf_text.specs.declared.term.OperandForm.{OperandForm}
-use Rattle.bpf_text.specs.declared.term.OperandForms.{OperandForms}
-use Rattle.bpf_text.specs.declared.term.Term.{Term}
-use Rattle.bpf_text.specs.declared.term.Terms.{Terms}
+use Rattle.bpf_text.specs.declared.read.line.Line.{Line}
+use Rattle.bpf_text.specs.declared.read.term.OperandForm.{OperandForm}
+use Rattle.bpf_text.specs.declared.read.term.OperandForms.{OperandForms}
+use Rattle.bpf_text.specs.declared.read.term.Term.{Term}
+use Rattle.bpf_text.specs.declared.read.term.Terms.{Terms}
 use Rattle.bpf_text.specs.Grammar.{IsOperand, AreOperands}
 use Rattle.bpf_text.specs.LineGrammar.{IsReading}
 use Rattle.bpf_text.specs.Listing.{IsListing, IsFaultOf}

@@ -4,9 +4,9 @@ use Rattle.std.specs.List.{list_all}
 use Rattle.bpf_isa.specs.declared.mnemonic.Mnemonic.{Mnemonic}
 use Rattle.bpf_text.specs.declared.fault.LineFault.{LineFault}
 use Rattle.bpf_text.specs.declared.fault.LineFault.TheVariants.{UnknownMnemonic, WrongOperands, OutOfRange, NotText}
-use Rattle.bpf_text.specs.declared.line.Line.{Line}
-use Rattle.bpf_text.specs.declared.statement.Statement.{Statement}
-use Rattle.bpf_text.specs.declared.term.Terms.{Terms}
+use Rattle.bpf_text.specs.declared.read.line.Line.{Line}
+use Rattle.bpf_text.specs.declared.read.statement.Statement.{Statement}
+use Rattle.bpf_text.specs.declared.read.term.Terms.{Terms}
 use Rattle.bpf_io.specs.Lines.{is_blank}
 use Rattle.bpf_text.specs.Characters.{is_name, is_text}
 use Rattle.bpf_text.specs.Grammar.{AreOperands}

@@ -8,9 +8,9 @@ use Rattle.bpf_isa.specs.Words.{IsWord}
 use Rattle.bpf_text.specs.declared.fault.LineFault.TheVariants.{OutOfRange, LabelTwice, UnknownLabel, TooManySlots}
 use Rattle.bpf_text.specs.declared.fault.AsmFault.{AsmFault}
 use Rattle.bpf_text.specs.declared.fault.AsmFault.TheVariants.{Line, Memory}
-use Rattle.bpf_text.specs.declared.first_round.Placed.{Placed}
-use Rattle.bpf_text.specs.declared.line.Line.{Line as LineSaid}
-use Rattle.bpf_text.specs.declared.statement.Statement.{Statement}
+use Rattle.bpf_text.specs.declared.read.first_round.Placed.{Placed}
+use Rattle.bpf_text.specs.declared.read.line.Line.{Line as LineSaid}
+use Rattle.bpf_text.specs.declared.read.statement.Statement.{Statement}
 use Rattle.bpf_io.specs.Lines.{lines}
 use Rattle.bpf_text.specs.LineGrammar.{IsReading}
 use Rattle.bpf_text.specs.LineGrammar.{LineReading}

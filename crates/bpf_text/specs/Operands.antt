@@ -5,10 +5,10 @@ use Rattle.bpf_isa.specs.declared.instruction.Insn.{Insn}
 use Rattle.bpf_isa.specs.declared.instruction.Insn.TheVariants.{Binary, Negate, SignExtend, SwapBytes, JumpIf, Jump, JumpLong, CallHelper, CallLocal, Exit, Load, LoadSigned, StoreImmediate, StoreRegister, Atomic, LoadNumber, LoadMap, LoadMapValue}
 use Rattle.bpf_isa.specs.declared.instruction.Source.{Source}
 use Rattle.bpf_isa.specs.declared.instruction.Source.TheVariants as source
-use Rattle.bpf_text.specs.declared.operand.Operand.{Operand}
-use Rattle.bpf_text.specs.declared.operand.Operand.TheVariants.{Register, Signed, Unsigned, Hexadecimal, Memory, Target}
-use Rattle.bpf_text.specs.declared.operand.Operands.{Operands}
-use Rattle.bpf_text.specs.declared.operand.Operands.TheVariants.{Nothing, One, Two, Three}
+use Rattle.bpf_text.specs.declared.write.operand.Operand.{Operand}
+use Rattle.bpf_text.specs.declared.write.operand.Operand.TheVariants.{Register, Signed, Unsigned, Hexadecimal, Memory, Target}
+use Rattle.bpf_text.specs.declared.write.operand.Operands.{Operands}
+use Rattle.bpf_text.specs.declared.write.operand.Operands.TheVariants.{Nothing, One, Two, Three}
 use Rattle.bpf_isa.specs.Mnemonics.{mnemonic_of}
 use Rattle.bpf_text.specs.Mnemonics.{name_of}
 use Rattle.bpf_io.specs.Writing.{hexadecimal}

@@ -1,9 +1,7 @@
 -- The registers of a listing, and the ranges of its numbers. They are bpfdb's own choice.
-use Rattle.std.specs.Prelude.{ℕ, ℤ, pos, neg_ℤ, ◌-◌, ◌%◌, ◌^◌, Bool, true, false, ◌==◌, ◌&&◌, nat_lt, nat_le, if◌then◌else◌, List, [], ◌∷◌, Option, Some, None, Result, Ok, Err}
+use Rattle.std.specs.Prelude.{ℕ, ℤ, pos, neg_ℤ, ◌-◌, ◌%◌, ◌^◌, Bool, true, false, ◌==◌, ◌&&◌, nat_lt, nat_le, if◌then◌else◌, List, [], ◌∷◌, Option, Some, None}
 use Rattle.std.specs.Int.{w32, cast_signed}
-use Rattle.bpf_text.specs.declared.fault.LineFault.{LineFault}
-use Rattle.bpf_text.specs.declared.fault.LineFault.TheVariants.{WrongOperands}
-use Rattle.bpf_text.specs.declared.number.Number.{Number}
+use Rattle.bpf_text.specs.declared.read.number.Number.{Number}
 
 -- A register, r0 to r10.
 abbrev pub register : List ℕ → Option ℕ

@@ -3,8 +3,8 @@ use Rattle.std.specs.Prelude.{ℕ, List}
 use Rattle.std.specs.Str.{bytes_eq}
 use Rattle.indexmap.specs.IndexMap.{IndexMap, get_by}
 use Rattle.std.specs.Borrow.{Bor}
-use Rattle.bpf_text.specs.declared.first_round.Outline.{Outline}
-use Rattle.bpf_text.specs.declared.first_round.Placed.{Placed}
+use Rattle.bpf_text.specs.declared.read.first_round.Outline.{Outline}
+use Rattle.bpf_text.specs.declared.read.first_round.Placed.{Placed}
 use Rattle.bpf_text.specs.Listing.{Labels}
 
 abbrev pub labels_in : {S : Type 0} → IndexMap (Bor (List ℕ)) ℕ S → Labels

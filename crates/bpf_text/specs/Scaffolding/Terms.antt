@@ -1,15 +1,14 @@
 -- Operands as they are read.
 use Rattle.std.specs.Prelude.{ℕ, ◌+◌, Bool, true, false, ◌==◌, ◌&&◌, ◌||◌, if◌then◌else◌, List, [], ◌∷◌, drop, length, slice_index, Option, Some, None, option_map, option_and_then}
 use Rattle.std.specs.List.{position_or_len, before_first, after_first}
-use Rattle.std.specs.Result.{result_ok}
-use Rattle.bpf_text.specs.declared.number.Number.{Number}
-use Rattle.bpf_text.specs.declared.term.OperandForm.{OperandForm}
-use Rattle.bpf_text.specs.declared.term.OperandForm.TheVariants as form
-use Rattle.bpf_text.specs.declared.term.OperandForms.{OperandForms}
-use Rattle.bpf_text.specs.declared.term.OperandForms.TheVariants.{Nothing, One, Two, Three}
-use Rattle.bpf_text.specs.declared.term.Term.{Term}
-use Rattle.bpf_text.specs.declared.term.Term.TheVariants.{Register, Number as Num, Memory, Name, Absent}
-use Rattle.bpf_text.specs.declared.term.Terms.{Terms}
+use Rattle.bpf_text.specs.declared.read.number.Number.{Number}
+use Rattle.bpf_text.specs.declared.read.term.OperandForm.{OperandForm}
+use Rattle.bpf_text.specs.declared.read.term.OperandForm.TheVariants as form
+use Rattle.bpf_text.specs.declared.read.term.OperandForms.{OperandForms}
+use Rattle.bpf_text.specs.declared.read.term.OperandForms.TheVariants.{Nothing, One, Two, Three}
+use Rattle.bpf_text.specs.declared.read.term.Term.{Term}
+use Rattle.bpf_text.specs.declared.read.term.Term.TheVariants.{Register, Number as Num, Memory, Name, Absent}
+use Rattle.bpf_text.specs.declared.read.term.Terms.{Terms}
 use Rattle.bpf_io.specs.Numerals.{natural}
 use Rattle.bpf_text.specs.Characters.{is_name}
 use Rattle.bpf_text.specs.Grammar.{one, two, three}

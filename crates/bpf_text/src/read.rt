@@ -1,0 +1,16 @@
+//! How a listing is read.
+mod assembler;
+mod cut;
+mod first_round;
+mod labels;
+mod line;
+mod number;
+mod register;
+mod second_round;
+mod statement;
+mod table;
+mod term;
+mod text_key;
+
+pub use assembler::assemble;
+pub use register::parse_register;

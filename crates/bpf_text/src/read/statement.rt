@@ -1,0 +1,227 @@
+//! The statement of a line: a mnemonic and its operands.
+ghost use Rattle.std.specs.Prelude.{◌≡◌};
+ghost use Rattle.bpf_text.specs.Scaffolding.Cuts.{mnemonic_part, operands_part};
+ghost use Rattle.bpf_text.specs.Instructions.{forms_of, insn_with};
+ghost use Rattle.bpf_text.specs.Scaffolding.Lines.{read_statement, of_mnemonic};
+
+use crate::fault::LineFault;
+use crate::read::cut::trim;
+use crate::read::table::named;
+use crate::read::term::{Name, OperandForm, OperandForms, Terms, read_terms};
+use bpf_io::find_blank;
+use bpf_isa::{Insn, Mnemonic};
+
+/// An instruction of a listing, and the name of its target, if it has one.
+#[derive(Drop)]
+pub struct Statement<'a> {
+    /// The instruction. The distance of its target is 0: it comes from the label.
+    pub insn: Insn,
+    /// The label that is its target.
+    pub target: Option<Name<'a>>,
+}
+
+/// What a line says behind its label: nothing, or an instruction.
+pub fn read_statement(text: &[u8]) -> Result<Option<Statement<'_>>, LineFault>
+    ensures { result ≡ read_statement text.now }
+{
+    if text.is_empty() {
+        return Ok(None);
+    }
+    match named(mnemonic_part(text)) {
+        None => Err(LineFault::UnknownMnemonic),
+        Some(mnemonic) => statement_of(mnemonic, operands_part(text)),
+    }
+}
+
+fn mnemonic_part(text: &[u8]) -> &[u8]
+    ensures { result.now ≡ mnemonic_part text.now }
+{
+    &text[..find_blank(text)]
+}
+
+fn operands_part(text: &[u8]) -> &[u8]
+    ensures { result.now ≡ operands_part text.now }
+{
+    let end = find_blank(text);
+    if end < text.len() {
+        trim(&text[end + 1..])
+    } else {
+        trim(&[])
+    }
+}
+
+// The operands are looked at for their forms first, and then for their ranges.
+fn statement_of(mnemonic: Mnemonic, operands: &[u8]) -> Result<Option<Statement<'_>>, LineFault>
+    ensures { result ≡ of_mnemonic (Some mnemonic) operands.now }
+{
+    match read_terms(forms_of(mnemonic), operands) {
+        None => Err(LineFault::WrongOperands),
+        Some(terms) => match insn_with(mnemonic, &terms) {
+            None => Err(LineFault::OutOfRange),
+            Some(insn) => Ok(Some(Statement {
+                insn,
+                target: terms.target(),
+            })),
+        },
+    }
+}
+
+/// How the operands of a mnemonic are written.
+fn forms_of(mnemonic: Mnemonic) -> OperandForms
+    ensures { result ≡ forms_of mnemonic }
+{
+    match mnemonic {
+        Mnemonic::Binary(_, _) => OperandForms::Two(OperandForm::Register, OperandForm::Source),
+        Mnemonic::Negate(_) | Mnemonic::SwapBytes(_, _) => OperandForms::One(OperandForm::Register),
+        Mnemonic::SignExtend(_) => OperandForms::Two(OperandForm::Register, OperandForm::Register),
+        Mnemonic::JumpIf(_, _) => {
+            OperandForms::Three(
+                OperandForm::Register,
+                OperandForm::Source,
+                OperandForm::Name,
+            )
+        }
+        Mnemonic::Jump | Mnemonic::JumpLong | Mnemonic::CallLocal => {
+            OperandForms::One(OperandForm::Name)
+        }
+        Mnemonic::CallHelper => OperandForms::One(OperandForm::Unsigned),
+        Mnemonic::Exit => OperandForms::Nothing,
+        Mnemonic::Load(_) | Mnemonic::LoadSigned(_) => {
+            OperandForms::Two(OperandForm::Register, OperandForm::Memory)
+        }
+        Mnemonic::StoreImmediate(_) => OperandForms::Two(OperandForm::Memory, OperandForm::Signed),
+        Mnemonic::StoreRegister(_) | Mnemonic::Atomic(_, _) => {
+            OperandForms::Two(OperandForm::Memory, OperandForm::Register)
+        }
+        Mnemonic::LoadNumber => OperandForms::Two(OperandForm::Register, OperandForm::Signed),
+        Mnemonic::LoadMap => OperandForms::Two(OperandForm::Register, OperandForm::Unsigned),
+        Mnemonic::LoadMapValue => {
+            OperandForms::Three(
+                OperandForm::Register,
+                OperandForm::Unsigned,
+                OperandForm::Unsigned,
+            )
+        }
+    }
+}
+
+/// The instruction of a mnemonic and operands of its forms, if their numbers are in their ranges.
+fn insn_with(mnemonic: Mnemonic, terms: &Terms<'_>) -> Option<Insn>
+    ensures { result ≡ insn_with mnemonic terms.now }
+{
+    match mnemonic {
+        Mnemonic::Binary(op, width) => {
+            let dst = terms.first.register()?;
+            let source = terms.second.source()?;
+            Some(Insn::Binary {
+                op,
+                width,
+                dst,
+                source,
+            })
+        }
+        Mnemonic::Negate(width) => {
+            let dst = terms.first.register()?;
+            Some(Insn::Negate { width, dst })
+        }
+        Mnemonic::SignExtend(extension) => {
+            let dst = terms.first.register()?;
+            let src = terms.second.register()?;
+            Some(Insn::SignExtend {
+                extension,
+                dst,
+                src,
+            })
+        }
+        Mnemonic::SwapBytes(order, width) => {
+            let dst = terms.first.register()?;
+            Some(Insn::SwapBytes { order, width, dst })
+        }
+        Mnemonic::JumpIf(condition, width) => {
+            let dst = terms.first.register()?;
+            let source = terms.second.source()?;
+            Some(Insn::JumpIf {
+                condition,
+                width,
+                dst,
+                source,
+                offset: 0,
+            })
+        }
+        Mnemonic::Jump => Some(Insn::Jump { offset: 0 }),
+        Mnemonic::JumpLong => Some(Insn::JumpLong { distance: 0 }),
+        Mnemonic::CallHelper => {
+            let helper = terms.first.unsigned()?;
+            Some(Insn::CallHelper { helper })
+        }
+        Mnemonic::CallLocal => Some(Insn::CallLocal { distance: 0 }),
+        Mnemonic::Exit => Some(Insn::Exit),
+        Mnemonic::Load(size) => {
+            let dst = terms.first.register()?;
+            let (src, offset) = terms.second.memory()?;
+            Some(Insn::Load {
+                size,
+                dst,
+                src,
+                offset,
+            })
+        }
+        Mnemonic::LoadSigned(size) => {
+            let dst = terms.first.register()?;
+            let (src, offset) = terms.second.memory()?;
+            Some(Insn::LoadSigned {
+                size,
+                dst,
+                src,
+                offset,
+            })
+        }
+        Mnemonic::StoreImmediate(size) => {
+            let (dst, offset) = terms.first.memory()?;
+            let value = terms.second.immediate()?;
+            Some(Insn::StoreImmediate {
+                size,
+                dst,
+                offset,
+                value,
+            })
+        }
+        Mnemonic::StoreRegister(size) => {
+            let (dst, offset) = terms.first.memory()?;
+            let src = terms.second.register()?;
+            Some(Insn::StoreRegister {
+                size,
+                dst,
+                src,
+                offset,
+            })
+        }
+        Mnemonic::Atomic(op, width) => {
+            let (dst, offset) = terms.first.memory()?;
+            let src = terms.second.register()?;
+            Some(Insn::Atomic {
+                op,
+                width,
+                dst,
+                src,
+                offset,
+            })
+        }
+        Mnemonic::LoadNumber => {
+            let dst = terms.first.register()?;
+            let value = terms.second.wide()?;
+            Some(Insn::LoadNumber { dst, value })
+        }
+        Mnemonic::LoadMap => {
+            let dst = terms.first.register()?;
+            let map = terms.second.unsigned()?;
+            Some(Insn::LoadMap { dst, map })
+        }
+        Mnemonic::LoadMapValue => {
+            let dst = terms.first.register()?;
+            let map = terms.second.unsigned()?;
+            let offset = terms.third.unsigned()?;
+            Some(Insn::LoadMapValue { dst, map, offset })
+        }
+    }
+}

@@ -1,0 +1,7 @@
+//! How a listing is written.
+mod disassembler;
+mod insn;
+mod operand;
+
+pub use disassembler::disassemble;
+pub use insn::{put_insn, put_label, write_insn};
