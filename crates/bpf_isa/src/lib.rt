@@ -30,6 +30,3 @@ pub use mnemonic::Mnemonic;
 pub use program::{Program, check};
 pub use register::Reg;
 pub use words::Words;
-
-#[cfg(test)]
-mod tests;

@@ -11,14 +11,14 @@ impl Insn {
     ghost use Rattle.bpf_isa.specs.Insns.{FallsThrough, target_of, written_of};
 
     /// Whether the instruction after it may be the next to run.
-    pub(crate) fn falls_through(&self) -> bool
+    pub fn falls_through(&self) -> bool
         ensures { IsTrue result ↔ FallsThrough self.now }
     {
         !matches!(self, Insn::Jump { .. } | Insn::JumpLong { .. } | Insn::Exit)
     }
 
     /// The slot that a jump or local call at a slot names, as a whole number.
-    pub(crate) fn target(&self, slot: usize) -> Option<i64>
+    pub fn target(&self, slot: usize) -> Option<i64>
         requires { slot ≤ 65535 }
         ensures { result ≡ target_of slot self.now }
     {
@@ -33,7 +33,7 @@ impl Insn {
     }
 
     /// The register that it replaces itself.
-    pub(crate) fn written(&self) -> Option<Reg>
+    pub fn written(&self) -> Option<Reg>
         ensures { result ≡ written_of self.now }
     {
         match self {

@@ -1,6 +1,6 @@
 //! Instructions as neutral texts, with which the tables of words are compared.
 
-use crate::{
+use bpf_isa::{
     AtomicOp, BinaryOp, ByteOrder, Condition, Extension, Insn, Reg, SignedSize, Size, Source,
     SwapWidth, Width,
 };

@@ -1,0 +1,19 @@
+//! Tests of the instruction set: words, programs, lists of maps, and faults.
+#![tactic(auto)]
+
+#[cfg(test)]
+mod checks;
+#[cfg(test)]
+mod faults;
+#[cfg(test)]
+mod maps;
+#[cfg(test)]
+mod programs;
+#[cfg(test)]
+mod refusals;
+#[cfg(test)]
+mod rendering;
+#[cfg(test)]
+mod vectors;
+#[cfg(test)]
+mod words;
