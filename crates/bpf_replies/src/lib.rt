@@ -9,8 +9,6 @@ mod moves;
 mod place;
 mod refusal;
 mod registers;
-#[cfg(test)]
-mod tests;
 mod trace;
 mod why;
 

@@ -1,4 +1,4 @@
-//! Worked sessions with local calls, watches and the question who wrote a byte. The expected replies were worked out by hand from what each
+//! Worked sessions with calls, watches and the question who wrote a byte. The expected replies were worked out by hand from what each
 //! command means; none is bpfdb's own output.
 use crate::play::{plays, session};
 
@@ -23,6 +23,41 @@ info regs|r0=0x0 r1=0x0 r2=0x0 r3=0x0 r4=0x0 r5=0x0 r6=0x5 r7=0x0 r8=0x0 r9=0x0 
 |at 3: exit
 reverse-finish|2 back; done; at 0: callf L2
 finish|refused Q9: outermost frame
+",
+);
+
+// The frame keeps what r6 to r9 held before the call.
+const SAVED: Row = (
+    CALL,
+    &[],
+    65_536,
+    "\
+set reg r7 5|ok
+set reg r8 0xff|ok
+stepi|1 forward; done; at 2: mov r6, 5
+info frames|depth 1
+|returns to 1 r6=0x0 r7=0x5 r8=0xff r9=0x0
+",
+);
+
+// mov r1, 7; call 64; mov r1, 0xabc; call 64; exit: two words are traced.
+const TRACED: Row = (
+    "b7010000070000008500000040000000b7010000bc0a000085000000400000009500000000000000",
+    &[],
+    65_536,
+    "\
+continue|5 forward; end; exited at 4: r0 0x0
+info trace|trace 2 0x7 0xabc
+",
+);
+
+// lddw r1, 0x400000001; call 1; exit: a lookup in a map that isn't there.
+const TOKEN: Row = (
+    "1801000001000000000000000400000085000000010000009500000000000000",
+    &[],
+    65_536,
+    "\
+stepi 2|2 forward; end; fault token 0x400000001 at 2
 ",
 );
 
@@ -222,8 +257,9 @@ last-write 0x100000000|not changed in 89 kept moves
 ",
 );
 
-const ROWS: [Row; 11] = [
-    CALLED, REFUSED, INSIDE, RECURSION, WATCHED, EDITED, BOTH, TABLE, FRAME, ATOMIC, DROPPED,
+const ROWS: [Row; 14] = [
+    CALLED, SAVED, TRACED, TOKEN, REFUSED, INSIDE, RECURSION, WATCHED, EDITED, BOTH, TABLE, FRAME,
+    ATOMIC, DROPPED,
 ];
 
 #[test]
