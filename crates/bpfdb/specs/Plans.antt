@@ -1,8 +1,8 @@
 -- What a plan says, by what `clap`'s exact matches give for the words.
-use Rattle.std.specs.Prelude.{◌≡◌, ◌≤◌, ℕ, Bool, false, List, Option, Some, None, option_map, codes}
+use Rattle.std.specs.Prelude.{◌≡◌, ◌≤◌, ◌<◌, ◌^◌, ℕ, Bool, false, List, Option, Some, None, option_map, codes}
 use Rattle.std.specs.Option.{option_map_or}
 use Rattle.std.specs.Str.{bytes_eq}
-use Rattle.std.specs.Str.Parse.{digits_value, without_leading_plus}
+use Rattle.std.specs.Str.Parse.{IsNumeral, digits_value, without_leading_plus}
 use Rattle.clap.specs.Words.{Row, Text, first_of, kind_of, subcommand_of}
 use Rattle.clap.specs.declared.error.kind.ErrorKind.{ErrorKind}
 use Rattle.clap.specs.declared.error.kind.ErrorKind.TheVariants as kind
@@ -43,6 +43,18 @@ pub record Says (name : Text) (rows : List Row) (plan : Plan) : Type 0 where
   pub journal : plan.journal ≡ number_or 65_536 (first_of (codes "journal") rows)
   pub limit : plan.limit ≡ number_or 1_000_000 (first_of (codes "steps") rows)
   pub listing : plan.is_listing ≡ is_given (first_of (codes "listing") rows)
+
+-- A number that is given is one below 2^64.
+abbrev pub IsNumber : Option Text → Type 0
+IsNumber None = Unit {0}
+IsNumber (Some text) = IsNumeral 10 (without_leading_plus text) × (digits_value 10 (without_leading_plus text) < 2 ^ 64)
+
+-- A plan says what a subcommand's matches say, and their numbers are in their ranges.
+pub record IsPlanOf (name : Text) (rows : List Row) (plan : Plan) : Type 0 where
+  pub says : Says name rows plan
+  pub journal : IsNumber (first_of (codes "journal") rows)
+  pub steps : IsNumber (first_of (codes "steps") rows)
+  pub limit : IsLimit plan.limit
 
 -- A plan says what the words say, the program's name first.
 pub record IsPlan (words : List Text) (plan : Plan) : Type 0 where

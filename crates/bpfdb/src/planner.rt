@@ -2,7 +2,7 @@
 ghost use Rattle.std.specs.Prelude.{◌≡◌, ◌<◌, ◌^◌, IfNone, IfOk, IfSome, MatchOption, Some, List, map, option_map};
 ghost use Rattle.std.specs.Str.Parse.{IsNumeral, digits_value, without_leading_plus};
 ghost use Rattle.clap.specs.Words.{Row, Text, first_of, found_of, rows_of, subcommand_rows_of};
-ghost use Rattle.bpfdb.specs.Plans.{IsLimit, IsPlan, Says, is_given, subcommand_name, number_or};
+ghost use Rattle.bpfdb.specs.Plans.{IsLimit, IsPlan, IsPlanOf, Says, is_given, subcommand_name, number_or};
 
 use crate::command_line::command_line;
 use crate::plan::{Plan, PlanFault, Subcommand};
@@ -52,6 +52,8 @@ fn bad_number(command: &mut Command<'_>) -> PlanFault {
 fn plan_of<'a>(matches: &ArgMatches<'a>) -> Option<Plan<'a>>
     ensures value { IfSome result (λ plan. (name : Text) × (rows : List Row)
         × (subcommand_rows_of matches.now ≡ Some (name, rows)) × Says name rows plan) }
+    ensures none { IfNone result ((name : Text) (rows : List Row) (plan : Plan)
+        → subcommand_rows_of matches.now ≡ Some (name, rows) → IsPlanOf name rows plan → ⊥) }
     ensures limit { IfSome result (λ plan. IsLimit plan.limit) }
 {
     match matches.subcommand() {
@@ -63,6 +65,7 @@ fn plan_of<'a>(matches: &ArgMatches<'a>) -> Option<Plan<'a>>
 /// The plan of a subcommand's matches.
 fn plan_in<'a>(name: &'a str, found: &ArgMatches<'a>) -> Option<Plan<'a>>
     ensures value { IfSome result (Says name.now (rows_of (found_of found.now))) }
+    ensures none { IfNone result ((plan : Plan) → IsPlanOf name.now (rows_of (found_of found.now)) plan → ⊥) }
     ensures limit { IfSome result (λ plan. IsLimit plan.limit) }
 {
     let subcommand = match subcommand_named(name) {

@@ -1,6 +1,9 @@
 //! What goes to standard output at once, and what goes to standard error.
-ghost use Rattle.std.specs.Prelude.{◌≡◌, IsTrue, OnErr, OnOk};
+ghost use Rattle.std.specs.Prelude.{◌≡◌, ◌++◌, IfSome, OnErr, OnOk, codes};
+ghost use Rattle.std.specs.Fmt.{with_newline};
+ghost use Rattle.std.specs.Io.KnownBytes.{Appends};
 ghost use Rattle.bpf_io.specs.Writing.{Writes};
+ghost use Rattle.bpf_replies.specs.Texts.{place};
 
 use crate::fault::JobFault;
 use bpf_io::{Counted, WriteFault, put, write_text};
@@ -23,25 +26,51 @@ pub fn write_out<W: Write>(writer: &mut Counted<W>, text: &[u8]) -> Result<(), W
     }
 }
 
-/// Writes the line of a fault to standard error. Whether it could be written.
-pub fn tell<E: Write, F: Display + Drop>(errors: &mut Counted<E>, fault: F) -> bool
-    ensures { IsTrue result → errors.new.failures ≡ errors.old.failures }
+/// Writes the line of a fault to standard error, and flushes.
+pub fn tell<E: Write, F: Display + Drop>(
+    errors: &mut Counted<E>,
+    fault: F,
+) -> Result<(), WriteFault>
+    ensures ok { OnOk result (IfSome (with_newline (F.output fault))
+        (Appends (E.contents errors.old.inner) (E.contents errors.new.inner))) }
+    ensures spared { OnOk result (errors.new.failures ≡ errors.old.failures) }
 {
     let before = errors.failures();
-    let written = writeln!(errors, "{fault}").is_ok();
-    let flushed = errors.flush().is_ok();
-    written && flushed && errors.failures() == before
+    match writeln!(errors, "{fault}") {
+        Ok(()) => {}
+        Err(_) => return Err(WriteFault),
+    }
+    match errors.flush() {
+        Ok(()) => {}
+        Err(_) => return Err(WriteFault),
+    }
+    if errors.failures() == before {
+        Ok(())
+    } else {
+        Err(WriteFault)
+    }
 }
 
-/// Writes where a machine stands to standard error, as a line. Whether it could be written.
-pub fn tell_place<E: Write>(errors: &mut Counted<E>, cpu: &Cpu) -> bool
-    ensures { IsTrue result → errors.new.failures ≡ errors.old.failures }
+/// Writes where a machine stands to standard error, as a line, and flushes.
+pub fn tell_place<E: Write>(errors: &mut Counted<E>, cpu: &Cpu) -> Result<(), WriteFault>
+    ensures { Writes E.contents errors.old errors.new result (place cpu.now ++ codes "\n") }
 {
-    let place = write_place(cpu, errors);
-    match put(errors, place, b"\n") {
-        Ok(()) => errors.flush().is_ok(),
-        Err(WriteFault) => false,
+    match put_place_line(errors, cpu) {
+        Ok(()) => {}
+        Err(fault) => return Err(fault),
     }
+    match errors.flush() {
+        Ok(()) => Ok(()),
+        Err(_) => Err(WriteFault),
+    }
+}
+
+/// Writes where a machine stands, as a line.
+fn put_place_line<W: Write>(writer: &mut Counted<W>, cpu: &Cpu) -> Result<(), WriteFault>
+    ensures { Writes W.contents writer.old writer.new result (place cpu.now ++ codes "\n") }
+{
+    let placed = write_place(cpu, writer);
+    put(writer, placed, b"\n")
 }
 
 /// Writes the line of a fault that ends a job. Answers the exit status.

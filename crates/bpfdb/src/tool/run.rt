@@ -1,5 +1,5 @@
 //! The subcommand `run`.
-ghost use Rattle.std.specs.Prelude.{◌≡◌, ◌≢◌, IsTrue, List, ℕ, Some};
+ghost use Rattle.std.specs.Prelude.{◌≡◌, ◌≢◌, List, OnErr, OnOk, ℕ, Some};
 ghost use Rattle.bpfdb.specs.Jobs.{StopsShort, Completes, Needs, Spared};
 ghost use Rattle.bpfdb.specs.declared.plan.Subcommand.TheVariants.{Run};
 
@@ -7,7 +7,7 @@ use crate::fault::JobFault;
 use crate::job::Job;
 use crate::opening::machine_of;
 use crate::report::{give_up, tell, tell_place};
-use bpf_io::Counted;
+use bpf_io::{Counted, WriteFault};
 use bpf_session::{Ending, run_plain};
 use std::alloc::Global;
 use std::io::Write;
@@ -39,11 +39,15 @@ pub fn run_job<W: Write, E: Write>(
 }
 
 /// The exit status of a run that didn't reach its end, of which that was told on standard error, or couldn't be.
-fn stopped(told: bool) -> u8
+fn stopped(told: Result<(), WriteFault>) -> u8
     ensures value { result ≢ 2 → result ≡ 1 }
-    ensures told { result ≢ 2 → IsTrue told }
+    ensures ok { OnOk told (result ≡ 1) }
+    ensures err { OnErr told (result ≡ 2) }
 {
-    if told { 1 } else { 2 }
+    match told {
+        Ok(()) => 1,
+        Err(WriteFault) => 2,
+    }
 }
 
 /// What is told of a run that took as many steps as it may.
