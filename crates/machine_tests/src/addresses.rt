@@ -101,15 +101,20 @@ fn answers(rt: &impl Abort, cpu: &Cpu, numbers: &str) -> &'static str {
     }
 }
 
+/// Stops at a row of the table that doesn't hold.
+fn check_addresses(rt: &impl Abort, cpu: &Cpu, table: &str, count: usize) {
+    for row in table.lines() {
+        let (_, words) = parts(rt, row);
+        let (numbers, wanted) = parts(rt, words);
+        assert_eq!(rt; answers(rt, cpu, numbers), wanted, "{row}");
+    }
+    assert_eq!(rt; table.lines().count(), count);
+}
+
 #[test]
 fn addresses(rt: HostRuntime) {
     let cpu = machine(&rt, rt.alloc(), &[EXIT]);
-    for row in RUNS.lines() {
-        let (_, words) = parts(&rt, row);
-        let (numbers, wanted) = parts(&rt, words);
-        assert_eq!(rt; answers(&rt, &cpu, numbers), wanted, "{row}");
-    }
-    assert_eq!(rt; RUNS.lines().count(), 74);
+    check_addresses(&rt, &cpu, RUNS, 74);
 }
 
 // The maps of a machine, a run of bytes, its address and how many bytes; whether it is present and whether the program may access it.
@@ -153,16 +158,25 @@ const MAP_RUNS: &str = "\
 16x4096; all bytes from map 0 on; 0x300000000 -1; no no
 ";
 
+/// The same of a machine with these maps.
+fn answers_with(rt: &impl Abort, alloc: Global, maps: &str, numbers: &str) -> &'static str {
+    answers(rt, &with_maps(rt, alloc, &[EXIT], maps), numbers)
+}
+
+/// Stops at a row of the table that doesn't hold.
+fn check_maps(rt: &impl Abort, alloc: Global, table: &str, count: usize) {
+    for row in table.lines() {
+        let (maps, rest) = parts(rt, row);
+        let (_, words) = parts(rt, rest);
+        let (numbers, wanted) = parts(rt, words);
+        assert_eq!(rt; answers_with(rt, alloc, maps, numbers), wanted, "{row}");
+    }
+    assert_eq!(rt; table.lines().count(), count);
+}
+
 #[test]
 fn maps(rt: HostRuntime) {
-    for row in MAP_RUNS.lines() {
-        let (maps, rest) = parts(&rt, row);
-        let (_, words) = parts(&rt, rest);
-        let (numbers, wanted) = parts(&rt, words);
-        let cpu = with_maps(&rt, rt.alloc(), &[EXIT], maps);
-        assert_eq!(rt; answers(&rt, &cpu, numbers), wanted, "{row}");
-    }
-    assert_eq!(rt; MAP_RUNS.lines().count(), 37);
+    check_maps(&rt, rt.alloc(), MAP_RUNS, 37);
 }
 
 // Map i has i + 1 bytes.
@@ -265,21 +279,31 @@ fn is_all(cpu: &Cpu, address: u64, count: u64, byte: u64) -> bool {
     }
 }
 
+/// Writes the byte of each row to its whole region.
+fn fill(rt: &impl Abort, cpu: &mut Cpu, table: &str) {
+    for row in table.lines() {
+        let (byte, address, count) = three(rt, row);
+        for at in 0..count {
+            put(rt, cpu, address.wrapping_add(at), byte);
+        }
+    }
+}
+
+/// Stops at a row whose region holds another byte.
+fn check_filled(rt: &impl Abort, cpu: &Cpu, table: &str, count: usize) {
+    for row in table.lines() {
+        let (byte, address, count) = three(rt, row);
+        assert!(rt; is_all(cpu, address, count, byte), "{row}");
+    }
+    assert_eq!(rt; table.lines().count(), count);
+}
+
 // A byte of its own for each region, written to all of its bytes: then each region has its own.
 #[test]
 fn bytes_apart(rt: HostRuntime) {
     let mut cpu = with_maps(&rt, rt.alloc(), &[EXIT], "8x2,1x1,3x5");
-    for row in REGIONS.lines() {
-        let (byte, address, count) = three(&rt, row);
-        for at in 0..count {
-            put(&rt, &mut cpu, address.wrapping_add(at), byte);
-        }
-    }
-    for row in REGIONS.lines() {
-        let (byte, address, count) = three(&rt, row);
-        assert!(rt; is_all(&cpu, address, count, byte), "{row}");
-    }
-    assert_eq!(rt; REGIONS.lines().count(), 12);
+    fill(&rt, &mut cpu, REGIONS);
+    check_filled(&rt, &cpu, REGIONS, 12);
 }
 
 /// The entry of an edit of the last cell of map 15, where that has 4,096 values of 16 bytes.

@@ -221,36 +221,61 @@ fn stepped(rt: &impl Abort, alloc: Global, word: u64, old: u64, r0: u64, r2: u64
     (cpu, entry)
 }
 
+/// Stops at a row of the table that doesn't hold.
+fn check_vectors(rt: &impl Abort, alloc: Global, table: &str, count: usize) {
+    for row in table.lines() {
+        let (words, rest) = parts(rt, row);
+        let (before, after) = parts(rt, rest);
+        let (imm, width) = two(rt, words);
+        let (old, source) = two(rt, before);
+        let word = operation(rt, imm, width);
+        let (cpu, _) = stepped(rt, alloc, word, old, 0, source);
+        let found = (context(rt, &cpu), register(rt, &cpu, 2));
+        assert_eq!(rt; found, two(rt, after), "{row}");
+    }
+    assert_eq!(rt; table.lines().count(), count);
+}
+
 #[test]
 fn vectors(rt: HostRuntime) {
-    for row in VECTORS.lines() {
-        let (words, rest) = parts(&rt, row);
-        let (before, after) = parts(&rt, rest);
-        let (imm, width) = two(&rt, words);
-        let (old, source) = two(&rt, before);
-        let word = operation(&rt, imm, width);
-        let (cpu, _) = stepped(&rt, rt.alloc(), word, old, 0, source);
-        let found = (context(&rt, &cpu), register(&rt, &cpu, 2));
-        assert_eq!(rt; found, two(&rt, after), "{row}");
+    check_vectors(&rt, rt.alloc(), VECTORS, 144);
+}
+
+/// What a compare-exchange leaves of the 8 bytes, of r0 and of r2, and whether its entry is of this kind.
+fn exchanged(
+    rt: &impl Abort,
+    alloc: Global,
+    word: u64,
+    (old, r0, source): (u64, u64, u64),
+    kind: &str,
+) -> (u64, u64, u64, bool) {
+    let (cpu, entry) = stepped(rt, alloc, word, old, r0, source);
+    (
+        context(rt, &cpu),
+        register(rt, &cpu, 0),
+        register(rt, &cpu, 2),
+        entry.as_str().starts_with(kind),
+    )
+}
+
+/// Stops at a row of the table that doesn't hold.
+fn check_exchanges(rt: &impl Abort, alloc: Global, table: &str, count: usize) {
+    for row in table.lines() {
+        let (width, rest) = parts(rt, row);
+        let (before, rest) = parts(rt, rest);
+        let (after, kind) = parts(rt, rest);
+        let before = three(rt, before);
+        let (bytes, r0) = two(rt, after);
+        let word = operation(rt, 0xf1, number(rt, width));
+        let found = exchanged(rt, alloc, word, before, kind);
+        assert_eq!(rt; found, (bytes, r0, before.2, true), "{row}");
     }
-    assert_eq!(rt; VECTORS.lines().count(), 144);
+    assert_eq!(rt; table.lines().count(), count);
 }
 
 #[test]
 fn exchanges(rt: HostRuntime) {
-    for row in EXCHANGES.lines() {
-        let (width, rest) = parts(&rt, row);
-        let (before, rest) = parts(&rt, rest);
-        let (after, kind) = parts(&rt, rest);
-        let (old, r0, source) = three(&rt, before);
-        let word = operation(&rt, 0xf1, number(&rt, width));
-        let (cpu, entry) = stepped(&rt, rt.alloc(), word, old, r0, source);
-        assert!(rt; entry.as_str().starts_with(kind), "{row}");
-        let found = (context(&rt, &cpu), register(&rt, &cpu, 0));
-        assert_eq!(rt; found, two(&rt, after), "{row}");
-        assert_eq!(rt; register(&rt, &cpu, 2), source, "{row}");
-    }
-    assert_eq!(rt; EXCHANGES.lines().count(), 18);
+    check_exchanges(&rt, rt.alloc(), EXCHANGES, 18);
 }
 
 /// r0, r1 and r2.
@@ -262,20 +287,31 @@ fn registers(rt: &impl Abort, cpu: &Cpu) -> (u64, u64, u64) {
     )
 }
 
+/// r0, r1, r2 and the context's bytes, as a slot shows them, after a step of a word, and whether this is its entry.
+fn placed(rt: &impl Abort, alloc: Global, word: u64, entry: &str) -> (u64, u64, u64, u64, bool) {
+    let (cpu, found) = stepped(rt, alloc, word, OLD, 0x1_0000_0002, SOURCE);
+    let (r0, r1, r2) = registers(rt, &cpu);
+    let bytes = context(rt, &cpu).swap_bytes();
+    (r0, r1, r2, bytes, found.as_str() == entry)
+}
+
+/// Stops at a row of the table that doesn't hold.
+fn check_places(rt: &impl Abort, alloc: Global, table: &str, count: usize) {
+    for row in table.lines() {
+        let (_, rest) = parts(rt, row);
+        let (word, rest) = parts(rt, rest);
+        let (after, rest) = parts(rt, rest);
+        let (bytes, entry) = parts(rt, rest);
+        let (r0, r1, r2) = three(rt, after);
+        let found = placed(rt, alloc, slot(rt, word), entry);
+        assert_eq!(rt; found, (r0, r1, r2, slot(rt, bytes), true), "{row}");
+    }
+    assert_eq!(rt; table.lines().count(), count);
+}
+
 #[test]
 fn places(rt: HostRuntime) {
-    for row in PLACES.lines() {
-        let (_, rest) = parts(&rt, row);
-        let (word, rest) = parts(&rt, rest);
-        let (after, rest) = parts(&rt, rest);
-        let (bytes, entry) = parts(&rt, rest);
-        let word = slot(&rt, word);
-        let (cpu, found) = stepped(&rt, rt.alloc(), word, OLD, 0x1_0000_0002, SOURCE);
-        assert_eq!(rt; found.as_str(), entry, "{row}");
-        assert_eq!(rt; registers(&rt, &cpu), three(&rt, after), "{row}");
-        assert_eq!(rt; context(&rt, &cpu).swap_bytes(), slot(&rt, bytes), "{row}");
-    }
-    assert_eq!(rt; PLACES.lines().count(), 15);
+    check_places(&rt, rt.alloc(), PLACES, 15);
 }
 
 // 4 bytes of which the last is over the end.

@@ -1,6 +1,7 @@
 //! Local calls, frames and returns. Expected values were worked out from RFC 9669, section 4.3.2, and docs/MACHINE.md.
 use crate::machines::{EXIT, entry_text, opened, register, run, set, status_text, view_of};
 use crate::rows::{number, parts, slots, two};
+use crate::steps::{check_entries, check_view, program_of};
 use bpf_machine::{Cpu, laws};
 use std::alloc::Global;
 use std::process::Abort;
@@ -46,18 +47,30 @@ fn deepest(rt: &impl Abort, cpu: &mut Cpu) -> (u64, u64) {
     (deepest, 1_000)
 }
 
+/// The greatest depth of that program with r1 at its beginning, how many steps it takes, and whether it ends with this status.
+fn nested(rt: &impl Abort, alloc: Global, r1: u64, status: &str) -> (u64, u64, bool) {
+    let mut cpu = machine(rt, alloc, NESTED);
+    set(rt, &mut cpu, 1, r1);
+    let (depth, steps) = deepest(rt, &mut cpu);
+    let found = status_text(rt, alloc, cpu.status());
+    (depth, steps, found.as_str() == status)
+}
+
+/// Stops at a row of the table that doesn't hold.
+fn check_nested_calls(rt: &impl Abort, alloc: Global, table: &str, count: usize) {
+    for row in table.lines() {
+        let (r1, rest) = parts(rt, row);
+        let (counts, status) = parts(rt, rest);
+        let (depth, steps) = two(rt, counts);
+        let found = nested(rt, alloc, number(rt, r1), status);
+        assert_eq!(rt; found, (depth, steps, true), "{row}");
+    }
+    assert_eq!(rt; table.lines().count(), count);
+}
+
 #[test]
 fn nested_calls(rt: HostRuntime) {
-    for row in DEPTHS.lines() {
-        let (r1, rest) = parts(&rt, row);
-        let (counts, status) = parts(&rt, rest);
-        let mut cpu = machine(&rt, rt.alloc(), NESTED);
-        set(&rt, &mut cpu, 1, number(&rt, r1));
-        assert_eq!(rt; deepest(&rt, &mut cpu), two(&rt, counts), "{row}");
-        let found = status_text(&rt, rt.alloc(), cpu.status());
-        assert_eq!(rt; found.as_str(), status, "{row}");
-    }
-    assert_eq!(rt; DEPTHS.lines().count(), 6);
+    check_nested_calls(&rt, rt.alloc(), DEPTHS, 6);
     laws::returns_give_back();
 }
 
@@ -99,41 +112,28 @@ b709000029000000; return at 12 0x26 0x27 0x28 0x29
 9500000000000000; end
 ";
 
+// r0 to r10 at the end.
+const GIVEN_BACK: [u64; 11] = [
+    0x20,
+    0x1_0000_0000,
+    8,
+    0,
+    0,
+    0x25,
+    0x16,
+    0x17,
+    0x18,
+    0x19,
+    0x2_0000_0200,
+];
+
 #[test]
 fn saved_registers(rt: HostRuntime) {
-    let mut program = Vec::new(rt.alloc());
-    for row in SAVED.lines() {
-        let (word, _) = parts(&rt, row);
-        program
-            .extend_from_slice(&slots(&rt, rt.alloc(), word))
-            .ok()
-            .expect(&rt, "no memory");
-    }
+    let program = program_of(&rt, rt.alloc(), SAVED);
     let mut cpu = opened(&rt, rt.alloc(), &program, &[1, 2, 3, 4, 5, 6, 7, 8]);
-    for row in SAVED.lines() {
-        let (_, expected) = parts(&rt, row);
-        let entry = cpu.step().ok().expect(&rt, "ended");
-        let found = entry_text(&rt, rt.alloc(), &entry);
-        assert_eq!(rt; found.as_str(), expected, "{row}");
-    }
+    check_entries(&rt, rt.alloc(), &mut cpu, SAVED);
     let view = view_of(&rt, rt.alloc(), &cpu);
-    assert_eq!(rt;
-        view.registers,
-        [
-            0x20,
-            0x1_0000_0000,
-            8,
-            0,
-            0,
-            0x25,
-            0x16,
-            0x17,
-            0x18,
-            0x19,
-            0x2_0000_0200
-        ]
-    );
-    assert_eq!(rt; view.place.as_str(), "pc 5 depth 0 traced 0 exited");
+    check_view(&rt, &view, &GIVEN_BACK, "pc 5 depth 0 traced 0 exited");
 }
 
 // A program and r0 at its end, or the fault: a function reads its caller's frame by r1, and its own; a frame keeps its bytes
@@ -147,19 +147,24 @@ the frame of a function that returned; 8510000002000000 79a0f80300000000 9500000
 the frame below its own, by r10; 7a0af8ff2a000000 8510000001000000 9500000000000000 79a0f8fb00000000 9500000000000000; exited 0x2a
 ";
 
-#[test]
-fn frames(rt: HostRuntime) {
-    for row in FRAMES.lines() {
-        let (_, rest) = parts(&rt, row);
-        let (program, end) = parts(&rt, rest);
-        let mut cpu = machine(&rt, rt.alloc(), program);
+/// Stops at a row of the table that doesn't hold.
+fn check_frames(rt: &impl Abort, alloc: Global, table: &str, count: usize) {
+    for row in table.lines() {
+        let (_, rest) = parts(rt, row);
+        let (program, end) = parts(rt, rest);
+        let mut cpu = machine(rt, alloc, program);
         run(&mut cpu);
-        let status = status_text(&rt, rt.alloc(), cpu.status());
-        let r0 = register(&rt, &cpu, 0);
-        let found = format!(in rt.alloc(); "{} {r0:#x}", status.as_str())
+        let status = status_text(rt, alloc, cpu.status());
+        let r0 = register(rt, &cpu, 0);
+        let found = format!(in alloc; "{} {r0:#x}", status.as_str())
             .ok()
-            .expect(&rt, "no memory");
+            .expect(rt, "no memory");
         assert_eq!(rt; found.as_str(), end, "{row}");
     }
-    assert_eq!(rt; FRAMES.lines().count(), 6);
+    assert_eq!(rt; table.lines().count(), count);
+}
+
+#[test]
+fn frames(rt: HostRuntime) {
+    check_frames(&rt, rt.alloc(), FRAMES, 6);
 }

@@ -118,34 +118,49 @@ fn made(rt: &impl Abort, alloc: Global, name: &str, a: u64, b: u64) -> u64 {
     result(rt, alloc, word(rt, WORDS, name), a, b)
 }
 
+/// Stops at a row of the table that doesn't hold.
+fn check_negations(rt: &impl Abort, alloc: Global, table: &str, count: usize) {
+    for row in table.lines() {
+        let (bits, numbers) = row.split_once(' ').expect(rt, "no width");
+        let (a, expected) = two(rt, numbers);
+        assert_eq!(rt; made(rt, alloc, bits, a, 0), expected, "{row}");
+    }
+    assert_eq!(rt; table.lines().count(), count);
+}
+
 #[test]
 fn negations(rt: HostRuntime) {
-    for row in NEGATIONS.lines() {
-        let (bits, numbers) = row.split_once(' ').expect(&rt, "no width");
-        let (a, expected) = two(&rt, numbers);
-        assert_eq!(rt; made(&rt, rt.alloc(), bits, a, 0), expected, "{row}");
+    check_negations(&rt, rt.alloc(), NEGATIONS, 8);
+}
+
+/// Stops at a row of the table that doesn't hold.
+fn check_moves(rt: &impl Abort, alloc: Global, table: &str, count: usize) {
+    for row in table.lines() {
+        let (name, numbers) = row.split_once(' ').expect(rt, "no name");
+        let (source, expected) = two(rt, numbers);
+        assert_eq!(rt; made(rt, alloc, name, 7, source), expected, "{row}");
     }
-    assert_eq!(rt; NEGATIONS.lines().count(), 8);
+    assert_eq!(rt; table.lines().count(), count);
 }
 
 #[test]
 fn moves(rt: HostRuntime) {
-    for row in MOVES.lines() {
-        let (name, numbers) = row.split_once(' ').expect(&rt, "no name");
-        let (source, expected) = two(&rt, numbers);
-        assert_eq!(rt; made(&rt, rt.alloc(), name, 7, source), expected, "{row}");
+    check_moves(&rt, rt.alloc(), MOVES, 25);
+}
+
+/// Stops at a row of the table that doesn't hold.
+fn check_swaps(rt: &impl Abort, alloc: Global, table: &str, count: usize) {
+    for row in table.lines() {
+        let (name, expected) = row.split_once(' ').expect(rt, "no name");
+        let found = made(rt, alloc, name, 0x1122_3344_5566_7788, 0);
+        assert_eq!(rt; found, number(rt, expected), "{row}");
     }
-    assert_eq!(rt; MOVES.lines().count(), 25);
+    assert_eq!(rt; table.lines().count(), count);
 }
 
 #[test]
 fn swaps(rt: HostRuntime) {
-    for row in SWAPS.lines() {
-        let (name, expected) = row.split_once(' ').expect(&rt, "no name");
-        let found = made(&rt, rt.alloc(), name, 0x1122_3344_5566_7788, 0);
-        assert_eq!(rt; found, number(&rt, expected), "{row}");
-    }
-    assert_eq!(rt; SWAPS.lines().count(), 9);
+    check_swaps(&rt, rt.alloc(), SWAPS, 9);
 }
 
 /// Of which pairs a condition holds, y or n: those where its word jumps.
@@ -163,16 +178,25 @@ fn answers(rt: &impl Abort, alloc: Global, word: u64) -> String {
     answers
 }
 
+/// Whether these are the pairs of which a condition holds.
+fn has_answers(rt: &impl Abort, alloc: Global, word: u64, expected: &str) -> bool {
+    answers(rt, alloc, word).as_str() == expected
+}
+
+/// Stops at a row of the table that doesn't hold.
+fn check_conditions(rt: &impl Abort, alloc: Global, table: &str, count: usize) {
+    for row in table.lines() {
+        let (name, expected) = row.split_once(' ').expect(rt, "no name");
+        let word = word(rt, WORDS, name);
+        let half = word.wrapping_add(0x0100_0000_0000_0000);
+        assert!(rt; has_answers(rt, alloc, word, expected), "{row}");
+        assert!(rt; has_answers(rt, alloc, half, expected), "{row} on 32 bits");
+    }
+    assert_eq!(rt; table.lines().count(), count);
+}
+
 #[test]
 fn conditions(rt: HostRuntime) {
-    for row in CONDITIONS.lines() {
-        let (name, expected) = row.split_once(' ').expect(&rt, "no name");
-        let word = word(&rt, WORDS, name);
-        let found = answers(&rt, rt.alloc(), word);
-        assert_eq!(rt; found.as_str(), expected, "{row}");
-        let found = answers(&rt, rt.alloc(), word.wrapping_add(0x0100_0000_0000_0000));
-        assert_eq!(rt; found.as_str(), expected, "{row} on 32 bits");
-    }
+    check_conditions(&rt, rt.alloc(), CONDITIONS, 11);
     assert_eq!(rt; PAIRS.lines().count(), 6);
-    assert_eq!(rt; CONDITIONS.lines().count(), 11);
 }

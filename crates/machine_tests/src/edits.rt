@@ -246,6 +246,32 @@ fn edited(rt: &impl Abort, alloc: Global, view: &View, edit: &Edit) -> View {
     }
 }
 
+/// Makes an edit, and stops unless it is made and its entry is the one that is expected.
+fn check_made(rt: &impl Abort, alloc: Global, cpu: &mut Cpu, edit: &Edit, row: &str) {
+    let expected = entry_of(rt, alloc, cpu, edit);
+    let made = cpu.edit(edit).ok().expect(rt, row);
+    let found = entry_text(rt, alloc, &made);
+    assert_eq!(rt; found.as_str(), expected.as_str(), "{row}");
+}
+
+/// Tries an edit, and says why it isn't made.
+fn refusal_of(cpu: &mut Cpu, edit: &Edit) -> &'static str {
+    match cpu.edit(edit) {
+        Ok(_) => "done",
+        Err(EditFault::AddressNotPresent) => "absent",
+        Err(EditFault::RegisterNotWritable) => "read-only",
+        Err(EditFault::NoStart) => "no start",
+        Err(EditFault::NoCell) => "no cell",
+    }
+}
+
+/// Stops unless what is seen of a machine is what is expected.
+fn check_seen(rt: &impl Abort, seen: &View, expected: &View, row: &str) {
+    assert_eq!(rt; seen.registers, expected.registers, "{row}");
+    assert_eq!(rt; seen.place.as_str(), expected.place.as_str(), "{row}");
+    assert_eq!(rt; seen.bytes.as_slice(), expected.bytes.as_slice(), "{row}");
+}
+
 /// Makes an edit and compares its answer and all that is seen.
 fn try_edit(rt: &impl Abort, alloc: Global, last: u64, row: &str) {
     let (_, rest) = parts(rt, row);
@@ -254,44 +280,31 @@ fn try_edit(rt: &impl Abort, alloc: Global, last: u64, row: &str) {
     let mut cpu = machine_at_3(rt, alloc, last);
     let before = view_of(rt, alloc, &cpu);
     let expected = if answer == "done" {
-        let entry = entry_of(rt, alloc, &cpu, &edit);
-        match cpu.edit(&edit) {
-            Ok(made) => assert_eq!(rt;
-                entry_text(rt, alloc, &made).as_str(),
-                entry.as_str(),
-                "{row}"
-            ),
-            Err(_) => assert!(rt; false, "{row}"),
-        }
+        check_made(rt, alloc, &mut cpu, &edit, row);
         edited(rt, alloc, &before, &edit)
     } else {
-        let refusal = match cpu.edit(&edit) {
-            Ok(_) => "done",
-            Err(EditFault::AddressNotPresent) => "absent",
-            Err(EditFault::RegisterNotWritable) => "read-only",
-            Err(EditFault::NoStart) => "no start",
-            Err(EditFault::NoCell) => "no cell",
-        };
-        assert_eq!(rt; refusal, answer, "{row}");
+        assert_eq!(rt; refusal_of(&mut cpu, &edit), answer, "{row}");
         before
     };
-    let after = view_of(rt, alloc, &cpu);
-    assert_eq!(rt; after.registers, expected.registers, "{row}");
-    assert_eq!(rt; after.place.as_str(), expected.place.as_str(), "{row}");
-    assert_eq!(rt; after.bytes.as_slice(), expected.bytes.as_slice(), "{row}");
+    check_seen(rt, &view_of(rt, alloc, &cpu), &expected, row);
+}
+
+/// Stops at a row of the table that doesn't hold.
+fn check_edits(rt: &impl Abort, alloc: Global, table: &str, count: usize) {
+    for (status, last) in ENDS {
+        let cpu = machine_at_3(rt, alloc, last);
+        assert_eq!(rt; cpu.pc(), 3);
+        assert_eq!(rt; status_text(rt, alloc, cpu.status()).as_str(), status);
+        for row in table.lines() {
+            try_edit(rt, alloc, last, row);
+        }
+    }
+    assert_eq!(rt; table.lines().count(), count);
 }
 
 #[test]
 fn edits(rt: HostRuntime) {
-    for (status, last) in ENDS {
-        let cpu = machine_at_3(&rt, rt.alloc(), last);
-        assert_eq!(rt; cpu.pc(), 3);
-        assert_eq!(rt; status_text(&rt, rt.alloc(), cpu.status()).as_str(), status);
-        for row in EDITS.lines() {
-            try_edit(&rt, rt.alloc(), last, row);
-        }
-    }
-    assert_eq!(rt; EDITS.lines().count(), 73);
+    check_edits(&rt, rt.alloc(), EDITS, 73);
 }
 
 // The bytes of two cells, and those of both at the map's address.

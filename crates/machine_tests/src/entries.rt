@@ -3,6 +3,7 @@ use crate::machines::entry_text;
 use crate::rows::{number, parts, two};
 use bpf_isa::{Reg, Size};
 use bpf_machine::{ByteString, CompactEntry, Entry, Status};
+use std::alloc::Global;
 use std::process::Abort;
 
 // A kind of entry, how many bytes it replaced, and its weight.
@@ -81,16 +82,25 @@ fn entry(rt: &impl Abort, kind: &str, n: u64) -> Entry {
     found.expect(rt, "unknown kind")
 }
 
+/// What an entry weighs, and what a copy of it weighs.
+fn weights_of(rt: &impl Abort, kind: &str, n: u64) -> (u64, u64) {
+    let entry = entry(rt, kind, n);
+    (entry.weight() as u64, entry.copied().weight() as u64)
+}
+
+/// Stops at a row of the table that doesn't hold.
+fn check_weights(rt: &impl Abort, table: &str, count: usize) {
+    for row in table.lines() {
+        let (kind, numbers) = parts(rt, row);
+        let (n, weight) = two(rt, numbers);
+        assert_eq!(rt; weights_of(rt, kind, n), (weight, weight), "{row}");
+    }
+    assert_eq!(rt; table.lines().count(), count);
+}
+
 #[test]
 fn weights(rt: HostRuntime) {
-    for row in WEIGHTS.lines() {
-        let (kind, numbers) = parts(&rt, row);
-        let (n, weight) = two(&rt, numbers);
-        let entry = entry(&rt, kind, n);
-        assert_eq!(rt; entry.weight() as u64, weight, "{row}");
-        assert_eq!(rt; entry.copied().weight() as u64, weight, "a copy: {row}");
-    }
-    assert_eq!(rt; WEIGHTS.lines().count(), 20);
+    check_weights(&rt, WEIGHTS, 20);
 }
 
 // A compact entry at slot 9, its weight, and the entry that it means.
@@ -134,16 +144,21 @@ fn stored(size: Size) -> CompactEntry {
     }
 }
 
+/// Stops at a row of the table that doesn't hold.
+fn check_compact_entries(rt: &impl Abort, alloc: Global, table: &str, count: usize) {
+    for row in table.lines() {
+        let (name, rest) = parts(rt, row);
+        let (weight, text) = parts(rt, rest);
+        let compact = compact_entry(rt, name);
+        let entry = compact.expanded();
+        assert_eq!(rt; compact.weight() as u64, number(rt, weight), "{row}");
+        assert_eq!(rt; entry.weight() as u64, number(rt, weight), "{row}");
+        assert_eq!(rt; entry_text(rt, alloc, &entry).as_str(), text, "{row}");
+    }
+    assert_eq!(rt; table.lines().count(), count);
+}
+
 #[test]
 fn compact_entries(rt: HostRuntime) {
-    for row in COMPACT.lines() {
-        let (name, rest) = parts(&rt, row);
-        let (weight, text) = parts(&rt, rest);
-        let compact = compact_entry(&rt, name);
-        let entry = compact.expanded();
-        assert_eq!(rt; compact.weight() as u64, number(&rt, weight), "{row}");
-        assert_eq!(rt; entry.weight() as u64, number(&rt, weight), "{row}");
-        assert_eq!(rt; entry_text(&rt, rt.alloc(), &entry).as_str(), text, "{row}");
-    }
-    assert_eq!(rt; COMPACT.lines().count(), 7);
+    check_compact_entries(&rt, rt.alloc(), COMPACT, 7);
 }

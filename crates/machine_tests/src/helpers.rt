@@ -95,16 +95,21 @@ fn loaded(rt: &impl Abort, alloc: Global, words: &str) -> (u64, u16, String) {
     (register(rt, &cpu, 0), cpu.pc(), entry)
 }
 
-#[test]
-fn map_loads(rt: HostRuntime) {
-    for row in LOADS.lines() {
-        let (_, rest) = parts(&rt, row);
-        let (words, expected) = parts(&rt, rest);
-        let (r0, pc, entry) = loaded(&rt, rt.alloc(), words);
-        assert_eq!(rt; (r0, pc), (number(&rt, expected), 2), "{row}");
+/// Stops at a row of the table that doesn't hold.
+fn check_map_loads(rt: &impl Abort, alloc: Global, table: &str, count: usize) {
+    for row in table.lines() {
+        let (_, rest) = parts(rt, row);
+        let (words, expected) = parts(rt, rest);
+        let (r0, pc, entry) = loaded(rt, alloc, words);
+        assert_eq!(rt; (r0, pc), (number(rt, expected), 2), "{row}");
         assert_eq!(rt; entry.as_str(), "register at 0 r0 0x77", "{row}");
     }
-    assert_eq!(rt; LOADS.lines().count(), 6);
+    assert_eq!(rt; table.lines().count(), count);
+}
+
+#[test]
+fn map_loads(rt: HostRuntime) {
+    check_map_loads(&rt, rt.alloc(), LOADS, 6);
 }
 
 /// What a call of a helper does with numbers in r1 to r4.
@@ -124,34 +129,38 @@ fn called(
     outcome(rt, alloc, &cpu)
 }
 
-#[test]
-fn lookups(rt: HostRuntime) {
-    for row in LOOKUPS.lines() {
-        let (_, rest) = parts(&rt, row);
-        let (words, expected) = parts(&rt, rest);
-        let found = called(
-            &rt,
-            rt.alloc(),
-            0x8500_0000_0100_0000,
-            two(&rt, words),
-            (0, 0),
-        );
+/// Stops at a row of the table that doesn't hold.
+fn check_lookups(rt: &impl Abort, alloc: Global, table: &str, count: usize) {
+    for row in table.lines() {
+        let (_, rest) = parts(rt, row);
+        let (words, expected) = parts(rt, rest);
+        let found = called(rt, alloc, 0x8500_0000_0100_0000, two(rt, words), (0, 0));
         assert_eq!(rt; found.as_str(), expected, "{row}");
     }
-    assert_eq!(rt; LOOKUPS.lines().count(), 19);
+    assert_eq!(rt; table.lines().count(), count);
+}
+
+#[test]
+fn lookups(rt: HostRuntime) {
+    check_lookups(&rt, rt.alloc(), LOOKUPS, 19);
+}
+
+/// Stops at a row of the table that doesn't hold.
+fn check_updates(rt: &impl Abort, alloc: Global, table: &str, count: usize) {
+    for row in table.lines() {
+        let (_, rest) = parts(rt, row);
+        let (first, rest) = parts(rt, rest);
+        let (second, expected) = parts(rt, rest);
+        let (first, second) = (two(rt, first), two(rt, second));
+        let found = called(rt, alloc, 0x8500_0000_0200_0000, first, second);
+        assert_eq!(rt; found.as_str(), expected, "{row}");
+    }
+    assert_eq!(rt; table.lines().count(), count);
 }
 
 #[test]
 fn updates(rt: HostRuntime) {
-    for row in UPDATES.lines() {
-        let (_, rest) = parts(&rt, row);
-        let (first, rest) = parts(&rt, rest);
-        let (second, expected) = parts(&rt, rest);
-        let (first, second) = (two(&rt, first), two(&rt, second));
-        let found = called(&rt, rt.alloc(), 0x8500_0000_0200_0000, first, second);
-        assert_eq!(rt; found.as_str(), expected, "{row}");
-    }
-    assert_eq!(rt; UPDATES.lines().count(), 20);
+    check_updates(&rt, rt.alloc(), UPDATES, 20);
 }
 
 // Map 0 holds 01 02 .. 10, seen as two numbers, the highest byte first. An update's key address and r3; the map afterwards; the entry.
@@ -189,16 +198,21 @@ fn value(rt: &impl Abort, alloc: Global, cpu: &Cpu, index: u64) -> String {
     hexadecimal(rt, alloc, cpu.peek(address, 8).expect(rt, "absent"))
 }
 
-#[test]
-fn copies(rt: HostRuntime) {
-    for row in COPIES.lines() {
-        let (_, rest) = parts(&rt, row);
-        let (words, expected) = parts(&rt, rest);
-        let (key, source) = two(&rt, words);
-        let (found, r0) = copied(&rt, rt.alloc(), key, source);
+/// Stops at a row of the table that doesn't hold.
+fn check_copies(rt: &impl Abort, alloc: Global, table: &str, count: usize) {
+    for row in table.lines() {
+        let (_, rest) = parts(rt, row);
+        let (words, expected) = parts(rt, rest);
+        let (key, source) = two(rt, words);
+        let (found, r0) = copied(rt, alloc, key, source);
         assert_eq!(rt; (found.as_str(), r0), (expected, 0), "{row}");
     }
-    assert_eq!(rt; COPIES.lines().count(), 7);
+    assert_eq!(rt; table.lines().count(), count);
+}
+
+#[test]
+fn copies(rt: HostRuntime) {
+    check_copies(&rt, rt.alloc(), COPIES, 7);
 }
 
 // call 2; exit; stxdw [r5+0], r6; ja L0.

@@ -67,16 +67,21 @@ jlt32 r3, r1; ae13010000000000; 0x100000000 1
 jset32 r1, r1; 4e11010000000000; 0x100000000 1
 ";
 
-#[test]
-fn jumps(rt: HostRuntime) {
-    for row in JUMPS.lines() {
-        let (_, rest) = parts(&rt, row);
-        let (word, numbers) = parts(&rt, rest);
-        let (value, expected) = two(&rt, numbers);
-        let found = pc_after(&rt, rt.alloc(), &[slot(&rt, word), EXIT, EXIT], 0, value);
+/// Stops at a row of the table that doesn't hold.
+fn check_jumps(rt: &impl Abort, alloc: Global, table: &str, count: usize) {
+    for row in table.lines() {
+        let (_, rest) = parts(rt, row);
+        let (word, numbers) = parts(rt, rest);
+        let (value, expected) = two(rt, numbers);
+        let found = pc_after(rt, alloc, &[slot(rt, word), EXIT, EXIT], 0, value);
         assert_eq!(rt; found, expected, "{row}");
     }
-    assert_eq!(rt; JUMPS.lines().count(), 57);
+    assert_eq!(rt; table.lines().count(), count);
+}
+
+#[test]
+fn jumps(rt: HostRuntime) {
+    check_jumps(&rt, rt.alloc(), JUMPS, 57);
 }
 
 /// The pc after a step from a slot of a program, with a number in r1.
@@ -100,14 +105,19 @@ jeq r3, 0, -3; 1503fdff00000000; 0
 jne r3, 0, -3; 5503fdff00000000; 3
 ";
 
+/// Stops at a row of the table that doesn't hold.
+fn check_targets(rt: &impl Abort, alloc: Global, table: &str, count: usize) {
+    for row in table.lines() {
+        let (_, rest) = parts(rt, row);
+        let (word, expected) = parts(rt, rest);
+        let program = [EXIT, EXIT, slot(rt, word), EXIT, EXIT, EXIT];
+        let found = pc_after(rt, alloc, &program, 2, 0);
+        assert_eq!(rt; found, number(rt, expected), "{row}");
+    }
+    assert_eq!(rt; table.lines().count(), count);
+}
+
 #[test]
 fn targets(rt: HostRuntime) {
-    for row in TARGETS.lines() {
-        let (_, rest) = parts(&rt, row);
-        let (word, expected) = parts(&rt, rest);
-        let program = [EXIT, EXIT, slot(&rt, word), EXIT, EXIT, EXIT];
-        let found = pc_after(&rt, rt.alloc(), &program, 2, 0);
-        assert_eq!(rt; found, number(&rt, expected), "{row}");
-    }
-    assert_eq!(rt; TARGETS.lines().count(), 8);
+    check_targets(&rt, rt.alloc(), TARGETS, 8);
 }

@@ -79,34 +79,44 @@ fn end_of(rt: &impl Abort, alloc: Global, program: &[u64]) -> (u64, String) {
     (register(rt, &cpu, 0), status_text(rt, alloc, cpu.status()))
 }
 
-#[test]
-fn results(rt: HostRuntime) {
-    for row in RESULTS.lines() {
-        let (_, rest) = parts(&rt, row);
-        let (program, expected) = parts(&rt, rest);
-        let (r0, status) = end_of(&rt, rt.alloc(), &slots(&rt, rt.alloc(), program));
+/// Stops at a row of the table that doesn't hold.
+fn check_results(rt: &impl Abort, alloc: Global, table: &str, count: usize) {
+    for row in table.lines() {
+        let (_, rest) = parts(rt, row);
+        let (program, expected) = parts(rt, rest);
+        let (r0, status) = end_of(rt, alloc, &slots(rt, alloc, program));
         assert_eq!(rt;
             (r0, status.as_str()),
-            (number(&rt, expected), "exited"),
+            (number(rt, expected), "exited"),
             "{row}"
         );
     }
-    assert_eq!(rt; RESULTS.lines().count(), 25);
+    assert_eq!(rt; table.lines().count(), count);
+}
+
+#[test]
+fn results(rt: HostRuntime) {
+    check_results(&rt, rt.alloc(), RESULTS, 25);
+}
+
+/// Stops at a row of the table that doesn't hold.
+fn check_loads(rt: &impl Abort, alloc: Global, table: &str, count: usize) {
+    for row in table.lines() {
+        let (_, rest) = parts(rt, row);
+        let (word, expected) = parts(rt, rest);
+        let (r0, status) = end_of(rt, alloc, &[slot(rt, word), EXIT]);
+        assert_eq!(rt;
+            (r0, status.as_str()),
+            (number(rt, expected), "exited"),
+            "{row}"
+        );
+    }
+    assert_eq!(rt; table.lines().count(), count);
 }
 
 #[test]
 fn loads(rt: HostRuntime) {
-    for row in LOADS.lines() {
-        let (_, rest) = parts(&rt, row);
-        let (word, expected) = parts(&rt, rest);
-        let (r0, status) = end_of(&rt, rt.alloc(), &[slot(&rt, word), EXIT]);
-        assert_eq!(rt;
-            (r0, status.as_str()),
-            (number(&rt, expected), "exited"),
-            "{row}"
-        );
-    }
-    assert_eq!(rt; LOADS.lines().count(), 10);
+    check_loads(&rt, rt.alloc(), LOADS, 10);
 }
 
 /// The context's bytes at the end of a program, as a slot shows them.
@@ -116,15 +126,20 @@ fn context_after(rt: &impl Abort, alloc: Global, program: &[u64]) -> u64 {
     context(rt, &cpu).swap_bytes()
 }
 
+/// Stops at a row of the table that doesn't hold.
+fn check_stores(rt: &impl Abort, alloc: Global, table: &str, count: usize) {
+    for row in table.lines() {
+        let (_, rest) = parts(rt, row);
+        let (word, expected) = parts(rt, rest);
+        let found = context_after(rt, alloc, &[slot(rt, word), EXIT]);
+        assert_eq!(rt; found, slot(rt, expected), "{row}");
+    }
+    assert_eq!(rt; table.lines().count(), count);
+}
+
 #[test]
 fn stores(rt: HostRuntime) {
-    for row in STORES.lines() {
-        let (_, rest) = parts(&rt, row);
-        let (word, expected) = parts(&rt, rest);
-        let found = context_after(&rt, rt.alloc(), &[slot(&rt, word), EXIT]);
-        assert_eq!(rt; found, slot(&rt, expected), "{row}");
-    }
-    assert_eq!(rt; STORES.lines().count(), 8);
+    check_stores(&rt, rt.alloc(), STORES, 8);
 }
 
 /// pc and the address of the fault at which a program ends.
@@ -137,13 +152,18 @@ fn fault_of(rt: &impl Abort, alloc: Global, program: &[u64]) -> (u16, u64) {
     }
 }
 
+/// Stops at a row of the table that doesn't hold.
+fn check_faults(rt: &impl Abort, alloc: Global, table: &str, count: usize) {
+    for row in table.lines() {
+        let (_, rest) = parts(rt, row);
+        let (word, address) = parts(rt, rest);
+        let found = fault_of(rt, alloc, &[slot(rt, word), EXIT]);
+        assert_eq!(rt; found, (0, number(rt, address)), "{row}");
+    }
+    assert_eq!(rt; table.lines().count(), count);
+}
+
 #[test]
 fn faults(rt: HostRuntime) {
-    for row in FAULTS.lines() {
-        let (_, rest) = parts(&rt, row);
-        let (word, address) = parts(&rt, rest);
-        let found = fault_of(&rt, rt.alloc(), &[slot(&rt, word), EXIT]);
-        assert_eq!(rt; found, (0, number(&rt, address)), "{row}");
-    }
-    assert_eq!(rt; FAULTS.lines().count(), 8);
+    check_faults(&rt, rt.alloc(), FAULTS, 8);
 }

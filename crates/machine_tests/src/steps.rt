@@ -1,5 +1,5 @@
 //! Steps, entry by entry, in each of the ways to take one. Expected values were worked out from RFC 9669 and docs/MACHINE.md.
-use crate::machines::{EXIT, entry_text, machine, opened, view_of};
+use crate::machines::{EXIT, View, entry_text, machine, opened, step, view_of};
 use crate::programs::{FAULTS, LOADS, RESULTS, STORES};
 use crate::rows::{parts, slot, slots};
 use bpf_machine::{Cpu, Edit, Ended, Entry};
@@ -80,10 +80,10 @@ fn steps_alike(rt: &impl Abort, alloc: Global, slots: &[u64]) -> u64 {
     100
 }
 
-/// The slots of the program of `STEPS`.
-fn program(rt: &impl Abort, alloc: Global) -> Vec<u64> {
+/// The slots of the program that the first parts of a table's rows make.
+pub fn program_of(rt: &impl Abort, alloc: Global, table: &str) -> Vec<u64> {
     let mut program = Vec::new(alloc);
-    for row in STEPS.lines() {
+    for row in table.lines() {
         let (words, _) = parts(rt, row);
         program
             .extend_from_slice(&slots(rt, alloc, words))
@@ -93,57 +93,73 @@ fn program(rt: &impl Abort, alloc: Global) -> Vec<u64> {
     program
 }
 
+/// Takes a step for each row of a table, and stops where its entry isn't that of the row.
+pub fn check_entries(rt: &impl Abort, alloc: Global, cpu: &mut Cpu, table: &str) {
+    for row in table.lines() {
+        let (_, expected) = parts(rt, row);
+        let entry = step(rt, cpu);
+        assert_eq!(rt; entry_text(rt, alloc, &entry).as_str(), expected, "{row}");
+    }
+}
+
+/// Stops unless these are the registers and the place that are seen of a machine.
+pub fn check_view(rt: &impl Abort, view: &View, registers: &[u64; 11], place: &str) {
+    assert_eq!(rt; view.registers, *registers);
+    assert_eq!(rt; view.place.as_str(), place);
+}
+
+// r0 to r10 at the program's end.
+const ENDED: [u64; 11] = [
+    7,
+    0x1_0000_0000,
+    0x0000_0005_4433_2205,
+    0x8877_6655_4433_2211,
+    0x0000_0005_4433_2205,
+    0,
+    0,
+    0,
+    0,
+    0,
+    0x2_0000_0200,
+];
+
 #[test]
 fn steps_and_their_entries(rt: HostRuntime) {
-    let program = program(&rt, rt.alloc());
+    let program = program_of(&rt, rt.alloc(), STEPS);
     let mut cpu = machine(&rt, rt.alloc(), &program);
-    for row in STEPS.lines() {
-        let (_, expected) = parts(&rt, row);
-        let entry = cpu.step().ok().expect(&rt, "ended");
-        assert_eq!(rt;
-            entry_text(&rt, rt.alloc(), &entry).as_str(),
-            expected,
-            "{row}"
-        );
-    }
-    assert_eq!(rt; STEPS.lines().count(), 15);
+    check_entries(&rt, rt.alloc(), &mut cpu, STEPS);
     let view = view_of(&rt, rt.alloc(), &cpu);
-    assert_eq!(rt;
-        view.registers,
-        [
-            7,
-            0x1_0000_0000,
-            0x0000_0005_4433_2205,
-            0x8877_6655_4433_2211,
-            0x0000_0005_4433_2205,
-            0,
-            0,
-            0,
-            0,
-            0,
-            0x2_0000_0200
-        ]
-    );
-    assert_eq!(rt; view.place.as_str(), "pc 15 depth 0 traced 0 exited");
+    check_view(&rt, &view, &ENDED, "pc 15 depth 0 traced 0 exited");
     assert_eq!(rt; steps_alike(&rt, rt.alloc(), &program), 15);
+    assert_eq!(rt; STEPS.lines().count(), 15);
+}
+
+/// Stops at a row whose program doesn't end in each of the ways.
+fn check_programs(rt: &impl Abort, alloc: Global, table: &str) {
+    for row in table.lines() {
+        let (_, rest) = parts(rt, row);
+        let (program, _) = parts(rt, rest);
+        let program = slots(rt, alloc, program);
+        assert!(rt; steps_alike(rt, alloc, &program) < 100, "{row}");
+    }
+}
+
+/// Stops at a row whose word, with an exit behind it, doesn't end after so many steps in each of the ways.
+fn check_words(rt: &impl Abort, alloc: Global, table: &str, count: u64) {
+    for row in table.lines() {
+        let (_, rest) = parts(rt, row);
+        let (word, _) = parts(rt, rest);
+        let steps = steps_alike(rt, alloc, &[slot(rt, word), EXIT]);
+        assert_eq!(rt; steps, count, "{row}");
+    }
 }
 
 #[test]
 fn steps_of_each_program(rt: HostRuntime) {
-    for row in RESULTS.lines() {
-        let (_, rest) = parts(&rt, row);
-        let (program, _) = parts(&rt, rest);
-        let program = slots(&rt, rt.alloc(), program);
-        assert!(rt; steps_alike(&rt, rt.alloc(), &program) < 100, "{row}");
-    }
-    for (table, count) in [(LOADS, 2), (STORES, 2), (FAULTS, 1)] {
-        for row in table.lines() {
-            let (_, rest) = parts(&rt, row);
-            let (word, _) = parts(&rt, rest);
-            let steps = steps_alike(&rt, rt.alloc(), &[slot(&rt, word), EXIT]);
-            assert_eq!(rt; steps, count, "{row}");
-        }
-    }
+    check_programs(&rt, rt.alloc(), RESULTS);
+    check_words(&rt, rt.alloc(), LOADS, 2);
+    check_words(&rt, rt.alloc(), STORES, 2);
+    check_words(&rt, rt.alloc(), FAULTS, 1);
 }
 
 #[test]
