@@ -1,4 +1,4 @@
--- How a line is cut as it is read.
+-- Scaffolding: how a line is cut as it is read.
 use Rattle.std.specs.Prelude.{ℕ, Bool, ◌==◌, ◌&&◌, nat_lt, if◌then◌else◌, List, [], ◌∷◌, length}
 use Rattle.std.specs.List.{position_or_len, before_first, after_first}
 use Rattle.bpf_io.specs.Lines.{is_blank, trim_start}

@@ -1,4 +1,4 @@
--- The labels that a map holds.
+-- Scaffolding: the labels and statements that an outline of a listing holds.
 use Rattle.std.specs.Prelude.{ℕ, List}
 use Rattle.std.specs.Str.{bytes_eq}
 use Rattle.indexmap.specs.IndexMap.{IndexMap, get_by}

@@ -1,4 +1,4 @@
--- Statements and lines as they are read.
+-- Scaffolding: statements and lines as they are read.
 use Rattle.std.specs.Prelude.{ℕ, ◌≡◌, if◌then◌else◌, List, [], ◌∷◌, Option, Some, None, Result, Ok, Err, ⊤}
 use Rattle.std.specs.List.{list_all}
 use Rattle.bpf_isa.specs.declared.instruction.Insn.{Insn}

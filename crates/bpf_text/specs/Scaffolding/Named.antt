@@ -1,4 +1,4 @@
--- Mnemonics by their names.
+-- Scaffolding: mnemonics by their names.
 use Rattle.std.specs.Prelude.{ℕ, List, Option, find}
 use Rattle.std.specs.Str.{bytes_eq}
 use Rattle.bpf_isa.specs.declared.mnemonic.Mnemonic.{Mnemonic}

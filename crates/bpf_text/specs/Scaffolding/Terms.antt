@@ -1,4 +1,4 @@
--- Operands as they are read.
+-- Scaffolding: operands as they are read.
 use Rattle.std.specs.Prelude.{ℕ, ◌+◌, Bool, true, false, ◌==◌, ◌&&◌, ◌||◌, if◌then◌else◌, List, [], ◌∷◌, drop, length, slice_index, Option, Some, None, option_map, option_and_then}
 use Rattle.std.specs.List.{position_or_len, before_first, after_first}
 use Rattle.bpf_text.specs.declared.read.number.Number.{Number}

@@ -1,4 +1,4 @@
--- The key that a listing makes for the hashes of its labels.
+-- Scaffolding: the key that a listing makes for the hashes of its labels.
 use Rattle.std.specs.Prelude.{ℕ, List}
 use Rattle.std.specs.List.{fold}
 use Rattle.std.specs.Hash as fed
