@@ -134,15 +134,7 @@ pub fn target_of(slot: usize, insn: &Insn) -> Option<usize>
     ensures found { IfSome result (λ t. target_of slot insn.now ≡ Some (pos t)) }
     ensures none { IfNone result (target_of slot insn.now ≡ None) }
 {
-    match *insn {
-        Insn::JumpIf { offset, .. } | Insn::Jump { offset } => {
-            Some(target_slot(slot, i32::from(offset)))
-        }
-        Insn::JumpLong { distance } | Insn::CallLocal { distance } => {
-            Some(target_slot(slot, distance))
-        }
-        _ => None,
-    }
+    Some(insn.target(slot)? as usize)
 }
 
 // The slot that is the distance from the next slot.
