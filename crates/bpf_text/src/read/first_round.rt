@@ -7,9 +7,11 @@ ghost use Rattle.bpf_text.specs.Scaffolding.Labels.{labels_in, labels_of, placed
 
 use crate::fault::{AsmFault, LineFault};
 use crate::read::cut::{after, before};
-use crate::read::labels::{LabelMap, is_defined, no_labels, put_labels};
+use crate::read::labels::{LabelMap, is_defined, put_labels};
 use crate::read::line::{Line, read_line};
 use crate::read::statement::Statement;
+use crate::read::text_key::TextKey;
+use indexmap::IndexMap;
 use std::alloc::{AllocError, Global};
 
 /// A statement in its place.
@@ -85,7 +87,7 @@ pub fn first_round(alloc: Global, text: &[u8]) -> Result<Outline<'_>, AsmFault>
     ensures err { IfErr result (MemoryOr (first_round nothing 0 1 (map read_line (lines text.now)))) }
 {
     let mut outline = Outline {
-        labels: no_labels(alloc, text),
+        labels: IndexMap::with_hasher(alloc, TextKey::of(text)),
         placed: Vec::new(alloc),
     };
     let mut slot = 0;

@@ -1,22 +1,15 @@
 //! Where labels stand.
-ghost use Rattle.std.specs.Prelude.{◌≡◌, ℕ, List, Some, None, OnOk};
+ghost use Rattle.std.specs.Prelude.{◌≡◌, ℕ, List, Some, OnOk};
 ghost use Rattle.bpf_text.specs.Listing.{labels_with, is_defined};
 ghost use Rattle.bpf_text.specs.Scaffolding.Labels.{labels_in};
 
 use crate::read::term::Name;
 use crate::read::text_key::TextKey;
 use indexmap::IndexMap;
-use std::alloc::{AllocError, Global};
+use std::alloc::AllocError;
 
-/// The slot of each label that was met, in the order of the labels' lines.
+/// The slot of each label that was met, in the order of the labels' lines. Hashes by the text of the listing.
 pub type LabelMap<'a> = IndexMap<&'a [u8], u16, TextKey>;
-
-/// No label, in a map that hashes by this text.
-pub fn no_labels<'a>(alloc: Global, text: &[u8]) -> LabelMap<'a>
-    ensures { (name : List ℕ) → labels_in result name ≡ None }
-{
-    IndexMap::with_hasher(alloc, TextKey::of(text))
-}
 
 /// Puts a line's label, if it has one, at a slot.
 pub fn put_labels<'a>(
