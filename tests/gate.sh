@@ -27,6 +27,25 @@ part() {
     [ "$outcome" = passed ] || exit 1
 }
 
+# memory: the free memory, in gigabytes.
+memory() {
+    awk '/^MemAvailable/ { print int($2 / 1048576) }' /proc/meminfo
+}
+
+# alone: rt ci sets more memory aside for a check than it takes, and then leaves processors idle. No check of this repository takes over 3 GB, so where
+# there are 4 GB and more for each processor, each processor is to have one check.
+alone() {
+    processors=$(nproc)
+    limit=$(cat /sys/fs/cgroup/memory.max 2> /dev/null)
+    case $limit in
+    '' | max) ;;
+    *) [ "$((limit / 1073741824))" -ge "$((4 * processors))" ] || return ;;
+    esac
+    [ "$(memory)" -ge "$((4 * processors))" ] || return
+    RT_JOBS=$processors
+    export RT_JOBS
+}
+
 # prove: rt ci, with its words as they come and in the log. It passed where its status and its last line say so.
 prove() {
     echo 1 > out/ci.status
@@ -38,6 +57,7 @@ prove() {
 }
 
 part 'tests/pages.sh' sh tests/pages.sh
+alone
 echo 'rt ci: every proof from nothing, the must-fail edits, each test and program (an hour or more on four cores)'
 part 'rt ci' prove
 part 'tests/program.sh' sh tests/program.sh
