@@ -1,4 +1,4 @@
-//! The first round over a listing: its labels, and the faults of its lines.
+//! The first round over a listing: its labels, its statements in their places, and the faults of its lines.
 ghost use Rattle.std.specs.Prelude.{◌≡◌, ◌≤◌, ◌+◌, ℕ, List, IfOk, IfErr, OnOk, Ok, Err, map, nat_le, if◌then◌else◌};
 ghost use Rattle.bpf_io.specs.Lines.{lines};
 ghost use Rattle.bpf_text.specs.Scaffolding.Lines.{read_line, MemoryOr};
