@@ -32,8 +32,8 @@ memory() {
     awk '/^MemAvailable/ { print int($2 / 1048576) }' /proc/meminfo
 }
 
-# alone: rt ci sets more memory aside for a check than it takes, and then leaves processors idle. No check of this repository takes over 3 GB, so where
-# there are 4 GB and more for each processor, each processor is to have one check.
+# alone: rt ci sets more memory aside for a check than it takes, and then leaves processors idle. A check of this repository takes 2 GB, the
+# greatest 4.2, so where there are 4 GB and more for each processor, each processor is to have one check.
 alone() {
     processors=$(nproc)
     limit=$(cat /sys/fs/cgroup/memory.max 2> /dev/null)
@@ -58,7 +58,7 @@ prove() {
 
 part 'tests/pages.sh' sh tests/pages.sh
 alone
-echo 'rt ci: every proof from nothing, the must-fail edits, each test and program (an hour or more on four cores)'
+echo 'rt ci: every proof from nothing, the must-fail edits, each test and program (about an hour on four cores)'
 part 'rt ci' prove
 part 'tests/program.sh' sh tests/program.sh
 part 'tests/examples.sh' sh tests/examples.sh
