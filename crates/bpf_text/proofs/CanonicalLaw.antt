@@ -219,7 +219,7 @@ program-cut code known = record {
 
 -- the labels of a program
 abbrev pub program_labels : Checked → Labels
-program_labels code = labels_after (is_target 0 code.insns) no_label 0 code.insns
+program_labels code = labels_after (is_target 0 code.insns) no_label 0 1 code.insns
 
 -- each target of a program has its label
 program-reach : (code : Checked) → IsProgram code → (k : ℕ) (i : Insn) → entry code.insns k ≡ Some i
@@ -233,7 +233,7 @@ program-reach code known k i e = go (target_of k i) refl where
       let within = start-within code t start in
       let short = known.short in
       let goes = is_target-true 0 k t code.insns i e (rw (zero-add k) g) in
-      let found = labels_after-has (is_target 0 code.insns) no_label 0 t code.insns (rw (zero-add (length code.insns)) short) start
+      let found = labels_after-has (is_target 0 code.insns) no_label 0 t 1 code.insns (rw (zero-add (length code.insns)) short) start
       (rw (zero-add t) goes) in
       (omega (arith, within, short), rw (zero-add t) at found)
 

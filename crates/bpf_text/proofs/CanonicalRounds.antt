@@ -38,14 +38,20 @@ slot_of-le p (Some i ∷ rest) = omega arith
 slot_of-le p (None ∷ rest) = omega arith
 
 -- the labels after the slots from p on
-abbrev pub labels_at : Bool → Labels → ℕ → Labels
-labels_at false labels p = labels
-labels_at true labels p = labels_with labels p (Some (label_text p))
+abbrev pub labels_at : Bool → Labels → ℕ → ℕ → Labels
+labels_at false labels p line_number = labels
+labels_at true labels p line_number = labels_with labels (record { line = line_number; slot = p }) (Some (label_text p))
 
-abbrev pub labels_after : (ℕ → Bool) → Labels → ℕ → List (Option Insn) → Labels
-labels_after f labels p [] = labels
-labels_after f labels p (None ∷ rest) = labels_after f labels (p + 1) rest
-labels_after f labels p (Some i ∷ rest) = labels_after f (labels_at (f p) labels p) (p + 1) rest
+-- the line of the instruction in a slot, whose label's line is the first of so many
+abbrev pub line_of_insn : Bool → ℕ → ℕ
+line_of_insn false line_number = line_number
+line_of_insn true line_number = line_number + 1
+
+abbrev pub labels_after : (ℕ → Bool) → Labels → ℕ → ℕ → List (Option Insn) → Labels
+labels_after f labels p line_number [] = labels
+labels_after f labels p line_number (None ∷ rest) = labels_after f labels (p + 1) line_number rest
+labels_after f labels p line_number (Some i ∷ rest) =
+    labels_after f (labels_at (f p) labels p line_number) (p + 1) (line_of_insn (f p) line_number + 1) rest
 
 -- no slot from p on is labelled
 abbrev pub Fresh : Labels → ℕ → Type 0
@@ -85,16 +91,12 @@ bytes_eq-self [] = refl
 bytes_eq-self (b ∷ s) = rw (eq-eqb b b refl) (bytes_eq-self s)
 
 -- after a label further slots have none
-Fresh-next : (b : Bool) (labels : Labels) (p : ℕ) → p ≤ 65535 → Fresh labels p → Fresh (labels_at b labels p) (p + 1)
-Fresh-next false labels p h fresh q more most = fresh q (omega arith) most
-Fresh-next true labels p h fresh q more most =
+Fresh-next : (b : Bool) (labels : Labels) (p line_number : ℕ) → p ≤ 65535 → Fresh labels p → Fresh (labels_at b labels p line_number) (p + 1)
+Fresh-next false labels p line_number h fresh q more most = fresh q (omega arith) most
+Fresh-next true labels p line_number h fresh q more most =
     rw (label-other p q h most (λ e. absurd (omega arith))) (fresh q (omega arith) most)
 
--- the statement of an instruction in slot p, whose label's line is the first of so many
-abbrev pub line_of_insn : Bool → ℕ → ℕ
-line_of_insn false line_number = line_number
-line_of_insn true line_number = line_number + 1
-
+-- the statement of an instruction in slot p
 abbrev pub placed_at : Bool → ℕ → ℕ → Insn → Placed
 placed_at b p line_number i = record { line = line_of_insn b line_number; slot = p; statement = statement_from p i }
 
@@ -109,7 +111,7 @@ first_round-slot : (b : Bool) (labels : Labels) (placed : List Placed) (p line_n
     (result : Result Outline AsmFault)
     → p ≤ 65535 → Fresh labels p → InsnFits i → TargetFits (target_of p i) → p + slots_of i ≤ 65535
     → next ≡ p + slots_of i
-    → first_round (labels_at b labels p, placed ++ placed_at b p line_number i ∷ []) next (line_of_insn b line_number + 1) (map read_line tail)
+    → first_round (labels_at b labels p line_number, placed ++ placed_at b p line_number i ∷ []) next (line_of_insn b line_number + 1) (map read_line tail)
     ≡ result
     → first_round (labels, placed) p line_number (map read_line (slot_list b p (Some i) ++ tail)) ≡ result
 first_round-slot false labels placed p line_number next i tail result h fresh fits t room e follows =
@@ -119,61 +121,72 @@ first_round-slot true labels placed p line_number next i tail result h fresh fit
     let named = Reads-label p (omega arith) in
     let read = Reads-insn p i fits t in
     let here = line_end-label labels p h (fresh p (omega arith) h) in
-    let there = line_end-insn (labels_with labels p (Some (label_text p))) p i fits t room in
+    let there = line_end-insn (labels_at true labels p line_number) p i fits t room in
     rw (here, named.says, there, read.says, ← e) follows
 
 pub first_round-canonical : (f : ℕ → Bool) (labels : Labels) (placed : List Placed) (p line_number : ℕ) (rest : List (Option Insn))
     → p + length rest ≤ 65535 → AllFit p rest → WellCut p rest → Fresh labels p
     → first_round (labels, placed) (slot_of p rest) line_number (map read_line (line_list f p rest))
-    ≡ Ok (labels_after f labels p rest, placed ++ placed_list f p line_number rest)
+    ≡ Ok (labels_after f labels p line_number rest, placed ++ placed_list f p line_number rest)
 first_round-canonical f labels placed p line_number [] h fits cut fresh = ap (λ l. Ok (labels, l)) (sym (append-nil placed))
 first_round-canonical f labels placed p line_number (None ∷ rest) h fits cut fresh =
     let S : ℕ → Type 0 = λ s. first_round (labels, placed) s line_number (map read_line (line_list f (p + 1) rest))
-    ≡ Ok (labels_after f labels (p + 1) rest, placed ++ placed_list f (p + 1) line_number rest) in
+    ≡ Ok (labels_after f labels (p + 1) line_number rest, placed ++ placed_list f (p + 1) line_number rest) in
     subst S cut.0 (first_round-canonical f labels placed (p + 1) line_number rest (omega arith) fits.1 cut.1 (λ q more most. fresh q (omega arith) most))
 first_round-canonical f labels placed p line_number (Some i ∷ rest) h fits cut fresh =
     let most = slot_of-le (p + 1) rest in
     let here = placed_at (f p) p line_number i in
     let after = line_of_insn (f p) line_number + 1 in
-    let next = first_round-canonical f (labels_at (f p) labels p) (placed ++ here ∷ []) (p + 1) after rest (omega arith) fits.1 cut.1
-    (Fresh-next (f p) labels p (omega arith) fresh) in
+    let next = first_round-canonical f (labels_at (f p) labels p line_number) (placed ++ here ∷ []) (p + 1) after rest (omega arith) fits.1 cut.1
+    (Fresh-next (f p) labels p line_number (omega arith) fresh) in
     first_round-slot (f p) labels placed p line_number (slot_of (p + 1) rest) i (line_list f (p + 1) rest) _ (omega arith) fresh
     fits.0.0 fits.0.1 (omega (arith, cut.0, most)) cut.0
-    (next ∙ ap (λ l. Ok (labels_after f (labels_at (f p) labels p) (p + 1) rest, l)) (append_assoc placed (here ∷ []) (placed_list f (p + 1) after rest)))
+    (next ∙ ap (λ l. Ok (labels_after f (labels_at (f p) labels p line_number) (p + 1) after rest, l)) (append_assoc placed (here ∷ []) (placed_list f (p + 1) after rest)))
 
 -- earlier labels stay
-labels_after-keeps : (f : ℕ → Bool) (labels : Labels) (p t : ℕ) (rest : List (Option Insn)) → p + length rest ≤ 65535 → t < p
-    → labels_after f labels p rest (label_text t) ≡ labels (label_text t)
-labels_after-keeps f labels p t [] h less = refl
-labels_after-keeps f labels p t (None ∷ rest) h less = labels_after-keeps f labels (p + 1) t rest (omega arith) (omega arith)
-labels_after-keeps f labels p t (Some i ∷ rest) h less =
-    labels_after-keeps f (labels_at (f p) labels p) (p + 1) t rest (omega arith) (omega arith) ∙ one (f p) where
-      one : (b : Bool) → labels_at b labels p (label_text t) ≡ labels (label_text t)
+labels_after-keeps : (f : ℕ → Bool) (labels : Labels) (p t line_number : ℕ) (rest : List (Option Insn)) → p + length rest ≤ 65535 → t < p
+    → labels_after f labels p line_number rest (label_text t) ≡ labels (label_text t)
+labels_after-keeps f labels p t line_number [] h less = refl
+labels_after-keeps f labels p t line_number (None ∷ rest) h less =
+    labels_after-keeps f labels (p + 1) t line_number rest (omega arith) (omega arith)
+labels_after-keeps f labels p t line_number (Some i ∷ rest) h less =
+    labels_after-keeps f (labels_at (f p) labels p line_number) (p + 1) t (line_of_insn (f p) line_number + 1) rest (omega arith) (omega arith)
+    ∙ one (f p) where
+      one : (b : Bool) → labels_at b labels p line_number (label_text t) ≡ labels (label_text t)
       one false = refl
       one true = rw (label-other p t (omega arith) (omega arith) (λ e. absurd (omega arith))) refl
 
+-- the label of a slot stands in it
+abbrev pub IsAt : Labels → ℕ → Type 0
+IsAt labels t = (line : ℕ) × (labels (label_text t) ≡ Some (record { line = line; slot = t }))
+
 -- a labelled slot has its label
-pub labels_after-has : (f : ℕ → Bool) (labels : Labels) (p k : ℕ) (rest : List (Option Insn)) → p + length rest ≤ 65535
+pub labels_after-has : (f : ℕ → Bool) (labels : Labels) (p k line_number : ℕ) (rest : List (Option Insn)) → p + length rest ≤ 65535
     → IsSome (unwrap_or (slice_get rest k) None) → f (p + k) ≡ true
-    → labels_after f labels p rest (label_text (p + k)) ≡ Some (p + k)
-labels_after-has f labels p k [] h start on = cc
-labels_after-has f labels p zero (None ∷ rest) h start on = cc
-labels_after-has f labels p zero (Some i ∷ rest) h start on =
+    → IsAt (labels_after f labels p line_number rest) (p + k)
+labels_after-has f labels p k line_number [] h start on = cc
+labels_after-has f labels p zero line_number (None ∷ rest) h start on = cc
+labels_after-has f labels p zero line_number (Some i ∷ rest) h start on =
     let here : p + 0 ≡ p = omega arith in
     let labelled : f p ≡ true = rw here at on in
-    rw here (labels_after-keeps f (labels_at (f p) labels p) (p + 1) p rest (omega arith) (omega arith)
-    ∙ ap (λ b. labels_at b labels p (label_text p)) labelled ∙ rw (bytes_eq-self (label_text p)) refl)
-labels_after-has f labels p (suc k) (None ∷ rest) h start on =
+    let at_p = labels_at (f p) labels p line_number in
+    rw here (
+      line_number,
+      labels_after-keeps f at_p (p + 1) p (line_of_insn (f p) line_number + 1) rest (omega arith) (omega arith)
+          ∙ ap (λ b. labels_at b labels p line_number (label_text p)) labelled ∙ rw (bytes_eq-self (label_text p)) refl,
+    )
+labels_after-has f labels p (suc k) line_number (None ∷ rest) h start on =
     let next : p + suc k ≡ p + 1 + k = omega arith in
-    rw next (labels_after-has f labels (p + 1) k rest (omega arith) start (rw next at on))
-labels_after-has f labels p (suc k) (Some i ∷ rest) h start on =
+    rw next (labels_after-has f labels (p + 1) k line_number rest (omega arith) start (rw next at on))
+labels_after-has f labels p (suc k) line_number (Some i ∷ rest) h start on =
     let next : p + suc k ≡ p + 1 + k = omega arith in
-    rw next (labels_after-has f (labels_at (f p) labels p) (p + 1) k rest (omega arith) start (rw next at on))
+    rw next (labels_after-has f (labels_at (f p) labels p line_number) (p + 1) k (line_of_insn (f p) line_number + 1) rest (omega arith) start
+    (rw next at on))
 
 -- each target has its label
 abbrev pub Reaches : Labels → Option ℤ → Type 0
 Reaches labels None = Unit {0}
-Reaches labels (Some (pos t)) = (t ≤ 65535) × (labels (label_text t) ≡ Some t)
+Reaches labels (Some (pos t)) = (t ≤ 65535) × IsAt labels t
 Reaches labels (Some (negsuc n)) = ⊥
 
 abbrev pub EntryReaches : Labels → ℕ → Option Insn → Type 0
@@ -195,7 +208,7 @@ fits-offset (negsuc n) fits = let h : n < 32768 = fits.sfits in grind (arith, na
 -- the label of a target is found
 with_target-at : (labels : Labels) (p : ℕ) (i : Insn) (z : ℤ) → Reaches labels (Some z)
     → with_target labels p i (target_text (Some z)) ≡ with_distance i (z -ℤ pos (p + 1))
-with_target-at labels p i (pos t) reach = rw reach.1 refl
+with_target-at labels p i (pos t) reach = rw reach.1.1 refl
 with_target-at labels p i (negsuc n) reach = absurd reach
 
 -- an instruction gets its target back

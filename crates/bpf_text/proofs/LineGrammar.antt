@@ -22,7 +22,7 @@ use Rattle.bpf_text.specs.Scaffolding.Lines.{read_line, line_of}
 use Rattle.bpf_text.specs.declared.read.line.Line.{Line}
 use Rattle.bpf_text.specs.Mnemonics.{name_of}
 use Rattle.bpf_text.specs.Scaffolding.Named.{named}
-use Rattle.bpf_text.specs.declared.fault.LineFault.TheVariants.{UnknownMnemonic, WrongOperands, OutOfRange, LabelTwice, UnknownLabel, NotText, TooManySlots}
+use Rattle.bpf_text.specs.declared.fault.LineFault.TheVariants.{UnknownMnemonic, WrongOperands, OutOfRange, TooFar, LabelTwice, UnknownLabel, NotText, TooManySlots}
 use Rattle.bpf_text.specs.Instructions.{forms_of, insn_with}
 use Rattle.bpf_text.specs.LineGrammar.{LineReading}
 use Rattle.bpf_text.specs.Scaffolding.Lines.{read_statement, of_mnemonic, of_forms, in_ranges}
@@ -219,7 +219,8 @@ says-statement rest (Err WrongOperands) known = formed-so rest known.1 known.0 N
 says-statement rest (Err OutOfRange) known =
     let terms = (operand-lists (forms_of known.0) known.1 known.2).1 known.4 in
     formed-so rest known.1 known.0 (Some known.2) known.3 terms ∙ rw known.5 refl
-says-statement rest (Err LabelTwice) known = absurd known
+says-statement rest (Err (TooFar distance)) known = absurd known
+says-statement rest (Err (LabelTwice first)) known = absurd known
 says-statement rest (Err UnknownLabel) known = absurd known
 says-statement rest (Err NotText) known = absurd known
 says-statement rest (Err TooManySlots) known = absurd known
@@ -450,7 +451,8 @@ says-line line (Err NotText) known =
 says-line line (Err UnknownMnemonic) known = absurd known
 says-line line (Err WrongOperands) known = absurd known
 says-line line (Err OutOfRange) known = absurd known
-says-line line (Err LabelTwice) known = absurd known
+says-line line (Err (TooFar distance)) known = absurd known
+says-line line (Err (LabelTwice first)) known = absurd known
 says-line line (Err UnknownLabel) known = absurd known
 says-line line (Err TooManySlots) known = absurd known
 

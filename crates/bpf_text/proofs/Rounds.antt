@@ -29,14 +29,14 @@ first_round-Err outline slot line_number rest line reading fault h first read e 
 pub first_round-Ok : (outline found : Outline) (slot line_number : ℕ) (rest line left : List ℕ) (reading : LineReading LineSaid)
     (next : ℕ) → 0 < length rest → line ≡ before 10 rest → left ≡ after 10 rest
     → reading ≡ read_line line → line_end outline.0 slot reading ≡ Ok next
-    → ((q : List ℕ) → found.0 q ≡ labels_with outline.0 slot (label_of reading) q)
+    → ((q : List ℕ) → found.0 q ≡ labels_with outline.0 (record { line = line_number; slot = slot }) (label_of reading) q)
     → found.1 ≡ placed_with outline.1 slot line_number (statement_of reading)
     → first_round found next (line_number + 1) (map read_line (lines left))
     ≡ first_round outline slot line_number (map read_line (lines rest))
 first_round-Ok outline found slot line_number rest line left reading next h first others read e labels placed =
     let here : reading ≡ read_line (before 10 rest) = read ∙ ap read_line first in
-    let labelled : found.0 ≡ labels_with outline.0 slot (label_of (read_line (before 10 rest))) =
-    fun_ext labels ∙ ap (λ r. labels_with outline.0 slot (label_of r)) here in
+    let labelled : found.0 ≡ labels_with outline.0 (record { line = line_number; slot = slot }) (label_of (read_line (before 10 rest))) =
+    fun_ext labels ∙ ap (λ r. labels_with outline.0 (record { line = line_number; slot = slot }) (label_of r)) here in
     let stated : found.1 ≡ placed_with outline.1 slot line_number (statement_of (read_line (before 10 rest))) =
     placed ∙ ap (λ r. placed_with outline.1 slot line_number (statement_of r)) here in
     let end : line_end outline.0 slot (read_line (before 10 rest)) ≡ Ok next = ap (line_end outline.0 slot) (sym here) ∙ e in

@@ -1,7 +1,7 @@
 -- The faults of listings and their numbers. They are bpfdb's own choice.
 use Rattle.std.specs.Prelude.{ℕ, List, Option, Some, None, codes}
 use Rattle.bpf_text.specs.declared.fault.LineFault.{LineFault}
-use Rattle.bpf_text.specs.declared.fault.LineFault.TheVariants.{UnknownMnemonic, WrongOperands, OutOfRange, LabelTwice, UnknownLabel, NotText, TooManySlots}
+use Rattle.bpf_text.specs.declared.fault.LineFault.TheVariants.{UnknownMnemonic, WrongOperands, OutOfRange, TooFar, LabelTwice, UnknownLabel, NotText, TooManySlots}
 use Rattle.bpf_text.specs.declared.fault.AsmFault.{AsmFault}
 use Rattle.bpf_text.specs.declared.fault.AsmFault.TheVariants.{Line, Memory}
 
@@ -10,7 +10,8 @@ abbrev pub line_fault_number : LineFault → ℕ
 line_fault_number UnknownMnemonic = 1
 line_fault_number WrongOperands = 2
 line_fault_number OutOfRange = 3
-line_fault_number LabelTwice = 4
+line_fault_number (TooFar distance) = 3
+line_fault_number (LabelTwice first) = 4
 line_fault_number UnknownLabel = 5
 line_fault_number NotText = 6
 line_fault_number TooManySlots = 8
@@ -25,7 +26,8 @@ abbrev pub line_fault_text : LineFault → List ℕ
 line_fault_text UnknownMnemonic = codes "unknown mnemonic"
 line_fault_text WrongOperands = codes "wrong operands"
 line_fault_text OutOfRange = codes "number out of range"
-line_fault_text LabelTwice = codes "label defined twice"
+line_fault_text (TooFar distance) = codes "number out of range"
+line_fault_text (LabelTwice first) = codes "label defined twice"
 line_fault_text UnknownLabel = codes "unknown label"
 line_fault_text NotText = codes "byte outside ASCII text"
 line_fault_text TooManySlots = codes "too many slots"

@@ -1,14 +1,15 @@
 -- A listing: what its lines say, its faults in two rounds, and its bytes. It is bpfdb's own choice.
-use Rattle.std.specs.Prelude.{ℕ, ℤ, pos, negsuc, ◌≡◌, ◌+◌, ◌-ℤ◌, Bool, true, false, nat_le, nat_lt, is_some, if◌then◌else◌, List, [], ◌∷◌, ◌++◌, Option, Some, None, Result, Ok, Err, ⊤}
+use Rattle.std.specs.Prelude.{ℕ, ℤ, pos, negsuc, ◌≡◌, ◌+◌, ◌-ℤ◌, Bool, nat_le, nat_lt, if◌then◌else◌, List, [], ◌∷◌, ◌++◌, Option, Some, None, Result, Ok, Err, ⊤}
 use Rattle.std.specs.Str.{bytes_eq}
 use Rattle.bpf_isa.specs.declared.instruction.Insn.{Insn}
 use Rattle.bpf_isa.specs.declared.instruction.Insn.TheVariants.{JumpIf, Jump, JumpLong, CallLocal}
 use Rattle.bpf_isa.specs.Programs.{slots_of}
 use Rattle.bpf_isa.specs.Words.{IsWord}
-use Rattle.bpf_text.specs.declared.fault.LineFault.TheVariants.{OutOfRange, LabelTwice, UnknownLabel, TooManySlots}
+use Rattle.bpf_text.specs.declared.fault.LineFault.TheVariants.{TooFar, LabelTwice, UnknownLabel, TooManySlots}
 use Rattle.bpf_text.specs.declared.fault.AsmFault.{AsmFault}
 use Rattle.bpf_text.specs.declared.fault.AsmFault.TheVariants.{Line, Memory}
 use Rattle.bpf_text.specs.declared.read.first_round.Placed.{Placed}
+use Rattle.bpf_text.specs.declared.read.labels.Definition.{Definition}
 use Rattle.bpf_text.specs.declared.read.line.Line.{Line as LineSaid}
 use Rattle.bpf_text.specs.declared.read.statement.Statement.{Statement}
 use Rattle.bpf_io.specs.Lines.{lines}
@@ -21,21 +22,21 @@ AreReadings [] [] = Unit {0}
 AreReadings (line ∷ lines) (reading ∷ readings) = IsReading line reading × AreReadings lines readings
 AreReadings lines readings = ⊥
 
--- Where labels stand: the slot of a name.
+-- Where labels stand: the line and the slot of a name.
 abbrev pub Labels : Type 0
-Labels = List ℕ → Option ℕ
+Labels = List ℕ → Option Definition
 
 abbrev pub no_label : Labels
 no_label name = None
 
 -- The labels before, and one more.
-abbrev pub labels_with : Labels → ℕ → Option (List ℕ) → Labels
-labels_with labels slot None = labels
-labels_with labels slot (Some name) = λ q. if bytes_eq name q then Some slot else labels q
+abbrev pub labels_with : Labels → Definition → Option (List ℕ) → Labels
+labels_with labels definition None = labels
+labels_with labels definition (Some name) = λ q. if bytes_eq name q then Some definition else labels q
 
-abbrev pub is_defined : Labels → Option (List ℕ) → Bool
-is_defined labels None = false
-is_defined labels (Some name) = is_some (labels name)
+abbrev pub definition_of : Labels → Option (List ℕ) → Option Definition
+definition_of labels None = None
+definition_of labels (Some name) = labels name
 
 -- The label of a line, and its statement, if it has them.
 abbrev pub label_of : LineReading LineSaid → Option (List ℕ)
@@ -58,9 +59,13 @@ slot_after slot (Ok (Some statement)) =
     if nat_le (slot + slots_of statement.insn) 65535 then Ok (slot + slots_of statement.insn) else Err TooManySlots
 
 -- The first round at a line: the slot after it, or its first fault.
+abbrev pub unless_defined : Option Definition → LineReading ℕ → LineReading ℕ
+unless_defined (Some definition) next = Err (LabelTwice definition.line)
+unless_defined None next = next
+
 abbrev pub line_end : Labels → ℕ → LineReading LineSaid → LineReading ℕ
 line_end labels slot (Err fault) = Err fault
-line_end labels slot (Ok line) = if is_defined labels line.label then Err LabelTwice else slot_after slot line.statement
+line_end labels slot (Ok line) = unless_defined (definition_of labels line.label) (slot_after slot line.statement)
 
 -- What follows a line, unless it has a fault.
 abbrev pub line_or : {A B : Type 0} → LineReading A → ℕ → (A → Result B AsmFault) → Result B AsmFault
@@ -77,7 +82,7 @@ placed_with placed slot line_number (Some statement) = placed ++ record { line =
 
 abbrev pub outline_with : Outline → ℕ → ℕ → LineReading LineSaid → Outline
 outline_with outline slot line_number reading =
-    (labels_with outline.0 slot (label_of reading), placed_with outline.1 slot line_number (statement_of reading))
+    (labels_with outline.0 (record { line = line_number; slot = slot }) (label_of reading), placed_with outline.1 slot line_number (statement_of reading))
 
 abbrev pub nothing : Outline
 nothing = (no_label, [])
@@ -93,22 +98,21 @@ fits_offset (pos n) = nat_lt n 32768
 fits_offset (negsuc n) = nat_lt n 32768
 
 -- An instruction with the distance of its target.
-abbrev pub fitting : Bool → Insn → LineReading Insn
-fitting true insn = Ok insn
-fitting false insn = Err OutOfRange
+abbrev pub fitting : ℤ → Insn → LineReading Insn
+fitting distance insn = if fits_offset distance then Ok insn else Err (TooFar distance)
 
 abbrev pub with_distance : Insn → ℤ → LineReading Insn
 with_distance (JumpIf condition width dst source offset) distance =
-    fitting (fits_offset distance) (JumpIf condition width dst source distance)
-with_distance (Jump offset) distance = fitting (fits_offset distance) (Jump distance)
+    fitting distance (JumpIf condition width dst source distance)
+with_distance (Jump offset) distance = fitting distance (Jump distance)
 with_distance (JumpLong old) distance = Ok (JumpLong distance)
 with_distance (CallLocal old) distance = Ok (CallLocal distance)
 with_distance insn distance = Ok insn
 
 -- The instruction in a slot whose target is a label: the distance is counted from the next slot.
-abbrev pub with_label : ℕ → Insn → Option ℕ → LineReading Insn
+abbrev pub with_label : ℕ → Insn → Option Definition → LineReading Insn
 with_label slot insn None = Err UnknownLabel
-with_label slot insn (Some target) = with_distance insn (pos target -ℤ pos (slot + 1))
+with_label slot insn (Some target) = with_distance insn (pos target.slot -ℤ pos (slot + 1))
 
 abbrev pub with_target : Labels → ℕ → Insn → Option (List ℕ) → LineReading Insn
 with_target labels slot insn None = Ok insn

@@ -9,10 +9,13 @@ pub enum LineFault {
     UnknownMnemonic,
     /// A2: the operands are not of the mnemonic's form.
     WrongOperands,
-    /// A3: a number, or the distance of a target, is out of its range.
+    /// A3: a number is out of its range.
     OutOfRange,
-    /// A4: an earlier line has the label.
-    LabelTwice,
+    /// A3: the target of a `ja` or of a conditional jump is farther than 16 bits tell. It is so many slots from the slot behind the jump; a
+    /// `ja32` reaches it.
+    TooFar(i32),
+    /// A4: an earlier line has the label: the one with this number, counted from 1.
+    LabelTwice(usize),
     /// A5: no line has the label that a target names.
     UnknownLabel,
     /// A6: a byte that may only stand in comments.
@@ -39,8 +42,8 @@ impl AsmFault {
             AsmFault::Line(fault, _) => match fault {
                 LineFault::UnknownMnemonic => 1,
                 LineFault::WrongOperands => 2,
-                LineFault::OutOfRange => 3,
-                LineFault::LabelTwice => 4,
+                LineFault::OutOfRange | LineFault::TooFar(_) => 3,
+                LineFault::LabelTwice(_) => 4,
                 LineFault::UnknownLabel => 5,
                 LineFault::NotText => 6,
                 LineFault::TooManySlots => 8,
@@ -57,8 +60,8 @@ impl AsmFault {
             AsmFault::Line(fault, _) => match fault {
                 LineFault::UnknownMnemonic => "unknown mnemonic",
                 LineFault::WrongOperands => "wrong operands",
-                LineFault::OutOfRange => "number out of range",
-                LineFault::LabelTwice => "label defined twice",
+                LineFault::OutOfRange | LineFault::TooFar(_) => "number out of range",
+                LineFault::LabelTwice(_) => "label defined twice",
                 LineFault::UnknownLabel => "unknown label",
                 LineFault::NotText => "byte outside ASCII text",
                 LineFault::TooManySlots => "too many slots",

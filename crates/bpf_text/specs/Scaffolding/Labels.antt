@@ -4,10 +4,11 @@ use Rattle.std.specs.Str.{bytes_eq}
 use Rattle.indexmap.specs.IndexMap.{IndexMap, get_by}
 use Rattle.std.specs.Borrow.{Bor}
 use Rattle.bpf_text.specs.declared.read.first_round.Outline.{Outline}
+use Rattle.bpf_text.specs.declared.read.labels.Definition.{Definition}
 use Rattle.bpf_text.specs.declared.read.first_round.Placed.{Placed}
 use Rattle.bpf_text.specs.Listing.{Labels}
 
-abbrev pub labels_in : {S : Type 0} → IndexMap (Bor (List ℕ)) ℕ S → Labels
+abbrev pub labels_in : {S : Type 0} → IndexMap (Bor (List ℕ)) Definition S → Labels
 labels_in map = λ q. get_by (λ name. bytes_eq q name.now) map
 
 -- The labels and the statements of an outline.

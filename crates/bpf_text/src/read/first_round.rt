@@ -7,7 +7,7 @@ ghost use Rattle.bpf_text.specs.Scaffolding.Labels.{labels_in, labels_of, placed
 
 use crate::fault::{AsmFault, LineFault};
 use crate::read::cut::{after, before};
-use crate::read::labels::{LabelMap, is_defined, put_labels};
+use crate::read::labels::{Definition, LabelMap, definition_of, put_label};
 use crate::read::line::{Line, read_line};
 use crate::read::statement::Statement;
 use crate::read::text_key::TextKey;
@@ -40,14 +40,18 @@ impl<'a> Outline<'a> {
         line: Result<Line<'a>, LineFault>,
     ) -> Result<(), AllocError>
         ensures labels { OnOk result ((q : List ℕ) → labels_of self.new q
-            ≡ labels_with (labels_of self.old) slot (label_of line.entry) q) }
+            ≡ labels_with (labels_of self.old) (record { line = line_number; slot = slot }) (label_of line.entry) q) }
         ensures placed { OnOk result (placed_of self.new
             ≡ placed_with (placed_of self.old) slot line_number (statement_of line.entry)) }
     {
         match line {
             Err(_) => Ok(()),
             Ok(Line { label, statement }) => {
-                put_labels(&mut self.labels, label, slot)?;
+                let definition = Definition {
+                    line: line_number,
+                    slot,
+                };
+                put_label(&mut self.labels, label, definition)?;
                 push_statement(&mut self.placed, slot, line_number, statement)
             }
         }
@@ -120,13 +124,10 @@ fn line_end(
 {
     match line {
         Err(fault) => Err(*fault),
-        Ok(line) => {
-            if is_defined(labels, &line.label) {
-                Err(LineFault::LabelTwice)
-            } else {
-                slot_after(slot, &line.statement)
-            }
-        }
+        Ok(line) => match definition_of(labels, &line.label) {
+            Some(definition) => Err(LineFault::LabelTwice(definition.line)),
+            None => slot_after(slot, &line.statement),
+        },
     }
 }
 

@@ -7,7 +7,7 @@ ghost use Rattle.bpf_text.specs.Scaffolding.Labels.{labels_in, labels_of, placed
 
 use crate::fault::{AsmFault, LineFault};
 use crate::read::first_round::{Outline, Placed};
-use crate::read::labels::{LabelMap, slot_of};
+use crate::read::labels::{Definition, LabelMap, definition_of};
 use bpf_isa::{Insn, encode};
 use std::alloc::Global;
 
@@ -36,18 +36,19 @@ fn insn_at(labels: &LabelMap<'_>, placed: &Placed<'_>) -> Result<Insn, LineFault
     ensures { result ≡ insn_at (labels_in labels.now) placed.now }
 {
     let insn = placed.statement.insn;
-    match &placed.statement.target {
+    let target = &placed.statement.target;
+    match target {
         None => Ok(insn),
-        Some(name) => with_label(placed.slot, insn, slot_of(labels, name.bytes)),
+        Some(_) => with_label(placed.slot, insn, definition_of(labels, target)),
     }
 }
 
-fn with_label(slot: u16, insn: Insn, target: Option<u16>) -> Result<Insn, LineFault>
+fn with_label(slot: u16, insn: Insn, target: Option<Definition>) -> Result<Insn, LineFault>
     ensures { result ≡ with_label slot insn target }
 {
     match target {
         None => Err(LineFault::UnknownLabel),
-        Some(target) => with_distance(insn, distance_to(slot, target)),
+        Some(target) => with_distance(insn, distance_to(slot, target.slot)),
     }
 }
 
@@ -90,11 +91,11 @@ fn with_distance(insn: Insn, distance: i32) -> Result<Insn, LineFault>
 
 // A distance as an offset of 16 bits.
 fn offset_of(distance: i32) -> Result<i16, LineFault>
-    ensures { result ≡ (if fits_offset distance then Ok distance else Err LineFault.OutOfRange) }
+    ensures { result ≡ (if fits_offset distance then Ok distance else Err (LineFault.TooFar distance)) }
 {
     if -32768 <= distance && distance <= 32767 {
         Ok(distance as i16)
     } else {
-        Err(LineFault::OutOfRange)
+        Err(LineFault::TooFar(distance))
     }
 }
