@@ -27,6 +27,11 @@ has_prefix s = bytes_eq (take 2 s) (codes "0x")
 abbrev pub natural : List ℕ → Option ℕ
 natural s = if has_prefix s then numeral 16 (drop 2 s) else numeral 10 s
 
+-- It is the number that the grammar says, and none where the grammar says none.
+pub record ReadsNaturals (s : List ℕ) : Type 0 where
+  pub says : (n : ℕ) → natural s ≡ Some n → IsNatural s n
+  pub said : (n : ℕ) → IsNatural s n → natural s ≡ Some n
+
 -- A number below 2^64.
 abbrev pub as_u64 : ℕ → Option ℕ
 as_u64 n = if nat_lt n (2 ^ 64) then Some n else None

@@ -2,7 +2,7 @@
 ghost use Rattle.std.specs.Prelude.{◌≡◌, ◌≤◌};
 ghost use Rattle.std.specs.List.{list_all};
 ghost use Rattle.std.specs.Char.{digit_value, is_digit};
-ghost use Rattle.bpf_io.specs.Numerals.{as_u64, natural, numeral};
+ghost use Rattle.bpf_io.specs.Numerals.{ReadsNaturals, as_u64, natural, numeral};
 
 use std::marker::Model;
 
@@ -50,8 +50,10 @@ impl<'a> Numeral<'a> {
 }
 
 /// The number that a text is: decimal digits, or 0x and hexadecimal digits of either case. None where it is none.
+#[tactic(auto, using(crate::proofs::Naturals::reads_naturals))]
 pub fn natural(text: &[u8]) -> Option<Numeral<'_>>
-    ensures { result ≡ natural text.now }
+    ensures value { result ≡ natural text.now }
+    ensures grammar { ReadsNaturals text.now }
 {
     match text.strip_prefix(b"0x") {
         Some(digits) => read_digits(digits, 16),

@@ -7,6 +7,7 @@ use Rattle.std.proofs.lemmas.Slice.Eq.{bytes_eq-Decides}
 use Rattle.std.proofs.lemmas.Bool.{eqb-true}
 use Rattle.std.proofs.lemmas.Bool.Decides.{nat_tests}
 use Rattle.std.proofs.lemmas.List.{append-nil}
+use Rattle.bpf_io.proofs.Naturals.{and-both}
 use Rattle.bpf_isa.specs.declared.instruction.Insn.{Insn}
 use Rattle.bpf_isa.specs.declared.mnemonic.Mnemonic.{Mnemonic}
 use Rattle.bpf_text.specs.declared.read.statement.Statement.{Statement}
@@ -30,7 +31,7 @@ use Rattle.bpf_text.specs.Scaffolding.Terms.{terms_of}
 use Rattle.bpf_text.proofs.MnemonicNames.{named-name_of}
 use Rattle.bpf_text.proofs.OperandGrammar.{split-first, trim_start-blank, trim_start-other, trim_start-blanks, trim_start-says, trim_end-says, padded-trim}
 use Rattle.bpf_text.proofs.OperandLists.{name-plain, trim_end-blanks, trim-snug, operand-lists}
-use Rattle.bpf_text.proofs.PlainTexts.{is_plain, and-both, and-join, list_all-append, no_blank, solid-blank, position_or_len-at, before_first-at, before_first-none, after_first-at, after_first-none, plain-colon, Snug, Snug-solid, Snug-plain, Snug-append}
+use Rattle.bpf_text.proofs.PlainTexts.{is_plain, and-join, list_all-append, no_blank, solid-blank, position_or_len-at, before_first-at, before_first-none, after_first-at, after_first-none, plain-colon, Snug, Snug-solid, Snug-plain, Snug-append}
 
 -- ---- cuts
 

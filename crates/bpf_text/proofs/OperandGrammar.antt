@@ -9,6 +9,7 @@ use Rattle.std.specs.Char.{digit_value}
 use Rattle.std.proofs.lemmas.Bool.{eq-eqb, eqb-true}
 use Rattle.std.proofs.lemmas.Bool.Decides.{nat_tests}
 use Rattle.std.proofs.lemmas.List.Sums.{prefix_len-le-length}
+use Rattle.bpf_io.proofs.Naturals.{and-both, digit-other, list_all-AllDigits, natural-says, says-natural}
 use Rattle.bpf_text.specs.declared.read.number.Number.{Number}
 use Rattle.bpf_text.specs.declared.read.term.OperandForm.{OperandForm}
 use Rattle.bpf_text.specs.declared.read.term.OperandForm.TheVariants as form
@@ -22,9 +23,9 @@ use Rattle.bpf_text.specs.Grammar.{IsRegister, IsSigned, Padded, IsDisplaced, Is
 use Rattle.bpf_text.specs.Scaffolding.Terms.{signed, is_sign, is_bracketed}
 use Rattle.bpf_text.specs.Tokens.{register, number_of}
 use Rattle.bpf_text.specs.Scaffolding.Terms.{term_of, memory, base_and_displacement, displacement, register_or}
-use Rattle.bpf_text.proofs.PlainTexts.{no_blank, not-true, and-both, and-join, list_all-append, list_all-weaken, before_first-at, before_first-none, position_or_len-none}
-use Rattle.bpf_text.proofs.TokenTexts.{digit-other, slice_index-other, list_all-AllDigits, is_decimal, are_decimal, is_open, no_sign, displacement-at, memory-at}
-use Rattle.bpf_text.proofs.TokenGrammar.{register-says, says-register, natural-says, says-natural, signed-says, says-signed, map-says}
+use Rattle.bpf_text.proofs.PlainTexts.{no_blank, not-true, and-join, list_all-append, list_all-weaken, before_first-at, before_first-none, position_or_len-none}
+use Rattle.bpf_text.proofs.TokenTexts.{slice_index-other, is_decimal, are_decimal, is_open, no_sign, displacement-at, memory-at}
+use Rattle.bpf_text.proofs.TokenGrammar.{register-says, says-register, signed-says, says-signed, map-says}
 
 -- the first byte that passes, and what stands on both sides
 abbrev pub Splits : (ℕ → Bool) → List ℕ → Type 0

@@ -2,6 +2,7 @@
 use Rattle.std.proofs.Common.{ℕ, ◌≡◌, ◌<◌, ◌+◌, ◌==◌, Bool, true, false, not, ◌↔◌, List, [], ◌∷◌, ◌++◌, length, length-append, refl, ap, sym, ◌∙◌, arith, Option, Some, None, option_map, option_and_then, subst, append_assoc, inl, inr}
 use Rattle.std.proofs.lemmas.List.{append-nil}
 use Rattle.std.proofs.lemmas.Bool.Decides.{nat_tests}
+use Rattle.bpf_io.proofs.Naturals.{and-both}
 use Rattle.bpf_text.specs.declared.read.number.Number.{Number}
 use Rattle.bpf_text.specs.declared.read.term.OperandForm.{OperandForm}
 use Rattle.bpf_text.specs.declared.read.term.OperandForm.TheVariants as form
@@ -18,7 +19,7 @@ use Rattle.bpf_text.specs.Grammar.{IsRegister, IsSigned, IsInside, IsDisplaced, 
 use Rattle.bpf_text.specs.Grammar.{two, three, one}
 use Rattle.bpf_text.specs.Scaffolding.Terms.{terms_of, term_of}
 use Rattle.bpf_text.proofs.Cutting.{trim_end-blank}
-use Rattle.bpf_text.proofs.PlainTexts.{is_plain, are_plain, and-both, and-join, list_all-append, list_all-weaken, before_first-at, after_first-at, Snug, Snug-plain, Snug-append}
+use Rattle.bpf_text.proofs.PlainTexts.{is_plain, are_plain, and-join, list_all-append, list_all-weaken, before_first-at, after_first-at, Snug, Snug-plain, Snug-append}
 use Rattle.bpf_text.proofs.OperandGrammar.{is_mark, register-marks, natural-marks, padded-all, trim_start-blanks, says-operand, map-some, padded-trim, split-first, operand-says}
 use Rattle.std.proofs.Math.ListN.{drop_of_length-le}
 use Rattle.std.proofs.lemmas.List.Sums.{prefix_len-le-length}

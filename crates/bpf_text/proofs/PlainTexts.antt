@@ -7,6 +7,7 @@ use Rattle.std.specs.Fmt.{decimal}
 use Rattle.std.proofs.lemmas.Fmt.{decimal_by_steps}
 use Rattle.std.proofs.lemmas.Bool.Decides.{nat_tests}
 use Rattle.std.proofs.Math.Seq.{take-append_seam, drop-append-add, take-length}
+use Rattle.bpf_io.proofs.Naturals.{and-both}
 use Rattle.bpf_io.specs.Lines.{is_blank, trim_start}
 use Rattle.bpf_text.specs.Scaffolding.Cuts.{trim, trim_end, onto_trimmed}
 
@@ -17,11 +18,6 @@ is_plain b = nat_le 33 b && nat_le b 126 && not (b == 44) && not (b == 58) && no
 -- a text of such bytes
 abbrev pub are_plain : List ℕ → Bool
 are_plain s = list_all is_plain s
-
--- both of two facts
-pub and-both : (a b : Bool) → (a && b) ≡ true → (a ≡ true) × (b ≡ true)
-and-both true b h = (refl, h)
-and-both false b h = cc
 
 pub and-join : (a b : Bool) → a ≡ true → b ≡ true → (a && b) ≡ true
 and-join a b p q = rw (p, q) refl

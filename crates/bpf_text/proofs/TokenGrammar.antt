@@ -1,19 +1,17 @@
 -- What is read of registers and numbers is what their grammar says.
-use Rattle.std.proofs.Common.{ℕ, ◌≡◌, ◌<◌, ◌≤◌, ◌+◌, ◌-◌, ◌==◌, Bool, true, false, ◌&&◌, List, [], ◌∷◌, ◌++◌, refl, ap, sym, ◌∙◌, arith, inl, inr, lit<, lit≤, nat_lt, nat_le, Option, Some, None, option_map, drop, if◌then◌else◌}
-use Rattle.std.specs.List.{list_all}
+use Rattle.std.proofs.Common.{ℕ, ◌≡◌, ◌≤◌, ◌+◌, ◌-◌, ◌==◌, Bool, true, false, ◌&&◌, List, [], ◌∷◌, ◌++◌, refl, ap, sym, ◌∙◌, arith, inl, inr, lit<, lit≤, nat_lt, nat_le, Option, Some, None, option_map, drop, if◌then◌else◌}
 use Rattle.std.specs.Fmt.{decimal}
-use Rattle.std.specs.Str.Parse.{AllDigits, digits_value}
 use Rattle.std.specs.Char.{digit_value}
 use Rattle.std.proofs.lemmas.Bool.{eqb-true}
 use Rattle.std.proofs.lemmas.Bool.Decides.{nat_tests}
 use Rattle.std.proofs.lemmas.Fmt.{decimal_digit, decimal_step}
+use Rattle.bpf_io.proofs.Naturals.{digit-other, list_all-AllDigits, natural-says, says-natural}
 use Rattle.bpf_text.specs.declared.read.number.Number.{Number}
-use Rattle.bpf_io.specs.Numerals.{AreDigits, IsNatural, numeral, natural, has_prefix}
+use Rattle.bpf_io.specs.Numerals.{IsNatural, natural}
 use Rattle.bpf_text.specs.Grammar.{IsRegister, IsSigned}
 use Rattle.bpf_text.specs.Scaffolding.Terms.{is_negative, signed}
 use Rattle.bpf_text.specs.Tokens.{register, number_of}
-use Rattle.bpf_text.proofs.PlainTexts.{and-both}
-use Rattle.bpf_text.proofs.TokenTexts.{register-text, numeral-digits, decimal-no-prefix, digit-other, list_all-AllDigits, slice_index-other}
+use Rattle.bpf_text.proofs.TokenTexts.{register-text, slice_index-other}
 
 -- registers
 decimal-ten : decimal 10 ≡ 49 ∷ 48 ∷ []
@@ -53,41 +51,6 @@ register-says (a ∷ b ∷ c ∷ d ∷ s) r e = cc
 
 pub says-register : (s : List ℕ) (r : ℕ) → IsRegister s r → register s ≡ Some r
 says-register s r known = ap register known.1 ∙ register-text r known.0
-
--- digits
-AllDigits-list_all : (radix : ℕ) (s : List ℕ) → list_all (λ d. nat_lt (digit_value d) radix) s ≡ true → AllDigits radix s
-AllDigits-list_all radix [] p = tt
-AllDigits-list_all radix (b ∷ s) p =
-    let parts = and-both (nat_lt (digit_value b) radix) (list_all (λ d. nat_lt (digit_value d) radix) s) p in
-    (less (digit_value b) radix parts.0, AllDigits-list_all radix s parts.1) where
-      less : (a b : ℕ) → nat_lt a b ≡ true → a < b
-      less a b h = grind (arith, nat_tests)
-
-numeral-says : (radix n : ℕ) (s : List ℕ) → numeral radix s ≡ Some n → AreDigits radix s n
-numeral-says radix n [] e = cc
-numeral-says radix n (c ∷ s) e = go (list_all (λ d. nat_lt (digit_value d) radix) (c ∷ s)) refl e where
-  go : (t : Bool) → list_all (λ d. nat_lt (digit_value d) radix) (c ∷ s) ≡ t
-      → (if t then Some (digits_value radix (c ∷ s)) else None) ≡ Some n → AreDigits radix (c ∷ s) n
-  go true h e = let value : digits_value radix (c ∷ s) ≡ n = cc in ((omega arith, AllDigits-list_all radix (c ∷ s) h), value)
-  go false h e = cc
-
--- a number without a sign
-prefix-says : (s : List ℕ) → has_prefix s ≡ true → s ≡ 48 ∷ 120 ∷ drop 2 s
-prefix-says [] h = cc
-prefix-says (a ∷ []) h = let parts = and-both (a == 48) false h in cc
-prefix-says (a ∷ b ∷ s) h =
-    let parts = and-both (a == 48) ((b == 120) && true) h in
-    rw (eqb-true a 48 parts.0, eqb-true b 120 (and-both (b == 120) true parts.1).0) refl
-
-pub natural-says : (s : List ℕ) (n : ℕ) → natural s ≡ Some n → IsNatural s n
-natural-says s n e = go (has_prefix s) refl e where
-  go : (t : Bool) → has_prefix s ≡ t → (if t then numeral 16 (drop 2 s) else numeral 10 s) ≡ Some n → IsNatural s n
-  go true h e = inr (drop 2 s, prefix-says s h, numeral-says 16 n (drop 2 s) e)
-  go false h e = inl (numeral-says 10 n s e)
-
-pub says-natural : (s : List ℕ) (n : ℕ) → IsNatural s n → natural s ≡ Some n
-says-natural s n (inl known) = rw (decimal-no-prefix s known.0.1) (numeral-digits 10 n s known.0 known.1)
-says-natural s n (inr known) = ap natural known.1 ∙ numeral-digits 16 n known.0 known.2.0 known.2.1
 
 -- a number with a sign or none
 minus-says : (s : List ℕ) → is_negative s ≡ true → s ≡ 45 ∷ drop 1 s

@@ -1,12 +1,11 @@
 -- Canonical operands are read back.
 use Rattle.std.proofs.Common.{ℕ, ℤ, pos, negsuc, zero, suc, ◌≡◌, ◌<◌, ◌≤◌, ◌+◌, ◌-◌, ◌%◌, ◌^◌, ◌==◌, Bool, true, false, ◌&&◌, not, List, [], ◌∷◌, ◌++◌, length, refl, ap, ◌∙◌, arith, inl, inr, lit<, lit≤, nat_lt, nat_le, Some, None, option_map, w32, w16, SFits, slice_index, length-append}
 use Rattle.std.proofs.Math.Seq.{get_or-append_seam, drop-append-add, take-append_seam}
-use Rattle.std.proofs.lemmas.Bool.{eq-eqb, eqb-true}
+use Rattle.std.proofs.lemmas.Bool.{eq-eqb}
+use Rattle.bpf_io.proofs.Naturals.{and-both, numeral-digits, decimal-no-prefix}
 use Rattle.bpf_text.specs.declared.write.operand.Operand.TheVariants.{Memory}
 use Rattle.std.specs.List.{list_all}
 use Rattle.std.specs.Fmt.{decimal, digits, signed_decimal}
-use Rattle.std.specs.Str.Parse.{AllDigits, IsNumeral, digits_value}
-use Rattle.std.specs.Char.{digit_value}
 use Rattle.std.proofs.lemmas.Fmt.{decimal_by_steps, decimal_digit, decimal_step, decimal_is_IsNumeral, digits_is_IsNumeral}
 use Rattle.std.proofs.lemmas.Bool.Decides.{nat_tests, leb_tells}
 use Rattle.std.proofs.lemmas.Int.{to_z_pos}
@@ -17,13 +16,13 @@ use Rattle.bpf_text.specs.declared.read.term.Term.{Term}
 use Rattle.bpf_text.specs.declared.read.term.Term.TheVariants as term
 use Rattle.bpf_text.specs.Characters.{is_name, is_name_byte}
 use Rattle.bpf_text.specs.Scaffolding.Cuts.{trim}
-use Rattle.bpf_io.specs.Numerals.{numeral, natural, has_prefix}
+use Rattle.bpf_io.specs.Numerals.{natural}
 use Rattle.bpf_text.specs.Scaffolding.Terms.{is_negative, signed, is_sign}
 use Rattle.bpf_text.specs.Tokens.{register, number_of, unsigned, immediate, wide, offset}
 use Rattle.bpf_text.specs.Scaffolding.Terms.{memory, base_and_displacement, displacement}
 use Rattle.bpf_io.specs.Writing.{hexadecimal}
 use Rattle.bpf_text.specs.Operands.{register_text, label_text, operand_text}
-use Rattle.bpf_text.proofs.PlainTexts.{and-both, are_plain, list_all-append, list_all-weaken, are_plain-decimal, position_or_len-at, before_first-at, trim-plain}
+use Rattle.bpf_text.proofs.PlainTexts.{are_plain, list_all-append, list_all-weaken, are_plain-decimal, position_or_len-at, before_first-at, trim-plain}
 
 -- a decimal digit
 abbrev pub is_decimal : ℕ → Bool
@@ -37,11 +36,6 @@ pub are_decimal : (n : ℕ) → n < 2 ^ 64 → list_all is_decimal (decimal n) �
 are_decimal = decimal_by_steps (λ n ds. list_all is_decimal ds ≡ true)
     (λ n h. rw (is_decimal-digit n h) refl)
     (λ n ds h p. list_all-append is_decimal ds ((48 + n % 10) ∷ []) p (rw (is_decimal-digit (n % 10) (omega arith)) refl))
-
--- one of two facts fails
-and-false : (a b : Bool) → b ≡ false → (a && b) ≡ false
-and-false true b h = h
-and-false false b h = refl
 
 -- a byte that no byte of a text is, and that isn't 0
 pub slice_index-other : (test : ℕ → Bool) (c : ℕ) (s : List ℕ) (i : ℕ)
@@ -67,36 +61,6 @@ register-text r h = elim (leb_tells 10 r) [
       let back : 48 + r - 48 ≡ r = omega arith in
       rw (decimal_digit r t.1) (register-digit (48 + r) (is_decimal-digit r t.1) ∙ ap Some back)
 ]
-
--- digits as a number
-pub list_all-AllDigits : (radix : ℕ) (s : List ℕ) → AllDigits radix s → list_all (λ d. nat_lt (digit_value d) radix) s ≡ true
-list_all-AllDigits radix [] p = refl
-list_all-AllDigits radix (b ∷ s) p =
-    let here : nat_lt (digit_value b) radix ≡ true = less (digit_value b) radix p.0 in
-    rw (here, list_all-AllDigits radix s p.1) refl where
-      less : (a b : ℕ) → a < b → nat_lt a b ≡ true
-      less a b h = grind (arith, nat_tests)
-
-pub numeral-digits : (radix n : ℕ) (s : List ℕ) → IsNumeral radix s → digits_value radix s ≡ n → numeral radix s ≡ Some n
-numeral-digits radix n [] known e = absurd (omega (arith, known.0))
-numeral-digits radix n (c ∷ s) known e =
-    let whole = list_all-AllDigits radix (c ∷ s) known.1 in
-    rw whole (ap Some e)
-
--- a decimal digit is no byte that is none
-pub digit-other : (c b : ℕ) → nat_lt (digit_value c) 10 ≡ false → nat_lt (digit_value b) 10 ≡ true → (b == c) ≡ false
-digit-other c b misses passes = go (b == c) refl where
-  go : (t : Bool) → (b == c) ≡ t → (b == c) ≡ false
-  go true e = let same = eqb-true b c e in let clash = rw same at passes in cc
-  go false e = e
-
--- a decimal number
-pub decimal-no-prefix : (s : List ℕ) → AllDigits 10 s → has_prefix s ≡ false
-decimal-no-prefix [] p = refl
-decimal-no-prefix (a ∷ []) p = and-false (a == 48) false refl
-decimal-no-prefix (a ∷ b ∷ s) p =
-    let other = digit-other 120 b refl (and-both (nat_lt (digit_value b) 10) (list_all (λ d. nat_lt (digit_value d) 10) s) (list_all-AllDigits 10 (b ∷ s) p.1)).0 in
-    and-false (a == 48) ((b == 120) && true) (rw other refl)
 
 pub natural-decimal : (n : ℕ) → n < 2 ^ 64 → natural (decimal n) ≡ Some n
 natural-decimal n h =

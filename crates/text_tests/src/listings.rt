@@ -2,6 +2,7 @@
 use crate::answers::{answer, listed};
 use crate::rows::{LINES, MEMORY, MNEMONICS, NAMES, NUMBERS};
 use crate::words::WORDS;
+use bpf_text::{AsmFault, LineFault, assemble};
 use std::alloc::{AllocError, Global};
 use std::test::Fail;
 
@@ -119,6 +120,45 @@ fn answered_shortly(alloc: Global, row: &str) -> Result<String, Fail> {
 fn reaches_the_last_slot_and_far_targets(rt: HostRuntime) -> Result<(), Fail> {
     for row in LONG.lines() {
         let found = answered_shortly(rt.alloc(), row)?;
+        assert_eq!(rt; found.as_str(), row);
+    }
+    Ok(())
+}
+
+// A first line, how many lines `exit` follow, and a last line; and what is wrong: a label that stands twice, with the line that has it first; a
+// target that is too far, with how far it is from the slot after the jump; or anything else.
+const DETAILS: &str = "\
+x:~1~x: => twice 1\n\
+~3~x:|exit|y: exit|x: add r0 => twice 4\n\
+x: x:~0~ => other\n\
+ja x~32768~x: exit => far 32768\n\
+jeq r1, 2, x~32768~x: exit => far 32768\n\
+x:~32768~ja x => far -32769\n\
+x:~32768~jset32 r1, r2, x => far -32769\n\
+mov r0, 4294967296~0~ => other\n\
+ja y~0~x: => other";
+
+// A row of details with the fault that was found in place of the one that it has.
+fn detailed(alloc: Global, row: &str) -> Result<String, Fail> {
+    let lines = row.split_once(" => ").ok_or("no arrow")?.0;
+    let listing = long_listing(alloc, lines)?
+        .as_str()
+        .replace(alloc, '|', "\n")?;
+    let fault = assemble(alloc, listing.as_str().trim_start().as_bytes())
+        .err()
+        .ok_or("no fault")?;
+    let found = match fault {
+        AsmFault::Line(LineFault::LabelTwice(first), _) => format!(in alloc; "twice {first}")?,
+        AsmFault::Line(LineFault::TooFar(distance), _) => format!(in alloc; "far {distance}")?,
+        _ => format!(in alloc; "other")?,
+    };
+    Ok(format!(in alloc; "{lines} => {found}")?)
+}
+
+#[test]
+fn tells_what_a_reader_looks_for(rt: HostRuntime) -> Result<(), Fail> {
+    for row in DETAILS.lines() {
+        let found = detailed(rt.alloc(), row)?;
         assert_eq!(rt; found.as_str(), row);
     }
     Ok(())
