@@ -144,7 +144,7 @@ commands() {
     fault "docs/COMMANDS.md has other commands than crates/bpf_script/specs/Commands.antt, or another order"
 }
 
-# refusals: each number and text of the crates' refusals is a row of docs/COMMANDS.md, and no other is.
+# refusals: each number and text of the crates' refusals is a row of docs/COMMANDS.md, and no other is. Of variants of one number the first counts.
 refusals() {
     cat crates/bpf_*/src/fault.rt crates/bpf_script/src/refusal.rt | awk '
         BEGIN {
@@ -152,6 +152,7 @@ refusals() {
             letter["LineFault"] = letter["AsmFault"] = "A"
             letter["MapFault"] = "M"; letter["OpenFault"] = "O"; letter["JournalFault"] = "J"; letter["Refusal"] = "Q"
         }
+        { gsub(/\(_\)/, ""); gsub(/ \| [A-Za-z]+::[A-Za-z]+/, "") }
         match($0, /[A-Za-z]+::[A-Za-z]+ => ([0-9]+|"[^"]*"),$/) {
             split(substr($0, RSTART, RLENGTH - 1), parts, / => /)
             split(parts[1], name, "::")
