@@ -1,6 +1,7 @@
 //! Addresses: which have a byte, and which the program may access. Expected values are those of docs/MACHINE.md.
 use crate::machines::{EXIT, entry_text, machine, step, with_maps};
-use crate::rows::{parts, three, two};
+use crate::rows::{check_count, check_text, parts, stop_unless, three, two};
+use crate::tables::{Table, check};
 use bpf_machine::{ByteString, Cpu, Edit};
 use std::alloc::Global;
 use std::process::Abort;
@@ -84,16 +85,26 @@ all bytes from the context on; 0x100000000 -1; no no
 all bytes from frame 0 on; 0x200000000 -1; no no
 ";
 
-/// Whether a run of bytes is present and whether the program may access it, by its address and how many bytes. A run has no other length.
+/// Whether a run of bytes is present. A run has no other length.
+fn is_present(cpu: &Cpu, address: u64, count: usize) -> bool {
+    if count == 0 {
+        return false;
+    }
+    match cpu.peek(address, count) {
+        Some(run) => run.len() == count,
+        None => false,
+    }
+}
+
+/// Whether a run of bytes is present and whether the program may access it, by its address and how many bytes.
 fn answers(rt: &impl Abort, cpu: &Cpu, numbers: &str) -> &'static str {
     let (address, count) = two(rt, numbers);
     let count = count as usize;
     assert!(rt; count > 0);
-    let is_present = match cpu.peek(address, count) {
-        Some(run) => run.len() == count,
-        None => false,
-    };
-    match (is_present, cpu.accessible(address, count)) {
+    match (
+        is_present(cpu, address, count),
+        cpu.accessible(address, count),
+    ) {
         (true, true) => "yes yes",
         (true, false) => "yes no",
         (false, true) => "no yes",
@@ -101,20 +112,16 @@ fn answers(rt: &impl Abort, cpu: &Cpu, numbers: &str) -> &'static str {
     }
 }
 
-/// Stops at a row of the table that doesn't hold.
-fn check_addresses(rt: &impl Abort, cpu: &Cpu, table: &str, count: usize) {
-    for row in table.lines() {
-        let (_, words) = parts(rt, row);
-        let (numbers, wanted) = parts(rt, words);
-        assert_eq!(rt; answers(rt, cpu, numbers), wanted, "{row}");
-    }
-    assert_eq!(rt; table.lines().count(), count);
+/// Whether a row of runs holds.
+pub fn run_holds(rt: &impl Abort, alloc: Global, row: &str) -> bool {
+    let (_, words) = parts(rt, row);
+    let (numbers, expected) = parts(rt, words);
+    answers(rt, &machine(rt, alloc, &[EXIT]), numbers) == expected
 }
 
 #[test]
 fn addresses(rt: HostRuntime) {
-    let cpu = machine(&rt, rt.alloc(), &[EXIT]);
-    check_addresses(&rt, &cpu, RUNS, 74);
+    check(&rt, rt.alloc(), Table::Addresses, RUNS, 74);
 }
 
 // The maps of a machine, a run of bytes, its address and how many bytes; whether it is present and whether the program may access it.
@@ -163,20 +170,17 @@ fn answers_with(rt: &impl Abort, alloc: Global, maps: &str, numbers: &str) -> &'
     answers(rt, &with_maps(rt, alloc, &[EXIT], maps), numbers)
 }
 
-/// Stops at a row of the table that doesn't hold.
-fn check_maps(rt: &impl Abort, alloc: Global, table: &str, count: usize) {
-    for row in table.lines() {
-        let (maps, rest) = parts(rt, row);
-        let (_, words) = parts(rt, rest);
-        let (numbers, wanted) = parts(rt, words);
-        assert_eq!(rt; answers_with(rt, alloc, maps, numbers), wanted, "{row}");
-    }
-    assert_eq!(rt; table.lines().count(), count);
+/// Whether a row of runs holds of a machine with the row's maps.
+pub fn map_run_holds(rt: &impl Abort, alloc: Global, row: &str) -> bool {
+    let (maps, rest) = parts(rt, row);
+    let (_, words) = parts(rt, rest);
+    let (numbers, expected) = parts(rt, words);
+    answers_with(rt, alloc, maps, numbers) == expected
 }
 
 #[test]
 fn maps(rt: HostRuntime) {
-    check_maps(&rt, rt.alloc(), MAP_RUNS, 37);
+    check(&rt, rt.alloc(), Table::MapAddresses, MAP_RUNS, 37);
 }
 
 // Map i has i + 1 bytes.
@@ -195,13 +199,18 @@ fn ends_there(cpu: &Cpu, i: u64) -> bool {
     cpu.accessible(base + i % 16, 1) && !cpu.accessible(base + i % 16 + 1, 1)
 }
 
+/// Stops unless each map has its bytes, and no more.
+fn check_sixteen(rt: &impl Abort, cpu: &Cpu) {
+    for i in 0..16u64 {
+        stop_unless(rt, has_its_bytes(cpu, i) && ends_there(cpu, i), "a map");
+    }
+}
+
 #[test]
 fn sixteen_maps(rt: HostRuntime) {
     let cpu = with_maps(&rt, rt.alloc(), &[EXIT], SIXTEEN);
-    for i in 0..16u64 {
-        assert!(rt; has_its_bytes(&cpu, i) && ends_there(&cpu, i), "map {i}");
-    }
-    assert_eq!(rt; answers(&rt, &cpu, "0x301000000 1"), "no no");
+    check_sixteen(&rt, &cpu);
+    check_text(&rt, answers(&rt, &cpu, "0x301000000 1"), "no no");
 }
 
 // callf 0: each step is one call deeper.
@@ -233,15 +242,20 @@ fn frames_seen(rt: &impl Abort, alloc: Global, cpu: &Cpu) -> String {
 const SEEN: &str =
     "ynnnnnnnyy yynnnnnnyy yyynnnnnyy yyyynnnnyy yyyyynnnyy yyyyyynnyy yyyyyyynyy yyyyyyyyyy";
 
+/// Takes a step for each word of a text, and stops where the word doesn't show the frames that can be accessed.
+fn check_depths(rt: &impl Abort, alloc: Global, cpu: &mut Cpu, text: &str) {
+    for expected in text.split(' ') {
+        check_text(rt, frames_seen(rt, alloc, cpu).as_str(), expected);
+        let _entry = step(rt, cpu);
+    }
+}
+
 // At depth d a run in frame i can be accessed when i is at most d; the context and the maps always.
 #[test]
 fn depths(rt: HostRuntime) {
     let mut cpu = with_maps(&rt, rt.alloc(), &DEEPER, "8x2");
-    for expected in SEEN.split(' ') {
-        assert_eq!(rt; frames_seen(&rt, rt.alloc(), &cpu).as_str(), expected);
-        let _entry = step(&rt, &mut cpu);
-    }
-    assert!(rt; cpu.status().has_ended());
+    check_depths(&rt, rt.alloc(), &mut cpu, SEEN);
+    stop_unless(&rt, cpu.status().has_ended(), "running");
 }
 
 // The regions of memory with a context of 8 bytes and the maps 8x2, 1x1 and 3x5: a byte, the address and how many bytes.
@@ -279,23 +293,32 @@ fn is_all(cpu: &Cpu, address: u64, count: u64, byte: u64) -> bool {
     }
 }
 
-/// Writes the byte of each row to its whole region.
-fn fill(rt: &impl Abort, cpu: &mut Cpu, table: &str) {
-    for row in table.lines() {
-        let (byte, address, count) = three(rt, row);
-        for at in 0..count {
-            put(rt, cpu, address.wrapping_add(at), byte);
-        }
+/// Writes the byte of a row to its whole region.
+fn fill_region(rt: &impl Abort, cpu: &mut Cpu, row: &str) {
+    let (byte, address, count) = three(rt, row);
+    for at in 0..count {
+        put(rt, cpu, address.wrapping_add(at), byte);
     }
 }
 
-/// Stops at a row whose region holds another byte.
-fn check_filled(rt: &impl Abort, cpu: &Cpu, table: &str, count: usize) {
+/// Writes the byte of each row to its whole region.
+fn fill(rt: &impl Abort, cpu: &mut Cpu, table: &str) {
     for row in table.lines() {
-        let (byte, address, count) = three(rt, row);
-        assert!(rt; is_all(cpu, address, count, byte), "{row}");
+        fill_region(rt, cpu, row);
     }
-    assert_eq!(rt; table.lines().count(), count);
+}
+
+/// Whether the region of a row holds its byte.
+fn is_filled(rt: &impl Abort, cpu: &Cpu, row: &str) -> bool {
+    let (byte, address, count) = three(rt, row);
+    is_all(cpu, address, count, byte)
+}
+
+/// Stops at a row whose region holds another byte.
+fn check_filled(rt: &impl Abort, cpu: &Cpu, table: &str) {
+    for row in table.lines() {
+        stop_unless(rt, is_filled(rt, cpu, row), row);
+    }
 }
 
 // A byte of its own for each region, written to all of its bytes: then each region has its own.
@@ -303,7 +326,8 @@ fn check_filled(rt: &impl Abort, cpu: &Cpu, table: &str, count: usize) {
 fn bytes_apart(rt: HostRuntime) {
     let mut cpu = with_maps(&rt, rt.alloc(), &[EXIT], "8x2,1x1,3x5");
     fill(&rt, &mut cpu, REGIONS);
-    check_filled(&rt, &cpu, REGIONS, 12);
+    check_filled(&rt, &cpu, REGIONS);
+    check_count(&rt, REGIONS, 12);
 }
 
 /// The entry of an edit of the last cell of map 15, where that has 4,096 values of 16 bytes.
@@ -323,8 +347,6 @@ fn last_cell(rt: &impl Abort, alloc: Global) -> String {
 #[test]
 fn the_last_cell(rt: HostRuntime) {
     let found = last_cell(&rt, rt.alloc());
-    assert_eq!(rt;
-        found.as_str(),
-        "edit 0x300f0fff0 00000000000000000000000000000000"
-    );
+    let expected = "edit 0x300f0fff0 00000000000000000000000000000000";
+    check_text(&rt, found.as_str(), expected);
 }

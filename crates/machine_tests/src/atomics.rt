@@ -1,6 +1,9 @@
 //! Atomic operations. Expected values were worked out from RFC 9669, section 5.3.
-use crate::machines::{EXIT, context, entry_text, opened, register, set, status_text, step};
-use crate::rows::{number, parts, slot, three, two};
+use crate::machines::{
+    EXIT, context, context_text, opened, register, set, status_text, step, step_text,
+};
+use crate::rows::{check_text, number, parts, slot, three, two};
+use crate::tables::{Table, check};
 use bpf_machine::Cpu;
 use std::alloc::Global;
 use std::process::Abort;
@@ -211,113 +214,99 @@ fn operation(rt: &impl Abort, imm: u64, width: u64) -> u64 {
     class.expect(rt, "no width") | imm % 0x100 * 0x100_0000
 }
 
-/// A machine over 8 bytes after a step of an operation, with numbers in r0 and r2 before it, and the step's entry.
-fn stepped(rt: &impl Abort, alloc: Global, word: u64, old: u64, r0: u64, r2: u64) -> (Cpu, String) {
+/// A machine over 8 bytes whose next step is an operation, with numbers in r0 and r2.
+fn ready(rt: &impl Abort, alloc: Global, word: u64, old: u64, r0: u64, r2: u64) -> Cpu {
     let mut cpu = opened(rt, alloc, &[word, EXIT], &old.to_le_bytes());
     set(rt, &mut cpu, 0, r0);
     set(rt, &mut cpu, 2, r2);
-    let entry = step(rt, &mut cpu);
-    let entry = entry_text(rt, alloc, &entry);
-    (cpu, entry)
+    cpu
 }
 
-/// Stops at a row of the table that doesn't hold.
-fn check_vectors(rt: &impl Abort, alloc: Global, table: &str, count: usize) {
-    for row in table.lines() {
-        let (words, rest) = parts(rt, row);
-        let (before, after) = parts(rt, rest);
-        let (imm, width) = two(rt, words);
-        let (old, source) = two(rt, before);
-        let word = operation(rt, imm, width);
-        let (cpu, _) = stepped(rt, alloc, word, old, 0, source);
-        let found = (context(rt, &cpu), register(rt, &cpu, 2));
-        assert_eq!(rt; found, two(rt, after), "{row}");
-    }
-    assert_eq!(rt; table.lines().count(), count);
+/// The 8 bytes and r2 after a step of an operation on two numbers.
+fn changed(rt: &impl Abort, alloc: Global, word: u64, numbers: (u64, u64)) -> (u64, u64) {
+    let mut cpu = ready(rt, alloc, word, numbers.0, 0, numbers.1);
+    let _entry = step(rt, &mut cpu);
+    (context(rt, &cpu), register(rt, &cpu, 2))
+}
+
+/// The slot of an operation by its imm and width.
+fn slot_of(rt: &impl Abort, words: &str) -> u64 {
+    let (imm, width) = two(rt, words);
+    operation(rt, imm, width)
+}
+
+/// Whether a row of vectors holds.
+pub fn vector_holds(rt: &impl Abort, alloc: Global, row: &str) -> bool {
+    let (words, rest) = parts(rt, row);
+    let (before, after) = parts(rt, rest);
+    changed(rt, alloc, slot_of(rt, words), two(rt, before)) == two(rt, after)
 }
 
 #[test]
 fn vectors(rt: HostRuntime) {
-    check_vectors(&rt, rt.alloc(), VECTORS, 144);
+    check(&rt, rt.alloc(), Table::Atomics, VECTORS, 144);
 }
 
-/// What a compare-exchange leaves of the 8 bytes, of r0 and of r2, and whether its entry is of this kind.
-fn exchanged(
-    rt: &impl Abort,
-    alloc: Global,
-    word: u64,
-    (old, r0, source): (u64, u64, u64),
-    kind: &str,
-) -> (u64, u64, u64, bool) {
-    let (cpu, entry) = stepped(rt, alloc, word, old, r0, source);
-    (
-        context(rt, &cpu),
-        register(rt, &cpu, 0),
-        register(rt, &cpu, 2),
-        entry.as_str().starts_with(kind),
-    )
+/// Whether a compare-exchange left these 8 bytes, this r0 and the source.
+fn has_left(rt: &impl Abort, cpu: &Cpu, source: u64, after: &str) -> bool {
+    register(rt, cpu, 2) == source && (context(rt, cpu), register(rt, cpu, 0)) == two(rt, after)
 }
 
-/// Stops at a row of the table that doesn't hold.
-fn check_exchanges(rt: &impl Abort, alloc: Global, table: &str, count: usize) {
-    for row in table.lines() {
-        let (width, rest) = parts(rt, row);
-        let (before, rest) = parts(rt, rest);
-        let (after, kind) = parts(rt, rest);
-        let before = three(rt, before);
-        let (bytes, r0) = two(rt, after);
-        let word = operation(rt, 0xf1, number(rt, width));
-        let found = exchanged(rt, alloc, word, before, kind);
-        assert_eq!(rt; found, (bytes, r0, before.2, true), "{row}");
-    }
-    assert_eq!(rt; table.lines().count(), count);
+/// Whether a compare-exchange of these three numbers leaves this, and has an entry of this kind.
+fn exchanges_to(rt: &impl Abort, alloc: Global, width: u64, before: &str, end: &str) -> bool {
+    let (old, r0, source) = three(rt, before);
+    let (after, kind) = parts(rt, end);
+    let mut cpu = ready(rt, alloc, operation(rt, 0xf1, width), old, r0, source);
+    let entry = step_text(rt, alloc, &mut cpu);
+    entry.as_str().starts_with(kind) && has_left(rt, &cpu, source, after)
+}
+
+/// Whether a row of exchanges holds.
+pub fn exchange_holds(rt: &impl Abort, alloc: Global, row: &str) -> bool {
+    let (width, rest) = parts(rt, row);
+    let (before, end) = parts(rt, rest);
+    exchanges_to(rt, alloc, number(rt, width), before, end)
 }
 
 #[test]
 fn exchanges(rt: HostRuntime) {
-    check_exchanges(&rt, rt.alloc(), EXCHANGES, 18);
+    check(&rt, rt.alloc(), Table::Exchanges, EXCHANGES, 18);
 }
 
-/// r0, r1 and r2.
-fn registers(rt: &impl Abort, cpu: &Cpu) -> (u64, u64, u64) {
-    (
-        register(rt, cpu, 0),
-        register(rt, cpu, 1),
-        register(rt, cpu, 2),
-    )
+/// r0, r1 and r2, and the context's bytes.
+fn left(rt: &impl Abort, alloc: Global, cpu: &Cpu) -> String {
+    let (r0, r1) = (register(rt, cpu, 0), register(rt, cpu, 1));
+    let (r2, bytes) = (register(rt, cpu, 2), context_text(rt, alloc, cpu));
+    format!(in alloc; "{r0:#x} {r1:#x} {r2:#x}; {bytes}")
+        .ok()
+        .expect(rt, "no memory")
 }
 
-/// r0, r1, r2 and the context's bytes, as a slot shows them, after a step of a word, and whether this is its entry.
-fn placed(rt: &impl Abort, alloc: Global, word: u64, entry: &str) -> (u64, u64, u64, u64, bool) {
-    let (cpu, found) = stepped(rt, alloc, word, OLD, 0x1_0000_0002, SOURCE);
-    let (r0, r1, r2) = registers(rt, &cpu);
-    let bytes = context(rt, &cpu).swap_bytes();
-    (r0, r1, r2, bytes, found.as_str() == entry)
+/// Whether a step of a word leaves this, and has this entry.
+fn leads_to(rt: &impl Abort, alloc: Global, word: u64, after: &str, entry: &str) -> bool {
+    let mut cpu = ready(rt, alloc, word, OLD, 0x1_0000_0002, SOURCE);
+    let found = step_text(rt, alloc, &mut cpu);
+    found.as_str() == entry && left(rt, alloc, &cpu).as_str() == after
 }
 
-/// Stops at a row of the table that doesn't hold.
-fn check_places(rt: &impl Abort, alloc: Global, table: &str, count: usize) {
-    for row in table.lines() {
-        let (_, rest) = parts(rt, row);
-        let (word, rest) = parts(rt, rest);
-        let (after, rest) = parts(rt, rest);
-        let (bytes, entry) = parts(rt, rest);
-        let (r0, r1, r2) = three(rt, after);
-        let found = placed(rt, alloc, slot(rt, word), entry);
-        assert_eq!(rt; found, (r0, r1, r2, slot(rt, bytes), true), "{row}");
-    }
-    assert_eq!(rt; table.lines().count(), count);
+/// Whether a row of places holds.
+pub fn place_holds(rt: &impl Abort, alloc: Global, row: &str) -> bool {
+    let (_, rest) = parts(rt, row);
+    let (word, rest) = parts(rt, rest);
+    let (after, entry) = rest.rsplit_once("; ").expect(rt, "no entry");
+    leads_to(rt, alloc, slot(rt, word), after, entry)
 }
 
 #[test]
 fn places(rt: HostRuntime) {
-    check_places(&rt, rt.alloc(), PLACES, 15);
+    check(&rt, rt.alloc(), Table::Places, PLACES, 15);
 }
 
 // 4 bytes of which the last is over the end.
 #[test]
 fn faults_of_atomics(rt: HostRuntime) {
-    let (cpu, _) = stepped(&rt, rt.alloc(), 0xc321_0500_0000_0000, OLD, 0, 0);
+    let mut cpu = ready(&rt, rt.alloc(), 0xc321_0500_0000_0000, OLD, 0, 0);
+    let _entry = step(&rt, &mut cpu);
     let found = status_text(&rt, rt.alloc(), cpu.status());
-    assert_eq!(rt; found.as_str(), "access 0x100000005");
+    check_text(&rt, found.as_str(), "access 0x100000005");
 }

@@ -1,9 +1,13 @@
 //! Local calls, frames and returns. Expected values were worked out from RFC 9669, section 4.3.2, and docs/MACHINE.md.
-use crate::machines::{EXIT, entry_text, opened, register, run, set, status_text, view_of};
-use crate::rows::{number, parts, slots, two};
+use crate::machines::{
+    opened, place_of, register, run, set, status_text, step_text, view_of, with_hex,
+};
+use crate::rows::{check_number, check_text, number, parts, slots, two};
 use crate::steps::{check_entries, check_view, program_of};
+use crate::tables::{Table, check};
 use bpf_machine::{Cpu, laws};
 use std::alloc::Global;
+use std::cmp::max;
 use std::process::Abort;
 
 // callf L2; exit; L2: jeq r1, 0, L5; add r1, -1; callf L2; L5: exit. It calls itself r1 times more.
@@ -30,16 +34,23 @@ fn machine(rt: &impl Abort, alloc: Global, program: &str) -> Cpu {
     )
 }
 
+/// Stops unless r10 and the number of frames are those of a depth.
+fn check_depth(rt: &impl Abort, cpu: &Cpu) {
+    let depth = cpu.depth() as u64;
+    check_number(
+        rt,
+        register(rt, cpu, 10),
+        0x2_0000_0200 + 1024 * (depth % 8),
+    );
+    assert!(rt; cpu.frame(cpu.depth()).is_none());
+}
+
 /// Runs to the end; answers the greatest depth and the number of steps, and tests r10 and the number of frames at each.
 fn deepest(rt: &impl Abort, cpu: &mut Cpu) -> (u64, u64) {
     let mut deepest = 0;
     for steps in 0..1_000 {
-        let depth = cpu.depth() as u64;
-        assert_eq!(rt; register(rt, cpu, 10), 0x2_0000_0200 + 1024 * (depth % 8));
-        assert!(rt; cpu.frame(cpu.depth()).is_none());
-        if depth > deepest {
-            deepest = depth;
-        }
+        check_depth(rt, cpu);
+        deepest = max(deepest, cpu.depth() as u64);
         if cpu.step().is_err() {
             return (deepest, steps);
         }
@@ -56,43 +67,45 @@ fn nested(rt: &impl Abort, alloc: Global, r1: u64, status: &str) -> (u64, u64, b
     (depth, steps, found.as_str() == status)
 }
 
-/// Stops at a row of the table that doesn't hold.
-fn check_nested_calls(rt: &impl Abort, alloc: Global, table: &str, count: usize) {
-    for row in table.lines() {
-        let (r1, rest) = parts(rt, row);
-        let (counts, status) = parts(rt, rest);
-        let (depth, steps) = two(rt, counts);
-        let found = nested(rt, alloc, number(rt, r1), status);
-        assert_eq!(rt; found, (depth, steps, true), "{row}");
-    }
-    assert_eq!(rt; table.lines().count(), count);
+/// Whether a row of depths holds.
+pub fn nested_call_holds(rt: &impl Abort, alloc: Global, row: &str) -> bool {
+    let (r1, rest) = parts(rt, row);
+    let (counts, status) = parts(rt, rest);
+    let (depth, steps, is_end) = nested(rt, alloc, number(rt, r1), status);
+    is_end && (depth, steps) == two(rt, counts)
 }
 
 #[test]
 fn nested_calls(rt: HostRuntime) {
-    check_nested_calls(&rt, rt.alloc(), DEPTHS, 6);
+    check(&rt, rt.alloc(), Table::NestedCalls, DEPTHS, 6);
     laws::returns_give_back();
 }
 
 // The program that calls itself without end, and the places and entries of its steps: seven calls, and the eighth faults.
 const ENDLESS: &str = "85100000ffffffff 9500000000000000";
 
+/// Takes a step, and stops unless its entry is this one.
+fn check_step(rt: &impl Abort, alloc: Global, cpu: &mut Cpu, entry: &str) {
+    check_text(rt, step_text(rt, alloc, cpu).as_str(), entry);
+}
+
+/// Stops unless the seventh frame returns to slot 1.
+fn check_frame_6(rt: &impl Abort, cpu: &Cpu) {
+    let frame = cpu.frame(6).expect(rt, "no frame");
+    check_number(rt, u64::from(frame.return_pc), 1);
+}
+
 #[test]
 fn the_eighth_call(rt: HostRuntime) {
     let mut cpu = machine(&rt, rt.alloc(), ENDLESS);
     for _ in 0..7 {
-        let entry = cpu.step().ok().expect(&rt, "ended");
-        assert_eq!(rt; entry_text(&rt, rt.alloc(), &entry).as_str(), "call at 0");
+        check_step(&rt, rt.alloc(), &mut cpu, "call at 0");
     }
-    let frame = cpu.frame(6).expect(&rt, "no frame");
-    assert_eq!(rt; frame.return_pc, 1);
-    assert_eq!(rt; register(&rt, &cpu, 10), 0x2_0000_1e00);
-    let entry = cpu.step().ok().expect(&rt, "ended");
-    assert_eq!(rt; entry_text(&rt, rt.alloc(), &entry).as_str(), "end");
-    assert_eq!(rt;
-        view_of(&rt, rt.alloc(), &cpu).place.as_str(),
-        "pc 0 depth 7 traced 0 depth"
-    );
+    check_frame_6(&rt, &cpu);
+    check_number(&rt, register(&rt, &cpu, 10), 0x2_0000_1e00);
+    check_step(&rt, rt.alloc(), &mut cpu, "end");
+    let place = place_of(&rt, rt.alloc(), &cpu);
+    check_text(&rt, place.as_str(), "pc 0 depth 7 traced 0 depth");
 }
 
 // Numbers into r6 to r9; a function that changes r0 to r9; and the entry of each step, with r6 to r9 before the return.
@@ -147,24 +160,22 @@ the frame of a function that returned; 8510000002000000 79a0f80300000000 9500000
 the frame below its own, by r10; 7a0af8ff2a000000 8510000001000000 9500000000000000 79a0f8fb00000000 9500000000000000; exited 0x2a
 ";
 
-/// Stops at a row of the table that doesn't hold.
-fn check_frames(rt: &impl Abort, alloc: Global, table: &str, count: usize) {
-    for row in table.lines() {
-        let (_, rest) = parts(rt, row);
-        let (program, end) = parts(rt, rest);
-        let mut cpu = machine(rt, alloc, program);
-        run(&mut cpu);
-        let status = status_text(rt, alloc, cpu.status());
-        let r0 = register(rt, &cpu, 0);
-        let found = format!(in alloc; "{} {r0:#x}", status.as_str())
-            .ok()
-            .expect(rt, "no memory");
-        assert_eq!(rt; found.as_str(), end, "{row}");
-    }
-    assert_eq!(rt; table.lines().count(), count);
+/// The status and r0 at the end of a program.
+fn end_of(rt: &impl Abort, alloc: Global, program: &str) -> String {
+    let mut cpu = machine(rt, alloc, program);
+    run(&mut cpu);
+    let status = status_text(rt, alloc, cpu.status());
+    with_hex(rt, alloc, status, register(rt, &cpu, 0))
+}
+
+/// Whether a row of frames holds.
+pub fn frame_holds(rt: &impl Abort, alloc: Global, row: &str) -> bool {
+    let (_, rest) = parts(rt, row);
+    let (program, end) = parts(rt, rest);
+    end_of(rt, alloc, program).as_str() == end
 }
 
 #[test]
 fn frames(rt: HostRuntime) {
-    check_frames(&rt, rt.alloc(), FRAMES, 6);
+    check(&rt, rt.alloc(), Table::Frames, FRAMES, 6);
 }

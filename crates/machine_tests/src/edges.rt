@@ -1,5 +1,6 @@
 //! Negations, moves, byte swaps and conditions at their edges. Expected values were worked out from RFC 9669, section 4.
-use crate::rows::{number, two};
+use crate::rows::{check_count, first_word, number, two};
+use crate::tables::{Table, check};
 use crate::words::{result, stepped, word};
 use std::alloc::Global;
 use std::process::Abort;
@@ -118,62 +119,57 @@ fn made(rt: &impl Abort, alloc: Global, name: &str, a: u64, b: u64) -> u64 {
     result(rt, alloc, word(rt, WORDS, name), a, b)
 }
 
-/// Stops at a row of the table that doesn't hold.
-fn check_negations(rt: &impl Abort, alloc: Global, table: &str, count: usize) {
-    for row in table.lines() {
-        let (bits, numbers) = row.split_once(' ').expect(rt, "no width");
-        let (a, expected) = two(rt, numbers);
-        assert_eq!(rt; made(rt, alloc, bits, a, 0), expected, "{row}");
-    }
-    assert_eq!(rt; table.lines().count(), count);
+/// Whether a row of negations holds.
+pub fn negation_holds(rt: &impl Abort, alloc: Global, row: &str) -> bool {
+    let (bits, numbers) = first_word(rt, row);
+    let (a, expected) = two(rt, numbers);
+    made(rt, alloc, bits, a, 0) == expected
 }
 
 #[test]
 fn negations(rt: HostRuntime) {
-    check_negations(&rt, rt.alloc(), NEGATIONS, 8);
+    check(&rt, rt.alloc(), Table::Negations, NEGATIONS, 8);
 }
 
-/// Stops at a row of the table that doesn't hold.
-fn check_moves(rt: &impl Abort, alloc: Global, table: &str, count: usize) {
-    for row in table.lines() {
-        let (name, numbers) = row.split_once(' ').expect(rt, "no name");
-        let (source, expected) = two(rt, numbers);
-        assert_eq!(rt; made(rt, alloc, name, 7, source), expected, "{row}");
-    }
-    assert_eq!(rt; table.lines().count(), count);
+/// Whether a row of moves holds.
+pub fn move_holds(rt: &impl Abort, alloc: Global, row: &str) -> bool {
+    let (name, numbers) = first_word(rt, row);
+    let (source, expected) = two(rt, numbers);
+    made(rt, alloc, name, 7, source) == expected
 }
 
 #[test]
 fn moves(rt: HostRuntime) {
-    check_moves(&rt, rt.alloc(), MOVES, 25);
+    check(&rt, rt.alloc(), Table::Moves, MOVES, 25);
 }
 
-/// Stops at a row of the table that doesn't hold.
-fn check_swaps(rt: &impl Abort, alloc: Global, table: &str, count: usize) {
-    for row in table.lines() {
-        let (name, expected) = row.split_once(' ').expect(rt, "no name");
-        let found = made(rt, alloc, name, 0x1122_3344_5566_7788, 0);
-        assert_eq!(rt; found, number(rt, expected), "{row}");
-    }
-    assert_eq!(rt; table.lines().count(), count);
+/// Whether a row of swaps holds.
+pub fn swap_holds(rt: &impl Abort, alloc: Global, row: &str) -> bool {
+    let (name, expected) = first_word(rt, row);
+    made(rt, alloc, name, 0x1122_3344_5566_7788, 0) == number(rt, expected)
 }
 
 #[test]
 fn swaps(rt: HostRuntime) {
-    check_swaps(&rt, rt.alloc(), SWAPS, 9);
+    check(&rt, rt.alloc(), Table::Swaps, SWAPS, 9);
+}
+
+/// y where a word jumps with these two numbers, else n.
+fn answer(rt: &impl Abort, alloc: Global, word: u64, pair: &str) -> char {
+    let (a, b) = two(rt, pair);
+    match stepped(rt, alloc, word, a, b).pc() {
+        1 => 'n',
+        2 => 'y',
+        _ => '?',
+    }
 }
 
 /// Of which pairs a condition holds, y or n: those where its word jumps.
 fn answers(rt: &impl Abort, alloc: Global, word: u64) -> String {
     let mut answers = String::new(alloc);
     for pair in PAIRS.lines() {
-        let (a, b) = two(rt, pair);
-        let answer = match stepped(rt, alloc, word, a, b).pc() {
-            1 => 'n',
-            2 => 'y',
-            _ => '?',
-        };
-        answers.push(answer).ok().expect(rt, "no memory");
+        let letter = answer(rt, alloc, word, pair);
+        answers.push(letter).ok().expect(rt, "no memory");
     }
     answers
 }
@@ -183,20 +179,16 @@ fn has_answers(rt: &impl Abort, alloc: Global, word: u64, expected: &str) -> boo
     answers(rt, alloc, word).as_str() == expected
 }
 
-/// Stops at a row of the table that doesn't hold.
-fn check_conditions(rt: &impl Abort, alloc: Global, table: &str, count: usize) {
-    for row in table.lines() {
-        let (name, expected) = row.split_once(' ').expect(rt, "no name");
-        let word = word(rt, WORDS, name);
-        let half = word.wrapping_add(0x0100_0000_0000_0000);
-        assert!(rt; has_answers(rt, alloc, word, expected), "{row}");
-        assert!(rt; has_answers(rt, alloc, half, expected), "{row} on 32 bits");
-    }
-    assert_eq!(rt; table.lines().count(), count);
+/// Whether a row of conditions holds, on 64 bits and on 32.
+pub fn condition_holds(rt: &impl Abort, alloc: Global, row: &str) -> bool {
+    let (name, expected) = first_word(rt, row);
+    let word = word(rt, WORDS, name);
+    let half = word.wrapping_add(0x0100_0000_0000_0000);
+    has_answers(rt, alloc, word, expected) && has_answers(rt, alloc, half, expected)
 }
 
 #[test]
 fn conditions(rt: HostRuntime) {
-    check_conditions(&rt, rt.alloc(), CONDITIONS, 11);
-    assert_eq!(rt; PAIRS.lines().count(), 6);
+    check(&rt, rt.alloc(), Table::Conditions, CONDITIONS, 11);
+    check_count(&rt, PAIRS, 6);
 }

@@ -1,6 +1,11 @@
 //! Edits in every status: what they answer, what they replace and what they leave. Expected values are those of docs/MACHINE.md.
-use crate::machines::{EXIT, View, entry_text, hexadecimal, run, status_text, view_of, with_maps};
-use crate::rows::{parts, three, two};
+use crate::machines::{
+    EXIT, View, edit_of_pc, entry_text, hexadecimal, is_same, run, run_of, status_text, text,
+    view_of, with_hex, with_maps, with_register, with_word,
+};
+use crate::rows::{
+    check_count, check_number, check_text, first_word, parts, stop_unless, three, two,
+};
 use bpf_isa::Reg;
 use bpf_machine::{ByteString, Cpu, Edit, EditFault};
 use std::alloc::Global;
@@ -9,12 +14,10 @@ use std::process::Abort;
 // The byte that every edit of bytes writes.
 const NEW: u8 = 0x5a;
 
-// `mov r0, 5`, a wide instruction at slots 1 and 2, and at slot 3, where the machine stays, `ja -1`, `exit` or a store that faults.
-const ENDS: [(&str, u64); 3] = [
-    ("running", 0x0500_ffff_0000_0000),
-    ("exited", EXIT),
-    ("access 0x200000200", 0x7a0a_0000_0700_0000),
-];
+// The instruction at slot 3, where a machine stays behind `mov r0, 5` and a wide instruction: `ja -1`, `exit` or a store that faults.
+const RUNNING: u64 = 0x0500_ffff_0000_0000;
+
+const FAULTED: u64 = 0x7a0a_0000_0700_0000;
 
 // The maps: two values of 8 bytes, and one of 1 byte.
 const MAPS: &str = "8x2,1x1";
@@ -99,26 +102,34 @@ past the end; pc 5 0; no start
 
 /// An edit by its words.
 fn edit_of(rt: &impl Abort, words: &str) -> Edit {
-    let (kind, numbers) = words.split_once(' ').expect(rt, "no kind");
-    if kind == "cell" {
-        let (map, index, count) = three(rt, numbers);
-        let bytes = new_bytes(count).expect(rt, "not 1 to 256 bytes");
-        return Edit::Cell { map, index, bytes };
+    let (kind, numbers) = first_word(rt, words);
+    match kind {
+        "register" => edit_of_register(rt, numbers),
+        "bytes" => edit_of_bytes(rt, numbers),
+        "cell" => edit_of_cell(rt, numbers),
+        "pc" => Edit::Pc {
+            slot: two(rt, numbers).0,
+        },
+        _ => panic!(rt; "unknown kind"),
     }
-    let (place, value) = two(rt, numbers);
-    let found = match kind {
-        "register" => Some(Edit::Register {
-            register: register_of(place).expect(rt, "no register"),
-            value,
-        }),
-        "bytes" => Some(Edit::Bytes {
-            address: place,
-            bytes: new_bytes(value).expect(rt, "not 1 to 256 bytes"),
-        }),
-        "pc" => Some(Edit::Pc { slot: place }),
-        _ => None,
-    };
-    found.expect(rt, "unknown kind")
+}
+
+fn edit_of_register(rt: &impl Abort, numbers: &str) -> Edit {
+    let (number, value) = two(rt, numbers);
+    let register = register_of(number).expect(rt, "no register");
+    Edit::Register { register, value }
+}
+
+fn edit_of_bytes(rt: &impl Abort, numbers: &str) -> Edit {
+    let (address, count) = two(rt, numbers);
+    let bytes = new_bytes(count).expect(rt, "not 1 to 256 bytes");
+    Edit::Bytes { address, bytes }
+}
+
+fn edit_of_cell(rt: &impl Abort, numbers: &str) -> Edit {
+    let (map, index, count) = three(rt, numbers);
+    let bytes = new_bytes(count).expect(rt, "not 1 to 256 bytes");
+    Edit::Cell { map, index, bytes }
 }
 
 fn register_of(number: u64) -> Option<Reg> {
@@ -146,36 +157,30 @@ fn machine_at_3(rt: &impl Abort, alloc: Global, last: u64) -> Cpu {
 
 /// The entry of an edit that will be made.
 fn entry_of(rt: &impl Abort, alloc: Global, cpu: &Cpu, edit: &Edit) -> String {
-    let text = match edit {
-        Edit::Register { register, value: _ } => {
-            format!(in alloc; "edit r{} {:#x}", register.number(), cpu.reg(*register))
-                .ok()
-                .expect(rt, "no memory")
-        }
-        Edit::Bytes { address, bytes } => {
-            let old = cpu.peek(*address, bytes.len()).expect(rt, "absent");
-            format!(in alloc; "edit {address:#x} {}", hexadecimal(rt, alloc, old))
-                .ok()
-                .expect(rt, "no memory")
-        }
+    match edit {
+        Edit::Register { register, value: _ } => entry_of_register(rt, alloc, cpu, *register),
+        Edit::Bytes { address, bytes } => entry_of_bytes(rt, alloc, cpu, *address, bytes.len()),
         Edit::Cell { map, index, bytes } => {
-            let address = cell_address(*map, *index);
-            let old = cpu.peek(address, bytes.len()).expect(rt, "absent");
-            format!(in alloc; "edit {address:#x} {}", hexadecimal(rt, alloc, old))
-                .ok()
-                .expect(rt, "no memory")
+            entry_of_bytes(rt, alloc, cpu, cell_address(*map, *index), bytes.len())
         }
-        Edit::Pc { slot: _ } => {
-            format!(in alloc;
-                "edit pc {} {}",
-                cpu.pc(),
-                status_text(rt, alloc, cpu.status())
-            )
-            .ok()
-            .expect(rt, "no memory")
-        }
-    };
-    text
+        Edit::Pc { slot: _ } => edit_of_pc(rt, alloc, cpu.pc(), cpu.status()),
+    }
+}
+
+fn entry_of_register(rt: &impl Abort, alloc: Global, cpu: &Cpu, register: Reg) -> String {
+    with_register(
+        rt,
+        alloc,
+        text(rt, alloc, "edit"),
+        register,
+        cpu.reg(register),
+    )
+}
+
+fn entry_of_bytes(rt: &impl Abort, alloc: Global, cpu: &Cpu, address: u64, count: usize) -> String {
+    let start = with_hex(rt, alloc, text(rt, alloc, "edit"), address);
+    let bytes = hexadecimal(rt, alloc, run_of(rt, cpu, address, count));
+    with_word(rt, start, bytes.as_str())
 }
 
 /// The address of a cell of map 0, whose values have 8 bytes, or of the cell of map 1.
@@ -202,56 +207,59 @@ fn place_of(address: u64) -> u64 {
     address.wrapping_sub(base)
 }
 
-/// What is seen after an edit.
-fn edited(rt: &impl Abort, alloc: Global, view: &View, edit: &Edit) -> View {
+/// r0 to r10 after an edit.
+fn registers_after(view: &View, edit: &Edit) -> [u64; 11] {
     let mut registers = view.registers;
-    let mut place = format!(in alloc; "{}", view.place.as_str())
-        .ok()
-        .expect(rt, "no memory");
-    let (mut first, mut count) = (0, 0);
-    match edit {
-        Edit::Register { register, value } => {
-            for (number, held) in (0..11u8).zip(registers.iter_mut()) {
-                if number == register.number() {
-                    *held = *value;
-                }
+    if let Edit::Register { register, value } = edit {
+        for (number, held) in (0..11u8).zip(registers.iter_mut()) {
+            if number == register.number() {
+                *held = *value;
             }
         }
-        Edit::Bytes { address, bytes } => {
-            first = place_of(*address);
-            count = bytes.len() as u64;
-        }
-        Edit::Cell { map, index, bytes } => {
-            first = place_of(cell_address(*map, *index));
-            count = bytes.len() as u64;
-        }
-        Edit::Pc { slot } => {
-            place = format!(in alloc; "pc {slot} depth 0 traced 0 running")
-                .ok()
-                .expect(rt, "no memory");
-        }
     }
-    let mut bytes = Vec::new(alloc);
-    for (index, byte) in (0..537u64).zip(view.bytes.iter()) {
-        let is_new = index.wrapping_sub(first) < count;
-        bytes
-            .push(if is_new { NEW } else { *byte })
+    registers
+}
+
+/// The place after an edit.
+fn place_after(rt: &impl Abort, alloc: Global, view: &View, edit: &Edit) -> String {
+    match edit {
+        Edit::Pc { slot } => format!(in alloc; "pc {slot} depth 0 traced 0 running")
             .ok()
-            .expect(rt, "no memory");
-    }
-    View {
-        registers,
-        place,
-        bytes,
+            .expect(rt, "no memory"),
+        _ => text(rt, alloc, view.place.as_str()),
     }
 }
 
-/// Makes an edit, and stops unless it is made and its entry is the one that is expected.
-fn check_made(rt: &impl Abort, alloc: Global, cpu: &mut Cpu, edit: &Edit, row: &str) {
-    let expected = entry_of(rt, alloc, cpu, edit);
-    let made = cpu.edit(edit).ok().expect(rt, row);
-    let found = entry_text(rt, alloc, &made);
-    assert_eq!(rt; found.as_str(), expected.as_str(), "{row}");
+/// Where the bytes that an edit writes stand in what is seen, and how many there are.
+fn written(edit: &Edit) -> (u64, u64) {
+    match edit {
+        Edit::Bytes { address, bytes } => (place_of(*address), bytes.len() as u64),
+        Edit::Cell { map, index, bytes } => {
+            (place_of(cell_address(*map, *index)), bytes.len() as u64)
+        }
+        _ => (0, 0),
+    }
+}
+
+/// The bytes after an edit.
+fn bytes_after(rt: &impl Abort, alloc: Global, view: &View, edit: &Edit) -> Vec<u8> {
+    let (first, count) = written(edit);
+    let mut bytes = Vec::new(alloc);
+    for (index, byte) in (0..537u64).zip(view.bytes.iter()) {
+        let is_new = index.wrapping_sub(first) < count;
+        let byte = if is_new { NEW } else { *byte };
+        bytes.push(byte).ok().expect(rt, "no memory");
+    }
+    bytes
+}
+
+/// What is seen after an edit.
+fn edited(rt: &impl Abort, alloc: Global, view: &View, edit: &Edit) -> View {
+    View {
+        registers: registers_after(view, edit),
+        place: place_after(rt, alloc, view, edit),
+        bytes: bytes_after(rt, alloc, view, edit),
+    }
 }
 
 /// Tries an edit, and says why it isn't made.
@@ -265,68 +273,83 @@ fn refusal_of(cpu: &mut Cpu, edit: &Edit) -> &'static str {
     }
 }
 
-/// Stops unless what is seen of a machine is what is expected.
-fn check_seen(rt: &impl Abort, seen: &View, expected: &View, row: &str) {
-    assert_eq!(rt; seen.registers, expected.registers, "{row}");
-    assert_eq!(rt; seen.place.as_str(), expected.place.as_str(), "{row}");
-    assert_eq!(rt; seen.bytes.as_slice(), expected.bytes.as_slice(), "{row}");
+/// Makes an edit, and answers its entry.
+fn made(rt: &impl Abort, alloc: Global, cpu: &mut Cpu, edit: &Edit) -> String {
+    let entry = cpu.edit(edit).ok().expect(rt, "refused");
+    entry_text(rt, alloc, &entry)
 }
 
-/// Makes an edit and compares its answer and all that is seen.
-fn try_edit(rt: &impl Abort, alloc: Global, last: u64, row: &str) {
+/// Whether an edit is made, and its entry and all that is seen then are those that are expected.
+fn is_made(rt: &impl Abort, alloc: Global, cpu: &mut Cpu, edit: &Edit) -> bool {
+    let expected = edited(rt, alloc, &view_of(rt, alloc, cpu), edit);
+    let entry = entry_of(rt, alloc, cpu, edit);
+    made(rt, alloc, cpu, edit).as_str() == entry.as_str()
+        && is_same(&view_of(rt, alloc, cpu), &expected)
+}
+
+/// Whether an edit is refused, and all that is seen stays.
+fn is_refused(rt: &impl Abort, alloc: Global, cpu: &mut Cpu, edit: &Edit, answer: &str) -> bool {
+    let before = view_of(rt, alloc, cpu);
+    refusal_of(cpu, edit) == answer && is_same(&view_of(rt, alloc, cpu), &before)
+}
+
+/// Whether a row of edits holds of a machine that stays at slot 3 with the instruction there.
+fn edit_holds(rt: &impl Abort, alloc: Global, last: u64, row: &str) -> bool {
     let (_, rest) = parts(rt, row);
     let (words, answer) = parts(rt, rest);
     let edit = edit_of(rt, words);
     let mut cpu = machine_at_3(rt, alloc, last);
-    let before = view_of(rt, alloc, &cpu);
-    let expected = if answer == "done" {
-        check_made(rt, alloc, &mut cpu, &edit, row);
-        edited(rt, alloc, &before, &edit)
+    if answer == "done" {
+        is_made(rt, alloc, &mut cpu, &edit)
     } else {
-        assert_eq!(rt; refusal_of(&mut cpu, &edit), answer, "{row}");
-        before
-    };
-    check_seen(rt, &view_of(rt, alloc, &cpu), &expected, row);
+        is_refused(rt, alloc, &mut cpu, &edit, answer)
+    }
 }
 
-/// Stops at a row of the table that doesn't hold.
-fn check_edits(rt: &impl Abort, alloc: Global, table: &str, count: usize) {
-    for (status, last) in ENDS {
-        let cpu = machine_at_3(rt, alloc, last);
-        assert_eq!(rt; cpu.pc(), 3);
-        assert_eq!(rt; status_text(rt, alloc, cpu.status()).as_str(), status);
-        for row in table.lines() {
-            try_edit(rt, alloc, last, row);
-        }
+/// Stops at a row of the table that doesn't hold of such a machine, whose status is this one.
+fn check_edits(rt: &impl Abort, alloc: Global, last: u64, status: &str, table: &str) {
+    let cpu = machine_at_3(rt, alloc, last);
+    check_number(rt, u64::from(cpu.pc()), 3);
+    check_text(rt, status_text(rt, alloc, cpu.status()).as_str(), status);
+    for row in table.lines() {
+        stop_unless(rt, edit_holds(rt, alloc, last, row), row);
     }
-    assert_eq!(rt; table.lines().count(), count);
+}
+
+/// Stops at a row of the table that doesn't hold in one of the statuses.
+fn check_statuses(rt: &impl Abort, alloc: Global, table: &str) {
+    check_edits(rt, alloc, RUNNING, "running", table);
+    check_edits(rt, alloc, EXIT, "exited", table);
+    check_edits(rt, alloc, FAULTED, "access 0x200000200", table);
 }
 
 #[test]
 fn edits(rt: HostRuntime) {
-    check_edits(&rt, rt.alloc(), EDITS, 73);
+    check_statuses(&rt, rt.alloc(), EDITS);
+    check_count(&rt, EDITS, 73);
 }
 
-// The bytes of two cells, and those of both at the map's address.
+// The bytes of two cells.
 const FIRST: [u8; 8] = [1, 2, 3, 4, 5, 6, 7, 8];
 
 const SECOND: [u8; 8] = [9, 10, 11, 12, 13, 14, 15, 16];
 
+/// Writes a cell of map 0.
+fn put_cell(rt: &impl Abort, cpu: &mut Cpu, index: u64, bytes: &[u8]) {
+    let bytes = ByteString::new(bytes).expect(rt, "no bytes");
+    let edit = Edit::Cell {
+        map: 0,
+        index,
+        bytes,
+    };
+    let _entry = cpu.edit(&edit).ok().expect(rt, "no cell");
+}
+
 #[test]
 fn cells(rt: HostRuntime) {
     let mut cpu = with_maps(&rt, rt.alloc(), &[EXIT], "8x2");
-    for (index, bytes) in (0..2u64).zip([FIRST, SECOND]) {
-        let bytes = ByteString::new(&bytes).expect(&rt, "no bytes");
-        let edit = Edit::Cell {
-            map: 0,
-            index,
-            bytes,
-        };
-        assert!(rt; cpu.edit(&edit).is_ok(), "{index}");
-    }
-    let held = cpu.peek(0x3_0000_0000, 16).expect(&rt, "absent");
-    assert_eq!(rt;
-        held,
-        [1, 2, 3, 4, 5, 6, 7, 8, 9, 10, 11, 12, 13, 14, 15, 16].as_slice()
-    );
+    put_cell(&rt, &mut cpu, 0, &FIRST);
+    put_cell(&rt, &mut cpu, 1, &SECOND);
+    let held = hexadecimal(&rt, rt.alloc(), run_of(&rt, &cpu, 0x3_0000_0000, 16));
+    check_text(&rt, held.as_str(), "0102030405060708090a0b0c0d0e0f10");
 }

@@ -1,6 +1,7 @@
 //! Entries and what they weigh in a journal. Expected values are those of docs/MACHINE.md.
 use crate::machines::entry_text;
 use crate::rows::{number, parts, two};
+use crate::tables::{Table, check};
 use bpf_isa::{Reg, Size};
 use bpf_machine::{ByteString, CompactEntry, Entry, Status};
 use std::alloc::Global;
@@ -30,77 +31,88 @@ edit bytes; 256 269
 edit pc; 0 16
 ";
 
-/// An entry of a kind that replaced so many bytes.
-fn entry(rt: &impl Abort, kind: &str, n: u64) -> Entry {
-    let r3 = Reg::new(3).expect(rt, "r3");
+/// Bytes that an entry replaced, of which there are 1 to 256.
+fn replaced(rt: &impl Abort, n: u64) -> ByteString {
     let bytes = [0x5a; 256];
-    let old = ByteString::new(bytes.get(..n as usize).expect(rt, "long"));
-    let address = 0x1_0000_0000;
-    let found = match (kind, old) {
-        ("register", None) => Some(Entry::Register {
+    let run = bytes.get(..n as usize).expect(rt, "long");
+    ByteString::new(run).expect(rt, "no bytes")
+}
+
+/// What an entry of a kind that replaced so many bytes weighs, and what a copy of it weighs.
+fn weights_of(rt: &impl Abort, kind: &str, n: u64) -> (u64, u64) {
+    let found = if n == 0 {
+        entry(kind)
+    } else {
+        entry_over(kind, replaced(rt, n))
+    };
+    let entry = found.expect(rt, "unknown kind");
+    (entry.weight() as u64, entry.copied().weight() as u64)
+}
+
+/// An entry of a kind that replaced no bytes.
+fn entry(kind: &str) -> Option<Entry> {
+    let register = Reg::new(3)?;
+    match kind {
+        "register" => Some(Entry::Register {
             pc: 1,
-            register: r3,
+            register,
             value: 2,
         }),
-        ("jump", None) => Some(Entry::Jump { pc: 1 }),
-        ("call", None) => Some(Entry::Call { pc: 1 }),
-        ("return", None) => Some(Entry::Return {
+        "jump" => Some(Entry::Jump { pc: 1 }),
+        "call" => Some(Entry::Call { pc: 1 }),
+        "return" => Some(Entry::Return {
             pc: 1,
             saved: [6, 7, 8, 9],
         }),
-        ("store", Some(old)) => Some(Entry::Store {
+        "trace" => Some(Entry::Trace { pc: 1, r0: 2 }),
+        "end" => Some(Entry::End),
+        "edit register" => Some(Entry::EditRegister { register, value: 2 }),
+        "edit pc" => Some(Entry::EditPc {
+            pc: 1,
+            status: Status::Exited,
+        }),
+        _ => None,
+    }
+}
+
+/// An entry of a kind that replaced bytes.
+fn entry_over(kind: &str, old: ByteString) -> Option<Entry> {
+    let address = 0x1_0000_0000;
+    let register = Reg::new(3)?;
+    match kind {
+        "store" => Some(Entry::Store {
             pc: 1,
             address,
             old,
         }),
-        ("fetch", Some(old)) => Some(Entry::Fetch {
+        "fetch" => Some(Entry::Fetch {
             pc: 1,
-            register: r3,
+            register,
             value: 2,
             address,
             old,
         }),
-        ("cell", Some(old)) => Some(Entry::Cell {
+        "cell" => Some(Entry::Cell {
             pc: 1,
             r0: 2,
             address,
             old,
         }),
-        ("trace", None) => Some(Entry::Trace { pc: 1, r0: 2 }),
-        ("end", None) => Some(Entry::End),
-        ("edit register", None) => Some(Entry::EditRegister {
-            register: r3,
-            value: 2,
-        }),
-        ("edit bytes", Some(old)) => Some(Entry::EditBytes { address, old }),
-        ("edit pc", None) => Some(Entry::EditPc {
-            pc: 1,
-            status: Status::Exited,
-        }),
+        "edit bytes" => Some(Entry::EditBytes { address, old }),
         _ => None,
-    };
-    found.expect(rt, "unknown kind")
-}
-
-/// What an entry weighs, and what a copy of it weighs.
-fn weights_of(rt: &impl Abort, kind: &str, n: u64) -> (u64, u64) {
-    let entry = entry(rt, kind, n);
-    (entry.weight() as u64, entry.copied().weight() as u64)
-}
-
-/// Stops at a row of the table that doesn't hold.
-fn check_weights(rt: &impl Abort, table: &str, count: usize) {
-    for row in table.lines() {
-        let (kind, numbers) = parts(rt, row);
-        let (n, weight) = two(rt, numbers);
-        assert_eq!(rt; weights_of(rt, kind, n), (weight, weight), "{row}");
     }
-    assert_eq!(rt; table.lines().count(), count);
+}
+
+/// Whether a row of weights holds.
+pub fn weight_holds(rt: &impl Abort, row: &str) -> bool {
+    let (kind, numbers) = parts(rt, row);
+    let (n, weight) = two(rt, numbers);
+    weights_of(rt, kind, n) == (weight, weight)
 }
 
 #[test]
 fn weights(rt: HostRuntime) {
-    check_weights(&rt, WEIGHTS, 20);
+    check(&rt, rt.alloc(), Table::Weights, WEIGHTS, 20);
 }
 
 // A compact entry at slot 9, its weight, and the entry that it means.
@@ -144,21 +156,22 @@ fn stored(size: Size) -> CompactEntry {
     }
 }
 
-/// Stops at a row of the table that doesn't hold.
-fn check_compact_entries(rt: &impl Abort, alloc: Global, table: &str, count: usize) {
-    for row in table.lines() {
-        let (name, rest) = parts(rt, row);
-        let (weight, text) = parts(rt, rest);
-        let compact = compact_entry(rt, name);
-        let entry = compact.expanded();
-        assert_eq!(rt; compact.weight() as u64, number(rt, weight), "{row}");
-        assert_eq!(rt; entry.weight() as u64, number(rt, weight), "{row}");
-        assert_eq!(rt; entry_text(rt, alloc, &entry).as_str(), text, "{row}");
-    }
-    assert_eq!(rt; table.lines().count(), count);
+/// Whether a compact entry has this weight and means this entry.
+fn means(rt: &impl Abort, alloc: Global, compact: &CompactEntry, weight: u64, text: &str) -> bool {
+    let entry = compact.expanded();
+    (compact.weight() as u64, entry.weight() as u64) == (weight, weight)
+        && entry_text(rt, alloc, &entry).as_str() == text
+}
+
+/// Whether a row of compact entries holds.
+pub fn compact_entry_holds(rt: &impl Abort, alloc: Global, row: &str) -> bool {
+    let (name, rest) = parts(rt, row);
+    let (weight, text) = parts(rt, rest);
+    let compact = compact_entry(rt, name);
+    means(rt, alloc, &compact, number(rt, weight), text)
 }
 
 #[test]
 fn compact_entries(rt: HostRuntime) {
-    check_compact_entries(&rt, rt.alloc(), COMPACT, 7);
+    check(&rt, rt.alloc(), Table::CompactEntries, COMPACT, 7);
 }

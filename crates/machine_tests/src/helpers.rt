@@ -1,8 +1,9 @@
 //! Map loads and helpers. Expected values were worked out from docs/MACHINE.md.
 use crate::machines::{
-    EXIT, entry_text, hexadecimal, register, set, start_at, status_text, step, with_all,
+    EXIT, hexadecimal, register, set, start_at, status_text, step, step_text, with_all,
 };
-use crate::rows::{number, parts, slots, two};
+use crate::rows::{check_text, number, parts, slots, stop_unless, two};
+use crate::tables::{Table, check};
 use bpf_machine::Cpu;
 use std::alloc::Global;
 use std::process::Abort;
@@ -85,31 +86,26 @@ fn outcome(rt: &impl Abort, alloc: Global, cpu: &Cpu) -> String {
         .expect(rt, "no memory")
 }
 
-/// What a wide load gives and the pc after it, and its entry.
-fn loaded(rt: &impl Abort, alloc: Global, words: &str) -> (u64, u16, String) {
+/// A machine whose first instruction is a wide load.
+fn machine_with_load(rt: &impl Abort, alloc: Global, words: &str) -> Cpu {
     let mut program = slots(rt, alloc, words);
     program.push(EXIT).ok().expect(rt, "no memory");
-    let mut cpu = machine(rt, alloc, &program);
-    let entry = step(rt, &mut cpu);
-    let entry = entry_text(rt, alloc, &entry);
-    (register(rt, &cpu, 0), cpu.pc(), entry)
+    machine(rt, alloc, &program)
 }
 
-/// Stops at a row of the table that doesn't hold.
-fn check_map_loads(rt: &impl Abort, alloc: Global, table: &str, count: usize) {
-    for row in table.lines() {
-        let (_, rest) = parts(rt, row);
-        let (words, expected) = parts(rt, rest);
-        let (r0, pc, entry) = loaded(rt, alloc, words);
-        assert_eq!(rt; (r0, pc), (number(rt, expected), 2), "{row}");
-        assert_eq!(rt; entry.as_str(), "register at 0 r0 0x77", "{row}");
-    }
-    assert_eq!(rt; table.lines().count(), count);
+/// Whether a row of loads holds: pc is then 2.
+pub fn map_load_holds(rt: &impl Abort, alloc: Global, row: &str) -> bool {
+    let (_, rest) = parts(rt, row);
+    let (words, expected) = parts(rt, rest);
+    let mut cpu = machine_with_load(rt, alloc, words);
+    let entry = step_text(rt, alloc, &mut cpu);
+    entry.as_str() == "register at 0 r0 0x77"
+        && (register(rt, &cpu, 0), cpu.pc()) == (number(rt, expected), 2)
 }
 
 #[test]
 fn map_loads(rt: HostRuntime) {
-    check_map_loads(&rt, rt.alloc(), LOADS, 6);
+    check(&rt, rt.alloc(), Table::MapLoads, LOADS, 6);
 }
 
 /// What a call of a helper does with numbers in r1 to r4.
@@ -129,38 +125,32 @@ fn called(
     outcome(rt, alloc, &cpu)
 }
 
-/// Stops at a row of the table that doesn't hold.
-fn check_lookups(rt: &impl Abort, alloc: Global, table: &str, count: usize) {
-    for row in table.lines() {
-        let (_, rest) = parts(rt, row);
-        let (words, expected) = parts(rt, rest);
-        let found = called(rt, alloc, 0x8500_0000_0100_0000, two(rt, words), (0, 0));
-        assert_eq!(rt; found.as_str(), expected, "{row}");
-    }
-    assert_eq!(rt; table.lines().count(), count);
+/// Whether a row of lookups holds.
+pub fn lookup_holds(rt: &impl Abort, alloc: Global, row: &str) -> bool {
+    let (_, rest) = parts(rt, row);
+    let (words, expected) = parts(rt, rest);
+    let found = called(rt, alloc, 0x8500_0000_0100_0000, two(rt, words), (0, 0));
+    found.as_str() == expected
 }
 
 #[test]
 fn lookups(rt: HostRuntime) {
-    check_lookups(&rt, rt.alloc(), LOOKUPS, 19);
+    check(&rt, rt.alloc(), Table::Lookups, LOOKUPS, 19);
 }
 
-/// Stops at a row of the table that doesn't hold.
-fn check_updates(rt: &impl Abort, alloc: Global, table: &str, count: usize) {
-    for row in table.lines() {
-        let (_, rest) = parts(rt, row);
-        let (first, rest) = parts(rt, rest);
-        let (second, expected) = parts(rt, rest);
-        let (first, second) = (two(rt, first), two(rt, second));
-        let found = called(rt, alloc, 0x8500_0000_0200_0000, first, second);
-        assert_eq!(rt; found.as_str(), expected, "{row}");
-    }
-    assert_eq!(rt; table.lines().count(), count);
+/// Whether a row of updates holds.
+pub fn update_holds(rt: &impl Abort, alloc: Global, row: &str) -> bool {
+    let (_, rest) = parts(rt, row);
+    let (first, rest) = parts(rt, rest);
+    let (second, expected) = parts(rt, rest);
+    let (first, second) = (two(rt, first), two(rt, second));
+    let found = called(rt, alloc, 0x8500_0000_0200_0000, first, second);
+    found.as_str() == expected
 }
 
 #[test]
 fn updates(rt: HostRuntime) {
-    check_updates(&rt, rt.alloc(), UPDATES, 20);
+    check(&rt, rt.alloc(), Table::Updates, UPDATES, 20);
 }
 
 // Map 0 holds 01 02 .. 10, seen as two numbers, the highest byte first. An update's key address and r3; the map afterwards; the entry.
@@ -175,21 +165,23 @@ cell 0 from cell 1; 0x10000000c 0x300000008; 090a0b0c0d0e0f10 090a0b0c0d0e0f10; 
 cell 1 from the context; 0x100000000 0x100000000; 0102030405060708 0100000002000000; cell at 0 0x77 0x300000008 090a0b0c0d0e0f10
 ";
 
-/// What an update by a key and r3 makes of map 0: its two values and the entry, and r0.
-fn copied(rt: &impl Abort, alloc: Global, key: u64, source: u64) -> (String, u64) {
+/// A machine whose next step is an update of that map by a key and r3.
+fn before_copy(rt: &impl Abort, alloc: Global, key: u64, source: u64) -> Cpu {
     let mut cpu = machine(rt, alloc, &FILLING);
     fill(rt, &mut cpu);
     set(rt, &mut cpu, 0, 0x77);
     set(rt, &mut cpu, 1, 0x4_0000_0000);
     set(rt, &mut cpu, 2, key);
     set(rt, &mut cpu, 3, source);
-    let entry = step(rt, &mut cpu);
-    let entry = entry_text(rt, alloc, &entry);
-    let (one, two) = (value(rt, alloc, &cpu, 0), value(rt, alloc, &cpu, 1));
-    let text = format!(in alloc; "{one} {two}; {entry}")
+    cpu
+}
+
+/// The two values of map 0.
+fn values(rt: &impl Abort, alloc: Global, cpu: &Cpu) -> String {
+    let (one, two) = (value(rt, alloc, cpu, 0), value(rt, alloc, cpu, 1));
+    format!(in alloc; "{one} {two}")
         .ok()
-        .expect(rt, "no memory");
-    (text, register(rt, &cpu, 0))
+        .expect(rt, "no memory")
 }
 
 /// A value of map 0.
@@ -198,21 +190,27 @@ fn value(rt: &impl Abort, alloc: Global, cpu: &Cpu, index: u64) -> String {
     hexadecimal(rt, alloc, cpu.peek(address, 8).expect(rt, "absent"))
 }
 
-/// Stops at a row of the table that doesn't hold.
-fn check_copies(rt: &impl Abort, alloc: Global, table: &str, count: usize) {
-    for row in table.lines() {
-        let (_, rest) = parts(rt, row);
-        let (words, expected) = parts(rt, rest);
-        let (key, source) = two(rt, words);
-        let (found, r0) = copied(rt, alloc, key, source);
-        assert_eq!(rt; (found.as_str(), r0), (expected, 0), "{row}");
-    }
-    assert_eq!(rt; table.lines().count(), count);
+/// Whether an update by a key and r3 leaves these values and 0 in r0, and has this entry.
+fn copies_to(rt: &impl Abort, alloc: Global, words: &str, after: &str, entry: &str) -> bool {
+    let (key, source) = two(rt, words);
+    let mut cpu = before_copy(rt, alloc, key, source);
+    let found = step_text(rt, alloc, &mut cpu);
+    found.as_str() == entry
+        && values(rt, alloc, &cpu).as_str() == after
+        && register(rt, &cpu, 0) == 0
+}
+
+/// Whether a row of copies holds.
+pub fn copy_holds(rt: &impl Abort, alloc: Global, row: &str) -> bool {
+    let (_, rest) = parts(rt, row);
+    let (words, rest) = parts(rt, rest);
+    let (after, entry) = parts(rt, rest);
+    copies_to(rt, alloc, words, after, entry)
 }
 
 #[test]
 fn copies(rt: HostRuntime) {
-    check_copies(&rt, rt.alloc(), COPIES, 7);
+    check(&rt, rt.alloc(), Table::Copies, COPIES, 7);
 }
 
 // call 2; exit; stxdw [r5+0], r6; ja L0.
@@ -223,54 +221,56 @@ const FILLING: [u64; 4] = [
     0x0500_fcff_0000_0000,
 ];
 
-/// Fills map 0 with 01 02 .. 10, by the program's stores.
-fn fill(rt: &impl Abort, cpu: &mut Cpu) {
-    for (address, value) in [
-        (0x3_0000_0000, 0x0807_0605_0403_0201),
-        (0x3_0000_0008, 0x100f_0e0d_0c0b_0a09),
-    ] {
-        start_at(rt, cpu, 2);
-        set(rt, cpu, 5, address);
-        set(rt, cpu, 6, value);
-        let _store = step(rt, cpu);
-        let _jump = step(rt, cpu);
-    }
+/// Stores a number at an address, by the program, which jumps to its beginning then.
+fn store(rt: &impl Abort, cpu: &mut Cpu, address: u64, value: u64) {
+    start_at(rt, cpu, 2);
+    set(rt, cpu, 5, address);
+    set(rt, cpu, 6, value);
+    let _store = step(rt, cpu);
+    let _jump = step(rt, cpu);
 }
 
-/// Traces a word: the entry, r0, how many words there are and the last one.
-fn traced(rt: &impl Abort, alloc: Global, cpu: &mut Cpu, word: u64) -> String {
+/// Fills map 0 with 01 02 .. 10, by the program's stores.
+fn fill(rt: &impl Abort, cpu: &mut Cpu) {
+    store(rt, cpu, 0x3_0000_0000, 0x0807_0605_0403_0201);
+    store(rt, cpu, 0x3_0000_0008, 0x100f_0e0d_0c0b_0a09);
+}
+
+/// Traces a word, and answers the entry.
+fn trace(rt: &impl Abort, alloc: Global, cpu: &mut Cpu, word: u64) -> String {
     start_at(rt, cpu, 0);
     set(rt, cpu, 0, 0x77);
     set(rt, cpu, 1, word);
-    let entry = step(rt, cpu);
-    let entry = entry_text(rt, alloc, &entry);
-    let (r0, count) = (register(rt, cpu, 0), cpu.trace().len());
-    let last = cpu.trace().last().copied().expect(rt, "no word");
-    format!(in alloc; "{entry}, {r0:#x}, {count} {last:#x}")
-        .ok()
-        .expect(rt, "no memory")
+    step_text(rt, alloc, cpu)
 }
 
-/// The same, where the word is appended.
-fn appended(rt: &impl Abort, alloc: Global, count: u64, word: u64) -> String {
-    format!(in alloc; "trace at 0 0x77, 0x0, {count} {word:#x}")
-        .ok()
-        .expect(rt, "no memory")
+/// r0, how many words are traced and the last one.
+fn last_word(rt: &impl Abort, cpu: &Cpu) -> (u64, usize, u64) {
+    let last = cpu.trace().last().copied().expect(rt, "no word");
+    (register(rt, cpu, 0), cpu.trace().len(), last)
+}
+
+/// Whether a word is traced, and is then the last of so many.
+fn is_traced(rt: &impl Abort, alloc: Global, cpu: &mut Cpu, word: u64, count: usize) -> bool {
+    let entry = trace(rt, alloc, cpu, word);
+    entry.as_str() == "trace at 0 0x77" && last_word(rt, cpu) == (0, count, word)
+}
+
+/// Traces 256 words.
+fn fill_trace(rt: &impl Abort, alloc: Global, cpu: &mut Cpu) {
+    for count in 1..257u64 {
+        let holds = is_traced(rt, alloc, cpu, count + 0xffff_ffff, count as usize);
+        stop_unless(rt, holds, "not traced");
+    }
 }
 
 #[test]
 fn traces(rt: HostRuntime) {
     let program = [0x8500_0000_4000_0000, EXIT];
     let mut cpu = machine(&rt, rt.alloc(), &program);
-    for count in 1..257u64 {
-        let word = count + 0xffff_ffff;
-        let found = traced(&rt, rt.alloc(), &mut cpu, word);
-        let expected = appended(&rt, rt.alloc(), count, word);
-        assert_eq!(rt; found.as_str(), expected.as_str());
-    }
-    let found = traced(&rt, rt.alloc(), &mut cpu, 7);
-    assert_eq!(rt;
-        found.as_str(),
-        "register at 0 r0 0x77, 0xffffffffffffffff, 256 0x1000000ff"
-    );
+    fill_trace(&rt, rt.alloc(), &mut cpu);
+    let entry = trace(&rt, rt.alloc(), &mut cpu, 7);
+    check_text(&rt, entry.as_str(), "register at 0 r0 0x77");
+    let found = last_word(&rt, &cpu);
+    stop_unless(&rt, found == (u64::MAX, 256, 0x1_0000_00ff), "full");
 }

@@ -2,6 +2,7 @@
 //! with its sign extended to 64 bits, also where the comparison is unsigned, and on 32 bits the low halves are compared.
 use crate::machines::{EXIT, machine, set, start_at, step};
 use crate::rows::{number, parts, slot, two};
+use crate::tables::{Table, check};
 use std::alloc::Global;
 use std::process::Abort;
 
@@ -67,21 +68,17 @@ jlt32 r3, r1; ae13010000000000; 0x100000000 1
 jset32 r1, r1; 4e11010000000000; 0x100000000 1
 ";
 
-/// Stops at a row of the table that doesn't hold.
-fn check_jumps(rt: &impl Abort, alloc: Global, table: &str, count: usize) {
-    for row in table.lines() {
-        let (_, rest) = parts(rt, row);
-        let (word, numbers) = parts(rt, rest);
-        let (value, expected) = two(rt, numbers);
-        let found = pc_after(rt, alloc, &[slot(rt, word), EXIT, EXIT], 0, value);
-        assert_eq!(rt; found, expected, "{row}");
-    }
-    assert_eq!(rt; table.lines().count(), count);
+/// Whether a row of jumps holds.
+pub fn jump_holds(rt: &impl Abort, alloc: Global, row: &str) -> bool {
+    let (_, rest) = parts(rt, row);
+    let (word, numbers) = parts(rt, rest);
+    let (value, expected) = two(rt, numbers);
+    pc_after(rt, alloc, &[slot(rt, word), EXIT, EXIT], 0, value) == expected
 }
 
 #[test]
 fn jumps(rt: HostRuntime) {
-    check_jumps(&rt, rt.alloc(), JUMPS, 57);
+    check(&rt, rt.alloc(), Table::Jumps, JUMPS, 57);
 }
 
 /// The pc after a step from a slot of a program, with a number in r1.
@@ -105,19 +102,15 @@ jeq r3, 0, -3; 1503fdff00000000; 0
 jne r3, 0, -3; 5503fdff00000000; 3
 ";
 
-/// Stops at a row of the table that doesn't hold.
-fn check_targets(rt: &impl Abort, alloc: Global, table: &str, count: usize) {
-    for row in table.lines() {
-        let (_, rest) = parts(rt, row);
-        let (word, expected) = parts(rt, rest);
-        let program = [EXIT, EXIT, slot(rt, word), EXIT, EXIT, EXIT];
-        let found = pc_after(rt, alloc, &program, 2, 0);
-        assert_eq!(rt; found, number(rt, expected), "{row}");
-    }
-    assert_eq!(rt; table.lines().count(), count);
+/// Whether a row of targets holds.
+pub fn target_holds(rt: &impl Abort, alloc: Global, row: &str) -> bool {
+    let (_, rest) = parts(rt, row);
+    let (word, expected) = parts(rt, rest);
+    let program = [EXIT, EXIT, slot(rt, word), EXIT, EXIT, EXIT];
+    pc_after(rt, alloc, &program, 2, 0) == number(rt, expected)
 }
 
 #[test]
 fn targets(rt: HostRuntime) {
-    check_targets(&rt, rt.alloc(), TARGETS, 8);
+    check(&rt, rt.alloc(), Table::Targets, TARGETS, 8);
 }

@@ -32,4 +32,6 @@ mod rows;
 #[cfg(test)]
 mod steps;
 #[cfg(test)]
+mod tables;
+#[cfg(test)]
 mod words;

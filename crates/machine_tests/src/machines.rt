@@ -1,6 +1,6 @@
 //! Machines that the tests run, and what is seen of one.
 use bpf_isa::{MapTable, Program, Reg, check};
-use bpf_machine::{Cpu, Edit, Entry, Fault, Status};
+use bpf_machine::{ByteString, Cpu, Edit, Entry, Fault, Status};
 use std::alloc::Global;
 use std::process::Abort;
 
@@ -80,15 +80,32 @@ pub fn set(rt: &impl Abort, cpu: &mut Cpu, number: u8, value: u64) {
     let _entry = cpu.edit(&edit).ok().expect(rt, "read-only");
 }
 
+/// The 8 bytes of the context.
+pub fn context_text(rt: &impl Abort, alloc: Global, cpu: &Cpu) -> String {
+    hexadecimal(rt, alloc, run_of(rt, cpu, 0x1_0000_0000, 8))
+}
+
+/// A run of bytes, which is there.
+pub fn run_of<'a>(rt: &impl Abort, cpu: &'a Cpu, address: u64, count: usize) -> &'a [u8] {
+    assert!(rt; count > 0);
+    cpu.peek(address, count).expect(rt, "absent")
+}
+
 /// The 8 bytes of the context, as a number.
 pub fn context(rt: &impl Abort, cpu: &Cpu) -> u64 {
-    let run = cpu.peek(0x1_0000_0000, 8).expect(rt, "no context");
+    let run = run_of(rt, cpu, 0x1_0000_0000, 8);
     u64::from_le_bytes(run.first_chunk().copied().expect(rt, "no 8 bytes"))
 }
 
 /// Takes a step.
 pub fn step(rt: &impl Abort, cpu: &mut Cpu) -> Entry {
     cpu.step().ok().expect(rt, "ended")
+}
+
+/// Takes a step and answers its entry.
+pub fn step_text(rt: &impl Abort, alloc: Global, cpu: &mut Cpu) -> String {
+    let entry = step(rt, cpu);
+    entry_text(rt, alloc, &entry)
 }
 
 /// Makes another instruction the next one.
@@ -116,6 +133,13 @@ pub fn view_of(rt: &impl Abort, alloc: Global, cpu: &Cpu) -> View {
     }
 }
 
+/// Whether the same is seen of two machines.
+pub fn is_same(one: &View, other: &View) -> bool {
+    one.registers == other.registers
+        && one.place.as_str() == other.place.as_str()
+        && one.bytes.as_slice() == other.bytes.as_slice()
+}
+
 /// r0 to r10.
 pub fn registers_of(rt: &impl Abort, cpu: &Cpu) -> [u64; 11] {
     let mut registers = [0; 11];
@@ -126,7 +150,7 @@ pub fn registers_of(rt: &impl Abort, cpu: &Cpu) -> [u64; 11] {
 }
 
 /// pc, depth, the number of traced words and the status.
-fn place_of(rt: &impl Abort, alloc: Global, cpu: &Cpu) -> String {
+pub fn place_of(rt: &impl Abort, alloc: Global, cpu: &Cpu) -> String {
     let status = status_text(rt, alloc, cpu.status());
     let (pc, depth, traced) = (cpu.pc(), cpu.depth(), cpu.trace().len());
     format!(in alloc; "pc {pc} depth {depth} traced {traced} {status}")
@@ -150,103 +174,146 @@ fn bytes_of(rt: &impl Abort, alloc: Global, cpu: &Cpu) -> Vec<u8> {
 
 /// Puts a run of a machine's bytes behind others.
 fn append(rt: &impl Abort, bytes: &mut Vec<u8>, cpu: &Cpu, address: u64, count: usize) {
-    assert!(rt; count > 0);
-    let run = cpu.peek(address, count).expect(rt, "absent");
+    let run = run_of(rt, cpu, address, count);
     bytes.extend_from_slice(run).ok().expect(rt, "no memory");
 }
 
 /// A status.
 pub fn status_text(rt: &impl Abort, alloc: Global, status: Status) -> String {
     match status {
-        Status::Running => format!(in alloc; "running").ok().expect(rt, "no memory"),
-        Status::Exited => format!(in alloc; "exited").ok().expect(rt, "no memory"),
-        Status::Faulted(Fault::Access { address }) => format!(in alloc; "access {address:#x}")
-            .ok()
-            .expect(rt, "no memory"),
-        Status::Faulted(Fault::Token { token }) => format!(in alloc; "token {token:#x}")
-            .ok()
-            .expect(rt, "no memory"),
-        Status::Faulted(Fault::Depth) => format!(in alloc; "depth").ok().expect(rt, "no memory"),
+        Status::Running => text(rt, alloc, "running"),
+        Status::Exited => text(rt, alloc, "exited"),
+        Status::Faulted(Fault::Access { address }) => {
+            with_hex(rt, alloc, text(rt, alloc, "access"), address)
+        }
+        Status::Faulted(Fault::Token { token }) => {
+            with_hex(rt, alloc, text(rt, alloc, "token"), token)
+        }
+        Status::Faulted(Fault::Depth) => text(rt, alloc, "depth"),
     }
 }
 
 /// The fields of an entry.
 pub fn entry_text(rt: &impl Abort, alloc: Global, entry: &Entry) -> String {
-    let text = match entry {
+    match entry {
         Entry::Register {
             pc,
             register,
             value,
-        } => format!(in alloc; "register at {pc} r{} {value:#x}", register.number())
-            .ok()
-            .expect(rt, "no memory"),
-        Entry::Jump { pc } => format!(in alloc; "jump at {pc}")
-            .ok()
-            .expect(rt, "no memory"),
+        } => with_register(rt, alloc, at(rt, alloc, "register", *pc), *register, *value),
+        Entry::Jump { pc } => at(rt, alloc, "jump", *pc),
         Entry::Store { pc, address, old } => {
-            format!(in alloc;
-                "store at {pc} {address:#x} {}",
-                hexadecimal(rt, alloc, old.as_slice())
-            )
-            .ok()
-            .expect(rt, "no memory")
+            with_bytes(rt, alloc, at(rt, alloc, "store", *pc), *address, old)
         }
-        Entry::End => format!(in alloc; "end").ok().expect(rt, "no memory"),
+        Entry::End => text(rt, alloc, "end"),
         Entry::EditRegister { register, value } => {
-            format!(in alloc; "edit r{} {value:#x}", register.number())
-                .ok()
-                .expect(rt, "no memory")
+            with_register(rt, alloc, text(rt, alloc, "edit"), *register, *value)
         }
         Entry::EditBytes { address, old } => {
-            format!(in alloc;
-                "edit {address:#x} {}",
-                hexadecimal(rt, alloc, old.as_slice())
-            )
-            .ok()
-            .expect(rt, "no memory")
+            with_bytes(rt, alloc, text(rt, alloc, "edit"), *address, old)
         }
-        Entry::EditPc { pc, status } => {
-            format!(in alloc; "edit pc {pc} {}", status_text(rt, alloc, *status))
-                .ok()
-                .expect(rt, "no memory")
-        }
+        Entry::EditPc { pc, status } => edit_of_pc(rt, alloc, *pc, *status),
         _ => called_text(rt, alloc, entry),
-    };
-    text
+    }
 }
 
 /// The fields of the other entries.
 fn called_text(rt: &impl Abort, alloc: Global, entry: &Entry) -> String {
-    let text = match entry {
+    match entry {
         Entry::Fetch {
             pc,
             register,
             value,
             address,
             old,
-        } => format!(in alloc;
-            "fetch at {pc} r{} {value:#x} {address:#x} {}",
-            register.number(),
-            hexadecimal(rt, alloc, old.as_slice())
-        ),
-        Entry::Call { pc } => format!(in alloc; "call at {pc}"),
-        Entry::Return { pc, saved } => format!(in alloc;
-            "return at {pc} {:#x} {:#x} {:#x} {:#x}",
-            saved[0], saved[1], saved[2], saved[3]
-        ),
+        } => {
+            let start = at(rt, alloc, "fetch", *pc);
+            let start = with_register(rt, alloc, start, *register, *value);
+            with_bytes(rt, alloc, start, *address, old)
+        }
+        Entry::Call { pc } => at(rt, alloc, "call", *pc),
+        Entry::Return { pc, saved } => with_saved(rt, alloc, at(rt, alloc, "return", *pc), saved),
         Entry::Cell {
             pc,
             r0,
             address,
             old,
-        } => format!(in alloc;
-            "cell at {pc} {r0:#x} {address:#x} {}",
-            hexadecimal(rt, alloc, old.as_slice())
-        ),
-        Entry::Trace { pc, r0 } => format!(in alloc; "trace at {pc} {r0:#x}"),
-        _ => format!(in alloc; "another"),
-    };
-    text.ok().expect(rt, "no memory")
+        } => {
+            let start = with_hex(rt, alloc, at(rt, alloc, "cell", *pc), *r0);
+            with_bytes(rt, alloc, start, *address, old)
+        }
+        Entry::Trace { pc, r0 } => with_hex(rt, alloc, at(rt, alloc, "trace", *pc), *r0),
+        _ => text(rt, alloc, "another"),
+    }
+}
+
+/// A text of its own.
+pub fn text(rt: &impl Abort, alloc: Global, word: &str) -> String {
+    let mut text = String::new(alloc);
+    text.push_str(word).ok().expect(rt, "no memory");
+    text
+}
+
+/// A kind of step and its pc.
+fn at(rt: &impl Abort, alloc: Global, kind: &str, pc: u16) -> String {
+    format!(in alloc; "{kind} at {pc}")
+        .ok()
+        .expect(rt, "no memory")
+}
+
+/// A text and a number behind it.
+pub fn with_hex(rt: &impl Abort, alloc: Global, text: String, number: u64) -> String {
+    format!(in alloc; "{text} {number:#x}")
+        .ok()
+        .expect(rt, "no memory")
+}
+
+/// A text and a word behind it.
+pub fn with_word(rt: &impl Abort, mut text: String, word: &str) -> String {
+    text.push(' ').ok().expect(rt, "no memory");
+    text.push_str(word).ok().expect(rt, "no memory");
+    text
+}
+
+/// A text, and a register with its value behind it.
+pub fn with_register(
+    rt: &impl Abort,
+    alloc: Global,
+    text: String,
+    register: Reg,
+    value: u64,
+) -> String {
+    let number = register.number();
+    let name = format!(in alloc; "r{number}").ok().expect(rt, "no memory");
+    with_hex(rt, alloc, with_word(rt, text, name.as_str()), value)
+}
+
+/// A text, and an address with its bytes behind it.
+fn with_bytes(
+    rt: &impl Abort,
+    alloc: Global,
+    text: String,
+    address: u64,
+    bytes: &ByteString,
+) -> String {
+    let bytes = hexadecimal(rt, alloc, bytes.as_slice());
+    with_word(rt, with_hex(rt, alloc, text, address), bytes.as_str())
+}
+
+/// A text and the saved registers behind it.
+fn with_saved(rt: &impl Abort, alloc: Global, mut text: String, saved: &[u64; 4]) -> String {
+    for value in saved {
+        text = with_hex(rt, alloc, text, *value);
+    }
+    text
+}
+
+/// An edit of pc, by what it replaced.
+pub fn edit_of_pc(rt: &impl Abort, alloc: Global, pc: u16, status: Status) -> String {
+    let status = status_text(rt, alloc, status);
+    format!(in alloc; "edit pc {pc} {status}")
+        .ok()
+        .expect(rt, "no memory")
 }
 
 /// Bytes, each in two hexadecimal digits.

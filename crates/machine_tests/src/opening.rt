@@ -1,7 +1,8 @@
 //! Machines at opening, and machines that aren't opened. Expected values are those of docs/MACHINE.md.
-use crate::machines::{EXIT, opened, program, registers_of, view_of};
-use crate::rows::number;
+use crate::machines::{EXIT, hexadecimal, opened, program, registers_of, run_of, view_of};
+use crate::rows::{check_number, check_text, number, stop_unless};
 use crate::steps::check_view;
+use crate::tables::{Table, check};
 use bpf_isa::MapTable;
 use bpf_machine::{Cpu, Memory, OpenFault};
 use std::alloc::Global;
@@ -10,11 +11,17 @@ use std::process::Abort;
 // r0 to r10 at opening, where the context has 8 bytes.
 const OPENED: [u64; 11] = [0, 0x1_0000_0000, 8, 0, 0, 0, 0, 0, 0, 0, 0x2_0000_0200];
 
+/// Whether all bytes are 0.
+fn is_empty(bytes: &[u8]) -> bool {
+    bytes.iter().all(|byte| *byte == 0)
+}
+
 /// Stops unless the bytes are 1 to 8 and those of an empty frame.
-fn check_bytes(rt: &impl Abort, bytes: &[u8]) {
+fn check_bytes(rt: &impl Abort, alloc: Global, bytes: &[u8]) {
     let (context, frame) = bytes.split_at_checked(8).expect(rt, "short");
-    assert_eq!(rt; context, [1, 2, 3, 4, 5, 6, 7, 8].as_slice());
-    assert_eq!(rt; frame, [0; 512].as_slice());
+    let context = hexadecimal(rt, alloc, context);
+    check_text(rt, context.as_str(), "0102030405060708");
+    stop_unless(rt, frame.len() == 512 && is_empty(frame), "frame 0");
 }
 
 #[test]
@@ -22,9 +29,9 @@ fn opens(rt: HostRuntime) {
     let cpu = opened(&rt, rt.alloc(), &[EXIT], &[1, 2, 3, 4, 5, 6, 7, 8]);
     let view = view_of(&rt, rt.alloc(), &cpu);
     check_view(&rt, &view, &OPENED, "pc 0 depth 0 traced 0 running");
-    check_bytes(&rt, &view.bytes);
-    assert!(rt; cpu.frame(0).is_none());
-    assert_eq!(rt; cpu.program().len(), 1);
+    check_bytes(&rt, rt.alloc(), &view.bytes);
+    stop_unless(&rt, cpu.frame(0).is_none(), "frames");
+    check_number(&rt, cpu.program().len() as u64, 1);
 }
 
 // The length of a context, and r0 to r10.
@@ -35,57 +42,71 @@ const CONTEXTS: &str = "\
 65536; 0 4294967296 65536 0 0 0 0 0 0 0 8589935104
 ";
 
-/// r0 to r10 of a machine with a context of so many bytes.
-fn registers_with(rt: &impl Abort, alloc: Global, len: u64) -> String {
+/// A machine with a context of so many bytes.
+fn opened_with(rt: &impl Abort, alloc: Global, len: u64) -> Cpu {
     let context = vec![in alloc; 7u8; len as usize]
         .ok()
         .expect(rt, "no memory");
-    let cpu = opened(rt, alloc, &[EXIT], &context);
+    opened(rt, alloc, &[EXIT], &context)
+}
+
+/// A text and a number behind it.
+fn with_number(rt: &impl Abort, alloc: Global, text: String, number: u64) -> String {
+    format!(in alloc; "{text} {number}")
+        .ok()
+        .expect(rt, "no memory")
+}
+
+/// r0 to r10 of a machine with a context of so many bytes.
+fn registers_with(rt: &impl Abort, alloc: Global, len: u64) -> String {
     let mut text = String::new(alloc);
-    for value in registers_of(rt, &cpu) {
-        let word = format!(in alloc; " {value}").ok().expect(rt, "no memory");
-        text.push_str(&word).ok().expect(rt, "no memory");
+    for value in registers_of(rt, &opened_with(rt, alloc, len)) {
+        text = with_number(rt, alloc, text, value);
     }
     text
 }
 
-/// Stops at a row of the table that doesn't hold.
-fn check_opens_with_contexts(rt: &impl Abort, alloc: Global, table: &str, count: usize) {
-    for row in table.lines() {
-        let (len, expected) = row.split_once(';').expect(rt, "no registers");
-        let found = registers_with(rt, alloc, number(rt, len));
-        assert_eq!(rt; found.as_str(), expected, "{row}");
-    }
-    assert_eq!(rt; table.lines().count(), count);
+/// Whether a row of contexts holds.
+pub fn context_holds(rt: &impl Abort, alloc: Global, row: &str) -> bool {
+    let (len, expected) = row.split_once(';').expect(rt, "no registers");
+    registers_with(rt, alloc, number(rt, len)).as_str() == expected
 }
 
 #[test]
 fn opens_with_contexts(rt: HostRuntime) {
-    check_opens_with_contexts(&rt, rt.alloc(), CONTEXTS, 4);
+    check(&rt, rt.alloc(), Table::Contexts, CONTEXTS, 4);
+}
+
+/// Whether a byte is there and can be accessed.
+fn has_byte(cpu: &Cpu, address: u64) -> bool {
+    cpu.peek(address, 1).is_some() && cpu.accessible(address, 1)
+}
+
+/// Whether no byte is there and none can be accessed.
+fn has_no_byte(cpu: &Cpu, address: u64) -> bool {
+    cpu.peek(address, 1).is_none() && !cpu.accessible(address, 1)
 }
 
 /// Stops unless a machine whose context has 65,536 bytes, of which the last is ab, has these and no more.
-fn check_last_byte(rt: &impl Abort, cpu: &Cpu) {
-    assert_eq!(rt;
-        cpu.peek(0x1_0000_ffff, 1).expect(rt, "absent"),
-        [0xab].as_slice()
-    );
-    assert!(rt; cpu.accessible(0x1_0000_ffff, 1));
-    assert!(rt; cpu.peek(0x1_0001_0000, 1).is_none());
-    assert!(rt; !cpu.accessible(0x1_0001_0000, 1));
-    assert!(rt; cpu.peek(0x1_0000_0000, 65_536).is_some());
+fn check_last_byte(rt: &impl Abort, alloc: Global, cpu: &Cpu) {
+    let last = hexadecimal(rt, alloc, run_of(rt, cpu, 0x1_0000_ffff, 1));
+    check_text(rt, last.as_str(), "ab");
+    stop_unless(rt, has_byte(cpu, 0x1_0000_ffff), "the last byte");
+    stop_unless(rt, has_no_byte(cpu, 0x1_0001_0000), "one more");
+    let whole = cpu.peek(0x1_0000_0000, 65_536);
+    stop_unless(rt, whole.is_some(), "the whole");
 }
 
 /// The number of the fault with which a machine isn't opened.
-fn fault_of_machine(rt: &impl Abort, alloc: Global, context: &[u8]) -> u8 {
+fn fault_of_machine(rt: &impl Abort, alloc: Global, context: &[u8]) -> u64 {
     let fault = Cpu::open(alloc, program(rt, alloc, &[EXIT]), context).err();
-    fault.expect(rt, "opened").number()
+    u64::from(fault.expect(rt, "opened").number())
 }
 
 /// The same of memory.
-fn fault_of_memory(rt: &impl Abort, alloc: Global, context: &[u8]) -> u8 {
+fn fault_of_memory(rt: &impl Abort, alloc: Global, context: &[u8]) -> u64 {
     let fault = Memory::open(alloc, &MapTable::empty(), context).err();
-    fault.expect(rt, "opened").number()
+    u64::from(fault.expect(rt, "opened").number())
 }
 
 /// Bytes 0, as many as are asked for, and one more.
@@ -95,21 +116,33 @@ fn context_with(rt: &impl Abort, alloc: Global, len: usize, last: u8) -> Vec<u8>
     context
 }
 
+/// Stops unless a context of 65,536 bytes is taken.
+fn check_longest(rt: &impl Abort, alloc: Global) {
+    let context = context_with(rt, alloc, 65_535, 0xab);
+    check_last_byte(rt, alloc, &opened(rt, alloc, &[EXIT], &context));
+}
+
+/// Stops unless a context of 65,537 bytes is too long.
+fn check_too_long(rt: &impl Abort, alloc: Global) {
+    let context = context_with(rt, alloc, 65_536, 0);
+    check_number(rt, fault_of_machine(rt, alloc, &context), 1);
+    check_number(rt, fault_of_memory(rt, alloc, &context), 1);
+}
+
 #[test]
 fn longest_context(rt: HostRuntime) {
-    let context = context_with(&rt, rt.alloc(), 65_535, 0xab);
-    check_last_byte(&rt, &opened(&rt, rt.alloc(), &[EXIT], &context));
-    let context = context_with(&rt, rt.alloc(), 65_536, 0);
-    assert_eq!(rt; fault_of_machine(&rt, rt.alloc(), &context), 1);
-    assert_eq!(rt; fault_of_memory(&rt, rt.alloc(), &context), 1);
+    check_longest(&rt, rt.alloc());
+    check_too_long(&rt, rt.alloc());
+}
+
+/// Stops unless a fault has this number and this text.
+fn check_fault(rt: &impl Abort, fault: OpenFault, number: u64, text: &str) {
+    check_number(rt, u64::from(fault.number()), number);
+    check_text(rt, fault.text(), text);
 }
 
 #[test]
 fn faults_of_opening(rt: HostRuntime) {
-    for (fault, number, text) in [
-        (OpenFault::ContextTooLong, 1, "context too long"),
-        (OpenFault::OutOfMemory, 2, "out of memory"),
-    ] {
-        assert_eq!(rt; (fault.number(), fault.text()), (number, text));
-    }
+    check_fault(&rt, OpenFault::ContextTooLong, 1, "context too long");
+    check_fault(&rt, OpenFault::OutOfMemory, 2, "out of memory");
 }

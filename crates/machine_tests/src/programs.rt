@@ -1,7 +1,8 @@
 //! Whole programs, slot by slot. Expected values were worked out from RFC 9669.
-use crate::machines::{EXIT, context, machine, register, run, status_text};
+use crate::machines::{EXIT, context, machine, register, run};
 use crate::rows::{number, parts, slot, slots};
-use bpf_machine::{Fault, Status};
+use crate::tables::{Table, check};
+use bpf_machine::{Cpu, Fault, Status};
 use std::alloc::Global;
 use std::process::Abort;
 
@@ -72,51 +73,39 @@ ldxb [r3+0]; 7130000000000000; 0
 stb [r3-1], 7; 7203ffff07000000; 0xffffffffffffffff
 ";
 
-/// r0 and the status at the end of a program.
-fn end_of(rt: &impl Abort, alloc: Global, program: &[u64]) -> (u64, String) {
+/// Whether a program exits with this number in r0.
+fn exits_with(rt: &impl Abort, alloc: Global, program: &[u64], expected: &str) -> bool {
     let mut cpu = machine(rt, alloc, program);
     run(&mut cpu);
-    (register(rt, &cpu, 0), status_text(rt, alloc, cpu.status()))
+    has_exited(&cpu) && register(rt, &cpu, 0) == number(rt, expected)
 }
 
-/// Stops at a row of the table that doesn't hold.
-fn check_results(rt: &impl Abort, alloc: Global, table: &str, count: usize) {
-    for row in table.lines() {
-        let (_, rest) = parts(rt, row);
-        let (program, expected) = parts(rt, rest);
-        let (r0, status) = end_of(rt, alloc, &slots(rt, alloc, program));
-        assert_eq!(rt;
-            (r0, status.as_str()),
-            (number(rt, expected), "exited"),
-            "{row}"
-        );
-    }
-    assert_eq!(rt; table.lines().count(), count);
+fn has_exited(cpu: &Cpu) -> bool {
+    matches!(cpu.status(), Status::Exited)
+}
+
+/// Whether a row of results holds.
+pub fn result_holds(rt: &impl Abort, alloc: Global, row: &str) -> bool {
+    let (_, rest) = parts(rt, row);
+    let (program, expected) = parts(rt, rest);
+    exits_with(rt, alloc, &slots(rt, alloc, program), expected)
 }
 
 #[test]
 fn results(rt: HostRuntime) {
-    check_results(&rt, rt.alloc(), RESULTS, 25);
+    check(&rt, rt.alloc(), Table::Results, RESULTS, 25);
 }
 
-/// Stops at a row of the table that doesn't hold.
-fn check_loads(rt: &impl Abort, alloc: Global, table: &str, count: usize) {
-    for row in table.lines() {
-        let (_, rest) = parts(rt, row);
-        let (word, expected) = parts(rt, rest);
-        let (r0, status) = end_of(rt, alloc, &[slot(rt, word), EXIT]);
-        assert_eq!(rt;
-            (r0, status.as_str()),
-            (number(rt, expected), "exited"),
-            "{row}"
-        );
-    }
-    assert_eq!(rt; table.lines().count(), count);
+/// Whether a row of loads holds.
+pub fn load_holds(rt: &impl Abort, alloc: Global, row: &str) -> bool {
+    let (_, rest) = parts(rt, row);
+    let (word, expected) = parts(rt, rest);
+    exits_with(rt, alloc, &[slot(rt, word), EXIT], expected)
 }
 
 #[test]
 fn loads(rt: HostRuntime) {
-    check_loads(&rt, rt.alloc(), LOADS, 10);
+    check(&rt, rt.alloc(), Table::Loads, LOADS, 10);
 }
 
 /// The context's bytes at the end of a program, as a slot shows them.
@@ -126,44 +115,42 @@ fn context_after(rt: &impl Abort, alloc: Global, program: &[u64]) -> u64 {
     context(rt, &cpu).swap_bytes()
 }
 
-/// Stops at a row of the table that doesn't hold.
-fn check_stores(rt: &impl Abort, alloc: Global, table: &str, count: usize) {
-    for row in table.lines() {
-        let (_, rest) = parts(rt, row);
-        let (word, expected) = parts(rt, rest);
-        let found = context_after(rt, alloc, &[slot(rt, word), EXIT]);
-        assert_eq!(rt; found, slot(rt, expected), "{row}");
-    }
-    assert_eq!(rt; table.lines().count(), count);
+/// Whether a row of stores holds.
+pub fn store_holds(rt: &impl Abort, alloc: Global, row: &str) -> bool {
+    let (_, rest) = parts(rt, row);
+    let (word, expected) = parts(rt, rest);
+    context_after(rt, alloc, &[slot(rt, word), EXIT]) == slot(rt, expected)
 }
 
 #[test]
 fn stores(rt: HostRuntime) {
-    check_stores(&rt, rt.alloc(), STORES, 8);
+    check(&rt, rt.alloc(), Table::Stores, STORES, 8);
 }
 
-/// pc and the address of the fault at which a program ends.
-fn fault_of(rt: &impl Abort, alloc: Global, program: &[u64]) -> (u16, u64) {
+/// Whether a program ends at its first slot, at an access of this address.
+fn ends_at_access(rt: &impl Abort, alloc: Global, program: &[u64], expected: u64) -> bool {
     let mut cpu = machine(rt, alloc, program);
     run(&mut cpu);
-    match cpu.status() {
-        Status::Faulted(Fault::Access { address }) => (cpu.pc(), address),
-        _ => panic!(rt; "no fault of access"),
+    cpu.pc() == 0 && fault_address(cpu.status()) == Some(expected)
+}
+
+/// The address of a fault of access.
+fn fault_address(status: Status) -> Option<u64> {
+    match status {
+        Status::Faulted(Fault::Access { address }) => Some(address),
+        _ => None,
     }
 }
 
-/// Stops at a row of the table that doesn't hold.
-fn check_faults(rt: &impl Abort, alloc: Global, table: &str, count: usize) {
-    for row in table.lines() {
-        let (_, rest) = parts(rt, row);
-        let (word, address) = parts(rt, rest);
-        let found = fault_of(rt, alloc, &[slot(rt, word), EXIT]);
-        assert_eq!(rt; found, (0, number(rt, address)), "{row}");
-    }
-    assert_eq!(rt; table.lines().count(), count);
+/// Whether a row of faults holds.
+pub fn fault_holds(rt: &impl Abort, alloc: Global, row: &str) -> bool {
+    let (_, rest) = parts(rt, row);
+    let (word, address) = parts(rt, rest);
+    let program = [slot(rt, word), EXIT];
+    ends_at_access(rt, alloc, &program, number(rt, address))
 }
 
 #[test]
 fn faults(rt: HostRuntime) {
-    check_faults(&rt, rt.alloc(), FAULTS, 8);
+    check(&rt, rt.alloc(), Table::Faults, FAULTS, 8);
 }

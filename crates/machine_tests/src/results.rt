@@ -1,6 +1,7 @@
 //! Results of arithmetic at their edges. Expected values were worked out from RFC 9669, section 4.1, by arithmetic on whole
 //! numbers. In the names max is the largest number, min the smallest signed one, top the largest signed one.
-use crate::rows::{half, parts, three};
+use crate::rows::{first_word, half, parts, three};
+use crate::tables::{Table, check};
 use crate::words::{result, word};
 use std::alloc::Global;
 use std::process::Abort;
@@ -146,36 +147,30 @@ arsh cc10000000000000
 /// What becomes of r0 by a row's operation, and what is to become of it. An operation on 64 bits has the class 7 in place of 4.
 fn compared(rt: &impl Abort, alloc: Global, row: &str, class: u64) -> (u64, u64) {
     let (_, words) = parts(rt, row);
-    let (name, numbers) = words.split_once(' ').expect(rt, "no operation");
+    let (name, numbers) = first_word(rt, words);
     let (a, b, expected) = three(rt, numbers);
     let slot = word(rt, WORDS, name) | class << 56;
     (result(rt, alloc, slot, a, b), expected)
 }
 
-/// Stops at a row of the table that doesn't hold.
-fn check_results_of_32_bits(rt: &impl Abort, alloc: Global, table: &str, count: usize) {
-    for row in table.lines() {
-        let (found, expected) = compared(rt, alloc, row, 4);
-        assert_eq!(rt; found, u64::from(half(rt, expected)), "{row}");
-    }
-    assert_eq!(rt; table.lines().count(), count);
+/// Whether a row of results holds on 32 bits.
+pub fn result_of_32_bits_holds(rt: &impl Abort, alloc: Global, row: &str) -> bool {
+    let (found, expected) = compared(rt, alloc, row, 4);
+    found == u64::from(half(rt, expected))
 }
 
 #[test]
 fn results_of_32_bits(rt: HostRuntime) {
-    check_results_of_32_bits(&rt, rt.alloc(), RESULTS_32, 56);
+    check(&rt, rt.alloc(), Table::Results32, RESULTS_32, 56);
 }
 
-/// Stops at a row of the table that doesn't hold.
-fn check_results_of_64_bits(rt: &impl Abort, alloc: Global, table: &str, count: usize) {
-    for row in table.lines() {
-        let (found, expected) = compared(rt, alloc, row, 7);
-        assert_eq!(rt; found, expected, "{row}");
-    }
-    assert_eq!(rt; table.lines().count(), count);
+/// Whether a row of results holds on 64 bits.
+pub fn result_of_64_bits_holds(rt: &impl Abort, alloc: Global, row: &str) -> bool {
+    let (found, expected) = compared(rt, alloc, row, 7);
+    found == expected
 }
 
 #[test]
 fn results_of_64_bits(rt: HostRuntime) {
-    check_results_of_64_bits(&rt, rt.alloc(), RESULTS_64, 56);
+    check(&rt, rt.alloc(), Table::Results64, RESULTS_64, 56);
 }

@@ -8,6 +8,31 @@ pub fn parts<'a>(rt: &impl Abort, row: &'a str) -> (&'a str, &'a str) {
     row.split_once("; ").expect(rt, "one part")
 }
 
+/// The text before the first blank, and what follows.
+pub fn first_word<'a>(rt: &impl Abort, words: &'a str) -> (&'a str, &'a str) {
+    words.split_once(' ').expect(rt, "one word")
+}
+
+/// Stops unless a row holds.
+pub fn stop_unless(rt: &impl Abort, holds: bool, row: &str) {
+    assert!(rt; holds, "{row}");
+}
+
+/// Stops unless a text is the one that is expected.
+pub fn check_text(rt: &impl Abort, found: &str, expected: &str) {
+    assert_eq!(rt; found, expected);
+}
+
+/// Stops unless a number is the one that is expected.
+pub fn check_number(rt: &impl Abort, found: u64, expected: u64) {
+    assert_eq!(rt; found, expected);
+}
+
+/// Stops unless a table has so many rows.
+pub fn check_count(rt: &impl Abort, rows: &str, count: usize) {
+    check_number(rt, rows.lines().count() as u64, count as u64);
+}
+
 /// A number of 64 bits.
 pub fn number(rt: &impl Abort, word: &str) -> u64 {
     let found = if let Some(digits) = word.strip_prefix("0x") {
@@ -34,13 +59,13 @@ pub fn half(rt: &impl Abort, number: u64) -> u32 {
 
 /// Two numbers.
 pub fn two(rt: &impl Abort, words: &str) -> (u64, u64) {
-    let (a, b) = words.split_once(' ').expect(rt, "one number");
+    let (a, b) = first_word(rt, words);
     (number(rt, a), number(rt, b))
 }
 
 /// Three numbers.
 pub fn three(rt: &impl Abort, words: &str) -> (u64, u64, u64) {
-    let (a, others) = words.split_once(' ').expect(rt, "one number");
+    let (a, others) = first_word(rt, words);
     let (b, c) = two(rt, others);
     (number(rt, a), b, c)
 }

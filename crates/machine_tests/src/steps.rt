@@ -1,8 +1,11 @@
 //! Steps, entry by entry, in each of the ways to take one. Expected values were worked out from RFC 9669 and docs/MACHINE.md.
-use crate::machines::{EXIT, View, entry_text, machine, opened, step, view_of};
+use crate::machines::{
+    EXIT, View, context_text, entry_text, is_same, machine, opened, place_of, start_at, step,
+    step_text, text, view_of,
+};
 use crate::programs::{FAULTS, LOADS, RESULTS, STORES};
-use crate::rows::{parts, slot, slots};
-use bpf_machine::{Cpu, Edit, Ended, Entry};
+use crate::rows::{check_count, check_number, check_text, parts, slot, slots, stop_unless};
+use bpf_machine::{Cpu, Ended, Entry};
 use std::alloc::Global;
 use std::process::Abort;
 
@@ -42,40 +45,76 @@ fn step_by_halves(cpu: &mut Cpu) -> Option<Entry> {
 
 /// Whether two machines are seen to be the same.
 fn are_alike(rt: &impl Abort, alloc: Global, one: &Cpu, other: &Cpu) -> bool {
-    let (one, other) = (view_of(rt, alloc, one), view_of(rt, alloc, other));
-    one.registers == other.registers
-        && one.place.as_str() == other.place.as_str()
-        && one.bytes.as_slice() == other.bytes.as_slice()
+    is_same(&view_of(rt, alloc, one), &view_of(rt, alloc, other))
 }
 
 /// An entry and its weight, `ended` for none.
 fn told(rt: &impl Abort, alloc: Global, entry: Option<Entry>) -> String {
     match entry {
-        Some(entry) => {
-            let text = entry_text(rt, alloc, &entry);
-            format!(in alloc; "{text}, {}", entry.weight())
-                .ok()
-                .expect(rt, "no memory")
-        }
-        None => format!(in alloc; "ended").ok().expect(rt, "no memory"),
+        Some(entry) => with_weight(rt, alloc, &entry),
+        None => text(rt, alloc, "ended"),
     }
+}
+
+/// An entry and its weight.
+fn with_weight(rt: &impl Abort, alloc: Global, entry: &Entry) -> String {
+    let (text, weight) = (entry_text(rt, alloc, entry), entry.weight());
+    format!(in alloc; "{text}, {weight}")
+        .ok()
+        .expect(rt, "no memory")
+}
+
+/// A step of a machine, and what it tells.
+fn told_by_step(rt: &impl Abort, alloc: Global, cpu: &mut Cpu) -> String {
+    told(rt, alloc, cpu.step().ok())
+}
+
+/// The same by halves.
+fn told_by_halves(rt: &impl Abort, alloc: Global, cpu: &mut Cpu) -> String {
+    told(rt, alloc, step_by_halves(cpu))
+}
+
+/// A step that tells no more than whether there was one.
+fn advances(cpu: &mut Cpu) -> bool {
+    cpu.advance().is_ok()
+}
+
+/// A program in a machine for each of the ways to step.
+#[derive(Drop)]
+struct Machines {
+    stepped: Cpu,
+    advanced: Cpu,
+    halved: Cpu,
+}
+
+/// A step in each of the ways, and whether there was one. Stops where the ways tell different things.
+fn step_alike(rt: &impl Abort, alloc: Global, machines: &mut Machines) -> bool {
+    let whole = told_by_step(rt, alloc, &mut machines.stepped);
+    let halves = told_by_halves(rt, alloc, &mut machines.halved);
+    check_text(rt, halves.as_str(), whole.as_str());
+    let is_step = advances(&mut machines.advanced);
+    stop_unless(rt, is_step || whole.as_str() == "ended", "no end");
+    is_step
+}
+
+/// Whether the same is seen of the machines.
+fn are_all_alike(rt: &impl Abort, alloc: Global, machines: &Machines) -> bool {
+    are_alike(rt, alloc, &machines.stepped, &machines.advanced)
+        && are_alike(rt, alloc, &machines.stepped, &machines.halved)
 }
 
 /// Runs a program to its end in each of the ways, side by side, and answers how many steps that took.
 fn steps_alike(rt: &impl Abort, alloc: Global, slots: &[u64]) -> u64 {
-    let mut stepped = machine(rt, alloc, slots);
-    let mut advanced = machine(rt, alloc, slots);
-    let mut halved = machine(rt, alloc, slots);
+    let mut machines = Machines {
+        stepped: machine(rt, alloc, slots),
+        advanced: machine(rt, alloc, slots),
+        halved: machine(rt, alloc, slots),
+    };
     for count in 0..100 {
-        let halves = told(rt, alloc, step_by_halves(&mut halved));
-        let whole = told(rt, alloc, stepped.step().ok());
-        assert_eq!(rt; halves.as_str(), whole.as_str());
-        if advanced.advance().is_err() {
-            assert_eq!(rt; whole.as_str(), "ended");
+        if !step_alike(rt, alloc, &mut machines) {
             return count;
         }
-        assert!(rt; are_alike(rt, alloc, &stepped, &advanced));
-        assert!(rt; are_alike(rt, alloc, &stepped, &halved));
+        stop_unless(rt, are_all_alike(rt, alloc, &machines), "unlike");
     }
     100
 }
@@ -93,19 +132,23 @@ pub fn program_of(rt: &impl Abort, alloc: Global, table: &str) -> Vec<u64> {
     program
 }
 
+/// Whether a step has the entry of a row.
+fn step_holds(rt: &impl Abort, alloc: Global, cpu: &mut Cpu, row: &str) -> bool {
+    let (_, expected) = parts(rt, row);
+    step_text(rt, alloc, cpu).as_str() == expected
+}
+
 /// Takes a step for each row of a table, and stops where its entry isn't that of the row.
 pub fn check_entries(rt: &impl Abort, alloc: Global, cpu: &mut Cpu, table: &str) {
     for row in table.lines() {
-        let (_, expected) = parts(rt, row);
-        let entry = step(rt, cpu);
-        assert_eq!(rt; entry_text(rt, alloc, &entry).as_str(), expected, "{row}");
+        stop_unless(rt, step_holds(rt, alloc, cpu, row), row);
     }
 }
 
 /// Stops unless these are the registers and the place that are seen of a machine.
 pub fn check_view(rt: &impl Abort, view: &View, registers: &[u64; 11], place: &str) {
-    assert_eq!(rt; view.registers, *registers);
-    assert_eq!(rt; view.place.as_str(), place);
+    stop_unless(rt, view.registers == *registers, "registers");
+    check_text(rt, view.place.as_str(), place);
 }
 
 // r0 to r10 at the program's end.
@@ -130,27 +173,35 @@ fn steps_and_their_entries(rt: HostRuntime) {
     check_entries(&rt, rt.alloc(), &mut cpu, STEPS);
     let view = view_of(&rt, rt.alloc(), &cpu);
     check_view(&rt, &view, &ENDED, "pc 15 depth 0 traced 0 exited");
-    assert_eq!(rt; steps_alike(&rt, rt.alloc(), &program), 15);
-    assert_eq!(rt; STEPS.lines().count(), 15);
+    check_number(&rt, steps_alike(&rt, rt.alloc(), &program), 15);
+    check_count(&rt, STEPS, 15);
+}
+
+/// How many steps the program of a row takes in each of the ways.
+fn steps_of_program(rt: &impl Abort, alloc: Global, row: &str) -> u64 {
+    let (_, rest) = parts(rt, row);
+    let (program, _) = parts(rt, rest);
+    steps_alike(rt, alloc, &slots(rt, alloc, program))
 }
 
 /// Stops at a row whose program doesn't end in each of the ways.
 fn check_programs(rt: &impl Abort, alloc: Global, table: &str) {
     for row in table.lines() {
-        let (_, rest) = parts(rt, row);
-        let (program, _) = parts(rt, rest);
-        let program = slots(rt, alloc, program);
-        assert!(rt; steps_alike(rt, alloc, &program) < 100, "{row}");
+        stop_unless(rt, steps_of_program(rt, alloc, row) < 100, row);
     }
+}
+
+/// How many steps the word of a row, with an exit behind it, takes in each of the ways.
+fn steps_of_word(rt: &impl Abort, alloc: Global, row: &str) -> u64 {
+    let (_, rest) = parts(rt, row);
+    let (word, _) = parts(rt, rest);
+    steps_alike(rt, alloc, &[slot(rt, word), EXIT])
 }
 
 /// Stops at a row whose word, with an exit behind it, doesn't end after so many steps in each of the ways.
 fn check_words(rt: &impl Abort, alloc: Global, table: &str, count: u64) {
     for row in table.lines() {
-        let (_, rest) = parts(rt, row);
-        let (word, _) = parts(rt, rest);
-        let steps = steps_alike(rt, alloc, &[slot(rt, word), EXIT]);
-        assert_eq!(rt; steps, count, "{row}");
+        stop_unless(rt, steps_of_word(rt, alloc, row) == count, row);
     }
 }
 
@@ -162,22 +213,33 @@ fn steps_of_each_program(rt: HostRuntime) {
     check_words(&rt, rt.alloc(), FAULTS, 1);
 }
 
+/// Stops unless this is the place of a machine.
+fn check_place(rt: &impl Abort, alloc: Global, cpu: &Cpu, place: &str) {
+    check_text(rt, place_of(rt, alloc, cpu).as_str(), place);
+}
+
 #[test]
 fn a_fault_and_an_edit_of_pc(rt: HostRuntime) {
     let mut cpu = machine(&rt, rt.alloc(), &[0x7a0a_0000_0700_0000, EXIT]);
-    let entry = cpu.step().ok().expect(&rt, "ended");
-    assert_eq!(rt; entry_text(&rt, rt.alloc(), &entry).as_str(), "end");
-    assert_eq!(rt;
-        view_of(&rt, rt.alloc(), &cpu).place.as_str(),
-        "pc 0 depth 0 traced 0 access 0x200000200"
+    check_text(
+        &rt,
+        told_by_step(&rt, rt.alloc(), &mut cpu).as_str(),
+        "end, 5",
     );
-    assert!(rt; cpu.step().is_err());
-    assert!(rt; cpu.edit(&Edit::Pc { slot: 0 }).is_ok());
-    assert_eq!(rt;
-        view_of(&rt, rt.alloc(), &cpu).place.as_str(),
-        "pc 0 depth 0 traced 0 running"
+    check_place(
+        &rt,
+        rt.alloc(),
+        &cpu,
+        "pc 0 depth 0 traced 0 access 0x200000200",
     );
-    assert!(rt; cpu.step().is_ok());
+    check_text(
+        &rt,
+        told_by_step(&rt, rt.alloc(), &mut cpu).as_str(),
+        "ended",
+    );
+    start_at(&rt, &mut cpu, 0);
+    check_place(&rt, rt.alloc(), &cpu, "pc 0 depth 0 traced 0 running");
+    let _entry = step(&rt, &mut cpu);
 }
 
 #[test]
@@ -188,15 +250,13 @@ fn a_store_and_its_entry(rt: HostRuntime) {
         &[0x7b11_0000_0000_0000, EXIT],
         &[1, 2, 3, 4, 5, 6, 7, 8],
     );
-    let entry = cpu.step().ok().expect(&rt, "ended");
-    assert_eq!(rt;
-        entry_text(&rt, rt.alloc(), &entry).as_str(),
-        "store at 0 0x100000000 0102030405060708"
+    let found = told_by_step(&rt, rt.alloc(), &mut cpu);
+    check_text(
+        &rt,
+        found.as_str(),
+        "store at 0 0x100000000 0102030405060708, 24",
     );
-    assert_eq!(rt; entry.weight(), 24);
-    assert_eq!(rt;
-        cpu.peek(0x1_0000_0000, 8).expect(&rt, "absent"),
-        [0, 0, 0, 0, 1, 0, 0, 0].as_slice()
-    );
-    assert_eq!(rt; cpu.pc(), 1);
+    let bytes = context_text(&rt, rt.alloc(), &cpu);
+    check_text(&rt, bytes.as_str(), "0000000001000000");
+    check_number(&rt, u64::from(cpu.pc()), 1);
 }
