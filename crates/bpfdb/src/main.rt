@@ -1,31 +1,19 @@
 //! The program: a debugger that runs a BPF program (RFC 9669) forwards and backwards.
 #![tactic(auto)]
 
-ghost use Rattle.bpfdb.specs.Plans.{IsLimit};
+ghost use Rattle.bpf_tool.specs.Jobs.{IsLimit};
 
-mod command_line;
 mod fault;
 mod files;
-mod help;
 mod input;
-mod job;
-mod opening;
-mod plan;
-mod planner;
-mod refusal;
-mod report;
-#[cfg(test)]
-mod tests;
-mod tool;
 
 use bpf_io::Counted;
+use bpf_plan::{Plan, PlanFault, plan};
+use bpf_tool::{Job, JobFault, Subcommand, give_up, tool};
 use clap::Error;
-use fault::{FileFault, JobFault};
+use fault::{FileFault, WordsFault};
 use files::{PROGRAM_BYTES, read_beginning, read_context, read_listing};
 use input::Input;
-use job::Job;
-use plan::{Plan, PlanFault, Subcommand};
-use report::give_up;
 use std::io::{BufReader, BufWriter, ErrorKind, Stderr, Write};
 use std::process::ExitCode;
 use std::{env, io};
@@ -76,26 +64,26 @@ fn obey(rt: &HostRuntime, errors: &mut Errors) -> u8 {
             Err(_) => return give_up(errors, JobFault::Memory),
         }
     }
-    match planner::plan(rt.alloc(), texts.as_slice()) {
+    match plan(rt.alloc(), texts.as_slice()) {
         Ok(plan) => do_plan(rt, &plan, errors),
         Err(fault) => show(rt, &fault, errors),
     }
 }
 
 /// The words of the command line, the program's name first.
-fn words_of(rt: &HostRuntime) -> Result<Vec<String>, JobFault> {
+fn words_of(rt: &HostRuntime) -> Result<Vec<String>, WordsFault> {
     let args = match env::args(rt) {
         Ok(args) => args,
         Err(error) => match error.kind() {
-            ErrorKind::OutOfMemory => return Err(JobFault::Memory),
-            _ => return Err(JobFault::Words),
+            ErrorKind::OutOfMemory => return Err(WordsFault::Memory),
+            _ => return Err(WordsFault::NotText),
         },
     };
     let mut words = Vec::new(rt.alloc());
     for word in args {
         match words.push(word) {
             Ok(()) => {}
-            Err(_) => return Err(JobFault::Memory),
+            Err(_) => return Err(WordsFault::Memory),
         }
     }
     Ok(words)
@@ -179,5 +167,5 @@ fn do_job(rt: &HostRuntime, job: &Job<'_>, errors: &mut Errors) -> u8
     };
     let mut reader = Counted::new(input);
     let mut writer = Counted::new(output);
-    tool::tool(rt.alloc(), job, &mut reader, &mut writer, errors)
+    tool(rt.alloc(), job, &mut reader, &mut writer, errors)
 }

@@ -1,0 +1,10 @@
+//! The command line: from its words to a plan, or to help or a fault in the words of `clap`.
+#![tactic(auto)]
+
+mod command_line;
+mod help;
+mod planner;
+mod plans;
+
+pub use planner::plan;
+pub use plans::{Plan, PlanFault};

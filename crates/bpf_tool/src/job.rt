@@ -1,0 +1,35 @@
+//! What `tool` is given to do.
+
+/// What is done with FILE.
+#[derive(Clone, Copy)]
+pub enum Subcommand {
+    /// The program runs to its end, or to the limit of steps.
+    Run,
+    /// A script of commands is obeyed.
+    Debug,
+    /// A listing is assembled.
+    Asm,
+    /// A program is written as a listing.
+    Disasm,
+    /// A program is checked.
+    Check,
+}
+
+/// A subcommand with the bytes of its files and its options.
+#[derive(Clone, Copy)]
+pub struct Job<'a> {
+    /// What is done.
+    pub subcommand: Subcommand,
+    /// FILE's bytes: the program's raw little-endian words, or its listing.
+    pub file: &'a [u8],
+    /// PATH's bytes, the context: at most 65,536.
+    pub context: &'a [u8],
+    /// The map table's text, as `8x2,4x256`; without one there are no maps.
+    pub maps: Option<&'a [u8]>,
+    /// The journal's size in bytes, 1,024 to 16,777,216.
+    pub journal: u64,
+    /// The most steps of a run or of a command, 1 to 1,000,000,000.
+    pub limit: u64,
+    /// FILE is a listing, assembled first.
+    pub is_listing: bool,
+}

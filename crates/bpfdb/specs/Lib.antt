@@ -1,4 +1,0 @@
-pub mod CommandLine
-pub mod Jobs
-pub mod Plans
-pub mod Refusals
