@@ -14,7 +14,8 @@ use clap::Error;
 use fault::{FileFault, WordsFault};
 use files::{PROGRAM_BYTES, read_beginning, read_context, read_listing};
 use input::Input;
-use std::io::{BufReader, BufWriter, ErrorKind, Stderr, Write};
+use std::alloc::Global;
+use std::io::{BufReader, BufWriter, ErrorKind, Read, Stderr, Write};
 use std::process::ExitCode;
 use std::{env, io};
 
@@ -165,7 +166,20 @@ fn do_job(rt: &HostRuntime, job: &Job<'_>, errors: &mut Errors) -> u8
     let Ok(output) = BufWriter::new(rt.alloc(), io::writer(rt)) else {
         return give_up(errors, JobFault::Memory);
     };
+    do_job_over(rt.alloc(), job, input, output, errors)
+}
+
+/// Does a job over a reader and a writer.
+fn do_job_over<R: Read + Drop, W: Write + Drop>(
+    alloc: Global,
+    job: &Job<'_>,
+    input: R,
+    output: W,
+    errors: &mut Errors,
+) -> u8
+    requires limit { IsLimit job.now.limit }
+{
     let mut reader = Counted::new(input);
     let mut writer = Counted::new(output);
-    tool(rt.alloc(), job, &mut reader, &mut writer, errors)
+    tool(alloc, job, &mut reader, &mut writer, errors)
 }
