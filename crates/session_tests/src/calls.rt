@@ -1,6 +1,8 @@
 //! Worked sessions with calls, watches and the question who wrote a byte. The expected replies were worked out by hand from what each
 //! command means; none is bpfdb's own output.
 use crate::play::{plays, session};
+use std::alloc::Global;
+use std::process::Abort;
 
 /// A row: the program in hexadecimal digits, the context, the journal's size, the transcript.
 type Row = (&'static str, &'static [u8], usize, &'static str);
@@ -262,11 +264,21 @@ const ROWS: [Row; 14] = [
     ATOMIC, DROPPED,
 ];
 
+/// Plays the transcript of a row.
+fn play_row(rt: &impl Abort, alloc: Global, row: Row) {
+    let (program, context, size, transcript) = row;
+    let mut session = session(rt, alloc, program, context, size, 1_000_000);
+    plays(rt, alloc, &mut session, transcript, 7);
+}
+
+/// Plays the transcript of each row.
+fn play_rows(rt: &impl Abort, alloc: Global, rows: &[Row]) {
+    for row in rows {
+        play_row(rt, alloc, *row);
+    }
+}
+
 #[test]
 fn calls_and_watches(rt: HostRuntime) {
-    let alloc = rt.alloc();
-    for (program, context, size, transcript) in ROWS {
-        let mut session = session(&rt, alloc, program, context, size, 1_000_000);
-        plays(&rt, alloc, &mut session, transcript, 7);
-    }
+    play_rows(&rt, rt.alloc(), &ROWS);
 }

@@ -1,13 +1,13 @@
 //! Readers and writers that fail, or take little at a time.
-use crate::play::{Slow, session};
+use crate::play::{Slow, check_bytes, session, stop_unless};
 use bpf_io::Counted;
 use bpf_isa::Reg;
-use bpf_session::{RunFault, run};
+use bpf_journal::ListKeeper;
+use bpf_session::{RunFault, Session, run};
 use std::alloc::Global;
 use std::io;
 use std::io::{Error, ErrorKind, Write};
 use std::process::Abort;
-use std::test::Fail;
 
 /// mov r0, 42; exit.
 const ANSWER: &str = "b70000002a0000009500000000000000";
@@ -98,9 +98,29 @@ fn new_narrow(alloc: Global, step: usize, room: usize) -> Narrow {
     }
 }
 
-// Reads a script whose reader fails after so many bytes; what was written then is this, and the fault is that of a read.
-fn fails_to_read(rt: &impl Abort, alloc: Global, script: &str, good: usize, wanted: &[u8]) {
-    let mut session = session(rt, alloc, ANSWER, &[], 65_536, 1_000_000);
+/// The fault with which a run ends.
+fn fault_of(answer: Result<(), RunFault>) -> &'static str {
+    match answer {
+        Ok(()) => "none",
+        Err(RunFault::Read) => "read",
+        Err(RunFault::Write) => "write",
+    }
+}
+
+/// Stops unless a run has ended with this fault, and one call of its reader or writer has failed.
+fn check_fault(rt: &impl Abort, answer: Result<(), RunFault>, failures: u64, fault: &str) {
+    stop_unless(rt, fault_of(answer) == fault, "another fault");
+    stop_unless(rt, failures == 1, "not one failure");
+}
+
+/// A session of the program above.
+fn answering(rt: &impl Abort, alloc: Global) -> Session<ListKeeper> {
+    session(rt, alloc, ANSWER, &[], 65_536, 1_000_000)
+}
+
+// Reads a script whose reader fails after so many bytes; answers what was written then. The fault is that of a read.
+fn told_by_reads(rt: &impl Abort, alloc: Global, script: &str, good: usize) -> Vec<u8> {
+    let mut session = answering(rt, alloc);
     let mut printed = Vec::new(alloc);
     let mut reader = Counted::new(Slow {
         left: script.as_bytes(),
@@ -109,80 +129,111 @@ fn fails_to_read(rt: &impl Abort, alloc: Global, script: &str, good: usize, want
     });
     let mut writer = Counted::new(&mut printed);
     let answer = run(&mut session, &mut reader, &mut writer);
-    assert!(rt; matches!(answer, Err(RunFault::Read)), "{good} bytes read");
-    assert_eq!(rt; reader.failures(), 1, "{good} bytes read");
-    assert_eq!(rt; printed.as_slice(), wanted, "{good} bytes read");
+    check_fault(rt, answer, reader.failures(), "read");
+    printed
+}
+
+// Reads a script whose reader fails after so many bytes; what was written then is this, and the fault is that of a read.
+fn fails_to_read(rt: &impl Abort, alloc: Global, script: &str, good: usize, wanted: &[u8]) {
+    check_bytes(rt, &told_by_reads(rt, alloc, script, good), wanted, script);
+}
+
+// The same for each number of bytes of the script above.
+fn fails_at_each_byte(rt: &impl Abort, alloc: Global, script: &str) {
+    for good in 0..script.len() {
+        fails_to_read(rt, alloc, script, good, first(rt, told_before(good)));
+    }
 }
 
 // After a reader fails the replies to the whole lines before stand, and no other byte.
 #[test]
 fn reads_fail_at_each_byte(rt: HostRuntime) {
-    for good in 0..SCRIPT.len() {
-        fails_to_read(&rt, rt.alloc(), SCRIPT, good, first(&rt, told_before(good)));
+    fails_at_each_byte(&rt, rt.alloc(), SCRIPT);
+    let wanted = b"1 forward; done; at 1: exit\n";
+    fails_to_read(&rt, rt.alloc(), "stepi\ninfo regs\n", 10, wanted);
+}
+
+/// Runs a script over a writer that takes `step` bytes a write and no more than `room` in all, and answers what it took. The fault is that of
+/// a write.
+fn taken_by_writes(
+    rt: &impl Abort,
+    alloc: Global,
+    session: &mut Session<ListKeeper>,
+    script: &str,
+    (step, room): (usize, usize),
+) -> Vec<u8> {
+    let mut reader = Counted::new(script.as_bytes());
+    let mut narrow = new_narrow(alloc, step, room);
+    let mut writer = Counted::new(&mut narrow);
+    let answer = run(session, &mut reader, &mut writer);
+    check_fault(rt, answer, writer.failures(), "write");
+    narrow.taken
+}
+
+/// The same in a session of its own: what the writer took is a beginning of the replies.
+fn fails_to_write(rt: &impl Abort, alloc: Global, step: usize, room: usize) {
+    let mut session = answering(rt, alloc);
+    let taken = taken_by_writes(rt, alloc, &mut session, SCRIPT, (step, room));
+    check_bytes(rt, &taken, first(rt, room), "writes that fail");
+}
+
+/// The same for each number of bytes.
+fn fails_in_each_room(rt: &impl Abort, alloc: Global, step: usize, len: usize) {
+    for room in 0..len {
+        fails_to_write(rt, alloc, step, room);
     }
-    fails_to_read(
-        &rt,
-        rt.alloc(),
-        "stepi\ninfo regs\n",
-        10,
-        b"1 forward; done; at 1: exit\n",
-    );
 }
 
 // After a writer fails it holds a beginning of the replies, and no byte twice.
 #[test]
 fn writes_fail_at_each_byte(rt: HostRuntime) {
-    for step in [1, 7, 1_000] {
-        for room in 0..PRINTED.len() {
-            let mut session = session(&rt, rt.alloc(), ANSWER, &[], 65_536, 1_000_000);
-            let mut reader = Counted::new(SCRIPT.as_bytes());
-            let mut narrow = new_narrow(rt.alloc(), step, room);
-            let mut writer = Counted::new(&mut narrow);
-            let answer = run(&mut session, &mut reader, &mut writer);
-            let failures = writer.failures();
-            assert!(rt;
-                matches!(answer, Err(RunFault::Write)),
-                "{step} a write, {room} in all"
-            );
-            assert_eq!(rt; failures, 1, "{step} a write, {room} in all");
-            assert_eq!(rt;
-                narrow.taken.as_slice(),
-                first(&rt, room),
-                "{step} a write, {room} in all"
-            );
-        }
-    }
+    fails_in_each_room(&rt, rt.alloc(), 1, PRINTED.len());
+    fails_in_each_room(&rt, rt.alloc(), 7, PRINTED.len());
+    fails_in_each_room(&rt, rt.alloc(), 1_000, PRINTED.len());
+}
+
+/// Stops unless the machine of a session is at slot 1 with 42 in r0.
+fn check_state(rt: &impl Abort, session: &Session<ListKeeper>) {
+    let r0 = Reg::new(0).expect(rt, "no r0");
+    stop_unless(rt, session.cpu().pc() == 1, "another pc");
+    stop_unless(rt, session.cpu().reg(r0) == 42, "another r0");
 }
 
 // A writer that fails after 10 bytes: the session stands behind the line whose reply wasn't written.
 #[test]
-fn a_session_stands_behind_the_last_line(rt: HostRuntime) -> Result<(), Fail> {
-    let mut session = session(&rt, rt.alloc(), ANSWER, &[], 65_536, 1_000_000);
-    let mut reader = Counted::new(b"stepi\ninfo regs\nreverse-stepi\n".as_slice());
-    let mut narrow = new_narrow(rt.alloc(), 1_000, 10);
-    let mut writer = Counted::new(&mut narrow);
-    let answer = run(&mut session, &mut reader, &mut writer);
-    assert!(rt; matches!(answer, Err(RunFault::Write)));
-    assert_eq!(rt; narrow.taken.as_slice(), b"1 forward;".as_slice());
-    assert_eq!(rt; session.cpu().pc(), 1);
-    let r0 = Reg::new(0).ok_or("no r0")?;
-    assert_eq!(rt; session.cpu().reg(r0), 42);
-    Ok(())
+fn a_session_stands_behind_the_last_line(rt: HostRuntime) {
+    let mut session = answering(&rt, rt.alloc());
+    let script = "stepi\ninfo regs\nreverse-stepi\n";
+    let taken = taken_by_writes(&rt, rt.alloc(), &mut session, script, (1_000, 10));
+    check_bytes(&rt, &taken, b"1 forward;", script);
+    check_state(&rt, &session);
+}
+
+/// A writer whose flushes fail from the `good`-th on, after a script. The run fails unless all three flushes are good.
+fn noted(rt: &impl Abort, alloc: Global, good: u64) -> Noting {
+    let mut session = answering(rt, alloc);
+    let mut reader = Counted::new(b"stepi\n\nreverse-stepi\nfrob\n".as_slice());
+    let mut noting = new_noting(alloc, good);
+    let mut writer = Counted::new(&mut noting);
+    let is_written = run(&mut session, &mut reader, &mut writer).is_ok();
+    let has_failed = writer.failures() != 0;
+    stop_unless(rt, is_written == (good == 3), "another answer");
+    stop_unless(rt, has_failed == (good != 3), "another failure");
+    noting
+}
+
+/// Stops unless so many flushes were good, and so many bytes were written then.
+fn check_flushes(rt: &impl Abort, alloc: Global, good: u64, told: usize) {
+    let noting = noted(rt, alloc, good);
+    stop_unless(rt, noting.flushes == good, "another number of flushes");
+    check_bytes(rt, &noting.taken, first(rt, told), "flushes that fail");
 }
 
 // Each reply is flushed, refusals too; a line without words has none. A flush that fails is a failed write.
 #[test]
 fn each_reply_is_flushed(rt: HostRuntime) {
-    for (good, told) in [(3, 87), (0, 28), (1, 59), (2, 87)] {
-        let mut session = session(&rt, rt.alloc(), ANSWER, &[], 65_536, 1_000_000);
-        let mut reader = Counted::new(b"stepi\n\nreverse-stepi\nfrob\n".as_slice());
-        let mut noting = new_noting(rt.alloc(), good);
-        let mut writer = Counted::new(&mut noting);
-        let answer = run(&mut session, &mut reader, &mut writer);
-        let failures = writer.failures();
-        assert_eq!(rt; answer.is_ok(), good == 3, "{good} flushes");
-        assert_eq!(rt; failures == 0, good == 3, "{good} flushes");
-        assert_eq!(rt; noting.flushes, good, "{good} flushes");
-        assert_eq!(rt; noting.taken.as_slice(), first(&rt, told), "{good} flushes");
-    }
+    check_flushes(&rt, rt.alloc(), 3, 87);
+    check_flushes(&rt, rt.alloc(), 0, 28);
+    check_flushes(&rt, rt.alloc(), 1, 59);
+    check_flushes(&rt, rt.alloc(), 2, 87);
 }

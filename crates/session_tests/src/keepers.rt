@@ -2,11 +2,12 @@
 ghost use Rattle.std.specs.Prelude.{◌≡◌, ◌<◌, ◌^◌, OnOk};
 ghost use Rattle.bpf_journal.specs.Keepers.{refusals_after};
 
-use crate::play::{machine, plays};
+use crate::play::{machine, plays, stop_unless};
 use bpf_journal::{Keeper, ListKeeper};
 use bpf_machine::{CompactEntry, Entry};
 use bpf_session::Session;
-use std::alloc::AllocError;
+use std::alloc::{AllocError, Global};
+use std::process::Abort;
 
 /// A keeper that keeps so many entries at most, and counts the refused ones.
 #[derive(Drop)]
@@ -108,8 +109,10 @@ impl<K: Keeper> Keeper for Narrow<K> {
 /// add r0, 1; ja -2.
 const ENDLESS: &str = "07000000010000000500feff00000000";
 
-// How many entries there is room for, how many refusals are counted, and the transcript.
-const ROWS: [(usize, u64, &str); 3] = [
+/// A row: how many entries there is room for, how many refusals are counted, and the transcript.
+type Row = (usize, u64, &'static str);
+
+const ROWS: [Row; 3] = [
     (
         0,
         3,
@@ -153,20 +156,35 @@ undo 2|5 back; done; at 0: add r0, 1
     ),
 ];
 
+/// A session whose keeper keeps so many entries at most.
+fn narrow_session(rt: &impl Abort, alloc: Global, most: usize) -> Session<Narrow<ListKeeper>> {
+    let keeper = match ListKeeper::open(alloc, 65_536) {
+        Ok(kept) => Narrow {
+            kept,
+            most,
+            refusals: 0,
+        },
+        Err(_) => panic!(rt; "no journal"),
+    };
+    Session::open(machine(rt, alloc, ENDLESS, &[]), keeper, 1_000_000)
+}
+
+/// Plays the transcript of a row, and stops unless so many refusals are counted.
+fn play_row(rt: &impl Abort, alloc: Global, row: Row) {
+    let (most, refusals, transcript) = row;
+    let mut session = narrow_session(rt, alloc, most);
+    plays(rt, alloc, &mut session, transcript, 10_000);
+    stop_unless(rt, session.keeper().refusals() == refusals, transcript);
+}
+
+/// Plays the transcript of each row.
+fn play_rows(rt: &impl Abort, alloc: Global, rows: &[Row]) {
+    for row in rows {
+        play_row(rt, alloc, *row);
+    }
+}
+
 #[test]
 fn refused_entries_stop_a_command(rt: HostRuntime) {
-    let alloc = rt.alloc();
-    for (most, refusals, transcript) in ROWS {
-        let keeper = match ListKeeper::open(alloc, 65_536) {
-            Ok(kept) => Narrow {
-                kept,
-                most,
-                refusals: 0,
-            },
-            Err(_) => panic!(rt; "no journal"),
-        };
-        let mut session = Session::open(machine(&rt, alloc, ENDLESS, &[]), keeper, 1_000_000);
-        plays(&rt, alloc, &mut session, transcript, 10_000);
-        assert_eq!(rt; session.keeper().refusals(), refusals, "{transcript}");
-    }
+    play_rows(&rt, rt.alloc(), &ROWS);
 }

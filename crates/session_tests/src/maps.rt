@@ -61,13 +61,15 @@ pub fn update_session(rt: &impl Abort, alloc: Global) -> Session<ListKeeper> {
     session_over(rt, alloc, cpu, 65_536, 1_000_000)
 }
 
+/// Plays a transcript in a session of its own.
+fn play(rt: &impl Abort, alloc: Global, transcript: &str) {
+    let mut session = update_session(rt, alloc);
+    plays(rt, alloc, &mut session, transcript, 10_000);
+}
+
 #[test]
 fn cells_are_updated(rt: HostRuntime) {
-    let alloc = rt.alloc();
-    for transcript in SESSIONS {
-        let mut session = update_session(&rt, alloc);
-        plays(&rt, alloc, &mut session, transcript, 10_000);
-    }
-    let mut session = update_session(&rt, alloc);
-    plays(&rt, alloc, &mut session, WATCHED, 10_000);
+    play(&rt, rt.alloc(), OVERLAP);
+    play(&rt, rt.alloc(), OTHER_CELL);
+    play(&rt, rt.alloc(), WATCHED);
 }

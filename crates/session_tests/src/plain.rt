@@ -1,5 +1,5 @@
 //! Runs without history: how they end, what they print, and where they leave the machine.
-use crate::play::machine;
+use crate::play::{check_bytes, machine, stop_unless};
 use bpf_io::Counted;
 use bpf_machine::Cpu;
 use bpf_replies::write_place;
@@ -7,8 +7,10 @@ use bpf_session::{Ending, run_plain};
 use std::alloc::Global;
 use std::process::Abort;
 
-// A program in hexadecimal digits, its limit of steps, how it ends, what it prints, and where it stands then.
-const RUNS: [(&str, u64, &str, &str, &str); 8] = [
+/// A program in hexadecimal digits, its limit of steps, how it ends, what it prints, and where it stands then.
+type Row = (&'static str, u64, &'static str, &'static str, &'static str);
+
+const RUNS: [Row; 8] = [
     // mov r0, 42; exit.
     (ANSWER, 1000, "exited", "0x2a\n", "exited at 1: r0 0x2a"),
     (ANSWER, 2, "exited", "0x2a\n", "exited at 1: r0 0x2a"),
@@ -59,6 +61,22 @@ fn ending_text(ending: Ending) -> &'static str {
     }
 }
 
+/// What a run of a machine prints. Stops unless it ends like this.
+fn printed_by(rt: &impl Abort, alloc: Global, cpu: &mut Cpu, limit: u64, ends: &str) -> Vec<u8> {
+    let mut printed = Vec::new(alloc);
+    let ending = run_plain(cpu, limit, &mut Counted::new(&mut printed)).expect(rt, "not written");
+    stop_unless(rt, ending_text(ending) == ends, ends);
+    printed
+}
+
+/// Where a machine stands.
+fn place_of(rt: &impl Abort, alloc: Global, cpu: &Cpu) -> Vec<u8> {
+    let mut shown = Vec::new(alloc);
+    let is_shown = write_place(cpu, &mut Counted::new(&mut shown)).is_ok();
+    stop_unless(rt, is_shown, "not shown");
+    shown
+}
+
 /// A run of a machine ends and prints like this, and leaves it there.
 fn runs(
     rt: &impl Abort,
@@ -69,37 +87,39 @@ fn runs(
     prints: &str,
     place: &str,
 ) {
-    let mut printed = Vec::new(alloc);
-    let ending = run_plain(cpu, limit, &mut Counted::new(&mut printed)).expect(rt, "not written");
-    assert_eq!(rt; ending_text(ending), ends);
-    assert_eq!(rt; printed.as_slice(), prints.as_bytes());
-    let mut shown = Vec::new(alloc);
-    assert!(rt; write_place(cpu, &mut Counted::new(&mut shown)).is_ok());
-    assert_eq!(rt; shown.as_slice(), place.as_bytes());
+    let printed = printed_by(rt, alloc, cpu, limit, ends);
+    check_bytes(rt, &printed, prints.as_bytes(), prints);
+    check_bytes(rt, &place_of(rt, alloc, cpu), place.as_bytes(), place);
+}
+
+/// The run of a row.
+fn run_row(rt: &impl Abort, alloc: Global, row: Row) {
+    let (program, limit, ends, prints, place) = row;
+    let mut cpu = machine(rt, alloc, program, &[]);
+    runs(rt, alloc, &mut cpu, limit, ends, prints, place);
+}
+
+/// The runs of all rows.
+fn run_rows(rt: &impl Abort, alloc: Global, rows: &[Row]) {
+    for row in rows {
+        run_row(rt, alloc, *row);
+    }
 }
 
 #[test]
 fn runs_print_their_results(rt: HostRuntime) {
-    let alloc = rt.alloc();
-    for (program, limit, ends, prints, place) in RUNS {
-        let mut cpu = machine(&rt, alloc, program, &[]);
-        runs(&rt, alloc, &mut cpu, limit, ends, prints, place);
-    }
+    run_rows(&rt, rt.alloc(), &RUNS);
+}
+
+/// A run of a machine that has exited with 0x2a.
+fn runs_on(rt: &impl Abort, alloc: Global, cpu: &mut Cpu, limit: u64) {
+    let place = "exited at 1: r0 0x2a";
+    runs(rt, alloc, cpu, limit, "exited", "0x2a\n", place);
 }
 
 #[test]
 fn an_ended_machine_takes_no_step(rt: HostRuntime) {
-    let alloc = rt.alloc();
-    let mut cpu = machine(&rt, alloc, ANSWER, &[]);
-    for limit in [2, 0] {
-        runs(
-            &rt,
-            alloc,
-            &mut cpu,
-            limit,
-            "exited",
-            "0x2a\n",
-            "exited at 1: r0 0x2a",
-        );
-    }
+    let mut cpu = machine(&rt, rt.alloc(), ANSWER, &[]);
+    runs_on(&rt, rt.alloc(), &mut cpu, 2);
+    runs_on(&rt, rt.alloc(), &mut cpu, 0);
 }

@@ -117,16 +117,29 @@ pub fn printed<K: Keeper>(
     printed
 }
 
+/// Puts a line behind others.
+fn append_line(rt: &impl Abort, lines: &mut Vec<u8>, line: &str) {
+    lines
+        .extend_from_slice(line.as_bytes())
+        .expect(rt, "no memory");
+    lines.push(b'\n').expect(rt, "no memory");
+}
+
+/// The command of a row.
+fn command_of(row: &str) -> &str {
+    match row.split_once('|') {
+        Some((command, _)) => command,
+        None => row,
+    }
+}
+
 /// The commands of a transcript, a line each.
 pub fn commands_of(rt: &impl Abort, alloc: Global, transcript: &str) -> Vec<u8> {
     let mut script = Vec::new(alloc);
     for row in transcript.lines() {
-        let command = row.split_once('|').map_or(row, |parts| parts.0);
+        let command = command_of(row);
         if !command.is_empty() {
-            script
-                .extend_from_slice(command.as_bytes())
-                .expect(rt, "no memory");
-            script.push(b'\n').expect(rt, "no memory");
+            append_line(rt, &mut script, command);
         }
     }
     script
@@ -137,10 +150,7 @@ pub fn replies_of(rt: &impl Abort, alloc: Global, transcript: &str) -> Vec<u8> {
     let mut replies = Vec::new(alloc);
     for row in transcript.lines() {
         if let Some((_, reply)) = row.split_once('|') {
-            replies
-                .extend_from_slice(reply.as_bytes())
-                .expect(rt, "no memory");
-            replies.push(b'\n').expect(rt, "no memory");
+            append_line(rt, &mut replies, reply);
         }
     }
     replies
@@ -157,5 +167,15 @@ pub fn plays<K: Keeper>(
     let script = commands_of(rt, alloc, transcript);
     let wanted = replies_of(rt, alloc, transcript);
     let told = printed(rt, alloc, session, &script, step);
-    assert_eq!(rt; told.as_slice(), wanted.as_slice(), "{transcript}");
+    check_bytes(rt, &told, &wanted, transcript);
+}
+
+/// Stops unless bytes are those that are wanted.
+pub fn check_bytes(rt: &impl Abort, found: &[u8], wanted: &[u8], what: &str) {
+    assert_eq!(rt; found, wanted, "{what}");
+}
+
+/// Stops unless something holds.
+pub fn stop_unless(rt: &impl Abort, holds: bool, what: &str) {
+    assert!(rt; holds, "{what}");
 }

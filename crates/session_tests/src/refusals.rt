@@ -1,15 +1,18 @@
 //! What is refused in every status of a machine. The expected replies were worked out by hand from the table of refusals; none is bpfdb's
 //! own output.
-use crate::play::{machine_on, plays, printed, session_over};
+use crate::play::{check_bytes, machine_on, plays, printed, session_over};
 use bpf_journal::Keeper;
 use bpf_machine::Cpu;
 use bpf_session::Session;
 use std::alloc::Global;
 use std::process::Abort;
 
+/// A first instruction, a number of steps, and a transcript.
+type Row = (&'static str, u64, &'static str);
+
 // A first instruction, how many steps are taken before the session begins, and what is refused then alone, in a journal that is empty.
 // A machine that runs, one that has exited, and one with each of the faults: access, token and depth.
-const STATUSES: [(&str, u64, &str); 5] = [
+const STATUSES: [Row; 5] = [
     (
         "b70000002a000000",
         1,
@@ -203,17 +206,37 @@ fn long_lines<K: Keeper>(rt: &impl Abort, alloc: Global, session: &mut Session<K
     told
 }
 
+/// Stops unless both lines that are too long are refused.
+fn check_long_lines<K: Keeper>(rt: &impl Abort, alloc: Global, session: &mut Session<K>) {
+    let found = long_lines(rt, alloc, session);
+    check_bytes(rt, &found, LONG.as_bytes(), "long lines");
+}
+
+/// Plays a text, then one with a full table, and then that of a status.
+fn play_texts<K: Keeper>(rt: &impl Abort, alloc: Global, session: &mut Session<K>, own: &str) {
+    plays(rt, alloc, session, EACH, 10_000);
+    check_long_lines(rt, alloc, session);
+    fill(rt, alloc, session);
+    plays(rt, alloc, session, FULL, 10_000);
+    plays(rt, alloc, session, own, 10_000);
+}
+
+/// The same in the session of a row.
+fn play_row(rt: &impl Abort, alloc: Global, row: Row) {
+    let (first, steps, transcript) = row;
+    let cpu = machine_after(rt, alloc, first, steps);
+    let mut session = session_over(rt, alloc, cpu, 65_536, 1_000_000);
+    play_texts(rt, alloc, &mut session, transcript);
+}
+
+/// The same of all rows.
+fn play_rows(rt: &impl Abort, alloc: Global, rows: &[Row]) {
+    for row in rows {
+        play_row(rt, alloc, *row);
+    }
+}
+
 #[test]
 fn refusals_in_every_status(rt: HostRuntime) {
-    let alloc = rt.alloc();
-    for (first, steps, transcript) in STATUSES {
-        let cpu = machine_after(&rt, alloc, first, steps);
-        let mut session = session_over(&rt, alloc, cpu, 65_536, 1_000_000);
-        plays(&rt, alloc, &mut session, EACH, 10_000);
-        let found = long_lines(&rt, alloc, &mut session);
-        assert_eq!(rt; found.as_slice(), LONG.as_bytes());
-        fill(&rt, alloc, &mut session);
-        plays(&rt, alloc, &mut session, FULL, 10_000);
-        plays(&rt, alloc, &mut session, transcript, 10_000);
-    }
+    play_rows(&rt, rt.alloc(), &STATUSES);
 }

@@ -1,6 +1,7 @@
 //! Worked sessions. The expected replies were worked out by hand from what each command means; none is bpfdb's own output.
-use crate::play::{plays, printed, session};
-use std::test::Fail;
+use crate::play::{check_bytes, plays, printed, session};
+use std::alloc::Global;
+use std::process::Abort;
 
 /// A row: the program in hexadecimal digits, the context, the journal's size, the limit of steps, the transcript.
 pub type Row = (&'static str, &'static [u8], usize, u64, &'static str);
@@ -217,19 +218,37 @@ const ROWS: [Row; 12] = [
 /// Those that set no breakpoints and go on to their end.
 pub const WITHOUT_BREAKPOINTS: [Row; 7] = [LOAD, FAULT, DROPPED, REFUSED, PART, DOUBLED, EDITS];
 
-#[test]
-fn worked_sessions(rt: HostRuntime) {
-    let alloc = rt.alloc();
-    for (program, context, size, limit, transcript) in ROWS {
-        for step in [1, 7, 10_000] {
-            let mut session = session(&rt, alloc, program, context, size, limit);
-            plays(&rt, alloc, &mut session, transcript, step);
-        }
+/// Plays the transcript of a row in pieces of `step` bytes.
+fn play_row(rt: &impl Abort, alloc: Global, row: Row, step: usize) {
+    let (program, context, size, limit, transcript) = row;
+    let mut session = session(rt, alloc, program, context, size, limit);
+    plays(rt, alloc, &mut session, transcript, step);
+}
+
+/// Plays the transcript of each row in pieces of `step` bytes.
+fn play_rows(rt: &impl Abort, alloc: Global, rows: &[Row], step: usize) {
+    for row in rows {
+        play_row(rt, alloc, *row, step);
     }
 }
 
+/// Plays the transcript of each row, in pieces of three lengths.
+fn play_in_pieces(rt: &impl Abort, alloc: Global, rows: &[Row]) {
+    play_rows(rt, alloc, rows, 1);
+    play_rows(rt, alloc, rows, 7);
+    play_rows(rt, alloc, rows, 10_000);
+}
+
+#[test]
+fn worked_sessions(rt: HostRuntime) {
+    play_in_pieces(&rt, rt.alloc(), &ROWS);
+}
+
+/// Bytes in front of a last line, and what is printed.
+type Lines = (u8, usize, &'static str, &'static str);
+
 // Bytes in front of a last line `stepi`, so many of them, what stands behind them, and what is printed in front of that line's reply.
-const LINES: [(u8, usize, &str, &str); 8] = [
+const LINES: [Lines; 8] = [
     (b'z', 0, "\n", ""),
     (b'z', 1_024, "\n", "refused Q1: unknown command\n"),
     (b'z', 1_025, "\n", "refused Q12: line too long\n"),
@@ -245,25 +264,55 @@ const LINES: [(u8, usize, &str, &str); 8] = [
     ),
 ];
 
-#[test]
-fn long_lines(rt: HostRuntime) -> Result<(), Fail> {
-    for (byte, length, rest, wanted) in LINES {
-        for step in [1, 7, 10_000] {
-            let mut script = vec![in rt.alloc(); byte; length]?;
-            script.extend_from_slice(rest.as_bytes())?;
-            script.extend_from_slice(b"stepi")?;
-            let mut session = session(&rt, rt.alloc(), ANSWER, &[], 65_536, 1_000_000);
-            let told = printed(&rt, rt.alloc(), &mut session, &script, step);
-            let mut replies = Vec::from_slice(rt.alloc(), wanted.as_bytes())?;
-            replies.extend_from_slice(b"1 forward; done; at 1: exit\n")?;
-            assert_eq!(rt; told.as_slice(), replies.as_slice(), "{length} of {byte}");
-        }
-    }
-    Ok(())
+/// Some bytes, each the same, a text behind them, and `stepi`.
+fn script_of(rt: &impl Abort, alloc: Global, byte: u8, count: usize, rest: &str) -> Vec<u8> {
+    let mut script = vec![in alloc; byte; count].ok().expect(rt, "no memory");
+    append(rt, &mut script, rest.as_bytes());
+    append(rt, &mut script, b"stepi");
+    script
 }
 
+/// Puts bytes behind others.
+fn append(rt: &impl Abort, bytes: &mut Vec<u8>, others: &[u8]) {
+    bytes.extend_from_slice(others).ok().expect(rt, "no memory");
+}
+
+/// Stops unless a script prints this in a session of its own.
+fn check_printed(rt: &impl Abort, alloc: Global, script: &[u8], step: usize, wanted: &[u8]) {
+    let mut session = session(rt, alloc, ANSWER, &[], 65_536, 1_000_000);
+    let told = printed(rt, alloc, &mut session, script, step);
+    check_bytes(rt, &told, wanted, "a script");
+}
+
+/// Stops unless the lines of a row print what they are to print.
+fn check_lines(rt: &impl Abort, alloc: Global, row: Lines) {
+    let (byte, length, rest, wanted) = row;
+    let script = script_of(rt, alloc, byte, length, rest);
+    let mut replies = Vec::new(alloc);
+    append(rt, &mut replies, wanted.as_bytes());
+    append(rt, &mut replies, b"1 forward; done; at 1: exit\n");
+    check_printed(rt, alloc, &script, 1, &replies);
+    check_printed(rt, alloc, &script, 7, &replies);
+    check_printed(rt, alloc, &script, 10_000, &replies);
+}
+
+/// The same of each row.
+fn check_rows(rt: &impl Abort, alloc: Global, rows: &[Lines]) {
+    for row in rows {
+        check_lines(rt, alloc, *row);
+    }
+}
+
+#[test]
+fn long_lines(rt: HostRuntime) {
+    check_rows(&rt, rt.alloc(), &LINES);
+}
+
+/// A script, and what it prints.
+type Script = (&'static [u8], &'static str);
+
 // Scripts, and what they print: lines without words, `quit` with a word, a zero byte and a byte ff in words, blanks of each kind.
-const SCRIPTS: [(&[u8], &str); 9] = [
+const SCRIPTS: [Script; 9] = [
     (b"", ""),
     (b"\n", ""),
     (b" \t\r\n", ""),
@@ -287,11 +336,14 @@ const SCRIPTS: [(&[u8], &str); 9] = [
     ),
 ];
 
+/// Stops at a script that prints something else.
+fn check_scripts(rt: &impl Abort, alloc: Global, scripts: &[Script]) {
+    for (script, wanted) in scripts {
+        check_printed(rt, alloc, script, 10_000, wanted.as_bytes());
+    }
+}
+
 #[test]
 fn other_lines(rt: HostRuntime) {
-    for (script, wanted) in SCRIPTS {
-        let mut session = session(&rt, rt.alloc(), ANSWER, &[], 65_536, 1_000_000);
-        let told = printed(&rt, rt.alloc(), &mut session, script, 10_000);
-        assert_eq!(rt; told.as_slice(), wanted.as_bytes());
-    }
+    check_scripts(&rt, rt.alloc(), &SCRIPTS);
 }

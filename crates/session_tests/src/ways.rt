@@ -1,8 +1,10 @@
 //! Ways through a session that come to the same: going back and forward again, undoing what was done in between, closing and opening anew.
 use crate::maps::{SESSIONS, update_session};
 use crate::play;
-use crate::play::{commands_of, machine_on, printed, reopened, replies_of, session_over};
-use crate::scripts::WITHOUT_BREAKPOINTS;
+use crate::play::{
+    check_bytes, commands_of, machine_on, printed, reopened, replies_of, session_over, stop_unless,
+};
+use crate::scripts::{Row, WITHOUT_BREAKPOINTS};
 use bpf_journal::{Keeper, ListKeeper};
 use bpf_session::Session;
 use std::alloc::Global;
@@ -49,23 +51,35 @@ fn round(rt: &impl Abort, alloc: Global, k: &str) -> String {
     round
 }
 
-// The second round prints what the first one did, also where there are fewer than k steps to the end.
-#[test]
-fn back_and_forward(rt: HostRuntime) {
-    let alloc = rt.alloc();
-    for program in PROGRAMS {
-        for k in "1 2 3 4 5 6 7 8 9 10 11 12".split(' ') {
-            let round = round(&rt, alloc, k);
-            let mut session = session(&rt, alloc, program);
-            let once = told(&rt, alloc, &mut session, &round);
-            let again = told(&rt, alloc, &mut session, &round);
-            assert_eq!(rt; again.as_slice(), once.as_slice(), "{k} steps of {program}");
-        }
+/// Stops unless the second round prints what the first one did.
+fn goes_round(rt: &impl Abort, alloc: Global, program: &str, k: &str) {
+    let round = round(rt, alloc, k);
+    let mut session = session(rt, alloc, program);
+    let once = told(rt, alloc, &mut session, &round);
+    let again = told(rt, alloc, &mut session, &round);
+    check_bytes(rt, &again, &once, program);
+}
+
+/// The same for some numbers of steps.
+fn goes_rounds(rt: &impl Abort, alloc: Global, program: &str, steps: &str) {
+    for k in steps.split(' ') {
+        goes_round(rt, alloc, program, k);
     }
 }
 
+// The second round prints what the first one did, also where there are fewer than k steps to the end.
+#[test]
+fn back_and_forward(rt: HostRuntime) {
+    for program in PROGRAMS {
+        goes_rounds(&rt, rt.alloc(), program, "1 2 3 4 5 6 7 8 9 10 11 12");
+    }
+}
+
+/// How many commands stay, and the commands.
+type Undone = (u64, &'static str);
+
 // How many commands stay of some, which are parted by commas: those that move and aren't taken back.
-const COMMANDS: [(u64, &str); 6] = [
+const COMMANDS: [Undone; 6] = [
     (
         1,
         "stepi,info regs,info breaks,frob,x 0 1,break 0,delete 0,set reg r10 1,undo 9,reverse-stepi 0",
@@ -87,33 +101,67 @@ fn lines(rt: &impl Abort, alloc: Global, commands: &str) -> String {
     lines
 }
 
+/// Obeys some commands, and stops unless something else is seen then than before.
+fn obey(
+    rt: &impl Abort,
+    alloc: Global,
+    session: &mut Session<ListKeeper>,
+    commands: &str,
+    before: &[u8],
+) {
+    let _replies = told(rt, alloc, session, &lines(rt, alloc, commands));
+    let between = told(rt, alloc, session, SHOWN);
+    stop_unless(rt, between.as_slice() != before, commands);
+}
+
+/// Undoes so many commands, and answers what is seen then.
+fn undo(rt: &impl Abort, alloc: Global, session: &mut Session<ListKeeper>, count: u64) -> Vec<u8> {
+    let undo = format!(in alloc; "undo {count}\n")
+        .ok()
+        .expect(rt, "no memory");
+    let _reply = told(rt, alloc, session, &undo);
+    told(rt, alloc, session, SHOWN)
+}
+
+/// Stops unless the commands of a row are undone.
+fn check_undone(rt: &impl Abort, alloc: Global, program: &str, row: Undone) {
+    let (count, commands) = row;
+    let mut session = session(rt, alloc, program);
+    let _first = told(rt, alloc, &mut session, "set reg r5 5\n");
+    let before = told(rt, alloc, &mut session, SHOWN);
+    obey(rt, alloc, &mut session, commands, &before);
+    let after = undo(rt, alloc, &mut session, count);
+    check_bytes(rt, &after, &before, commands);
+}
+
+/// The same of each row.
+fn check_all_undone(rt: &impl Abort, alloc: Global, program: &str, rows: &[Undone]) {
+    for row in rows {
+        check_undone(rt, alloc, program, *row);
+    }
+}
+
 // An `undo` of as many commands as stay gives back what was seen before, whatever was refused, shown or set in the tables in between.
 #[test]
 fn undo_of_all(rt: HostRuntime) {
-    let alloc = rt.alloc();
     for program in PROGRAMS {
-        for (count, commands) in COMMANDS {
-            let mut session = session(&rt, alloc, program);
-            let _first = told(&rt, alloc, &mut session, "set reg r5 5\n");
-            let before = told(&rt, alloc, &mut session, SHOWN);
-            let _replies = told(&rt, alloc, &mut session, &lines(&rt, alloc, commands));
-            let between = told(&rt, alloc, &mut session, SHOWN);
-            assert!(rt;
-                between.as_slice() != before.as_slice(),
-                "{commands}: {program}"
-            );
-            let undo = format!(in alloc; "undo {count}\n")
-                .ok()
-                .expect(&rt, "no memory");
-            let _reply = told(&rt, alloc, &mut session, &undo);
-            let after = told(&rt, alloc, &mut session, SHOWN);
-            assert_eq!(rt;
-                after.as_slice(),
-                before.as_slice(),
-                "{commands}: {program}"
-            );
-        }
+        check_all_undone(&rt, rt.alloc(), program, &COMMANDS);
     }
+}
+
+/// Puts what the command of a row prints behind others.
+fn append_told(
+    rt: &impl Abort,
+    alloc: Global,
+    session: &mut Session<ListKeeper>,
+    told: &mut Vec<u8>,
+    row: &str,
+) {
+    let script = commands_of(rt, alloc, row);
+    let printed = printed(rt, alloc, session, &script, 10_000);
+    told.extend_from_slice(&printed)
+        .ok()
+        .expect(rt, "no memory");
 }
 
 /// What a transcript's commands print, each in a session of its own over what the session before gave.
@@ -127,29 +175,50 @@ fn told_in_turn(
     let mut session = first;
     let mut told = Vec::new(alloc);
     for row in transcript.lines() {
-        let script = commands_of(rt, alloc, row);
-        told.extend_from_slice(&printed(rt, alloc, &mut session, &script, 10_000))
-            .ok()
-            .expect(rt, "no memory");
+        append_told(rt, alloc, &mut session, &mut told, row);
         session = reopened(rt, session, limit);
     }
     told
 }
 
+/// Stops unless a transcript is played so.
+fn goes_on(
+    rt: &impl Abort,
+    alloc: Global,
+    first: Session<ListKeeper>,
+    limit: u64,
+    transcript: &str,
+) {
+    let told = told_in_turn(rt, alloc, first, limit, transcript);
+    let wanted = replies_of(rt, alloc, transcript);
+    check_bytes(rt, &told, &wanted, transcript);
+}
+
+/// The same of a row's transcript.
+fn row_goes_on(rt: &impl Abort, alloc: Global, row: Row) {
+    let (program, context, size, limit, transcript) = row;
+    let first = play::session(rt, alloc, program, context, size, limit);
+    goes_on(rt, alloc, first, limit, transcript);
+}
+
+/// The same of each row.
+fn rows_go_on(rt: &impl Abort, alloc: Global, rows: &[Row]) {
+    for row in rows {
+        row_goes_on(rt, alloc, *row);
+    }
+}
+
+/// The same of transcripts with maps.
+fn updates_go_on(rt: &impl Abort, alloc: Global, transcripts: &[&str]) {
+    for transcript in transcripts {
+        let first = update_session(rt, alloc);
+        goes_on(rt, alloc, first, 1_000_000, transcript);
+    }
+}
+
 // Closing a session and opening one over what it gave goes on as before, but for the breakpoints.
 #[test]
 fn closed_and_opened_again(rt: HostRuntime) {
-    let alloc = rt.alloc();
-    for (program, context, size, limit, transcript) in WITHOUT_BREAKPOINTS {
-        let first = play::session(&rt, alloc, program, context, size, limit);
-        let told = told_in_turn(&rt, alloc, first, limit, transcript);
-        let wanted = replies_of(&rt, alloc, transcript);
-        assert_eq!(rt; told.as_slice(), wanted.as_slice(), "{transcript}");
-    }
-    for transcript in SESSIONS {
-        let first = update_session(&rt, alloc);
-        let told = told_in_turn(&rt, alloc, first, 1_000_000, transcript);
-        let wanted = replies_of(&rt, alloc, transcript);
-        assert_eq!(rt; told.as_slice(), wanted.as_slice(), "{transcript}");
-    }
+    rows_go_on(&rt, rt.alloc(), &WITHOUT_BREAKPOINTS);
+    updates_go_on(&rt, rt.alloc(), &SESSIONS);
 }
