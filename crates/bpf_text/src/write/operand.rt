@@ -124,7 +124,7 @@ fn target(slot: usize, distance: i32) -> Operand
     requires target { IsSlot (pos (slot + 1) +ℤ distance) }
     ensures { result ≡ target_operand (pos (slot + 1) +ℤ distance) }
 {
-    Operand::Target(target_slot(slot, distance) as u64)
+    Operand::Target((slot as i64 + 1 + i64::from(distance)) as u64)
 }
 
 /// The target of an instruction in this slot, if it has one: a slot of 0 to 65,535.
@@ -135,13 +135,4 @@ pub fn target_of(slot: usize, insn: &Insn) -> Option<usize>
     ensures none { IfNone result (target_of slot insn.now ≡ None) }
 {
     Some(insn.target(slot)? as usize)
-}
-
-// The slot that is the distance from the next slot.
-fn target_slot(slot: usize, distance: i32) -> usize
-    requires slot { slot ≤ 65535 }
-    requires target { IsSlot (pos (slot + 1) +ℤ distance) }
-    ensures { pos result ≡ pos (slot + 1) +ℤ distance }
-{
-    (slot as i64 + 1 + i64::from(distance)) as usize
 }
