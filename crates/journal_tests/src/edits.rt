@@ -1,9 +1,12 @@
 //! Edits at the first, the last and one past the last byte of each region, in every status. Expected values were worked out from
 //! where the platform puts its regions, and from the weights of entries.
-use crate::machines::{cut, machine_after, parts, timeline};
+use crate::machines::{check_found, cut, machine_after, parts, timeline};
 use crate::moves::answer;
 use crate::play::played;
 use crate::seen::state_text;
+use bpf_machine::Cpu;
+use std::alloc::Global;
+use std::process::Abort;
 
 /// The context of each machine.
 const CONTEXT: &str = "0102030405060708";
@@ -57,20 +60,34 @@ const MACHINES: &str = "\
 1; 7a0a0000070000009500000000000000; edit pc 0 access 200000200; 16
 ";
 
+/// Stops unless an edit of a machine has the answer of its row.
+fn check_edit(rt: &impl Abort, alloc: Global, cpu: &mut Cpu, row: &str) {
+    let (words, wanted) = parts(rt, row);
+    check_found(rt, answer(rt, alloc, cpu, words).as_str(), wanted, row);
+}
+
+/// Stops unless each edit of the machine of a row has its answer, and `pc 1` has the row's entry.
+fn check_machine(rt: &impl Abort, alloc: Global, machine: &str, edits: &str) {
+    let (steps, rest) = cut(rt, machine);
+    let (program, entry) = cut(rt, rest);
+    let mut cpu = machine_after(rt, alloc, program, CONTEXT, steps);
+    for row in edits.lines() {
+        check_edit(rt, alloc, &mut cpu, row);
+    }
+    let found = answer(rt, alloc, &mut cpu, "pc 1");
+    check_found(rt, found.as_str(), entry, machine);
+}
+
+/// The same of each machine.
+fn check_machines(rt: &impl Abort, alloc: Global, machines: &str, edits: &str) {
+    for machine in machines.lines() {
+        check_machine(rt, alloc, machine, edits);
+    }
+}
+
 #[test]
 fn edits_in_every_status(rt: HostRuntime) {
-    for machine in MACHINES.lines() {
-        let (steps, rest) = cut(&rt, machine);
-        let (program, entry) = cut(&rt, rest);
-        let mut cpu = machine_after(&rt, rt.alloc(), program, CONTEXT, steps);
-        for row in EDITS.lines() {
-            let (words, wanted) = parts(&rt, row);
-            let found = answer(&rt, rt.alloc(), &mut cpu, words);
-            assert_eq!(rt; found.as_str(), wanted, "{row}");
-        }
-        let found = answer(&rt, rt.alloc(), &mut cpu, "pc 1");
-        assert_eq!(rt; found.as_str(), entry, "{machine}");
-    }
+    check_machines(&rt, rt.alloc(), MACHINES, EDITS);
 }
 
 // Moves, and what each answers. A refused one is not kept; where the machine stands is shown in between.
@@ -80,17 +97,32 @@ const EDITS_MADE: &str =
 const ANSWERS: &str =
     "address not present, ok, ok, ok, ok, pc 1 running 0, 4 kept 4 marked 320 of 1024 0 refused, 4 back";
 
+/// The machine of a row.
+fn machine_of(rt: &impl Abort, alloc: Global, machine: &str) -> Cpu {
+    let (steps, rest) = cut(rt, machine);
+    let (program, _) = cut(rt, rest);
+    machine_after(rt, alloc, program, CONTEXT, steps)
+}
+
+/// Stops unless those moves of the machine of a row have their answers, and leave its state.
+fn check_taken_back(rt: &impl Abort, alloc: Global, machine: &str) {
+    let cpu = machine_of(rt, alloc, machine);
+    let before = state_text(rt, alloc, &cpu);
+    let mut timeline = timeline(rt, alloc, cpu, 1_024);
+    let found = played(rt, alloc, &mut timeline, EDITS_MADE);
+    check_found(rt, found.as_str(), ANSWERS, machine);
+    let after = state_text(rt, alloc, timeline.cpu());
+    check_found(rt, after.as_str(), before.as_str(), machine);
+}
+
+/// The same of each machine.
+fn check_all_taken_back(rt: &impl Abort, alloc: Global, machines: &str) {
+    for machine in machines.lines() {
+        check_taken_back(rt, alloc, machine);
+    }
+}
+
 #[test]
 fn edits_are_taken_back(rt: HostRuntime) {
-    for machine in MACHINES.lines() {
-        let (steps, rest) = cut(&rt, machine);
-        let (program, _) = cut(&rt, rest);
-        let cpu = machine_after(&rt, rt.alloc(), program, CONTEXT, steps);
-        let before = state_text(&rt, rt.alloc(), &cpu);
-        let mut timeline = timeline(&rt, rt.alloc(), cpu, 1_024);
-        let found = played(&rt, rt.alloc(), &mut timeline, EDITS_MADE);
-        assert_eq!(rt; found.as_str(), ANSWERS, "{machine}");
-        let after = state_text(&rt, rt.alloc(), timeline.cpu());
-        assert_eq!(rt; after.as_str(), before.as_str(), "{machine}");
-    }
+    check_all_taken_back(&rt, rt.alloc(), MACHINES);
 }

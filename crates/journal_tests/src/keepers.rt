@@ -1,9 +1,10 @@
 //! What a keeper holds of a long run, and which sizes a journal has. Expected values were worked out from the weights of entries.
-use crate::machines::{count, cut, machine, machine_after, parts, timeline};
+use crate::machines::{check_found, count, cut, machine, machine_after, parts, timeline};
 use crate::moves::answer;
 use crate::play::played;
 use crate::seen::{add, kept, state_text};
 use bpf_journal::{JournalFault, Keeper, ListKeeper, Timeline, laws};
+use bpf_machine::Cpu;
 use std::alloc::Global;
 use std::process::Abort;
 
@@ -40,15 +41,20 @@ fn fault_text(rt: &impl Abort, alloc: Global, fault: JournalFault) -> String {
     )
 }
 
+/// Stops at a row whose size answers something else.
+fn check_sizes(rt: &impl Abort, alloc: Global, table: &str) {
+    for row in table.lines() {
+        let (size, wanted) = parts(rt, row);
+        let found = opened(rt, alloc, count(rt, size));
+        check_found(rt, found.as_str(), wanted, row);
+    }
+}
+
 #[test]
 fn sizes_of_a_journal(rt: HostRuntime) {
-    for row in SIZES.lines() {
-        let (size, wanted) = parts(&rt, row);
-        let found = opened(&rt, rt.alloc(), count(&rt, size));
-        assert_eq!(rt; found.as_str(), wanted, "{row}");
-    }
+    check_sizes(&rt, rt.alloc(), SIZES);
     let found = fault_text(&rt, rt.alloc(), JournalFault::OutOfMemory);
-    assert_eq!(rt; found.as_str(), "J2: out of memory");
+    check_found(&rt, found.as_str(), "J2: out of memory", "no memory");
     laws::what_fits_is_the_longest();
     laws::the_new_one_is_kept();
     laws::the_dropped_is_forgotten();
@@ -69,13 +75,18 @@ const PLAYS: &str = "\
 9500000000000000; 1; ended; step, step, counts -> ok, ended, 1 kept 1 marked 5 of 1024 0 refused
 ";
 
+/// Stops at a row whose moves answer something else.
+fn check_plays(rt: &impl Abort, alloc: Global, table: &str) {
+    for row in table.lines() {
+        let (question, wanted) = parts(rt, row);
+        let found = played_row(rt, alloc, question);
+        check_found(rt, found.as_str(), wanted, row);
+    }
+}
+
 #[test]
 fn plays(rt: HostRuntime) {
-    for row in PLAYS.lines() {
-        let (question, wanted) = parts(&rt, row);
-        let found = played_row(&rt, rt.alloc(), question);
-        assert_eq!(rt; found.as_str(), wanted, "{row}");
-    }
+    check_plays(&rt, rt.alloc(), PLAYS);
 }
 
 /// What the moves of a row answer, and what is not as the row says afterwards.
@@ -88,16 +99,23 @@ fn played_row(rt: &impl Abort, alloc: Global, row: &str) -> String {
     let mut text = played(rt, alloc, &mut timeline, moves);
     let (mut cpu, _keeper) = timeline.close();
     let same = machine_after(rt, alloc, program, "0102030405060708", steps);
-    if state_text(rt, alloc, &cpu).as_str() != state_text(rt, alloc, &same).as_str() {
+    if !is_in_state(rt, alloc, &cpu, &same) {
         add(rt, &mut text, ", and another state");
     }
-    if !answer(rt, alloc, &mut cpu, "step")
-        .as_str()
-        .starts_with(next)
-    {
+    if !steps_to(rt, alloc, &mut cpu, next) {
         add(rt, &mut text, ", and another step");
     }
     text
+}
+
+/// Whether two machines are in the same state.
+fn is_in_state(rt: &impl Abort, alloc: Global, cpu: &Cpu, same: &Cpu) -> bool {
+    state_text(rt, alloc, cpu).as_str() == state_text(rt, alloc, same).as_str()
+}
+
+/// Whether what a step answers begins so.
+fn steps_to(rt: &impl Abort, alloc: Global, cpu: &mut Cpu, next: &str) -> bool {
+    answer(rt, alloc, cpu, "step").as_str().starts_with(next)
 }
 
 /// The weights of what is kept, from the newest to the oldest, by walking back.
@@ -134,7 +152,8 @@ fn walking_back_meets_each_entry(rt: HostRuntime) {
     let cpu = machine(&rt, rt.alloc(), LOOP, "");
     let mut timeline = timeline(&rt, rt.alloc(), cpu, 1_024);
     let _steps = played(&rt, rt.alloc(), &mut timeline, "steps 100");
-    assert_eq!(rt; weights(&rt, rt.alloc(), &timeline).as_str(), WEIGHTS);
+    let found = weights(&rt, rt.alloc(), &timeline);
+    check_found(&rt, found.as_str(), WEIGHTS, "steps 100");
 }
 
 /// Takes a hundred steps, and tells how many were refused. Where a refused one changed something it tells that.
@@ -160,5 +179,5 @@ fn a_refused_push_changes_nothing(rt: HostRuntime) {
     let found = refused_steps(&rt, rt.alloc(), &mut timeline);
     let refusals = timeline.keeper().refusals();
     let wanted = kept(&rt, format!(in rt.alloc(); "{refusals}"));
-    assert_eq!(rt; found.as_str(), wanted.as_str());
+    check_found(&rt, found.as_str(), wanted.as_str(), "refused steps");
 }

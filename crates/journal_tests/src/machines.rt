@@ -37,6 +37,11 @@ pub fn bytes_of(rt: &impl Abort, alloc: Global, digits: &str) -> Vec<u8> {
     hex::decode(alloc, digits).ok().expect(rt, "no digits")
 }
 
+/// Stops unless what is found is what is wanted of a row.
+pub fn check_found(rt: &impl Abort, found: &str, wanted: &str, row: &str) {
+    assert_eq!(rt; found, wanted, "{row}");
+}
+
 /// A machine with a program and a context, both in hexadecimal digits, and a map of two values of 8 bytes.
 pub fn machine(rt: &impl Abort, alloc: Global, program: &str, context: &str) -> Cpu {
     let program = bytes_of(rt, alloc, program);

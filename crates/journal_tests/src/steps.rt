@@ -1,6 +1,6 @@
 //! One row for each kind of entry that a step makes, and whole runs there and back. Expected values were worked out from RFC 9669
 //! and from the weights of entries.
-use crate::machines::{cut, machine, parts, timeline};
+use crate::machines::{check_found, machine, parts, timeline};
 use crate::moves::answer;
 use crate::seen::{add, kept, state_text, status_text};
 use bpf_journal::{ListKeeper, Timeline};
@@ -36,15 +36,24 @@ c3210000f1000000 -> register 0 r0 0; 16
  -> end; 5
 ";
 
+/// Stops at a row whose first step has another entry.
+fn check_steps(rt: &impl Abort, alloc: Global, table: &str) {
+    for row in table.lines() {
+        let (program, wanted) = parts(rt, row);
+        check_found(rt, first_entry(rt, alloc, program).as_str(), wanted, row);
+    }
+}
+
+/// The entry of the first step of a program.
+fn first_entry(rt: &impl Abort, alloc: Global, program: &str) -> String {
+    let program = kept(rt, format!(in alloc; "{program}9500000000000000"));
+    let mut cpu = machine(rt, alloc, &program, CONTEXT);
+    answer(rt, alloc, &mut cpu, "step")
+}
+
 #[test]
 fn each_step_has_its_entry(rt: HostRuntime) {
-    for row in STEPS.lines() {
-        let (program, wanted) = parts(&rt, row);
-        let program = kept(&rt, format!(in rt.alloc(); "{program}9500000000000000"));
-        let mut cpu = machine(&rt, rt.alloc(), &program, CONTEXT);
-        let found = answer(&rt, rt.alloc(), &mut cpu, "step");
-        assert_eq!(rt; found.as_str(), wanted, "{row}");
-    }
+    check_steps(&rt, rt.alloc(), STEPS);
 }
 
 // Whole programs: a loop, stores, stores in a loop and a fault, calls, calls without end, atomics, an update of a cell from bytes that
@@ -60,13 +69,18 @@ bf13000000000000db13000001000000c3230000e1000000db230000f10000009500000000000000
 850000004000000085000000400000009500000000000000 -> 3; exited
 ";
 
+/// Stops at a row whose run takes other steps or doesn't come again.
+fn check_runs(rt: &impl Abort, alloc: Global, table: &str) {
+    for row in table.lines() {
+        let (program, wanted) = parts(rt, row);
+        let found = there_back_again(rt, alloc, program);
+        check_found(rt, found.as_str(), wanted, row);
+    }
+}
+
 #[test]
 fn runs_go_back_and_come_again(rt: HostRuntime) {
-    for row in RUNS.lines() {
-        let (program, wanted) = parts(&rt, row);
-        let found = there_back_again(&rt, rt.alloc(), program);
-        assert_eq!(rt; found.as_str(), wanted, "{row}");
-    }
+    check_runs(&rt, rt.alloc(), RUNS);
 }
 
 /// Runs a program to its end, goes back to its beginning and runs it again: how many steps it took, the status at the end, and what did not
@@ -78,9 +92,7 @@ fn there_back_again(rt: &impl Abort, alloc: Global, program: &str) -> String {
     let last = state_text(rt, alloc, timeline.cpu());
     let status = status_text(rt, alloc, timeline.cpu().status());
     let mut text = kept(rt, format!(in alloc; "{}; {status}", states.len()));
-    for before in states.iter().rev() {
-        add(rt, &mut text, came_back(rt, alloc, &mut timeline, before));
-    }
+    go_back(rt, alloc, &mut timeline, &states, &mut text);
     if timeline.back().is_some() {
         add(rt, &mut text, ", and more moves");
     }
@@ -89,6 +101,19 @@ fn there_back_again(rt: &impl Abort, alloc: Global, program: &str) -> String {
         add(rt, &mut text, ", and another end");
     }
     text
+}
+
+/// Goes back through the states before each step, and puts behind a text what did not come back.
+fn go_back(
+    rt: &impl Abort,
+    alloc: Global,
+    timeline: &mut Timeline<ListKeeper>,
+    states: &[String],
+    text: &mut String,
+) {
+    for before in states.iter().rev() {
+        add(rt, text, came_back(rt, alloc, timeline, before));
+    }
 }
 
 /// Goes back by a move. Tells where another state than the one before comes back.

@@ -1,5 +1,5 @@
 //! Worked rows: programs with their registers, bytes and weights. Expected values were worked out from RFC 9669 and docs/MACHINE.md.
-use crate::machines::{count, cut, machine, parts, timeline};
+use crate::machines::{check_found, count, cut, machine, parts, timeline};
 use crate::play::played;
 use crate::seen::{add, digits, kept, place_text, register, state_text};
 use bpf_journal::{Keeper, ListKeeper, Timeline};
@@ -26,13 +26,18 @@ no value; 8500000002000000; ; 4; reg 1 400000000, reg 2 2000001f8, reg 3 0, step
 an update; 8500000002000000; ; 4; reg 1 400000000, reg 2 2000001f8, reg 3 2000001f0, steps 1 -> ok, ok, ok, 1 steps; pc 1 running 0: 0 400000000 0 200000200, , 73
 ";
 
+/// Stops at a row that answers something else.
+fn check_rows(rt: &impl Abort, alloc: Global, table: &str) {
+    for row in table.lines() {
+        let (question, wanted) = parts(rt, row);
+        let found = played_row(rt, alloc, question);
+        check_found(rt, found.as_str(), wanted, row);
+    }
+}
+
 #[test]
 fn rows(rt: HostRuntime) {
-    for row in ROWS.lines() {
-        let (question, wanted) = parts(&rt, row);
-        let found = played_row(&rt, rt.alloc(), question);
-        assert_eq!(rt; found.as_str(), wanted, "{row}");
-    }
+    check_rows(&rt, rt.alloc(), ROWS);
 }
 
 /// What the moves of a row answer and what is then seen, and whether going back gives anything but the opening state.
