@@ -1,72 +1,99 @@
 //! Programs: what the checker says of them, and what can be read of an accepted one.
 use crate::programs::PROGRAMS;
-use crate::words::bytes_of;
-use bpf_isa::{LoadFault, MapTable, check};
-use std::alloc::Global;
-use std::test::Fail;
+use crate::words::{bytes_of, check_text, stop_unless};
+use bpf_isa::{LoadFault, MapTable, Program, check};
+use std::alloc::{AllocError, Global};
+use std::process::Abort;
 
 const EXIT: [u8; 8] = [0x95, 0, 0, 0, 0, 0, 0, 0];
 
 /// `ok`, or the fault and its slot.
-fn checked(alloc: Global, bytes: &[u8], maps: &MapTable) -> Result<String, Fail> {
-    Ok(match check(alloc, bytes, maps) {
-        Ok(_) => format!(in alloc; "ok")?,
-        Err(LoadFault::At { slot, fault }) => format!(in alloc; "C{} at {slot}", fault.number())?,
-        Err(fault) => format!(in alloc; "C{}", fault.number())?,
-    })
-}
-
-#[test]
-fn checked_programs(rt: HostRuntime) -> Result<(), Fail> {
-    let alloc = rt.alloc();
-    for row in PROGRAMS.lines() {
-        let (want, rest) = row.split_once("; ").ok_or("no answer")?;
-        let (list, rest) = rest.split_once("; ").ok_or("no maps")?;
-        let (program, _) = rest.split_once("; ").ok_or("no name")?;
-        let maps = match list {
-            "-" => MapTable::empty(),
-            _ => MapTable::parse(list.as_bytes()).unwrap_or(MapTable::empty()),
-        };
-        let bytes = bytes_of(alloc, program)?;
-        let text = checked(alloc, &bytes, &maps)?;
-        assert_eq!(rt; text.as_str(), want, "{row}");
+fn checked(alloc: Global, bytes: &[u8], maps: &MapTable) -> Result<String, AllocError> {
+    match check(alloc, bytes, maps) {
+        Ok(_) => format!(in alloc; "ok"),
+        Err(LoadFault::At { slot, fault }) => format!(in alloc; "C{} at {slot}", fault.number()),
+        Err(fault) => format!(in alloc; "C{}", fault.number()),
     }
-    Ok(())
+}
+
+/// The same, where memory suffices.
+fn answer(rt: &impl Abort, alloc: Global, bytes: &[u8], maps: &MapTable) -> String {
+    checked(alloc, bytes, maps).ok().expect(rt, "no memory")
+}
+
+/// The maps of a list, `-` for none.
+fn maps_of(list: &str) -> MapTable {
+    match list {
+        "-" => MapTable::empty(),
+        _ => MapTable::parse(list.as_bytes()).unwrap_or(MapTable::empty()),
+    }
+}
+
+/// Stops unless the checker says of a program what its row wants.
+fn check_program(rt: &impl Abort, alloc: Global, row: &str) {
+    let (want, rest) = row.split_once("; ").expect(rt, "no answer");
+    let (list, rest) = rest.split_once("; ").expect(rt, "no maps");
+    let (program, _) = rest.split_once("; ").expect(rt, "no name");
+    let bytes = bytes_of(rt, alloc, program);
+    let found = answer(rt, alloc, &bytes, &maps_of(list));
+    check_text(rt, found.as_str(), want, row);
+}
+
+/// The same of each row.
+fn check_programs(rt: &impl Abort, alloc: Global, table: &str) {
+    for row in table.lines() {
+        check_program(rt, alloc, row);
+    }
 }
 
 #[test]
-fn lengths(rt: HostRuntime) -> Result<(), Fail> {
-    let alloc = rt.alloc();
-    let maps = MapTable::empty();
+fn checked_programs(rt: HostRuntime) {
+    check_programs(&rt, rt.alloc(), PROGRAMS);
+}
+
+/// Stops unless the checker says this of a program without maps.
+fn check_bytes(rt: &impl Abort, alloc: Global, bytes: &[u8], want: &str, what: &str) {
+    let found = answer(rt, alloc, bytes, &MapTable::empty());
+    check_text(rt, found.as_str(), want, what);
+}
+
+/// So many exits.
+fn exits(rt: &impl Abort, alloc: Global, count: usize) -> Vec<u8> {
     let mut bytes = Vec::new(alloc);
-    let none = checked(alloc, &bytes, &maps)?;
-    assert_eq!(rt; none.as_str(), "C1", "no bytes");
-    for _ in 0..65535 {
-        bytes.extend_from_slice(&EXIT)?;
+    for _ in 0..count {
+        bytes.extend_from_slice(&EXIT).ok().expect(rt, "no memory");
     }
-    let full = checked(alloc, &bytes, &maps)?;
-    assert_eq!(rt; full.as_str(), "ok", "65,535 slots");
-    bytes.push(0)?;
-    let over = checked(alloc, &bytes, &maps)?;
-    assert_eq!(rt; over.as_str(), "C2", "one byte more");
-    Ok(())
+    bytes
 }
 
 #[test]
-fn getters(rt: HostRuntime) -> Result<(), Fail> {
-    let alloc = rt.alloc();
-    let maps = MapTable::parse(b"8x2").unwrap_or(MapTable::empty());
-    let bytes = bytes_of(alloc, "1800000001000000 0000000002000000 9500000000000000")?;
-    match check(alloc, &bytes, &maps) {
-        Ok(program) => {
-            assert_eq!(rt; program.len(), 3);
-            assert_eq!(rt; program.maps().len(), 1);
-            for (slot, want) in [(0, true), (1, false), (2, true), (3, false)] {
-                assert_eq!(rt; program.is_start(slot), want, "start {slot}");
-                assert_eq!(rt; program.insn_at(slot).is_some(), want, "at {slot}");
-            }
-        }
-        Err(fault) => assert_eq!(rt; fault.number(), 0),
-    }
-    Ok(())
+fn lengths(rt: HostRuntime) {
+    check_bytes(&rt, rt.alloc(), &[], "C1", "no bytes");
+    let mut bytes = exits(&rt, rt.alloc(), 65535);
+    check_bytes(&rt, rt.alloc(), &bytes, "ok", "65,535 slots");
+    bytes.push(0).ok().expect(&rt, "no memory");
+    check_bytes(&rt, rt.alloc(), &bytes, "C2", "one byte more");
+}
+
+/// Stops unless an instruction starts at a slot, or none does.
+fn check_start(rt: &impl Abort, program: &Program, slot: usize, want: bool) {
+    stop_unless(rt, program.is_start(slot) == want, "start");
+    stop_unless(rt, program.insn_at(slot).is_some() == want, "at");
+}
+
+#[test]
+fn getters(rt: HostRuntime) {
+    let bytes = bytes_of(
+        &rt,
+        rt.alloc(),
+        "1800000001000000 0000000002000000 9500000000000000",
+    );
+    let program = check(rt.alloc(), &bytes, &maps_of("8x2"));
+    let program = program.ok().expect(&rt, "refused");
+    stop_unless(&rt, program.len() == 3, "slots");
+    stop_unless(&rt, program.maps().len() == 1, "maps");
+    check_start(&rt, &program, 0, true);
+    check_start(&rt, &program, 1, false);
+    check_start(&rt, &program, 2, true);
+    check_start(&rt, &program, 3, false);
 }

@@ -1,7 +1,8 @@
 //! The numbers and texts of the faults of programs and of map lists.
+use crate::words::{check_text, stop_unless};
 use bpf_isa::{LoadFault, MapFault, PieceFault, WordFault};
-use std::alloc::Global;
-use std::test::Fail;
+use std::alloc::{AllocError, Global};
+use std::process::Abort;
 
 /// The faults: what is printed before a number, the number, the text.
 const FAULTS: &str = "\
@@ -41,7 +42,7 @@ fn piece_fault(number: usize) -> PieceFault {
 }
 
 /// The number and the text of a line of the table of faults, counted from 1.
-fn fault_line(alloc: Global, line: usize) -> Result<String, Fail> {
+fn fault_line(alloc: Global, line: usize) -> Result<String, AllocError> {
     let fault = match line {
         1 => LoadFault::Empty,
         2 => LoadFault::TooLong,
@@ -53,11 +54,11 @@ fn fault_line(alloc: Global, line: usize) -> Result<String, Fail> {
         13 => LoadFault::Memory,
         _ => return map_fault_line(alloc, line),
     };
-    Ok(format!(in alloc; "C{} {}", fault.number(), fault.text())?)
+    format!(in alloc; "C{} {}", fault.number(), fault.text())
 }
 
 /// The same of the faults of maps, which stand from line 14 on.
-fn map_fault_line(alloc: Global, line: usize) -> Result<String, Fail> {
+fn map_fault_line(alloc: Global, line: usize) -> Result<String, AllocError> {
     let fault = match line {
         14 => MapFault::ValueSize,
         15 => MapFault::Entries,
@@ -65,37 +66,55 @@ fn map_fault_line(alloc: Global, line: usize) -> Result<String, Fail> {
         17 => MapFault::Full,
         _ => MapFault::Malformed,
     };
-    Ok(format!(in alloc; "M{} {}", fault.number(), fault.text())?)
+    format!(in alloc; "M{} {}", fault.number(), fault.text())
+}
+
+/// The number and the text of the fault of a piece.
+fn piece_line(alloc: Global, fault: PieceFault) -> Result<String, AllocError> {
+    format!(in alloc; "C{} {}", fault.number(), fault.text())
+}
+
+/// Stops unless the fault of a line of the table, counted from 1, is written so.
+fn check_fault(rt: &impl Abort, alloc: Global, line: usize, want: &str) {
+    let text = fault_line(alloc, line).ok().expect(rt, "no memory");
+    check_text(rt, text.as_str(), want, want);
+    if line >= 4 && line <= 12 {
+        let text = piece_line(alloc, piece_fault(line));
+        let text = text.ok().expect(rt, "no memory");
+        check_text(rt, text.as_str(), want, want);
+    }
+}
+
+/// Stops at a fault that is written in another way than its line.
+fn check_faults(rt: &impl Abort, alloc: Global, table: &str) {
+    for (line, want) in (1..=18usize).zip(table.lines()) {
+        check_fault(rt, alloc, line, want);
+    }
 }
 
 #[test]
-fn faults(rt: HostRuntime) -> Result<(), Fail> {
-    let alloc = rt.alloc();
-    for (index, want) in FAULTS.lines().enumerate() {
-        let text = fault_line(alloc, index + 1)?;
-        assert_eq!(rt; text.as_str(), want);
-        if index >= 3 && index < 12 {
-            let fault = piece_fault(index + 1);
-            let text = format!(in alloc; "C{} {}", fault.number(), fault.text())?;
-            assert_eq!(rt; text.as_str(), want);
-        }
-    }
-    assert_eq!(rt; FAULTS.lines().count(), 18);
-    Ok(())
+fn faults(rt: HostRuntime) {
+    check_faults(&rt, rt.alloc(), FAULTS);
+    stop_unless(&rt, FAULTS.lines().count() == 18, "faults");
+}
+
+/// Stops unless the fault of a word is written as this line of the table, counted from 0.
+fn check_word_fault(rt: &impl Abort, alloc: Global, fault: WordFault, index: usize, table: &str) {
+    let text = format!(in alloc; "C{} {}", fault.number(), fault.text());
+    let text = text.ok().expect(rt, "no memory");
+    let want = table.lines().nth(index).expect(rt, "no line");
+    check_text(rt, text.as_str(), want, want);
+}
+
+/// The same of each fault of a word.
+fn check_word_faults(rt: &impl Abort, alloc: Global, table: &str) {
+    check_word_fault(rt, alloc, WordFault::UnknownInstruction, 3, table);
+    check_word_fault(rt, alloc, WordFault::RegisterAboveTen, 4, table);
+    check_word_fault(rt, alloc, WordFault::UnusedField, 5, table);
+    check_word_fault(rt, alloc, WordFault::CutOff, 8, table);
 }
 
 #[test]
-fn faults_of_words(rt: HostRuntime) -> Result<(), Fail> {
-    let alloc = rt.alloc();
-    for (fault, line) in [
-        (WordFault::UnknownInstruction, 4),
-        (WordFault::RegisterAboveTen, 5),
-        (WordFault::UnusedField, 6),
-        (WordFault::CutOff, 9),
-    ] {
-        let text = format!(in alloc; "C{} {}", fault.number(), fault.text())?;
-        let want = FAULTS.lines().nth(line - 1).ok_or("no line")?;
-        assert_eq!(rt; text.as_str(), want);
-    }
-    Ok(())
+fn faults_of_words(rt: HostRuntime) {
+    check_word_faults(&rt, rt.alloc(), FAULTS);
 }

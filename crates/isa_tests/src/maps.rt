@@ -1,7 +1,8 @@
 //! Lists of maps, and tables that maps are added to. Expected values are worked out from the definitions of the faults.
+use crate::words::{check_text, stop_unless};
 use bpf_isa::MapTable;
-use std::alloc::Global;
-use std::test::Fail;
+use std::alloc::{AllocError, Global};
+use std::process::Abort;
 
 /// The maps of a list, or the fault, and the list.
 const MAP_LISTS: &str = "\
@@ -36,10 +37,10 @@ M5; ax2\n\
 ";
 
 /// The maps of a list with a blank between them, or the fault.
-fn parsed(alloc: Global, list: &str) -> Result<String, Fail> {
+fn parsed(alloc: Global, list: &str) -> Result<String, AllocError> {
     let maps = match MapTable::parse(list.as_bytes()) {
         Ok(maps) => maps,
-        Err(fault) => return Ok(format!(in alloc; "M{}", fault.number())?),
+        Err(fault) => return format!(in alloc; "M{}", fault.number()),
     };
     let mut text = String::new(alloc);
     for map in 0..maps.len() {
@@ -51,44 +52,63 @@ fn parsed(alloc: Global, list: &str) -> Result<String, Fail> {
     Ok(text)
 }
 
-#[test]
-fn map_lists(rt: HostRuntime) -> Result<(), Fail> {
-    let alloc = rt.alloc();
-    for row in MAP_LISTS.lines() {
-        let (want, list) = row.split_once("; ").ok_or("no answer")?;
-        let text = parsed(alloc, list)?;
-        assert_eq!(rt; text.as_str(), want, "{row}");
+/// Stops unless a list is read as its row wants.
+fn check_list(rt: &impl Abort, alloc: Global, row: &str) {
+    let (want, list) = row.split_once("; ").expect(rt, "no answer");
+    let text = parsed(alloc, list).ok().expect(rt, "no memory");
+    check_text(rt, text.as_str(), want, row);
+}
+
+/// The same of each row.
+fn check_lists(rt: &impl Abort, alloc: Global, table: &str) {
+    for row in table.lines() {
+        check_list(rt, alloc, row);
     }
-    Ok(())
+}
+
+#[test]
+fn map_lists(rt: HostRuntime) {
+    check_lists(&rt, rt.alloc(), MAP_LISTS);
+}
+
+/// The number of the fault with which a map isn't added, 0 for none.
+fn added(maps: &mut MapTable, value_size: u32, entries: u32) -> u8 {
+    match maps.add(value_size, entries) {
+        Ok(_) => 0,
+        Err(fault) => fault.number(),
+    }
+}
+
+/// Adds a map, and stops unless this is the fault and the table has one map then.
+fn check_added(rt: &impl Abort, maps: &mut MapTable, shape: (u32, u32), want: u8) {
+    stop_unless(rt, added(maps, shape.0, shape.1) == want, "a map");
+    stop_unless(rt, maps.len() == 1, "one map");
+}
+
+/// Adds 15 maps.
+fn fill(rt: &impl Abort, maps: &mut MapTable) {
+    for _ in 1..16 {
+        stop_unless(rt, added(maps, 256, 256) == 0, "not added");
+    }
+}
+
+/// The shape of the first map.
+fn first_shape(rt: &impl Abort, maps: &MapTable) -> (u32, u32) {
+    let shape = maps.shape(0).expect(rt, "no map");
+    (shape.value_size, shape.entries)
 }
 
 #[test]
 fn added_maps(rt: HostRuntime) {
     let mut maps = MapTable::empty();
-    for (value_size, entries, want) in [
-        (8, 2, 0),
-        (0, 2, 1),
-        (257, 0, 1),
-        (8, 4097, 2),
-        (256, 257, 3),
-    ] {
-        let number = maps
-            .add(value_size, entries)
-            .map_or_else(|fault| fault.number(), |_| 0);
-        assert_eq!(rt; number, want, "{value_size}x{entries}");
-        assert_eq!(rt; maps.len(), 1);
-    }
-    for _ in 1..16 {
-        assert!(rt; maps.add(256, 256).is_ok());
-    }
-    assert_eq!(rt;
-        maps.add(1, 1).map_or_else(|fault| fault.number(), |_| 0),
-        4
-    );
-    let shape = maps
-        .shape(0)
-        .map_or((0, 0), |shape| (shape.value_size, shape.entries));
-    assert_eq!(rt; shape, (8, 2));
-    assert!(rt; maps.shape(15).is_some());
-    assert!(rt; maps.shape(16).is_none());
+    check_added(&rt, &mut maps, (8, 2), 0);
+    check_added(&rt, &mut maps, (0, 2), 1);
+    check_added(&rt, &mut maps, (257, 0), 1);
+    check_added(&rt, &mut maps, (8, 4097), 2);
+    check_added(&rt, &mut maps, (256, 257), 3);
+    fill(&rt, &mut maps);
+    stop_unless(&rt, added(&mut maps, 1, 1) == 4, "a full table");
+    stop_unless(&rt, first_shape(&rt, &maps) == (8, 2), "the first map");
+    stop_unless(&rt, maps.shape(15).is_some(), "the last map");
+    stop_unless(&rt, maps.shape(16).is_none(), "past the last map");
 }
