@@ -5,7 +5,6 @@ ghost use Rattle.bpf_tool.specs.Jobs.{IsLimit};
 
 mod fault;
 mod files;
-mod input;
 
 use bpf_io::Counted;
 use bpf_plan::{Plan, PlanFault, plan};
@@ -13,7 +12,6 @@ use bpf_tool::{Job, JobFault, Subcommand, give_up, tool};
 use clap::Error;
 use fault::{FileFault, WordsFault};
 use files::{PROGRAM_BYTES, read_beginning, read_context, read_listing};
-use input::Input;
 use std::alloc::Global;
 use std::io::{BufReader, BufWriter, ErrorKind, Read, Stderr, Write};
 use std::process::ExitCode;
@@ -21,6 +19,9 @@ use std::{env, io};
 
 /// Standard error.
 type Errors = Counted<BufWriter<Stderr>>;
+
+/// The number of the system's error for a descriptor that is closed.
+const CLOSED_DESCRIPTOR: i32 = 9;
 
 /// What is debugged where the command line has no word: r0 = 42, and the end, with every option absent.
 const FIRST_JOB: Job<'static> = Job {
@@ -160,13 +161,25 @@ fn read_program<'a>(rt: &HostRuntime, plan: &Plan<'a>) -> Result<Vec<u8>, FileFa
 fn do_job(rt: &HostRuntime, job: &Job<'_>, errors: &mut Errors) -> u8
     requires limit { IsLimit job.now.limit }
 {
-    let Ok(input) = BufReader::new(rt.alloc(), Input::new(rt.reader())) else {
-        return give_up(errors, JobFault::Memory);
-    };
     let Ok(output) = BufWriter::new(rt.alloc(), io::writer(rt)) else {
         return give_up(errors, JobFault::Memory);
     };
+    let mut input = rt.reader();
+    if is_closed(&mut input) {
+        return do_job_over(rt.alloc(), job, b"".as_slice(), output, errors);
+    }
+    let Ok(input) = BufReader::new(rt.alloc(), input) else {
+        return give_up(errors, JobFault::Memory);
+    };
     do_job_over(rt.alloc(), job, input, output, errors)
+}
+
+/// Whether a reader's descriptor is closed: then a read fails even where it asks for no byte.
+fn is_closed<R: Read>(input: &mut R) -> bool {
+    match input.read(&mut []) {
+        Ok(_) => false,
+        Err(error) => error.raw_os_error() == Some(CLOSED_DESCRIPTOR),
+    }
 }
 
 /// Does a job over a reader and a writer.
