@@ -1,5 +1,6 @@
 //! FILE and PATH, read up to a limit.
-ghost use Rattle.std.specs.Prelude.{◌≤◌, IfOk, length};
+ghost use Rattle.std.specs.Prelude.{◌≤◌, IfErr, IfOk, length};
+ghost use Rattle.bpfdb.specs.Files.{Names};
 
 use crate::fault::FileFault;
 use std::fs;
@@ -34,7 +35,8 @@ pub fn read_beginning<'a>(
     path: &'a str,
     most: usize,
 ) -> Result<Vec<u8>, FileFault<'a>>
-    ensures { IfOk result (λ bytes. length bytes.items ≤ most) }
+    ensures ok { IfOk result (λ bytes. length bytes.items ≤ most) }
+    ensures err { IfErr result (Names path.now) }
 {
     let mut file = match fs::open(rt, path) {
         Ok(file) => file,
@@ -71,7 +73,8 @@ fn read_piece(file: &mut File, piece: &mut [u8]) -> std::io::Result<Piece> {
 
 /// The bytes of a listing.
 pub fn read_listing<'a>(rt: &HostRuntime, path: &'a str) -> Result<Vec<u8>, FileFault<'a>>
-    ensures { IfOk result (λ bytes. length bytes.items ≤ LISTING_BYTES) }
+    ensures ok { IfOk result (λ bytes. length bytes.items ≤ LISTING_BYTES) }
+    ensures err { IfErr result (Names path.now) }
 {
     let text = read_beginning(rt, path, LISTING_BYTES + 1)?;
     if text.len() > LISTING_BYTES {
@@ -83,12 +86,10 @@ pub fn read_listing<'a>(rt: &HostRuntime, path: &'a str) -> Result<Vec<u8>, File
     Ok(text)
 }
 
-/// The bytes of a context; none where there is no path.
-pub fn read_context<'a>(rt: &HostRuntime, path: Option<&'a str>) -> Result<Vec<u8>, FileFault<'a>>
-    ensures { IfOk result (λ bytes. length bytes.items ≤ CONTEXT_BYTES) }
+/// The bytes of a context.
+pub fn read_context<'a>(rt: &HostRuntime, path: &'a str) -> Result<Vec<u8>, FileFault<'a>>
+    ensures ok { IfOk result (λ bytes. length bytes.items ≤ CONTEXT_BYTES) }
+    ensures err { IfErr result (Names path.now) }
 {
-    match path {
-        Some(path) => read_beginning(rt, path, CONTEXT_BYTES),
-        None => Ok(Vec::new(rt.alloc())),
-    }
+    read_beginning(rt, path, CONTEXT_BYTES)
 }

@@ -124,7 +124,7 @@ fn do_plan(rt: &HostRuntime, plan: &Plan<'_>, errors: &mut Errors) -> u8
         Ok(file) => file,
         Err(fault) => return give_up(errors, fault),
     };
-    let context = match read_context(rt, plan.memory) {
+    let context = match context_of(rt, plan) {
         Ok(context) => context,
         Err(fault) => return give_up(errors, fault),
     };
@@ -151,6 +151,14 @@ fn read_program<'a>(rt: &HostRuntime, plan: &Plan<'a>) -> Result<Vec<u8>, FileFa
                 read_beginning(rt, plan.file, PROGRAM_BYTES)
             }
         }
+    }
+}
+
+/// The bytes of PATH; none where there is no path.
+fn context_of<'a>(rt: &HostRuntime, plan: &Plan<'a>) -> Result<Vec<u8>, FileFault<'a>> {
+    match plan.memory {
+        Some(path) => read_context(rt, path),
+        None => Ok(Vec::new(rt.alloc())),
     }
 }
 
