@@ -124,7 +124,7 @@ examples() {
     [ "$shown" -gt 0 ] || fault "examples/README.md shows no session"
 }
 
-# commands: the commands of bpf_script's tables are the rows of docs/COMMANDS.md, in the same order.
+# commands: the commands of bpfdb_commands's tables are the rows of docs/COMMANDS.md, in the same order.
 commands() {
     awk -F '"' '
         /^(settings|infos|commands) =$/ { table = substr($0, 1, length($0) - 2) }
@@ -137,16 +137,16 @@ commands() {
                 else for (j = 1; j <= count[inner]; j++) print names["commands", i], names[inner, j]
             }
         }
-    ' crates/bpf_script/specs/Commands.antt > "$work/commands"
+    ' crates/bpfdb_commands/specs/Commands.antt > "$work/commands"
     awk -F ' *\\| *' '/^## / { inside = $0 == "## COMMANDS" } inside && NF > 3 && $2 ~ /`/ { print $2 }' docs/COMMANDS.md |
         quoted | sed 's/ *\[*[A-Z].*//' > "$work/rows"
     [ -s "$work/commands" ] && cmp -s "$work/commands" "$work/rows" && return
-    fault "docs/COMMANDS.md has other commands than crates/bpf_script/specs/Commands.antt, or another order"
+    fault "docs/COMMANDS.md has other commands than crates/bpfdb_commands/specs/Commands.antt, or another order"
 }
 
 # refusals: each number and text of the crates' refusals is a row of docs/COMMANDS.md, and no other is. Of variants of one number the first counts.
 refusals() {
-    cat crates/bpf_*/src/fault.rt crates/bpf_script/src/refusal.rt | awk '
+    cat crates/bpf_*/src/fault.rt crates/bpfdb_commands/src/refusal.rt | awk '
         BEGIN {
             letter["LoadFault"] = letter["PieceFault"] = letter["WordFault"] = "C"
             letter["LineFault"] = letter["AsmFault"] = "A"

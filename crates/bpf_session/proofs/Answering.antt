@@ -4,7 +4,7 @@ use Rattle.bpf_journal.specs.Histories.{Kept}
 use Rattle.bpf_session.specs.Outcomes.{Outcome}
 use Rattle.bpf_session.specs.Sessions.{SessionValue, StandsAt, Obeys, refusals_with}
 use Rattle.bpf_session.specs.declared.reply.Reply.{Reply}
-use Rattle.bpf_script.specs.declared.refusal.Refusal.{Refusal}
+use Rattle.bpfdb_commands.specs.declared.refusal.Refusal.{Refusal}
 
 module _ {K : Type 0} (holds : K → List Kept → Type 0) (refusals : K → ℕ) (old new : SessionValue K) where
   -- the outcome that the command comes to, and what is left of it

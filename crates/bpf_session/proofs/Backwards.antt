@@ -14,11 +14,11 @@ use Rattle.bpf_session.specs.Points.{Point}
 use Rattle.bpf_session.specs.Outcomes.{Outcome, unless_refused}
 use Rattle.bpf_session.specs.Refused.{when}
 use Rattle.bpf_session.specs.Backward.{before_last, back_by, gone_back, to_latest, kept_steps, stops_back, to_stop, reverse_continue}
-use Rattle.bpf_replies.specs.declared.why.Why.{Why}
+use Rattle.bpfdb_replies.specs.declared.why.Why.{Why}
 use Rattle.bpf_session.specs.declared.reply.Reply.TheVariants.{Back}
 use Rattle.bpf_session.specs.declared.reply.Reply.{Reply}
-use Rattle.bpf_script.specs.declared.refusal.Refusal.{Refusal}
-use Rattle.bpf_script.specs.declared.refusal.Refusal.TheVariants.{NoKeptStep}
+use Rattle.bpfdb_commands.specs.declared.refusal.Refusal.{Refusal}
+use Rattle.bpfdb_commands.specs.declared.refusal.Refusal.TheVariants.{NoKeptStep}
 use Rattle.bpf_session.specs.Sessions.{SessionValue, HasPast, StandsAt, Obeys, point_of}
 use Rattle.bpf_session.specs.Sought.{GoesBackTo, test_of}
 use Rattle.bpf_session.specs.Stops.{has, breaks_at, some_differs}

@@ -18,21 +18,21 @@ use Rattle.bpf_journal.specs.declared.timeline.ByteChange.{ByteChange}
 use Rattle.bpf_session.specs.Tables.{told_of}
 use Rattle.bpf_session.specs.Backward.{gone_back, before_last, back_by, marked, stepped, stops_back, to_stop, marks, kept_steps}
 use Rattle.bpf_session.specs.Limits.{most_breaks, most_watches}
-use Rattle.bpf_script.specs.Refusals.{number_of}
+use Rattle.bpfdb_commands.specs.Refusals.{number_of}
 use Rattle.bpf_session.specs.Refused.{when, present, starts, has_cell, refusals_of}
 use Rattle.bpf_session.specs.Meaning.{accepted, does}
 use Rattle.bpf_session.specs.Sessions.{refusals_after_all}
-use Rattle.bpf_script.specs.Commands.{command_of}
+use Rattle.bpfdb_commands.specs.Commands.{command_of}
 use Rattle.bpf_session.specs.Output.{effect, after_effect}
 use Rattle.bpf_session.specs.Laws.{RefusedChangesNothing, ShowsChangeNothing, Ascends, RefusalsAreInOrder, StepsAreLeast, BreakpointsStop, WatchesStop, CallsRunAsOne, TakesBackItsMoves, ReplayIsTheSame, UndoGoesToTheMark, GoingBackGivesBack, NothingRefusedNothingMissing}
-use Rattle.bpf_script.specs.declared.command.Command.{Command}
-use Rattle.bpf_script.specs.declared.command.Command.TheVariants as command
+use Rattle.bpfdb_commands.specs.declared.command.Command.{Command}
+use Rattle.bpfdb_commands.specs.declared.command.Command.TheVariants as command
 use Rattle.bpf_session.specs.declared.reply.Reply.{Reply}
 use Rattle.bpf_session.specs.declared.reply.Reply.TheVariants.{Forward, Back}
-use Rattle.bpf_replies.specs.declared.why.Why.{Why}
-use Rattle.bpf_replies.specs.declared.why.Why.TheVariants.{End, Break, Watch, Done, Limit, Memory}
-use Rattle.bpf_script.specs.declared.refusal.Refusal.{Refusal}
-use Rattle.bpf_script.specs.declared.refusal.Refusal.TheVariants.{MachineEnded, NoKeptStep, FewerCommands, AddressNotPresent, RegisterNotWritable, NoStart, OutermostFrame, TableFull, ThereOrNot, NoCell, OutOfMemory}
+use Rattle.bpfdb_replies.specs.declared.why.Why.{Why}
+use Rattle.bpfdb_replies.specs.declared.why.Why.TheVariants.{End, Break, Watch, Done, Limit, Memory}
+use Rattle.bpfdb_commands.specs.declared.refusal.Refusal.{Refusal}
+use Rattle.bpfdb_commands.specs.declared.refusal.Refusal.TheVariants.{MachineEnded, NoKeptStep, FewerCommands, AddressNotPresent, RegisterNotWritable, NoStart, OutermostFrame, TableFull, ThereOrNot, NoCell, OutOfMemory}
 
 -- ---- a refused command
 

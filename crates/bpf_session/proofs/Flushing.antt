@@ -2,9 +2,9 @@
 use Rattle.std.proofs.Common.{◌≡◌, ℕ, List, [], Option, Ok, Err, sym, ap, ◌∙◌}
 use Rattle.std.proofs.lemmas.List.{append-nil}
 use Rattle.std.specs.Io.KnownBytes.{Keeps}
-use Rattle.bpf_io.specs.Counted.{Tally, one_more}
-use Rattle.bpf_io.specs.Writing.{Writes}
-use Rattle.bpf_io.proofs.Appending.{Appends-Keeps}
+use Rattle.counted_io.specs.Counted.{Tally, one_more}
+use Rattle.counted_io.specs.Writing.{Writes}
+use Rattle.counted_io.proofs.Appending.{Appends-Keeps}
 
 module _ {W : Type 0} (contents : W → Option (List ℕ)) (old : Tally W) where
   -- a flush that went well

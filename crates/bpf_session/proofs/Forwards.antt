@@ -22,10 +22,10 @@ use Rattle.bpf_session.specs.Forward.{Goal, state_after, kept, gone, stop, stop_
 use Rattle.bpf_session.specs.Watched.{Compares, bytes_at}
 use Rattle.bpf_session.specs.Sessions.{SessionValue, HasPast, StandsAt, Obeys, point_of, bounds_of}
 use Rattle.bpf_session.proofs.Answering.{obeys_as}
-use Rattle.bpf_replies.specs.declared.why.Why.{Why}
-use Rattle.bpf_replies.specs.declared.why.Why.TheVariants.{End, Break, Watch, Done, Limit, Memory}
+use Rattle.bpfdb_replies.specs.declared.why.Why.{Why}
+use Rattle.bpfdb_replies.specs.declared.why.Why.TheVariants.{End, Break, Watch, Done, Limit, Memory}
 use Rattle.bpf_session.specs.declared.reply.Reply.TheVariants as replies
-use Rattle.bpf_script.specs.declared.refusal.Refusal.TheVariants.{OutOfMemory, MachineEnded}
+use Rattle.bpfdb_commands.specs.declared.refusal.Refusal.TheVariants.{OutOfMemory, MachineEnded}
 
 -- the least number is not below the first one that is tried
 pub least_from : (test : ℕ → Bool) (k n : ℕ) → k ≤ least test k n

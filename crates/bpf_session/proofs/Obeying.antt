@@ -1,19 +1,19 @@
 -- What a line leaves that was obeyed: nothing where it has no words or is `quit`, a refusal, or what its command means.
 use Rattle.std.proofs.Common.{◌≡◌, ℕ, Bool, true, false, List, [], Option, Some, None, Result, Ok, Err, IfOk, OnErr, refl, sym, ap, subst, ◌∙◌}
-use Rattle.bpf_io.specs.Counted.{Tally}
-use Rattle.bpf_io.specs.Writing.{Writes}
-use Rattle.bpf_io.proofs.Appending.{Writes-none}
+use Rattle.counted_io.specs.Counted.{Tally}
+use Rattle.counted_io.specs.Writing.{Writes}
+use Rattle.counted_io.proofs.Appending.{Writes-none}
 use Rattle.bpf_journal.specs.Histories.{Record, Kept}
 use Rattle.bpf_session.specs.Points.{Point, Bounds}
 use Rattle.bpf_session.specs.Meaning.{does}
 use Rattle.bpf_session.specs.Replies.{text_of_answer}
 use Rattle.bpf_session.specs.Sessions.{SessionValue, HasPast, StandsAt, Obeys, bounds_of, point_of, refusals_with}
-use Rattle.bpf_script.specs.Commands.{command_of}
+use Rattle.bpfdb_commands.specs.Commands.{command_of}
 use Rattle.bpf_session.specs.Output.{Effect, effect, effect_of, is_quit}
 use Rattle.bpf_session.specs.LineSteps.{ObeysLine}
-use Rattle.bpf_script.specs.declared.command.Command.{Command}
+use Rattle.bpfdb_commands.specs.declared.command.Command.{Command}
 use Rattle.bpf_session.specs.declared.reply.Reply.{Reply}
-use Rattle.bpf_script.specs.declared.refusal.Refusal.{Refusal}
+use Rattle.bpfdb_commands.specs.declared.refusal.Refusal.{Refusal}
 
 module _ {K W : Type 0} (holds : K → List Kept → Type 0) (refusals room : K → ℕ) (contents : W → Option (List ℕ)) where
   -- by an effect

@@ -6,21 +6,21 @@ use Rattle.std.proofs.lemmas.List.Elements.{All-push}
 use Rattle.std.proofs.Math.Seq.{take-append_seam, drop-append_seam}
 use Rattle.std.specs.List.{All}
 use Rattle.std.specs.Io.KnownBytes.{Appends}
-use Rattle.bpf_io.specs.Counted.{Tally}
-use Rattle.bpf_io.specs.Writing.{AppendsBeginning, Writes}
+use Rattle.counted_io.specs.Counted.{Tally}
+use Rattle.counted_io.specs.Writing.{AppendsBeginning, Writes}
 use Rattle.bpf_journal.specs.Histories.{Record, Kept}
 use Rattle.bpf_session.specs.Points.{Point, Bounds}
 use Rattle.bpf_session.specs.Sessions.{SessionValue, HasPast, StandsAt, bounds_of, point_of, refusals_with, refusals_after_all}
-use Rattle.bpf_io.specs.Lines.{lines}
-use Rattle.bpf_script.specs.Commands.{command_of}
+use Rattle.counted_io.specs.Lines.{lines}
+use Rattle.bpfdb_commands.specs.Commands.{command_of}
 use Rattle.bpf_session.specs.Output.{Effect, effect, Walk, walk}
-use Rattle.bpf_script.specs.Lines.{line_feeds}
+use Rattle.bpfdb_commands.specs.Lines.{line_feeds}
 use Rattle.bpf_session.specs.Runs.{Leaves, Prints, GoesOn, BreaksOff}
-use Rattle.bpf_script.specs.ReadLines.{Buffer, Holds, ReadsLine, is_missing, is_last}
+use Rattle.bpfdb_commands.specs.ReadLines.{Buffer, Holds, ReadsLine, is_missing, is_last}
 use Rattle.bpf_session.specs.LineSteps.{ObeysLine}
 use Rattle.bpf_session.specs.declared.fault.RunFault.TheVariants.{Read, Write}
-use Rattle.bpf_script.specs.declared.line.NextLine.{NextLine}
-use Rattle.bpf_script.specs.declared.line.NextLine.TheVariants.{Ended, Last, Missing}
+use Rattle.bpfdb_commands.specs.declared.line.NextLine.{NextLine}
+use Rattle.bpfdb_commands.specs.declared.line.NextLine.TheVariants.{Ended, Last, Missing}
 
 -- what a writer holds after a text
 appended : (before after : Option (List ℕ)) (xs ys : List ℕ) → before ≡ Some xs → Appends before after ys → after ≡ Some (xs ++ ys)

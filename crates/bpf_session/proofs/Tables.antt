@@ -12,9 +12,9 @@ use Rattle.bpf_machine.specs.Regions.{index_of}
 use Rattle.bpf_session.specs.Points.{Point}
 use Rattle.bpf_session.specs.Refused.{when, edit_refusals, refusals_of, has_cell}
 use Rattle.bpf_session.specs.Stops.{has}
-use Rattle.bpf_script.specs.declared.command.Command.TheVariants.{Delete}
+use Rattle.bpfdb_commands.specs.declared.command.Command.TheVariants.{Delete}
 use Rattle.bpf_session.specs.declared.reply.Reply.TheVariants.{Ok as ok}
-use Rattle.bpf_script.specs.declared.refusal.Refusal.TheVariants.{ThereOrNot, NoCell}
+use Rattle.bpfdb_commands.specs.declared.refusal.Refusal.TheVariants.{ThereOrNot, NoCell}
 use Rattle.bpf_session.specs.EditRefusals.{refusal_for, answer_to}
 use Rattle.std.specs.Prelude.{Result, OnOk, IfErr, ◌&&◌, nat_lt, slice_get}
 use Rattle.bpf_machine.specs.State.{State}
@@ -30,7 +30,7 @@ use Rattle.bpf_session.specs.Sessions.{SessionValue, HasPast, StandsAt, Obeys, p
 use Rattle.bpf_session.specs.Tables.{with_edit, edit, without_break}
 use Rattle.bpf_session.proofs.Answering.{obeys_as, obeys_whole}
 use Rattle.bpf_session.proofs.Forwards.{OnlyMoment}
-use Rattle.bpf_script.specs.declared.refusal.Refusal.{Refusal}
+use Rattle.bpfdb_commands.specs.declared.refusal.Refusal.{Refusal}
 
 some_is : {A : Type 0} (o : Option A) (refusal : Refusal) → IsSome o → when (not (is_some o)) refusal ≡ []
 some_is None refusal h = cc

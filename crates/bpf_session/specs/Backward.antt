@@ -6,8 +6,8 @@ use Rattle.bpf_journal.specs.Lookups.{Test, latest, state_before}
 use Rattle.bpf_session.specs.Points.{Point}
 use Rattle.bpf_session.specs.Outcomes.{Outcome, replied}
 use Rattle.bpf_session.specs.Stops.{breaks_at, watch_differs}
-use Rattle.bpf_replies.specs.declared.why.Why.{Why}
-use Rattle.bpf_replies.specs.declared.why.Why.TheVariants.{Done, Start, Break, Watch}
+use Rattle.bpfdb_replies.specs.declared.why.Why.{Why}
+use Rattle.bpfdb_replies.specs.declared.why.Why.TheVariants.{Done, Start, Break, Watch}
 use Rattle.bpf_session.specs.declared.reply.Reply.TheVariants.{Back}
 
 -- The state before the k-th last move; the present one for k = 0.

@@ -7,8 +7,8 @@ use Rattle.bpf_session.specs.declared.reply.Reply.{Reply}
 use Rattle.bpf_session.specs.declared.reply.Reply.TheVariants as reply
 use Rattle.bpf_machine.specs.declared.edit.EditFault.{EditFault}
 use Rattle.bpf_machine.specs.declared.edit.EditFault.TheVariants as fault
-use Rattle.bpf_script.specs.declared.refusal.Refusal.{Refusal}
-use Rattle.bpf_script.specs.declared.refusal.Refusal.TheVariants.{AddressNotPresent, RegisterNotWritable, NoStart, NoCell, MachineEnded, OutOfMemory}
+use Rattle.bpfdb_commands.specs.declared.refusal.Refusal.{Refusal}
+use Rattle.bpfdb_commands.specs.declared.refusal.Refusal.TheVariants.{AddressNotPresent, RegisterNotWritable, NoStart, NoCell, MachineEnded, OutOfMemory}
 
 abbrev pub refusal_for : EditFault → Refusal
 refusal_for fault.AddressNotPresent = AddressNotPresent

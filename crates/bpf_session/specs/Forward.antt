@@ -9,10 +9,10 @@ use Rattle.bpf_journal.specs.Timelines.{record_of}
 use Rattle.bpf_session.specs.Points.{Point, Bounds}
 use Rattle.bpf_session.specs.Outcomes.{Outcome, refused, replied}
 use Rattle.bpf_session.specs.Stops.{breaks_at, watch_differs}
-use Rattle.bpf_replies.specs.declared.why.Why.{Why}
-use Rattle.bpf_replies.specs.declared.why.Why.TheVariants.{End, Break, Watch, Done, Limit, Memory}
+use Rattle.bpfdb_replies.specs.declared.why.Why.{Why}
+use Rattle.bpfdb_replies.specs.declared.why.Why.TheVariants.{End, Break, Watch, Done, Limit, Memory}
 use Rattle.bpf_session.specs.declared.reply.Reply.TheVariants.{Forward}
-use Rattle.bpf_script.specs.declared.refusal.Refusal.TheVariants.{OutOfMemory}
+use Rattle.bpfdb_commands.specs.declared.refusal.Refusal.TheVariants.{OutOfMemory}
 
 -- The state after so many steps.
 abbrev pub state_after : ℕ → State → State

@@ -7,16 +7,16 @@ use Rattle.bpf_journal.specs.Histories.{Record}
 use Rattle.bpf_session.specs.Backward.{back_by, marks}
 use Rattle.bpf_session.specs.Stops.{breaks_at, watch_differs}
 use Rattle.bpf_session.specs.Refused.{refusals_of}
-use Rattle.bpf_script.specs.Refusals.{number_of}
+use Rattle.bpfdb_commands.specs.Refusals.{number_of}
 use Rattle.bpf_session.specs.Meaning.{does}
 use Rattle.bpf_session.specs.Sessions.{refusals_after_all}
 use Rattle.bpf_session.specs.Output.{walk}
-use Rattle.bpf_script.specs.declared.command.Command.{Command}
-use Rattle.bpf_script.specs.declared.command.Command.TheVariants.{InfoRegisters, InfoFrames, InfoBreaks, InfoHistory, InfoTrace, Examine, Disassemble, LastWrite, Quit, Next, Finish, Undo, ReverseStep}
-use Rattle.bpf_script.specs.declared.refusal.Refusal.{Refusal}
-use Rattle.bpf_replies.specs.declared.why.Why.{Why}
+use Rattle.bpfdb_commands.specs.declared.command.Command.{Command}
+use Rattle.bpfdb_commands.specs.declared.command.Command.TheVariants.{InfoRegisters, InfoFrames, InfoBreaks, InfoHistory, InfoTrace, Examine, Disassemble, LastWrite, Quit, Next, Finish, Undo, ReverseStep}
+use Rattle.bpfdb_commands.specs.declared.refusal.Refusal.{Refusal}
+use Rattle.bpfdb_replies.specs.declared.why.Why.{Why}
 use Rattle.bpf_session.specs.declared.reply.Reply.TheVariants.{Forward, Back}
-use Rattle.bpf_replies.specs.declared.why.Why.TheVariants.{Done}
+use Rattle.bpfdb_replies.specs.declared.why.Why.TheVariants.{Done}
 
 -- A refused command changes nothing: neither history nor state, breakpoints or watches.
 abbrev pub RefusedChangesNothing : Type 0

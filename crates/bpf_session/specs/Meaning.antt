@@ -7,8 +7,8 @@ use Rattle.bpf_session.specs.Refused.{refusals_of}
 use Rattle.bpf_session.specs.Forward.{forward}
 use Rattle.bpf_session.specs.Backward.{undo, reverse_step, reverse_next, reverse_continue, reverse_finish}
 use Rattle.bpf_session.specs.Tables.{edit, with_break, without_break, with_watch, without_watch, last_write}
-use Rattle.bpf_script.specs.declared.command.Command.{Command}
-use Rattle.bpf_script.specs.declared.command.Command.TheVariants as command
+use Rattle.bpfdb_commands.specs.declared.command.Command.{Command}
+use Rattle.bpfdb_commands.specs.declared.command.Command.TheVariants as command
 use Rattle.bpf_session.specs.declared.reply.Reply.TheVariants as reply
 
 -- What a command comes to where it is not refused. The gap is None where the keeper keeps each of its moves, and else how many

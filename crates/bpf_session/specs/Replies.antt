@@ -2,14 +2,14 @@
 use Rattle.std.specs.Prelude.{ℕ, List, [], ◌++◌, Result, Ok, Err, IsSome, decimal, length, flat_map, sum_by}
 use lib.Chars.{codes}
 use Rattle.bpf_isa.specs.Programs.{IsStart}
-use Rattle.bpf_io.specs.Writing.{hexadecimal}
+use Rattle.counted_io.specs.Writing.{hexadecimal}
 use Rattle.bpf_machine.specs.Regions.{index_of}
 use Rattle.bpf_machine.specs.State.{State}
 use Rattle.bpf_journal.specs.Histories.{record_weight}
 use Rattle.bpf_journal.specs.declared.timeline.ByteChange.{ByteChange}
-use Rattle.bpf_script.specs.Refusals.{refusal_text}
-use Rattle.bpf_script.specs.declared.refusal.Refusal.{Refusal}
-use Rattle.bpf_replies.specs.Texts.{break_text, watch_text, or_none, text_of_state, text_of_frames, text_of_trace, text_of_bytes, instructions_from, text_of_move}
+use Rattle.bpfdb_commands.specs.Refusals.{refusal_text}
+use Rattle.bpfdb_commands.specs.declared.refusal.Refusal.{Refusal}
+use Rattle.bpfdb_replies.specs.Texts.{break_text, watch_text, or_none, text_of_state, text_of_frames, text_of_trace, text_of_bytes, instructions_from, text_of_move}
 use Rattle.bpf_session.specs.Points.{Point, Bounds}
 use Rattle.bpf_session.specs.Backward.{marks}
 use Rattle.bpf_session.specs.declared.reply.Reply.{Reply}

@@ -1,16 +1,16 @@
 -- What a run of a script leaves: in the session, in the writer and in the reader.
 use Rattle.std.specs.Prelude.{◌≡◌, ◌≤◌, ◌+◌, ℕ, suc, List, ◌++◌, Option, Some, Ok, length, take, drop}
 use Rattle.std.specs.List.{All}
-use Rattle.bpf_io.specs.Counted.{Tally, one_more}
-use Rattle.bpf_io.specs.Writing.{AppendsBeginning}
+use Rattle.counted_io.specs.Counted.{Tally, one_more}
+use Rattle.counted_io.specs.Writing.{AppendsBeginning}
 use Rattle.bpf_journal.specs.Histories.{Record, Kept}
 use Rattle.bpf_session.specs.Points.{Point, Bounds}
 use Rattle.bpf_session.specs.Sessions.{SessionValue, StandsAt, bounds_of, point_of, refusals_after_all}
-use Rattle.bpf_io.specs.Lines.{lines}
-use Rattle.bpf_script.specs.Lines.{line_feeds}
-use Rattle.bpf_script.specs.Commands.{command_of}
+use Rattle.counted_io.specs.Lines.{lines}
+use Rattle.bpfdb_commands.specs.Lines.{line_feeds}
+use Rattle.bpfdb_commands.specs.Commands.{command_of}
 use Rattle.bpf_session.specs.Output.{Walk, walk}
-use Rattle.bpf_script.specs.declared.command.Command.TheVariants.{Quit}
+use Rattle.bpfdb_commands.specs.declared.command.Command.TheVariants.{Quit}
 use Rattle.bpf_session.specs.declared.fault.RunFault.{RunFault}
 use Rattle.bpf_session.specs.declared.fault.RunFault.TheVariants.{Read, Write}
 

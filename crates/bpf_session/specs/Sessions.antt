@@ -6,7 +6,7 @@ use Rattle.bpf_journal.specs.Timelines.{Moment}
 use Rattle.bpf_session.specs.Points.{Point, Bounds}
 use Rattle.bpf_session.specs.Outcomes.{Outcome}
 use Rattle.bpf_session.specs.declared.reply.Reply.{Reply}
-use Rattle.bpf_script.specs.declared.refusal.Refusal.{Refusal}
+use Rattle.bpfdb_commands.specs.declared.refusal.Refusal.{Refusal}
 
 -- The present state with the keeper of the moves that led to it, the breakpoints and the watches in order of setting, and the limit of
 -- steps of a command.

@@ -1,12 +1,12 @@
 //! Runs without history.
 ghost use Rattle.std.specs.Prelude.{◌≡◌, ◌≢◌, ◌++◌, IfErr, IfOk, Ok, codes};
-ghost use Rattle.bpf_io.specs.Writing.{Writes, hexadecimal};
+ghost use Rattle.counted_io.specs.Writing.{Writes, hexadecimal};
 ghost use Rattle.bpf_session.specs.Plain.{ending_of, plain_end, text_of_ending};
 
 use crate::fault::RunFault;
-use bpf_io::{Counted, WriteFault, put, put_hexadecimal};
 use bpf_machine::{Cpu, Ended, Status};
-use bpf_replies::number_in;
+use bpfdb_replies::number_in;
+use counted_io::{Counted, WriteFault, put, put_hexadecimal};
 use std::io::Write;
 
 /// How a run ended.

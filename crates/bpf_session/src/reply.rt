@@ -1,8 +1,8 @@
 //! Replies: the answers to commands.
 
 use bpf_journal::ByteChange;
-use bpf_replies::Why;
-use bpf_script::Span;
+use bpfdb_commands::Span;
+use bpfdb_replies::Why;
 
 /// The answer to a command. Its text is written from the session's state.
 #[derive(Clone, Copy)]

@@ -1,8 +1,8 @@
 //! Scripts: lines from a reader, obeyed one after another, and their replies to a writer.
 ghost use Rattle.std.specs.Prelude.{◌≡◌, List, ℕ, IfErr, IfOk, OnOk, Some, true};
-ghost use Rattle.bpf_io.specs.Writing.{Writes};
+ghost use Rattle.counted_io.specs.Writing.{Writes};
 ghost use Rattle.bpf_journal.specs.Histories.{Record};
-ghost use Rattle.bpf_script.specs.ReadLines.{Holds};
+ghost use Rattle.bpfdb_commands.specs.ReadLines.{Holds};
 ghost use Rattle.bpf_session.specs.LineSteps.{FailsOnce, ObeysLine};
 ghost use Rattle.bpf_session.specs.Output.{is_quit};
 ghost use Rattle.bpf_session.specs.Replies.{IsThere, text_of_answer};
@@ -12,10 +12,10 @@ ghost use Rattle.bpf_session.specs.Sessions.{HasPast, bounds_of, point_of};
 use crate::fault::RunFault;
 use crate::reply::Reply;
 use crate::session::Session;
-use bpf_io::{Counted, WriteFault};
 use bpf_journal::Keeper;
-use bpf_replies::put_refusal;
-use bpf_script::{Command, LineBuffer, Refusal, next_line};
+use bpfdb_commands::{Command, LineBuffer, Refusal, next_line};
+use bpfdb_replies::put_refusal;
+use counted_io::{Counted, WriteFault};
 use std::io::{Read, Write};
 
 /// Whether a command ends the session.

@@ -1,7 +1,7 @@
 //! Sessions: commands over a machine and the keeper of its moves.
 ghost use Rattle.std.specs.Prelude.{◌≡◌, ◌≤◌, [], List, IfOk};
 ghost use Rattle.bpf_journal.specs.Histories.{HasHistory, Record};
-ghost use Rattle.bpf_script.specs.Limits.{greatest_count};
+ghost use Rattle.bpfdb_commands.specs.Limits.{greatest_count};
 ghost use Rattle.bpf_session.specs.Meaning.{does};
 ghost use Rattle.bpf_session.specs.Replies.{IsThere};
 ghost use Rattle.bpf_session.specs.Sessions.{HasPast, Obeys, bounds_of, point_of};
@@ -19,7 +19,7 @@ use crate::until::Until;
 use crate::watches::Watches;
 use bpf_journal::{Keeper, Timeline};
 use bpf_machine::Cpu;
-use bpf_script::{Command, Refusal};
+use bpfdb_commands::{Command, Refusal};
 use std::marker::Model;
 
 /// A session of commands.

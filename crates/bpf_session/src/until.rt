@@ -3,7 +3,7 @@ ghost use Rattle.std.specs.Prelude.{◌≡◌};
 ghost use Rattle.bpf_machine.specs.State.{State, depth as depth_of};
 ghost use Rattle.bpf_session.specs.Until.{done_by};
 
-use bpf_script::Count;
+use bpfdb_commands::Count;
 
 /// When a forward command is done.
 #[derive(Clone, Copy)]

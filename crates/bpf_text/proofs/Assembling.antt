@@ -6,7 +6,7 @@ use Rattle.bpf_text.specs.declared.fault.LineFault.{LineFault}
 use Rattle.bpf_text.specs.declared.fault.AsmFault.{AsmFault}
 use Rattle.bpf_text.specs.declared.fault.AsmFault.TheVariants.{Line, Memory}
 use Rattle.bpf_text.specs.declared.read.line.Line.{Line as LineSaid}
-use Rattle.bpf_io.specs.Lines.{lines}
+use Rattle.counted_io.specs.Lines.{lines}
 use Rattle.bpf_text.specs.Laws.{HasOneReading, HaveOneAssembly}
 use Rattle.bpf_text.specs.Scaffolding.Lines.{read_line, MemoryOr}
 use Rattle.bpf_text.specs.Listing.{Outline, AreReadings, AreWords, IsListing, IsFaultOf, after_first_round, second_round, rounds}

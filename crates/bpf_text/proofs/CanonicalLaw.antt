@@ -9,7 +9,7 @@ use Rattle.bpf_isa.specs.declared.instruction.Insn.{Insn}
 use Rattle.bpf_isa.specs.Programs.{Checked, IsProgram, target_of, slots_of}
 use Rattle.bpf_isa.specs.Checker.{is_start, is_wide_at, piece_at}
 use Rattle.bpf_isa.specs.Words.{IsWord, row_of}
-use Rattle.bpf_io.specs.Lines.{lines}
+use Rattle.counted_io.specs.Lines.{lines}
 use Rattle.bpf_text.specs.Canonical.{is_target, goes_to, canon}
 use Rattle.bpf_text.specs.Scaffolding.Lines.{read_line}
 use Rattle.bpf_text.specs.Listing.{Labels, no_label, nothing, first_round, after_first_round, rounds, AreWords, IsListing}

@@ -2,10 +2,10 @@
 use Rattle.std.proofs.Common.{ℕ, ◌≡◌, ◌<◌, ◌+◌, ◌^◌, Bool, true, false, List, [], ◌∷◌, ◌++◌, length, refl, ap, ◌∙◌, arith, codes, Option, Some, None, append_assoc}
 use Rattle.bpf_isa.specs.declared.instruction.Insn.{Insn}
 use Rattle.bpf_isa.specs.Programs.{target_of}
-use Rattle.bpf_io.specs.Lines.{lines}
+use Rattle.counted_io.specs.Lines.{lines}
 use Rattle.bpf_text.specs.Operands.{text_of_insn, label_text}
 use Rattle.bpf_text.specs.Canonical.{slot_lines, lines_from}
-use Rattle.bpf_io.proofs.Lines.{lines-first}
+use Rattle.counted_io.proofs.Lines.{lines-first}
 use Rattle.bpf_text.proofs.InsnTexts.{InsnFits, TargetFits}
 use Rattle.bpf_text.proofs.LineTexts.{Reads-insn, Reads-label}
 

@@ -2,7 +2,7 @@
 use Rattle.std.proofs.Common.{ℕ, suc, ◌==◌, length-drop, ◌≡◌, ◌<◌, ◌≤◌, ◌+◌, ◌-◌, Bool, true, false, List, [], ◌∷◌, ◌++◌, take, length, get_or, refl, ap, sym, ◌∙◌, arith}
 use Rattle.std.specs.List.{position_or_len}
 use Rattle.std.proofs.lemmas.List.{take_more}
-use Rattle.bpf_io.specs.Lines.{is_blank, lines, onto_line}
+use Rattle.counted_io.specs.Lines.{is_blank, lines, onto_line}
 use Rattle.bpf_text.specs.Scaffolding.Cuts.{onto_trimmed, trim_end, before, after}
 
 -- a blank at the end is trimmed

@@ -7,13 +7,13 @@ use Rattle.std.proofs.lemmas.Slice.Eq.{bytes_eq-Decides}
 use Rattle.std.proofs.lemmas.Bool.{eqb-true}
 use Rattle.std.proofs.lemmas.Bool.Decides.{nat_tests}
 use Rattle.std.proofs.lemmas.List.{append-nil}
-use Rattle.bpf_io.proofs.Naturals.{and-both}
+use Rattle.counted_io.proofs.Naturals.{and-both}
 use Rattle.bpf_isa.specs.declared.instruction.Insn.{Insn}
 use Rattle.bpf_isa.specs.declared.mnemonic.Mnemonic.{Mnemonic}
 use Rattle.bpf_text.specs.declared.read.statement.Statement.{Statement}
 use Rattle.bpf_text.specs.declared.read.table.TheConstants.{MNEMONICS}
 use Rattle.bpf_text.specs.declared.read.term.Terms.{Terms}
-use Rattle.bpf_io.specs.Lines.{is_blank, trim_start}
+use Rattle.counted_io.specs.Lines.{is_blank, trim_start}
 use Rattle.bpf_text.specs.Characters.{is_name, is_text}
 use Rattle.bpf_text.specs.Scaffolding.Cuts.{is_labelled, before, after, code_of, trim, trim_end, mnemonic_part}
 use Rattle.bpf_text.specs.Scaffolding.Cuts as cuts

@@ -9,7 +9,7 @@ use Rattle.bpf_text.specs.declared.write.operand.Operand.{Operand}
 use Rattle.bpf_text.specs.declared.write.operand.Operands.{Operands}
 use Rattle.bpf_text.specs.declared.write.operand.Operands.TheVariants.{Nothing, One, Two, Three}
 use Rattle.bpf_text.specs.declared.read.statement.Statement.{Statement}
-use Rattle.bpf_io.specs.Lines.{is_blank, trim_start}
+use Rattle.counted_io.specs.Lines.{is_blank, trim_start}
 use Rattle.bpf_text.specs.Characters.{is_text, is_name}
 use Rattle.bpf_text.specs.Scaffolding.Cuts.{before, after, trim, code_of, is_labelled, mnemonic_part}
 use Rattle.bpf_text.specs.Scaffolding.Cuts as cuts

@@ -9,16 +9,16 @@ use Rattle.std.specs.Char.{digit_value}
 use Rattle.std.proofs.lemmas.Bool.{eq-eqb, eqb-true}
 use Rattle.std.proofs.lemmas.Bool.Decides.{nat_tests}
 use Rattle.std.proofs.lemmas.List.Sums.{prefix_len-le-length}
-use Rattle.bpf_io.proofs.Naturals.{and-both, digit-other, list_all-AllDigits, natural-says, says-natural}
+use Rattle.counted_io.proofs.Naturals.{and-both, digit-other, list_all-AllDigits, natural-says, says-natural}
 use Rattle.bpf_text.specs.declared.read.number.Number.{Number}
 use Rattle.bpf_text.specs.declared.read.term.OperandForm.{OperandForm}
 use Rattle.bpf_text.specs.declared.read.term.OperandForm.TheVariants as form
 use Rattle.bpf_text.specs.declared.read.term.Term.{Term}
 use Rattle.bpf_text.specs.declared.read.term.Term.TheVariants as term
-use Rattle.bpf_io.specs.Lines.{is_blank, trim_start}
+use Rattle.counted_io.specs.Lines.{is_blank, trim_start}
 use Rattle.bpf_text.specs.Characters.{is_name}
 use Rattle.bpf_text.specs.Scaffolding.Cuts.{trim, trim_end, onto_trimmed, before}
-use Rattle.bpf_io.specs.Numerals.{IsNatural, natural}
+use Rattle.counted_io.specs.Numerals.{IsNatural, natural}
 use Rattle.bpf_text.specs.Grammar.{IsRegister, IsSigned, Padded, IsDisplaced, IsInside, IsOperand}
 use Rattle.bpf_text.specs.Scaffolding.Terms.{signed, is_sign, is_bracketed}
 use Rattle.bpf_text.specs.Tokens.{register, number_of}

@@ -2,7 +2,7 @@
 use Rattle.std.proofs.Common.{ℕ, ◌≡◌, ◌<◌, ◌+◌, ◌==◌, Bool, true, false, not, ◌↔◌, List, [], ◌∷◌, ◌++◌, length, length-append, refl, ap, sym, ◌∙◌, arith, Option, Some, None, option_map, option_and_then, subst, append_assoc, inl, inr}
 use Rattle.std.proofs.lemmas.List.{append-nil}
 use Rattle.std.proofs.lemmas.Bool.Decides.{nat_tests}
-use Rattle.bpf_io.proofs.Naturals.{and-both}
+use Rattle.counted_io.proofs.Naturals.{and-both}
 use Rattle.bpf_text.specs.declared.read.number.Number.{Number}
 use Rattle.bpf_text.specs.declared.read.term.OperandForm.{OperandForm}
 use Rattle.bpf_text.specs.declared.read.term.OperandForm.TheVariants as form
@@ -11,10 +11,10 @@ use Rattle.bpf_text.specs.declared.read.term.OperandForms.TheVariants as forms
 use Rattle.bpf_text.specs.declared.read.term.Term.{Term}
 use Rattle.bpf_text.specs.declared.read.term.Term.TheVariants as term
 use Rattle.bpf_text.specs.declared.read.term.Terms.{Terms}
-use Rattle.bpf_io.specs.Lines.{is_blank}
+use Rattle.counted_io.specs.Lines.{is_blank}
 use Rattle.bpf_text.specs.Characters.{is_letter, is_name, is_name_byte}
 use Rattle.bpf_text.specs.Scaffolding.Cuts.{trim, trim_end, first_operand, other_operands, before, after}
-use Rattle.bpf_io.specs.Numerals.{IsNatural}
+use Rattle.counted_io.specs.Numerals.{IsNatural}
 use Rattle.bpf_text.specs.Grammar.{IsRegister, IsSigned, IsInside, IsDisplaced, IsOperand, AreOperands, Padded}
 use Rattle.bpf_text.specs.Grammar.{two, three, one}
 use Rattle.bpf_text.specs.Scaffolding.Terms.{terms_of, term_of}

@@ -9,7 +9,7 @@ use Rattle.bpf_text.specs.declared.fault.AsmFault.{AsmFault}
 use Rattle.bpf_text.specs.declared.fault.AsmFault.TheVariants.{Line}
 use Rattle.bpf_text.specs.declared.read.first_round.Placed.{Placed}
 use Rattle.bpf_text.specs.declared.read.line.Line.{Line as LineSaid}
-use Rattle.bpf_io.specs.Lines.{lines}
+use Rattle.counted_io.specs.Lines.{lines}
 use Rattle.bpf_text.specs.Scaffolding.Cuts.{before, after}
 use Rattle.bpf_text.specs.Scaffolding.Lines.{read_line}
 use Rattle.bpf_text.specs.LineGrammar.{LineReading}

@@ -5,9 +5,9 @@ use Rattle.std.specs.Char.{digit_value}
 use Rattle.std.proofs.lemmas.Bool.{eqb-true}
 use Rattle.std.proofs.lemmas.Bool.Decides.{nat_tests}
 use Rattle.std.proofs.lemmas.Fmt.{decimal_digit, decimal_step}
-use Rattle.bpf_io.proofs.Naturals.{digit-other, list_all-AllDigits, natural-says, says-natural}
+use Rattle.counted_io.proofs.Naturals.{digit-other, list_all-AllDigits, natural-says, says-natural}
 use Rattle.bpf_text.specs.declared.read.number.Number.{Number}
-use Rattle.bpf_io.specs.Numerals.{IsNatural, natural}
+use Rattle.counted_io.specs.Numerals.{IsNatural, natural}
 use Rattle.bpf_text.specs.Grammar.{IsRegister, IsSigned}
 use Rattle.bpf_text.specs.Scaffolding.Terms.{is_negative, signed}
 use Rattle.bpf_text.specs.Tokens.{register, number_of}

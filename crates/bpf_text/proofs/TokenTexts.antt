@@ -2,7 +2,7 @@
 use Rattle.std.proofs.Common.{ℕ, ℤ, pos, negsuc, zero, suc, ◌≡◌, ◌<◌, ◌≤◌, ◌+◌, ◌-◌, ◌%◌, ◌^◌, ◌==◌, Bool, true, false, ◌&&◌, not, List, [], ◌∷◌, ◌++◌, length, refl, ap, ◌∙◌, arith, inl, inr, lit<, lit≤, nat_lt, nat_le, Some, None, option_map, w32, w16, SFits, slice_index, length-append}
 use Rattle.std.proofs.Math.Seq.{get_or-append_seam, drop-append-add, take-append_seam}
 use Rattle.std.proofs.lemmas.Bool.{eq-eqb}
-use Rattle.bpf_io.proofs.Naturals.{and-both, numeral-digits, decimal-no-prefix}
+use Rattle.counted_io.proofs.Naturals.{and-both, numeral-digits, decimal-no-prefix}
 use Rattle.bpf_text.specs.declared.write.operand.Operand.TheVariants.{Memory}
 use Rattle.std.specs.List.{list_all}
 use Rattle.std.specs.Fmt.{decimal, digits, signed_decimal}
@@ -16,11 +16,11 @@ use Rattle.bpf_text.specs.declared.read.term.Term.{Term}
 use Rattle.bpf_text.specs.declared.read.term.Term.TheVariants as term
 use Rattle.bpf_text.specs.Characters.{is_name, is_name_byte}
 use Rattle.bpf_text.specs.Scaffolding.Cuts.{trim}
-use Rattle.bpf_io.specs.Numerals.{natural}
+use Rattle.counted_io.specs.Numerals.{natural}
 use Rattle.bpf_text.specs.Scaffolding.Terms.{is_negative, signed, is_sign}
 use Rattle.bpf_text.specs.Tokens.{register, number_of, unsigned, immediate, wide, offset}
 use Rattle.bpf_text.specs.Scaffolding.Terms.{memory, base_and_displacement, displacement}
-use Rattle.bpf_io.specs.Writing.{hexadecimal}
+use Rattle.counted_io.specs.Writing.{hexadecimal}
 use Rattle.bpf_text.specs.Operands.{register_text, label_text, operand_text}
 use Rattle.bpf_text.proofs.PlainTexts.{are_plain, list_all-append, list_all-weaken, are_plain-decimal, position_or_len-at, before_first-at, trim-plain}
 

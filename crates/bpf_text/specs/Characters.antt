@@ -1,7 +1,7 @@
 -- The characters of a listing, and its names. They are bpfdb's own choice.
 use Rattle.std.specs.Prelude.{ℕ, Bool, false, ◌==◌, ◌&&◌, ◌||◌, nat_le, List, [], ◌∷◌}
 use Rattle.std.specs.List.{list_all}
-use Rattle.bpf_io.specs.Lines.{is_blank}
+use Rattle.counted_io.specs.Lines.{is_blank}
 
 -- What may stand outside comments: printing ASCII and blanks.
 abbrev pub is_text : ℕ → Bool

@@ -9,8 +9,8 @@ use Rattle.bpf_text.specs.declared.read.term.Term.TheVariants.{Register, Number 
 use Rattle.bpf_text.specs.declared.read.term.Terms.{Terms}
 use Rattle.bpf_text.specs.declared.read.term.OperandForms.{OperandForms}
 use Rattle.bpf_text.specs.declared.read.term.OperandForms.TheVariants.{Nothing, One, Two, Three}
-use Rattle.bpf_io.specs.Lines.{is_blank}
-use Rattle.bpf_io.specs.Numerals.{IsNatural}
+use Rattle.counted_io.specs.Lines.{is_blank}
+use Rattle.counted_io.specs.Numerals.{IsNatural}
 use Rattle.bpf_text.specs.Characters.{is_name}
 use Rattle.bpf_text.specs.Tokens.{number_of}
 

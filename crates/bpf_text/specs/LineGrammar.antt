@@ -7,7 +7,7 @@ use Rattle.bpf_text.specs.declared.fault.LineFault.TheVariants.{UnknownMnemonic,
 use Rattle.bpf_text.specs.declared.read.line.Line.{Line}
 use Rattle.bpf_text.specs.declared.read.statement.Statement.{Statement}
 use Rattle.bpf_text.specs.declared.read.term.Terms.{Terms}
-use Rattle.bpf_io.specs.Lines.{is_blank}
+use Rattle.counted_io.specs.Lines.{is_blank}
 use Rattle.bpf_text.specs.Characters.{is_name, is_text}
 use Rattle.bpf_text.specs.Grammar.{AreOperands}
 use Rattle.bpf_text.specs.Mnemonics.{name_of}

@@ -12,7 +12,7 @@ use Rattle.bpf_text.specs.declared.read.first_round.Placed.{Placed}
 use Rattle.bpf_text.specs.declared.read.labels.Definition.{Definition}
 use Rattle.bpf_text.specs.declared.read.line.Line.{Line as LineSaid}
 use Rattle.bpf_text.specs.declared.read.statement.Statement.{Statement}
-use Rattle.bpf_io.specs.Lines.{lines}
+use Rattle.counted_io.specs.Lines.{lines}
 use Rattle.bpf_text.specs.LineGrammar.{IsReading}
 use Rattle.bpf_text.specs.LineGrammar.{LineReading}
 

@@ -11,7 +11,7 @@ use Rattle.bpf_text.specs.declared.write.operand.Operands.{Operands}
 use Rattle.bpf_text.specs.declared.write.operand.Operands.TheVariants.{Nothing, One, Two, Three}
 use Rattle.bpf_isa.specs.Mnemonics.{mnemonic_of}
 use Rattle.bpf_text.specs.Mnemonics.{name_of}
-use Rattle.bpf_io.specs.Writing.{hexadecimal}
+use Rattle.counted_io.specs.Writing.{hexadecimal}
 
 -- A whole number that can be a slot.
 abbrev pub IsSlot : ℤ → Type 0

@@ -1,15 +1,15 @@
 //! The program: a debugger that runs a BPF program (RFC 9669) forwards and backwards.
 #![tactic(auto)]
 
-ghost use Rattle.bpf_tool.specs.Jobs.{IsLimit};
+ghost use Rattle.bpfdb_jobs.specs.Jobs.{IsLimit};
 
 mod fault;
 mod files;
 
-use bpf_io::Counted;
-use bpf_plan::{Plan, PlanFault, plan};
-use bpf_tool::{Job, JobFault, Subcommand, give_up, tool};
+use bpfdb_cli::{Plan, PlanFault, plan};
+use bpfdb_jobs::{Job, JobFault, Subcommand, give_up, tool};
 use clap::Error;
+use counted_io::Counted;
 use fault::{FileFault, WordsFault};
 use files::{PROGRAM_BYTES, read_beginning, read_context, read_listing};
 use std::alloc::Global;

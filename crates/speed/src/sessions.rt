@@ -4,8 +4,8 @@
 use bpf_isa::{MapTable, check};
 use bpf_journal::{ListKeeper, Timeline};
 use bpf_machine::Cpu;
-use bpf_script::Command;
 use bpf_session::Session;
+use bpfdb_commands::Command;
 use std::alloc::Global;
 use std::io;
 use std::time::Instant;

@@ -10,14 +10,14 @@ ghost use Rattle.bpf_session.specs.Replies.{IsThere};
 ghost use Rattle.bpf_session.specs.Sessions.{HasPast, Obeys, point_of};
 ghost use Rattle.bpf_session.specs.Sought.{GoesBackTo, test_of};
 ghost use Rattle.bpf_session.specs.Stops.{some_differs};
-ghost use Rattle.bpf_script.specs.declared.command.Command.TheVariants as command_of;
+ghost use Rattle.bpfdb_commands.specs.declared.command.Command.TheVariants as command_of;
 
 use super::Session;
 use crate::reply::Reply;
 use crate::sought::{Found, Sought};
 use bpf_journal::{Keeper, Taken};
-use bpf_replies::Why;
-use bpf_script::{Count, Refusal};
+use bpfdb_commands::{Count, Refusal};
+use bpfdb_replies::Why;
 
 impl<K: Keeper> Session<K> {
     /// Takes back the commands that moved, from the last marked move on to the `count`-th last one. Q5 where fewer are kept.

@@ -1,9 +1,9 @@
 //! The text of the latest change of a byte.
-ghost use Rattle.bpf_io.specs.Writing.{WritesAfter};
+ghost use Rattle.counted_io.specs.Writing.{WritesAfter};
 ghost use Rattle.bpf_session.specs.Replies.{text_of_change};
 
-use bpf_io::{Counted, WriteFault, put, put_decimal, put_hexadecimal};
 use bpf_journal::ByteChange;
+use counted_io::{Counted, WriteFault, put, put_decimal, put_hexadecimal};
 use std::io::Write;
 
 /// Writes how many moves back a byte was changed, and its values before and after.

@@ -10,14 +10,14 @@ ghost use Rattle.bpf_session.specs.Replies.{IsThere};
 ghost use Rattle.bpf_session.specs.Sessions.{HasPast, Obeys, bounds_of, point_of};
 ghost use Rattle.bpf_session.specs.Stops.{some_differs};
 ghost use Rattle.bpf_session.specs.Until.{done_by};
-ghost use Rattle.bpf_script.specs.declared.command.Command.TheVariants as command_of;
+ghost use Rattle.bpfdb_commands.specs.declared.command.Command.TheVariants as command_of;
 
 use super::Session;
 use crate::reply::Reply;
 use crate::until::Until;
 use bpf_journal::{Keeper, TimelineFault};
-use bpf_replies::Why;
-use bpf_script::Refusal;
+use bpfdb_commands::Refusal;
+use bpfdb_replies::Why;
 
 impl<K: Keeper> Session<K> {
     /// Takes a step, and those of the function that it calls, or up to another stop. Q3 where the machine has ended, Q15 where the keeper

@@ -1,18 +1,18 @@
 //! What is printed for a reply.
 ghost use Rattle.std.specs.Prelude.{List};
 ghost use Rattle.bpf_journal.specs.Histories.{Record};
-ghost use Rattle.bpf_io.specs.Writing.{Writes, WritesAfter};
+ghost use Rattle.counted_io.specs.Writing.{Writes, WritesAfter};
 ghost use Rattle.bpf_session.specs.Replies.{IsThere, text_of_history, text_of_reply, text_of_unchanged};
 ghost use Rattle.bpf_session.specs.Sessions.{HasPast, bounds_of, point_of};
 
 use super::Session;
 use super::changes::put_change;
 use crate::reply::Reply;
-use bpf_io::{Counted, WriteFault, put, put_decimal};
 use bpf_journal::Keeper;
-use bpf_replies::{
+use bpfdb_replies::{
     put_breaks, put_bytes, put_frames, put_instructions, put_move, put_state, put_trace,
 };
+use counted_io::{Counted, WriteFault, put, put_decimal};
 use std::io::Write;
 
 impl<K: Keeper> Session<K> {

@@ -9,14 +9,14 @@ ghost use Rattle.bpf_session.specs.Sessions.{HasPast, Obeys, bounds_of, point_of
 ghost use Rattle.bpf_session.specs.EditRefusals.{answer_to as answer_of, refusal_for};
 ghost use Rattle.bpf_isa.specs.Programs.{IsStart};
 ghost use Rattle.bpf_session.specs.Tables.{edit as edit_of, last_write, with_break, with_watch, without_break, without_watch};
-ghost use Rattle.bpf_script.specs.declared.command.Command.TheVariants as command_of;
+ghost use Rattle.bpfdb_commands.specs.declared.command.Command.TheVariants as command_of;
 
 use super::Session;
 use crate::reply::Reply;
 use crate::watches::byte_at;
 use bpf_journal::{Keeper, MoveFault, TimelineFault};
 use bpf_machine::{Edit, EditFault};
-use bpf_script::{Refusal, Span};
+use bpfdb_commands::{Refusal, Span};
 
 impl<K: Keeper> Session<K> {
     /// Makes an edit, a marked move. Q6, Q7, Q8 or Q14 where it can't be made, Q15 where the keeper can't keep it.

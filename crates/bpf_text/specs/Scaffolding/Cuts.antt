@@ -1,7 +1,7 @@
 -- Scaffolding: how a line is cut as it is read.
 use Rattle.std.specs.Prelude.{ℕ, Bool, ◌==◌, ◌&&◌, nat_lt, if◌then◌else◌, List, [], ◌∷◌, length}
 use Rattle.std.specs.List.{position_or_len, before_first, after_first}
-use Rattle.bpf_io.specs.Lines.{is_blank, trim_start}
+use Rattle.counted_io.specs.Lines.{is_blank, trim_start}
 use Rattle.bpf_text.specs.Characters.{is_name}
 
 -- What stands before the first byte, or all.

@@ -9,7 +9,7 @@ use Rattle.bpf_text.specs.declared.fault.AsmFault.TheVariants.{Line, Memory}
 use Rattle.bpf_text.specs.declared.read.line.Line.{Line as LineSaid}
 use Rattle.bpf_text.specs.declared.read.statement.Statement.{Statement}
 use Rattle.bpf_text.specs.declared.read.term.Terms.{Terms}
-use Rattle.bpf_io.specs.Lines.{trim_start}
+use Rattle.counted_io.specs.Lines.{trim_start}
 use Rattle.bpf_text.specs.Characters.{is_text}
 use Rattle.bpf_text.specs.Instructions.{forms_of, insn_with, target_in}
 use Rattle.bpf_text.specs.LineGrammar.{LineReading}

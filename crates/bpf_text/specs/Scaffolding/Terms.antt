@@ -9,7 +9,7 @@ use Rattle.bpf_text.specs.declared.read.term.OperandForms.TheVariants.{Nothing, 
 use Rattle.bpf_text.specs.declared.read.term.Term.{Term}
 use Rattle.bpf_text.specs.declared.read.term.Term.TheVariants.{Register, Number as Num, Memory, Name, Absent}
 use Rattle.bpf_text.specs.declared.read.term.Terms.{Terms}
-use Rattle.bpf_io.specs.Numerals.{natural}
+use Rattle.counted_io.specs.Numerals.{natural}
 use Rattle.bpf_text.specs.Characters.{is_name}
 use Rattle.bpf_text.specs.Grammar.{one, two, three}
 use Rattle.bpf_text.specs.Scaffolding.Cuts.{trim, before, first_operand, other_operands}

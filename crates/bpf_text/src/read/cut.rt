@@ -4,7 +4,7 @@ ghost use Rattle.std.specs.List.{position_or_len, list_all};
 ghost use Rattle.bpf_text.specs.Characters.{is_text, is_name, is_name_byte, is_letter};
 ghost use Rattle.bpf_text.specs.Scaffolding.Cuts.{before, after, trim_end, trim};
 
-use bpf_io::{is_blank, trim_start};
+use counted_io::{is_blank, trim_start};
 
 /// Whether a byte may stand outside comments.
 pub fn is_text(byte: u8) -> bool
@@ -14,7 +14,7 @@ pub fn is_text(byte: u8) -> bool
 }
 
 /// Where the byte first stands, or the length.
-#[tactic(auto, using(bpf_io::proofs::Places::unwrap_or_position))]
+#[tactic(auto, using(counted_io::proofs::Places::unwrap_or_position))]
 pub fn find(text: &[u8], byte: u8) -> usize
     ensures value { result ≡ position_or_len (λ b. b == byte) text.now }
     ensures within { result ≤ length text.now }

@@ -1,6 +1,6 @@
 //! The first round over a listing: its labels, its statements in their places, and the faults of its lines.
 ghost use Rattle.std.specs.Prelude.{◌≡◌, ◌≤◌, ◌+◌, ℕ, List, IfOk, IfErr, OnOk, Ok, Err, map, nat_le, if◌then◌else◌};
-ghost use Rattle.bpf_io.specs.Lines.{lines};
+ghost use Rattle.counted_io.specs.Lines.{lines};
 ghost use Rattle.bpf_text.specs.Scaffolding.Lines.{read_line, MemoryOr};
 ghost use Rattle.bpf_text.specs.Listing.{first_round, nothing, line_end, slot_after, label_of, labels_with, statement_of, statement_or_none, placed_with};
 ghost use Rattle.bpf_text.specs.Scaffolding.Labels.{labels_in, labels_of, placed_of};

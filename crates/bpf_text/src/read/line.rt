@@ -9,7 +9,7 @@ use crate::fault::LineFault;
 use crate::read::cut::{after, before, find, is_name, is_text, trim};
 use crate::read::statement::{Statement, read_statement};
 use crate::read::term::Name;
-use bpf_io::trim_start;
+use counted_io::trim_start;
 
 /// What a line says.
 #[derive(Drop)]

@@ -3,7 +3,7 @@ ghost use Rattle.std.specs.Prelude.{◌≡◌};
 ghost use Rattle.bpf_text.specs.Scaffolding.Terms.{is_negative, signed};
 ghost use Rattle.bpf_text.specs.Tokens.{unsigned, immediate, wide, offset};
 
-use bpf_io::{Numeral, natural};
+use counted_io::{Numeral, natural};
 
 /// A number, which may have a minus.
 #[derive(Drop)]

@@ -8,8 +8,8 @@ use crate::fault::LineFault;
 use crate::read::cut::trim;
 use crate::read::table::named;
 use crate::read::term::{Name, OperandForm, OperandForms, Terms, read_terms};
-use bpf_io::find_blank;
 use bpf_isa::{Insn, Mnemonic};
+use counted_io::find_blank;
 
 /// An instruction of a listing, and the name of its target, if it has one.
 #[derive(Drop)]

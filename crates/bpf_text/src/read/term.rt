@@ -10,8 +10,8 @@ ghost use Rattle.bpf_text.specs.Scaffolding.Cuts.{first_operand, other_operands}
 use crate::read::cut::{after, before, find, is_name, trim};
 use crate::read::number::{Number, signed};
 use crate::read::register::parse_register;
-use bpf_io::{Numeral, natural};
 use bpf_isa::{Reg, Source};
+use counted_io::{Numeral, natural};
 use std::marker::Model;
 
 /// How an operand is written.
@@ -294,7 +294,7 @@ fn sign_position(text: &[u8]) -> Option<usize>
     text.iter().position(|byte| is_sign(*byte))
 }
 
-#[tactic(auto, using(bpf_io::proofs::Places::unwrap_or_position))]
+#[tactic(auto, using(counted_io::proofs::Places::unwrap_or_position))]
 fn find_sign(text: &[u8]) -> usize
     ensures value { result ≡ position_or_len is_sign text.now }
     ensures within { result ≤ length text.now }

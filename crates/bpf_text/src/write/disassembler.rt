@@ -3,12 +3,12 @@ ghost use Rattle.std.specs.Prelude.{◌≡◌, ◌≤◌, ◌<◌, ◌++◌, ℕ
 ghost use Rattle.bpf_isa.specs.Programs.{target_of};
 ghost use Rattle.bpf_text.specs.Operands.{IsSlot};
 ghost use Rattle.bpf_text.specs.Canonical.{canon, is_target, slot_lines, label_line};
-ghost use Rattle.bpf_io.specs.Writing.{WritesAfter};
+ghost use Rattle.counted_io.specs.Writing.{WritesAfter};
 
 use crate::write::insn::{put_insn, put_label};
 use crate::write::operand::target_of;
-use bpf_io::{Counted, WriteFault, put};
 use bpf_isa::{Insn, Program};
+use counted_io::{Counted, WriteFault, put};
 use std::alloc::{AllocError, Global};
 use std::io::Write;
 

@@ -2,12 +2,12 @@
 ghost use Rattle.std.specs.Prelude.{◌≤◌, ◌++◌, IfSome};
 ghost use Rattle.bpf_isa.specs.Programs.{target_of};
 ghost use Rattle.bpf_text.specs.Operands.{IsSlot, register_text, offset_text, operand_text, operands_text, text_of_insn, label_text};
-ghost use Rattle.bpf_io.specs.Writing.{Writes, WritesAfter};
+ghost use Rattle.counted_io.specs.Writing.{Writes, WritesAfter};
 
 use crate::names::name_of;
 use crate::write::operand::{Operand, Operands, operands_of};
-use bpf_io::{Counted, WriteFault, put, put_decimal, put_hexadecimal, put_signed};
 use bpf_isa::{Insn, Mnemonic, Reg};
+use counted_io::{Counted, WriteFault, put, put_decimal, put_hexadecimal, put_signed};
 use std::io::Write;
 
 /// Writes the canonical text of the instruction in this slot, without a line feed. The slot is 0 to

@@ -1,4 +1,4 @@
-use Rattle.bpf_io.proofs.Appending.{Writes-none}
+use Rattle.counted_io.proofs.Appending.{Writes-none}
 use Rattle.bpf_session.proofs.Flushing.{Writes-flushed, Writes-unflushed}
 use Rattle.bpf_session.proofs.plain.write_result.Goals as goal
 

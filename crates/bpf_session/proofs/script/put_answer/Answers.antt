@@ -1,4 +1,4 @@
-use Rattle.bpf_io.proofs.Appending.{Writes-none}
+use Rattle.counted_io.proofs.Appending.{Writes-none}
 use Rattle.bpf_session.proofs.script.put_answer.Goals as goal
 
 pub returns-in-Err : goal.returns-in-Err

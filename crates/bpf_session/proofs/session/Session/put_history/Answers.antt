@@ -1,7 +1,7 @@
 use Rattle.std.proofs.Common.{codes, decimal, length, refl, ap, ◌∙◌}
 use Rattle.std.specs.Prelude.{sum_by, count_by}
 use Rattle.bpf_journal.specs.Histories.{record_weight}
-use Rattle.bpf_io.proofs.Appending.{WritesAfter-WritesAfter}
+use Rattle.counted_io.proofs.Appending.{WritesAfter-WritesAfter}
 use Rattle.bpf_session.specs.Replies.{text_of_history}
 use Rattle.bpf_session.proofs.session.Session.put_history.Goals as goal
 

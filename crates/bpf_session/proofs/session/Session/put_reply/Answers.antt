@@ -1,6 +1,6 @@
 use Rattle.std.proofs.Common.{flat_map, ◌++◌, ap, ◌∙◌}
-use Rattle.bpf_io.proofs.Appending.{WritesAfter-text}
-use Rattle.bpf_replies.specs.Texts.{break_text, watch_text, or_none}
+use Rattle.counted_io.proofs.Appending.{WritesAfter-text}
+use Rattle.bpfdb_replies.specs.Texts.{break_text, watch_text, or_none}
 use Rattle.bpf_session.specs.Replies.{text_of_breaks, text_of_reply}
 use Rattle.bpf_session.proofs.session.Session.put_reply.Goals as goal
 

@@ -1,4 +1,4 @@
-use Rattle.bpf_io.proofs.Appending.{Writes-none}
+use Rattle.counted_io.proofs.Appending.{Writes-none}
 use Rattle.bpf_session.proofs.session.Session.write_reply.Goals as goal
 
 pub returns : goal.returns

@@ -1,6 +1,6 @@
 use Rattle.std.proofs.Common.{codes, decimal, refl}
-use Rattle.bpf_io.specs.Writing.{hexadecimal}
-use Rattle.bpf_io.proofs.Appending.{WritesAfter-WritesAfter}
+use Rattle.counted_io.specs.Writing.{hexadecimal}
+use Rattle.counted_io.proofs.Appending.{WritesAfter-WritesAfter}
 use Rattle.bpf_session.proofs.session.changes.put_change.Goals as goal
 
 pub returns : goal.returns

@@ -1,5 +1,5 @@
 use Rattle.std.proofs.Common.{◌≡◌, ◌≤◌, ◌+◌, length, map}
-use Rattle.bpf_io.specs.Lines.{lines}
+use Rattle.counted_io.specs.Lines.{lines}
 use Rattle.bpf_text.specs.Scaffolding.Lines.{read_line}
 use Rattle.bpf_text.specs.Listing.{first_round, nothing}
 use Rattle.bpf_text.specs.Scaffolding.Labels.{labels_of, placed_of}

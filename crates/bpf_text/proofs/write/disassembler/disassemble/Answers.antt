@@ -3,7 +3,7 @@ use Rattle.std.proofs.Common.{◌<◌, ◌++◌, ◌∙◌, length, take, Some, 
 use Rattle.std.proofs.lemmas.Option.{get_or_from_slice_get}
 use Rattle.std.proofs.lemmas.List.{append-nil}
 use Rattle.bpf_text.specs.Canonical.{is_target, lines_from, slot_lines}
-use Rattle.bpf_io.proofs.Appending.{Writes-text}
+use Rattle.counted_io.proofs.Appending.{Writes-text}
 use Rattle.bpf_text.proofs.Listings.{target-IsSlot, lines_from-more}
 use Rattle.bpf_text.proofs.write.disassembler.disassemble.Goals as goal
 use Rattle.bpf_text.proofs.write.disassembler.disassemble.Goals.{in-Some, in_default}

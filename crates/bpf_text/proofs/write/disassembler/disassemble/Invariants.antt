@@ -1,6 +1,6 @@
 use Rattle.std.proofs.Common.{take, Some}
 use Rattle.bpf_text.specs.Canonical.{is_target, lines_from}
-use Rattle.bpf_io.specs.Writing.{Writes}
+use Rattle.counted_io.specs.Writing.{Writes}
 use Rattle.bpf_text.proofs.write.disassembler.disassemble.Given as goal
 
 abbrev pub invariant-loop-slot : goal.invariant-loop-slot

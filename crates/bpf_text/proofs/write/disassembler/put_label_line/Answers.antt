@@ -1,7 +1,7 @@
 -- The name and then what ends the line.
 use Rattle.std.proofs.Common.{codes, ap, sym}
 use Rattle.bpf_text.specs.Canonical.{label_line}
-use Rattle.bpf_io.proofs.Appending.{WritesAfter-WritesAfter}
+use Rattle.counted_io.proofs.Appending.{WritesAfter-WritesAfter}
 use Rattle.bpf_text.proofs.write.disassembler.put_label_line.Goals as goal
 
 pub returns-then-labelled : goal.returns-then-labelled

@@ -1,6 +1,6 @@
 -- The label's line, and then the instruction's.
 use Rattle.std.proofs.Common.{codes, refl}
-use Rattle.bpf_io.proofs.Appending.{WritesAfter-WritesAfter}
+use Rattle.counted_io.proofs.Appending.{WritesAfter-WritesAfter}
 use Rattle.bpf_text.proofs.write.disassembler.put_lines.Goals as goal
 
 pub returns : goal.returns

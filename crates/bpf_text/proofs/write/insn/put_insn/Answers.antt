@@ -3,7 +3,7 @@ use Rattle.std.proofs.Common.{ap, ◌∙◌, ◌++◌}
 use Rattle.bpf_isa.specs.Mnemonics.{mnemonic_of}
 use Rattle.bpf_text.specs.Mnemonics.{name_of}
 use Rattle.bpf_text.specs.Operands.{operands_text}
-use Rattle.bpf_io.proofs.Appending.{WritesAfter-WritesAfter}
+use Rattle.counted_io.proofs.Appending.{WritesAfter-WritesAfter}
 use Rattle.bpf_text.proofs.write.insn.put_insn.Goals as goal
 
 pub returns : goal.returns

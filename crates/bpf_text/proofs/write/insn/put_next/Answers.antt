@@ -1,6 +1,6 @@
 -- What stands before an operand, and then the operand.
 use Rattle.std.proofs.Common.{refl}
-use Rattle.bpf_io.proofs.Appending.{WritesAfter-WritesAfter}
+use Rattle.counted_io.proofs.Appending.{WritesAfter-WritesAfter}
 use Rattle.bpf_text.proofs.write.insn.put_next.Goals as goal
 
 pub returns : goal.returns

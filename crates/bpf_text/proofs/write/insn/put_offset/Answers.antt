@@ -2,7 +2,7 @@
 use Rattle.std.proofs.Common.{codes, ◌∙◌, w16}
 use Rattle.std.proofs.lemmas.Int.{to_z-of_z}
 use Rattle.bpf_text.proofs.Offsets.{offset_text-pos}
-use Rattle.bpf_io.proofs.Appending.{WritesAfter-WritesAfter}
+use Rattle.counted_io.proofs.Appending.{WritesAfter-WritesAfter}
 use Rattle.bpf_text.proofs.write.insn.put_offset.Goals as goal
 
 pub returns-else-offset-lt0 : goal.returns-else-offset-lt0

@@ -1,7 +1,7 @@
 -- One operand after the other.
 use Rattle.std.proofs.Common.{refl, ap, sym}
 use Rattle.bpf_text.specs.Operands.{operands_text}
-use Rattle.bpf_io.proofs.Appending.{WritesAfter-WritesAfter}
+use Rattle.counted_io.proofs.Appending.{WritesAfter-WritesAfter}
 use Rattle.bpf_text.proofs.write.insn.put_operands.Goals as goal
 
 pub returns-in-Two : goal.returns-in-Two

@@ -1,6 +1,6 @@
 -- A letter and then the number.
 use Rattle.std.proofs.Common.{codes, ap, ◌++◌, decimal, ◌∙◌}
-use Rattle.bpf_io.proofs.Appending.{WritesAfter-WritesAfter}
+use Rattle.counted_io.proofs.Appending.{WritesAfter-WritesAfter}
 use Rattle.bpf_text.proofs.write.insn.put_register.Goals as goal
 
 pub returns : goal.returns

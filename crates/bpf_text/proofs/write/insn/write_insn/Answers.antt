@@ -1,5 +1,5 @@
 -- The text after none.
-use Rattle.bpf_io.proofs.Appending.{Writes-none}
+use Rattle.counted_io.proofs.Appending.{Writes-none}
 use Rattle.bpf_text.proofs.write.insn.write_insn.Goals as goal
 
 pub returns : goal.returns

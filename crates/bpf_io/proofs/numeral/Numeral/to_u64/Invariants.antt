@@ -1,5 +1,0 @@
-use Rattle.bpf_io.proofs.Numerals.{Reads}
-use Rattle.bpf_io.proofs.numeral.Numeral.to_u64.Given as goal
-
-abbrev pub invariant-loop-byte : goal.invariant-loop-byte
-invariant-loop-byte l = Reads l.self-inside.radix l.self-inside.digits.now l.byte-index l.value

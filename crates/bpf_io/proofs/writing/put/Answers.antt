@@ -1,6 +1,0 @@
--- After a failure nothing more is written.
-use Rattle.bpf_io.proofs.Appending.{Writes-Err}
-use Rattle.bpf_io.proofs.writing.put.Goals as goal
-
-pub returns-in-Err : goal.returns-in-Err
-returns-in-Err g c = λ a s p. Writes-Err _ _ _ _ _ _ _ c.in-Err.is p

@@ -1,0 +1,239 @@
+//! Readers and writers that fail, or take little at a time.
+use crate::play::{Slow, check_bytes, session, stop_unless};
+use bpf_isa::Reg;
+use bpf_journal::ListKeeper;
+use bpf_session::{RunFault, Session, run};
+use counted_io::Counted;
+use std::alloc::Global;
+use std::io;
+use std::io::{Error, ErrorKind, Write};
+use std::process::Abort;
+
+/// mov r0, 42; exit.
+const ANSWER: &str = "b70000002a0000009500000000000000";
+
+const SCRIPT: &str = "stepi\nreverse-stepi\nfrob\nstepi 2\n";
+
+const PRINTED: &str = "1 forward; done; at 1: exit\n\
+     1 back; done; at 0: mov r0, 42\n\
+     refused Q1: unknown command\n\
+     2 forward; end; exited at 1: r0 0x2a\n";
+
+// How many bytes the first replies have, by the bytes of the script that are read before a read fails.
+fn told_before(good: usize) -> usize {
+    match good {
+        0..6 => 0,
+        6..20 => 28,
+        20..25 => 59,
+        25..33 => 87,
+        _ => 124,
+    }
+}
+
+// The first so many bytes of what is printed.
+fn first(rt: &impl Abort, count: usize) -> &'static [u8] {
+    PRINTED.as_bytes().get(..count).expect(rt, "fewer bytes")
+}
+
+// A writer that takes `step` bytes a write, and no more than `room` in all.
+#[derive(Drop)]
+struct Narrow {
+    taken: Vec<u8>,
+    step: usize,
+    room: usize,
+}
+
+impl Write for Narrow {
+    fn write(&mut self, piece: &[u8]) -> io::Result<usize> {
+        let count = piece.len().min(self.step).min(self.room);
+        self.taken.extend_from_slice(&piece[..count])?;
+        self.room -= count;
+        Ok(count)
+    }
+
+    fn flush(&mut self) -> io::Result<()> {
+        Ok(())
+    }
+}
+
+// A writer that takes all, and counts its flushes, of which those from the `good`-th on fail. It notes how much it held at the last one.
+#[derive(Drop)]
+struct Noting {
+    taken: Vec<u8>,
+    flushes: u64,
+    good: u64,
+    noted: usize,
+}
+
+impl Write for Noting {
+    fn write(&mut self, piece: &[u8]) -> io::Result<usize> {
+        self.taken.extend_from_slice(piece)?;
+        Ok(piece.len())
+    }
+
+    fn flush(&mut self) -> io::Result<()> {
+        if self.flushes == self.good {
+            return Err(Error::from(ErrorKind::Other));
+        }
+        self.flushes = self.flushes.wrapping_add(1);
+        self.noted = self.taken.len();
+        Ok(())
+    }
+}
+
+fn new_noting(alloc: Global, good: u64) -> Noting {
+    Noting {
+        taken: Vec::new(alloc),
+        flushes: 0,
+        good,
+        noted: 0,
+    }
+}
+
+fn new_narrow(alloc: Global, step: usize, room: usize) -> Narrow {
+    Narrow {
+        taken: Vec::new(alloc),
+        step,
+        room,
+    }
+}
+
+/// The fault with which a run ends.
+fn fault_of(answer: Result<(), RunFault>) -> &'static str {
+    match answer {
+        Ok(()) => "none",
+        Err(RunFault::Read) => "read",
+        Err(RunFault::Write) => "write",
+    }
+}
+
+/// Stops unless a run has ended with this fault, and one call of its reader or writer has failed.
+fn check_fault(rt: &impl Abort, answer: Result<(), RunFault>, failures: u64, fault: &str) {
+    stop_unless(rt, fault_of(answer) == fault, "another fault");
+    stop_unless(rt, failures == 1, "not one failure");
+}
+
+/// A session of the program above.
+fn answering(rt: &impl Abort, alloc: Global) -> Session<ListKeeper> {
+    session(rt, alloc, ANSWER, &[], 65_536, 1_000_000)
+}
+
+// Reads a script whose reader fails after so many bytes; answers what was written then. The fault is that of a read.
+fn told_by_reads(rt: &impl Abort, alloc: Global, script: &str, good: usize) -> Vec<u8> {
+    let mut session = answering(rt, alloc);
+    let mut printed = Vec::new(alloc);
+    let mut reader = Counted::new(Slow {
+        left: script.as_bytes(),
+        step: 1,
+        good,
+    });
+    let mut writer = Counted::new(&mut printed);
+    let answer = run(&mut session, &mut reader, &mut writer);
+    check_fault(rt, answer, reader.failures(), "read");
+    printed
+}
+
+// Reads a script whose reader fails after so many bytes; what was written then is this, and the fault is that of a read.
+fn fails_to_read(rt: &impl Abort, alloc: Global, script: &str, good: usize, wanted: &[u8]) {
+    check_bytes(rt, &told_by_reads(rt, alloc, script, good), wanted, script);
+}
+
+// The same for each number of bytes of the script above.
+fn fails_at_each_byte(rt: &impl Abort, alloc: Global, script: &str) {
+    for good in 0..script.len() {
+        fails_to_read(rt, alloc, script, good, first(rt, told_before(good)));
+    }
+}
+
+// After a reader fails the replies to the whole lines before stand, and no other byte.
+#[test]
+fn reads_fail_at_each_byte(rt: HostRuntime) {
+    fails_at_each_byte(&rt, rt.alloc(), SCRIPT);
+    let wanted = b"1 forward; done; at 1: exit\n";
+    fails_to_read(&rt, rt.alloc(), "stepi\ninfo regs\n", 10, wanted);
+}
+
+/// Runs a script over a writer that takes `step` bytes a write and no more than `room` in all, and answers what it took. The fault is that of
+/// a write.
+fn taken_by_writes(
+    rt: &impl Abort,
+    alloc: Global,
+    session: &mut Session<ListKeeper>,
+    script: &str,
+    (step, room): (usize, usize),
+) -> Vec<u8> {
+    let mut reader = Counted::new(script.as_bytes());
+    let mut narrow = new_narrow(alloc, step, room);
+    let mut writer = Counted::new(&mut narrow);
+    let answer = run(session, &mut reader, &mut writer);
+    check_fault(rt, answer, writer.failures(), "write");
+    narrow.taken
+}
+
+/// The same in a session of its own: what the writer took is a beginning of the replies.
+fn fails_to_write(rt: &impl Abort, alloc: Global, step: usize, room: usize) {
+    let mut session = answering(rt, alloc);
+    let taken = taken_by_writes(rt, alloc, &mut session, SCRIPT, (step, room));
+    check_bytes(rt, &taken, first(rt, room), "writes that fail");
+}
+
+/// The same for each number of bytes.
+fn fails_in_each_room(rt: &impl Abort, alloc: Global, step: usize, len: usize) {
+    for room in 0..len {
+        fails_to_write(rt, alloc, step, room);
+    }
+}
+
+// After a writer fails it holds a beginning of the replies, and no byte twice.
+#[test]
+fn writes_fail_at_each_byte(rt: HostRuntime) {
+    fails_in_each_room(&rt, rt.alloc(), 1, PRINTED.len());
+    fails_in_each_room(&rt, rt.alloc(), 7, PRINTED.len());
+    fails_in_each_room(&rt, rt.alloc(), 1_000, PRINTED.len());
+}
+
+/// Stops unless the machine of a session is at slot 1 with 42 in r0.
+fn check_state(rt: &impl Abort, session: &Session<ListKeeper>) {
+    let r0 = Reg::new(0).expect(rt, "no r0");
+    stop_unless(rt, session.cpu().pc() == 1, "another pc");
+    stop_unless(rt, session.cpu().reg(r0) == 42, "another r0");
+}
+
+// A writer that fails after 10 bytes: the session stands behind the line whose reply wasn't written.
+#[test]
+fn a_session_stands_behind_the_last_line(rt: HostRuntime) {
+    let mut session = answering(&rt, rt.alloc());
+    let script = "stepi\ninfo regs\nreverse-stepi\n";
+    let taken = taken_by_writes(&rt, rt.alloc(), &mut session, script, (1_000, 10));
+    check_bytes(&rt, &taken, b"1 forward;", script);
+    check_state(&rt, &session);
+}
+
+/// A writer whose flushes fail from the `good`-th on, after a script. The run fails unless all three flushes are good.
+fn noted(rt: &impl Abort, alloc: Global, good: u64) -> Noting {
+    let mut session = answering(rt, alloc);
+    let mut reader = Counted::new(b"stepi\n\nreverse-stepi\nfrob\n".as_slice());
+    let mut noting = new_noting(alloc, good);
+    let mut writer = Counted::new(&mut noting);
+    let is_written = run(&mut session, &mut reader, &mut writer).is_ok();
+    let has_failed = writer.failures() != 0;
+    stop_unless(rt, is_written == (good == 3), "another answer");
+    stop_unless(rt, has_failed == (good != 3), "another failure");
+    noting
+}
+
+/// Stops unless so many flushes were good, and so many bytes were written then.
+fn check_flushes(rt: &impl Abort, alloc: Global, good: u64, told: usize) {
+    let noting = noted(rt, alloc, good);
+    stop_unless(rt, noting.flushes == good, "another number of flushes");
+    check_bytes(rt, &noting.taken, first(rt, told), "flushes that fail");
+}
+
+// Each reply is flushed, refusals too; a line without words has none. A flush that fails is a failed write.
+#[test]
+fn each_reply_is_flushed(rt: HostRuntime) {
+    check_flushes(&rt, rt.alloc(), 3, 87);
+    check_flushes(&rt, rt.alloc(), 0, 28);
+    check_flushes(&rt, rt.alloc(), 1, 59);
+    check_flushes(&rt, rt.alloc(), 2, 87);
+}

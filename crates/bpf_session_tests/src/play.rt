@@ -1,0 +1,181 @@
+//! Transcripts, and sessions that they are played in. Each row of a transcript is a command and its reply, with a bar between; a further
+//! line of a reply stands behind a bar alone, and a command without a reply has no bar.
+use bpf_isa::{MapTable, check};
+use bpf_journal::{Keeper, ListKeeper};
+use bpf_machine::Cpu;
+use bpf_session::{Session, run};
+use bpfdb_commands::Count;
+use counted_io::Counted;
+use std::alloc::Global;
+use std::io;
+use std::io::{Error, ErrorKind, Read};
+use std::process::Abort;
+
+/// A reader that gives at most `step` bytes a read, and fails after so many bytes.
+#[derive(Drop)]
+pub struct Slow<'a> {
+    pub left: &'a [u8],
+    pub step: usize,
+    pub good: usize,
+}
+
+impl Read for Slow<'_> {
+    fn read(&mut self, buf: &mut [u8]) -> io::Result<usize> {
+        if self.good == 0 && !self.left.is_empty() {
+            return Err(Error::from(ErrorKind::Other));
+        }
+        let count = buf.len().min(self.step).min(self.good).min(self.left.len());
+        buf[..count].copy_from_slice(&self.left[..count]);
+        self.left = &self.left[count..];
+        self.good -= count;
+        Ok(count)
+    }
+}
+
+/// The machine of a program in hexadecimal digits and a context, without maps.
+pub fn machine(rt: &impl Abort, alloc: Global, program: &str, context: &[u8]) -> Cpu {
+    machine_with(rt, alloc, program, &MapTable::empty(), context)
+}
+
+/// The same with the maps of a text.
+pub fn machine_on(
+    rt: &impl Abort,
+    alloc: Global,
+    program: &str,
+    maps: &str,
+    context: &[u8],
+) -> Cpu {
+    let maps = MapTable::parse(maps.as_bytes()).ok().expect(rt, "no maps");
+    machine_with(rt, alloc, program, &maps, context)
+}
+
+/// The same with these maps.
+fn machine_with(
+    rt: &impl Abort,
+    alloc: Global,
+    program: &str,
+    maps: &MapTable,
+    context: &[u8],
+) -> Cpu {
+    let bytes = hex::decode(alloc, program).ok().expect(rt, "no digits");
+    let program = check(alloc, &bytes, maps).ok().expect(rt, "refused");
+    Cpu::open(alloc, program, context)
+        .ok()
+        .expect(rt, "not opened")
+}
+
+/// A session over such a machine, with a journal of so many bytes and a limit of steps.
+pub fn session(
+    rt: &impl Abort,
+    alloc: Global,
+    program: &str,
+    context: &[u8],
+    size: usize,
+    limit: u64,
+) -> Session<ListKeeper> {
+    session_over(rt, alloc, machine(rt, alloc, program, context), size, limit)
+}
+
+/// A session over a machine, with an empty journal of so many bytes and a limit of steps.
+pub fn session_over(
+    rt: &impl Abort,
+    alloc: Global,
+    cpu: Cpu,
+    size: usize,
+    limit: u64,
+) -> Session<ListKeeper> {
+    let limit = Count::new(limit).expect(rt, "no limit");
+    match ListKeeper::open(alloc, size) {
+        Ok(keeper) => Session::open(cpu, keeper, limit.get()),
+        Err(_) => panic!(rt; "no journal"),
+    }
+}
+
+/// The session that closing one and opening another over what it gave makes.
+pub fn reopened<K: Keeper>(rt: &impl Abort, session: Session<K>, limit: u64) -> Session<K> {
+    let limit = Count::new(limit).expect(rt, "no limit");
+    let (cpu, keeper) = session.close();
+    Session::open(cpu, keeper, limit.get())
+}
+
+/// What a script prints that comes in pieces of `step` bytes.
+pub fn printed<K: Keeper>(
+    rt: &impl Abort,
+    alloc: Global,
+    session: &mut Session<K>,
+    script: &[u8],
+    step: usize,
+) -> Vec<u8> {
+    let mut printed = Vec::new(alloc);
+    let mut reader = Counted::new(Slow {
+        left: script,
+        step,
+        good: script.len(),
+    });
+    let mut writer = Counted::new(&mut printed);
+    assert!(rt; run(session, &mut reader, &mut writer).is_ok());
+    printed
+}
+
+/// Puts a line behind others.
+fn append_line(rt: &impl Abort, lines: &mut Vec<u8>, line: &str) {
+    lines
+        .extend_from_slice(line.as_bytes())
+        .expect(rt, "no memory");
+    lines.push(b'\n').expect(rt, "no memory");
+}
+
+/// The command of a row.
+fn command_of(row: &str) -> &str {
+    match row.split_once('|') {
+        Some((command, _)) => command,
+        None => row,
+    }
+}
+
+/// The commands of a transcript, a line each.
+pub fn commands_of(rt: &impl Abort, alloc: Global, transcript: &str) -> Vec<u8> {
+    let mut script = Vec::new(alloc);
+    for row in transcript.lines() {
+        let command = command_of(row);
+        if !command.is_empty() {
+            append_line(rt, &mut script, command);
+        }
+    }
+    script
+}
+
+/// The replies of a transcript, a line each.
+pub fn replies_of(rt: &impl Abort, alloc: Global, transcript: &str) -> Vec<u8> {
+    let mut replies = Vec::new(alloc);
+    for row in transcript.lines() {
+        if let Some((_, reply)) = row.split_once('|') {
+            append_line(rt, &mut replies, reply);
+        }
+    }
+    replies
+}
+
+/// Plays a transcript, which comes in pieces of `step` bytes.
+pub fn plays<K: Keeper>(
+    rt: &impl Abort,
+    alloc: Global,
+    session: &mut Session<K>,
+    transcript: &str,
+    step: usize,
+) {
+    let script = commands_of(rt, alloc, transcript);
+    let wanted = replies_of(rt, alloc, transcript);
+    let told = printed(rt, alloc, session, &script, step);
+    check_bytes(rt, &told, &wanted, transcript);
+}
+
+/// Stops unless bytes are those that are wanted.
+pub fn check_bytes(rt: &impl Abort, found: &[u8], wanted: &[u8], what: &str) {
+    assert_eq!(rt; found, wanted, "{what}");
+}
+
+/// Stops unless something holds.
+pub fn stop_unless(rt: &impl Abort, holds: bool, what: &str) {
+    assert!(rt; holds, "{what}");
+}

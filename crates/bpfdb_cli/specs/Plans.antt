@@ -1,0 +1,70 @@
+-- What a plan says, by what `clap`'s exact matches give for the words.
+use Rattle.std.specs.Prelude.{◌≡◌, ◌<◌, ◌^◌, ℕ, Bool, false, List, Option, Some, None, option_map, codes}
+use Rattle.std.specs.Option.{option_map_or}
+use Rattle.std.specs.Str.{bytes_eq}
+use Rattle.std.specs.Str.Parse.{IsNumeral, digits_value, without_leading_plus}
+use Rattle.clap.specs.Words.{Row, Text, first_of, kind_of, subcommand_of}
+use Rattle.clap.specs.declared.error.kind.ErrorKind.{ErrorKind}
+use Rattle.clap.specs.declared.error.kind.ErrorKind.TheVariants as kind
+use Rattle.bpfdb_cli.specs.CommandLine.{command_app}
+use Rattle.bpfdb_cli.specs.declared.plans.Plan.{Plan}
+use Rattle.bpfdb_cli.specs.declared.plans.PlanFault.{PlanFault}
+use Rattle.bpfdb_cli.specs.declared.plans.PlanFault.TheVariants.{Usage, Memory}
+use Rattle.bpfdb_jobs.specs.Jobs.{IsLimit}
+use Rattle.bpfdb_jobs.specs.declared.job.Subcommand.{Subcommand}
+use Rattle.bpfdb_jobs.specs.declared.job.Subcommand.TheVariants as subcommand
+
+-- The names of the subcommands.
+abbrev pub subcommand_name : Subcommand → Text
+subcommand_name subcommand.Run = codes "run"
+subcommand_name subcommand.Debug = codes "debug"
+subcommand_name subcommand.Asm = codes "asm"
+subcommand_name subcommand.Disasm = codes "disasm"
+subcommand_name subcommand.Check = codes "check"
+
+-- The number of an option, the default where the option has no text.
+abbrev pub number_or : ℕ → Option Text → ℕ
+number_or default None = default
+number_or default (Some text) = digits_value 10 (without_leading_plus text)
+
+-- A flag was given.
+abbrev pub is_given : Option Text → Bool
+is_given text = option_map_or (λ t. bytes_eq t (codes "true")) text false
+
+-- A plan says what a subcommand's matches say.
+pub record Says (name : Text) (rows : List Row) (plan : Plan) : Type 0 where
+  pub subcommand : subcommand_name plan.subcommand ≡ name
+  pub file : first_of (codes "file") rows ≡ Some plan.file.now
+  pub memory : option_map (λ s. s.now) plan.memory ≡ first_of (codes "mem") rows
+  pub maps : option_map (λ s. s.now) plan.maps ≡ first_of (codes "maps") rows
+  pub journal : plan.journal ≡ number_or 65_536 (first_of (codes "journal") rows)
+  pub limit : plan.limit ≡ number_or 1_000_000 (first_of (codes "steps") rows)
+  pub listing : plan.is_listing ≡ is_given (first_of (codes "listing") rows)
+
+-- A number that is given is one below 2^64.
+abbrev pub IsNumber : Option Text → Type 0
+IsNumber None = Unit {0}
+IsNumber (Some text) = IsNumeral 10 (without_leading_plus text) × (digits_value 10 (without_leading_plus text) < 2 ^ 64)
+
+-- A plan says what a subcommand's matches say, and their numbers are in their ranges.
+pub record IsPlanOf (name : Text) (rows : List Row) (plan : Plan) : Type 0 where
+  pub says : Says name rows plan
+  pub journal : IsNumber (first_of (codes "journal") rows)
+  pub steps : IsNumber (first_of (codes "steps") rows)
+  pub limit : IsLimit plan.limit
+
+-- A plan says what the words say, the program's name first.
+pub record IsPlan (words : List Text) (plan : Plan) : Type 0 where
+  pub name : Text
+  pub rows : List Row
+  pub met : subcommand_of command_app words ≡ Some (name, rows)
+  pub says : Says name rows plan
+
+-- The exit status of a fault.
+abbrev pub status_of_kind : ErrorKind → ℕ
+status_of_kind kind.DisplayHelp = 0
+status_of_kind _ = 2
+
+abbrev pub status_of : PlanFault → ℕ
+status_of Memory = 2
+status_of (Usage fault) = status_of_kind (kind_of fault)

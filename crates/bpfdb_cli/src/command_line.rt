@@ -1,0 +1,180 @@
+//! The command line, as `clap` is told of it.
+ghost use Rattle.std.specs.Prelude.{◌≡◌, IfOk, false};
+ghost use Rattle.clap.specs.Words.{app_of, rule_of, with_subcommand};
+ghost use Rattle.bpfdb_cli.specs.CommandLine.{asm_app, bare_app, check_app, command_app, debug_app, disasm_app, file_rule, journal_rule, listing_rule, maps_rule, mem_rule, run_app, steps_rule};
+
+use crate::help;
+use clap::{Arg, ArgAction, Command, value_parser};
+use std::alloc::{AllocError, Global};
+
+/// `-m PATH`, `--mem PATH`.
+fn mem_option<'a>(alloc: Global) -> Arg<'a>
+    ensures value { rule_of result ≡ mem_rule }
+    ensures local { result.global ≡ false }
+{
+    Arg::new(alloc, "mem")
+        .short('m')
+        .long("mem")
+        .value_name("PATH")
+        .help(help::MEM)
+        .long_help(help::MEM_LONG)
+}
+
+/// `--maps VxN,VxN`.
+fn maps_option<'a>(alloc: Global) -> Arg<'a>
+    ensures value { rule_of result ≡ maps_rule }
+    ensures local { result.global ≡ false }
+{
+    Arg::new(alloc, "maps")
+        .long("maps")
+        .value_name("VxN,VxN")
+        .help(help::MAPS)
+        .long_help(help::MAPS_LONG)
+}
+
+/// `--journal J`.
+fn journal_option<'a>(alloc: Global) -> Arg<'a>
+    ensures value { rule_of result ≡ journal_rule }
+    ensures local { result.global ≡ false }
+{
+    Arg::new(alloc, "journal")
+        .long("journal")
+        .value_name("J")
+        .value_parser(value_parser!(u64))
+        .default_value("65536")
+        .help(help::JOURNAL)
+        .long_help(help::JOURNAL_LONG)
+}
+
+/// `--steps N`.
+fn steps_option<'a>(alloc: Global) -> Arg<'a>
+    ensures value { rule_of result ≡ steps_rule }
+    ensures local { result.global ≡ false }
+{
+    Arg::new(alloc, "steps")
+        .long("steps")
+        .value_name("N")
+        .value_parser(value_parser!(u64).range(1..=1_000_000_000))
+        .default_value("1000000")
+        .help(help::STEPS)
+        .long_help(help::STEPS_LONG)
+}
+
+/// `--listing`.
+fn listing_option<'a>(alloc: Global) -> Arg<'a>
+    ensures value { rule_of result ≡ listing_rule }
+    ensures local { result.global ≡ false }
+{
+    Arg::new(alloc, "listing")
+        .long("listing")
+        .action(ArgAction::SetTrue)
+        .help(help::LISTING)
+}
+
+/// FILE.
+fn file_argument<'a>(alloc: Global, text: &'a str) -> Arg<'a>
+    ensures value { rule_of result ≡ file_rule }
+    ensures local { result.global ≡ false }
+{
+    Arg::new(alloc, "file")
+        .required(true)
+        .value_name("FILE")
+        .help(text)
+}
+
+/// A command and its subcommand `run`.
+fn with_run<'a>(alloc: Global, above: Command<'a>) -> Result<Command<'a>, AllocError>
+    ensures { IfOk result (λ command. app_of command ≡ with_subcommand (app_of above.entry) run_app.top) }
+{
+    let command = Command::new(alloc, "run")
+        .about(help::RUN)
+        .long_about(help::RUN_LONG)
+        .after_help(help::RUN_EXAMPLE)
+        .arg(mem_option(alloc))?
+        .arg(maps_option(alloc))?
+        .arg(steps_option(alloc))?
+        .arg(listing_option(alloc))?
+        .arg(file_argument(alloc, help::PROGRAM))?;
+    above.subcommand(command)
+}
+
+/// A command and its subcommand `debug`.
+fn with_debug<'a>(alloc: Global, above: Command<'a>) -> Result<Command<'a>, AllocError>
+    ensures { IfOk result (λ command. app_of command ≡ with_subcommand (app_of above.entry) debug_app.top) }
+{
+    let command = Command::new(alloc, "debug")
+        .about(help::DEBUG)
+        .long_about(help::DEBUG_LONG)
+        .after_help(help::DEBUG_EXAMPLE)
+        .arg(mem_option(alloc))?
+        .arg(maps_option(alloc))?
+        .arg(journal_option(alloc))?
+        .arg(steps_option(alloc))?
+        .arg(listing_option(alloc))?
+        .arg(file_argument(alloc, help::PROGRAM))?;
+    above.subcommand(command)
+}
+
+/// A command and its subcommand `asm`.
+fn with_asm<'a>(alloc: Global, above: Command<'a>) -> Result<Command<'a>, AllocError>
+    ensures { IfOk result (λ command. app_of command ≡ with_subcommand (app_of above.entry) asm_app.top) }
+{
+    let command = Command::new(alloc, "asm")
+        .about(help::ASM)
+        .long_about(help::ASM_LONG)
+        .after_help(help::ASM_EXAMPLE)
+        .arg(file_argument(alloc, help::LISTING_FILE))?;
+    above.subcommand(command)
+}
+
+/// A command and its subcommand `disasm`.
+fn with_disasm<'a>(alloc: Global, above: Command<'a>) -> Result<Command<'a>, AllocError>
+    ensures { IfOk result (λ command. app_of command ≡ with_subcommand (app_of above.entry) disasm_app.top) }
+{
+    let command = Command::new(alloc, "disasm")
+        .about(help::DISASM)
+        .long_about(help::DISASM_LONG)
+        .after_help(help::DISASM_EXAMPLE)
+        .arg(maps_option(alloc))?
+        .arg(listing_option(alloc))?
+        .arg(file_argument(alloc, help::PROGRAM))?;
+    above.subcommand(command)
+}
+
+/// A command and its subcommand `check`.
+fn with_check<'a>(alloc: Global, above: Command<'a>) -> Result<Command<'a>, AllocError>
+    ensures { IfOk result (λ command. app_of command ≡ with_subcommand (app_of above.entry) check_app.top) }
+{
+    let command = Command::new(alloc, "check")
+        .about(help::CHECK)
+        .long_about(help::CHECK_LONG)
+        .after_help(help::CHECK_EXAMPLE)
+        .arg(maps_option(alloc))?
+        .arg(listing_option(alloc))?
+        .arg(file_argument(alloc, help::PROGRAM))?;
+    above.subcommand(command)
+}
+
+/// The command without its subcommands.
+fn bare_command<'a>(alloc: Global) -> Result<Command<'a>, AllocError>
+    ensures { IfOk result (λ command. app_of command ≡ bare_app) }
+{
+    Command::new(alloc, "bpfdb")
+        .about(help::BPFDB)
+        .long_about(help::BPFDB_LONG)
+        .after_help(help::BPFDB_EXAMPLE)
+        .subcommand_required(true)
+        .bin_name("bpfdb")
+}
+
+/// The whole command line.
+pub fn command_line<'a>(alloc: Global) -> Result<Command<'a>, AllocError>
+    ensures { IfOk result (λ command. app_of command ≡ command_app) }
+{
+    let command = bare_command(alloc)?;
+    let command = with_run(alloc, command)?;
+    let command = with_debug(alloc, command)?;
+    let command = with_asm(alloc, command)?;
+    let command = with_disasm(alloc, command)?;
+    with_check(alloc, command)
+}

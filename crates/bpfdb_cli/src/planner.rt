@@ -1,0 +1,147 @@
+//! From the words of a command line to a plan.
+ghost use Rattle.std.specs.Prelude.{◌≡◌, ◌<◌, ◌^◌, IfNone, IfOk, IfSome, MatchOption, Some, List, map, option_map};
+ghost use Rattle.std.specs.Str.Parse.{IsNumeral, digits_value, without_leading_plus};
+ghost use Rattle.clap.specs.Words.{Row, Text, first_of, found_of, rows_of, subcommand_rows_of};
+ghost use Rattle.bpfdb_jobs.specs.Jobs.{IsLimit};
+ghost use Rattle.bpfdb_cli.specs.Plans.{IsPlan, IsPlanOf, Says, is_given, subcommand_name, number_or};
+
+use crate::command_line::command_line;
+use crate::plans::{Plan, PlanFault};
+use bpfdb_jobs::Subcommand;
+use clap::error::ErrorKind;
+use clap::{ArgMatches, Command, Error};
+use std::alloc::Global;
+
+/// What would be said of a number that `clap` lets pass out of its range. It lets none pass, which its contract doesn't say.
+const BAD_NUMBER: &str = "a number is out of its range";
+
+/// The plan of a command line, of which the first word is the program's name.
+pub fn plan<'a>(alloc: Global, words: &'a [&'a str]) -> Result<Plan<'a>, PlanFault>
+    ensures value { IfOk result (IsPlan (map (λ word. word.now) words.now)) }
+    ensures limit { IfOk result (λ plan. IsLimit plan.limit) }
+{
+    let mut command = match command_line(alloc) {
+        Ok(command) => command,
+        Err(_) => return Err(PlanFault::Memory),
+    };
+    let matches = match command.try_get_matches_from_mut(words) {
+        Ok(matches) => matches,
+        Err(error) => return Err(fault_of(error)),
+    };
+    match plan_of(&matches) {
+        Some(plan) => Ok(plan),
+        None => Err(bad_number(&mut command)),
+    }
+}
+
+/// The fault that `clap` answers.
+fn fault_of(error: Error) -> PlanFault {
+    match error.kind() {
+        ErrorKind::OutOfMemory => PlanFault::Memory,
+        _ => PlanFault::Usage(error),
+    }
+}
+
+/// The fault of a number that is out of its range.
+fn bad_number(command: &mut Command<'_>) -> PlanFault {
+    match command.error(ErrorKind::ValueValidation, BAD_NUMBER) {
+        Ok(error) => PlanFault::Usage(error),
+        Err(_) => PlanFault::Memory,
+    }
+}
+
+/// The plan of the words' matches.
+fn plan_of<'a>(matches: &ArgMatches<'a>) -> Option<Plan<'a>>
+    ensures value { IfSome result (λ plan. (name : Text) × (rows : List Row)
+        × (subcommand_rows_of matches.now ≡ Some (name, rows)) × Says name rows plan) }
+    ensures none { IfNone result ((name : Text) (rows : List Row) (plan : Plan)
+        → subcommand_rows_of matches.now ≡ Some (name, rows) → IsPlanOf name rows plan → ⊥) }
+    ensures limit { IfSome result (λ plan. IsLimit plan.limit) }
+{
+    match matches.subcommand() {
+        Some((name, found)) => plan_in(name, found),
+        None => None,
+    }
+}
+
+/// The plan of a subcommand's matches.
+fn plan_in<'a>(name: &'a str, found: &ArgMatches<'a>) -> Option<Plan<'a>>
+    ensures value { IfSome result (Says name.now (rows_of (found_of found.now))) }
+    ensures none { IfNone result ((plan : Plan) → IsPlanOf name.now (rows_of (found_of found.now)) plan → ⊥) }
+    ensures limit { IfSome result (λ plan. IsLimit plan.limit) }
+{
+    let subcommand = match subcommand_named(name) {
+        Some(subcommand) => subcommand,
+        None => return None,
+    };
+    let file = match text_of(found, "file") {
+        Some(file) => file,
+        None => return None,
+    };
+    let journal = match number_or(text_of(found, "journal"), 65_536) {
+        Some(journal) => journal,
+        None => return None,
+    };
+    let limit = match number_or(text_of(found, "steps"), 1_000_000) {
+        Some(limit) => limit,
+        None => return None,
+    };
+    if limit == 0 || limit > 1_000_000_000 {
+        return None;
+    }
+    Some(Plan {
+        subcommand,
+        file,
+        memory: text_of(found, "mem"),
+        maps: text_of(found, "maps"),
+        journal,
+        limit,
+        is_listing: is_given(text_of(found, "listing")),
+    })
+}
+
+/// The subcommand of this name.
+fn subcommand_named(name: &str) -> Option<Subcommand>
+    ensures found { IfSome result (λ subcommand. subcommand_name subcommand ≡ name.now) }
+    ensures none { IfNone result ((subcommand : Subcommand) → subcommand_name subcommand ≡ name.now → ⊥) }
+{
+    match name {
+        "run" => Some(Subcommand::Run),
+        "debug" => Some(Subcommand::Debug),
+        "asm" => Some(Subcommand::Asm),
+        "disasm" => Some(Subcommand::Disasm),
+        "check" => Some(Subcommand::Check),
+        _ => None,
+    }
+}
+
+/// The first text that was given for an argument.
+fn text_of<'a>(found: &ArgMatches<'a>, id: &str) -> Option<&'a str>
+    ensures { option_map (λ text. text.now) result ≡ first_of id.now (rows_of (found_of found.now)) }
+{
+    found.get_str(id)
+}
+
+/// The number of an option; None where its text is no number below 2^64.
+fn number_or(text: Option<&str>, default: u64) -> Option<u64>
+    ensures found { IfSome result (λ number. number ≡ number_or default (option_map (λ t. t.now) text.entry)) }
+    ensures none { IfNone result (MatchOption text.entry ⊥ (λ t. IsNumeral 10 (without_leading_plus t.now) → digits_value 10 (without_leading_plus t.now) < 2 ^ 64 → ⊥)) }
+{
+    match text {
+        None => Some(default),
+        Some(text) => match text.parse::<u64>() {
+            Ok(number) => Some(number),
+            Err(_) => None,
+        },
+    }
+}
+
+/// Whether a flag was given.
+fn is_given(text: Option<&str>) -> bool
+    ensures { result ≡ is_given (option_map (λ t. t.now) text.entry) }
+{
+    match text {
+        None => false,
+        Some(text) => text == "true",
+    }
+}

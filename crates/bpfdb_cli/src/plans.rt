@@ -1,0 +1,49 @@
+//! What a command line asks for.
+ghost use Rattle.std.specs.Prelude.{◌≡◌};
+ghost use Rattle.bpfdb_cli.specs.Plans.{status_of};
+
+use bpfdb_jobs::Subcommand;
+use clap::Error;
+use clap::error::ErrorKind;
+
+/// What a command line asks for. What the subcommand has no option for stands as when the option is absent.
+#[derive(Clone, Copy)]
+pub struct Plan<'a> {
+    pub subcommand: Subcommand,
+    /// FILE, the path of the program or listing.
+    pub file: &'a str,
+    /// The path of the file whose bytes are the context; without one the context is empty.
+    pub memory: Option<&'a str>,
+    /// The map table's text; without one there are no maps.
+    pub maps: Option<&'a str>,
+    /// The journal's size in bytes, 65,536 where it isn't given.
+    pub journal: u64,
+    /// The most steps of a run or of a command, 1 to 1,000,000,000; 1,000,000 where it isn't given.
+    pub limit: u64,
+    /// FILE is a listing, assembled first.
+    pub is_listing: bool,
+}
+
+/// Why a command line is no plan.
+#[derive(Drop)]
+pub enum PlanFault {
+    /// It asks for help, or isn't one of bpfdb's: the answer, in `clap`'s words.
+    Usage(Error),
+    /// Memory ran out.
+    Memory,
+}
+
+impl PlanFault {
+    /// The exit status: 0 where help was asked for, else 2.
+    pub fn status(&self) -> u8
+        ensures { result ≡ status_of self.now }
+    {
+        match self {
+            PlanFault::Memory => 2,
+            PlanFault::Usage(error) => match error.kind() {
+                ErrorKind::DisplayHelp => 0,
+                _ => 2,
+            },
+        }
+    }
+}

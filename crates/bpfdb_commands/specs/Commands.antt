@@ -1,0 +1,165 @@
+-- The commands: what a line says (bpfdb's own choice).
+use Rattle.std.specs.Prelude.{ℕ, List, [], ◌∷◌, length, Option, Some, None, Result, Ok, Err, if◌then◌else◌, nat_lt, nat_le, ◌&&◌}
+use lib.Chars.{codes}
+use Rattle.std.specs.Option.{option_map, option_and_then, ok_or}
+use Rattle.std.specs.Result.{result_ok}
+use Rattle.std.specs.Str.{bytes_eq}
+use Rattle.hex.specs.Hex.{decode_of}
+use Rattle.bpf_text.specs.Tokens.{register}
+use Rattle.bpf_machine.specs.declared.edit.Edit.TheVariants as edit
+use Rattle.bpfdb_commands.specs.Limits.{greatest_count, greatest_span, longest_bytes, longest_line}
+use Rattle.bpfdb_commands.specs.Lines.{words, number}
+use Rattle.bpfdb_commands.specs.declared.command.Command.{Command}
+use Rattle.bpfdb_commands.specs.declared.command.Command.TheVariants as command
+use Rattle.bpfdb_commands.specs.declared.refusal.Refusal.{Refusal}
+use Rattle.bpfdb_commands.specs.declared.refusal.Refusal.TheVariants.{UnknownCommand, WrongArgument, LineTooLong}
+
+-- what the words after a name make of a command, None where one is wrong, missing or too many
+abbrev pub Arguments : Type 0
+Arguments = List (List ℕ) → Option Command
+
+-- no word
+abbrev pub bare : Command → Arguments
+bare command [] = Some command
+bare command (word ∷ more) = None
+
+-- a number from 1 to the greatest
+abbrev pub number_within : ℕ → List ℕ → Option ℕ
+number_within most word =
+    option_and_then (λ n. if nat_le 1 n && nat_le n most then Some n else None) (number word)
+
+-- a count, which is 1 where it is left out
+abbrev pub optional_count : List (List ℕ) → Option ℕ
+optional_count [] = Some 1
+optional_count (word ∷ []) = number_within greatest_count word
+optional_count (word ∷ next ∷ more) = None
+
+-- so many times the command
+abbrev pub counted : (ℕ → Command) → Arguments
+counted command more = option_map command (optional_count more)
+
+-- one number
+abbrev pub one_number : List (List ℕ) → Option ℕ
+one_number (word ∷ []) = number word
+one_number _ = None
+
+abbrev pub numbered : (ℕ → Command) → Arguments
+numbered command more = option_map command (one_number more)
+
+-- a number, and how much is shown from there on
+abbrev pub number_and_span : List (List ℕ) → Option (ℕ × ℕ)
+number_and_span (word ∷ span ∷ []) =
+    option_and_then (λ n. option_map (λ most. (n, most)) (number_within greatest_span span)) (number word)
+number_and_span _ = None
+
+abbrev pub spanned : (ℕ → ℕ → Command) → Arguments
+spanned command more = option_map (λ p. command p.0 p.1) (number_and_span more)
+
+-- bytes as hexadecimal digits of either case, two a byte: 1 to 256 bytes
+abbrev pub byte_string : List ℕ → Option (List ℕ)
+byte_string bytes = if nat_le 1 (length bytes) && nat_le (length bytes) longest_bytes then Some bytes else None
+
+abbrev pub bytes_of : List ℕ → Option (List ℕ)
+bytes_of word = option_and_then byte_string (result_ok (decode_of word))
+
+-- `set reg`: a register and a number
+abbrev pub set_register : Arguments
+set_register (word ∷ value ∷ []) =
+    option_and_then (λ r. option_map (λ n. command.Edit (edit.Register r n)) (number value)) (register word)
+set_register _ = None
+
+-- `set mem`: an address and bytes
+abbrev pub set_bytes : Arguments
+set_bytes (word ∷ digits ∷ []) =
+    option_and_then (λ address. option_map (λ bytes. command.Edit (edit.Bytes address bytes)) (bytes_of digits)) (number word)
+set_bytes _ = None
+
+-- `set cell`: a map, an index and bytes
+abbrev pub set_cell : Arguments
+set_cell (word ∷ place ∷ digits ∷ []) =
+    option_and_then (λ map. option_and_then (λ index. option_map (λ bytes. command.Edit (edit.Cell map index bytes)) (bytes_of digits)) (number place)) (number word)
+set_cell _ = None
+
+-- names, each with the words that may follow it
+abbrev pub Table : Type 0
+Table = List (List ℕ × Arguments)
+
+-- what may follow a name, None where the table doesn't have it
+abbrev pub arguments_of : Table → List ℕ → Option Arguments
+arguments_of [] name = None
+arguments_of (row ∷ rows) name = if bytes_eq name row.0 then Some row.1 else arguments_of rows name
+
+-- a name of the table and the words that may follow it
+unfoldable pub one_of : Table → Arguments
+one_of table [] = None
+one_of table (name ∷ more) = option_and_then (λ arguments. arguments more) (arguments_of table name)
+
+-- what `set` changes
+abbrev pub settings : Table
+settings =
+    (codes "reg", set_register)
+    ∷ (codes "mem", set_bytes)
+    ∷ (codes "cell", set_cell)
+    ∷ (codes "pc", numbered (λ slot. command.Edit (edit.Pc slot)))
+    ∷ []
+
+-- what `info` shows
+abbrev pub infos : Table
+infos =
+    (codes "regs", bare command.InfoRegisters)
+    ∷ (codes "frames", bare command.InfoFrames)
+    ∷ (codes "breaks", bare command.InfoBreaks)
+    ∷ (codes "history", bare command.InfoHistory)
+    ∷ (codes "trace", bare command.InfoTrace)
+    ∷ []
+
+-- the commands by their first words
+abbrev pub commands : Table
+commands =
+    (codes "stepi", counted command.Step)
+    ∷ (codes "nexti", bare command.Next)
+    ∷ (codes "continue", bare command.Continue)
+    ∷ (codes "finish", bare command.Finish)
+    ∷ (codes "undo", counted command.Undo)
+    ∷ (codes "reverse-stepi", counted command.ReverseStep)
+    ∷ (codes "reverse-nexti", bare command.ReverseNext)
+    ∷ (codes "reverse-continue", bare command.ReverseContinue)
+    ∷ (codes "rc", bare command.ReverseContinue)
+    ∷ (codes "reverse-finish", bare command.ReverseFinish)
+    ∷ (codes "set", one_of settings)
+    ∷ (codes "break", numbered command.Break)
+    ∷ (codes "delete", numbered command.Delete)
+    ∷ (codes "watch", numbered command.Watch)
+    ∷ (codes "unwatch", numbered command.Unwatch)
+    ∷ (codes "info", one_of infos)
+    ∷ (codes "x", spanned command.Examine)
+    ∷ (codes "disas", spanned command.Disassemble)
+    ∷ (codes "last-write", numbered command.LastWrite)
+    ∷ (codes "quit", bare command.Quit)
+    ∷ []
+
+-- an unknown name, or its words right or wrong
+abbrev pub outcome : Option Arguments → List (List ℕ) → Result Command Refusal
+outcome None more = Err UnknownCommand
+outcome (Some arguments) more = ok_or (arguments more) WrongArgument
+
+-- what a name and the words after it say
+unfoldable pub command_named : List ℕ → List (List ℕ) → Result Command Refusal
+command_named name more = outcome (arguments_of commands name) more
+
+-- what a line says: nothing, a command or a refusal
+abbrev pub Answer : Type 0
+Answer = Result (Option Command) Refusal
+
+abbrev pub as_answer : Result Command Refusal → Answer
+as_answer (Ok command) = Ok (Some command)
+as_answer (Err refusal) = Err refusal
+
+-- no words say nothing; else the first is the command's name
+abbrev pub command_of_words : List (List ℕ) → Answer
+command_of_words [] = Ok None
+command_of_words (name ∷ more) = as_answer (command_named name more)
+
+-- a line that is too long is refused, whatever its words
+unfoldable pub command_of : List ℕ → Answer
+command_of line = if nat_lt longest_line (length line) then Err LineTooLong else command_of_words (words line)

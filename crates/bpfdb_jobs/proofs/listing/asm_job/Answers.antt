@@ -1,0 +1,19 @@
+use Rattle.std.proofs.Common.{refl, inr}
+use Rattle.bpfdb_jobs.specs.Jobs.{unread_with}
+use Rattle.bpfdb_jobs.specs.declared.job.Subcommand.TheVariants.{Asm}
+use Rattle.bpfdb_jobs.proofs.Yielding.{begins, completes}
+use Rattle.bpfdb_jobs.proofs.listing.asm_job.Goals as goal
+
+pub returns-in-Ok-clause-value : goal.returns-in-Ok-clause-value
+returns-in-Ok-clause-value g c = λ script told held not.
+    let words = c.in-Ok.words.items in
+    completes g.W.Write.contents Asm c.args.job.now (unread_with 0 script words) script told c.args.writer.now c.write_out-written.new.writer
+    c.write_out-written.result c.ended.result (words, c.in-Ok.ensures.ok, refl) refl held
+    (rw c.as_slice.ensures.value at c.write_out-written.ensures) c.ended.ensures.ok c.ended.ensures.err not
+
+pub returns-in-Ok-clause-broken : goal.returns-in-Ok-clause-broken
+returns-in-Ok-clause-broken g c = λ script told held two.
+    let words = c.in-Ok.words.items in
+    inr (begins g.W.Write.contents Asm c.args.job.now (unread_with 0 script words) script told c.args.writer.now c.write_out-written.new.writer
+    c.write_out-written.result (words, c.in-Ok.ensures.ok, refl) held
+    (rw c.as_slice.ensures.value at c.write_out-written.ensures))

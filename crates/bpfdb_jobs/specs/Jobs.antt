@@ -1,0 +1,144 @@
+-- What a job comes to: the program, what each subcommand answers, and what a call of `tool` leaves.
+use Rattle.std.specs.Prelude.{◌≡◌, ◌≤◌, ◌⊎◌, ℕ, Bool, true, false, List, [], ◌++◌, Option, Some, None, is_some, length, map, take, count_by, codes, decimal}
+use Rattle.std.specs.Borrow.{Bor}
+use Rattle.std.specs.List.{All}
+use Rattle.bpf_isa.specs.Maps.{IsMapList, items_of, shape_of}
+use Rattle.bpf_isa.specs.Programs.{Checked, IsProgram}
+use Rattle.bpf_isa.specs.declared.maps.MapShape.{MapShape}
+use Rattle.bpf_text.specs.Canonical.{canon}
+use Rattle.counted_io.specs.Counted.{Tally}
+use Rattle.bpf_text.specs.Listing.{IsListing}
+use Rattle.counted_io.specs.Writing.{AppendsBeginning}
+use Rattle.bpf_machine.specs.Platform.{context_limit}
+use Rattle.bpf_machine.specs.State.{State, initial}
+use Rattle.bpf_journal.specs.Opening.{IsSize}
+use Rattle.counted_io.specs.Lines.{lines}
+use Rattle.bpf_session.specs.Output.{Walk, walk}
+use Rattle.bpf_session.specs.Plain.{ending_of, plain_end, text_of_ending}
+use Rattle.bpf_session.specs.Points.{Bounds, Point, opening}
+use Rattle.bpf_session.specs.Runs.{Interrupts, GoesOn, Leaves, first_lines}
+use Rattle.bpf_session.specs.declared.fault.RunFault.{RunFault}
+use Rattle.bpf_session.specs.declared.plain.Ending.{Ending}
+use Rattle.bpf_session.specs.declared.plain.Ending.TheVariants.{Exited, Faulted, Limit}
+use Rattle.bpfdb_jobs.specs.declared.job.Job.{Job}
+use Rattle.bpfdb_jobs.specs.declared.job.Subcommand.{Subcommand}
+use Rattle.bpfdb_jobs.specs.declared.job.Subcommand.TheVariants.{Run, Debug, Asm, Disasm, Check}
+
+-- The map table that a text names; no map where there is no text.
+abbrev pub HasMaps : Option (Bor (List ℕ)) → List MapShape → Type 0
+HasMaps None maps = maps ≡ []
+HasMaps (Some text) maps = IsMapList text.now × (maps ≡ map shape_of (items_of text.now))
+
+-- The words of a program: FILE's bytes, or those of the listing that FILE is.
+abbrev pub HasWords : Bool → List ℕ → List ℕ → Type 0
+HasWords false file words = words ≡ file
+HasWords true file words = IsListing file words
+
+-- The job's program: the checker accepted its words with its maps.
+pub record IsProgramOf (job : Job) (code : Checked) : Type 0 where
+  pub maps : HasMaps job.maps code.maps
+  pub words : HasWords job.is_listing job.file.now code.bytes
+  pub accepted : IsProgram code
+
+-- A machine can be opened on it with the job's context.
+pub record Opens (job : Job) (code : Checked) : Type 0 where
+  pub program : IsProgramOf job code
+  pub short : length job.context.now ≤ context_limit
+
+-- The most steps of a run or of a command.
+abbrev pub IsLimit : ℕ → Type 0
+IsLimit limit = (1 ≤ limit) × (limit ≤ 1_000_000_000)
+
+-- What a subcommand needs of its job. A job without it is refused.
+abbrev pub Needs : Subcommand → Job → Type 0
+Needs Run job = (code : Checked) × Opens job code
+Needs Debug job = (code : Checked) × Opens job code × IsSize job.journal
+Needs Asm job = (words : List ℕ) × IsListing job.file.now words
+Needs Disasm job = (code : Checked) × IsProgramOf job code
+Needs Check job = (code : Checked) × IsProgramOf job code
+
+-- An answer: the bytes on standard output, the exit status, and the lines of the script that are left unread.
+pub record Yield : Type 0 where
+  pub out : List ℕ
+  pub status : ℕ
+  pub unread : List (List ℕ)
+
+-- A subcommand that doesn't read the script.
+abbrev pub unread_with : ℕ → List ℕ → List ℕ → Yield
+unread_with status script out = record { out = out; status = status; unread = lines script }
+
+-- The exit status of a run: 1 where the program faulted or the limit was reached.
+abbrev pub status_of_ending : Ending → ℕ
+status_of_ending Exited = 0
+status_of_ending Faulted = 1
+status_of_ending Limit = 1
+
+-- `run`: what a run without history writes, from the machine's opening state to its end or to the limit.
+abbrev pub run_yield : List ℕ → State → Yield
+run_yield script end =
+    unread_with (status_of_ending (ending_of end.status)) script (text_of_ending (ending_of end.status) end)
+
+-- `debug`: what the script prints in a debugger that keeps whole states, where the journal's keeper refused what the gaps say.
+abbrev pub bounds_of_job : Job → Bounds
+bounds_of_job job = record { limit = job.limit; room = job.journal }
+
+abbrev pub beginning : Job → Checked → Point
+beginning job code = opening (initial code job.context.now)
+
+abbrev pub debug_yield : Walk → Yield
+debug_yield whole = record { out = whole.out; status = 0; unread = whole.unread }
+
+-- `check`: how many instructions, and in how many slots.
+unfoldable pub check_line : Checked → List ℕ
+check_line code =
+    codes "ok " ++ decimal (count_by is_some code.insns) ++ codes " instructions in " ++ decimal (length code.insns) ++ codes " slots\n"
+
+-- The answer to a job with a script on standard input.
+abbrev pub Yields : Subcommand → Job → List ℕ → Yield → Type 0
+Yields Run job script a = (code : Checked) × Opens job code × (a ≡ run_yield script (plain_end job.limit (initial code job.context.now)))
+Yields Debug job script a = (code : Checked) × Opens job code × IsSize job.journal × (gaps : List (Option ℕ))
+    × (a ≡ debug_yield (walk gaps (bounds_of_job job) (lines script) (beginning job code)))
+Yields Asm job script a = (words : List ℕ) × IsListing job.file.now words × (a ≡ unread_with 0 script words)
+Yields Disasm job script a = (code : Checked) × IsProgramOf job code × (a ≡ unread_with 0 script (canon code))
+Yields Check job script a = (code : Checked) × IsProgramOf job code × (a ≡ unread_with 0 script (check_line code))
+
+-- The whole answer was written behind what had been told before.
+pub record Completes (subcommand : Subcommand) (job : Job) (script told : List ℕ) (after left : Option (List ℕ)) (status : ℕ) : Type 0 where
+  pub yield : Yield
+  pub right : Yields subcommand job script yield
+  pub ends : status ≡ yield.status
+  pub written : after ≡ Some (told ++ yield.out)
+  pub ahead : Leaves yield.unread left
+
+-- A session that a failed read or write broke off behind k lines of the script.
+pub record DebugsPart (job : Job) (script told : List ℕ) (after left : Option (List ℕ)) : Type 0 where
+  pub why : RunFault
+  pub code : Checked
+  pub opens : Opens job code
+  pub sized : IsSize job.journal
+  pub gaps : List (Option ℕ)
+  pub k : ℕ
+  pub within : k ≤ length (lines script)
+  pub on : All GoesOn (take k (lines script))
+  pub broken : Interrupts why (first_lines gaps (bounds_of_job job) script (beginning job code)) k script told after left
+
+-- A beginning of the answer was written.
+abbrev pub BeginsYield : Subcommand → Job → List ℕ → List ℕ → Option (List ℕ) → Option (List ℕ) → Type 0
+BeginsYield subcommand job script told after left = (a : Yield) × Yields subcommand job script a
+    × AppendsBeginning (Some told) after a.out × (left ≡ Some script)
+
+abbrev pub Begins : Subcommand → Job → List ℕ → List ℕ → Option (List ℕ) → Option (List ℕ) → Type 0
+Begins Run = BeginsYield Run
+Begins Debug = DebugsPart
+Begins Asm = BeginsYield Asm
+Begins Disasm = BeginsYield Disasm
+Begins Check = BeginsYield Check
+
+-- A call that broke off: nothing was read and written, or a beginning of the answer was.
+abbrev pub StopsShort : Subcommand → Job → List ℕ → List ℕ → Option (List ℕ) → Option (List ℕ) → Type 0
+StopsShort subcommand job script told after left =
+    ((after ≡ Some told) × (left ≡ Some script)) ⊎ Begins subcommand job script told after left
+
+-- A reader, a writer or standard error counted no failure.
+abbrev pub Spared : {T : Type 0} → Tally T → Tally T → Type 0
+Spared old new = new.failures ≡ old.failures

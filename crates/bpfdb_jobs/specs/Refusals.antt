@@ -1,0 +1,36 @@
+-- Scaffolding: why a job is refused, in this order: its maps, its listing, its program, its context, its journal.
+use Rattle.std.specs.Prelude.{◌≡◌, ℕ, List, [], Some, true}
+use Rattle.std.specs.Borrow.{Bor}
+use Rattle.bpf_isa.specs.Checker.{IsRefused}
+use Rattle.bpf_isa.specs.Maps.{IsListFault}
+use Rattle.bpf_isa.specs.Programs.{Checked}
+use Rattle.bpf_isa.specs.declared.maps.MapShape.{MapShape}
+use Rattle.bpf_text.specs.Listing.{IsFaultOf}
+use Rattle.bpf_machine.specs.Opening.{Refused}
+use Rattle.bpf_journal.specs.Opening.{IsSize}
+use Rattle.bpf_journal.specs.Histories.{Kept}
+use Rattle.bpf_journal.specs.declared.fault.JournalFault.TheVariants.{SizeOutOfRange}
+use Rattle.bpf_session.specs.Sessions.{HasPast, SessionValue, bounds_of, point_of}
+use Rattle.bpfdb_jobs.specs.Jobs.{HasMaps, HasWords, IsProgramOf, Opens, beginning, bounds_of_job}
+use Rattle.bpfdb_jobs.specs.declared.job.Job.{Job}
+use Rattle.bpfdb_jobs.specs.declared.refusal.JobRefusal.{JobRefusal}
+use Rattle.bpfdb_jobs.specs.declared.refusal.JobRefusal.TheVariants.{Maps, Listing, Load, Open, Journal}
+
+-- Each refusal comes where those before don't.
+abbrev pub Refuses : Job → JobRefusal → Type 0
+Refuses job (Maps fault) = (text : Bor (List ℕ)) × (job.maps ≡ Some text) × IsListFault text.now fault
+Refuses job (Listing fault) = (shapes : List MapShape) × HasMaps job.maps shapes × (job.is_listing ≡ true)
+    × IsFaultOf job.file.now fault
+Refuses job (Load fault) = (shapes : List MapShape) × HasMaps job.maps shapes
+    × (words : List ℕ) × HasWords job.is_listing job.file.now words × IsRefused words shapes fault
+Refuses job (Open fault) = (code : Checked) × IsProgramOf job code × Refused job.context.now fault
+Refuses job (Journal fault) = (code : Checked) × Opens job code × (fault ≡ SizeOutOfRange) × (IsSize job.journal → ⊥)
+
+-- A session that was just opened for a job.
+pub record IsOpening {K : Type 0} (holds : K → List Kept → Type 0) (room : K → ℕ) (job : Job) (session : SessionValue K) : Type 0 where
+  pub code : Checked
+  pub opens : Opens job code
+  pub sized : IsSize job.journal
+  pub past : HasPast holds session []
+  pub begins : point_of session [] ≡ beginning job code
+  pub bounded : bounds_of room session ≡ bounds_of_job job

@@ -1,0 +1,41 @@
+//! The subcommand `debug`.
+ghost use Rattle.std.specs.Prelude.{◌≡◌, ◌≢◌, List, ℕ, Some};
+ghost use Rattle.bpfdb_jobs.specs.Jobs.{StopsShort, Completes, IsLimit, Needs, Spared};
+ghost use Rattle.bpfdb_jobs.specs.declared.job.Subcommand.TheVariants.{Debug};
+
+use crate::fault::JobFault;
+use crate::job::Job;
+use crate::opening::session_of;
+use crate::report::give_up;
+use bpf_session::{RunFault, run};
+use counted_io::Counted;
+use std::alloc::Global;
+use std::io::{Read, Write};
+
+/// Obeys the script from the reader and writes the replies.
+pub fn debug_job<R: Read, W: Write, E: Write>(
+    alloc: Global,
+    job: &Job<'_>,
+    reader: &mut Counted<R>,
+    writer: &mut Counted<W>,
+    errors: &mut Counted<E>,
+) -> u8
+    requires limit { IsLimit job.now.limit }
+    // The whole answer was written.
+    ensures value { (script told : List ℕ) → R.remaining reader.old.inner ≡ Some script → W.contents writer.old.inner ≡ Some told → result ≢ 2 →
+        Completes Debug job.now script told (W.contents writer.new.inner) (R.remaining reader.new.inner) result }
+    ensures broken { (script told : List ℕ) → R.remaining reader.old.inner ≡ Some script → W.contents writer.old.inner ≡ Some told → result ≡ 2 →
+        StopsShort Debug job.now script told (W.contents writer.new.inner) (R.remaining reader.new.inner) }
+    ensures refused { (Needs Debug job.now → ⊥) → (result ≡ 2) × (reader.new ≡ reader.old) × (writer.new ≡ writer.old) }
+    ensures spared { result ≢ 2 → Spared reader.old reader.new × Spared writer.old writer.new × Spared errors.old errors.new }
+{
+    let mut session = match session_of(alloc, job) {
+        Ok(session) => session,
+        Err(refusal) => return give_up(errors, JobFault::refused(refusal)),
+    };
+    match run(&mut session, reader, writer) {
+        Ok(()) => 0,
+        Err(RunFault::Read) => give_up(errors, JobFault::Input),
+        Err(RunFault::Write) => give_up(errors, JobFault::Output),
+    }
+}

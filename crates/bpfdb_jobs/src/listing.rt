@@ -1,0 +1,64 @@
+//! The subcommands `asm` and `disasm`.
+ghost use Rattle.std.specs.Prelude.{◌≡◌, ◌≢◌, List, ℕ, Some};
+ghost use Rattle.bpfdb_jobs.specs.Jobs.{StopsShort, Completes, Needs, Spared};
+ghost use Rattle.bpfdb_jobs.specs.declared.job.Subcommand.TheVariants.{Asm, Disasm};
+
+use crate::fault::JobFault;
+use crate::job::Job;
+use crate::opening::program_of;
+use crate::refusal::JobRefusal;
+use crate::report::{ended, give_up, write_out};
+use bpf_text::{assemble, disassemble};
+use counted_io::Counted;
+use std::alloc::Global;
+use std::io::Write;
+
+/// Writes the words of a listing. The program isn't checked.
+pub fn asm_job<W: Write, E: Write>(
+    alloc: Global,
+    job: &Job<'_>,
+    writer: &mut Counted<W>,
+    errors: &mut Counted<E>,
+) -> u8
+    ensures value { (script told : List ℕ) → W.contents writer.old.inner ≡ Some told → result ≢ 2 →
+        Completes Asm job.now script told (W.contents writer.new.inner) (Some script) result }
+    ensures broken { (script told : List ℕ) → W.contents writer.old.inner ≡ Some told → result ≡ 2 →
+        StopsShort Asm job.now script told (W.contents writer.new.inner) (Some script) }
+    ensures refused { (Needs Asm job.now → ⊥) → (result ≡ 2) × (writer.new ≡ writer.old) }
+    ensures spared { result ≢ 2 → Spared writer.old writer.new × Spared errors.old errors.new }
+{
+    match assemble(alloc, job.file) {
+        Ok(words) => {
+            let written = write_out(writer, words.as_slice());
+            ended(written, errors)
+        }
+        Err(fault) => give_up(errors, JobFault::refused(JobRefusal::Listing(fault))),
+    }
+}
+
+/// Writes the canonical listing of a program.
+pub fn disasm_job<W: Write, E: Write>(
+    alloc: Global,
+    job: &Job<'_>,
+    writer: &mut Counted<W>,
+    errors: &mut Counted<E>,
+) -> u8
+    ensures value { (script told : List ℕ) → W.contents writer.old.inner ≡ Some told → result ≢ 2 →
+        Completes Disasm job.now script told (W.contents writer.new.inner) (Some script) result }
+    ensures broken { (script told : List ℕ) → W.contents writer.old.inner ≡ Some told → result ≡ 2 →
+        StopsShort Disasm job.now script told (W.contents writer.new.inner) (Some script) }
+    ensures refused { (Needs Disasm job.now → ⊥) → (result ≡ 2) × (writer.new ≡ writer.old) }
+    ensures spared { result ≢ 2 → Spared writer.old writer.new × Spared errors.old errors.new }
+{
+    let program = match program_of(alloc, job) {
+        Ok(program) => program,
+        Err(refusal) => return give_up(errors, JobFault::refused(refusal)),
+    };
+    match disassemble(alloc, &program) {
+        Ok(listing) => {
+            let written = write_out(writer, listing.as_slice());
+            ended(written, errors)
+        }
+        Err(_) => give_up(errors, JobFault::Memory),
+    }
+}

@@ -1,0 +1,110 @@
+//! What a job is done with: its program, a machine, a session.
+ghost use Rattle.std.specs.Prelude.{◌≡◌, IfErr, IfOk, true};
+ghost use Rattle.bpf_isa.specs.Programs.{Checked};
+ghost use Rattle.bpf_machine.specs.State.{initial};
+ghost use Rattle.bpfdb_jobs.specs.Jobs.{HasMaps, HasWords, IsLimit, IsProgramOf, Opens};
+ghost use Rattle.bpfdb_jobs.specs.Refusals.{IsOpening, Refuses};
+
+use crate::job::Job;
+use crate::refusal::JobRefusal;
+use bpf_isa::{MapTable, Program, check};
+use bpf_journal::{Keeper, ListKeeper};
+use bpf_machine::Cpu;
+use bpf_session::Session;
+use bpf_text::assemble;
+use std::alloc::Global;
+
+/// The map table.
+fn maps_of(job: &Job<'_>) -> Result<MapTable, JobRefusal>
+    ensures ok { IfOk result (HasMaps job.now.maps) }
+    ensures err { IfErr result (Refuses job.now) }
+{
+    match job.maps {
+        None => Ok(MapTable::empty()),
+        Some(text) => match MapTable::parse(text) {
+            Ok(maps) => Ok(maps),
+            Err(fault) => Err(JobRefusal::Maps(fault)),
+        },
+    }
+}
+
+/// The program: first its maps are read, then the listing, if FILE is one, is assembled, then the checker looks at the words.
+pub fn program_of(alloc: Global, job: &Job<'_>) -> Result<Program, JobRefusal>
+    ensures ok { IfOk result (IsProgramOf job.now) }
+    ensures err { IfErr result (Refuses job.now) }
+{
+    let maps = match maps_of(job) {
+        Ok(maps) => maps,
+        Err(refusal) => return Err(refusal),
+    };
+    if job.is_listing {
+        assembled(alloc, job, &maps)
+    } else {
+        checked(alloc, job, job.file, &maps)
+    }
+}
+
+/// The program of a listing.
+fn assembled(alloc: Global, job: &Job<'_>, maps: &MapTable) -> Result<Program, JobRefusal>
+    requires maps { HasMaps job.now.maps maps.now }
+    requires listing { job.now.is_listing ≡ true }
+    ensures ok { IfOk result (IsProgramOf job.now) }
+    ensures err { IfErr result (Refuses job.now) }
+{
+    match assemble(alloc, job.file) {
+        Ok(words) => checked(alloc, job, words.as_slice(), maps),
+        Err(fault) => Err(JobRefusal::Listing(fault)),
+    }
+}
+
+/// The program of these words.
+fn checked(
+    alloc: Global,
+    job: &Job<'_>,
+    words: &[u8],
+    maps: &MapTable,
+) -> Result<Program, JobRefusal>
+    requires maps { HasMaps job.now.maps maps.now }
+    requires words { HasWords job.now.is_listing job.now.file.now words.now }
+    ensures ok { IfOk result (IsProgramOf job.now) }
+    ensures err { IfErr result (Refuses job.now) }
+{
+    match check(alloc, words, maps) {
+        Ok(program) => {
+            program.invariant();
+            Ok(program)
+        }
+        Err(fault) => Err(JobRefusal::Load(fault)),
+    }
+}
+
+/// A machine before its first step.
+pub fn machine_of(alloc: Global, job: &Job<'_>) -> Result<Cpu, JobRefusal>
+    ensures ok { IfOk result (λ cpu. (code : Checked) × Opens job.now code × (cpu ≡ initial code job.now.context.now)) }
+    ensures err { IfErr result (Refuses job.now) }
+{
+    let program = match program_of(alloc, job) {
+        Ok(program) => program,
+        Err(refusal) => return Err(refusal),
+    };
+    match Cpu::open(alloc, program, job.context) {
+        Ok(cpu) => Ok(cpu),
+        Err(fault) => Err(JobRefusal::Open(fault)),
+    }
+}
+
+/// A session before its first command.
+pub fn session_of(alloc: Global, job: &Job<'_>) -> Result<Session<ListKeeper>, JobRefusal>
+    requires limit { IsLimit job.now.limit }
+    ensures ok { IfOk result (IsOpening ⟦<ListKeeper as Keeper>⟧.holds ⟦<ListKeeper as Keeper>⟧.room job.now) }
+    ensures err { IfErr result (Refuses job.now) }
+{
+    let cpu = match machine_of(alloc, job) {
+        Ok(cpu) => cpu,
+        Err(refusal) => return Err(refusal),
+    };
+    match ListKeeper::open(alloc, job.journal as usize) {
+        Ok(keeper) => Ok(Session::open(cpu, keeper, job.limit)),
+        Err(fault) => Err(JobRefusal::Journal(fault)),
+    }
+}

@@ -1,0 +1,56 @@
+//! The subcommand `run`.
+ghost use Rattle.std.specs.Prelude.{◌≡◌, ◌≢◌, List, OnErr, OnOk, ℕ, Some};
+ghost use Rattle.bpfdb_jobs.specs.Jobs.{StopsShort, Completes, Needs, Spared};
+ghost use Rattle.bpfdb_jobs.specs.declared.job.Subcommand.TheVariants.{Run};
+
+use crate::fault::JobFault;
+use crate::job::Job;
+use crate::opening::machine_of;
+use crate::report::{give_up, tell, tell_place};
+use bpf_session::{Ending, run_plain};
+use counted_io::{Counted, WriteFault};
+use std::alloc::Global;
+use std::io::Write;
+
+/// Runs the program to its end or to the limit, and writes r0. A fault of the program, and the limit, are told on standard error.
+pub fn run_job<W: Write, E: Write>(
+    alloc: Global,
+    job: &Job<'_>,
+    writer: &mut Counted<W>,
+    errors: &mut Counted<E>,
+) -> u8
+    ensures value { (script told : List ℕ) → W.contents writer.old.inner ≡ Some told → result ≢ 2 →
+        Completes Run job.now script told (W.contents writer.new.inner) (Some script) result }
+    ensures broken { (script told : List ℕ) → W.contents writer.old.inner ≡ Some told → result ≡ 2 →
+        StopsShort Run job.now script told (W.contents writer.new.inner) (Some script) }
+    ensures refused { (Needs Run job.now → ⊥) → (result ≡ 2) × (writer.new ≡ writer.old) }
+    ensures spared { result ≢ 2 → Spared writer.old writer.new × Spared errors.old errors.new }
+{
+    let mut cpu = match machine_of(alloc, job) {
+        Ok(cpu) => cpu,
+        Err(refusal) => return give_up(errors, JobFault::refused(refusal)),
+    };
+    match run_plain(&mut cpu, job.limit, writer) {
+        Ok(Ending::Exited) => 0,
+        Ok(Ending::Faulted) => stopped(tell_place(errors, &cpu)),
+        Ok(Ending::Limit) => stopped(tell(errors, limit_fault(job.limit, cpu.pc()))),
+        Err(_) => give_up(errors, JobFault::Output),
+    }
+}
+
+/// The exit status of a run that didn't reach its end, of which that was told on standard error, or couldn't be.
+fn stopped(told: Result<(), WriteFault>) -> u8
+    ensures value { result ≢ 2 → result ≡ 1 }
+    ensures ok { OnOk told (result ≡ 1) }
+    ensures err { OnErr told (result ≡ 2) }
+{
+    match told {
+        Ok(()) => 1,
+        Err(WriteFault) => 2,
+    }
+}
+
+/// What is told of a run that took as many steps as it may.
+fn limit_fault(limit: u64, slot: u16) -> JobFault {
+    JobFault::Limit { limit, slot }
+}

@@ -1,0 +1,17 @@
+use Rattle.std.proofs.Common.{◌<◌, length, arith}
+use Rattle.bpfdb_replies.specs.Texts.{text_of_frame}
+use Rattle.bpfdb_replies.proofs.Telling.{Telling-start, Telling-step, Telling-end, pieces-back, pieces-back-end}
+use Rattle.bpfdb_replies.proofs.frames.put_lines.Goals as goal
+
+pub loop-i-init : goal.loop-i-init
+loop-i-init g c = Telling-start _ _ _ _
+
+pub loop-i-preserved : goal.loop-i-preserved
+loop-i-preserved g c =
+    let xs = c.args.cpu.now.frames in
+    let inside : c.loop-i.i < length xs = omega (arith, c.depth-i-end.ensures, c.loop-i-test.true) in
+    Telling-step _ _ _ _ _ _ _ _ _ _ _ c.loop-i.invariant c.put_pushed-told.ensures (pieces-back text_of_frame xs c.loop-i.i inside)
+
+pub returns : goal.returns
+returns g c =
+    Telling-end _ _ _ _ _ _ _ c.loop-i.invariant (pieces-back-end text_of_frame c.args.cpu.now.frames c.loop-i.i (omega (arith, c.depth-i-end.ensures)))
