@@ -3,7 +3,7 @@ use Rattle.std.specs.Prelude.{if◌then◌else◌, ◌==◌, option_map}
 use Rattle.std.proofs.Common.{◌≡◌, ◌+◌, ◌-◌, ◌<◌, ◌≤◌, ℕ, zero, suc, Bool, true, false, List, [], ◌∷◌, Option, Some, None, length, take, drop, map, refl, sym, ap, subst, ◌∙◌, arith, add-one}
 use Rattle.std.proofs.lemmas.Bool.Decides.{nat_tests}
 use Rattle.bpf_machine.specs.ByAddress.{byte}
-use Rattle.bpf_machine.specs.declared.entry.Entry.{Entry}
+use Rattle.bpf_entries.specs.declared.entry.Entry.{Entry}
 use Rattle.bpf_machine.specs.Moves.{overwritten}
 use Rattle.bpf_machine.specs.State.{State, depth}
 use Rattle.bpf_journal.specs.Histories.{Kept, Record, IsRun, kept_of}

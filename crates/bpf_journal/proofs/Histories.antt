@@ -3,7 +3,7 @@ use Rattle.std.specs.Prelude.{◌+◌, fold, cond, count_by, sum_by}
 use Rattle.std.proofs.Common.{◌≡◌, ℕ, List, [], ◌∷◌, Bool, true, false, Some, map, refl, sym, ap, subst, ◌∙◌}
 use Rattle.bpf_machine.specs.declared.edit.Edit.{Edit}
 use Rattle.bpf_machine.specs.declared.edit.Edit.TheVariants as edit
-use Rattle.bpf_machine.specs.declared.entry.Entry.{Entry}
+use Rattle.bpf_entries.specs.declared.entry.Entry.{Entry}
 use Rattle.bpf_machine.specs.declared.moves.Move.{Move}
 use Rattle.bpf_machine.specs.Edits.{edit_entry}
 use Rattle.bpf_machine.specs.Moves.{Leads, HasCome, overwritten}

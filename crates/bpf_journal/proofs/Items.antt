@@ -5,9 +5,9 @@ use Rattle.std.proofs.lemmas.List.{reverse-append, reverse-reverse, length-rever
 use Rattle.std.proofs.lemmas.List.Sums.{sum_by-cons, sum_by_push}
 use Rattle.std.proofs.Math.ListN.{get_or, get_or-map}
 use Rattle.std.proofs.Math.Seq.{get_or-append_seam}
-use Rattle.bpf_machine.specs.declared.entry.Entry.{Entry}
-use Rattle.bpf_machine.specs.declared.entry.Entry.TheVariants as entry
-use Rattle.bpf_machine.specs.Entries.{weight}
+use Rattle.bpf_entries.specs.declared.entry.Entry.{Entry}
+use Rattle.bpf_entries.specs.declared.entry.Entry.TheVariants as entry
+use Rattle.bpf_entries.specs.Weights.{weight}
 use Rattle.bpf_journal.specs.declared.item.Item.{Item}
 use Rattle.bpf_journal.specs.Histories.{Kept, kept_weight, newest, fit}
 use Rattle.bpf_journal.specs.Items.{kept_item, mark_count, held, marks, IsCounted, LosesOldest}

@@ -4,19 +4,19 @@ use Rattle.bpf_machine.specs.declared.edit.Edit.{Edit}
 use Rattle.bpf_machine.specs.declared.edit.Edit.TheVariants as edit
 use Rattle.bpf_machine.specs.declared.edit.EditFault.{EditFault}
 use Rattle.bpf_machine.specs.declared.edit.EditFault.TheVariants.{AddressNotPresent, RegisterNotWritable, NoStart, NoCell}
-use Rattle.bpf_machine.specs.declared.entry.Entry.{Entry}
-use Rattle.bpf_machine.specs.declared.entry.Entry.TheVariants as entry
+use Rattle.bpf_entries.specs.declared.entry.Entry.{Entry}
+use Rattle.bpf_entries.specs.declared.entry.Entry.TheVariants as entry
 use Rattle.bpf_machine.specs.declared.moves.Move.{Move}
 use Rattle.bpf_machine.specs.declared.moves.Move.TheVariants as move
 use Rattle.bpf_machine.specs.Edits.{IsEditable, RefusesEdit}
-use Rattle.bpf_machine.specs.Entries.{weight}
+use Rattle.bpf_entries.specs.Weights.{weight}
 use Rattle.bpf_machine.specs.Moves.{IsMovable, moved}
 use Rattle.bpf_machine.specs.State.{State}
 use Rattle.bpf_machine.specs.Undoing.{undone}
 use Rattle.bpf_machine.proofs.Undoing.{undoing}
 use Rattle.bpf_journal.specs.declared.fault.MoveFault.{MoveFault}
 use Rattle.bpf_journal.specs.declared.fault.MoveFault.TheVariants as fault
-use Rattle.bpf_machine.specs.Fields.{FitsFields}
+use Rattle.bpf_entries.specs.Fields.{FitsFields}
 use Rattle.bpf_journal.specs.Histories.{kept_weight}
 use Rattle.bpf_journal.specs.Laws.{OneAfter, OneBefore, ReplayIsExact, RefusedLeadsNowhere, EveryEntryIsKept}
 use Rattle.bpf_journal.specs.Reverting.{RefusesMove}

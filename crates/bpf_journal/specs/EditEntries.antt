@@ -1,7 +1,7 @@
 -- Scaffolding: the entries of edits and of steps, and keepers that hold some.
 use Rattle.std.specs.Prelude.{Bool, true, false, List}
-use Rattle.bpf_machine.specs.declared.entry.Entry.{Entry}
-use Rattle.bpf_machine.specs.declared.entry.Entry.TheVariants as entry
+use Rattle.bpf_entries.specs.declared.entry.Entry.{Entry}
+use Rattle.bpf_entries.specs.declared.entry.Entry.TheVariants as entry
 use Rattle.bpf_journal.specs.Histories.{Kept}
 
 -- The entry of an edit.

@@ -1,6 +1,6 @@
 -- Scaffolding: how a list keeper keeps its entries. No public contract cites this.
 use Rattle.std.specs.Prelude.{◌≡◌, ℕ, List, [], ◌∷◌, ◌++◌, if◌then◌else◌, map, reverse, sum_by, count_by}
-use Rattle.bpf_machine.specs.declared.entry.Entry.{Entry}
+use Rattle.bpf_entries.specs.declared.entry.Entry.{Entry}
 use Rattle.bpf_machine.specs.Entries.{expanded}
 use Rattle.bpf_journal.specs.declared.item.Item.{Item}
 use Rattle.bpf_journal.specs.declared.item.Stored.{Stored}

@@ -1,7 +1,7 @@
 -- What a keeper's calls say of the lists that it holds.
 use Rattle.std.specs.Prelude.{◌≡◌, ◌≤◌, ℕ, Bool, List, [], ◌∷◌, ◌++◌, Option, Some, None, Result, Ok, Err, sum_by}
 use Rattle.bpf_machine.specs.declared.compact.CompactEntry.{CompactEntry}
-use Rattle.bpf_machine.specs.declared.entry.Entry.{Entry}
+use Rattle.bpf_entries.specs.declared.entry.Entry.{Entry}
 use Rattle.bpf_machine.specs.Entries.{expanded}
 use Rattle.bpf_journal.specs.Counts.{once_more}
 use Rattle.bpf_journal.specs.Histories.{Kept, kept_weight, newest, older}

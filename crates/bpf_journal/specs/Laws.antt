@@ -1,11 +1,11 @@
 -- Laws of histories and moves.
 use Rattle.std.specs.Prelude.{◌≡◌, ◌≤◌, ◌<◌, ℕ, ◌-◌, Bool, List, [], ◌∷◌, ◌++◌, sum_by}
-use Rattle.bpf_machine.specs.declared.entry.Entry.{Entry}
+use Rattle.bpf_entries.specs.declared.entry.Entry.{Entry}
 use Rattle.bpf_machine.specs.declared.moves.Move.{Move}
 use Rattle.bpf_machine.specs.Moves.{Leads, overwritten}
 use Rattle.bpf_machine.specs.State.{State}
 use Rattle.bpf_journal.specs.declared.fault.MoveFault.{MoveFault}
-use Rattle.bpf_machine.specs.Fields.{FitsFields}
+use Rattle.bpf_entries.specs.Fields.{FitsFields}
 use Rattle.bpf_journal.specs.Histories.{Kept, kept_weight, fit, keep}
 use Rattle.bpf_journal.specs.Opening.{IsSize}
 use Rattle.bpf_journal.specs.Reverting.{RefusesMove}

@@ -1,11 +1,11 @@
 -- Why a move is refused, and what came by a move.
 use Rattle.std.specs.Prelude.{◌≡◌, true}
-use Rattle.bpf_machine.specs.declared.entry.Entry.{Entry}
+use Rattle.bpf_entries.specs.declared.entry.Entry.{Entry}
 use Rattle.bpf_machine.specs.declared.moves.Move.{Move}
 use Rattle.bpf_machine.specs.declared.moves.Move.TheVariants as move
 use Rattle.bpf_machine.specs.Edits.{RefusesEdit}
 use Rattle.bpf_machine.specs.State.{State}
-use Rattle.bpf_machine.specs.Status.{has_ended}
+use Rattle.bpf_entries.specs.Status.{has_ended}
 use Rattle.bpf_journal.specs.declared.fault.MoveFault.{MoveFault}
 use Rattle.bpf_journal.specs.declared.fault.MoveFault.TheVariants as fault
 

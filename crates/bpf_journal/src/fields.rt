@@ -1,8 +1,8 @@
 //! What entries are: which are those of steps, and which fit their fields, those whose parts are in their types' ranges, and whose byte strings are short enough.
 ghost use Rattle.std.specs.Prelude.{◌≡◌, if◌then◌else◌, ◌<◌, ◌≤◌, ◌^◌, All};
 ghost use Rattle.bpf_machine.specs.Entries.{expanded};
-ghost use Rattle.bpf_machine.specs.Fields.{FitsBytes, FitsFields};
-ghost use Rattle.bpf_machine.specs.Status.{FitsStatus};
+ghost use Rattle.bpf_entries.specs.Fields.{FitsBytes, FitsFields};
+ghost use Rattle.bpf_entries.specs.Status.{FitsStatus};
 ghost use Rattle.bpf_journal.specs.EditEntries.{IsOfEdit, is_of_step as is_of_step_of};
 
 use bpf_machine::{ByteString, CompactEntry, Entry, Fault, Status};

@@ -1,6 +1,6 @@
 //! Items of a list keeper: a compact entry in place, a large one in a box, so that no large value lies in the list.
 ghost use Rattle.std.specs.Prelude.{◌≡◌, IfOk, IfSome};
-ghost use Rattle.bpf_machine.specs.Entries.{weight as weight_of};
+ghost use Rattle.bpf_entries.specs.Weights.{weight as weight_of};
 ghost use Rattle.bpf_journal.specs.Keepers.{kept_compact};
 
 use bpf_machine::{CompactEntry, Entry};

@@ -1,7 +1,7 @@
 //! What can be changed by moves and taken back.
 ghost use Rattle.std.specs.Prelude.{◌≡◌, IfOk, IfErr, OnOk, OnErr};
 ghost use Rattle.bpf_journal.specs.Reverting.{HasComeBy, RefusesMove};
-ghost use Rattle.bpf_machine.specs.declared.entry.Entry.{Entry};
+ghost use Rattle.bpf_entries.specs.declared.entry.Entry.{Entry};
 ghost use Rattle.bpf_machine.specs.declared.moves.Move.{Move};
 ghost use Rattle.bpf_journal.specs.declared.fault.MoveFault.{MoveFault};
 

@@ -3,7 +3,7 @@ ghost use Rattle.std.specs.Prelude.{◌≡◌, ℕ, List, [], length, min, count
 ghost use Rattle.bpf_machine.specs.declared.moves.Move.TheVariants as move_of;
 ghost use Rattle.bpf_machine.specs.Entries.{step_entry};
 ghost use Rattle.bpf_machine.specs.Next.{change as change_of};
-ghost use Rattle.bpf_machine.specs.Status.{has_ended};
+ghost use Rattle.bpf_entries.specs.Status.{has_ended};
 ghost use Rattle.bpf_journal.specs.EditEntries.{HoldsSome, is_of_step as is_of_step_entry};
 ghost use Rattle.bpf_journal.specs.Histories.{Kept, Record, StandsFor, HasHistory, is_step, keep, kept_weight, record_weight};
 ghost use Rattle.bpf_journal.specs.Keepers.{refusals_after};

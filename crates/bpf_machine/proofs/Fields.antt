@@ -22,8 +22,9 @@ use Rattle.bpf_machine.specs.Next.{change}
 use Rattle.bpf_machine.specs.Entries.{entry_of}
 use Rattle.bpf_machine.specs.Edits.{IsEditable, edit_entry}
 use Rattle.bpf_machine.specs.Moves.{IsMovable, overwritten}
-use Rattle.bpf_machine.specs.Fields.{FitsSlot, FitsBytes, FitsFields, FitsEdit, FitsMove, EntriesFit}
-use Rattle.bpf_machine.specs.Status.{FitsNumber, FitsStatus}
+use Rattle.bpf_entries.specs.Fields.{FitsSlot, FitsBytes, FitsFields}
+use Rattle.bpf_machine.specs.Fields.{FitsEdit, FitsMove, EntriesFit}
+use Rattle.bpf_entries.specs.Status.{FitsNumber, FitsStatus}
 use Rattle.bpf_machine.proofs.ByAddress.{fits_within, length-run}
 use Rattle.bpf_machine.proofs.Cells.{cell_present, cell_address_fits}
 use Rattle.bpf_machine.proofs.Fitting.{number_fits, four_fit, change_fits}

@@ -8,8 +8,8 @@ use Rattle.bpf_machine.specs.declared.edit.Edit.{Edit}
 use Rattle.bpf_machine.specs.declared.edit.Edit.TheVariants as edit
 use Rattle.bpf_machine.specs.declared.moves.Move.{Move}
 use Rattle.bpf_machine.specs.declared.moves.Move.TheVariants as move
-use Rattle.bpf_machine.specs.declared.entry.Entry.{Entry}
-use Rattle.bpf_machine.specs.declared.entry.Entry.TheVariants as entry
+use Rattle.bpf_entries.specs.declared.entry.Entry.{Entry}
+use Rattle.bpf_entries.specs.declared.entry.Entry.TheVariants as entry
 use Rattle.bpf_machine.specs.declared.frame.Frame.{Frame}
 use Rattle.bpf_machine.specs.Calls.{saved, popped, innermost}
 use Rattle.bpf_machine.specs.State.{State, IsState, depth}

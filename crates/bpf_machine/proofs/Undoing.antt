@@ -13,7 +13,7 @@ use Rattle.byteorder.specs.Endian.{little_bytes}
 use Rattle.byteorder.specs.Numbers.{length-bytes_low_first}
 use Rattle.bpf_isa.specs.Sizes.{size_len}
 use Rattle.bpf_isa.specs.Programs.{Checked}
-use Rattle.bpf_machine.specs.declared.entry.Entry.TheVariants as entry
+use Rattle.bpf_entries.specs.declared.entry.Entry.TheVariants as entry
 use Rattle.bpf_machine.specs.declared.frame.Frame.{Frame}
 use Rattle.bpf_machine.specs.Calls.{saved, with_saved, frame_of, popped, innermost}
 use Rattle.bpf_machine.specs.Fetched.{Fits}
@@ -23,9 +23,9 @@ use Rattle.bpf_machine.specs.declared.edit.Edit.{Edit}
 use Rattle.bpf_machine.specs.declared.edit.Edit.TheVariants as edit
 use Rattle.bpf_machine.specs.declared.moves.Move.{Move}
 use Rattle.bpf_machine.specs.declared.moves.Move.TheVariants as move
-use Rattle.bpf_machine.specs.declared.status.Status.{Status}
-use Rattle.bpf_machine.specs.declared.status.Status.TheVariants.{Running, Exited, Faulted}
-use Rattle.bpf_machine.specs.Status.{has_ended}
+use Rattle.bpf_entries.specs.declared.status.Status.{Status}
+use Rattle.bpf_entries.specs.declared.status.Status.TheVariants.{Running, Exited, Faulted}
+use Rattle.bpf_entries.specs.Status.{has_ended}
 use Rattle.bpf_machine.specs.Platform.{cell_address}
 use Rattle.bpf_machine.specs.Regions.{Image, IsImage, index_of, run, run_at, number_at, paste, with_bytes, put}
 use Rattle.bpf_machine.specs.State.{State, IsState, IsFrame, register, depth}

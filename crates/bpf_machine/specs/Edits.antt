@@ -6,9 +6,9 @@ use Rattle.bpf_machine.specs.declared.edit.Edit.{Edit}
 use Rattle.bpf_machine.specs.declared.edit.Edit.TheVariants as edit
 use Rattle.bpf_machine.specs.declared.edit.EditFault.{EditFault}
 use Rattle.bpf_machine.specs.declared.edit.EditFault.TheVariants.{AddressNotPresent, RegisterNotWritable, NoStart, NoCell}
-use Rattle.bpf_machine.specs.declared.entry.Entry.{Entry}
-use Rattle.bpf_machine.specs.declared.entry.Entry.TheVariants.{EditRegister, EditBytes, EditPc}
-use Rattle.bpf_machine.specs.declared.status.Status.TheVariants.{Running}
+use Rattle.bpf_entries.specs.declared.entry.Entry.{Entry}
+use Rattle.bpf_entries.specs.declared.entry.Entry.TheVariants.{EditRegister, EditBytes, EditPc}
+use Rattle.bpf_entries.specs.declared.status.Status.TheVariants.{Running}
 use Rattle.bpf_machine.specs.Platform.{cell_address}
 use Rattle.bpf_machine.specs.Regions.{index_of, run_at, put}
 use Rattle.bpf_machine.specs.State.{State, register}

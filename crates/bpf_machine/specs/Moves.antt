@@ -2,8 +2,8 @@
 use Rattle.std.specs.Prelude.{◌≡◌, false}
 use Rattle.bpf_machine.specs.declared.moves.Move.{Move}
 use Rattle.bpf_machine.specs.declared.moves.Move.TheVariants as move
-use Rattle.bpf_machine.specs.declared.entry.Entry.{Entry}
-use Rattle.bpf_machine.specs.Status.{has_ended}
+use Rattle.bpf_entries.specs.declared.entry.Entry.{Entry}
+use Rattle.bpf_entries.specs.Status.{has_ended}
 use Rattle.bpf_machine.specs.State.{State, IsState}
 use Rattle.bpf_machine.specs.Next.{next}
 use Rattle.bpf_machine.specs.Entries.{step_entry}

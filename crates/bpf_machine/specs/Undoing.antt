@@ -1,9 +1,9 @@
 -- Scaffolding: how an entry is put back into a state, as the code does it. The contract of `revert` speaks of moves alone.
 use Rattle.std.specs.Prelude.{◌<◌, ◌+◌, ◌-◌, length, take, slice_set}
 use Rattle.bpf_isa.specs.Programs.{IsStart}
-use Rattle.bpf_machine.specs.declared.entry.Entry.{Entry}
-use Rattle.bpf_machine.specs.declared.entry.Entry.TheVariants as entry
-use Rattle.bpf_machine.specs.declared.status.Status.TheVariants.{Running}
+use Rattle.bpf_entries.specs.declared.entry.Entry.{Entry}
+use Rattle.bpf_entries.specs.declared.entry.Entry.TheVariants as entry
+use Rattle.bpf_entries.specs.declared.status.Status.TheVariants.{Running}
 use Rattle.bpf_machine.specs.Calls.{with_saved, pushed, popped}
 use Rattle.bpf_machine.specs.Platform.{frame_count}
 use Rattle.bpf_machine.specs.Regions.{put}

@@ -1,6 +1,6 @@
 //! What a step does to the machine: the places that it replaces, and their new values.
 
-use crate::status::Status;
+use bpf_entries::Status;
 use bpf_isa::{Reg, Size};
 
 /// What a step does. There is a variant for each kind of entry that a step makes.

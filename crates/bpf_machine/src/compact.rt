@@ -3,8 +3,7 @@ ghost use Rattle.std.specs.Prelude.{◌≡◌};
 ghost use Rattle.byteorder.specs.Endian.{little_bytes};
 ghost use Rattle.bpf_isa.specs.Sizes.{size_len};
 
-use crate::byte_string::ByteString;
-use crate::entry::Entry;
+use bpf_entries::{ByteString, Entry};
 use bpf_isa::{Reg, Size};
 use byteorder::{ByteOrder, LittleEndian};
 
@@ -53,7 +52,8 @@ pub enum CompactEntry {
 }
 
 impl CompactEntry {
-    ghost use Rattle.bpf_machine.specs.Entries.{expanded as expanded_of, weight as weight_of};
+    ghost use Rattle.bpf_entries.specs.Weights.{weight as weight_of};
+    ghost use Rattle.bpf_machine.specs.Entries.{expanded as expanded_of};
 
     /// The entry that it means.
     #[tactic(auto, unfolding(crate::specs::Entries::expanded))]

@@ -1,6 +1,6 @@
 //! The machine: its state, and the doing of a change.
 ghost use Rattle.std.specs.Prelude.{◌≡◌, ◌<◌, ◌^◌, All, length, slice_set, false};
-ghost use Rattle.bpf_machine.specs.Status.{has_ended};
+ghost use Rattle.bpf_entries.specs.Status.{has_ended};
 
 mod atomic;
 mod edit;
@@ -11,14 +11,13 @@ mod reads;
 mod revert;
 mod step;
 
-use crate::byte_string::ByteString;
 use crate::change::Change;
 use crate::code::Code;
 use crate::frame::Frame;
 use crate::memory::Memory;
 use crate::platform::TRACE_LIMIT;
-use crate::status::Status;
 use arrayvec::ArrayVec;
+use bpf_entries::{ByteString, Status};
 use bpf_isa::{Program, Reg};
 use std::marker::Model;
 

@@ -1,6 +1,6 @@
 //! Edits: what a user changes in a machine by hand.
 
-use crate::byte_string::ByteString;
+use bpf_entries::ByteString;
 use bpf_isa::Reg;
 
 /// A change by hand. It is made in every status, and counts as a move.

@@ -2,13 +2,12 @@
 #![tactic(auto)]
 
 mod alu;
-mod byte_string;
 mod change;
 mod code;
 mod compact;
 mod cpu;
 mod edit;
-mod entry;
+mod ended;
 mod fault;
 mod frame;
 pub mod laws;
@@ -16,16 +15,14 @@ mod map_layout;
 mod memory;
 mod moves;
 mod platform;
-mod status;
 
-pub use byte_string::ByteString;
+pub use bpf_entries::{ByteString, Entry, Fault, Status};
 pub use change::Change;
 pub use compact::CompactEntry;
 pub use cpu::Cpu;
 pub use edit::{Edit, EditFault};
-pub use entry::Entry;
+pub use ended::Ended;
 pub use fault::OpenFault;
 pub use frame::Frame;
 pub use memory::Memory;
 pub use moves::Move;
-pub use status::{Ended, Fault, Status};

@@ -7,7 +7,7 @@ use Rattle.bpf_machine.specs.Next.{next}
 use Rattle.bpf_machine.specs.ByAddress.{byte}
 use Rattle.bpf_machine.specs.Entries.{step_entry}
 use Rattle.bpf_machine.specs.Moves.{Leads}
-use Rattle.bpf_machine.specs.Status.{has_ended}
+use Rattle.bpf_entries.specs.Status.{has_ended}
 use Rattle.bpf_machine.specs.declared.moves.Move.TheVariants.{Step}
 use Rattle.bpf_journal.specs.Counts.{once_more}
 use Rattle.bpf_journal.specs.Histories.{Record, Kept, record_weight, keep}

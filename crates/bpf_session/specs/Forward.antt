@@ -2,7 +2,7 @@
 use Rattle.std.specs.Prelude.{◌+◌, ℕ, zero, suc, Bool, List, Option, Some, None, is_some, unwrap_or, if◌then◌else◌, ◌==◌, nat_lt}
 use Rattle.bpf_machine.specs.Next.{next}
 use Rattle.bpf_machine.specs.State.{State}
-use Rattle.bpf_machine.specs.Status.{has_ended}
+use Rattle.bpf_entries.specs.Status.{has_ended}
 use Rattle.bpf_machine.specs.declared.moves.Move.TheVariants.{Step}
 use Rattle.bpf_journal.specs.Histories.{Record, record_weight, keep}
 use Rattle.bpf_journal.specs.Timelines.{record_of}

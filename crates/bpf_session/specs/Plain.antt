@@ -2,9 +2,9 @@
 use Rattle.std.specs.Prelude.{ℕ, List, [], ◌++◌}
 use lib.Chars.{codes}
 use Rattle.bpf_machine.specs.State.{State, register}
-use Rattle.bpf_machine.specs.Status.{has_ended}
-use Rattle.bpf_machine.specs.declared.status.Status.{Status}
-use Rattle.bpf_machine.specs.declared.status.Status.TheVariants as status
+use Rattle.bpf_entries.specs.Status.{has_ended}
+use Rattle.bpf_entries.specs.declared.status.Status.{Status}
+use Rattle.bpf_entries.specs.declared.status.Status.TheVariants as status
 use Rattle.counted_io.specs.Writing.{hexadecimal}
 use Rattle.bpf_session.specs.Forward.{state_after, least}
 use Rattle.bpf_session.specs.declared.plain.Ending.{Ending}

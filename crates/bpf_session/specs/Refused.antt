@@ -4,7 +4,7 @@ use Rattle.bpf_isa.specs.declared.maps.MapShape.{MapShape}
 use Rattle.bpf_isa.specs.Programs.{insn_at}
 use Rattle.bpf_machine.specs.Regions.{index_of}
 use Rattle.bpf_machine.specs.State.{depth}
-use Rattle.bpf_machine.specs.Status.{has_ended}
+use Rattle.bpf_entries.specs.Status.{has_ended}
 use Rattle.bpf_machine.specs.declared.edit.Edit.{Edit}
 use Rattle.bpf_machine.specs.declared.edit.Edit.TheVariants as edit
 use Rattle.bpf_session.specs.Limits.{most_breaks, most_watches}

@@ -9,10 +9,10 @@ use Rattle.bpf_text.specs.Operands.{text_of_insn}
 use Rattle.bpf_machine.specs.Regions.{run_at}
 use Rattle.bpf_machine.specs.State.{State, register, depth}
 use Rattle.bpf_machine.specs.declared.frame.Frame.{Frame}
-use Rattle.bpf_machine.specs.declared.status.Fault.{Fault}
-use Rattle.bpf_machine.specs.declared.status.Fault.TheVariants.{Access, Token, Depth}
-use Rattle.bpf_machine.specs.declared.status.Status.{Status}
-use Rattle.bpf_machine.specs.declared.status.Status.TheVariants.{Running, Exited, Faulted}
+use Rattle.bpf_entries.specs.declared.status.Fault.{Fault}
+use Rattle.bpf_entries.specs.declared.status.Fault.TheVariants.{Access, Token, Depth}
+use Rattle.bpf_entries.specs.declared.status.Status.{Status}
+use Rattle.bpf_entries.specs.declared.status.Status.TheVariants.{Running, Exited, Faulted}
 use Rattle.bpfdb_replies.specs.declared.why.Why.{Why}
 use Rattle.bpfdb_replies.specs.declared.why.Why.TheVariants.{End, Break, Watch, Done, Limit, Memory, Start}
 

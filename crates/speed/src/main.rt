@@ -5,7 +5,7 @@
 
 ghost use Rattle.std.specs.Prelude.{◌≡◌, false};
 ghost use Rattle.bpf_machine.specs.Next.{change as change_of};
-ghost use Rattle.bpf_machine.specs.Status.{has_ended};
+ghost use Rattle.bpf_entries.specs.Status.{has_ended};
 
 mod sessions;
 

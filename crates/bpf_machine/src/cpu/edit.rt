@@ -6,11 +6,9 @@ ghost use Rattle.bpf_machine.specs.Platform.{cell_address as cell_address_of};
 ghost use Rattle.bpf_machine.specs.Regions.{index_of, run_at};
 
 use super::Cpu;
-use crate::byte_string::ByteString;
 use crate::edit::{Edit, EditFault};
-use crate::entry::Entry;
 use crate::platform::cell_address;
-use crate::status::Status;
+use bpf_entries::{ByteString, Entry, Status};
 use bpf_isa::Program;
 
 impl Cpu {

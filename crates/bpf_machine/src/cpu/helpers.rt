@@ -11,7 +11,7 @@ use super::Cpu;
 use super::step::{fault, r0};
 use crate::change::Change;
 use crate::platform::{TOKEN_BASE, TRACE_LIMIT, cell_address};
-use crate::status::{Fault, Status};
+use bpf_entries::{Fault, Status};
 use bpf_isa::{MapShape, Reg, Size};
 
 impl Cpu {

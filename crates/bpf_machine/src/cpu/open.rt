@@ -7,8 +7,8 @@ use crate::code::codes_of;
 use crate::fault::OpenFault;
 use crate::memory::Memory;
 use crate::platform::{CONTEXT_BASE, frame_pointer};
-use crate::status::Status;
 use arrayvec::ArrayVec;
+use bpf_entries::Status;
 use bpf_isa::Program;
 use std::alloc::Global;
 

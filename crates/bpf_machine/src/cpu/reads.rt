@@ -3,7 +3,7 @@ ghost use Rattle.std.specs.Prelude.{◌≡◌, ◌≤◌, ◌↔◌, IsTrue, IsS
 
 use super::Cpu;
 use crate::frame::Frame;
-use crate::status::Status;
+use bpf_entries::Status;
 use bpf_isa::{Program, Reg};
 
 impl Cpu {

@@ -8,10 +8,8 @@ ghost use Rattle.bpf_machine.specs.Undoing.{undone, Restores};
 ghost use Rattle.bpf_machine.specs.declared.moves.Move.{Move};
 
 use super::Cpu;
-use crate::byte_string::ByteString;
 use crate::compact::CompactEntry;
-use crate::entry::Entry;
-use crate::status::Status;
+use bpf_entries::{ByteString, Entry, Status};
 
 impl Cpu {
     /// Takes back the move with this entry, which led to the present state. Works from the entry and the present state alone.

@@ -1,7 +1,7 @@
 //! Forward commands.
 ghost use Rattle.std.specs.Prelude.{◌≡◌, ◌≤◌, List, IfOk, Ok, Err, if◌then◌else◌, ◌==◌};
 ghost use Rattle.bpf_machine.specs.State.{State, depth};
-ghost use Rattle.bpf_machine.specs.Status.{has_ended};
+ghost use Rattle.bpf_entries.specs.Status.{has_ended};
 ghost use Rattle.bpf_journal.specs.Histories.{Record};
 ghost use Rattle.bpf_session.specs.Forward.{forward, stop_in};
 ghost use Rattle.bpf_session.specs.Outcomes.{unless_refused};

@@ -1,6 +1,6 @@
 use Rattle.std.proofs.Common.{refl, sym, subst}
 use Rattle.bpf_machine.specs.declared.moves.Move.TheVariants as move
-use Rattle.bpf_machine.specs.Fields.{FitsFields}
+use Rattle.bpf_entries.specs.Fields.{FitsFields}
 use Rattle.bpf_machine.specs.Next.{next}
 use Rattle.bpf_journal.proofs.timeline.push_large.Goals as goal
 

@@ -1,7 +1,7 @@
 use Rattle.std.proofs.Common.{◌≡◌, ◌+◌, ◌-◌, ℕ, suc, Bool, true, false, refl, sym, ap, ◌∙◌, arith}
 use Rattle.bpf_machine.specs.Next.{next}
 use Rattle.bpf_machine.specs.State.{State}
-use Rattle.bpf_machine.specs.Status.{has_ended}
+use Rattle.bpf_entries.specs.Status.{has_ended}
 use Rattle.bpf_session.specs.Forward.{state_after, least}
 use Rattle.bpf_session.proofs.plain.take_steps.Goals as goal
 

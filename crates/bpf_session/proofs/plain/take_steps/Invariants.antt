@@ -1,5 +1,5 @@
 use Rattle.std.proofs.Common.{◌≡◌, ◌-◌}
-use Rattle.bpf_machine.specs.Status.{has_ended}
+use Rattle.bpf_entries.specs.Status.{has_ended}
 use Rattle.bpf_session.specs.Forward.{state_after, least}
 use Rattle.bpf_session.specs.Plain.{plain_steps}
 use Rattle.bpf_session.proofs.plain.take_steps.Given as goal

@@ -1,6 +1,6 @@
 //! Whether a machine runs, and how it ended.
 ghost use Rattle.std.specs.Prelude.{◌≡◌};
-ghost use Rattle.bpf_machine.specs.Status.{has_ended as has_ended_of, FitsStatus};
+ghost use Rattle.bpf_entries.specs.Status.{has_ended as has_ended_of, FitsStatus};
 
 /// Whether a machine runs or how it ended.
 #[derive(Clone, Copy)]
@@ -26,7 +26,7 @@ pub enum Fault {
 
 impl Status {
     /// Brings the range of its number into a proof.
-    pub(crate) fn invariant(&self)
+    pub fn invariant(&self)
         ensures { FitsStatus self.now }
     {
         if let Status::Faulted(fault) = self {
@@ -52,7 +52,3 @@ impl Status {
         }
     }
 }
-
-/// A step was asked of a machine that has ended.
-#[derive(Clone, Copy)]
-pub struct Ended;

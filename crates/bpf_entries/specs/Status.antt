@@ -1,9 +1,9 @@
 -- Whether a machine runs: bpfdb's own choice of words.
 use Rattle.std.specs.Prelude.{◌<◌, ◌^◌, ℕ, Bool, true, false}
-use Rattle.bpf_machine.specs.declared.status.Fault.{Fault}
-use Rattle.bpf_machine.specs.declared.status.Fault.TheVariants.{Access, Token, Depth}
-use Rattle.bpf_machine.specs.declared.status.Status.{Status}
-use Rattle.bpf_machine.specs.declared.status.Status.TheVariants.{Running, Exited, Faulted}
+use Rattle.bpf_entries.specs.declared.status.Fault.{Fault}
+use Rattle.bpf_entries.specs.declared.status.Fault.TheVariants.{Access, Token, Depth}
+use Rattle.bpf_entries.specs.declared.status.Status.{Status}
+use Rattle.bpf_entries.specs.declared.status.Status.TheVariants.{Running, Exited, Faulted}
 
 -- It has exited or faulted.
 abbrev pub has_ended : Status → Bool

@@ -73,7 +73,7 @@ pub enum Entry {
 }
 
 impl Entry {
-    ghost use Rattle.bpf_machine.specs.Entries.{weight as weight_of};
+    ghost use Rattle.bpf_entries.specs.Weights.{weight as weight_of};
 
     /// How many bytes it has in a journal: 5 to 280.
     pub fn weight(&self) -> usize

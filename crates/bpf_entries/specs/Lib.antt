@@ -1,0 +1,4 @@
+pub mod Status
+pub mod Fields
+pub mod Weights
+pub mod Texts
