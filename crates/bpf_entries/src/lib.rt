@@ -4,7 +4,12 @@
 mod byte_string;
 mod entry;
 mod status;
+mod write;
 
 pub use byte_string::ByteString;
 pub use entry::Entry;
 pub use status::{Fault, Status};
+pub use write::{
+    put_call, put_cell, put_edit_bytes, put_edit_pc, put_edit_register, put_end, put_fetch,
+    put_fetch_number, put_jump, put_register, put_return, put_store, put_store_number, put_trace,
+};

@@ -1,0 +1,13 @@
+use Rattle.std.proofs.Common.{rules, ◌≡◌, ◌≤◌, ◌<◌, ◌+◌, ◌++◌, length, drop, ℕ, ◌-◌, List, [], ◌∷◌, refl, arith}
+use Rattle.byteorder.specs.Endian.{little_bytes}
+use Rattle.bpf_entries.specs.Texts.{number, slot, tag}
+use Rattle.bpf_entries.proofs.write.runs.put_cell.Goals as goal
+use Rattle.bpf_entries.proofs.Parts.{two_parts}
+
+pub returns : goal.returns
+returns c =
+    let old = c.args.old.now in
+    let weight = 23 + length old in
+    two_parts 21 (length old + 2) weight c.args.room.now
+    (little_bytes 2 weight ++ tag 7 c.args.mark ∷ (slot c.args.pc ++ (number c.args.r0 ++ number c.args.address)))
+    (old ++ little_bytes 2 weight) _ _ (omega arith) refl c.put_cell_head.ensures c.put_tail.ensures
