@@ -2,3 +2,4 @@ pub mod Status
 pub mod Fields
 pub mod Weights
 pub mod Texts
+pub mod Rings

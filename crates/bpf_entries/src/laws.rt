@@ -1,0 +1,27 @@
+//! The laws of a journal's text. They do nothing: each is proved, once for all.
+ghost use Rattle.bpf_entries.specs.Rings.{OneEntry, WeighsItsText, OneList, EndsInWeight, EndsInText, BeginsWithOldest};
+
+/// A text has the entry's weight in bytes, and is of one entry and one mark alone.
+#[tactic(none)]
+pub fn a_text_is_of_one_entry()
+    ensures one { OneEntry }
+    ensures weight { WeighsItsText }
+{
+}
+
+/// A journal's text is of one list of entries and marks alone.
+#[tactic(none)]
+pub fn a_ring_is_of_one_list()
+    ensures { OneList }
+{
+}
+
+/// A journal's text is cut from the back, where the newest entry stands: its last two bytes say how many bytes of it are that entry's.
+/// In front stands the oldest.
+#[tactic(none)]
+pub fn a_ring_is_cut_from_the_back()
+    ensures weight { EndsInWeight }
+    ensures text { EndsInText }
+    ensures oldest { BeginsWithOldest }
+{
+}

@@ -1,0 +1,6 @@
+//! Entries read from bytes.
+mod lengths;
+mod tags;
+
+pub use lengths::{first_len, last_len};
+pub use tags::{is_marked, kind_of};
