@@ -18,4 +18,8 @@ mod refusals;
 #[cfg(test)]
 mod scripts;
 #[cfg(test)]
+mod shown;
+#[cfg(test)]
+mod stops;
+#[cfg(test)]
 mod ways;

@@ -226,7 +226,7 @@ fn play_row(rt: &impl Abort, alloc: Global, row: Row, step: usize) {
 }
 
 /// Plays the transcript of each row in pieces of `step` bytes.
-fn play_rows(rt: &impl Abort, alloc: Global, rows: &[Row], step: usize) {
+pub fn play_rows(rt: &impl Abort, alloc: Global, rows: &[Row], step: usize) {
     for row in rows {
         play_row(rt, alloc, *row, step);
     }

@@ -58,6 +58,8 @@ stepi 100000000000000000000000000007|refused|2 0
 stepi 000000000000000000000000000007|stepi|7 0
 stepi 0x00000000000000000000005|stepi|5 0
 stepi 005|stepi|5 0
+stepi 010|stepi|10 0
+stepi 08|stepi|8 0
 stepi 0x5|stepi|5 0
 stepi 0xaF|stepi|175 0
 stepi 0x3b9aca00|stepi|1000000000 0
@@ -73,6 +75,8 @@ stepi 5z|refused|2 0
 stepi 5\0|refused|2 0
 stepi 1 2|refused|2 0
 stepi 1 x|refused|2 0
+stepi # one|refused|2 0
+stepi #one|refused|2 0
 undo 0|refused|2 0
 undo 1000000000|undo|1000000000 0
 undo 1000000001|refused|2 0
@@ -100,6 +104,7 @@ disas 0 256|disas|0 256
 disas 0 257|refused|2 0
 disas 0|refused|2 0
 disas 0 1 2|refused|2 0
+disas 010 0011|disas|10 11
 break|refused|2 0
 break 18446744073709551615|break|18446744073709551615 0
 break 18446744073709551616|refused|2 0
@@ -122,6 +127,7 @@ set reg r1 18446744073709551616|refused|2 0
 set reg r1 r2|refused|2 0
 set reg 1 1|refused|2 0
 set reg r1|refused|2 0
+set reg r1 0777|set reg|1 777
 set reg|refused|2 0
 set reg r1 1 1|refused|2 0
 set mem 0|refused|2 0
@@ -156,6 +162,7 @@ set r1 1|refused|2 0
 
 const NAMES: &str = "\
 continue 1|refused|2 0
+continue # on|refused|2 0
 reverse-continue 1|refused|2 0
 rc 1|refused|2 0
 quit now|refused|2 0
@@ -169,7 +176,14 @@ info breaks x|refused|2 0
 info history x|refused|2 0
 info trace x|refused|2 0
 STEPI|refused|1 0
+# one|refused|1 0
+#|refused|1 0
 step|refused|1 0
+si|refused|1 0
+c|refused|1 0
+q|refused|1 0
+exit|refused|1 0
+help|refused|1 0
 stepi\0|refused|1 0
 reverse-step|refused|1 0
 frob|refused|1 0
@@ -254,25 +268,25 @@ fn lines_say_commands(rt: HostRuntime) {
 #[test]
 fn counts_have_limits(rt: HostRuntime) {
     try_rows(&rt, COUNTS);
-    assert_eq!(rt; COUNTS.lines().count(), 34);
+    assert_eq!(rt; COUNTS.lines().count(), 38);
 }
 
 #[test]
 fn numbers_and_spans(rt: HostRuntime) {
     try_rows(&rt, NUMBERS);
-    assert_eq!(rt; NUMBERS.lines().count(), 25);
+    assert_eq!(rt; NUMBERS.lines().count(), 26);
 }
 
 #[test]
 fn edits_have_arguments(rt: HostRuntime) {
     try_rows(&rt, EDITS);
-    assert_eq!(rt; EDITS.lines().count(), 41);
+    assert_eq!(rt; EDITS.lines().count(), 42);
 }
 
 #[test]
 fn names_stand_alone(rt: HostRuntime) {
     try_rows(&rt, NAMES);
-    assert_eq!(rt; NAMES.lines().count(), 23);
+    assert_eq!(rt; NAMES.lines().count(), 31);
 }
 
 #[test]
