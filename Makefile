@@ -1,4 +1,4 @@
-# bpfdb: run, test, pages and fmt. The toolchain's command is rt; beside it only a POSIX shell is needed.
+# bpfdb: run, test, pages and fmt. The toolchain's command is rt; docs/WORKING.md lists what else is called.
 .PHONY: run test pages fmt
 
 # Proves and builds the debugger, where that is not done yet, and shows the session of tests/session/script.

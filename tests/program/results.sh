@@ -135,6 +135,39 @@ same "sum.s: its bytes" wanted/words words
 result '0x24\n' run -m eight words
 result '0x0\n' run words
 
+# Every instruction in every form, there, back and there again: listings/instructions.s holds each result against one worked out
+# by hand, and ends with 1 where all agree. Of its 735 instructions 60 are `ja fail`, and 8 more are reached by failures alone;
+# 812 slots stand in front of the `exit` that ends it (both are counted in the listing).
+instructions=$parts/listings/instructions.s
+result '0x1\n' run --maps 8x256 --listing "$instructions"
+shown='info regs\ninfo frames\ninfo trace\ninfo history\nx 0x200000000 256\nx 0x200000100 256\nx 0x300000000 256\n'
+there='667 forward; end; exited at 812: r0 0x1\ntrace 1 0xabc\n'
+all_zero=$(printf '%0512d' 0)
+at_first="r0=0x0 $others\nat 0: mov r9, 2\ndepth 0\ntrace 0\n0 moves, 0 commands, 0 of 65536 bytes\n\
+0x200000000: $all_zero\n0x200000100: $all_zero\n0x300000000: $all_zero\n"
+session 'every instruction there and back' \
+    "continue\ninfo trace\nundo\n${shown}continue\ninfo trace\nreverse-stepi 1000000000\n$shown" \
+    "${there}667 back; done; at 0: mov r9, 2\n$at_first${there}667 back; start; at 0: mov r9, 2\n$at_first" \
+    debug --maps 8x256 --listing "$instructions"
+
+# alike NAME NUMBER FILE: the file has so many different lines.
+alike() {
+    count=$((count + 1))
+    number=$(sort -u "$3" | wc -l)
+    [ "$number" -eq "$2" ] || complain "$1: $number, not $2"
+}
+
+# They are 119 opcodes, the first bytes of their words (the second halves of wide loads begin with 00); and 109 mnemonics, of
+# which 50 have two forms: with a register and with a number behind the first operand.
+"$program" asm "$instructions" > words
+od -An -v -tx1 words | awk '{ for (i = 1; i <= NF; i++) if (n++ % 8 == 0 && $i != "00") print $i }' > opcodes
+alike 'instructions.s: its opcodes' 119 opcodes
+"$program" disasm --maps 8x256 words | sed '/:$/d' > lines
+awk '{ print $1 }' lines > mnemonics
+alike 'instructions.s: its mnemonics' 109 mnemonics
+awk '{ print $1, $3 ~ /^r/ }' lines > kinds
+alike 'instructions.s: its mnemonics and forms' 159 kinds
+
 # The longest program.
 yes exit | head -n 65535 > longest.s
 "$program" asm longest.s > longest

@@ -1,9 +1,9 @@
-//! Worked sessions about what is shown: frames, tables, bytes, instructions and a full journal. The expected replies were worked out by hand
-//! from what each command means; none is bpfdb's own output.
+//! Worked sessions about what is shown: frames, tables, bytes, instructions and a full journal. The expected replies were worked
+//! out by hand from what each command means; none is bpfdb's own output.
 use crate::scripts::{Row, play_rows};
 
-// mov r6, 6; mov r9, 9; callf 1; exit; callf 1; exit; mov r0, 1; exit: a function at slot 4 that calls one at slot 6. The innermost frame is shown
-// first, and each register is the one that its name says.
+// mov r6, 6; mov r9, 9; callf 1; exit; callf 1; exit; mov r0, 1; exit: a function at slot 4 that calls one at slot 6. The
+// innermost frame is shown first, and each register is the one that its name says.
 const FRAMES: Row = (
     "b706000006000000b70900000900000085100000010000009500000000000000\
      85100000010000009500000000000000b7000000010000009500000000000000",
@@ -100,8 +100,8 @@ disas 4 1|refused Q8: no instruction starts there
 ",
 );
 
-// Twelve times add r0, 1; ja -4. A journal may be exactly full: 9 sums and 16 rounds of three sums and a jump weigh 57 * 16 + 16 * 7. One more sum
-// has the oldest one dropped, and with it the first command's mark; a jump then has one more dropped.
+// Twelve times add r0, 1; ja -4. A journal may be exactly full: 9 sums and 16 rounds of three sums and a jump weigh 57 * 16 + 16
+// * 7. One more sum has the oldest one dropped, and with it the first command's mark; a jump then has one more dropped.
 const FULL: Row = (
     "070000000100000007000000010000000700000001000000070000000100000007000000010000000700000001000000\
      070000000100000007000000010000000700000001000000070000000100000007000000010000000700000001000000\

@@ -1,5 +1,5 @@
-//! Worked sessions about why a command stops, and where. The expected replies were worked out by hand from what each command means; none is
-//! bpfdb's own output.
+//! Worked sessions about why a command stops, and where. The expected replies were worked out by hand from what each command
+//! means; none is bpfdb's own output.
 use crate::scripts::{Row, play_rows};
 
 /// mov r0, 42; exit.
@@ -117,8 +117,8 @@ finish|refused Q9: outermost frame
 ",
 );
 
-// callf 1; exit; add r0, 1; ja -2: the call is dropped from the journal. Of the 50 rounds, which weigh 16 + 7, 44 are kept whole, and the jump
-// of the one before: 44 * 23 + 7.
+// callf 1; exit; add r0, 1; ja -2: the call is dropped from the journal. Of the 50 rounds, which weigh 16 + 7, 44 are kept whole,
+// and the jump of the one before: 44 * 23 + 7.
 const CALL_DROPPED: Row = (
     "8510000001000000950000000000000007000000010000000500feff00000000",
     &[],
@@ -134,8 +134,8 @@ reverse-finish|refused Q4: no kept step
 ",
 );
 
-// callf 1; exit; add r0, 1; jlt r0, 50, -2; exit: no step from depth 0 is kept. The return weighs 39, and of the 50 rounds 42 are kept whole, and
-// the jump of the one before: 39 + 42 * 23 + 7.
+// callf 1; exit; add r0, 1; jlt r0, 50, -2; exit: no step from depth 0 is kept. The return weighs 39, and of the 50 rounds 42 are
+// kept whole, and the jump of the one before: 39 + 42 * 23 + 7.
 const CALLER_DROPPED: Row = (
     "851000000100000095000000000000000700000001000000a500feff320000009500000000000000",
     &[],
