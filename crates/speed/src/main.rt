@@ -1,6 +1,7 @@
 //! How fast the machine takes steps. Without arguments it prints nothing. With a number of millions of steps it runs each loop
-//! for that long in five rounds, plain, recorded, kept in journals of several sizes, and back, by turns, and prints the best of each in
-//! nanoseconds a step and as a ratio to plain steps. What is timed is used: the last line is a sum over what came out.
+//! for that long in five rounds, plain, recorded, kept in journals of several sizes, and back, by turns, and prints the best of
+//! each in nanoseconds a step and as a ratio to plain steps. What is timed is used: the last line is a sum over what came out.
+//! What can't be opened, or takes fewer steps than it is timed for, ends the program with a line on standard error and status 1.
 #![tactic(auto)]
 
 ghost use Rattle.std.specs.Prelude.{◌≡◌, false};
@@ -14,6 +15,7 @@ use bpf_journal::{ListKeeper, Timeline};
 use bpf_machine::{Change, CompactEntry, Cpu, Ended};
 use sessions::time_sessions;
 use std::alloc::Global;
+use std::io::{Error, ErrorKind};
 use std::time::Instant;
 use std::{env, io};
 
@@ -54,12 +56,13 @@ const STRIDE: u64 = 4_000;
 const KEPT: usize = 65_536;
 
 fn main(rt: HostRuntime) -> io::Result<()> {
-    let mut millions = 0u64;
-    for word in env::args(&rt)?.skip(1) {
-        millions = word.parse().unwrap_or(0);
-    }
-    if millions == 0 || millions > 1000 {
+    let mut words = env::args(&rt)?.skip(1);
+    let Some(word) = words.next() else {
         return Ok(());
+    };
+    let millions = word.parse::<u64>().unwrap_or(0);
+    if millions == 0 || millions > 1000 {
+        return Err(failure(&rt, "takes a number of millions of steps, 1 to 1000"));
     }
     let mut sum = 0;
     for (name, program) in [
@@ -80,8 +83,23 @@ fn main(rt: HostRuntime) -> io::Result<()> {
             show(&rt, name, way.name(), *least, best[0], millions)?;
         }
     }
-    time_sessions(&rt, 5)?;
+    time_sessions(&rt, 5, &mut sum)?;
     println!(rt; "sum {sum}")
+}
+
+/// Says on standard error why nothing can be timed. The program ends with the answer.
+fn failure(rt: &HostRuntime, why: &str) -> Error {
+    let _ = eprintln!(rt; "speed: {why}");
+    Error::from(ErrorKind::Other)
+}
+
+/// An error unless as many steps were taken as are timed.
+fn check_steps(rt: &HostRuntime, taken: u64, wanted: u64) -> io::Result<()> {
+    if taken == wanted {
+        Ok(())
+    } else {
+        Err(failure(rt, "fewer steps were taken than are timed"))
+    }
 }
 
 /// Prints nanoseconds a step, and how often the plain step's time that is.
@@ -149,20 +167,21 @@ fn timed(
     sum: &mut u64,
 ) -> io::Result<u128> {
     let Some(mut cpu) = opened(rt.alloc(), program) else {
-        return Ok(0);
+        return Err(failure(rt, "a machine can't be opened"));
     };
     let Ok(mut kept) = vec![in rt.alloc(); CompactEntry::End; KEPT] else {
-        return Ok(0);
+        return Err(failure(rt, "there is too little memory"));
     };
     let steps = millions.min(1000) * 1_000_000;
     let start = Instant::now(rt)?;
-    match way {
-        Way::Plain => *sum = sum.wrapping_add(run_plain(&mut cpu, steps)),
-        Way::Recorded => *sum = sum.wrapping_add(run_recorded(&mut cpu, &mut kept, steps)),
+    let taken = match way {
+        Way::Plain => run_plain(&mut cpu, steps),
+        Way::Recorded => run_recorded(&mut cpu, &mut kept, steps),
         Way::Kept(size) => return run_kept(rt, cpu, size, steps, sum),
         Way::Back => return run_back(rt, cpu, steps, sum),
-    }
+    };
     let elapsed = start.elapsed(rt)?.as_nanos();
+    check_steps(rt, taken, steps)?;
     *sum = sum.wrapping_add(used(&cpu));
     for entry in &kept {
         *sum = sum.wrapping_add(entry.weight() as u64);
@@ -170,7 +189,7 @@ fn timed(
     Ok(elapsed)
 }
 
-/// Steps alone.
+/// Steps alone. Answers how many were taken.
 fn run_plain(cpu: &mut Cpu, steps: u64) -> u64 {
     for step in 0..steps {
         if cpu.advance().is_err() {
@@ -180,7 +199,7 @@ fn run_plain(cpu: &mut Cpu, steps: u64) -> u64 {
     steps
 }
 
-/// Steps whose compact entries are kept, the newest in place of the oldest.
+/// Steps whose compact entries are kept, the newest in place of the oldest. Answers how many were taken.
 fn run_recorded(cpu: &mut Cpu, kept: &mut [CompactEntry], steps: u64) -> u64 {
     for step in 0..steps {
         match cpu.look() {
@@ -223,12 +242,13 @@ fn run_kept(
     sum: &mut u64,
 ) -> io::Result<u128> {
     let Ok(keeper) = ListKeeper::open(rt.alloc(), size) else {
-        return Ok(0);
+        return Err(failure(rt, "a journal can't be opened"));
     };
     let mut timeline = Timeline::open(cpu, keeper);
     let start = Instant::now(rt)?;
-    forward(&mut timeline, steps);
+    let taken = forward(&mut timeline, steps);
     let elapsed = start.elapsed(rt)?.as_nanos();
+    check_steps(rt, taken, steps)?;
     *sum = sum
         .wrapping_add(used(timeline.cpu()))
         .wrapping_add(timeline.len() as u64);
@@ -238,29 +258,39 @@ fn run_kept(
 /// Steps that are taken back, some thousands at a time.
 fn run_back(rt: &HostRuntime, cpu: Cpu, steps: u64, sum: &mut u64) -> io::Result<u128> {
     let Ok(keeper) = ListKeeper::open(rt.alloc(), 16_777_216) else {
-        return Ok(0);
+        return Err(failure(rt, "a journal can't be opened"));
     };
     let mut timeline = Timeline::open(cpu, keeper);
     let mut elapsed = 0u128;
     for _ in 0..steps / STRIDE {
-        forward(&mut timeline, STRIDE);
+        let taken = forward(&mut timeline, STRIDE);
         let start = Instant::now(rt)?;
-        for _ in 0..STRIDE {
-            timeline.back();
-        }
+        let taken_back = back(&mut timeline, taken);
         elapsed = elapsed.wrapping_add(start.elapsed(rt)?.as_nanos());
+        check_steps(rt, taken_back, STRIDE)?;
         *sum = sum.wrapping_add(used(timeline.cpu()));
     }
     Ok(elapsed)
 }
 
-/// Steps, until the machine has ended or memory runs out.
-fn forward(timeline: &mut Timeline<ListKeeper>, steps: u64) {
-    for _ in 0..steps {
+/// Steps, until the machine has ended or memory runs out. Answers how many were taken.
+fn forward(timeline: &mut Timeline<ListKeeper>, steps: u64) -> u64 {
+    for step in 0..steps {
         if timeline.step(false).is_err() {
-            return;
+            return step;
         }
     }
+    steps
+}
+
+/// Takes steps back, until none is kept. Answers how many it took back.
+fn back(timeline: &mut Timeline<ListKeeper>, steps: u64) -> u64 {
+    for step in 0..steps {
+        if timeline.back().is_none() {
+            return step;
+        }
+    }
+    steps
 }
 
 /// A number that depends on the registers and the pc.

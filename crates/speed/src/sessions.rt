@@ -1,10 +1,11 @@
 //! How fast commands run through a session: `continue` with breakpoints and watches that it never meets and without, `last-write` and
 //! `reverse-continue` over what it left, beside the same steps through a timeline.
 
+use crate::{back, check_steps, failure, used};
 use bpf_isa::{MapTable, check};
 use bpf_journal::{ListKeeper, Timeline};
 use bpf_machine::Cpu;
-use bpf_session::Session;
+use bpf_session::{Reply, Session};
 use bpfdb_commands::Command;
 use std::alloc::Global;
 use std::io;
@@ -95,24 +96,24 @@ impl Best {
     }
 }
 
-/// Times sessions in some rounds.
-pub fn time_sessions(rt: &HostRuntime, rounds: u64) -> io::Result<()> {
+/// Times sessions in some rounds. What came out goes into the sum.
+pub fn time_sessions(rt: &HostRuntime, rounds: u64, sum: &mut u64) -> io::Result<()> {
     let mut best = Best::new();
     for _ in 0..rounds {
-        let (steps, back) = through_timeline(rt)?;
+        let (steps, back) = through_timeline(rt, sum)?;
         best.steps = best.steps.min(steps);
         best.back = best.back.min(back);
-        let on = through_session(rt, &LOOP, Stops::Nothing)?;
+        let on = through_session(rt, &LOOP, Stops::Nothing, sum)?;
         best.on = best.on.min(on.forward);
         best.last_write = best.last_write.min(on.last_write);
         best.reverse = best.reverse.min(on.reverse);
-        let with_breaks = through_session(rt, &LOOP, Stops::Breakpoints)?;
+        let with_breaks = through_session(rt, &LOOP, Stops::Breakpoints, sum)?;
         best.on_with_breaks = best.on_with_breaks.min(with_breaks.forward);
-        let with_watches = through_session(rt, &LOOP, Stops::Watches)?;
+        let with_watches = through_session(rt, &LOOP, Stops::Watches, sum)?;
         best.on_with_watches = best.on_with_watches.min(with_watches.forward);
-        let stores = through_session(rt, &STORES, Stops::Nothing)?;
+        let stores = through_session(rt, &STORES, Stops::Nothing, sum)?;
         best.stores = best.stores.min(stores.forward);
-        let watched = through_session(rt, &STORES, Stops::Watches)?;
+        let watched = through_session(rt, &STORES, Stops::Watches, sum)?;
         best.stores_with_watches = best.stores_with_watches.min(watched.forward);
     }
     best.show(rt)
@@ -143,28 +144,34 @@ fn opened(alloc: Global, program: &[u8]) -> Option<Cpu> {
 }
 
 /// Steps forward and back without a session.
-fn through_timeline(rt: &HostRuntime) -> io::Result<(u128, u128)> {
+fn through_timeline(rt: &HostRuntime, sum: &mut u64) -> io::Result<(u128, u128)> {
     let Some(cpu) = opened(rt.alloc(), &LOOP) else {
-        return Ok((0, 0));
+        return Err(failure(rt, "a machine can't be opened"));
     };
     let Ok(keeper) = ListKeeper::open(rt.alloc(), SIZE) else {
-        return Ok((0, 0));
+        return Err(failure(rt, "a journal can't be opened"));
     };
     let mut timeline = Timeline::start(cpu, keeper);
     let start = Instant::now(rt)?;
+    let taken = forward(&mut timeline);
+    let forward_time = start.elapsed(rt)?.as_nanos();
+    *sum = sum.wrapping_add(used(timeline.cpu()));
+    let start = Instant::now(rt)?;
+    let taken_back = back(&mut timeline, taken);
+    let back_time = start.elapsed(rt)?.as_nanos();
+    *sum = sum.wrapping_add(used(timeline.cpu()));
+    check_steps(rt, taken_back, STEPS)?;
+    Ok((forward_time, back_time))
+}
+
+/// The steps of a command, the first of them marked. Answers how many were taken.
+fn forward(timeline: &mut Timeline<ListKeeper>) -> u64 {
     for step in 0..STEPS {
         if timeline.step(step == 0).is_err() {
-            break;
+            return step;
         }
     }
-    let forward = start.elapsed(rt)?.as_nanos();
-    let start = Instant::now(rt)?;
-    for _ in 0..STEPS {
-        if timeline.back().is_none() {
-            break;
-        }
-    }
-    Ok((forward, start.elapsed(rt)?.as_nanos()))
+    STEPS
 }
 
 /// Nanoseconds of the commands of a session.
@@ -176,50 +183,69 @@ struct Timed {
 }
 
 /// The same as commands: `continue`, `last-write` of a byte that never changed, `reverse-continue`.
-fn through_session(rt: &HostRuntime, program: &[u8], stops: Stops) -> io::Result<Timed> {
-    let mut timed = Timed {
-        forward: 0,
-        last_write: 0,
-        reverse: 0,
-    };
+fn through_session(
+    rt: &HostRuntime,
+    program: &[u8],
+    stops: Stops,
+    sum: &mut u64,
+) -> io::Result<Timed> {
     let Some(cpu) = opened(rt.alloc(), program) else {
-        return Ok(timed);
+        return Err(failure(rt, "a machine can't be opened"));
     };
     let Ok(keeper) = ListKeeper::open(rt.alloc(), SIZE) else {
-        return Ok(timed);
+        return Err(failure(rt, "a journal can't be opened"));
     };
     let mut session = Session::open(cpu, keeper, STEPS);
-    set_stops(&mut session, stops);
-    timed.forward = time(rt, &mut session, &Command::Continue)?;
-    timed.last_write = time(rt, &mut session, &Command::LastWrite(FRAME))?;
-    timed.reverse = time(rt, &mut session, &Command::ReverseContinue)?;
-    Ok(timed)
+    if !set_stops(&mut session, stops) {
+        return Err(failure(rt, "a breakpoint or a watch was refused"));
+    }
+    let forward = time(rt, &mut session, &Command::Continue)?;
+    *sum = sum.wrapping_add(used(session.cpu()));
+    let last_write = time(rt, &mut session, &Command::LastWrite(FRAME))?;
+    let reverse = time(rt, &mut session, &Command::ReverseContinue)?;
+    *sum = sum.wrapping_add(used(session.cpu()));
+    Ok(Timed {
+        forward,
+        last_write,
+        reverse,
+    })
 }
 
-/// Sets what is never met: breakpoints behind the loop, or watches of bytes that it doesn't store to.
-fn set_stops(session: &mut Session<ListKeeper>, stops: Stops) {
+/// Sets what is never met: breakpoints behind the loop, or watches of bytes that it doesn't store to. Answers whether all of them
+/// are set.
+fn set_stops(session: &mut Session<ListKeeper>, stops: Stops) -> bool {
+    let mut are_set = true;
     match stops {
         Stops::Nothing => {}
         Stops::Breakpoints => {
-            for slot in 3..67u64 {
-                let _ = session.apply(&Command::Break(slot));
+            for slot in 2..66u64 {
+                are_set &= session.apply(&Command::Break(slot)).is_ok();
             }
         }
         Stops::Watches => {
             for offset in 0..4u64 {
-                let _ = session.apply(&Command::Watch(FRAME + offset));
+                are_set &= session.apply(&Command::Watch(FRAME + offset)).is_ok();
             }
         }
     }
+    are_set
 }
 
-/// Nanoseconds of a command.
+/// Nanoseconds of a command, which has to go over all of the steps.
 fn time(
     rt: &HostRuntime,
     session: &mut Session<ListKeeper>,
     command: &Command,
 ) -> io::Result<u128> {
     let start = Instant::now(rt)?;
-    let _ = session.apply(command);
-    Ok(start.elapsed(rt)?.as_nanos())
+    let answer = session.apply(command);
+    let elapsed = start.elapsed(rt)?.as_nanos();
+    let moves = match answer {
+        Ok(Reply::Forward { steps, .. }) => steps,
+        Ok(Reply::Back { moves, .. }) => moves,
+        Ok(Reply::Unchanged) => STEPS,
+        _ => 0,
+    };
+    check_steps(rt, moves, STEPS)?;
+    Ok(elapsed)
 }
