@@ -67,7 +67,7 @@ const STEPS_PAST_THE_LIMIT: Row = (
     "\
 stepi 9|7 forward; limit; at 1: ja L0
 stepi 7|7 forward; done; at 0: add r0, 1
-stepi 1000000000|7 forward; limit; at 1: ja L0
+stepi 8|7 forward; limit; at 1: ja L0
 stepi 2|2 forward; done; at 1: ja L0
 undo 2|9 back; done; at 0: add r0, 1
 ",
