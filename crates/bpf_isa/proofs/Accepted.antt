@@ -9,7 +9,7 @@ use Rattle.bpf_isa.specs.declared.maps.MapShape.{MapShape}
 use Rattle.bpf_isa.specs.Insns.{slots_of, FallsThrough, target_of, written_of}
 use Rattle.bpf_isa.specs.Maps.{AreMaps}
 use Rattle.bpf_isa.specs.Words.{row_of, IsWord}
-use Rattle.bpf_isa.specs.Checker.{is_wide_at, is_start, IsStartIn, piece_at, after, AreSlots, IsAccepted, IsTarget}
+use Rattle.bpf_isa.specs.Checker.{is_wide_at, is_start, IsStartIn, piece_at, after_piece, AreSlots, IsAccepted, IsTarget}
 use Rattle.bpf_isa.specs.Scaffolding.Checking.{IsPiece, IsInsnAt, AreInsns}
 use Rattle.bpf_isa.specs.Programs.{IsStartAt, IsProgram}
 use Rattle.bpf_isa.proofs.Spelling.{wide_or_not}
@@ -35,7 +35,7 @@ narrow_at bytes p e = grind (arith, nat_tests)
 after_by : (b : Bool) (p n : ℕ) → ((b ≡ true) × (n ≡ 2)) ⊎ ((b ≡ false) × (n ≡ 1)) → (if b then p + 2 else p + 1) ≡ p + n
 after_by b p n h = grind arith
 
-after_slots : (bytes : List ℕ) (p : ℕ) (insn : Insn) → IsWord insn (piece_at bytes p) → after bytes p ≡ p + slots_of insn
+after_slots : (bytes : List ℕ) (p : ℕ) (insn : Insn) → IsWord insn (piece_at bytes p) → after_piece bytes p ≡ p + slots_of insn
 after_slots bytes p insn whole =
     let opcode : get_or bytes (8 * p) 0 ≡ (row_of insn).opcode = sym (opcode_of_piece bytes p) ∙ whole.reads.codes.opcode in
     after_by (is_wide_at bytes p) p (slots_of insn) (elim (wide_or_not insn) [ inl wide ↦ inl (wide_at bytes p (opcode ∙ wide.0), wide.1) | inr narrow ↦ inr (narrow_at bytes p (λ e. narrow.0 (sym opcode ∙ e)), narrow.1) ])
@@ -60,7 +60,7 @@ start_by bytes p true wide start =
     ap (is_start bytes) two ∙ next_start bytes (p + 1) ∙ not_first _ _ second
 start_by bytes p false wide start = next_start bytes p ∙ not_second _ _ start wide
 
-start_after : (bytes : List ℕ) (p : ℕ) → is_start bytes p ≡ true → is_start bytes (after bytes p) ≡ true
+start_after : (bytes : List ℕ) (p : ℕ) → is_start bytes p ≡ true → is_start bytes (after_piece bytes p) ≡ true
 start_after bytes p start = start_by bytes p (is_wide_at bytes p) refl start
 
 entry_start : (bytes : List ℕ) (maps : List MapShape) (p : ℕ) (o : Option Insn) → IsInsnAt bytes maps p o → IsSome o ↔ IsTrue (is_start bytes p)

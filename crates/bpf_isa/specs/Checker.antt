@@ -40,8 +40,8 @@ abbrev pub PiecesAreTheBytes : Type 0
 PiecesAreTheBytes = (bytes : List ℕ) → length bytes % 8 ≡ 0 → concat (map (piece_at bytes) (starts_in bytes)) ≡ bytes
 
 -- The slot after a piece.
-abbrev pub after : List ℕ → ℕ → ℕ
-after bytes p = if is_wide_at bytes p then p + 2 else p + 1
+abbrev pub after_piece : List ℕ → ℕ → ℕ
+after_piece bytes p = if is_wide_at bytes p then p + 2 else p + 1
 
 -- A whole number that is a start.
 abbrev pub IsTarget : List ℕ → ℤ → Type 0
@@ -52,9 +52,18 @@ IsTarget bytes (negsuc n) = ⊥
 abbrev pub Lands : List ℕ → ℕ → Insn → Type 0
 Lands bytes p insn = IfSome (target_of p insn) (IsTarget bytes)
 
--- The helpers: lookup, update and trace.
+-- The numbers of the helpers.
+abbrev pub lookup_helper : ℕ
+lookup_helper = 1
+
+abbrev pub update_helper : ℕ
+update_helper = 2
+
+abbrev pub trace_helper : ℕ
+trace_helper = 64
+
 abbrev pub IsHelper : ℕ → Type 0
-IsHelper helper = (helper ≡ 1) ⊎ ((helper ≡ 2) ⊎ (helper ≡ 64))
+IsHelper helper = (helper ≡ lookup_helper) ⊎ ((helper ≡ update_helper) ⊎ (helper ≡ trace_helper))
 
 -- A call's helper exists.
 abbrev pub HelperExists : Insn → Type 0
@@ -76,7 +85,7 @@ abbrev pub HasFault : List ℕ → List MapShape → ℕ → PieceFault → Type
 HasFault bytes maps p (Word fault) = HasWordFault (piece_at bytes p) fault
 HasFault bytes maps p WritesFramePointer = ReadsSome bytes p (λ insn. written_of insn ≡ Some 10)
 HasFault bytes maps p NoTarget = ReadsSome bytes p (λ insn. Lands bytes p insn → ⊥)
-HasFault bytes maps p RunsOff = ReadsSome bytes p (λ insn. FallsThrough insn × (length bytes ≤ 8 * after bytes p))
+HasFault bytes maps p RunsOff = ReadsSome bytes p (λ insn. FallsThrough insn × (length bytes ≤ 8 * after_piece bytes p))
 HasFault bytes maps p UnknownHelper = ReadsSome bytes p (λ insn. HelperExists insn → ⊥)
 HasFault bytes maps p NoMap = ReadsSome bytes p (λ insn. MapExists maps insn → ⊥)
 
@@ -88,10 +97,14 @@ pub record HasNoFault (bytes : List ℕ) (maps : List MapShape) (p : ℕ) : Type
 abbrev pub IsLeastFault : List ℕ → List MapShape → ℕ → PieceFault → Type 0
 IsLeastFault bytes maps p = IsLeast piece_fault_number (HasFault bytes maps p)
 
--- 1 to 65,535 whole slots.
+-- The most slots of a program.
+abbrev pub most_slots : ℕ
+most_slots = 65_535
+
+-- Whole slots of 8 bytes, one at least.
 pub record AreSlots (bytes : List ℕ) : Type 0 where
   pub filled : 0 < length bytes
-  pub short : length bytes ≤ 524280
+  pub short : length bytes ≤ 8 * most_slots
   pub whole : length bytes % 8 ≡ 0
 
 -- No piece has a fault.
@@ -109,7 +122,7 @@ pub record IsFirstFault (bytes : List ℕ) (maps : List MapShape) (p : ℕ) (fau
 -- Why bytes are refused. Out of memory may be answered in place of a piece's fault.
 abbrev pub IsRefused : List ℕ → List MapShape → LoadFault → Type 0
 IsRefused bytes maps Empty = length bytes ≡ 0
-IsRefused bytes maps TooLong = 524280 < length bytes
-IsRefused bytes maps Ragged = (length bytes ≤ 524280) × (length bytes % 8 ≢ 0)
+IsRefused bytes maps TooLong = 8 * most_slots < length bytes
+IsRefused bytes maps Ragged = (length bytes ≤ 8 * most_slots) × (length bytes % 8 ≢ 0)
 IsRefused bytes maps (At slot fault) = IsFirstFault bytes maps slot fault
 IsRefused bytes maps Memory = AreSlots bytes

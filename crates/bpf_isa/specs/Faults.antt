@@ -1,4 +1,4 @@
--- Faults: their numbers, which are printed after C and M, and their texts. All of them are bpfdb's own choice.
+-- Faults: their numbers, which are printed after C and M, and their texts. bpfdb's own choice.
 use Rattle.std.specs.Prelude.{◌≤◌, ℕ, List, codes}
 use Rattle.bpf_isa.specs.declared.fault.WordFault.{WordFault}
 use Rattle.bpf_isa.specs.declared.fault.WordFault.TheVariants.{UnknownInstruction, RegisterAboveTen, UnusedField, CutOff}

@@ -1,3 +1,4 @@
+pub mod Registers
 pub mod Rows
 pub mod Faults
 pub mod Arithmetic

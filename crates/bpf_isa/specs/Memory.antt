@@ -32,7 +32,7 @@ load_signed_opcode SignedWord = 0x81
 load_signed_opcode SignedHalf = 0x89
 load_signed_opcode SignedByte = 0x91
 
--- The same, with its sign extended.
+-- dst takes what stands at src + offset, its sign extended.
 abbrev pub load_signed_row : SignedSize → Row
 load_signed_row size = record { opcode = load_signed_opcode size; dst = Used; src = Used; offset = Used; imm = Unused; next = Unused }
 

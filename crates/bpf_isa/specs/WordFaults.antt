@@ -9,13 +9,13 @@ use Rattle.bpf_isa.specs.Words.{row_of, fields_of, IsClean, HasRegisters, ReadsA
 
 -- A fault of 8 bytes, or of 16 that begin with the wide opcode.
 abbrev pub HasWordFault : List ℕ → WordFault → Type 0
--- they read as no instruction
+-- They read as no instruction.
 HasWordFault bytes UnknownInstruction = (insn : Insn) → ReadsAs (fields_of bytes) insn → ⊥
--- a register field is above 10, used or not
+-- A register field is above 10, used or not.
 HasWordFault bytes RegisterAboveTen = HasRegisters (fields_of bytes) → ⊥
--- they read as an instruction that doesn't use a field, which isn't zero
+-- They read as an instruction that doesn't use a field, which isn't zero.
 HasWordFault bytes UnusedField = (insn : Insn) × ReadsAs (fields_of bytes) insn × (IsClean (row_of insn) (fields_of bytes) → ⊥)
--- the second slot is missing
+-- The second slot is missing.
 HasWordFault bytes CutOff = (slice_index bytes 0 ≡ wide_opcode) × (length bytes ≡ 8)
 
 -- The fault with the least number.

@@ -1,6 +1,6 @@
 //! The checker: the first fault of the bytes, or a program.
 ghost use Rattle.std.specs.Prelude.{◌≡◌, ◌≤◌, ◌<◌, ◌⊎◌, ◌*◌, ◌↔◌, IsTrue, IfSome, IfNone, IfOk, OnOk, IfErr, List, ℕ, length, slice_index};
-ghost use Rattle.bpf_isa.specs.Checker.{IsStartIn, AreSlots, piece_at, after, HasFault, HasNoFault, IsLeastFault, IsFirstFault, IsAccepted, IsRefused};
+ghost use Rattle.bpf_isa.specs.Checker.{IsStartIn, AreSlots, piece_at, after_piece, HasFault, HasNoFault, IsLeastFault, IsFirstFault, IsAccepted, IsRefused};
 ghost use Rattle.bpf_isa.specs.Scaffolding.Checking.{AreStarts, AreInsns, Breaks, IsPiece, IsSound};
 ghost use Rattle.bpf_isa.specs.Faults.{IsLeast, piece_fault_number};
 ghost use Rattle.bpf_isa.specs.WideLoads.{wide_opcode};
@@ -35,7 +35,7 @@ fn piece_of(bytes: &[u8], slot: usize) -> &[u8]
 fn is_last(bytes: &[u8], slot: usize) -> bool
     requires slots { AreSlots bytes.now }
     requires start { IsStartIn bytes.now slot }
-    ensures { IsTrue result ↔ (length bytes.now ≤ 8 * after bytes.now slot) }
+    ensures { IsTrue result ↔ (length bytes.now ≤ 8 * after_piece bytes.now slot) }
 {
     let after = if bytes[8 * slot] == WIDE_OPCODE {
         slot + 2

@@ -45,7 +45,7 @@ pub fn read(bytes: &[u8]) -> Fields
 }
 
 /// The bytes of two slots with these fields.
-pub fn written(fields: Fields) -> [u8; 16]
+pub fn to_bytes(fields: Fields) -> [u8; 16]
     requires { (fields.dst < 16) × (fields.src < 16) }
     ensures value { fields_of result ≡ fields }
     ensures within { All (λ byte. byte < 256) result }

@@ -6,8 +6,9 @@ mod decoder;
 mod encoder;
 mod fault;
 mod fields;
+mod helpers;
 mod instruction;
-mod laws;
+pub mod laws;
 mod maps;
 mod mnemonic;
 mod opcode;
@@ -20,13 +21,13 @@ mod words;
 pub use decoder::decode;
 pub use encoder::encode;
 pub use fault::{LoadFault, MapFault, PieceFault, WordFault};
+pub use helpers::{LOOKUP, TRACE, UPDATE};
 pub use instruction::{
     AtomicOp, BinaryOp, ByteOrder, Condition, Extension, Insn, SignedSize, Size, Source, SwapWidth,
     Width,
 };
-pub use laws::{cut_into_pieces, one_spelling};
 pub use maps::{MapShape, MapTable};
 pub use mnemonic::Mnemonic;
-pub use program::{Program, check};
+pub use program::{MOST_SLOTS, Program, check};
 pub use register::Reg;
 pub use words::Words;

@@ -35,7 +35,7 @@ impl Model for MapTable {
 }
 
 impl MapTable {
-    /// No map.
+    /// A table without maps.
     pub fn empty() -> MapTable
         ensures { result ≡ [] }
     {
@@ -59,7 +59,7 @@ impl MapTable {
         self.shapes.get(map).copied()
     }
 
-    /// The same maps.
+    /// A table with the same maps, which shares nothing with this one.
     pub(crate) fn copied(&self) -> MapTable
         ensures value { result ≡ self.now }
         ensures fits { AreMaps self.now }

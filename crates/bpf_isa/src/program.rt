@@ -10,6 +10,9 @@ use crate::maps::MapTable;
 use std::alloc::Global;
 use std::marker::Model;
 
+/// The most slots of a program.
+pub const MOST_SLOTS: usize = 65_535;
+
 /// A checked program: its bytes, the instruction of each slot, and its maps.
 #[derive(Drop)]
 pub struct Program {
@@ -75,7 +78,7 @@ fn length_fault(bytes: &[u8]) -> Option<LoadFault>
     if bytes.is_empty() {
         return Some(LoadFault::Empty);
     }
-    if bytes.len() > 524280 {
+    if bytes.len() > 8 * MOST_SLOTS {
         return Some(LoadFault::TooLong);
     }
     if bytes.len() % 8 != 0 {

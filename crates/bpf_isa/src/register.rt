@@ -1,5 +1,6 @@
 //! Registers.
 ghost use Rattle.std.specs.Prelude.{◌≡◌, ◌≤◌, ◌↔◌, IfSome, IsSome};
+ghost use Rattle.bpf_isa.specs.Registers.{register_named};
 
 use std::marker::Model;
 
@@ -31,6 +32,17 @@ impl Reg {
             Some(Reg { number })
         } else {
             None
+        }
+    }
+
+    /// The register that a text names, r0 to r10 without a zero in front; None where it names none.
+    pub fn parse(text: &[u8]) -> Option<Reg>
+        ensures { result ≡ register_named text.now }
+    {
+        match text {
+            [b'r', digit @ b'0'..=b'9'] => Reg::new(*digit - b'0'),
+            [b'r', b'1', b'0'] => Reg::new(10),
+            _ => None,
         }
     }
 

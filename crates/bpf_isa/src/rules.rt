@@ -1,8 +1,9 @@
 //! What the checker asks of an instruction by itself.
 ghost use Rattle.std.specs.Prelude.{◌≡◌, ◌≤◌, ◌↔◌, IsTrue, List, Some, ℕ};
-ghost use Rattle.bpf_isa.specs.Checker.{HelperExists, MapExists, Lands};
+ghost use Rattle.bpf_isa.specs.Checker.{HelperExists, MapExists, Lands, most_slots};
 ghost use Rattle.bpf_isa.specs.Scaffolding.Checking.{AreStarts, SparesTen};
 
+use crate::helpers::{LOOKUP, TRACE, UPDATE};
 use crate::instruction::{AtomicOp, Insn};
 use crate::maps::MapTable;
 use crate::register::Reg;
@@ -19,7 +20,7 @@ impl Insn {
 
     /// The slot that a jump or local call at a slot names, as a whole number.
     pub fn target(&self, slot: usize) -> Option<i64>
-        requires { slot ≤ 65535 }
+        requires { slot ≤ most_slots }
         ensures { result ≡ target_of slot self.now }
     {
         let next = slot as i64 + 1;
@@ -32,8 +33,8 @@ impl Insn {
         }
     }
 
-    /// The register that it replaces itself.
-    pub fn written(&self) -> Option<Reg>
+    /// The register that it replaces itself; none for a plain atomic operation, a store, a jump, a local call and `exit`.
+    pub fn destination(&self) -> Option<Reg>
         ensures { result ≡ written_of self.now }
     {
         match self {
@@ -57,7 +58,7 @@ impl Insn {
         ensures ten { IsTrue result → written_of self.now ≡ Some 10 }
         ensures other { (IsTrue result → ⊥) → SparesTen self.now }
     {
-        match self.written() {
+        match self.destination() {
             Some(register) => register.number() == 10,
             None => false,
         }
@@ -68,7 +69,7 @@ impl Insn {
         ensures { IsTrue result ↔ HelperExists self.now }
     {
         match self {
-            Insn::CallHelper { helper } => matches!(*helper, 1 | 2 | 64),
+            Insn::CallHelper { helper } => matches!(*helper, LOOKUP | UPDATE | TRACE),
             _ => true,
         }
     }
@@ -107,7 +108,7 @@ impl AtomicOp {
 
 /// Whether what a jump or local call at a slot names is a start.
 pub fn lands(insn: &Insn, slot: usize, starts: &[bool]) -> bool
-    requires { slot ≤ 65535 }
+    requires { slot ≤ most_slots }
     ensures { (bytes : List ℕ) → AreStarts bytes starts.now
         → (IsTrue result ↔ Lands bytes slot insn.now) }
 {

@@ -2,7 +2,7 @@
 ghost use Rattle.std.specs.Prelude.{◌≡◌, ◌<◌, All, ℕ};
 ghost use Rattle.bpf_isa.specs.Words.{fields_of};
 
-use crate::fields::{Fields, written};
+use crate::fields::{Fields, to_bytes};
 use crate::opcode::WIDE_OPCODE;
 use std::marker::Model;
 
@@ -35,12 +35,12 @@ impl Words {
         ensures short { fields.opcode ≢ wide_opcode → length result ≡ 8 }
     {
         Words {
-            bytes: written(fields),
+            bytes: to_bytes(fields),
             is_wide: fields.opcode == WIDE_OPCODE,
         }
     }
 
-    /// The bytes.
+    /// The word's bytes: 8, or 16 of a wide instruction.
     pub fn as_slice(&self) -> &[u8]
         ensures { result.now ≡ self.now }
     {

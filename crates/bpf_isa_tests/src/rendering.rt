@@ -370,7 +370,7 @@ fn access_parts(insn: &Insn) -> (&'static str, [Part; 5]) {
 /// What the instruction does: the register that it replaces, its target from slot 100 on, and
 /// whether the instruction after it is out of reach.
 fn effects(insn: &Insn) -> [Part; 5] {
-    let (writes, written) = match insn.written() {
+    let (writes, written) = match insn.destination() {
         Some(dst) => (Part::Name("writes"), register(dst)),
         None => (Part::Nothing, Part::Nothing),
     };
