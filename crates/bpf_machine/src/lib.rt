@@ -26,3 +26,4 @@ pub use fault::OpenFault;
 pub use frame::Frame;
 pub use memory::Memory;
 pub use moves::Move;
+pub use platform::CONTEXT_LIMIT;

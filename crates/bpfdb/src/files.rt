@@ -3,24 +3,26 @@ ghost use Rattle.std.specs.Prelude.{◌≤◌, IfErr, IfOk, length};
 ghost use Rattle.bpfdb.specs.Files.{Names};
 
 use crate::fault::FileFault;
+use bpf_isa::MOST_SLOTS;
+use bpf_machine::CONTEXT_LIMIT;
 use std::fs;
 use std::fs::File;
 use std::io::{ErrorKind, Read};
 
 /// The most bytes that are read of a program: one more than any program has, so that the checker finds a longer one too long.
-pub const PROGRAM_BYTES: usize = 524_281;
+pub const PROGRAM_BYTES: usize = 8 * MOST_SLOTS + 1;
 
 /// The most bytes that are read of a context: one more than any context has.
-pub const CONTEXT_BYTES: usize = 65_537;
+pub const CONTEXT_BYTES: usize = CONTEXT_LIMIT + 1;
 
 /// The most bytes of a listing: 64 MiB, about a thousand for each instruction that a program can have.
 pub const LISTING_BYTES: usize = 67_108_864;
 
 /// How many bytes are asked for at once.
-const PIECE: usize = 16_384;
+const CHUNK_BYTES: usize = 16_384;
 
 /// What a read came to.
-enum Piece {
+enum Chunk {
     /// So many bytes were read.
     Bytes(usize),
     /// There are no more.
@@ -44,28 +46,28 @@ pub fn read_beginning<'a>(
     };
     let mut bytes = Vec::new(rt.alloc());
     for _ in 0..u64::MAX {
-        let mut piece = [0u8; PIECE];
-        let room = PIECE.min(most.saturating_sub(bytes.len()));
-        match read_piece(&mut file, &mut piece[..room]) {
-            Ok(Piece::Bytes(count)) => match bytes.extend_from_slice(&piece[..count.min(room)]) {
+        let mut chunk = [0u8; CHUNK_BYTES];
+        let room = CHUNK_BYTES.min(most.saturating_sub(bytes.len()));
+        match read_chunk(&mut file, &mut chunk[..room]) {
+            Ok(Chunk::Bytes(count)) => match bytes.extend_from_slice(&chunk[..count.min(room)]) {
                 Ok(()) => {}
                 Err(_) => return Err(FileFault::Memory),
             },
-            Ok(Piece::End) => return Ok(bytes),
-            Ok(Piece::Again) => {}
+            Ok(Chunk::End) => return Ok(bytes),
+            Ok(Chunk::Again) => {}
             Err(_) => return Err(FileFault::Unreadable { path }),
         }
     }
     Ok(bytes)
 }
 
-/// Reads a piece of a file.
-fn read_piece(file: &mut File, piece: &mut [u8]) -> std::io::Result<Piece> {
-    match file.read(piece) {
-        Ok(0) => Ok(Piece::End),
-        Ok(count) => Ok(Piece::Bytes(count)),
+/// Reads the next bytes of a file, as many as there is room for at most.
+fn read_chunk(file: &mut File, chunk: &mut [u8]) -> std::io::Result<Chunk> {
+    match file.read(chunk) {
+        Ok(0) => Ok(Chunk::End),
+        Ok(count) => Ok(Chunk::Bytes(count)),
         Err(error) => match error.kind() {
-            ErrorKind::Interrupted => Ok(Piece::Again),
+            ErrorKind::Interrupted => Ok(Chunk::Again),
             _ => Err(error),
         },
     }

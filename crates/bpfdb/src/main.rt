@@ -1,13 +1,14 @@
 //! The program: a debugger that runs a BPF program (RFC 9669) forwards and backwards.
 #![tactic(auto)]
 
-ghost use Rattle.bpfdb_jobs.specs.Jobs.{IsLimit};
+ghost use Rattle.bpfdb_limits.specs.Limits.{IsLimit};
 
 mod fault;
 mod files;
 
-use bpfdb_cli::{Plan, PlanFault, plan};
-use bpfdb_jobs::{Job, JobFault, Subcommand, give_up, tool};
+use bpfdb_cli::{Plan, PlanFault, Subcommand, plan};
+use bpfdb_jobs::{Job, JobFault, JobKind, give_up, tool};
+use bpfdb_limits::{DEFAULT_JOURNAL, DEFAULT_LIMIT};
 use clap::Error;
 use counted_io::Counted;
 use fault::{FileFault, WordsFault};
@@ -25,15 +26,15 @@ const CLOSED_DESCRIPTOR: i32 = 9;
 
 /// What is debugged where the command line has no word: r0 = 42, and the end, with every option absent.
 const FIRST_JOB: Job<'static> = Job {
-    subcommand: Subcommand::Debug,
+    kind: JobKind::Debug,
     file: &[
         0xb7, 0, 0, 0, 0x2a, 0, 0, 0, // mov r0, 42
         0x95, 0, 0, 0, 0, 0, 0, 0, // exit
     ],
     context: &[],
     maps: None,
-    journal: 65_536,
-    limit: 1_000_000,
+    journal: DEFAULT_JOURNAL,
+    limit: DEFAULT_LIMIT,
     is_listing: false,
 };
 
@@ -129,7 +130,7 @@ fn do_plan(rt: &HostRuntime, plan: &Plan<'_>, errors: &mut Errors) -> u8
         Err(fault) => return give_up(errors, fault),
     };
     let job = Job {
-        subcommand: plan.subcommand,
+        kind: kind_of(plan.subcommand),
         file: file.as_slice(),
         context: context.as_slice(),
         maps: plan.maps.map(|text| text.as_bytes()),
@@ -138,6 +139,17 @@ fn do_plan(rt: &HostRuntime, plan: &Plan<'_>, errors: &mut Errors) -> u8
         is_listing: plan.is_listing,
     };
     do_job(rt, &job, errors)
+}
+
+/// The kind of a subcommand's job.
+fn kind_of(subcommand: Subcommand) -> JobKind {
+    match subcommand {
+        Subcommand::Run => JobKind::Run,
+        Subcommand::Debug => JobKind::Debug,
+        Subcommand::Asm => JobKind::Asm,
+        Subcommand::Disasm => JobKind::Disasm,
+        Subcommand::Check => JobKind::Check,
+    }
 }
 
 /// The bytes of FILE, which is a listing for `asm` and where the plan says so.

@@ -3,6 +3,7 @@ use Rattle.std.specs.Prelude.{[], ◌∷◌, Some, true, codes}
 use Rattle.clap.specs.Words.{App, Rule, new_app, new_rule, with_rule, with_subcommand}
 use Rattle.clap.specs.declared.builder.action.ArgAction.TheVariants.{SetTrue}
 use Rattle.clap.specs.declared.builder.value_parser.ValueParser.TheVariants as vp
+use Rattle.bpfdb_limits.specs.Limits.{greatest_count}
 
 -- `-m PATH`, `--mem PATH`: a file, whose bytes are the context.
 abbrev pub mem_rule : Rule
@@ -21,12 +22,12 @@ journal_rule = record (new_rule (codes "journal")) {
   defaults = codes "65536" ∷ [];
 }
 
--- `--steps N`: a number from 1 to 1,000,000,000.
+-- `--steps N`: a number from 1 to the greatest count.
 abbrev pub steps_rule : Rule
 steps_rule = record (new_rule (codes "steps")) {
   long = Some (codes "steps");
   value_names = 1;
-  parser = Some (vp.Unsigned 1 1000000000);
+  parser = Some (vp.Unsigned 1 greatest_count);
   defaults = codes "1000000" ∷ [];
 }
 

@@ -10,9 +10,9 @@ use Rattle.bpfdb_cli.specs.CommandLine.{command_app}
 use Rattle.bpfdb_cli.specs.declared.plans.Plan.{Plan}
 use Rattle.bpfdb_cli.specs.declared.plans.PlanFault.{PlanFault}
 use Rattle.bpfdb_cli.specs.declared.plans.PlanFault.TheVariants.{Usage, Memory}
-use Rattle.bpfdb_jobs.specs.Jobs.{IsLimit}
-use Rattle.bpfdb_jobs.specs.declared.job.Subcommand.{Subcommand}
-use Rattle.bpfdb_jobs.specs.declared.job.Subcommand.TheVariants as subcommand
+use Rattle.bpfdb_cli.specs.declared.plans.Subcommand.{Subcommand}
+use Rattle.bpfdb_cli.specs.declared.plans.Subcommand.TheVariants as subcommand
+use Rattle.bpfdb_limits.specs.Limits.{IsLimit, default_journal, default_limit}
 
 -- The names of the subcommands.
 abbrev pub subcommand_name : Subcommand → Text
@@ -37,8 +37,8 @@ pub record Says (name : Text) (rows : List Row) (plan : Plan) : Type 0 where
   pub file : first_of (codes "file") rows ≡ Some plan.file.now
   pub memory : option_map (λ s. s.now) plan.memory ≡ first_of (codes "mem") rows
   pub maps : option_map (λ s. s.now) plan.maps ≡ first_of (codes "maps") rows
-  pub journal : plan.journal ≡ number_or 65_536 (first_of (codes "journal") rows)
-  pub limit : plan.limit ≡ number_or 1_000_000 (first_of (codes "steps") rows)
+  pub journal : plan.journal ≡ number_or default_journal (first_of (codes "journal") rows)
+  pub limit : plan.limit ≡ number_or default_limit (first_of (codes "steps") rows)
   pub listing : plan.is_listing ≡ is_given (first_of (codes "listing") rows)
 
 -- A number that is given is one below 2^64.

@@ -1,4 +1,5 @@
 //! The command line: from its words to a plan, or to help or a fault in the words of `clap`.
+//! Its tests stand in `bpfdb_jobs_tests`.
 #![tactic(auto)]
 
 mod command_line;
@@ -7,4 +8,4 @@ mod planner;
 mod plans;
 
 pub use planner::plan;
-pub use plans::{Plan, PlanFault};
+pub use plans::{Plan, PlanFault, Subcommand};

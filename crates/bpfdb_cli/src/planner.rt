@@ -2,12 +2,12 @@
 ghost use Rattle.std.specs.Prelude.{◌≡◌, ◌<◌, ◌^◌, IfNone, IfOk, IfSome, MatchOption, Some, List, map, option_map};
 ghost use Rattle.std.specs.Str.Parse.{IsNumeral, digits_value, without_leading_plus};
 ghost use Rattle.clap.specs.Words.{Row, Text, first_of, found_of, rows_of, subcommand_rows_of};
-ghost use Rattle.bpfdb_jobs.specs.Jobs.{IsLimit};
+ghost use Rattle.bpfdb_limits.specs.Limits.{IsLimit};
 ghost use Rattle.bpfdb_cli.specs.Plans.{IsPlan, IsPlanOf, Says, is_given, subcommand_name, number_or};
 
 use crate::command_line::command_line;
-use crate::plans::{Plan, PlanFault};
-use bpfdb_jobs::Subcommand;
+use crate::plans::{Plan, PlanFault, Subcommand};
+use bpfdb_limits::{DEFAULT_JOURNAL, DEFAULT_LIMIT, is_limit};
 use clap::error::ErrorKind;
 use clap::{ArgMatches, Command, Error};
 use std::alloc::Global;
@@ -78,15 +78,15 @@ fn plan_in<'a>(name: &'a str, found: &ArgMatches<'a>) -> Option<Plan<'a>>
         Some(file) => file,
         None => return None,
     };
-    let journal = match number_or(text_of(found, "journal"), 65_536) {
+    let journal = match number_or(text_of(found, "journal"), DEFAULT_JOURNAL) {
         Some(journal) => journal,
         None => return None,
     };
-    let limit = match number_or(text_of(found, "steps"), 1_000_000) {
+    let limit = match number_or(text_of(found, "steps"), DEFAULT_LIMIT) {
         Some(limit) => limit,
         None => return None,
     };
-    if limit == 0 || limit > 1_000_000_000 {
+    if !is_limit(limit) {
         return None;
     }
     Some(Plan {

@@ -2,9 +2,23 @@
 ghost use Rattle.std.specs.Prelude.{◌≡◌};
 ghost use Rattle.bpfdb_cli.specs.Plans.{status_of};
 
-use bpfdb_jobs::Subcommand;
 use clap::Error;
 use clap::error::ErrorKind;
+
+/// What is to be done with FILE.
+#[derive(Clone, Copy)]
+pub enum Subcommand {
+    /// The program is run to its end, or to the limit of steps.
+    Run,
+    /// Commands are obeyed.
+    Debug,
+    /// A listing is assembled.
+    Asm,
+    /// A program is written as a listing.
+    Disasm,
+    /// A program is checked.
+    Check,
+}
 
 /// What a command line asks for. What the subcommand has no option for stands as when the option is absent.
 #[derive(Clone, Copy)]

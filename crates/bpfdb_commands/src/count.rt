@@ -2,10 +2,8 @@
 ghost use Rattle.std.specs.Prelude.{◌≡◌, ◌≤◌, ◌↔◌, IfSome, IsSome};
 ghost use Rattle.bpfdb_commands.specs.Limits.{greatest_count, greatest_span};
 
+use bpfdb_limits::GREATEST_COUNT;
 use std::marker::Model;
-
-/// The greatest count, which is also the greatest limit of steps that a session may have.
-pub const GREATEST_COUNT: u64 = 1_000_000_000;
 
 /// How many steps or moves a command asks for: 1 to 1,000,000,000.
 #[derive(Clone, Copy)]

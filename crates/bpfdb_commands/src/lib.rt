@@ -10,7 +10,7 @@ mod refusal;
 mod words;
 
 pub use command::Command;
-pub use count::{Count, GREATEST_COUNT, GREATEST_SPAN, Span};
+pub use count::{Count, GREATEST_SPAN, Span};
 pub use line::{LineBuffer, NextLine, next_line};
 pub use parser::{LONGEST_LINE, parse_command};
 pub use refusal::Refusal;

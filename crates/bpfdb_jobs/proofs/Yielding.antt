@@ -18,8 +18,8 @@ use Rattle.bpf_session.specs.declared.fault.RunFault.{RunFault}
 use Rattle.bpfdb_jobs.specs.Jobs.{BeginsYield, Completes, DebugsPart, Opens, StopsShort, Yield, Yields, bounds_of_job, debug_yield, run_yield}
 use Rattle.bpfdb_jobs.specs.Refusals.{IsOpening}
 use Rattle.bpfdb_jobs.specs.declared.job.Job.{Job}
-use Rattle.bpfdb_jobs.specs.declared.job.Subcommand.{Subcommand}
-use Rattle.bpfdb_jobs.specs.declared.job.Subcommand.TheVariants.{Run, Debug}
+use Rattle.bpfdb_jobs.specs.declared.job.JobKind.{JobKind}
+use Rattle.bpfdb_jobs.specs.declared.job.JobKind.TheVariants.{Run, Debug}
 
 -- known bytes that grew are known
 grown : (new : Option (List ℕ)) (told text : List ℕ) → Appends (Some told) new text → new ≡ Some (told ++ text)
@@ -27,7 +27,7 @@ grown None told text p = absurd p
 grown (Some ys) told text p = ap Some p
 
 -- a yield that was written whole
-pub completes : {T A E : Type 0} (contents : T → Option (List ℕ)) (s : Subcommand) (job : Job) (y : Yield) (script told : List ℕ) (old new : Tally T) (r : Result A E) (status : ℕ) → Yields s job script y → y.unread ≡ lines script → contents old.inner ≡ Some told → Writes contents old new r y.out → OnOk r (status ≡ y.status) → OnErr r (status ≡ 2) → status ≢ 2 → Completes s job script told (contents new.inner) (Some script) status
+pub completes : {T A E : Type 0} (contents : T → Option (List ℕ)) (s : JobKind) (job : Job) (y : Yield) (script told : List ℕ) (old new : Tally T) (r : Result A E) (status : ℕ) → Yields s job script y → y.unread ≡ lines script → contents old.inner ≡ Some told → Writes contents old new r y.out → OnOk r (status ≡ y.status) → OnErr r (status ≡ 2) → status ≢ 2 → Completes s job script told (contents new.inner) (Some script) status
 completes contents s job y script told old new (Ok v) status right unread held w ends fails not = record {
   yield = y;
   right = right;
@@ -38,7 +38,7 @@ completes contents s job y script told old new (Ok v) status right unread held w
 completes contents s job y script told old new (Err e) status right unread held w ends fails not = absurd (not fails)
 
 -- a yield of which a beginning was written
-pub begins : {T A E : Type 0} (contents : T → Option (List ℕ)) (s : Subcommand) (job : Job) (y : Yield) (script told : List ℕ) (old new : Tally T) (r : Result A E) → Yields s job script y → contents old.inner ≡ Some told → Writes contents old new r y.out → BeginsYield s job script told (contents new.inner) (Some script)
+pub begins : {T A E : Type 0} (contents : T → Option (List ℕ)) (s : JobKind) (job : Job) (y : Yield) (script told : List ℕ) (old new : Tally T) (r : Result A E) → Yields s job script y → contents old.inner ≡ Some told → Writes contents old new r y.out → BeginsYield s job script told (contents new.inner) (Some script)
 begins contents s job y script told old new (Ok v) right held w =
     (y, right, (y.out, [], sym (append-nil y.out), subst (λ o. Appends o (contents new.inner) y.out) held w.ok), refl)
 begins contents s job y script told old new (Err e) right held w =
@@ -75,11 +75,11 @@ debug-begins holds refusals room job old new why script told after left o p = re
 }
 
 -- the same of a job's own subcommand, and of what its reader has left
-pub stops-short : (s t : Subcommand) (job : Job) (script told : List ℕ) (after left : Option (List ℕ)) → s ≡ t → left ≡ Some script → StopsShort t job script told after (Some script) → StopsShort s job script told after left
+pub stops-short : (s t : JobKind) (job : Job) (script told : List ℕ) (after left : Option (List ℕ)) → s ≡ t → left ≡ Some script → StopsShort t job script told after (Some script) → StopsShort s job script told after left
 stops-short s t job script told after left is unread p =
     subst (λ (o : Option (List ℕ)). StopsShort s job script told after o) (sym unread)
-    (subst (λ (u : Subcommand). StopsShort u job script told after (Some script)) (sym is) p)
+    (subst (λ (u : JobKind). StopsShort u job script told after (Some script)) (sym is) p)
 
 -- the same of `debug`, which reads
-pub stops-short-debug : (s t : Subcommand) (job : Job) (script told : List ℕ) (after left : Option (List ℕ)) → s ≡ t → StopsShort t job script told after left → StopsShort s job script told after left
-stops-short-debug s t job script told after left is p = subst (λ (u : Subcommand). StopsShort u job script told after left) (sym is) p
+pub stops-short-debug : (s t : JobKind) (job : Job) (script told : List ℕ) (after left : Option (List ℕ)) → s ≡ t → StopsShort t job script told after left → StopsShort s job script told after left
+stops-short-debug s t job script told after left is p = subst (λ (u : JobKind). StopsShort u job script told after left) (sym is) p

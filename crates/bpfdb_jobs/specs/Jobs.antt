@@ -1,4 +1,4 @@
--- What a job comes to: the program, what each subcommand answers, and what a call of `tool` leaves.
+-- What a job comes to: the program, what each kind of job answers, and what a call of `tool` leaves.
 use Rattle.std.specs.Prelude.{◌≡◌, ◌≤◌, ◌⊎◌, ℕ, Bool, true, false, List, [], ◌++◌, Option, Some, None, is_some, length, map, take, count_by, codes, decimal}
 use Rattle.std.specs.Borrow.{Bor}
 use Rattle.std.specs.List.{All}
@@ -21,8 +21,8 @@ use Rattle.bpf_session.specs.declared.fault.RunFault.{RunFault}
 use Rattle.bpf_session.specs.declared.plain.Ending.{Ending}
 use Rattle.bpf_session.specs.declared.plain.Ending.TheVariants.{Exited, Faulted, Limit}
 use Rattle.bpfdb_jobs.specs.declared.job.Job.{Job}
-use Rattle.bpfdb_jobs.specs.declared.job.Subcommand.{Subcommand}
-use Rattle.bpfdb_jobs.specs.declared.job.Subcommand.TheVariants.{Run, Debug, Asm, Disasm, Check}
+use Rattle.bpfdb_jobs.specs.declared.job.JobKind.{JobKind}
+use Rattle.bpfdb_jobs.specs.declared.job.JobKind.TheVariants.{Run, Debug, Asm, Disasm, Check}
 
 -- The map table that a text names; no map where there is no text.
 abbrev pub HasMaps : Option (Bor (List ℕ)) → List MapShape → Type 0
@@ -45,12 +45,8 @@ pub record Opens (job : Job) (code : Checked) : Type 0 where
   pub program : IsProgramOf job code
   pub short : length job.context.now ≤ context_limit
 
--- The most steps of a run or of a command.
-abbrev pub IsLimit : ℕ → Type 0
-IsLimit limit = (1 ≤ limit) × (limit ≤ 1_000_000_000)
-
--- What a subcommand needs of its job. A job without it is refused.
-abbrev pub Needs : Subcommand → Job → Type 0
+-- What a kind of job needs. A job without it is refused.
+abbrev pub Needs : JobKind → Job → Type 0
 Needs Run job = (code : Checked) × Opens job code
 Needs Debug job = (code : Checked) × Opens job code × IsSize job.journal
 Needs Asm job = (words : List ℕ) × IsListing job.file.now words
@@ -63,7 +59,7 @@ pub record Yield : Type 0 where
   pub status : ℕ
   pub unread : List (List ℕ)
 
--- A subcommand that doesn't read the script.
+-- A kind of job that doesn't read the script.
 abbrev pub unread_with : ℕ → List ℕ → List ℕ → Yield
 unread_with status script out = record { out = out; status = status; unread = lines script }
 
@@ -94,7 +90,7 @@ check_line code =
     codes "ok " ++ decimal (count_by is_some code.insns) ++ codes " instructions in " ++ decimal (length code.insns) ++ codes " slots\n"
 
 -- The answer to a job with a script on standard input.
-abbrev pub Yields : Subcommand → Job → List ℕ → Yield → Type 0
+abbrev pub Yields : JobKind → Job → List ℕ → Yield → Type 0
 Yields Run job script a = (code : Checked) × Opens job code × (a ≡ run_yield script (plain_end job.limit (initial code job.context.now)))
 Yields Debug job script a = (code : Checked) × Opens job code × IsSize job.journal × (gaps : List (Option ℕ))
     × (a ≡ debug_yield (walk gaps (bounds_of_job job) (lines script) (beginning job code)))
@@ -103,9 +99,9 @@ Yields Disasm job script a = (code : Checked) × IsProgramOf job code × (a ≡ 
 Yields Check job script a = (code : Checked) × IsProgramOf job code × (a ≡ unread_with 0 script (check_line code))
 
 -- The whole answer was written behind what had been told before.
-pub record Completes (subcommand : Subcommand) (job : Job) (script told : List ℕ) (after left : Option (List ℕ)) (status : ℕ) : Type 0 where
+pub record Completes (kind : JobKind) (job : Job) (script told : List ℕ) (after left : Option (List ℕ)) (status : ℕ) : Type 0 where
   pub yield : Yield
-  pub right : Yields subcommand job script yield
+  pub right : Yields kind job script yield
   pub ends : status ≡ yield.status
   pub written : after ≡ Some (told ++ yield.out)
   pub ahead : Leaves yield.unread left
@@ -123,11 +119,11 @@ pub record DebugsPart (job : Job) (script told : List ℕ) (after left : Option 
   pub broken : Interrupts why (first_lines gaps (bounds_of_job job) script (beginning job code)) k script told after left
 
 -- A beginning of the answer was written.
-abbrev pub BeginsYield : Subcommand → Job → List ℕ → List ℕ → Option (List ℕ) → Option (List ℕ) → Type 0
-BeginsYield subcommand job script told after left = (a : Yield) × Yields subcommand job script a
+abbrev pub BeginsYield : JobKind → Job → List ℕ → List ℕ → Option (List ℕ) → Option (List ℕ) → Type 0
+BeginsYield kind job script told after left = (a : Yield) × Yields kind job script a
     × AppendsBeginning (Some told) after a.out × (left ≡ Some script)
 
-abbrev pub Begins : Subcommand → Job → List ℕ → List ℕ → Option (List ℕ) → Option (List ℕ) → Type 0
+abbrev pub Begins : JobKind → Job → List ℕ → List ℕ → Option (List ℕ) → Option (List ℕ) → Type 0
 Begins Run = BeginsYield Run
 Begins Debug = DebugsPart
 Begins Asm = BeginsYield Asm
@@ -135,9 +131,9 @@ Begins Disasm = BeginsYield Disasm
 Begins Check = BeginsYield Check
 
 -- A call that broke off: nothing was read and written, or a beginning of the answer was.
-abbrev pub StopsShort : Subcommand → Job → List ℕ → List ℕ → Option (List ℕ) → Option (List ℕ) → Type 0
-StopsShort subcommand job script told after left =
-    ((after ≡ Some told) × (left ≡ Some script)) ⊎ Begins subcommand job script told after left
+abbrev pub StopsShort : JobKind → Job → List ℕ → List ℕ → Option (List ℕ) → Option (List ℕ) → Type 0
+StopsShort kind job script told after left =
+    ((after ≡ Some told) × (left ≡ Some script)) ⊎ Begins kind job script told after left
 
 -- A reader, a writer or standard error counted no failure.
 abbrev pub Spared : {T : Type 0} → Tally T → Tally T → Type 0

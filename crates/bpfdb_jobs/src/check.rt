@@ -1,8 +1,8 @@
-//! The subcommand `check`.
+//! What a job of `check` does.
 ghost use Rattle.std.specs.Prelude.{◌≡◌, ◌≢◌, List, ℕ, Some, count_by, is_some};
 ghost use Rattle.counted_io.specs.Writing.{Writes, WritesAfter};
 ghost use Rattle.bpfdb_jobs.specs.Jobs.{StopsShort, Completes, Needs, Spared, check_line};
-ghost use Rattle.bpfdb_jobs.specs.declared.job.Subcommand.TheVariants.{Check};
+ghost use Rattle.bpfdb_jobs.specs.declared.job.JobKind.TheVariants.{Check};
 
 use crate::fault::JobFault;
 use crate::job::Job;
@@ -50,7 +50,7 @@ fn write_size<W: Write>(program: &Program, writer: &mut Counted<W>) -> Result<()
     }
 }
 
-/// The same without the flush.
+/// Writes how many instructions and slots a program has.
 fn write_line<W: Write>(program: &Program, writer: &mut Counted<W>) -> Result<(), WriteFault>
     ensures { Writes W.contents writer.old writer.new result (check_line program.now) }
 {

@@ -1,7 +1,8 @@
-//! The subcommand `debug`.
+//! What a job of `debug` does.
 ghost use Rattle.std.specs.Prelude.{◌≡◌, ◌≢◌, List, ℕ, Some};
-ghost use Rattle.bpfdb_jobs.specs.Jobs.{StopsShort, Completes, IsLimit, Needs, Spared};
-ghost use Rattle.bpfdb_jobs.specs.declared.job.Subcommand.TheVariants.{Debug};
+ghost use Rattle.bpfdb_jobs.specs.Jobs.{StopsShort, Completes, Needs, Spared};
+ghost use Rattle.bpfdb_jobs.specs.declared.job.JobKind.TheVariants.{Debug};
+ghost use Rattle.bpfdb_limits.specs.Limits.{IsLimit};
 
 use crate::fault::JobFault;
 use crate::job::Job;

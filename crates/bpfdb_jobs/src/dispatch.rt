@@ -1,10 +1,11 @@
 //! The program without its command line and its files: a job, done.
 ghost use Rattle.std.specs.Prelude.{◌≡◌, ◌≢◌, List, ℕ, Some};
-ghost use Rattle.bpfdb_jobs.specs.Jobs.{StopsShort, Completes, IsLimit, Needs, Spared};
+ghost use Rattle.bpfdb_jobs.specs.Jobs.{StopsShort, Completes, Needs, Spared};
+ghost use Rattle.bpfdb_limits.specs.Limits.{IsLimit};
 
 use crate::check::check_job;
 use crate::debug::debug_job;
-use crate::job::{Job, Subcommand};
+use crate::job::{Job, JobKind};
 use crate::listing::{asm_job, disasm_job};
 use crate::run::run_job;
 use counted_io::Counted;
@@ -25,20 +26,20 @@ pub fn tool<R: Read, W: Write, E: Write>(
     requires limit { IsLimit job.now.limit }
     // The whole answer was written, and the status is the answer's; what follows `quit` is left unread.
     ensures value { (script told : List ℕ) → R.remaining reader.old.inner ≡ Some script → W.contents writer.old.inner ≡ Some told → result ≢ 2 →
-        Completes job.now.subcommand job.now script told (W.contents writer.new.inner) (R.remaining reader.new.inner) result }
+        Completes job.now.kind job.now script told (W.contents writer.new.inner) (R.remaining reader.new.inner) result }
     // Nothing was written, or a beginning of the answer to what was read.
     ensures broken { (script told : List ℕ) → R.remaining reader.old.inner ≡ Some script → W.contents writer.old.inner ≡ Some told → result ≡ 2 →
-        StopsShort job.now.subcommand job.now script told (W.contents writer.new.inner) (R.remaining reader.new.inner) }
-    // A job that lacks what its subcommand needs leaves the reader and the writer untouched.
-    ensures refused { (Needs job.now.subcommand job.now → ⊥) → (result ≡ 2) × (reader.new ≡ reader.old) × (writer.new ≡ writer.old) }
+        StopsShort job.now.kind job.now script told (W.contents writer.new.inner) (R.remaining reader.new.inner) }
+    // A job that lacks what its kind needs leaves the reader and the writer untouched.
+    ensures refused { (Needs job.now.kind job.now → ⊥) → (result ≡ 2) × (reader.new ≡ reader.old) × (writer.new ≡ writer.old) }
     // Where anything failed the status is 2.
     ensures spared { result ≢ 2 → Spared reader.old reader.new × Spared writer.old writer.new × Spared errors.old errors.new }
 {
-    match job.subcommand {
-        Subcommand::Run => run_job(alloc, job, writer, errors),
-        Subcommand::Debug => debug_job(alloc, job, reader, writer, errors),
-        Subcommand::Asm => asm_job(alloc, job, writer, errors),
-        Subcommand::Disasm => disasm_job(alloc, job, writer, errors),
-        Subcommand::Check => check_job(alloc, job, writer, errors),
+    match job.kind {
+        JobKind::Run => run_job(alloc, job, writer, errors),
+        JobKind::Debug => debug_job(alloc, job, reader, writer, errors),
+        JobKind::Asm => asm_job(alloc, job, writer, errors),
+        JobKind::Disasm => disasm_job(alloc, job, writer, errors),
+        JobKind::Check => check_job(alloc, job, writer, errors),
     }
 }

@@ -13,7 +13,7 @@ pub enum JobFault {
         number: u8,
         text: &'static str,
     },
-    /// The same at a slot of the program or a line of the listing.
+    /// A refusal with a number, at a slot of the program or a line of the listing.
     #[error("refused {family}{number} at {unit} {at}: {text}")]
     RefusedAt {
         family: char,

@@ -2,7 +2,7 @@
 
 /// What is done with FILE.
 #[derive(Clone, Copy)]
-pub enum Subcommand {
+pub enum JobKind {
     /// The program runs to its end, or to the limit of steps.
     Run,
     /// A script of commands is obeyed.
@@ -15,11 +15,11 @@ pub enum Subcommand {
     Check,
 }
 
-/// A subcommand with the bytes of its files and its options.
+/// Work of a kind, with the bytes of its files and its options.
 #[derive(Clone, Copy)]
 pub struct Job<'a> {
     /// What is done.
-    pub subcommand: Subcommand,
+    pub kind: JobKind,
     /// FILE's bytes: the program's raw little-endian words, or its listing.
     pub file: &'a [u8],
     /// PATH's bytes, the context: at most 65,536.

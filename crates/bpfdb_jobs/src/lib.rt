@@ -1,4 +1,4 @@
-//! Jobs: a subcommand with the bytes of its files is done over a reader, a writer and standard error.
+//! Jobs: work on the bytes of files, done over a reader, a writer and standard error.
 #![tactic(auto)]
 
 mod check;
@@ -14,5 +14,5 @@ mod run;
 
 pub use dispatch::tool;
 pub use fault::JobFault;
-pub use job::{Job, Subcommand};
+pub use job::{Job, JobKind};
 pub use report::give_up;

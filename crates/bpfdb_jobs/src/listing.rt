@@ -1,7 +1,7 @@
-//! The subcommands `asm` and `disasm`.
+//! What the jobs of `asm` and `disasm` do.
 ghost use Rattle.std.specs.Prelude.{◌≡◌, ◌≢◌, List, ℕ, Some};
 ghost use Rattle.bpfdb_jobs.specs.Jobs.{StopsShort, Completes, Needs, Spared};
-ghost use Rattle.bpfdb_jobs.specs.declared.job.Subcommand.TheVariants.{Asm, Disasm};
+ghost use Rattle.bpfdb_jobs.specs.declared.job.JobKind.TheVariants.{Asm, Disasm};
 
 use crate::fault::JobFault;
 use crate::job::Job;

@@ -2,8 +2,9 @@
 ghost use Rattle.std.specs.Prelude.{◌≡◌, IfErr, IfOk, true};
 ghost use Rattle.bpf_isa.specs.Programs.{Checked};
 ghost use Rattle.bpf_machine.specs.State.{initial};
-ghost use Rattle.bpfdb_jobs.specs.Jobs.{HasMaps, HasWords, IsLimit, IsProgramOf, Opens};
+ghost use Rattle.bpfdb_jobs.specs.Jobs.{HasMaps, HasWords, IsProgramOf, Opens};
 ghost use Rattle.bpfdb_jobs.specs.Refusals.{IsOpening, Refuses};
+ghost use Rattle.bpfdb_limits.specs.Limits.{IsLimit};
 
 use crate::job::Job;
 use crate::refusal::JobRefusal;

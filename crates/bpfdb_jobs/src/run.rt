@@ -1,7 +1,7 @@
-//! The subcommand `run`.
+//! What a job of `run` does.
 ghost use Rattle.std.specs.Prelude.{◌≡◌, ◌≢◌, List, OnErr, OnOk, ℕ, Some};
 ghost use Rattle.bpfdb_jobs.specs.Jobs.{StopsShort, Completes, Needs, Spared};
-ghost use Rattle.bpfdb_jobs.specs.declared.job.Subcommand.TheVariants.{Run};
+ghost use Rattle.bpfdb_jobs.specs.declared.job.JobKind.TheVariants.{Run};
 
 use crate::fault::JobFault;
 use crate::job::Job;

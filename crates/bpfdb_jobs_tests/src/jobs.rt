@@ -1,8 +1,8 @@
 //! Jobs of command lines, and what they come to. What is expected was worked out by hand from what instructions and subcommands mean;
 //! none is bpfdb's own output.
 use crate::play::{bytes_of, debugging, done, lines, words_of};
-use bpfdb_cli::{Plan, plan};
-use bpfdb_jobs::{Job, Subcommand};
+use bpfdb_cli::{Plan, Subcommand, plan};
+use bpfdb_jobs::{Job, JobKind};
 use counted_io::Counted;
 use std::alloc::Global;
 use std::io;
@@ -81,11 +81,22 @@ fn file_of(rt: &impl Abort, alloc: Global, plan: &Plan<'_>, file: &str) -> Vec<u
     }
 }
 
+/// The kind of a subcommand's job.
+fn kind_of(subcommand: Subcommand) -> JobKind {
+    match subcommand {
+        Subcommand::Run => JobKind::Run,
+        Subcommand::Debug => JobKind::Debug,
+        Subcommand::Asm => JobKind::Asm,
+        Subcommand::Disasm => JobKind::Disasm,
+        Subcommand::Check => JobKind::Check,
+    }
+}
+
 /// What comes of a plan, as a row has it. Its script is `stepi`, which only `debug` reads.
 fn answered(rt: &impl Abort, alloc: Global, plan: &Plan<'_>, file: &str) -> Vec<u8> {
     let bytes = file_of(rt, alloc, plan, file);
     let job = Job {
-        subcommand: plan.subcommand,
+        kind: kind_of(plan.subcommand),
         file: &bytes,
         context: &[],
         maps: plan.maps.map(|text| text.as_bytes()),
@@ -182,7 +193,7 @@ impl Write for Full {
 fn what_standard_error_does_not_take_makes_the_status_2(rt: HostRuntime) {
     let program = bytes_of(&rt, rt.alloc(), "71a0fffd000000009500000000000000");
     let mut job = debugging(&program, &[]);
-    job.subcommand = Subcommand::Run;
+    job.kind = JobKind::Run;
     let mut errors = Counted::new(Full);
     let outcome = done(&rt, rt.alloc(), &job, b"", &mut errors);
     assert_eq!(rt; outcome.status, 2);

@@ -1,7 +1,6 @@
 //! Command lines, and what they are planned to be.
 use crate::play::words_of;
-use bpfdb_cli::{Plan, plan};
-use bpfdb_jobs::Subcommand;
+use bpfdb_cli::{Plan, Subcommand, plan};
 use std::alloc::Global;
 use std::process::Abort;
 

@@ -1,5 +1,5 @@
 //! Jobs that are done over texts, and what comes of them.
-use bpfdb_jobs::{Job, Subcommand, tool};
+use bpfdb_jobs::{Job, JobKind, tool};
 use counted_io::Counted;
 use std::alloc::Global;
 use std::io::Write;
@@ -36,7 +36,7 @@ pub fn done<E: Write>(
 /// A job: `debug` with every option absent.
 pub fn debugging<'a>(file: &'a [u8], context: &'a [u8]) -> Job<'a> {
     Job {
-        subcommand: Subcommand::Debug,
+        kind: JobKind::Debug,
         file,
         context,
         maps: None,

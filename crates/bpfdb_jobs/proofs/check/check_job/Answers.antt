@@ -1,6 +1,6 @@
 use Rattle.std.proofs.Common.{refl, inr}
 use Rattle.bpfdb_jobs.specs.Jobs.{check_line, unread_with}
-use Rattle.bpfdb_jobs.specs.declared.job.Subcommand.TheVariants.{Check}
+use Rattle.bpfdb_jobs.specs.declared.job.JobKind.TheVariants.{Check}
 use Rattle.bpfdb_jobs.proofs.Yielding.{begins, completes}
 use Rattle.bpfdb_jobs.proofs.check.check_job.Goals as goal
 

@@ -1,28 +1,28 @@
 use Rattle.bpfdb_jobs.proofs.Yielding.{stops-short, stops-short-debug}
-use Rattle.bpfdb_jobs.specs.declared.job.Subcommand.TheVariants.{Run, Debug, Asm, Disasm, Check}
+use Rattle.bpfdb_jobs.specs.declared.job.JobKind.TheVariants.{Run, Debug, Asm, Disasm, Check}
 use Rattle.bpfdb_jobs.proofs.dispatch.tool.Goals as goal
 
 pub returns-in-Run-clause-broken : goal.returns-in-Run-clause-broken
 returns-in-Run-clause-broken g c = λ script told left held two.
-    stops-short c.args.job.now.subcommand Run c.args.job.now script told (g.W.Write.contents c.run_job.new.writer.inner)
+    stops-short c.args.job.now.kind Run c.args.job.now script told (g.W.Write.contents c.run_job.new.writer.inner)
     (g.R.Read.remaining c.args.reader.now.inner) c.in-Run.is left (c.run_job.ensures.broken script told held two)
 
 pub returns-in-Debug-clause-broken : goal.returns-in-Debug-clause-broken
 returns-in-Debug-clause-broken g c = λ script told left held two.
-    stops-short-debug c.args.job.now.subcommand Debug c.args.job.now script told (g.W.Write.contents c.debug_job.new.writer.inner)
+    stops-short-debug c.args.job.now.kind Debug c.args.job.now script told (g.W.Write.contents c.debug_job.new.writer.inner)
     (g.R.Read.remaining c.debug_job.new.reader.inner) c.in-Debug.is (c.debug_job.ensures.broken script told left held two)
 
 pub returns-in-Asm-clause-broken : goal.returns-in-Asm-clause-broken
 returns-in-Asm-clause-broken g c = λ script told left held two.
-    stops-short c.args.job.now.subcommand Asm c.args.job.now script told (g.W.Write.contents c.asm_job.new.writer.inner)
+    stops-short c.args.job.now.kind Asm c.args.job.now script told (g.W.Write.contents c.asm_job.new.writer.inner)
     (g.R.Read.remaining c.args.reader.now.inner) c.in-Asm.is left (c.asm_job.ensures.broken script told held two)
 
 pub returns-in-Disasm-clause-broken : goal.returns-in-Disasm-clause-broken
 returns-in-Disasm-clause-broken g c = λ script told left held two.
-    stops-short c.args.job.now.subcommand Disasm c.args.job.now script told (g.W.Write.contents c.disasm_job.new.writer.inner)
+    stops-short c.args.job.now.kind Disasm c.args.job.now script told (g.W.Write.contents c.disasm_job.new.writer.inner)
     (g.R.Read.remaining c.args.reader.now.inner) c.in-Disasm.is left (c.disasm_job.ensures.broken script told held two)
 
 pub returns-in-Check-clause-broken : goal.returns-in-Check-clause-broken
 returns-in-Check-clause-broken g c = λ script told left held two.
-    stops-short c.args.job.now.subcommand Check c.args.job.now script told (g.W.Write.contents c.check_job.new.writer.inner)
+    stops-short c.args.job.now.kind Check c.args.job.now script told (g.W.Write.contents c.check_job.new.writer.inner)
     (g.R.Read.remaining c.args.reader.now.inner) c.in-Check.is left (c.check_job.ensures.broken script told held two)

@@ -1,6 +1,6 @@
 use Rattle.std.proofs.Common.{refl, inr}
 use Rattle.bpfdb_jobs.specs.Jobs.{unread_with}
-use Rattle.bpfdb_jobs.specs.declared.job.Subcommand.TheVariants.{Asm}
+use Rattle.bpfdb_jobs.specs.declared.job.JobKind.TheVariants.{Asm}
 use Rattle.bpfdb_jobs.proofs.Yielding.{begins, completes}
 use Rattle.bpfdb_jobs.proofs.listing.asm_job.Goals as goal
 

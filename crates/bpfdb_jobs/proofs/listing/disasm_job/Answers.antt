@@ -1,7 +1,7 @@
 use Rattle.std.proofs.Common.{refl, inr, ◌∙◌}
 use Rattle.bpf_text.specs.Canonical.{canon}
 use Rattle.bpfdb_jobs.specs.Jobs.{unread_with}
-use Rattle.bpfdb_jobs.specs.declared.job.Subcommand.TheVariants.{Disasm}
+use Rattle.bpfdb_jobs.specs.declared.job.JobKind.TheVariants.{Disasm}
 use Rattle.bpfdb_jobs.proofs.Yielding.{begins, completes}
 use Rattle.bpfdb_jobs.proofs.listing.disasm_job.Goals as goal
 

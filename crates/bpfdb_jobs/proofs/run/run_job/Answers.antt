@@ -1,7 +1,7 @@
 use Rattle.std.proofs.Common.{refl, sym, ap, inr, ◌∙◌}
 use Rattle.bpfdb_jobs.specs.Jobs.{run_yield, status_of_ending}
 use Rattle.bpfdb_jobs.proofs.Yielding.{begins, completes, run-yields}
-use Rattle.bpfdb_jobs.specs.declared.job.Subcommand.TheVariants.{Run}
+use Rattle.bpfdb_jobs.specs.declared.job.JobKind.TheVariants.{Run}
 use Rattle.bpfdb_jobs.proofs.run.run_job.Goals as goal
 
 pub returns-in-Ok-Exited-clause-value : goal.returns-in-Ok-Exited-clause-value
