@@ -1,4 +1,4 @@
--- A reader or a writer whose reads and failures are counted. These counts are bpfdb's own.
+-- A reader or a writer whose reads and failures are counted. bpfdb's own choice.
 use Rattle.std.specs.Prelude.{ℕ, ◌≡◌, ◌+◌, ◌-◌, ◌^◌, ◌<◌, min, length, List, nat_lt, ◌==◌, ◌&&◌, if◌then◌else◌, Result, Ok, Err, IsErr, OnOk}
 
 -- What is known of a `Counted`: the reader or writer inside, its failures, and how many reads were passed on.

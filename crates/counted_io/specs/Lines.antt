@@ -1,4 +1,4 @@
--- The lines of a text, and the blanks in them, in listings and in scripts. They are bpfdb's own choice.
+-- The lines of a text, and the blanks in them, in listings and in scripts. bpfdb's own choice.
 use Rattle.std.specs.Prelude.{ℕ, Bool, ◌==◌, ◌||◌, not, if◌then◌else◌, List, [], ◌∷◌, drop}
 use Rattle.std.specs.List.{position_or_len}
 

@@ -1,4 +1,4 @@
-// The blanks of a line.
+//! The blanks of a line.
 ghost use Rattle.std.specs.Prelude.{◌≡◌, ◌≤◌, length, not, position};
 ghost use Rattle.std.specs.List.{position_or_len};
 ghost use Rattle.counted_io.specs.Lines.{is_blank, trim_start};

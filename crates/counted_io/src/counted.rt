@@ -1,4 +1,4 @@
-// A reader or a writer that counts its failures.
+//! A reader or a writer that counts its failures.
 ghost use Rattle.std.specs.Prelude.{◌≡◌};
 ghost use Rattle.std.specs.Io.{ReadsAtMost, WritesAtMost};
 ghost use Rattle.std.specs.Io.KnownBytes.{Keeps, ReadConsumes, WriteAppends};

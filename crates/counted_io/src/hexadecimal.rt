@@ -1,4 +1,4 @@
-// The text of a number in hexadecimal.
+//! The text of a number in hexadecimal.
 ghost use Rattle.std.specs.Prelude.{◌≡◌, ◌<◌, ◌≤◌, drop, false};
 ghost use Rattle.std.specs.Fmt.{digits, digit_glyph};
 ghost use Rattle.counted_io.specs.Writing.{WritesAfter, hexadecimal};
@@ -8,7 +8,7 @@ use crate::fault::WriteFault;
 use crate::writing::put;
 use std::io::Write;
 
-// As many digits as a number of 64 bits has.
+/// As many digits as a number of 64 bits has.
 const MOST_DIGITS: usize = 16;
 
 /// Writes a number as 0x and lower-case hexadecimal digits, without leading zeros, after what was
@@ -26,7 +26,7 @@ pub fn put_hexadecimal<W: Write>(
     put(writer, prefixed, &buffer[start..])
 }
 
-// Writes the digits to the end of the buffer, and says where they start.
+/// Writes the digits to the end of the buffer, and says where they start.
 fn write_digits(value: u64, buffer: &mut [u8; MOST_DIGITS]) -> usize
     ensures within { result ≤ MOST_DIGITS }
     ensures value { drop result buffer.new ≡ digits 16 false value }

@@ -1,4 +1,4 @@
-// Numbers as they are written.
+//! Numbers as they are written.
 ghost use Rattle.std.specs.Prelude.{◌≡◌, ◌≤◌};
 ghost use Rattle.std.specs.List.{list_all};
 ghost use Rattle.std.specs.Char.{digit_value, is_digit};
@@ -78,7 +78,7 @@ fn are_digits(text: &[u8], radix: u32) -> bool
     text.iter().all(|byte| digit_value(*byte) < radix)
 }
 
-// The value of a digit or a letter, and 36 for any other byte.
+/// The value of a digit or a letter, and 36 for any other byte.
 fn digit_value(byte: u8) -> u32
     ensures { result ≡ digit_value byte }
 {

@@ -1,4 +1,4 @@
-// The read of one byte.
+//! The read of one byte.
 ghost use Rattle.counted_io.specs.Reading.{ReadsByte};
 
 use crate::counted::Counted;

@@ -1,4 +1,4 @@
-// The one loop that writes a text, and the texts of numbers.
+//! The one loop that writes a text, and the texts of numbers.
 ghost use Rattle.std.specs.Prelude.{decimal};
 ghost use Rattle.std.specs.Fmt.{signed_decimal};
 ghost use Rattle.counted_io.specs.Writing.{Writes, WritesAfter};
