@@ -20,7 +20,7 @@ pub enum Fault {
     Access { address: u64 },
     /// A helper was given a number that is no map's token.
     Token { token: u64 },
-    /// A local call in the innermost frame that there is.
+    /// A local call where as many frames are pushed as there can be.
     Depth,
 }
 

@@ -1,4 +1,4 @@
--- A journal's size is 1,024 to 16,777,216 bytes. Bpfdb's own choice.
+-- A journal's size is 1,024 to 16,777,216 bytes. bpfdb's own choice.
 use Rattle.std.specs.Prelude.{◌≤◌, ℕ, List, codes}
 use Rattle.bpf_journal.specs.declared.fault.JournalFault.{JournalFault}
 use Rattle.bpf_journal.specs.declared.fault.JournalFault.TheVariants.{SizeOutOfRange, OutOfMemory}

@@ -1,4 +1,4 @@
-//! What entries are: which are those of steps, and which fit their fields, those whose parts are in their types' ranges, and whose byte strings are short enough.
+//! Which entries are those of steps, and which fit their fields.
 ghost use Rattle.std.specs.Prelude.{◌≡◌, if◌then◌else◌, ◌<◌, ◌≤◌, ◌^◌, All};
 ghost use Rattle.bpf_machine.specs.Entries.{expanded};
 ghost use Rattle.bpf_entries.specs.Fields.{FitsBytes, FitsFields};

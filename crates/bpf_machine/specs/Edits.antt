@@ -1,4 +1,4 @@
--- Edits: what a user changes in a machine by hand, in every status. Bpfdb's own choice.
+-- Edits: what a user changes in a machine by hand, in every status. bpfdb's own choice.
 use Rattle.std.specs.Prelude.{◌≡◌, ◌<◌, ℕ, List, Option, Some, None, IsSome, IsNone, length, unwrap_or, slice_get, slice_set}
 use Rattle.bpf_isa.specs.Programs.{IsStart}
 use Rattle.bpf_isa.specs.declared.maps.MapShape.{MapShape}

@@ -7,7 +7,7 @@ use bpf_entries::{ByteString, Entry};
 use bpf_isa::{Reg, Size};
 use byteorder::{ByteOrder, LittleEndian};
 
-/// An entry that is copied for nothing: 32 bytes at most. It means the `Entry` of the same name, and is what a step makes while
+/// An entry that costs next to nothing to copy: 32 bytes at most. It means the `Entry` of the same name, and is what a step makes while
 /// nothing looks at it. `old` of a store or fetch is the number that stood there, the lowest byte first. The entries of returns and of
 /// cells have no such form.
 #[derive(Clone, Copy)]

@@ -1,4 +1,4 @@
--- A table of table agrees with a list of slots.
+-- A table of flags agrees with a list of slots.
 use Rattle.std.specs.Prelude.{if◌then◌else◌, All, filter, not, replicate}
 use Rattle.std.proofs.Common.{◌≡◌, ◌≢◌, ◌<◌, ◌≤◌, ℕ, zero, suc, Bool, true, false, ◌||◌, ◌==◌, List, [], ◌∷◌, ◌++◌, Some, length, slice_get, set, refl, sym, ap, ◌∙◌, arith}
 use Rattle.std.proofs.lemmas.Bool.Decides.{nat_tests}

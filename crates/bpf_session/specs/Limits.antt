@@ -1,4 +1,4 @@
--- The limits of a session's tables (bpfdb's own choice).
+-- The limits of a session's tables. bpfdb's own choice.
 use Rattle.std.specs.Prelude.{ℕ}
 
 -- the most breakpoints

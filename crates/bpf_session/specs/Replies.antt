@@ -1,4 +1,4 @@
--- The texts of replies (bpfdb's own choice).
+-- The texts of replies. bpfdb's own choice.
 use Rattle.std.specs.Prelude.{ℕ, List, [], ◌++◌, Result, Ok, Err, IsSome, decimal, length, flat_map, sum_by}
 use lib.Chars.{codes}
 use Rattle.bpf_isa.specs.Programs.{IsStart}

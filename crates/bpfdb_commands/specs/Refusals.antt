@@ -1,11 +1,11 @@
--- The refusals of command lines, with the numbers and texts that bpfdb prints (its own choice).
+-- The refusals of command lines, with the numbers and texts that bpfdb prints. bpfdb's own choice.
 use Rattle.std.specs.Prelude.{ℕ, List, ◌++◌}
 use lib.Chars.{codes}
 use Rattle.std.specs.Fmt.{decimal}
 use Rattle.bpfdb_commands.specs.declared.refusal.Refusal.{Refusal}
 use Rattle.bpfdb_commands.specs.declared.refusal.Refusal.TheVariants.{UnknownCommand, WrongArgument, MachineEnded, NoKeptStep, FewerCommands, AddressNotPresent, RegisterNotWritable, NoStart, OutermostFrame, TableFull, ThereOrNot, LineTooLong, NoCell, OutOfMemory}
 
--- the number that stands after Q
+-- The number that stands after Q.
 abbrev pub number_of : Refusal → ℕ
 number_of UnknownCommand = 1
 number_of WrongArgument = 2
@@ -22,7 +22,7 @@ number_of LineTooLong = 12
 number_of NoCell = 14
 number_of OutOfMemory = 15
 
--- the text that stands after the number
+-- The text that stands after the number.
 abbrev pub text_of : Refusal → List ℕ
 text_of UnknownCommand = codes "unknown command"
 text_of WrongArgument = codes "wrong argument"
@@ -39,7 +39,7 @@ text_of LineTooLong = codes "line too long"
 text_of NoCell = codes "no such cell or wrong length"
 text_of OutOfMemory = codes "out of memory"
 
--- the line that answers a refused command, as `refused Q12: line too long`
+-- The line that answers a refused command, as `refused Q12: line too long`.
 abbrev pub refusal_text : Refusal → List ℕ
 refusal_text refusal =
     codes "refused Q" ++ decimal (number_of refusal) ++ codes ": " ++ text_of refusal ++ codes "\n"

@@ -1,4 +1,4 @@
--- The texts of what replies show (bpfdb's own choice).
+-- The texts of what replies show. bpfdb's own choice.
 use Rattle.std.specs.Prelude.{ℕ, zero, suc, ◌+◌, List, [], ◌∷◌, ◌++◌, decimal, length, reverse, flat_map, slice_index, unwrap_or}
 use lib.Chars.{codes}
 use Rattle.std.specs.Option.{option_map_or}
@@ -16,7 +16,7 @@ use Rattle.bpf_entries.specs.declared.status.Status.TheVariants.{Running, Exited
 use Rattle.bpfdb_replies.specs.declared.why.Why.{Why}
 use Rattle.bpfdb_replies.specs.declared.why.Why.TheVariants.{End, Break, Watch, Done, Limit, Memory, Start}
 
--- why a command stopped
+-- Why a command stopped.
 abbrev pub text_of_why : Why → List ℕ
 text_of_why End = codes "end"
 text_of_why Break = codes "break"
@@ -26,18 +26,18 @@ text_of_why Limit = codes "limit"
 text_of_why Memory = codes "memory"
 text_of_why Start = codes "start"
 
--- a slot and the text of the instruction that starts there
+-- A slot and the text of the instruction that starts there.
 abbrev pub text_at : Checked → ℕ → List ℕ
 text_at program slot =
     decimal slot ++ codes ": " ++ option_map_or (λ i. text_of_insn slot i) (insn_at program slot) []
 
--- why a machine faulted
+-- Why a machine faulted.
 abbrev pub text_of_fault : Fault → List ℕ
 text_of_fault (Access address) = codes "access " ++ hexadecimal address
 text_of_fault (Token token) = codes "token " ++ hexadecimal token
 text_of_fault Depth = codes "depth"
 
--- where a machine stands: the instruction to run, what an exited program answers, or why it faulted
+-- Where a machine stands: the instruction to run, what an exited program answers, or why it faulted.
 abbrev pub place_in : Status → State → List ℕ
 place_in Running x = codes "at " ++ text_at x.program x.pc
 place_in Exited x = codes "exited at " ++ decimal x.pc ++ codes ": r0 " ++ hexadecimal (register x 0)
@@ -46,11 +46,11 @@ place_in (Faulted fault) x = codes "fault " ++ text_of_fault fault ++ codes " at
 unfoldable pub place : State → List ℕ
 place x = place_in x.status x
 
--- a register's name and number, with a blank in front
+-- A register's name and number, with a blank in front.
 unfoldable pub text_of_register : State → ℕ → List ℕ
 text_of_register x r = codes " r" ++ decimal r ++ codes "=" ++ hexadecimal (register x r)
 
--- the registers from r on, n of them
+-- The registers from r on, n of them.
 unfoldable pub registers_from : State → ℕ → ℕ → List ℕ
 registers_from x r zero = []
 registers_from x r (suc n) = text_of_register x r ++ registers_from x (r + 1) n
@@ -59,26 +59,26 @@ registers_from x r (suc n) = text_of_register x r ++ registers_from x (r + 1) n
 unfoldable pub text_of_registers : State → List ℕ
 text_of_registers x = codes "r0=" ++ hexadecimal (register x 0) ++ registers_from x 1 10
 
--- the registers, and where the machine stands
+-- The registers, and where the machine stands.
 abbrev pub text_of_state : State → List ℕ
 text_of_state x = text_of_registers x ++ codes "\n" ++ place x ++ codes "\n"
 
--- a number that a frame saved, with its register's name
+-- A number that a frame saved, with its register's name.
 abbrev pub saved_text : List ℕ → ℕ → List ℕ
 saved_text name n = codes " " ++ name ++ codes "=" ++ hexadecimal n
 
--- the slot to which a local call returns, and the numbers of r6 to r9 that come back
+-- The slot to which a local call returns, and the numbers of r6 to r9 that come back.
 unfoldable pub text_of_frame : Frame → List ℕ
 text_of_frame f =
     codes "returns to " ++ decimal f.return_pc
     ++ saved_text (codes "r6") (slice_index f.saved 0) ++ saved_text (codes "r7") (slice_index f.saved 1)
     ++ saved_text (codes "r8") (slice_index f.saved 2) ++ saved_text (codes "r9") (slice_index f.saved 3) ++ codes "\n"
 
--- the depth, and a line for each pushed frame, the innermost first
+-- The depth, and a line for each pushed frame, the innermost first.
 unfoldable pub text_of_frames : State → List ℕ
 text_of_frames x = codes "depth " ++ decimal (depth x) ++ codes "\n" ++ flat_map text_of_frame (reverse x.frames)
 
--- the lines of a breakpoint and of a watch
+-- The lines of a breakpoint and of a watch.
 abbrev pub break_text : ℕ → List ℕ
 break_text slot = codes "break " ++ decimal slot ++ codes "\n"
 
@@ -89,24 +89,24 @@ abbrev pub or_none : List ℕ → List ℕ
 or_none [] = codes "none\n"
 or_none (byte ∷ more) = byte ∷ more
 
--- how many words were traced, and the words
+-- How many words were traced, and the words.
 abbrev pub word_text : ℕ → List ℕ
 word_text n = codes " " ++ hexadecimal n
 
 unfoldable pub text_of_trace : State → List ℕ
 text_of_trace x = codes "trace " ++ decimal (length x.trace) ++ flat_map word_text x.trace ++ codes "\n"
 
--- the bytes of a run
+-- The bytes of a run.
 unfoldable pub text_of_bytes : State → ℕ → ℕ → List ℕ
 text_of_bytes x address n =
     hexadecimal address ++ codes ": " ++ encode_lower (unwrap_or (run_at x.memory address n) []) ++ codes "\n"
 
--- so many instructions from a slot on, fewer at the program's end
+-- So many instructions from a slot on, fewer at the program's end.
 unfoldable pub instructions_from : Checked → ℕ → ℕ → List ℕ
 instructions_from program slot zero = []
 instructions_from program slot (suc n) =
     option_map_or (λ i. text_at program slot ++ codes "\n" ++ instructions_from program (slot + slots_of i) n) (insn_at program slot) []
 
--- how far a command went, why it stopped, and where
+-- How far a command went, why it stopped, and where.
 abbrev pub text_of_move : ℕ → List ℕ → Why → State → List ℕ
 text_of_move k way why x = decimal k ++ way ++ text_of_why why ++ codes "; " ++ place x ++ codes "\n"

@@ -1,4 +1,5 @@
 //! The texts of replies: what is printed of a machine, of breakpoints and of refusals.
+//! Their tests stand in `bpf_session_tests`.
 #![tactic(auto)]
 
 mod breaks;
