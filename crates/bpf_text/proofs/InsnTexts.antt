@@ -8,6 +8,7 @@ use Rattle.bpf_isa.specs.declared.instruction.Insn.TheVariants as insn
 use Rattle.bpf_isa.specs.declared.instruction.Source.{Source}
 use Rattle.bpf_isa.specs.declared.instruction.Source.TheVariants as source_is
 use Rattle.bpf_isa.specs.Programs.{target_of}
+use Rattle.bpf_isa.specs.Registers.{register_text}
 use Rattle.bpf_text.specs.declared.write.operand.Operand.{Operand}
 use Rattle.bpf_text.specs.declared.write.operand.Operand.TheVariants.{Register, Signed, Unsigned, Hexadecimal, Memory, Target}
 use Rattle.bpf_text.specs.declared.write.operand.Operands.{Operands}
@@ -22,8 +23,8 @@ use Rattle.bpf_text.specs.declared.read.term.Terms.{Terms}
 use Rattle.bpf_text.specs.declared.read.statement.Statement.{Statement}
 use Rattle.bpf_text.specs.Scaffolding.Cuts.{first_operand, other_operands}
 use Rattle.bpf_isa.specs.Mnemonics.{mnemonic_of}
-use Rattle.bpf_text.specs.Operands.{operand_text, operands_of, operand_of, register_text, label_text, target_operand, IsSlot}
-use Rattle.bpf_text.specs.Tokens.{number_of}
+use Rattle.bpf_text.specs.Operands.{operand_text, operands_of, operand_of, label_text, target_operand, IsSlot}
+use Rattle.bpf_text.specs.Tokens.{number_with}
 use Rattle.bpf_text.specs.Grammar.{one, two, three}
 use Rattle.bpf_text.specs.Instructions.{source_in, name_in, target_in}
 use Rattle.bpf_text.specs.Scaffolding.Terms.{term_of, terms_of}
@@ -180,8 +181,8 @@ HaveForms fs os = ⊥
 abbrev pub term_from : Operand → Term
 term_from (Register r) = term.Register r
 term_from (Signed z) = term.Number (number_from z)
-term_from (Unsigned n) = term.Number (number_of false n)
-term_from (Hexadecimal n) = term.Number (number_of false n)
+term_from (Unsigned n) = term.Number (number_with false n)
+term_from (Hexadecimal n) = term.Number (number_with false n)
 term_from (Memory r o) = term.Memory r (number_from o)
 term_from (Target p) = term.Name (label_text p)
 

@@ -15,7 +15,7 @@ use Rattle.bpf_text.specs.declared.read.table.TheConstants.{MNEMONICS}
 use Rattle.bpf_text.specs.declared.read.term.Terms.{Terms}
 use Rattle.counted_io.specs.Lines.{is_blank, trim_start}
 use Rattle.bpf_text.specs.Characters.{is_name, is_text}
-use Rattle.bpf_text.specs.Scaffolding.Cuts.{is_labelled, before, after, code_of, trim, trim_end, mnemonic_part}
+use Rattle.bpf_text.specs.Scaffolding.Cuts.{is_labelled, before, after, without_comment, trim, trim_end, mnemonic_part}
 use Rattle.bpf_text.specs.Scaffolding.Cuts as cuts
 use Rattle.bpf_text.specs.Grammar.{AreOperands}
 use Rattle.bpf_text.specs.LineGrammar.{IsComment, IsLabelled, IsLabel, IsApart, IsInstruction, IsStatement, IsReading}
@@ -375,9 +375,9 @@ says-labelled code name rest known =
 -- ---- lines
 
 -- what stands before a comment
-code-before : (code comment : List ℕ) → list_all no_semicolon code ≡ true → IsComment comment → code_of (code ++ comment) ≡ code
+code-before : (code comment : List ℕ) → list_all no_semicolon code ≡ true → IsComment comment → without_comment (code ++ comment) ≡ code
 code-before code [] p c =
-    ap code_of (append-nil code) ∙ before_first-none (λ b. b == 59) no_semicolon code not-semicolon p
+    ap without_comment (append-nil code) ∙ before_first-none (λ b. b == 59) no_semicolon code not-semicolon p
 code-before code (b ∷ s) p c =
     before_first-at (λ b. b == 59) no_semicolon code b s not-semicolon (ap (λ x. x == 59) c) p
 
@@ -412,7 +412,7 @@ list_all-front test [] t p = refl
 list_all-front test (b ∷ s) t p =
     let parts = and-both (test b) (list_all test (s ++ t)) p in and-join (test b) (list_all test s) parts.0 (list_all-front test s t parts.1)
 
-code-past : (front t : List ℕ) → list_all no_semicolon front ≡ true → code_of (front ++ t) ≡ front ++ code_of t
+code-past : (front t : List ℕ) → list_all no_semicolon front ≡ true → without_comment (front ++ t) ≡ front ++ without_comment t
 code-past [] t p = refl
 code-past (b ∷ front) t p =
     let parts = and-both (no_semicolon b) (list_all no_semicolon front) p in
@@ -438,16 +438,16 @@ says-code code rest None r known states = go (is_labelled (trim_start code)) ref
 
 pub says-line : (line : List ℕ) (r : LineReading Line) → IsReading line r → read_line line ≡ r
 says-line line (Ok said) known =
-    let code = ap code_of known.written ∙ code-before known.code known.comment known.plain known.comments in
+    let code = ap without_comment known.written ∙ code-before known.code known.comment known.plain known.comments in
     rw (code, known.text, says-code known.code known.rest said.label said.statement known.labels known.states) refl
 says-line line (Err NotText) known =
     let whole = known.front ++ known.byte ∷ known.rest in
-    let code : code_of whole ≡ known.front ++ known.byte ∷ code_of known.rest =
+    let code : without_comment whole ≡ known.front ++ known.byte ∷ without_comment known.rest =
     code-past known.front (known.byte ∷ known.rest) known.plain
     ∙ ap (λ s. known.front ++ s) (code-past (known.byte ∷ []) known.rest (and-join _ true (strange-semicolon known.byte known.strange) refl)) in
-    let strange : list_all is_text (code_of line) ≡ false =
-    ap (λ l. list_all is_text (code_of l)) known.written ∙ ap (list_all is_text) code
-    ∙ list_all-no is_text known.front known.byte (code_of known.rest) known.strange in
+    let strange : list_all is_text (without_comment line) ≡ false =
+    ap (λ l. list_all is_text (without_comment l)) known.written ∙ ap (list_all is_text) code
+    ∙ list_all-no is_text known.front known.byte (without_comment known.rest) known.strange in
     rw strange refl
 says-line line (Err UnknownMnemonic) known = absurd known
 says-line line (Err WrongOperands) known = absurd known
@@ -482,15 +482,15 @@ code-reads code = go (is_labelled (trim_start code)) refl where
   })
 
 pub line-reads : (line : List ℕ) → IsReading line (read_line line)
-line-reads line = go (list_all is_text (code_of line)) refl where
+line-reads line = go (list_all is_text (without_comment line)) refl where
   cut : IsCut (λ b. b == 59) line
   cut = cut-at-first (λ b. b == 59) line
 
-  go : (t : Bool) → list_all is_text (code_of line) ≡ t → IsReading line (read_line line)
+  go : (t : Bool) → list_all is_text (without_comment line) ≡ t → IsReading line (read_line line)
   go true h =
-      let parts = code-reads (code_of line) in
+      let parts = code-reads (without_comment line) in
       rw h (record {
-        code = code_of line;
+        code = without_comment line;
         rest = parts.rest;
         comment = cut.rest;
         written = cut.written;
@@ -501,7 +501,7 @@ line-reads line = go (list_all is_text (code_of line)) refl where
         states = parts.states;
       })
   go false h =
-      let found = failing-in is_text (code_of line) h in
+      let found = failing-in is_text (without_comment line) h in
       rw h (record {
         front = found.front;
         byte = found.byte;

@@ -11,7 +11,7 @@ use Rattle.bpf_text.specs.declared.write.operand.Operands.TheVariants.{Nothing, 
 use Rattle.bpf_text.specs.declared.read.statement.Statement.{Statement}
 use Rattle.counted_io.specs.Lines.{is_blank, trim_start}
 use Rattle.bpf_text.specs.Characters.{is_text, is_name}
-use Rattle.bpf_text.specs.Scaffolding.Cuts.{before, after, trim, code_of, is_labelled, mnemonic_part}
+use Rattle.bpf_text.specs.Scaffolding.Cuts.{before, after, trim, without_comment, is_labelled, mnemonic_part}
 use Rattle.bpf_text.specs.Scaffolding.Cuts as cuts
 use Rattle.bpf_text.specs.Scaffolding.Lines.{read_line}
 use Rattle.bpf_isa.specs.Mnemonics.{mnemonic_of}
@@ -119,7 +119,7 @@ not-feed : (b : ℕ) → is_code b ≡ true → not (b == 10) ≡ true
 not-feed b p = grind (arith, nat_tests)
 
 plain-line : (name rest line : List ℕ) → IsInsnLine name rest line
-    → (code_of line ≡ line) × (is_labelled line ≡ false) × (trim_start line ≡ line) × (trim line ≡ line)
+    → (without_comment line ≡ line) × (is_labelled line ≡ false) × (trim_start line ≡ line) × (trim line ≡ line)
 plain-line name rest line known =
     let here = position_or_len-none (λ b. b == 58) is_code line code-colon known.code in (
       before_first-none (λ b. b == 59) is_code line code-comment known.code,
@@ -167,7 +167,7 @@ Reads-label p h =
     let label = label_text p in
     let line = label ++ 58 ∷ [] in
     let plain = are_plain-decimal p h in
-    let code : code_of line ≡ line = before_first-none (λ b. b == 59) (λ b. not (b == 59)) line not-semicolon
+    let code : without_comment line ≡ line = before_first-none (λ b. b == 59) (λ b. not (b == 59)) line not-semicolon
     (list_all-append (λ b. not (b == 59)) label (58 ∷ []) (list_all-weaken is_plain (λ b. not (b == 59)) label plain-semicolon plain) refl) in
     let snug = Snug-plain label (omega arith) plain in
     let start : trim_start line ≡ line = snug.start (58 ∷ []) in

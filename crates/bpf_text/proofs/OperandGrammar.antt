@@ -10,6 +10,7 @@ use Rattle.std.proofs.lemmas.Bool.{eq-eqb, eqb-true}
 use Rattle.std.proofs.lemmas.Bool.Decides.{nat_tests}
 use Rattle.std.proofs.lemmas.List.Sums.{prefix_len-le-length}
 use Rattle.counted_io.proofs.Naturals.{and-both, digit-other, list_all-AllDigits, natural-says, says-natural}
+use Rattle.bpf_isa.specs.Registers.{register_named}
 use Rattle.bpf_text.specs.declared.read.number.Number.{Number}
 use Rattle.bpf_text.specs.declared.read.term.OperandForm.{OperandForm}
 use Rattle.bpf_text.specs.declared.read.term.OperandForm.TheVariants as form
@@ -20,8 +21,8 @@ use Rattle.bpf_text.specs.Characters.{is_name}
 use Rattle.bpf_text.specs.Scaffolding.Cuts.{trim, trim_end, onto_trimmed, before}
 use Rattle.counted_io.specs.Numerals.{IsNatural, natural}
 use Rattle.bpf_text.specs.Grammar.{IsRegister, IsSigned, Padded, IsDisplaced, IsInside, IsOperand}
-use Rattle.bpf_text.specs.Scaffolding.Terms.{signed, is_sign, is_bracketed}
-use Rattle.bpf_text.specs.Tokens.{register, number_of}
+use Rattle.bpf_text.specs.Scaffolding.Terms.{signed_number, is_sign, is_bracketed}
+use Rattle.bpf_text.specs.Tokens.{number_with}
 use Rattle.bpf_text.specs.Scaffolding.Terms.{term_of, memory, base_and_displacement, displacement, register_or}
 use Rattle.bpf_text.proofs.PlainTexts.{no_blank, not-true, and-join, list_all-append, list_all-weaken, before_first-at, before_first-none, position_or_len-none}
 use Rattle.bpf_text.proofs.TokenTexts.{slice_index-other, is_decimal, are_decimal, is_open, no_sign, displacement-at, memory-at}
@@ -185,8 +186,8 @@ sign-of c h = go (c == 43) refl where
 
 inside-says : (s : List ℕ) (base : ℕ) (number : Number) → base_and_displacement s ≡ Some (term.Memory base number)
     → IsInside s base number
-inside-says s base number e = go (register (trim (before_first is_sign s))) refl e where
-  go : (o : Option ℕ) → register (trim (before_first is_sign s)) ≡ o
+inside-says s base number e = go (register_named (trim (before_first is_sign s))) refl e where
+  go : (o : Option ℕ) → register_named (trim (before_first is_sign s)) ≡ o
       → option_and_then (λ b. option_map (term.Memory b) (displacement s)) o ≡ Some (term.Memory base number) → IsInside s base number
   go None h e = cc
   go (Some b) h e =
@@ -201,20 +202,20 @@ inside-says s base number e = go (register (trim (before_first is_sign s))) refl
             let all : before_first is_sign s ≡ s =
             ap (λ n. take n s) (eqb-true (position_or_len is_sign s) (length s) h) ∙ take-length s in
             let none = rw h at e in
-            inl (padded-trim (λ x. IsRegister x base) s (subst (λ x. IsRegister (trim x) base) all reg), (let q : number ≡ number_of false 0 = cc in q))
+            inl (padded-trim (λ x. IsRegister x base) s (subst (λ x. IsRegister (trim x) base) all reg), (let q : number ≡ number_with false 0 = cc in q))
         whole false h reg e =
             let cut = split-first is_sign s (short h) in
             let rest = rw h at e in
-            signed cut.0 (sign-of cut.0 cut.2) cut.1 (ap (λ c. c == 45) cut.3) rest where
+            signed_number cut.0 (sign-of cut.0 cut.2) cut.1 (ap (λ c. c == 45) cut.3) rest where
               short : (position_or_len is_sign s == length s) ≡ false → position_or_len is_sign s < length s
               short h = let most = prefix_len-le-length (λ x. not (is_sign x)) s in grind (arith, nat_tests)
 
-              signed : (c : ℕ) → ((c ≡ 43) × ((c == 45) ≡ false)) ⊎ ((c ≡ 45) × ((c == 45) ≡ true))
+              signed_number : (c : ℕ) → ((c ≡ 43) × ((c == 45) ≡ false)) ⊎ ((c ≡ 45) × ((c == 45) ≡ true))
                   → s ≡ before_first is_sign s ++ c ∷ after_first is_sign s
                   → (slice_index s (position_or_len is_sign s) == 45) ≡ (c == 45)
-                  → option_map (number_of (slice_index s (position_or_len is_sign s) == 45)) (natural (trim (after_first is_sign s)))
+                  → option_map (number_with (slice_index s (position_or_len is_sign s) == 45)) (natural (trim (after_first is_sign s)))
                   ≡ Some number → IsInside s base number
-              signed c (inl k) cut byte rest =
+              signed_number c (inl k) cut byte rest =
                   let parts = map-says (slice_index s (position_or_len is_sign s) == 45) (natural (trim (after_first is_sign s))) number rest in
                   inr (inl (
                     before_first is_sign s,
@@ -224,7 +225,7 @@ inside-says s base number e = go (register (trim (before_first is_sign s))) refl
                     padded-trim (λ x. IsNatural x number.magnitude) (after_first is_sign s) (natural-says (trim (after_first is_sign s)) number.magnitude parts.0),
                     parts.1 ∙ byte ∙ k.1,
                   ))
-              signed c (inr k) cut byte rest =
+              signed_number c (inr k) cut byte rest =
                   let parts = map-says (slice_index s (position_or_len is_sign s) == 45) (natural (trim (after_first is_sign s))) number rest in
                   inr (inr (
                     before_first is_sign s,
@@ -300,7 +301,7 @@ bracketed-says (a ∷ s) h =
     ∙ ap (λ c. before 93 s ++ c ∷ []) (eqb-true cut.0 93 cut.2)))
 
 no-other : (s : List ℕ) (t : Term) → base_and_displacement s ≡ Some t → (base : ℕ) × (number : Number) × (t ≡ term.Memory base number)
-no-other s t e = go (register (trim (before_first is_sign s))) e where
+no-other s t e = go (register_named (trim (before_first is_sign s))) e where
   go : (o : Option ℕ) → option_and_then (λ b. option_map (term.Memory b) (displacement s)) o ≡ Some t
       → (base : ℕ) × (number : Number) × (t ≡ term.Memory base number)
   go None e = cc
@@ -325,19 +326,19 @@ memory-says s t e = go (is_bracketed s) refl e where
 -- operands
 pub operand-says : (f : OperandForm) (s : List ℕ) (t : Term) → term_of f s ≡ Some t → IsOperand f s t
 operand-says form.Register s t e =
-    let part = map-some term.Register (register s) t e in
+    let part = map-some term.Register (register_named s) t e in
     subst (IsOperand form.Register s) part.2 (register-says s part.0 (part.1))
 operand-says form.Unsigned s t e =
     let part = map-some _ (natural s) t e in
     subst (IsOperand form.Unsigned s) part.2 (refl, natural-says s part.0 part.1)
 operand-says form.Signed s t e =
-    let part = map-some term.Number (signed s) t e in
+    let part = map-some term.Number (signed_number s) t e in
     subst (IsOperand form.Signed s) part.2 (signed-says s part.0 part.1)
-operand-says form.Source s t e = go (register s) refl e where
-  go : (o : Option ℕ) → register s ≡ o → register_or o s ≡ Some t → IsOperand form.Source s t
+operand-says form.Source s t e = go (register_named s) refl e where
+  go : (o : Option ℕ) → register_named s ≡ o → register_or o s ≡ Some t → IsOperand form.Source s t
   go (Some r) h e = let same : term.Register r ≡ t = cc in subst (IsOperand form.Source s) same (register-says s r (h))
   go None h e =
-      let part = map-some term.Number (signed s) t e in
+      let part = map-some term.Number (signed_number s) t e in
       subst (IsOperand form.Source s) part.2 (signed-says s part.0 part.1)
 operand-says form.Memory s t e = memory-says s t e
 operand-says form.Name s t e = go (is_name s) refl e where
@@ -363,9 +364,9 @@ apart s number r (inr known) reg =
     let minus : slice_index s 0 ≡ 45 = ap (λ x. slice_index x 0) known.1 in
     absurd (omega (arith, r_first, minus))
 
-no-register : (s : List ℕ) (number : Number) → IsSigned s number → register s ≡ None
-no-register s number known = go (register s) refl where
-  go : (o : Option ℕ) → register s ≡ o → register s ≡ None
+no-register : (s : List ℕ) (number : Number) → IsSigned s number → register_named s ≡ None
+no-register s number known = go (register_named s) refl where
+  go : (o : Option ℕ) → register_named s ≡ o → register_named s ≡ None
   go None h = h
   go (Some r) h = absurd (apart s number r known (register-says s r (h)))
 

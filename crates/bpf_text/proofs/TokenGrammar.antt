@@ -6,11 +6,12 @@ use Rattle.std.proofs.lemmas.Bool.{eqb-true}
 use Rattle.std.proofs.lemmas.Bool.Decides.{nat_tests}
 use Rattle.std.proofs.lemmas.Fmt.{decimal_digit, decimal_step}
 use Rattle.counted_io.proofs.Naturals.{digit-other, list_all-AllDigits, natural-says, says-natural}
+use Rattle.bpf_isa.specs.Registers.{register_named}
 use Rattle.bpf_text.specs.declared.read.number.Number.{Number}
 use Rattle.counted_io.specs.Numerals.{IsNatural, natural}
 use Rattle.bpf_text.specs.Grammar.{IsRegister, IsSigned}
-use Rattle.bpf_text.specs.Scaffolding.Terms.{is_negative, signed}
-use Rattle.bpf_text.specs.Tokens.{register, number_of}
+use Rattle.bpf_text.specs.Scaffolding.Terms.{is_negative, signed_number}
+use Rattle.bpf_text.specs.Tokens.{number_with}
 use Rattle.bpf_text.proofs.TokenTexts.{register-text, slice_index-other}
 
 -- registers
@@ -29,7 +30,7 @@ one-digit a b h = (grind (arith, nat_tests), grind (arith, nat_tests), grind (ar
 ten : (a b c : ℕ) → is_ten a b c ≡ true → (a ≡ 114) × (b ≡ 49) × (c ≡ 48)
 ten a b c h = (grind (arith, nat_tests), grind (arith, nat_tests), grind (arith, nat_tests))
 
-pub register-says : (s : List ℕ) (r : ℕ) → register s ≡ Some r → IsRegister s r
+pub register-says : (s : List ℕ) (r : ℕ) → register_named s ≡ Some r → IsRegister s r
 register-says [] r e = cc
 register-says (a ∷ []) r e = cc
 register-says (a ∷ b ∷ []) r e = go (is_one_digit a b) refl e where
@@ -49,25 +50,25 @@ register-says (a ∷ b ∷ c ∷ []) r e = go (is_ten a b c) refl e where
   go false h e = cc
 register-says (a ∷ b ∷ c ∷ d ∷ s) r e = cc
 
-pub says-register : (s : List ℕ) (r : ℕ) → IsRegister s r → register s ≡ Some r
-says-register s r known = ap register known.1 ∙ register-text r known.0
+pub says-register : (s : List ℕ) (r : ℕ) → IsRegister s r → register_named s ≡ Some r
+says-register s r known = ap register_named known.1 ∙ register-text r known.0
 
 -- a number with a sign or none
 minus-says : (s : List ℕ) → is_negative s ≡ true → s ≡ 45 ∷ drop 1 s
 minus-says [] h = cc
 minus-says (a ∷ s) h = rw (eqb-true a 45 h) refl
 
-pub map-says : (negative : Bool) (o : Option ℕ) (number : Number) → option_map (number_of negative) o ≡ Some number
+pub map-says : (negative : Bool) (o : Option ℕ) (number : Number) → option_map (number_with negative) o ≡ Some number
     → (o ≡ Some number.magnitude) × (number.negative ≡ negative)
 map-says negative None number e = cc
 map-says negative (Some n) number e =
-    let same : number_of negative n ≡ number = cc in
+    let same : number_with negative n ≡ number = cc in
     (ap (λ x. Some x.magnitude) same, sym (ap (λ x. x.negative) same))
 
-pub signed-says : (s : List ℕ) (number : Number) → signed s ≡ Some number → IsSigned s number
+pub signed-says : (s : List ℕ) (number : Number) → signed_number s ≡ Some number → IsSigned s number
 signed-says s number e = go (is_negative s) refl e where
   go : (t : Bool) → is_negative s ≡ t
-      → (if t then option_map (number_of true) (natural (drop 1 s)) else option_map (number_of false) (natural s)) ≡ Some number
+      → (if t then option_map (number_with true) (natural (drop 1 s)) else option_map (number_with false) (natural s)) ≡ Some number
       → IsSigned s number
   go true h e =
       let parts = map-says true (natural (drop 1 s)) number e in
@@ -81,9 +82,9 @@ natural-no-minus s n (inl known) =
     slice_index-other (λ d. nat_lt (digit_value d) 10) 45 s 0 (λ b d. digit-other 45 b refl d) refl (list_all-AllDigits 10 s known.0.1)
 natural-no-minus s n (inr known) = ap is_negative known.1
 
-pub says-signed : (s : List ℕ) (number : Number) → IsSigned s number → signed s ≡ Some number
+pub says-signed : (s : List ℕ) (number : Number) → IsSigned s number → signed_number s ≡ Some number
 says-signed s number (inl known) =
     rw (natural-no-minus s number.magnitude known.1, says-natural s number.magnitude known.1, ← known.0) refl
 says-signed s number (inr known) =
-    ap signed known.1 ∙ ap (option_map (number_of true)) (says-natural known.0 number.magnitude known.3)
-    ∙ ap (λ b. Some (number_of b number.magnitude)) (sym known.2)
+    ap signed_number known.1 ∙ ap (option_map (number_with true)) (says-natural known.0 number.magnitude known.3)
+    ∙ ap (λ b. Some (number_with b number.magnitude)) (sym known.2)

@@ -3,6 +3,7 @@ use Rattle.std.proofs.Common.{ℕ, ℤ, pos, negsuc, zero, suc, ◌≡◌, ◌<�
 use Rattle.std.proofs.Math.Seq.{get_or-append_seam, drop-append-add, take-append_seam}
 use Rattle.std.proofs.lemmas.Bool.{eq-eqb}
 use Rattle.counted_io.proofs.Naturals.{and-both, numeral-digits, decimal-no-prefix}
+use Rattle.bpf_isa.specs.Registers.{register_named, register_text}
 use Rattle.bpf_text.specs.declared.write.operand.Operand.TheVariants.{Memory}
 use Rattle.std.specs.List.{list_all}
 use Rattle.std.specs.Fmt.{decimal, digits, signed_decimal}
@@ -17,11 +18,11 @@ use Rattle.bpf_text.specs.declared.read.term.Term.TheVariants as term
 use Rattle.bpf_text.specs.Characters.{is_name, is_name_byte}
 use Rattle.bpf_text.specs.Scaffolding.Cuts.{trim}
 use Rattle.counted_io.specs.Numerals.{natural}
-use Rattle.bpf_text.specs.Scaffolding.Terms.{is_negative, signed, is_sign}
-use Rattle.bpf_text.specs.Tokens.{register, number_of, unsigned, immediate, wide, offset}
+use Rattle.bpf_text.specs.Scaffolding.Terms.{is_negative, signed_number, is_sign}
+use Rattle.bpf_text.specs.Tokens.{number_with, unsigned, immediate, wide, offset}
 use Rattle.bpf_text.specs.Scaffolding.Terms.{memory, base_and_displacement, displacement}
 use Rattle.counted_io.specs.Writing.{hexadecimal}
-use Rattle.bpf_text.specs.Operands.{register_text, label_text, operand_text}
+use Rattle.bpf_text.specs.Operands.{label_text, operand_text}
 use Rattle.bpf_text.proofs.PlainTexts.{are_plain, list_all-append, list_all-weaken, are_plain-decimal, position_or_len-at, before_first-at, trim-plain}
 
 -- a decimal digit
@@ -46,13 +47,13 @@ slice_index-other test c (b ∷ s) zero none z p = none b (and-both (test b) (li
 slice_index-other test c (b ∷ s) (suc i) none z p = slice_index-other test c s i none z (and-both (test b) (list_all test s) p).1
 
 -- registers
-register-digit : (b : ℕ) → is_decimal b ≡ true → register (114 ∷ b ∷ []) ≡ Some (b - 48)
+register-digit : (b : ℕ) → is_decimal b ≡ true → register_named (114 ∷ b ∷ []) ≡ Some (b - 48)
 register-digit b p = rw p refl
 
-register-ten : (s : List ℕ) → s ≡ 49 ∷ 48 ∷ [] → register (114 ∷ s) ≡ Some 10
+register-ten : (s : List ℕ) → s ≡ 49 ∷ 48 ∷ [] → register_named (114 ∷ s) ≡ Some 10
 register-ten s e = rw e refl
 
-pub register-text : (r : ℕ) → r ≤ 10 → register (register_text r) ≡ Some r
+pub register-text : (r : ℕ) → r ≤ 10 → register_named (register_text r) ≡ Some r
 register-text r h = elim (leb_tells 10 r) [
   | inl t ↦
       let ten : r ≡ 10 = omega (arith, t.1) in
@@ -73,10 +74,10 @@ is_negative-decimal s p = slice_index-other is_decimal 45 s 0 (λ b d. grind (ar
 
 -- a whole number as it is written
 abbrev pub number_from : ℤ → Number
-number_from (pos n) = number_of false n
-number_from (negsuc n) = number_of true (suc n)
+number_from (pos n) = number_with false n
+number_from (negsuc n) = number_with true (suc n)
 
-pub signed-signed : (z : ℤ) → SFits w32 z → signed (signed_decimal z) ≡ Some (number_from z)
+pub signed-signed : (z : ℤ) → SFits w32 z → signed_number (signed_decimal z) ≡ Some (number_from z)
 signed-signed (pos n) fits =
     let small : n < 2 ^ 31 = fits.sfits in
     rw (is_negative-decimal (decimal n) (are_decimal n (omega arith)), natural-decimal n (omega arith)) refl
@@ -85,13 +86,13 @@ signed-signed (negsuc n) fits =
     rw (natural-decimal (suc n) (omega arith)) refl
 
 -- a number of 64 bits in hexadecimal
-pub signed-hexadecimal : (n : ℕ) → n < 2 ^ 64 → signed (hexadecimal n) ≡ Some (number_of false n)
+pub signed-hexadecimal : (n : ℕ) → n < 2 ^ 64 → signed_number (hexadecimal n) ≡ Some (number_with false n)
 signed-hexadecimal n h =
     let known = digits_is_IsNumeral 16 false (lit≤ tt) (lit≤ tt) n (omega arith) in
     rw (numeral-digits 16 n (digits 16 false n) known.0 known.1) refl
 
 -- numbers in their ranges
-pub unsigned-fits : (n : ℕ) → n < 2 ^ 32 → unsigned (number_of false n) ≡ Some n
+pub unsigned-fits : (n : ℕ) → n < 2 ^ 32 → unsigned (number_with false n) ≡ Some n
 unsigned-fits n h = let less : nat_lt n (2 ^ 32) ≡ true = grind (arith, nat_tests) in rw less refl
 
 pub immediate-fits : (z : ℤ) → SFits w32 z → immediate (number_from z) ≡ Some z
@@ -104,7 +105,7 @@ immediate-fits (negsuc n) fits =
     let less : nat_le (suc n) (2 ^ 31) ≡ true = grind (arith, nat_tests) in
     rw less refl
 
-pub wide-fits : (n : ℕ) → n < 2 ^ 64 → wide (number_of false n) ≡ Some n
+pub wide-fits : (n : ℕ) → n < 2 ^ 64 → wide (number_with false n) ≡ Some n
 wide-fits n h = let less : nat_lt n (2 ^ 64) ≡ true = grind (arith, nat_tests) in rw less refl
 
 pub offset-fits : (z : ℤ) → SFits w16 z → offset (number_from z) ≡ Some z
@@ -124,7 +125,7 @@ name-label p h =
     rw all refl
 
 -- what doesn't begin with r is no register
-register-other : (s : List ℕ) → (slice_index s 0 == 114) ≡ false → register s ≡ None
+register-other : (s : List ℕ) → (slice_index s 0 == 114) ≡ false → register_named s ≡ None
 register-other [] e = refl
 register-other (a ∷ []) e = refl
 register-other (a ∷ b ∷ []) e = rw e refl
@@ -143,7 +144,7 @@ SourceFits (source_is.Immediate value) = SFits w32 value
 SourceFits (source_is.Register reg) = reg ≤ 10
 
 -- a number is no register
-pub register-signed : (z : ℤ) → SFits w32 z → register (signed_decimal z) ≡ None
+pub register-signed : (z : ℤ) → SFits w32 z → register_named (signed_decimal z) ≡ None
 register-signed z fits = register-other (signed_decimal z) (signed-other z fits)
 
 -- a byte that closes no bracket, and one that is no sign
@@ -174,7 +175,7 @@ less-eqb a b h = grind (arith, nat_tests)
 
 -- a displacement behind a register
 pub displacement-at : (reg : List ℕ) (sign : ℕ) (number : List ℕ) → list_all no_sign reg ≡ true → is_sign sign ≡ true
-    → displacement (reg ++ sign ∷ number) ≡ option_map (number_of (sign == 45)) (natural (trim number))
+    → displacement (reg ++ sign ∷ number) ≡ option_map (number_with (sign == 45)) (natural (trim number))
 displacement-at reg sign number none e =
     let here = position_or_len-at is_sign no_sign reg sign number no_sign-sign e none in
     let within : length reg < length (reg ++ sign ∷ number) = omega (arith, length-append reg (sign ∷ number)) in
@@ -186,10 +187,10 @@ displacement-at reg sign number none e =
     ) refl
 
 base_and_displacement-at : (reg : List ℕ) (r sign : ℕ) (number : List ℕ) (n : ℕ) → list_all no_sign reg ≡ true
-    → is_sign sign ≡ true → are_plain reg ≡ true → are_plain number ≡ true → register reg ≡ Some r → natural number ≡ Some n
-    → base_and_displacement (reg ++ sign ∷ number) ≡ Some (term.Memory r (number_of (sign == 45) n))
+    → is_sign sign ≡ true → are_plain reg ≡ true → are_plain number ≡ true → register_named reg ≡ Some r → natural number ≡ Some n
+    → base_and_displacement (reg ++ sign ∷ number) ≡ Some (term.Memory r (number_with (sign == 45) n))
 base_and_displacement-at reg r sign number n none e plain number_plain read known =
-    let moved = displacement-at reg sign number none e ∙ ap (λ x. option_map (number_of (sign == 45)) (natural x)) (trim-plain number number_plain) in
+    let moved = displacement-at reg sign number none e ∙ ap (λ x. option_map (number_with (sign == 45)) (natural x)) (trim-plain number number_plain) in
     let front = before_first-at is_sign no_sign reg sign number no_sign-sign e none in
     rw (front, trim-plain reg plain, read, moved, known) refl
 
@@ -202,7 +203,7 @@ memory-at inner m none read =
 
 -- memory at a register and an offset
 memory-signed : (r sign n : ℕ) → r ≤ 10 → n < 2 ^ 64 → is_sign sign ≡ true → is_open sign ≡ true
-    → memory (91 ∷ ((register_text r ++ sign ∷ decimal n) ++ 93 ∷ [])) ≡ Some (term.Memory r (number_of (sign == 45) n))
+    → memory (91 ∷ ((register_text r ++ sign ∷ decimal n) ++ 93 ∷ [])) ≡ Some (term.Memory r (number_with (sign == 45) n))
 memory-signed r sign n low h e f =
     let reg_digits = are_decimal r (omega arith) in
     let digits_n = are_decimal n h in
@@ -210,7 +211,7 @@ memory-signed r sign n low h e f =
     let reg_open = list_all-weaken is_decimal is_open (decimal r) decimal-open reg_digits in
     let number_open = list_all-weaken is_decimal is_open (decimal n) decimal-open digits_n in
     let inner_open = list_all-append is_open (decimal r) (sign ∷ decimal n) reg_open (rw (f, number_open) refl) in
-    memory-at (register_text r ++ sign ∷ decimal n) (term.Memory r (number_of (sign == 45) n)) inner_open
+    memory-at (register_text r ++ sign ∷ decimal n) (term.Memory r (number_with (sign == 45) n)) inner_open
     (base_and_displacement-at (register_text r) r sign (decimal n) n reg_no_sign e (are_plain-decimal r (omega arith))
     (are_plain-decimal n h) (register-text r low) (natural-decimal n h))
 

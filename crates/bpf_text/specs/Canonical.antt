@@ -1,4 +1,4 @@
--- The canonical listing of a program. It is bpfdb's own choice.
+-- The canonical listing of a program. bpfdb's own choice.
 use Rattle.std.specs.Prelude.{ℕ, ℤ, pos, negsuc, ◌+◌, ◌==◌, ◌||◌, Bool, true, false, List, [], ◌∷◌, ◌++◌, Option, Some, None, codes}
 use Rattle.bpf_isa.specs.declared.instruction.Insn.{Insn}
 use Rattle.bpf_isa.specs.Programs.{Checked, target_of}

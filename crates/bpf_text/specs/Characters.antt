@@ -1,4 +1,4 @@
--- The characters of a listing, and its names. They are bpfdb's own choice.
+-- The characters of a listing, and its names. bpfdb's own choice.
 use Rattle.std.specs.Prelude.{ℕ, Bool, false, ◌==◌, ◌&&◌, ◌||◌, nat_le, List, [], ◌∷◌}
 use Rattle.std.specs.List.{list_all}
 use Rattle.counted_io.specs.Lines.{is_blank}

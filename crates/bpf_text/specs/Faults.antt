@@ -1,4 +1,4 @@
--- The faults of listings and their numbers. They are bpfdb's own choice.
+-- The faults of listings and their numbers. bpfdb's own choice.
 use Rattle.std.specs.Prelude.{ℕ, List, Option, Some, None, codes}
 use Rattle.bpf_text.specs.declared.fault.LineFault.{LineFault}
 use Rattle.bpf_text.specs.declared.fault.LineFault.TheVariants.{UnknownMnemonic, WrongOperands, OutOfRange, TooFar, LabelTwice, UnknownLabel, NotText, TooManySlots}

@@ -1,6 +1,7 @@
--- How the operands of a listing are written, in words of their pieces. It is bpfdb's own choice.
-use Rattle.std.specs.Prelude.{ℕ, ◌≡◌, ◌≤◌, ◌⊎◌, Bool, true, false, List, ◌∷◌, ◌++◌, codes, decimal}
+-- How the operands of a listing are written, in words of their pieces. bpfdb's own choice.
+use Rattle.std.specs.Prelude.{ℕ, ◌≡◌, ◌≤◌, ◌⊎◌, Bool, true, false, List, ◌∷◌, ◌++◌, codes}
 use Rattle.std.specs.List.{list_all}
+use Rattle.bpf_isa.specs.Registers.{register_text}
 use Rattle.bpf_text.specs.declared.read.number.Number.{Number}
 use Rattle.bpf_text.specs.declared.read.term.OperandForm.{OperandForm}
 use Rattle.bpf_text.specs.declared.read.term.OperandForm.TheVariants as form
@@ -12,11 +13,11 @@ use Rattle.bpf_text.specs.declared.read.term.OperandForms.TheVariants.{Nothing, 
 use Rattle.counted_io.specs.Lines.{is_blank}
 use Rattle.counted_io.specs.Numerals.{IsNatural}
 use Rattle.bpf_text.specs.Characters.{is_name}
-use Rattle.bpf_text.specs.Tokens.{number_of}
+use Rattle.bpf_text.specs.Tokens.{number_with}
 
 -- A register: r and one of the numbers 0 to 10, without a zero in front.
 abbrev pub IsRegister : List ℕ → ℕ → Type 0
-IsRegister s reg = (reg ≤ 10) × (s ≡ codes "r" ++ decimal reg)
+IsRegister s reg = (reg ≤ 10) × (s ≡ register_text reg)
 
 -- A number, directly behind a minus or without one.
 abbrev pub IsSigned : List ℕ → Number → Type 0
@@ -34,7 +35,7 @@ IsDisplaced negative sign s base number = (a b : List ℕ) × (s ≡ a ++ sign �
     × Padded (λ x. IsNatural x number.magnitude) b × (number.negative ≡ negative)
 
 abbrev pub IsInside : List ℕ → ℕ → Number → Type 0
-IsInside s base number = (Padded (λ x. IsRegister x base) s × (number ≡ number_of false 0))
+IsInside s base number = (Padded (λ x. IsRegister x base) s × (number ≡ number_with false 0))
     ⊎ IsDisplaced false 43 s base number ⊎ IsDisplaced true 45 s base number
 
 -- An operand that is written in a form.

@@ -1,4 +1,4 @@
--- The instructions of a listing: how the operands of each mnemonic are written, and what they make. They are bpfdb's own choice.
+-- The instructions of a listing: how the operands of each mnemonic are written, and what they make. bpfdb's own choice.
 use Rattle.std.specs.Prelude.{ℕ, ℤ, pos, List, Option, Some, None, option_map}
 use Rattle.bpf_isa.specs.declared.instruction.Insn.{Insn}
 use Rattle.bpf_isa.specs.declared.instruction.Insn.TheVariants as insn

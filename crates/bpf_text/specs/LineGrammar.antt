@@ -1,4 +1,4 @@
--- What a line of a listing says, or what is wrong with it, in words of its pieces. It is bpfdb's own choice.
+-- What a line of a listing says, or what is wrong with it, in words of its pieces. bpfdb's own choice.
 use Rattle.std.specs.Prelude.{ℕ, ◌≡◌, ◌<◌, ◌==◌, not, true, false, List, [], ◌∷◌, ◌++◌, length, Option, Some, None, Result, Ok, Err}
 use Rattle.std.specs.List.{list_all}
 use Rattle.bpf_isa.specs.declared.mnemonic.Mnemonic.{Mnemonic}

@@ -1,10 +1,11 @@
--- A listing: what its lines say, its faults in two rounds, and its bytes. It is bpfdb's own choice.
+-- A listing: what its lines say, its faults in two rounds, and its bytes. bpfdb's own choice.
 use Rattle.std.specs.Prelude.{ℕ, ℤ, pos, negsuc, ◌≡◌, ◌+◌, ◌-ℤ◌, Bool, nat_le, nat_lt, if◌then◌else◌, List, [], ◌∷◌, ◌++◌, Option, Some, None, Result, Ok, Err, ⊤}
 use Rattle.std.specs.Str.{bytes_eq}
 use Rattle.bpf_isa.specs.declared.instruction.Insn.{Insn}
 use Rattle.bpf_isa.specs.declared.instruction.Insn.TheVariants.{JumpIf, Jump, JumpLong, CallLocal}
 use Rattle.bpf_isa.specs.Programs.{slots_of}
 use Rattle.bpf_isa.specs.Words.{IsWord}
+use Rattle.bpf_isa.specs.Checker.{most_slots}
 use Rattle.bpf_text.specs.declared.fault.LineFault.TheVariants.{TooFar, LabelTwice, UnknownLabel, TooManySlots}
 use Rattle.bpf_text.specs.declared.fault.AsmFault.{AsmFault}
 use Rattle.bpf_text.specs.declared.fault.AsmFault.TheVariants.{Line, Memory}
@@ -56,7 +57,7 @@ abbrev pub slot_after : ℕ → LineReading (Option Statement) → LineReading �
 slot_after slot (Err fault) = Err fault
 slot_after slot (Ok None) = Ok slot
 slot_after slot (Ok (Some statement)) =
-    if nat_le (slot + slots_of statement.insn) 65535 then Ok (slot + slots_of statement.insn) else Err TooManySlots
+    if nat_le (slot + slots_of statement.insn) most_slots then Ok (slot + slots_of statement.insn) else Err TooManySlots
 
 -- The first round at a line: the slot after it, or its first fault.
 abbrev pub unless_defined : Option Definition → LineReading ℕ → LineReading ℕ

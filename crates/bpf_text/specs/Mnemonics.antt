@@ -1,4 +1,4 @@
--- The names of mnemonics (the tables of RFC 9669, sections 4 and 5, a row an equation). They are bpfdb's own choice.
+-- The names of mnemonics (the tables of RFC 9669, sections 4 and 5, a row an equation). bpfdb's own choice.
 use Rattle.std.specs.Prelude.{ℕ, List, [], ◌++◌, codes}
 use Rattle.bpf_isa.specs.declared.instruction.Width.{Width}
 use Rattle.bpf_isa.specs.declared.instruction.Width.TheVariants.{Bits32, Bits64}

@@ -1,10 +1,12 @@
--- The operands of instructions, and their canonical texts. These are bpfdb's own choice.
+-- The operands of instructions, and their canonical texts. bpfdb's own choice.
 use Rattle.std.specs.Prelude.{ℕ, ℤ, pos, negsuc, ◌+◌, ◌+ℤ◌, ◌≤◌, List, [], ◌++◌, codes, decimal}
 use Rattle.std.specs.Fmt.{signed_decimal}
 use Rattle.bpf_isa.specs.declared.instruction.Insn.{Insn}
 use Rattle.bpf_isa.specs.declared.instruction.Insn.TheVariants.{Binary, Negate, SignExtend, SwapBytes, JumpIf, Jump, JumpLong, CallHelper, CallLocal, Exit, Load, LoadSigned, StoreImmediate, StoreRegister, Atomic, LoadNumber, LoadMap, LoadMapValue}
 use Rattle.bpf_isa.specs.declared.instruction.Source.{Source}
 use Rattle.bpf_isa.specs.declared.instruction.Source.TheVariants as source
+use Rattle.bpf_isa.specs.Checker.{most_slots}
+use Rattle.bpf_isa.specs.Registers.{register_text}
 use Rattle.bpf_text.specs.declared.write.operand.Operand.{Operand}
 use Rattle.bpf_text.specs.declared.write.operand.Operand.TheVariants.{Register, Signed, Unsigned, Hexadecimal, Memory, Target}
 use Rattle.bpf_text.specs.declared.write.operand.Operands.{Operands}
@@ -15,7 +17,7 @@ use Rattle.counted_io.specs.Writing.{hexadecimal}
 
 -- A whole number that can be a slot.
 abbrev pub IsSlot : ℤ → Type 0
-IsSlot (pos p) = p ≤ 65535
+IsSlot (pos p) = p ≤ most_slots
 IsSlot (negsuc n) = ⊥
 
 -- A second operand.
@@ -49,10 +51,6 @@ operands_of p (Atomic op width dst src offset) = Two (Memory dst offset) (Regist
 operands_of p (LoadNumber dst value) = Two (Register dst) (Hexadecimal value)
 operands_of p (LoadMap dst map) = Two (Register dst) (Unsigned map)
 operands_of p (LoadMapValue dst map offset) = Three (Register dst) (Unsigned map) (Unsigned offset)
-
--- A register's name.
-abbrev pub register_text : ℕ → List ℕ
-register_text r = codes "r" ++ decimal r
 
 -- The name of the label of a slot.
 abbrev pub label_text : ℕ → List ℕ

@@ -1,17 +1,11 @@
--- The registers of a listing, and the ranges of its numbers. They are bpfdb's own choice.
-use Rattle.std.specs.Prelude.{ℕ, ℤ, pos, neg_ℤ, ◌-◌, ◌%◌, ◌^◌, Bool, true, false, ◌==◌, ◌&&◌, nat_lt, nat_le, if◌then◌else◌, List, [], ◌∷◌, Option, Some, None}
+-- The numbers of a listing and their ranges. bpfdb's own choice.
+use Rattle.std.specs.Prelude.{ℕ, ℤ, pos, neg_ℤ, ◌-◌, ◌%◌, ◌^◌, Bool, true, false, nat_lt, nat_le, Option, Some, None}
 use Rattle.std.specs.Int.{w32, cast_signed}
 use Rattle.bpf_text.specs.declared.read.number.Number.{Number}
 
--- A register, r0 to r10.
-abbrev pub register : List ℕ → Option ℕ
-register (a ∷ b ∷ []) = if a == 114 && nat_le 48 b && nat_le b 57 then Some (b - 48) else None
-register (a ∷ b ∷ c ∷ []) = if a == 114 && b == 49 && c == 48 then Some 10 else None
-register _ = None
-
 -- A number behind a minus, or without one.
-abbrev pub number_of : Bool → ℕ → Number
-number_of negative n = record { negative = negative; magnitude = n }
+abbrev pub number_with : Bool → ℕ → Number
+number_with negative n = record { negative = negative; magnitude = n }
 
 -- A value, if it is in its range.
 abbrev pub in_range : {A : Type 0} → Bool → A → Option A

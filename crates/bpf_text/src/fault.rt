@@ -52,7 +52,7 @@ impl AsmFault {
         }
     }
 
-    /// Its text.
+    /// What is printed of it after its number and its line.
     pub fn text(&self) -> &'static str
         ensures { result.now ≡ fault_text self.now }
     {

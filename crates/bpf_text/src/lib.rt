@@ -2,12 +2,11 @@
 #![tactic(auto)]
 
 mod fault;
-mod laws;
+pub mod laws;
 mod names;
 mod read;
 mod write;
 
 pub use fault::{AsmFault, LineFault};
-pub use laws::{canonical_listing, one_reading};
-pub use read::{assemble, parse_register};
+pub use read::assemble;
 pub use write::{disassemble, put_insn, put_label, write_insn};

@@ -5,7 +5,6 @@ mod first_round;
 mod labels;
 mod line;
 mod number;
-mod register;
 mod second_round;
 mod statement;
 mod table;
@@ -13,4 +12,3 @@ mod term;
 mod text_key;
 
 pub use assembler::assemble;
-pub use register::parse_register;

@@ -1,11 +1,11 @@
--- The commands: what a line says (bpfdb's own choice).
+-- The commands: what a line says. bpfdb's own choice.
 use Rattle.std.specs.Prelude.{ℕ, List, [], ◌∷◌, length, Option, Some, None, Result, Ok, Err, if◌then◌else◌, nat_lt, nat_le, ◌&&◌}
 use lib.Chars.{codes}
 use Rattle.std.specs.Option.{option_map, option_and_then, ok_or}
 use Rattle.std.specs.Result.{result_ok}
 use Rattle.std.specs.Str.{bytes_eq}
 use Rattle.hex.specs.Hex.{decode_of}
-use Rattle.bpf_text.specs.Tokens.{register}
+use Rattle.bpf_isa.specs.Registers.{register_named}
 use Rattle.bpf_machine.specs.declared.edit.Edit.TheVariants as edit
 use Rattle.bpfdb_commands.specs.Limits.{greatest_count, greatest_span, longest_bytes, longest_line}
 use Rattle.bpfdb_commands.specs.Lines.{words, number}
@@ -65,7 +65,7 @@ bytes_of word = option_and_then byte_string (result_ok (decode_of word))
 -- `set reg`: a register and a number
 abbrev pub set_register : Arguments
 set_register (word ∷ value ∷ []) =
-    option_and_then (λ r. option_map (λ n. command.Edit (edit.Register r n)) (number value)) (register word)
+    option_and_then (λ r. option_map (λ n. command.Edit (edit.Register r n)) (number value)) (register_named word)
 set_register _ = None
 
 -- `set mem`: an address and bytes

@@ -11,8 +11,8 @@ use crate::count::{Count, Span};
 use crate::number::parse_number;
 use crate::refusal::Refusal;
 use crate::words::Words;
+use bpf_isa::Reg;
 use bpf_machine::{ByteString, Edit};
-use bpf_text::parse_register;
 
 /// The longest line that is read, in bytes; its line feed isn't counted.
 pub const LONGEST_LINE: usize = 1024;
@@ -170,7 +170,7 @@ fn set_register(mut words: Words) -> Result<Command, Refusal>
     let register = words.next_word().ok_or(Refusal::WrongArgument)?;
     let value = words.next_word().ok_or(Refusal::WrongArgument)?;
     words.end()?;
-    match (parse_register(register), parse_number(value)) {
+    match (Reg::parse(register), parse_number(value)) {
         (Some(register), Some(value)) => Ok(Command::Edit(Edit::Register { register, value })),
         _ => Err(Refusal::WrongArgument),
     }

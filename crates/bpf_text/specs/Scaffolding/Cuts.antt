@@ -26,8 +26,8 @@ abbrev pub trim : List ℕ → List ℕ
 trim s = trim_end (trim_start s)
 
 -- The code of a line: what stands before its comment.
-abbrev pub code_of : List ℕ → List ℕ
-code_of line = before 59 line
+abbrev pub without_comment : List ℕ → List ℕ
+without_comment line = before 59 line
 
 -- Whether a colon stands directly after a name.
 abbrev pub is_labelled : List ℕ → Bool

@@ -13,7 +13,7 @@ use Rattle.counted_io.specs.Lines.{trim_start}
 use Rattle.bpf_text.specs.Characters.{is_text}
 use Rattle.bpf_text.specs.Instructions.{forms_of, insn_with, target_in}
 use Rattle.bpf_text.specs.LineGrammar.{LineReading}
-use Rattle.bpf_text.specs.Scaffolding.Cuts.{before, after, trim, code_of, is_labelled, mnemonic_part, operands_part}
+use Rattle.bpf_text.specs.Scaffolding.Cuts.{before, after, trim, without_comment, is_labelled, mnemonic_part, operands_part}
 use Rattle.bpf_text.specs.Scaffolding.Named.{named}
 use Rattle.bpf_text.specs.Scaffolding.Terms.{terms_of}
 
@@ -45,7 +45,7 @@ line_of s = if is_labelled s then line_with (Some (before 58 s)) (after 58 s) el
 
 -- What a line says. What is wrong with its statement comes with it, since a label that is there already is told first.
 abbrev pub read_line : List ℕ → LineReading LineSaid
-read_line line = if list_all is_text (code_of line) then Ok (line_of (trim_start (code_of line))) else Err NotText
+read_line line = if list_all is_text (without_comment line) then Ok (line_of (trim_start (without_comment line))) else Err NotText
 
 -- The outcome, or want of memory.
 abbrev pub MemoryOr : {A : Type 0} → Result A AsmFault → AsmFault → Type 0

@@ -1,6 +1,7 @@
 -- Scaffolding: operands as they are read.
 use Rattle.std.specs.Prelude.{ℕ, ◌+◌, Bool, true, false, ◌==◌, ◌&&◌, ◌||◌, if◌then◌else◌, List, [], ◌∷◌, drop, length, slice_index, Option, Some, None, option_map, option_and_then}
 use Rattle.std.specs.List.{position_or_len, before_first, after_first}
+use Rattle.bpf_isa.specs.Registers.{register_named}
 use Rattle.bpf_text.specs.declared.read.number.Number.{Number}
 use Rattle.bpf_text.specs.declared.read.term.OperandForm.{OperandForm}
 use Rattle.bpf_text.specs.declared.read.term.OperandForm.TheVariants as form
@@ -13,15 +14,15 @@ use Rattle.counted_io.specs.Numerals.{natural}
 use Rattle.bpf_text.specs.Characters.{is_name}
 use Rattle.bpf_text.specs.Grammar.{one, two, three}
 use Rattle.bpf_text.specs.Scaffolding.Cuts.{trim, before, first_operand, other_operands}
-use Rattle.bpf_text.specs.Tokens.{register, number_of}
+use Rattle.bpf_text.specs.Tokens.{number_with}
 
 -- Whether a text begins with a minus.
 abbrev pub is_negative : List ℕ → Bool
 is_negative s = slice_index s 0 == 45
 
 -- A number, directly behind a minus or without one.
-abbrev pub signed : List ℕ → Option Number
-signed s = if is_negative s then option_map (number_of true) (natural (drop 1 s)) else option_map (number_of false) (natural s)
+abbrev pub signed_number : List ℕ → Option Number
+signed_number s = if is_negative s then option_map (number_with true) (natural (drop 1 s)) else option_map (number_with false) (natural s)
 
 -- A sign in brackets.
 abbrev pub is_sign : ℕ → Bool
@@ -34,13 +35,13 @@ is_bracketed s = slice_index s 0 == 91 && position_or_len (λ b. b == 93) s + 1 
 -- What stands behind the register in brackets: nothing, or a sign and a number.
 abbrev pub displacement : List ℕ → Option Number
 displacement s = let sign = position_or_len is_sign s in
-    if sign == length s then Some (number_of false 0)
-    else option_map (number_of (slice_index s sign == 45)) (natural (trim (after_first is_sign s)))
+    if sign == length s then Some (number_with false 0)
+    else option_map (number_with (slice_index s sign == 45)) (natural (trim (after_first is_sign s)))
 
 -- What stands in brackets: a register and a displacement.
 abbrev pub base_and_displacement : List ℕ → Option Term
 base_and_displacement s =
-    option_and_then (λ base. option_map (Memory base) (displacement s)) (register (trim (before_first is_sign s)))
+    option_and_then (λ base. option_map (Memory base) (displacement s)) (register_named (trim (before_first is_sign s)))
 
 -- Memory: a register and a displacement in brackets.
 abbrev pub memory : List ℕ → Option Term
@@ -49,14 +50,14 @@ memory s = if is_bracketed s then base_and_displacement (before 93 (drop 1 s)) e
 -- A register, or else a number.
 abbrev pub register_or : Option ℕ → List ℕ → Option Term
 register_or (Some reg) s = Some (Register reg)
-register_or None s = option_map Num (signed s)
+register_or None s = option_map Num (signed_number s)
 
 -- An operand of a form.
 abbrev pub term_of : OperandForm → List ℕ → Option Term
-term_of form.Register s = option_map Register (register s)
-term_of form.Unsigned s = option_map (λ n. Num (number_of false n)) (natural s)
-term_of form.Signed s = option_map Num (signed s)
-term_of form.Source s = register_or (register s) s
+term_of form.Register s = option_map Register (register_named s)
+term_of form.Unsigned s = option_map (λ n. Num (number_with false n)) (natural s)
+term_of form.Signed s = option_map Num (signed_number s)
+term_of form.Source s = register_or (register_named s) s
 term_of form.Memory s = memory s
 term_of form.Name s = if is_name s then Some (Name s) else None
 

@@ -1,5 +1,6 @@
 //! The first round over a listing: its labels, its statements in their places, and the faults of its lines.
 ghost use Rattle.std.specs.Prelude.{◌≡◌, ◌≤◌, ◌+◌, ℕ, List, IfOk, IfErr, OnOk, Ok, Err, map, nat_le, if◌then◌else◌};
+ghost use Rattle.bpf_isa.specs.Checker.{most_slots};
 ghost use Rattle.counted_io.specs.Lines.{lines};
 ghost use Rattle.bpf_text.specs.Scaffolding.Lines.{read_line, MemoryOr};
 ghost use Rattle.bpf_text.specs.Listing.{first_round, nothing, line_end, slot_after, label_of, labels_with, statement_of, statement_or_none, placed_with};
@@ -11,6 +12,7 @@ use crate::read::labels::{Definition, LabelMap, definition_of, put_label};
 use crate::read::line::{Line, read_line};
 use crate::read::statement::Statement;
 use crate::read::text_key::TextKey;
+use bpf_isa::MOST_SLOTS;
 use indexmap::IndexMap;
 use std::alloc::{AllocError, Global};
 
@@ -112,15 +114,15 @@ pub fn first_round(alloc: Global, text: &[u8]) -> Result<Outline<'_>, AsmFault>
     Ok(outline)
 }
 
-// The slot after a line, or its first fault.
+/// The slot after a line, or its first fault.
 fn line_end(
     labels: &LabelMap<'_>,
     slot: usize,
     line: &Result<Line<'_>, LineFault>,
 ) -> Result<usize, LineFault>
-    requires { slot ≤ 65535 }
+    requires { slot ≤ most_slots }
     ensures value { result ≡ line_end (labels_in labels.now) slot line.now }
-    ensures within { IfOk result (λ next. next ≤ 65535) }
+    ensures within { IfOk result (λ next. next ≤ most_slots) }
 {
     match line {
         Err(fault) => Err(*fault),
@@ -131,14 +133,14 @@ fn line_end(
     }
 }
 
-// The slot after a statement: the same one where there is no instruction.
+/// The slot after a statement, which is the statement's own where there is no instruction.
 fn slot_after(
     slot: usize,
     statement: &Result<Option<Statement<'_>>, LineFault>,
 ) -> Result<usize, LineFault>
-    requires { slot ≤ 65535 }
+    requires { slot ≤ most_slots }
     ensures value { result ≡ slot_after slot statement.now }
-    ensures within { IfOk result (λ next. next ≤ 65535) }
+    ensures within { IfOk result (λ next. next ≤ most_slots) }
 {
     match statement {
         Err(fault) => Err(*fault),
@@ -147,16 +149,16 @@ fn slot_after(
     }
 }
 
-// The slot that is so many slots on, which can't pass slot 65,535.
+/// The slot that is so many slots on, which can't pass slot 65,535.
 fn slot_plus(slot: usize, count: usize) -> Result<usize, LineFault>
-    requires within { slot ≤ 65535 }
+    requires within { slot ≤ most_slots }
     requires few { count ≤ 2 }
-    ensures within { IfOk result (λ next. next ≤ 65535) }
-    ensures value { result ≡ (if nat_le (slot + count) 65535 then Ok (slot + count)
+    ensures within { IfOk result (λ next. next ≤ most_slots) }
+    ensures value { result ≡ (if nat_le (slot + count) most_slots then Ok (slot + count)
         else Err LineFault.TooManySlots) }
 {
     let next = slot + count;
-    if next <= 65535 {
+    if next <= MOST_SLOTS {
         Ok(next)
     } else {
         Err(LineFault::TooManySlots)

@@ -38,7 +38,7 @@ fn are_text(text: &[u8]) -> bool
     text.iter().all(|byte| is_text(*byte))
 }
 
-// What is said by a line's code without the blanks in front.
+/// What is said by a line's code without the blanks in front.
 fn line_of(code: &[u8]) -> Line<'_>
     ensures { result ≡ line_of code.now }
 {

@@ -1,6 +1,6 @@
 //! Numbers of a listing, which may have a minus.
 ghost use Rattle.std.specs.Prelude.{◌≡◌};
-ghost use Rattle.bpf_text.specs.Scaffolding.Terms.{is_negative, signed};
+ghost use Rattle.bpf_text.specs.Scaffolding.Terms.{is_negative, signed_number};
 ghost use Rattle.bpf_text.specs.Tokens.{unsigned, immediate, wide, offset};
 
 use counted_io::{Numeral, natural};
@@ -69,8 +69,8 @@ impl<'a> Number<'a> {
 }
 
 /// A number, directly behind a minus or without one.
-pub fn signed(text: &[u8]) -> Option<Number<'_>>
-    ensures { result ≡ signed text.now }
+pub fn signed_number(text: &[u8]) -> Option<Number<'_>>
+    ensures { result ≡ signed_number text.now }
 {
     let negative = is_negative(text);
     let magnitude = natural(if negative { &text[1..] } else { text })?;

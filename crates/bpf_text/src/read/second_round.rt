@@ -31,7 +31,7 @@ pub fn second_round(alloc: Global, outline: &Outline<'_>) -> Result<Vec<u8>, Asm
     Ok(bytes)
 }
 
-// The instruction of a statement, its label replaced by the distance.
+/// The instruction of a statement, its label replaced by the distance.
 fn insn_at(labels: &LabelMap<'_>, placed: &Placed<'_>) -> Result<Insn, LineFault>
     ensures { result ≡ insn_at (labels_in labels.now) placed.now }
 {
@@ -52,7 +52,7 @@ fn with_label(slot: u16, insn: Insn, target: Option<Definition>) -> Result<Insn,
     }
 }
 
-// How far a target is from the slot after this one.
+/// How far a target is from the slot after this one.
 fn distance_to(slot: u16, target: u16) -> i32
     ensures { result ≡ pos target -ℤ pos (slot + 1) }
 {
@@ -89,7 +89,7 @@ fn with_distance(insn: Insn, distance: i32) -> Result<Insn, LineFault>
     }
 }
 
-// A distance as an offset of 16 bits.
+/// A distance as an offset of 16 bits.
 fn offset_of(distance: i32) -> Result<i16, LineFault>
     ensures { result ≡ (if fits_offset distance then Ok distance else Err (LineFault.TooFar distance)) }
 {

@@ -50,7 +50,7 @@ fn operands_part(text: &[u8]) -> &[u8]
     }
 }
 
-// The operands are looked at for their forms first, and then for their ranges.
+/// The operands are looked at for their forms first, and then for their ranges.
 fn statement_of(mnemonic: Mnemonic, operands: &[u8]) -> Result<Option<Statement<'_>>, LineFault>
     ensures { result ≡ of_mnemonic (Some mnemonic) operands.now }
 {

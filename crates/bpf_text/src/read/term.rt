@@ -8,8 +8,7 @@ ghost use Rattle.bpf_text.specs.Scaffolding.Terms.{term_of, memory, displacement
 ghost use Rattle.bpf_text.specs.Scaffolding.Cuts.{first_operand, other_operands};
 
 use crate::read::cut::{after, before, find, is_name, trim};
-use crate::read::number::{Number, signed};
-use crate::read::register::parse_register;
+use crate::read::number::{Number, signed_number};
 use bpf_isa::{Reg, Source};
 use counted_io::{Numeral, natural};
 use std::marker::Model;
@@ -216,7 +215,7 @@ fn read_term(form: OperandForm, text: &[u8]) -> Option<Term<'_>>
     ensures { result ≡ term_of form text.now }
 {
     match form {
-        OperandForm::Register => Some(Term::Register(parse_register(text)?)),
+        OperandForm::Register => Some(Term::Register(Reg::parse(text)?)),
         OperandForm::Unsigned => {
             let magnitude = natural(text)?;
             Some(Term::Number(Number {
@@ -224,10 +223,10 @@ fn read_term(form: OperandForm, text: &[u8]) -> Option<Term<'_>>
                 magnitude,
             }))
         }
-        OperandForm::Signed => Some(Term::Number(signed(text)?)),
-        OperandForm::Source => match parse_register(text) {
+        OperandForm::Signed => Some(Term::Number(signed_number(text)?)),
+        OperandForm::Source => match Reg::parse(text) {
             Some(reg) => Some(Term::Register(reg)),
-            None => Some(Term::Number(signed(text)?)),
+            None => Some(Term::Number(signed_number(text)?)),
         },
         OperandForm::Memory => memory(text),
         OperandForm::Name => {
@@ -256,15 +255,15 @@ fn is_bracketed(text: &[u8]) -> bool
     !text.is_empty() && text[0] == b'[' && find(text, b']') + 1 == text.len()
 }
 
-// What stands in brackets: a register, and a sign and a number, if one follows.
+/// What stands in brackets: a register, and a sign and a number, if one follows.
 fn base_and_displacement(text: &[u8]) -> Option<Term<'_>>
     ensures { result ≡ base_and_displacement text.now }
 {
-    let base = parse_register(trim(&text[..find_sign(text)]))?;
+    let base = Reg::parse(trim(&text[..find_sign(text)]))?;
     Some(Term::Memory(base, displacement(text)?))
 }
 
-// The number behind the register in brackets, 0 if none stands there.
+/// The number behind the register in brackets, 0 if none stands there.
 fn displacement(text: &[u8]) -> Option<Number<'_>>
     ensures { result ≡ displacement text.now }
 {

@@ -1,4 +1,4 @@
-// A key for hashes that is made of a whole listing.
+//! A key for hashes that is made of a whole listing.
 ghost use Rattle.std.specs.Prelude.{◌≡◌};
 ghost use Rattle.bpf_text.specs.Scaffolding.TextKey.{key_of};
 

@@ -1,5 +1,6 @@
 //! The canonical listing of a program.
 ghost use Rattle.std.specs.Prelude.{◌≡◌, ◌≤◌, ◌<◌, ◌++◌, ℕ, length, Some, IfOk, IfSome, slice_get, vec_len};
+ghost use Rattle.bpf_isa.specs.Checker.{most_slots};
 ghost use Rattle.bpf_isa.specs.Programs.{target_of};
 ghost use Rattle.bpf_text.specs.Operands.{IsSlot};
 ghost use Rattle.bpf_text.specs.Canonical.{canon, is_target, slot_lines, label_line};
@@ -39,7 +40,7 @@ fn put_lines<W: Write>(
     slot: usize,
     insn: Insn,
 ) -> Result<(), WriteFault>
-    requires slot { slot ≤ 65535 }
+    requires slot { slot ≤ most_slots }
     requires target { IfSome (target_of slot insn) IsSlot }
     ensures { WritesAfter W.contents writer.old so_far writer.new result
         (slot_lines labelled slot (Some insn)) }
@@ -66,7 +67,7 @@ fn put_label_line<W: Write>(
     }
 }
 
-// For each slot, whether it is a target.
+/// For each slot, whether it is a target.
 fn targets(alloc: Global, program: &Program) -> Result<Vec<bool>, AllocError>
     ensures fits { IfOk result (λ flags. vec_len flags ≡ length program.now.insns) }
     ensures value { IfOk result (λ flags. (t : ℕ) → t < length program.now.insns

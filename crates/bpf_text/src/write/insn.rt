@@ -1,7 +1,9 @@
 //! The canonical text of an instruction.
 ghost use Rattle.std.specs.Prelude.{◌≤◌, ◌++◌, IfSome};
+ghost use Rattle.bpf_isa.specs.Checker.{most_slots};
 ghost use Rattle.bpf_isa.specs.Programs.{target_of};
-ghost use Rattle.bpf_text.specs.Operands.{IsSlot, register_text, offset_text, operand_text, operands_text, text_of_insn, label_text};
+ghost use Rattle.bpf_isa.specs.Registers.{register_text};
+ghost use Rattle.bpf_text.specs.Operands.{IsSlot, offset_text, operand_text, operands_text, text_of_insn, label_text};
 ghost use Rattle.counted_io.specs.Writing.{Writes, WritesAfter};
 
 use crate::names::name_of;
@@ -17,7 +19,7 @@ pub fn write_insn<W: Write>(
     slot: usize,
     insn: Insn,
 ) -> Result<(), WriteFault>
-    requires slot { slot ≤ 65535 }
+    requires slot { slot ≤ most_slots }
     requires target { IfSome (target_of slot insn) IsSlot }
     ensures { Writes W.contents writer.old writer.new result (text_of_insn slot insn) }
 {
@@ -32,7 +34,7 @@ pub fn put_insn<W: Write>(
     slot: usize,
     insn: Insn,
 ) -> Result<(), WriteFault>
-    requires slot { slot ≤ 65535 }
+    requires slot { slot ≤ most_slots }
     requires target { IfSome (target_of slot insn) IsSlot }
     ensures { WritesAfter W.contents writer.old so_far writer.new result (text_of_insn slot insn) }
 {
@@ -40,7 +42,7 @@ pub fn put_insn<W: Write>(
     put_operands(writer, named, &operands_of(slot, &insn))
 }
 
-// Each operand after what stands before it: a blank, or a comma and a blank.
+/// Each operand after what stands before it: a blank, or a comma and a blank.
 fn put_operands<W: Write>(
     writer: &mut Counted<W>,
     so_far: Result<(), WriteFault>,

@@ -1,5 +1,6 @@
 //! The operands of an instruction, as a listing shows them.
 ghost use Rattle.std.specs.Prelude.{◌≡◌, ◌≤◌, ◌+◌, ◌+ℤ◌, pos, Some, None, IfSome, IfNone};
+ghost use Rattle.bpf_isa.specs.Checker.{most_slots};
 ghost use Rattle.bpf_isa.specs.Programs.{target_of};
 ghost use Rattle.bpf_text.specs.Operands.{operand_of, operands_of, target_operand, IsSlot};
 
@@ -33,7 +34,7 @@ pub enum Operands {
 
 /// The operands of an instruction in this slot; its target, if it has one, is a slot of 0 to 65,535.
 pub fn operands_of(slot: usize, insn: &Insn) -> Operands
-    requires slot { slot ≤ 65535 }
+    requires slot { slot ≤ most_slots }
     requires target { IfSome (target_of slot insn.now) IsSlot }
     ensures { result ≡ operands_of slot insn.now }
 {
@@ -108,7 +109,7 @@ pub fn operands_of(slot: usize, insn: &Insn) -> Operands
     }
 }
 
-// A second operand: a number in the form K, a register in the form X.
+/// A second operand: a number in the form K, a register in the form X.
 fn operand_of(source: Source) -> Operand
     ensures { result ≡ operand_of source }
 {
@@ -118,9 +119,9 @@ fn operand_of(source: Source) -> Operand
     }
 }
 
-// The target that is the distance from the next slot.
+/// The target that is the distance from the next slot.
 fn target(slot: usize, distance: i32) -> Operand
-    requires slot { slot ≤ 65535 }
+    requires slot { slot ≤ most_slots }
     requires target { IsSlot (pos (slot + 1) +ℤ distance) }
     ensures { result ≡ target_operand (pos (slot + 1) +ℤ distance) }
 {
@@ -129,7 +130,7 @@ fn target(slot: usize, distance: i32) -> Operand
 
 /// The target of an instruction in this slot, if it has one: a slot of 0 to 65,535.
 pub fn target_of(slot: usize, insn: &Insn) -> Option<usize>
-    requires slot { slot ≤ 65535 }
+    requires slot { slot ≤ most_slots }
     requires target { IfSome (target_of slot insn.now) IsSlot }
     ensures found { IfSome result (λ t. target_of slot insn.now ≡ Some (pos t)) }
     ensures none { IfNone result (target_of slot insn.now ≡ None) }

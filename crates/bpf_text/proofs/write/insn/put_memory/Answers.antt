@@ -1,7 +1,8 @@
 -- A bracket, the register, the offset and a bracket.
 use Rattle.std.proofs.Common.{codes, refl, ap, ◌++◌, w16}
 use Rattle.std.proofs.lemmas.Int.{to_z-of_z}
-use Rattle.bpf_text.specs.Operands.{register_text, offset_text}
+use Rattle.bpf_isa.specs.Registers.{register_text}
+use Rattle.bpf_text.specs.Operands.{offset_text}
 use Rattle.counted_io.proofs.Appending.{WritesAfter-WritesAfter}
 use Rattle.bpf_text.proofs.write.insn.put_memory.Goals as goal
 
