@@ -128,21 +128,6 @@ impl Memory {
         if run.len() == 0 { None } else { Some(run) }
     }
 
-    /// Writes bytes at this address, and answers whether all of them are present; else nothing changes.
-    pub(crate) fn write(&mut self, address: u64, bytes: &[u8]) -> bool
-        requires { 1 ≤ length bytes.now }
-        ensures found { IsTrue result ↔ IsSome (index_of self.old address (length bytes.now)) }
-        ensures next { self.new ≡ put self.old address (length bytes.now) bytes.now }
-    {
-        match self.bytes_mut(address, bytes.len()) {
-            Some(run) => {
-                copy(run, bytes);
-                true
-            }
-            None => false,
-        }
-    }
-
     /// Writes bytes at this address where all of them are present; else nothing changes.
     pub(crate) fn put(&mut self, address: u64, bytes: &[u8])
         requires { 1 ≤ length bytes.now }
