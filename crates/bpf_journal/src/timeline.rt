@@ -164,7 +164,7 @@ impl<K: Keeper> Timeline<K> {
         };
         match push_step(&self.cpu, &mut self.keeper, &change, mark) {
             Ok(()) => {
-                self.cpu.finish(&change);
+                self.cpu.commit(&change);
                 Ok(change_replaces_bytes(&change))
             }
             Err(_) => Err(TimelineFault::OutOfMemory),

@@ -4,7 +4,8 @@ use Rattle.bpf_isa.specs.Programs.{Checked}
 use Rattle.bpf_isa.specs.declared.maps.MapShape.{MapShape}
 use Rattle.bpf_machine.specs.Platform.{context_base, context_limit, frame_base, frame_len, frame_count, map_address, cell_address}
 use Rattle.bpf_machine.specs.Regions.{Image, IsImage, Region, map_len, regions, index_of, number_at, with_bytes}
-use Rattle.bpf_machine.specs.State.{State, IsState, depth, accessible, initial}
+use Rattle.bpf_machine.specs.Access.{accessible}
+use Rattle.bpf_machine.specs.State.{State, IsState, depth, initial}
 
 -- The byte at an address, None where there is none.
 abbrev pub byte_at : Image → ℕ → Option ℕ

@@ -75,7 +75,7 @@ impl Cpu {
 
     /// Does what `look` answered of this state: the second half of a step.
     #[inline(always)]
-    pub fn finish(&mut self, change: &Change)
+    pub fn commit(&mut self, change: &Change)
         requires runs { has_ended self.old.status ≡ false }
         requires looked { change.now ≡ change_in self.old }
         ensures { self.new ≡ next self.old }

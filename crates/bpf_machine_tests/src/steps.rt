@@ -36,7 +36,7 @@ fn step_by_halves(cpu: &mut Cpu) -> Option<Entry> {
                 Some(entry) => entry.expanded(),
                 None => cpu.entry(&change),
             };
-            cpu.finish(&change);
+            cpu.commit(&change);
             Some(entry)
         }
         Err(Ended) => None,

@@ -212,7 +212,7 @@ fn run_recorded(cpu: &mut Cpu, kept: &mut [CompactEntry], steps: u64) -> u64 {
                         None => shortened(cpu, &change),
                     };
                 }
-                cpu.finish(&change);
+                cpu.commit(&change);
             }
         }
     }

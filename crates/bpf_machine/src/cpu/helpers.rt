@@ -5,7 +5,8 @@ ghost use Rattle.bpf_isa.specs.Maps.{IsShape};
 ghost use Rattle.bpf_machine.specs.Helpers as spec;
 ghost use Rattle.bpf_machine.specs.Platform.{token_base};
 ghost use Rattle.bpf_machine.specs.Regions.{number_at};
-ghost use Rattle.bpf_machine.specs.State.{accessible, register};
+ghost use Rattle.bpf_machine.specs.Access.{accessible};
+ghost use Rattle.bpf_machine.specs.State.{register};
 
 use super::Cpu;
 use super::step::{fault, r0};

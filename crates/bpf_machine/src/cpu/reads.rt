@@ -9,7 +9,8 @@ use bpf_isa::{Program, Reg};
 impl Cpu {
     ghost use Rattle.bpf_machine.specs.Platform.{trace_limit};
     ghost use Rattle.bpf_machine.specs.Regions.{run_at};
-    ghost use Rattle.bpf_machine.specs.State.{register as register_of, depth as depth_of, frame, accessible};
+    ghost use Rattle.bpf_machine.specs.Access.{accessible};
+    ghost use Rattle.bpf_machine.specs.State.{register as register_of, depth as depth_of, frame};
 
     /// The slot of the next instruction.
     pub fn pc(&self) -> u16
