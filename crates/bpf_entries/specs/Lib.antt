@@ -1,4 +1,5 @@
 pub mod Status
+pub mod Past
 pub mod Fields
 pub mod Weights
 pub mod Texts

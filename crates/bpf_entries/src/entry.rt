@@ -1,8 +1,9 @@
 //! Entries: what a move replaced. Put back, an entry gives the state before its move.
-ghost use Rattle.std.specs.Prelude.{◌≡◌};
+ghost use Rattle.std.specs.Prelude.{◌≡◌, ℕ, option_map};
 
 use crate::byte_string::ByteString;
 use crate::status::Status;
+use crate::weights;
 use bpf_isa::Reg;
 
 /// What a move replaced: the values before the move of exactly the places that it changes.
@@ -73,6 +74,7 @@ pub enum Entry {
 }
 
 impl Entry {
+    ghost use Rattle.bpf_entries.specs.Past.{replaced as replaced_by};
     ghost use Rattle.bpf_entries.specs.Weights.{weight as weight_of};
 
     /// How many bytes it has in a journal: 5 to 280.
@@ -80,39 +82,31 @@ impl Entry {
         ensures { result ≡ weight_of self.now }
     {
         match self {
-            Entry::Register {
-                pc: _,
-                register: _,
-                value: _,
-            } => 16,
-            Entry::Jump { pc: _ } | Entry::Call { pc: _ } => 7,
-            Entry::Return { pc: _, saved: _ } => 39,
-            Entry::Store {
-                pc: _,
-                address: _,
-                old,
-            } => 16 + old.len(),
-            Entry::Fetch {
-                pc: _,
-                register: _,
-                value: _,
-                address: _,
-                old,
-            } => 25 + old.len(),
-            Entry::Cell {
-                pc: _,
-                r0: _,
-                address: _,
-                old,
-            } => 23 + old.len(),
-            Entry::Trace { pc: _, r0: _ } => 15,
-            Entry::End => 5,
-            Entry::EditRegister {
-                register: _,
-                value: _,
-            } => 14,
-            Entry::EditBytes { address: _, old } => 13 + old.len(),
-            Entry::EditPc { pc: _, status: _ } => 16,
+            Entry::Register { .. } => weights::REGISTER,
+            Entry::Jump { .. } => weights::JUMP,
+            Entry::Call { .. } => weights::CALL,
+            Entry::Return { .. } => weights::RETURN,
+            Entry::Store { old, .. } => weights::STORE + old.len(),
+            Entry::Fetch { old, .. } => weights::FETCH + old.len(),
+            Entry::Cell { old, .. } => weights::CELL + old.len(),
+            Entry::Trace { .. } => weights::TRACE,
+            Entry::End => weights::END,
+            Entry::EditRegister { .. } => weights::EDIT_REGISTER,
+            Entry::EditBytes { old, .. } => weights::EDIT_BYTES + old.len(),
+            Entry::EditPc { .. } => weights::EDIT_PC,
+        }
+    }
+
+    /// The address and the old bytes of the run that its move replaced, None where the move left memory as it was.
+    pub fn replaced(&self) -> Option<(u64, &[u8])>
+        ensures { (depth : ℕ) → option_map (λ run. record { address = run.0; bytes = run.1.now }) result ≡ replaced_by depth self.now }
+    {
+        match self {
+            Entry::Store { address, old, .. }
+            | Entry::Fetch { address, old, .. }
+            | Entry::Cell { address, old, .. }
+            | Entry::EditBytes { address, old } => Some((*address, old.as_slice())),
+            _ => None,
         }
     }
 

@@ -6,6 +6,7 @@ mod entry;
 mod laws;
 mod read;
 mod status;
+pub mod weights;
 mod write;
 
 pub use byte_string::ByteString;

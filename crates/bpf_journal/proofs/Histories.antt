@@ -15,23 +15,12 @@ use Rattle.bpf_machine.specs.declared.compact.CompactEntry.{CompactEntry}
 use Rattle.bpf_machine.specs.declared.compact.CompactEntry.TheVariants as compact
 use Rattle.bpf_machine.specs.Entries.{entry_of, expanded}
 use Rattle.bpf_machine.specs.Next.{change}
-use Rattle.bpf_journal.specs.EditEntries.{IsOfEdit, is_of_step}
+use Rattle.bpf_journal.specs.EditEntries.{is_of_step}
 use Rattle.bpf_journal.specs.Histories.{Record, IsRun, Kept, kept_of, kept_weight, record_weight, keep, newest, older, is_step, StandsFor, HasHistory}
 use Rattle.bpf_journal.specs.Replaced.{replaces_bytes}
 use Rattle.bpf_journal.specs.Timelines.{Moment, Makes, Stays, GoesBack, record_of, taken_of}
 use Rattle.bpf_journal.specs.declared.timeline.Taken.{Taken}
 use Rattle.bpf_journal.proofs.Fitting.{map-fit, run-fit}
-
--- the entry of an edit is one
-pub of_edit : (x : State) (e : Edit) → IsOfEdit (edit_entry x e)
-unfolding edit_entry
-of_edit x (edit.Register r value) = tt
-of_edit x (edit.Bytes a bytes) = tt
-of_edit x (edit.Cell map index bytes) = tt
-of_edit x (edit.Pc slot) = tt
-
-pub is_of_edit : (x : State) (e : Edit) (entry : Entry) → entry ≡ edit_entry x e → IsOfEdit entry
-is_of_edit x e entry is = subst IsOfEdit (sym is) (of_edit x e)
 
 -- the entry of a step is a step's, and that of an edit is none
 of_change : (x : State) (c : Change) → is_of_step (entry_of x c) ≡ true
@@ -52,6 +41,9 @@ not_of_edit x (edit.Register r value) = refl
 not_of_edit x (edit.Bytes a bytes) = refl
 not_of_edit x (edit.Cell map index bytes) = refl
 not_of_edit x (edit.Pc slot) = refl
+
+pub is_of_edit : (x : State) (e : Edit) (entry : Entry) → entry ≡ edit_entry x e → is_of_step entry ≡ false
+is_of_edit x e entry is = ap is_of_step is ∙ not_of_edit x e
 
 pub of_move : (x : State) (m : Move) → is_of_step (overwritten x m) ≡ is_step m
 of_move x move.Step = of_change x (change x)

@@ -3,7 +3,6 @@ use Rattle.std.proofs.Common.{◌≡◌, ◌≤◌, ◌<◌, ◌⊎◌, ◌+◌,
 use Rattle.std.specs.Prelude.{◌&&◌, nat_le, nat_lt, if◌then◌else◌, IsSome, unwrap_or, option_map, slice_index}
 use Rattle.std.proofs.lemmas.Bool.Decides.{nat_tests}
 use Rattle.std.proofs.lemmas.List.{length-append}
-use Rattle.bpf_isa.specs.Sizes.{size_len}
 use Rattle.bpf_machine.specs.declared.change.Change.{Change}
 use Rattle.bpf_machine.specs.declared.change.Change.TheVariants.{Set, Go, Store, Fetch, Call, Return, Cell, Trace, Stop}
 use Rattle.bpf_machine.specs.declared.edit.Edit.{Edit}
@@ -23,6 +22,7 @@ use Rattle.bpf_machine.specs.Edits.{IsEditable, edited, edit_entry, with_run, re
 use Rattle.bpf_machine.specs.Entries.{entry_of}
 use Rattle.bpf_machine.specs.Moves.{Leads, IsMovable, moved, overwritten}
 use Rattle.bpf_machine.specs.StepLaws.{KeepsOtherBytes, MovesFrames}
+use Rattle.bpf_entries.specs.Past.{past, replaced, stood}
 use Rattle.bpf_machine.proofs.ByAddress.{byte_within, run_reads, length-run, fits_within}
 use Rattle.bpf_machine.proofs.Cells.{cell_present}
 use Rattle.bpf_machine.proofs.Fitting.{change_fits}
@@ -57,6 +57,10 @@ run_tells m image a n at found j low =
     let within : j < n = omega (arith, count, low) in
     byte_within m image a n at j found within ∙ ap Some (sym (run_reads m.bytes at n j within))
 
+told_run : (m after : Image) → IsImage m → (a n at b : ℕ) → index_of m a n ≡ Some at → KeepsOtherBytes m (stood a (run m at n)) after → unwrap_or (byte_at m b) 0 ≡ byte_in (stood a (run m at n)) b (unwrap_or (byte_at after b) 0)
+told_run m after image a n at b found keeps =
+    tells_byte m after a (run m at n) b (record { inside = run_tells m image a n at found; outside = keeps })
+
 found_tells : (m : Image) → IsImage m → (a n : ℕ) (other : List ℕ) (found : Option ℕ) → index_of m a n ≡ found → IsSome found → (j : ℕ) → j < length (unwrap_or (run_at m a n) other) → byte_at m (a + j) ≡ Some (slice_index (unwrap_or (run_at m a n) other) j)
 found_tells m image a n other None e some j low = cc
 found_tells m image a n other (Some at) e some j low =
@@ -65,16 +69,14 @@ found_tells m image a n other (Some at) e some j low =
     run_tells m image a n at e j within ∙ ap (λ (xs : List ℕ). Some (slice_index xs j)) (sym was)
 
 -- Steps.
-step_tells : (x : State) (c : Change) → IsState x → Fits x c → KeepsOtherBytes x.memory (entry_of x c) (changed x c).memory → (d b : ℕ) → byte x b ≡ byte_before d (entry_of x c) b (byte (changed x c) b)
+step_tells : (x : State) (c : Change) → IsState x → Fits x c → KeepsOtherBytes x.memory (replaced (depth (changed x c)) (entry_of x c)) (changed x c).memory → (d b : ℕ) → byte x b ≡ byte_before d (entry_of x c) b (byte (changed x c) b)
 unfolding entry_of
 step_tells x (Set r value after) is fits keeps d b = ap (λ (m : Image). unwrap_or (byte_at m b) 0) (sym keeps)
 step_tells x (Go after) is fits keeps d b = ap (λ (m : Image). unwrap_or (byte_at m b) 0) (sym keeps)
 step_tells x (Store a at size value after) is fits keeps d b =
-    tells_byte x.memory (changed x (Store a at size value after)).memory a (run x.memory at (size_len size)) b
-    (record { inside = run_tells x.memory is.image a (size_len size) at fits.0.found; outside = keeps })
+    told_run x.memory (changed x (Store a at size value after)).memory is.image a _ at b fits.0.found keeps
 step_tells x (Fetch a at size value r after) is fits keeps d b =
-    tells_byte x.memory (changed x (Fetch a at size value r after)).memory a (run x.memory at (size_len size)) b
-    (record { inside = run_tells x.memory is.image a (size_len size) at fits.1.found; outside = keeps })
+    told_run x.memory (changed x (Fetch a at size value r after)).memory is.image a _ at b fits.1.found keeps
 step_tells x (Call to) is fits keeps d b = ap (λ (m : Image). unwrap_or (byte_at m b) 0) (sym keeps)
 step_tells x Return is fits keeps d b = ap (λ (m : Image). unwrap_or (byte_at m b) 0) (sym keeps)
 step_tells x (Cell a from n after) is fits keeps d b =
@@ -83,7 +85,7 @@ step_tells x (Cell a from n after) is fits keeps d b =
 step_tells x (Trace word after) is fits keeps d b = ap (λ (m : Image). unwrap_or (byte_at m b) 0) (sym keeps)
 step_tells x (Stop status) is fits keeps d b = ap (λ (m : Image). unwrap_or (byte_at m b) 0) (sym keeps)
 
-step_depths : (x y : State) (c : Change) → MovesFrames x (entry_of x c) y → depth x ≡ depth_before (depth y) (entry_of x c)
+step_depths : (x y : State) (c : Change) → MovesFrames x (past (entry_of x c)).frames y → depth x ≡ depth_before (depth y) (entry_of x c)
 unfolding entry_of
 step_depths x y (Call to) moves =
     let more : depth y ≡ depth x + 1 = ap length moves ∙ length-append x.frames _ in

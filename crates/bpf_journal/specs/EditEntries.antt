@@ -4,14 +4,7 @@ use Rattle.bpf_entries.specs.declared.entry.Entry.{Entry}
 use Rattle.bpf_entries.specs.declared.entry.Entry.TheVariants as entry
 use Rattle.bpf_journal.specs.Histories.{Kept}
 
--- The entry of an edit.
-abbrev pub IsOfEdit : Entry → Type 0
-IsOfEdit (entry.EditRegister register value) = Unit {0}
-IsOfEdit (entry.EditBytes address old) = Unit {0}
-IsOfEdit (entry.EditPc pc status) = Unit {0}
-IsOfEdit _ = ⊥
-
--- Whether an entry is a step's.
+-- Whether an entry is a step's, and not an edit's.
 abbrev pub is_of_step : Entry → Bool
 is_of_step (entry.EditRegister register value) = false
 is_of_step (entry.EditBytes address old) = false

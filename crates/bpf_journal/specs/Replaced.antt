@@ -1,27 +1,14 @@
 -- The bytes of memory that a move replaced, as its entry tells them, so that what a byte was is read off the kept entries, and no state
 -- is needed for it.
-use Rattle.std.specs.Prelude.{◌≡◌, ◌+◌, ◌-◌, ℕ, Bool, ◌&&◌, nat_le, nat_lt, if◌then◌else◌, List, length, slice_index, Option, Some, None, is_some}
+use Rattle.std.specs.Prelude.{◌≡◌, ◌+◌, ◌-◌, ℕ, Bool, ◌&&◌, nat_le, nat_lt, if◌then◌else◌, length, slice_index, Option, Some, None, is_some}
 use Rattle.bpf_machine.specs.ByAddress.{byte}
 use Rattle.bpf_entries.specs.declared.entry.Entry.{Entry}
-use Rattle.bpf_entries.specs.declared.entry.Entry.TheVariants as entry
+use Rattle.bpf_entries.specs.Past.{Run, Frames, Same, Fewer, More, past, replaced}
 use Rattle.bpf_machine.specs.declared.moves.Move.{Move}
 use Rattle.bpf_machine.specs.Moves.{Leads, overwritten}
 use Rattle.bpf_machine.specs.State.{State, depth}
 
--- A run of bytes: the address of the first, and the bytes.
-pub record Run : Type 0 where
-  pub address : ℕ
-  pub bytes : List ℕ
-
--- The run that a move replaced, None where it left memory as it was. (The depth is that behind the move. No entry needs it yet.)
-abbrev pub replaced : ℕ → Entry → Option Run
-replaced d (entry.Store pc a old) = Some (record { address = a; bytes = old })
-replaced d (entry.Fetch pc r value a old) = Some (record { address = a; bytes = old })
-replaced d (entry.Cell pc r0 a old) = Some (record { address = a; bytes = old })
-replaced d (entry.EditBytes a old) = Some (record { address = a; bytes = old })
-replaced d _ = None
-
--- Whether there is one.
+-- Whether a move replaced a run.
 abbrev pub replaces_bytes : Entry → Bool
 replaces_bytes e = is_some (replaced 0 e)
 
@@ -35,11 +22,14 @@ byte_in (Some run) a other =
 abbrev pub byte_before : ℕ → Entry → ℕ → ℕ → ℕ
 byte_before d e a after = byte_in (replaced d e) a after
 
--- The depth before a move.
+-- The depth before a move, by the frames before it.
+abbrev pub depth_by : Frames → ℕ → ℕ
+depth_by Same d = d
+depth_by Fewer d = d - 1
+depth_by (More saved) d = d + 1
+
 abbrev pub depth_before : ℕ → Entry → ℕ
-depth_before d (entry.Call pc) = d - 1
-depth_before d (entry.Return pc saved) = d + 1
-depth_before d _ = d
+depth_before d e = depth_by (past e).frames d
 
 -- An entry tells each byte before its move, and the depth.
 pub record TellsBefore (x y : State) (e : Entry) : Type 0 where

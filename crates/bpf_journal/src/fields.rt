@@ -1,9 +1,9 @@
-//! Which entries are those of steps, and which fit their fields.
-ghost use Rattle.std.specs.Prelude.{◌≡◌, if◌then◌else◌, ◌<◌, ◌≤◌, ◌^◌, All};
+//! Which entries are steps', and that the parts of each fit their fields.
+ghost use Rattle.std.specs.Prelude.{◌≡◌, false, if◌then◌else◌, ◌<◌, ◌≤◌, ◌^◌, All};
 ghost use Rattle.bpf_machine.specs.Entries.{expanded};
 ghost use Rattle.bpf_entries.specs.Fields.{FitsBytes, FitsFields};
 ghost use Rattle.bpf_entries.specs.Status.{FitsStatus};
-ghost use Rattle.bpf_journal.specs.EditEntries.{IsOfEdit, is_of_step as is_of_step_of};
+ghost use Rattle.bpf_journal.specs.EditEntries.{is_of_step as is_of_step_of};
 
 use bpf_machine::{ByteString, CompactEntry, Entry, Fault, Status};
 
@@ -51,7 +51,7 @@ pub fn compact_fits(entry: &CompactEntry)
 
 /// Brings into a proof that the entry of an edit fits its fields.
 pub fn edit_fits(entry: &Entry)
-    requires { IsOfEdit entry.now }
+    requires { is_of_step_of entry.now ≡ false }
     ensures { FitsFields entry.now }
 {
     match entry {
@@ -76,12 +76,7 @@ pub fn is_of_step(entry: &Entry) -> bool
     ensures { result ≡ is_of_step_of entry.now }
 {
     match entry {
-        Entry::EditRegister {
-            register: _,
-            value: _,
-        }
-        | Entry::EditBytes { address: _, old: _ }
-        | Entry::EditPc { pc: _, status: _ } => false,
+        Entry::EditRegister { .. } | Entry::EditBytes { .. } | Entry::EditPc { .. } => false,
         _ => true,
     }
 }

@@ -4,33 +4,15 @@ ghost use Rattle.bpf_machine.specs.Entries.{entry_of, expanded};
 ghost use Rattle.bpf_machine.specs.State.{State};
 ghost use Rattle.bpf_journal.specs.Replaced.{byte_before as byte_before_of, byte_in as byte_in_run, replaces_bytes as replaces_bytes_of};
 
-use bpf_machine::{ByteString, Change, CompactEntry, Entry};
+use bpf_machine::{Change, CompactEntry, Entry};
 
 /// Whether a move with this entry replaced bytes.
 pub fn replaces_bytes(entry: &Entry) -> bool
     ensures { result ≡ replaces_bytes_of entry.now }
 {
-    match entry {
-        Entry::Store {
-            pc: _,
-            address: _,
-            old: _,
-        }
-        | Entry::Fetch {
-            pc: _,
-            register: _,
-            value: _,
-            address: _,
-            old: _,
-        }
-        | Entry::Cell {
-            pc: _,
-            r0: _,
-            address: _,
-            old: _,
-        }
-        | Entry::EditBytes { address: _, old: _ } => true,
-        _ => false,
+    match entry.replaced() {
+        Some(_) => true,
+        None => false,
     }
 }
 
@@ -40,20 +22,7 @@ pub fn compact_replaces_bytes(entry: &CompactEntry) -> bool
     ensures { result ≡ replaces_bytes_of (expanded entry.now) }
 {
     match entry {
-        CompactEntry::Store {
-            size: _,
-            pc: _,
-            address: _,
-            old: _,
-        }
-        | CompactEntry::Fetch {
-            size: _,
-            register: _,
-            pc: _,
-            address: _,
-            old: _,
-            value: _,
-        } => true,
+        CompactEntry::Store { .. } | CompactEntry::Fetch { .. } => true,
         _ => false,
     }
 }
@@ -64,27 +33,7 @@ pub fn change_replaces_bytes(change: &Change) -> bool
     ensures { (x : State) → result ≡ replaces_bytes_of (entry_of x change.now) }
 {
     match change {
-        Change::Store {
-            address: _,
-            index: _,
-            size: _,
-            value: _,
-            next: _,
-        }
-        | Change::Fetch {
-            address: _,
-            index: _,
-            size: _,
-            value: _,
-            register: _,
-            next: _,
-        }
-        | Change::Cell {
-            address: _,
-            source: _,
-            length: _,
-            next: _,
-        } => true,
+        Change::Store { .. } | Change::Fetch { .. } | Change::Cell { .. } => true,
         _ => false,
     }
 }
@@ -93,30 +42,9 @@ pub fn change_replaces_bytes(change: &Change) -> bool
 pub fn byte_before(entry: &Entry, address: u64, after: u8) -> u8
     ensures { (depth : ℕ) → result ≡ byte_before_of depth entry.now address after }
 {
-    match entry {
-        Entry::Store {
-            pc: _,
-            address: start,
-            old,
-        } => byte_in(*start, old.as_slice(), address, after),
-        Entry::Fetch {
-            pc: _,
-            register: _,
-            value: _,
-            address: start,
-            old,
-        } => byte_in(*start, old.as_slice(), address, after),
-        Entry::Cell {
-            pc: _,
-            r0: _,
-            address: start,
-            old,
-        } => byte_in(*start, old.as_slice(), address, after),
-        Entry::EditBytes {
-            address: start,
-            old,
-        } => byte_in(*start, old.as_slice(), address, after),
-        _ => after,
+    match entry.replaced() {
+        Some((start, old)) => byte_in(start, old, address, after),
+        None => after,
     }
 }
 

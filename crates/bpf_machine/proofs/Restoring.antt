@@ -27,26 +27,26 @@ restores_return x None is some e = absurd (innermost_there x.frames some e)
 restores_return x (Some f) is some e =
     let count : length (popped x) ≡ depth x - 1 = omega (arith, length-take (depth x - 1) x.frames) in
     let shallow = is.shallow in
-    (is.start, omega (arith, some, count, shallow))
+    (is.start, tt, omega (arith, some, count, shallow))
 
 restores_change : (x : State) (c : Change) → IsState x → Fits x c → Restores (changed x c) (entry_of x c)
 unfolding changed entry_of
-restores_change x (Set r value after) is fits = (fits.0, is.start)
-restores_change x (Go after) is fits = is.start
-restores_change x (Store a at size value after) is fits = is.start
-restores_change x (Fetch a at size value r after) is fits = (fits.0, is.start)
-restores_change x (Call to) is fits = is.start
+restores_change x (Set r value after) is fits = (is.start, fits.0, tt)
+restores_change x (Go after) is fits = (is.start, tt, tt)
+restores_change x (Store a at size value after) is fits = (is.start, tt, tt)
+restores_change x (Fetch a at size value r after) is fits = (is.start, fits.0, tt)
+restores_change x (Call to) is fits = (is.start, tt, tt)
 restores_change x Return is fits = restores_return x (innermost x) is fits refl
-restores_change x (Cell a from n after) is fits = is.start
-restores_change x (Trace word after) is fits = is.start
-restores_change x (Stop status) is fits = tt
+restores_change x (Cell a from n after) is fits = (is.start, omega arith, tt)
+restores_change x (Trace word after) is fits = (is.start, omega arith, tt)
+restores_change x (Stop status) is fits = (tt, tt, tt)
 
 restores_edit : (x : State) (e : Edit) → IsState x → IsEditable x e → Restores (edited x e) (edit_entry x e)
 unfolding edited edit_entry
-restores_edit x (edit.Register r value) is able = able
-restores_edit x (edit.Bytes a bytes) is able = tt
-restores_edit x (edit.Cell map index bytes) is able = tt
-restores_edit x (edit.Pc slot) is able = is.start
+restores_edit x (edit.Register r value) is able = (tt, able, tt)
+restores_edit x (edit.Bytes a bytes) is able = (tt, tt, tt)
+restores_edit x (edit.Cell map index bytes) is able = (tt, tt, tt)
+restores_edit x (edit.Pc slot) is able = (is.start, tt, tt)
 
 restores_move : (x : State) (m : Move) → IsState x → IsMovable x m → Restores (moved x m) (overwritten x m)
 restores_move x move.Step is able = restores_change x (change x) is (change_fits x is)

@@ -1,52 +1,40 @@
 -- Scaffolding: how an entry is put back into a state, as the code does it. The contract of `revert` speaks of moves alone.
-use Rattle.std.specs.Prelude.{◌<◌, ◌+◌, ◌-◌, length, take, slice_set}
+use Rattle.std.specs.Prelude.{◌<◌, ℕ, ◌+◌, ◌-◌, if◌then◌else◌, List, Option, Some, None, length, take, slice_set, unwrap_or, IfSome}
+use Rattle.std.specs.Option.{option_map_or}
 use Rattle.bpf_isa.specs.Programs.{IsStart}
+use Rattle.bpf_entries.specs.Past.{Frames, Same, Fewer, More, past, replaced}
 use Rattle.bpf_entries.specs.declared.entry.Entry.{Entry}
-use Rattle.bpf_entries.specs.declared.entry.Entry.TheVariants as entry
-use Rattle.bpf_entries.specs.declared.status.Status.TheVariants.{Running}
+use Rattle.bpf_machine.specs.declared.frame.Frame.{Frame}
 use Rattle.bpf_machine.specs.Calls.{with_saved, pushed, popped}
 use Rattle.bpf_machine.specs.Platform.{frame_count}
 use Rattle.bpf_machine.specs.Regions.{put}
 use Rattle.bpf_machine.specs.State.{State, depth}
 
--- The state with what an entry holds put back. The frame that a return popped is made again of the present pc and r6 to r9.
+-- The frames as they stood, and r6 to r9 with them. The frame that a return popped is made again of the present pc and r6 to r9.
+abbrev pub frames_before : Frames → State → List Frame
+frames_before Same y = y.frames
+frames_before Fewer y = popped y
+frames_before (More saved) y = pushed y y.pc
+
+abbrev pub saved_before : Frames → List ℕ → List ℕ
+saved_before (More saved) registers = with_saved registers saved
+saved_before _ registers = registers
+
+-- The state with what an entry keeps put back.
 unfoldable pub undone : Entry → State → State
-undone (entry.Register pc r value) y = record y { pc = pc; registers = slice_set y.registers r value }
-undone (entry.Jump pc) y = record y { pc = pc }
-undone (entry.Store pc a old) y = record y { pc = pc; memory = put y.memory a (length old) old }
-undone (entry.Fetch pc r value a old) y = record y {
-  pc = pc;
-  registers = slice_set y.registers r value;
-  memory = put y.memory a (length old) old;
+undone e y = record y {
+  pc = unwrap_or (past e).pc y.pc;
+  registers = option_map_or (λ (r : ℕ × ℕ). slice_set y.registers r.0 r.1) (past e).register (saved_before (past e).frames y.registers);
+  frames = frames_before (past e).frames y;
+  memory = option_map_or (λ run. put y.memory run.address (length run.bytes) run.bytes) (replaced (depth y) e) y.memory;
+  trace = if (past e).traces then take (length y.trace - 1) y.trace else y.trace;
+  status = unwrap_or (past e).status y.status;
 }
-undone (entry.Call pc) y = record y { pc = pc; frames = popped y }
-undone (entry.Return pc numbers) y = record y { pc = pc; frames = pushed y y.pc; registers = with_saved y.registers numbers }
-undone (entry.Cell pc r0 a old) y = record y {
-  pc = pc;
-  registers = slice_set y.registers 0 r0;
-  memory = put y.memory a (length old) old;
-}
-undone (entry.Trace pc r0) y = record y {
-  pc = pc;
-  registers = slice_set y.registers 0 r0;
-  trace = take (length y.trace - 1) y.trace;
-}
-undone entry.End y = record y { status = Running }
-undone (entry.EditRegister r value) y = record y { registers = slice_set y.registers r value }
-undone (entry.EditBytes a old) y = record y { memory = put y.memory a (length old) old }
-undone (entry.EditPc pc status) y = record y { pc = pc; status = status }
 
 -- An entry that can be put back: its slot starts an instruction, its register is not r10, and there is room for its frame.
+abbrev pub HasRoom : Frames → State → Type 0
+HasRoom (More saved) y = depth y + 1 < frame_count
+HasRoom _ y = Unit {0}
+
 abbrev pub Restores : State → Entry → Type 0
-Restores y (entry.Register pc r value) = (r < 10) × IsStart y.program pc
-Restores y (entry.Jump pc) = IsStart y.program pc
-Restores y (entry.Store pc a old) = IsStart y.program pc
-Restores y (entry.Fetch pc r value a old) = (r < 10) × IsStart y.program pc
-Restores y (entry.Call pc) = IsStart y.program pc
-Restores y (entry.Return pc numbers) = IsStart y.program pc × (depth y + 1 < frame_count)
-Restores y (entry.Cell pc r0 a old) = IsStart y.program pc
-Restores y (entry.Trace pc r0) = IsStart y.program pc
-Restores y entry.End = Unit {0}
-Restores y (entry.EditRegister r value) = r < 10
-Restores y (entry.EditBytes a old) = Unit {0}
-Restores y (entry.EditPc pc status) = IsStart y.program pc
+Restores y e = IfSome (past e).pc (IsStart y.program) × IfSome (past e).register (λ (r : ℕ × ℕ). r.0 < 10) × HasRoom (past e).frames y

@@ -3,7 +3,7 @@ ghost use Rattle.std.specs.Prelude.{◌≡◌};
 ghost use Rattle.byteorder.specs.Endian.{little_bytes};
 ghost use Rattle.bpf_isa.specs.Sizes.{size_len};
 
-use bpf_entries::{ByteString, Entry};
+use bpf_entries::{ByteString, Entry, weights};
 use bpf_isa::{Reg, Size};
 use byteorder::{ByteOrder, LittleEndian};
 
@@ -107,29 +107,13 @@ impl CompactEntry {
         ensures { result ≡ weight_of (expanded_of self.now) }
     {
         match *self {
-            CompactEntry::Register {
-                register: _,
-                pc: _,
-                value: _,
-            } => 16,
-            CompactEntry::Jump { pc: _ } => 7,
-            CompactEntry::Store {
-                size,
-                pc: _,
-                address: _,
-                old: _,
-            } => 16 + size.len(),
-            CompactEntry::Fetch {
-                size,
-                register: _,
-                pc: _,
-                address: _,
-                old: _,
-                value: _,
-            } => 25 + size.len(),
-            CompactEntry::Call { pc: _ } => 7,
-            CompactEntry::Trace { pc: _, r0: _ } => 15,
-            CompactEntry::End => 5,
+            CompactEntry::Register { .. } => weights::REGISTER,
+            CompactEntry::Jump { .. } => weights::JUMP,
+            CompactEntry::Store { size, .. } => weights::STORE + size.len(),
+            CompactEntry::Fetch { size, .. } => weights::FETCH + size.len(),
+            CompactEntry::Call { .. } => weights::CALL,
+            CompactEntry::Trace { .. } => weights::TRACE,
+            CompactEntry::End => weights::END,
         }
     }
 }
