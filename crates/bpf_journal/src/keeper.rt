@@ -4,6 +4,7 @@ ghost use Rattle.bpf_entries.specs.Fields.{FitsFields};
 ghost use Rattle.bpf_journal.specs.Histories.{Kept, kept_weight, keep, newest};
 ghost use Rattle.bpf_journal.specs.Keepers.{IsPlace, IsWithin, PlacesDiffer, TakesCompact, TakesNewest, WalksBack, kept_compact, refusals_after};
 
+use crate::fields::compact_fits;
 use bpf_machine::{CompactEntry, Entry};
 use std::alloc::AllocError;
 
@@ -31,12 +32,17 @@ pub trait Keeper {
         ensures refused { refused self.new ≡ refusals_after result (refused self.old) }
         ensures room { room self.new ≡ room self.old };
 
-    /// The same of a compact entry, which is not made large for it. Each of them fits its fields.
+    /// The same of a compact entry, which fits its fields. A keeper that keeps such entries as they are writes this anew; by itself it
+    /// pushes the entry that is meant.
     fn push_compact(&mut self, entry: &CompactEntry, mark: bool) -> Result<(), AllocError>
         ensures ok { OnOk result ((es : List Kept) → holds self.old es → holds self.new (keep kept_weight (room self.old) es (kept_compact entry.now mark))) }
         ensures err { OnErr result ((es : List Kept) → holds self.old es → holds self.new es) }
         ensures refused { refused self.new ≡ refusals_after result (refused self.old) }
-        ensures room { room self.new ≡ room self.old };
+        ensures room { room self.new ≡ room self.old }
+    {
+        compact_fits(entry);
+        self.push(&entry.expanded(), mark)
+    }
 
     /// How many pushes were refused. It stays once at 2^64 - 1.
     fn refusals(&self) -> u64
@@ -52,11 +58,15 @@ pub trait Keeper {
         ensures refused { refused self.new ≡ refused self.old }
         ensures room { room self.new ≡ room self.old };
 
-    /// Takes the newest entry off where it is kept as a compact one. None says nothing of what is held: ask `pop` then.
+    /// Takes the newest entry off where it is kept as a compact one, which by itself none is. None says nothing of what is held: ask
+    /// `pop` then.
     fn pop_compact(&mut self) -> Option<(CompactEntry, bool)>
         ensures taken { TakesCompact holds self.old self.new result }
         ensures refused { refused self.new ≡ refused self.old }
-        ensures room { room self.new ≡ room self.old };
+        ensures room { room self.new ≡ room self.old }
+    {
+        None
+    }
 
     /// How many entries are held.
     fn len(&self) -> usize
