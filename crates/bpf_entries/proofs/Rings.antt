@@ -40,7 +40,7 @@ pub same_last : (xs ys : List ℕ) (x y : Kept) → FitsFields x.0 → FitsField
 same_last xs ys x y a b e =
     let ends = same_ends (xs ++ front x.0 x.1) (ys ++ front y.0 y.1) (little_bytes 2 (weight x.0)) (little_bytes 2 (weight y.0)) refl (sym (back_of xs x.0 x.1) ∙ e ∙ back_of ys y.0 y.1) in
     let weights : weight x.0 ≡ weight y.0 =
-        sym (little_number-reads_back 2 (weight x.0) [] (weight_small x.0 a)) ∙ ap (little_number 2) ends.1 ∙ little_number-reads_back 2 (weight y.0) [] (weight_small y.0 b) in
+    sym (little_number-reads_back 2 (weight x.0) [] (weight_small x.0 a)) ∙ ap (little_number 2) ends.1 ∙ little_number-reads_back 2 (weight y.0) [] (weight_small y.0 b) in
     let both = same_ends xs ys (kept_text x) (kept_text y) (length-text x.0 x.1 a ∙ weights ∙ sym (length-text y.0 y.1 b)) e in
     let entries = one_entry x.0 y.0 x.1 y.1 a b both.1 in
     let are : x ≡ y = ap (λ f. (f, x.1)) entries.0 ∙ ap (λ m. (y.0, m)) entries.1 in
@@ -67,7 +67,7 @@ ends_in_weight ks e m a =
     let xs = ring ks in
     let count : length (xs ++ front e m) ≡ length (xs ++ text e m) - 2 = omega (arith, ap length (back_of xs e m), length-append (xs ++ front e m) (little_bytes 2 (weight e))) in
     let ends : drop (length (xs ++ text e m) - 2) (xs ++ text e m) ≡ little_bytes 2 (weight e) =
-        ap (drop (length (xs ++ text e m) - 2)) (back_of xs e m) ∙ drop_at (xs ++ front e m) (little_bytes 2 (weight e)) (length (xs ++ text e m) - 2) count in
+    ap (drop (length (xs ++ text e m) - 2)) (back_of xs e m) ∙ drop_at (xs ++ front e m) (little_bytes 2 (weight e)) (length (xs ++ text e m) - 2) count in
     ap (little_number 2) ends ∙ little_number-reads_back 2 (weight e) [] (weight_small e a)
 
 pub ends_in_text : (ks : List Kept) (e : Entry) (m : Bool) → FitsFields e

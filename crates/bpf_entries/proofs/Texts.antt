@@ -213,11 +213,11 @@ one_entry e f m n a b h =
     let tags = apart (kind e) (kind f) m n (kind_low e) (kind_low f) (ap (λ l. slice_index l 2) h) in
     let weights : weight e ≡ weight f = number_of 2 (weight e) (weight f) _ _ (weight_small e a) (weight_small f b) h in
     let entries : e ≡ f =
-        sym (read_entry e m a)
-        ∙ ap (λ k. entry_of k (weight e) (text e m)) tags.0
-        ∙ ap (λ w. entry_of (kind f) w (text e m)) weights
-        ∙ ap (λ t. entry_of (kind f) (weight f) t) h
-        ∙ read_entry f n b in
+    sym (read_entry e m a)
+    ∙ ap (λ k. entry_of k (weight e) (text e m)) tags.0
+    ∙ ap (λ w. entry_of (kind f) w (text e m)) weights
+    ∙ ap (λ t. entry_of (kind f) (weight f) t) h
+    ∙ read_entry f n b in
     (entries, tags.1)
 
 -- What a tag says, in bytes that begin with an entry's text.

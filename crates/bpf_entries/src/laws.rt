@@ -6,15 +6,13 @@ ghost use Rattle.bpf_entries.specs.Rings.{OneEntry, WeighsItsText, OneList, Ends
 pub fn a_text_is_of_one_entry()
     ensures one { OneEntry }
     ensures weight { WeighsItsText }
-{
-}
+{}
 
 /// A journal's text is of one list of entries and marks alone.
 #[tactic(none)]
 pub fn a_ring_is_of_one_list()
     ensures { OneList }
-{
-}
+{}
 
 /// A journal's text is cut from the back, where the newest entry stands: its last two bytes say how many bytes of it are that entry's.
 /// In front stands the oldest.
@@ -23,5 +21,4 @@ pub fn a_ring_is_cut_from_the_back()
     ensures weight { EndsInWeight }
     ensures text { EndsInText }
     ensures oldest { BeginsWithOldest }
-{
-}
+{}

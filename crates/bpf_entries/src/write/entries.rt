@@ -6,7 +6,8 @@ ghost use Rattle.bpf_entries.specs.Weights.{weight as weight_of};
 
 use crate::entry::Entry;
 use crate::write::fixed::{
-    put_call, put_edit_pc, put_edit_register, put_end, put_jump, put_register, put_return, put_trace,
+    put_call, put_edit_pc, put_edit_register, put_end, put_jump, put_register, put_return,
+    put_trace,
 };
 use crate::write::runs::{put_cell, put_edit_bytes, put_fetch, put_store};
 
@@ -19,17 +20,45 @@ impl Entry {
         ensures text { room.new ≡ text self.now mark ++ drop (weight_of self.now) room.old }
     {
         match self {
-            Entry::Register { pc, register, value } => put_register(room, *pc, *register, *value, mark),
+            Entry::Register {
+                pc,
+                register,
+                value,
+            } => put_register(room, *pc, *register, *value, mark),
             Entry::Jump { pc } => put_jump(room, *pc, mark),
             Entry::Call { pc } => put_call(room, *pc, mark),
             Entry::Return { pc, saved } => put_return(room, *pc, saved, mark),
-            Entry::Store { pc, address, old } => put_store(room, *pc, *address, old.as_slice(), mark),
-            Entry::Fetch { pc, register, value, address, old } => put_fetch(room, *pc, *register, *value, *address, old.as_slice(), mark),
-            Entry::Cell { pc, r0, address, old } => put_cell(room, *pc, *r0, *address, old.as_slice(), mark),
+            Entry::Store { pc, address, old } => put_store(
+                room,
+                *pc,
+                *address,
+                old.as_slice(),
+                mark,
+            ),
+            Entry::Fetch {
+                pc,
+                register,
+                value,
+                address,
+                old,
+            } => put_fetch(room, *pc, *register, *value, *address, old.as_slice(), mark),
+            Entry::Cell {
+                pc,
+                r0,
+                address,
+                old,
+            } => put_cell(room, *pc, *r0, *address, old.as_slice(), mark),
             Entry::Trace { pc, r0 } => put_trace(room, *pc, *r0, mark),
             Entry::End => put_end(room, mark),
-            Entry::EditRegister { register, value } => put_edit_register(room, *register, *value, mark),
-            Entry::EditBytes { address, old } => put_edit_bytes(room, *address, old.as_slice(), mark),
+            Entry::EditRegister { register, value } => put_edit_register(
+                room, *register, *value, mark,
+            ),
+            Entry::EditBytes { address, old } => put_edit_bytes(
+                room,
+                *address,
+                old.as_slice(),
+                mark,
+            ),
             Entry::EditPc { pc, status } => put_edit_pc(room, *pc, *status, mark),
         }
         self.weight()
