@@ -1,8 +1,8 @@
 -- A backward command's loop: after k turns the session is at the state before the k-th last move.
-use Rattle.std.specs.Prelude.{if◌then◌else◌, min, Result}
+use Rattle.std.specs.Prelude.{if◌then◌else◌, min, nat_le, nat_lt, Result}
 use Rattle.std.proofs.Common.{◌≡◌, ◌≢◌, ◌+◌, ◌-◌, ◌<◌, ◌≤◌, ◌==◌, ◌&&◌, ◌||◌, ℕ, zero, suc, Bool, true, false, List, [], ◌∷◌, ◌++◌, Option, Some, None, Ok, is_some, unwrap_or, option_map, length, drop, refl, sym, ap, subst, ◌∙◌, arith, add-one}
 use Rattle.std.proofs.lemmas.Bool.Decides.{nat_tests}
-use Rattle.bpf_machine.specs.State.{State}
+use Rattle.bpf_machine.specs.State.{State, depth}
 use Rattle.bpf_machine.specs.ByAddress.{byte}
 use Rattle.bpf_machine.specs.Moves.{Leads}
 use Rattle.bpf_journal.specs.Histories.{Record, Kept, IsRun, is_step}
@@ -12,21 +12,22 @@ use Rattle.bpf_journal.specs.Timelines.{GoesBack, taken_of}
 use Rattle.bpf_journal.specs.declared.timeline.Taken.{Taken}
 use Rattle.bpf_session.specs.Points.{Point}
 use Rattle.bpf_session.specs.Outcomes.{Outcome, unless_refused}
-use Rattle.bpf_session.specs.Refused.{when}
-use Rattle.bpf_session.specs.Backward.{before_last, back_by, gone_back, to_latest, kept_steps, stops_back, to_stop, reverse_continue}
+use Rattle.bpf_session.specs.Refused.{when, refusals_of}
+use Rattle.bpf_session.specs.Backward.{before_last, back, back_by, back_to, found, gone_back, passes, to_latest, kept_steps, marks, to_stop}
 use Rattle.bpfdb_replies.specs.declared.why.Why.{Why}
 use Rattle.bpf_session.specs.declared.reply.Reply.TheVariants.{Back}
 use Rattle.bpf_session.specs.declared.reply.Reply.{Reply}
 use Rattle.bpfdb_commands.specs.declared.refusal.Refusal.{Refusal}
-use Rattle.bpfdb_commands.specs.declared.refusal.Refusal.TheVariants.{NoKeptStep}
-use Rattle.bpf_session.specs.Sessions.{SessionValue, HasPast, StandsAt, Obeys, point_of}
-use Rattle.bpf_session.specs.Sought.{GoesBackTo, test_of}
+use Rattle.bpfdb_commands.specs.declared.refusal.Refusal.TheVariants.{NoKeptStep, FewerCommands, OutermostFrame}
+use Rattle.bpf_session.specs.Searches.{GoesBackTo}
+use Rattle.bpf_session.specs.Sessions.{SessionValue, HasPast, StandsAt, Obeys, bounds_of, gap_of, point_of}
 use Rattle.bpf_session.specs.Stops.{has, breaks_at, some_differs}
 use Rattle.bpf_session.specs.Watched.{Compares, bytes_at}
-use Rattle.bpf_session.specs.declared.sought.Sought.{Sought}
-use Rattle.bpf_session.specs.declared.sought.Sought.TheVariants.{Mark, Step, NoDeeper, Shallower, Stop}
-use Rattle.bpf_session.specs.declared.sought.Found.{Found}
-use Rattle.bpf_session.proofs.Answering.{obeys_whole}
+use Rattle.bpf_session.specs.declared.session.backward.Found.{Found}
+use Rattle.bpfdb_commands.specs.declared.command.Command.TheVariants as command
+use Rattle.bpfdb_commands.specs.declared.command.Target.{Target}
+use Rattle.bpfdb_commands.specs.declared.command.Target.TheVariants.{Commands, Steps, Next, Continue, Finish}
+use Rattle.bpf_session.proofs.Answering.{unrefused}
 use Rattle.bpf_session.proofs.Forwards.{OnlyMoment}
 
 -- a record of the history
@@ -63,21 +64,32 @@ latest_next test n h r y hit more = rw (hit, more) refl
 latest_miss : (test : Test) (n : ℕ) (h : List Record) (r : Record) (y : State) → test r y ≡ false → latest test n (r ∷ h) y ≡ option_map suc (latest test n h r.before)
 latest_miss test n h r y miss = rw miss refl
 
--- what is sought depends on the breakpoints and the watches alone
-test_same : {K : Type 0} (s t : SessionValue K) (sought : Sought) → s.breaks ≡ t.breaks → s.watches ≡ t.watches → (r : Record) (y : State) → test_of s sought r y ≡ test_of t sought r y
-test_same s t Mark breaks watches r y = refl
-test_same s t Step breaks watches r y = refl
-test_same s t (NoDeeper d) breaks watches r y = refl
-test_same s t (Shallower d) breaks watches r y = refl
-test_same s t Stop breaks watches r y =
-    ap (λ (bs : List ℕ). is_step r.move && (has bs r.before.pc || some_differs s.watches r.before y)) breaks
-    ∙ ap (λ (ws : List ℕ). is_step r.move && (has t.breaks r.before.pc || some_differs ws r.before y)) watches
+-- what is looked for depends on the breakpoints, the watches and the state alone
+passes_same : (target : Target) (x : State) (breaks bs watches ws : List ℕ) → breaks ≡ bs → watches ≡ ws → (r : Record) (y : State) → passes target (record { history = []; state = x; breaks = breaks; watches = watches }) r y ≡ passes target (record { history = []; state = x; breaks = bs; watches = ws }) r y
+passes_same (Commands n) x breaks bs watches ws b w r y = refl
+passes_same (Steps n) x breaks bs watches ws b w r y = refl
+passes_same Next x breaks bs watches ws b w r y = refl
+passes_same Finish x breaks bs watches ws b w r y = refl
+passes_same Continue x breaks bs watches ws b w r y =
+    ap (λ (v : List ℕ). is_step r.move && (has v r.before.pc || some_differs watches r.before y)) b
+    ∙ ap (λ (v : List ℕ). is_step r.move && (has bs r.before.pc || some_differs v r.before y)) w
 
--- what a look says, of what was sought from the beginning
-pub looked : {K : Type 0} (old new : SessionValue K) (sought : Sought) (taken : Taken) (differs : Bool) (hits : ℕ) (y : State) → new.breaks ≡ old.breaks → new.watches ≡ old.watches → ((r : Record) (z : State) → taken ≡ taken_of r → new.moment.state ≡ r.before → differs ≡ some_differs new.watches r.before z → hits ≡ (if test_of new sought r z then 1 else 0)) → (r : Record) → Some taken ≡ Some (taken_of r) → new.moment.state ≡ r.before → differs ≡ some_differs new.watches new.moment.state y → hits ≡ (if test_of old sought r y then 1 else 0)
-looked old new sought taken differs hits y breaks watches says r is state told_differs =
+passes_past : {K : Type 0} (target : Target) (s : SessionValue K) (h : List Record) → passes target (point_of s []) ≡ passes target (point_of s h)
+passes_past (Commands n) s h = refl
+passes_past (Steps n) s h = refl
+passes_past Next s h = refl
+passes_past Continue s h = refl
+passes_past Finish s h = refl
+
+pub went_for : {K : Type 0} (holds : K → List Kept → Type 0) (target : Target) (n : ℕ) (h : List Record) (old new : SessionValue K) (found : Found) → GoesBackTo holds (passes target (point_of old [])) n h old new found → GoesBackTo holds (passes target (point_of old h)) n h old new found
+went_for holds target n h old new found went = subst (λ (t : Test). GoesBackTo holds t n h old new found) (passes_past target old h) went
+
+-- what a look says, of what was looked for from the beginning
+pub looked : {K : Type 0} (old new : SessionValue K) (target : Target) (taken : Taken) (differs : Bool) (hits : ℕ) (y : State) → new.breaks ≡ old.breaks → new.watches ≡ old.watches → ((r : Record) (z : State) → taken ≡ taken_of r → new.moment.state ≡ r.before → differs ≡ some_differs new.watches r.before z → hits ≡ (if passes target (record (point_of new []) { state = old.moment.state }) r z then 1 else 0)) → (r : Record) → Some taken ≡ Some (taken_of r) → new.moment.state ≡ r.before → differs ≡ some_differs new.watches new.moment.state y → hits ≡ (if passes target (point_of old []) r y then 1 else 0)
+looked old new target taken differs hits y breaks watches says r is state told_differs =
     let told : taken ≡ taken_of r = cc in
-    says r y told state (told_differs ∙ ap (λ (x : State). some_differs new.watches x y) state) ∙ ap (λ (b : Bool). if b then 1 else 0) (test_same new old sought breaks watches r y)
+    says r y told state (told_differs ∙ ap (λ (x : State). some_differs new.watches x y) state)
+    ∙ ap (λ (b : Bool). if b then 1 else 0) (passes_same target old.moment.state new.breaks old.breaks new.watches old.watches breaks watches r y)
 
 -- what a comparison of the watched bytes says of the move that was taken back
 pub comparing : {K : Type 0} (watches : List ℕ) (y : State) (new : SessionValue K) (seen : List ℕ) (taken : Taken) (differs : Bool) → new.watches ≡ watches → ((x : State) → seen ≡ bytes_at new.watches x → (taken.replaced_bytes ≡ false → (a : ℕ) → byte x a ≡ byte new.moment.state a) → Compares new.watches seen x new.moment.state differs) → (r : Record) → Some taken ≡ Some (taken_of r) → Leads r.before r.move y → new.moment.state ≡ r.before → seen ≡ bytes_at watches y → Compares new.watches seen y new.moment.state differs
@@ -206,7 +218,7 @@ module _ {K : Type 0} (holds : K → List Kept → Type 0) (refusals room : K �
       record { moves = rw none all; is_there = rw none refl; stands = i.stands h past (omega (arith, all)) }
 
 -- what `reverse-continue` comes to
-pub continued : {K : Type 0} (s : SessionValue K) (h : List Record) (found : Found) (broken : Bool) (o : Option ℕ) → latest (stops_back (point_of s h)) 1 h s.moment.state ≡ o → found.moves ≡ unwrap_or o (length h) → found.is_there ≡ is_some o → broken ≡ breaks_at (point_of s h) (before_last found.moves (point_of s h)) → reverse_continue (point_of s h) ≡ gone_back found.moves (if found.is_there then (if broken then Why.Break else Why.Watch) else Why.Start) (point_of s h)
+continued : {K : Type 0} (s : SessionValue K) (h : List Record) (found : Found) (broken : Bool) (o : Option ℕ) → latest (passes Continue (point_of s h)) 1 h s.moment.state ≡ o → found.moves ≡ unwrap_or o (length h) → found.is_there ≡ is_some o → broken ≡ breaks_at (point_of s h) (before_last found.moves (point_of s h)) → back Continue (point_of s h) ≡ gone_back found.moves (if found.is_there then (if broken then Why.Break else Why.Watch) else Why.Start) (point_of s h)
 continued s h found broken None l moves there here =
     ap (λ (o : Option ℕ). to_stop o (point_of s h)) l
     ∙ ap (λ (b : Bool). gone_back (length h) (if b then (if broken then Why.Break else Why.Watch) else Why.Start) (point_of s h)) (sym there)
@@ -217,25 +229,92 @@ continued s h found broken (Some k) l moves there here =
     ∙ ap (λ (b : Bool). gone_back found.moves (if b then Why.Break else Why.Watch) (point_of s h)) (sym here)
     ∙ ap (λ (b : Bool). gone_back found.moves (if b then (if broken then Why.Break else Why.Watch) else Why.Start) (point_of s h)) (sym there)
 
-module _ {K : Type 0} (holds : K → List Kept → Type 0) (refusals : K → ℕ) (old new : SessionValue K) where
-  pub continue_obeys : (steps : ℕ) (found : Found) (broken : Bool) → steps ≢ 0 → (h : List Record) → steps ≡ min 1 (kept_steps (point_of old h)) → GoesBackTo holds (test_of old Stop) 1 h old new found → broken ≡ has new.breaks new.moment.state.pc → refusals new.moment.keeper ≡ refusals old.moment.keeper → Obeys holds refusals old new (λ _. unless_refused (when (kept_steps (point_of old h) == 0) NoKeptStep) (point_of old h) (reverse_continue (point_of old h))) (Ok (Back found.moves (if found.is_there then (if broken then Why.Break else Why.Watch) else Why.Start)))
-  continue_obeys steps found broken some h counted b is same =
-      let any : (kept_steps (point_of old h) == 0) ≡ false = grind (arith, nat_tests) in
-      let at : has new.breaks new.moment.state.pc ≡ breaks_at (point_of old h) (before_last found.moves (point_of old h)) = ap (λ (p : Point). has p.breaks p.state.pc) b.stands.0 in
-      let m = continued old h found broken (latest (stops_back (point_of old h)) 1 h old.moment.state) refl b.moves b.is_there (is ∙ at) in
-      obeys_whole holds refusals old new _ _ _ (ap (λ (z : Bool). unless_refused (when z NoKeptStep) (point_of old h) (reverse_continue (point_of old h))) any ∙ m) refl b.stands same
+why_told : (n : ℕ) (there broken : Bool) → gap_of (Ok (Back n (if there then (if broken then Why.Break else Why.Watch) else Why.Start))) ≡ None
+why_told n true true = refl
+why_told n true false = refl
+why_told n false broken = refl
 
-  -- to the latest record that passes a test
-  pub latest_obeys : (test : Test) (found : Found) (h : List Record) → GoesBackTo holds test 1 h old new found → refusals new.moment.keeper ≡ refusals old.moment.keeper → Obeys holds refusals old new (λ _. to_latest test (point_of old h)) (Ok (Back found.moves (if found.is_there then Why.Done else Why.Start)))
-  latest_obeys test found h b same =
-      let m : to_latest test (point_of old h) ≡ gone_back found.moves (if found.is_there then Why.Done else Why.Start) (point_of old h) =
-      ap (λ (n : ℕ). gone_back n (if is_some (latest test 1 h old.moment.state) then Why.Done else Why.Start) (point_of old h)) (sym b.moves)
-      ∙ ap (λ (t : Bool). gone_back found.moves (if t then Why.Done else Why.Start) (point_of old h)) (sym b.is_there) in
-      obeys_whole holds refusals old new _ _ _ m refl b.stands same
+done_told : (n : ℕ) (there : Bool) → gap_of (Ok (Back n (if there then Why.Done else Why.Start))) ≡ None
+done_told n true = refl
+done_told n false = refl
 
-  -- a command that is not refused, where its test fails
-  pub unless_none : (first second : Bool) (r q : Refusal) (p : Point) (meaning : Option ℕ → Outcome) (answer : Result Reply Refusal) → first ≡ false → second ≡ false → Obeys holds refusals old new meaning answer → Obeys holds refusals old new (λ gap. unless_refused (when first r ++ when second q) p (meaning gap)) answer
-  unless_none first second r q p meaning answer one two o = rw (one, two) o
+when_none : (test : Bool) (r : Refusal) → test ≡ false → when test r ≡ []
+when_none test r off = rw off refl
 
-  pub unless_one : (first : Bool) (r : Refusal) (p : Point) (meaning : Option ℕ → Outcome) (answer : Result Reply Refusal) → first ≡ false → Obeys holds refusals old new meaning answer → Obeys holds refusals old new (λ gap. unless_refused (when first r) p (meaning gap)) answer
-  unless_one first r p meaning answer one o = rw one o
+when_neither : (first second : Bool) (r q : Refusal) → first ≡ false → second ≡ false → when first r ++ when second q ≡ []
+when_neither first second r q one two = rw (one, two) refl
+
+some_steps : (s k n : ℕ) → s ≢ 0 → s ≡ min n k → (k == 0) ≡ false
+some_steps s k n some is = let here : k ≢ 0 = λ none. some (omega (arith, is, none)) in grind (arith, nat_tests)
+
+enough_steps : (s k n : ℕ) → s ≡ min n k → (s == n) ≡ nat_le n k
+enough_steps s k n is = at (nat_le n k) refl
+  where
+    at : (t : Bool) → nat_le n k ≡ t → (s == n) ≡ t
+    at true e = let le : n ≤ k = grind (arith, nat_tests) in let same : s ≡ n = omega (arith, is, le) in grind (arith, nat_tests)
+    at false e = let lt : k < n = grind (arith, nat_tests) in let less : s ≢ n = λ same. omega (arith, is, lt, same) in grind (arith, nat_tests)
+
+module _ {K : Type 0} (holds : K → List Kept → Type 0) (refusals room : K → ℕ) (old new : SessionValue K) where
+  -- a command that went back
+  went_obeys : (target : Target) (moves : ℕ) (why : Why) → gap_of (Ok (Back moves why)) ≡ None → ((h : List Record) → HasPast holds old h → refusals_of (command.Back target) (point_of old h) ≡ []) → ((h : List Record) → HasPast holds old h → back target (point_of old h) ≡ gone_back moves why (point_of old h)) → ((h : List Record) → HasPast holds old h → StandsAt holds new (back_by moves (point_of old h))) → refusals new.moment.keeper ≡ refusals old.moment.keeper → bounds_of room new ≡ bounds_of room old → Obeys holds refusals room old new (λ _ p. unless_refused (refusals_of (command.Back target) p) p (back target p)) (Ok (Back moves why))
+  went_obeys target moves why tells none is stands same bounds =
+      unrefused holds refusals room old new (refusals_of (command.Back target)) (λ _. back target) (Ok (Back moves why)) none (record {
+        answered = λ h past. ap (λ (o : Outcome). o.answer) (sym (is h past));
+        stands = λ h past. subst (λ (o : Outcome). StandsAt holds new o.point) (sym (is h past)) (stands h past);
+        counted = rw tells same;
+        bounds = bounds;
+        there = tt;
+      })
+
+  pub continue_obeys : (steps : ℕ) (found : Found) (broken : Bool) → steps ≢ 0 → ((h : List Record) → HasPast holds old h → steps ≡ min 1 (kept_steps (point_of old h))) → ((h : List Record) → HasPast holds old h → GoesBackTo holds (passes Continue (point_of old h)) 1 h old new found) → broken ≡ has new.breaks new.moment.state.pc → refusals new.moment.keeper ≡ refusals old.moment.keeper → bounds_of room new ≡ bounds_of room old → Obeys holds refusals room old new (λ _ p. unless_refused (refusals_of (command.Back Continue) p) p (back Continue p)) (Ok (Back found.moves (if found.is_there then (if broken then Why.Break else Why.Watch) else Why.Start)))
+  continue_obeys steps found broken some counted went is same bounds =
+      went_obeys Continue found.moves _ (why_told found.moves found.is_there broken)
+      (λ h past. when_none _ NoKeptStep (some_steps steps _ 1 some (counted h past)))
+      (λ h past.
+          let b = went h past in
+          let at : has new.breaks new.moment.state.pc ≡ breaks_at (point_of old h) (before_last found.moves (point_of old h)) = ap (λ (p : Point). has p.breaks p.state.pc) b.stands.0 in
+          continued old h found broken (latest (passes Continue (point_of old h)) 1 h old.moment.state) refl b.moves b.is_there (is ∙ at))
+      (λ h past. (went h past).stands) same bounds
+
+  pub undo_obeys : (marked count : ℕ) (found : Found) → count ≤ marked → ((h : List Record) → HasPast holds old h → marked ≡ marks (point_of old h)) → ((h : List Record) → HasPast holds old h → GoesBackTo holds (passes (Commands count) (point_of old h)) count h old new found) → refusals new.moment.keeper ≡ refusals old.moment.keeper → bounds_of room new ≡ bounds_of room old → Obeys holds refusals room old new (λ _ p. unless_refused (refusals_of (command.Back (Commands count)) p) p (back (Commands count) p)) (Ok (Back found.moves Why.Done))
+  undo_obeys marked count found enough is went same bounds =
+      went_obeys (Commands count) found.moves Why.Done refl
+      (λ h past. let m = is h past in let off : nat_lt (marks (point_of old h)) count ≡ false = grind (arith, nat_tests) in when_none _ FewerCommands off)
+      (λ h past. ap (λ (n : ℕ). gone_back n Why.Done (point_of old h)) (sym (went h past).moves))
+      (λ h past. (went h past).stands) same bounds
+
+  pub step_obeys : (steps count : ℕ) (found : Found) (enough : Bool) → steps ≢ 0 → ((h : List Record) → HasPast holds old h → steps ≡ min count (kept_steps (point_of old h))) → enough ≡ (steps == count) → ((h : List Record) → HasPast holds old h → GoesBackTo holds (passes (Steps count) (point_of old h)) steps h old new found) → refusals new.moment.keeper ≡ refusals old.moment.keeper → bounds_of room new ≡ bounds_of room old → Obeys holds refusals room old new (λ _ p. unless_refused (refusals_of (command.Back (Steps count)) p) p (back (Steps count) p)) (Ok (Back found.moves (if enough then Why.Done else Why.Start)))
+  step_obeys steps count found enough some counted all went same bounds =
+      went_obeys (Steps count) found.moves _ (done_told found.moves enough)
+      (λ h past. when_none _ NoKeptStep (some_steps steps _ count some (counted h past)))
+      (λ h past.
+          let n = counted h past in
+          ap (λ (m : ℕ). gone_back (unwrap_or (latest (passes (Steps count) (point_of old h)) m h old.moment.state) (length h)) (if nat_le count (kept_steps (point_of old h)) then Why.Done else Why.Start) (point_of old h)) (sym n)
+          ∙ ap (λ (m : ℕ). gone_back m (if nat_le count (kept_steps (point_of old h)) then Why.Done else Why.Start) (point_of old h)) (sym (went h past).moves)
+          ∙ ap (λ (b : Bool). gone_back found.moves (if b then Why.Done else Why.Start) (point_of old h)) (sym (all ∙ enough_steps steps _ count n)))
+      (λ h past. (went h past).stands) same bounds
+
+  -- to the latest record that is looked for
+  pub latest_obeys : (target : Target) (found : Found) → ((h : List Record) → HasPast holds old h → GoesBackTo holds (passes target (point_of old h)) 1 h old new found) → refusals new.moment.keeper ≡ refusals old.moment.keeper → bounds_of room new ≡ bounds_of room old → Obeys holds refusals room old new (λ _. to_latest target) (Ok (Back found.moves (if found.is_there then Why.Done else Why.Start)))
+  latest_obeys target found went same bounds = record {
+    answered = λ h past. ap (λ (o : Outcome). o.answer) (is h past);
+    stands = λ h past. subst (λ (o : Outcome). StandsAt holds new o.point) (is h past) (went h past).stands;
+    counted = rw (done_told found.moves found.is_there) same;
+    bounds = bounds;
+    there = tt;
+  }
+    where
+      is : (h : List Record) → HasPast holds old h → gone_back found.moves (if found.is_there then Why.Done else Why.Start) (point_of old h) ≡ to_latest target (point_of old h)
+      is h past =
+          let b = went h past in
+          ap (λ (t : Bool). gone_back found.moves (if t then Why.Done else Why.Start) (point_of old h)) b.is_there
+          ∙ ap (λ (n : ℕ). gone_back n (if is_some (latest (passes target (point_of old h)) 1 h old.moment.state) then Why.Done else Why.Start) (point_of old h)) b.moves
+
+  pub next_obeys : (steps : ℕ) (answer : Result Reply Refusal) → steps ≢ 0 → ((h : List Record) → HasPast holds old h → steps ≡ min 1 (kept_steps (point_of old h))) → Obeys holds refusals room old new (λ _. to_latest Next) answer → Obeys holds refusals room old new (λ _ p. unless_refused (refusals_of (command.Back Next) p) p (back Next p)) answer
+  next_obeys steps answer some counted o =
+      unrefused holds refusals room old new (refusals_of (command.Back Next)) (λ _. to_latest Next) answer (λ h past. when_none _ NoKeptStep (some_steps steps _ 1 some (counted h past))) o
+
+  pub finish_obeys : (steps : ℕ) (answer : Result Reply Refusal) → steps ≢ 0 → depth old.moment.state ≢ 0 → ((h : List Record) → HasPast holds old h → steps ≡ min 1 (kept_steps (point_of old h))) → Obeys holds refusals room old new (λ _. to_latest Finish) answer → Obeys holds refusals room old new (λ _ p. unless_refused (refusals_of (command.Back Finish) p) p (back Finish p)) answer
+  finish_obeys steps answer some deep counted o =
+      let off : (depth old.moment.state == 0) ≡ false = grind (arith, nat_tests) in
+      unrefused holds refusals room old new (refusals_of (command.Back Finish)) (λ _. to_latest Finish) answer (λ h past. when_neither _ _ NoKeptStep OutermostFrame (some_steps steps _ 1 some (counted h past)) off) o

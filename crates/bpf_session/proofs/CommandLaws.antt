@@ -12,11 +12,9 @@ use Rattle.bpf_journal.specs.Timelines.{record_of}
 use Rattle.bpf_session.specs.Points.{Point, Bounds}
 use Rattle.bpf_session.specs.Outcomes.{Outcome, refused, replied, unless_refused}
 use Rattle.bpf_session.specs.Stops.{breaks_at, watch_differs, has}
-use Rattle.bpf_session.specs.Forward.{Goal, state_after, kept, gone, stop, least, steps, reason, taken, cut, forward}
-use Rattle.bpf_journal.specs.Lookups.{latest, state_before, last_change}
-use Rattle.bpf_journal.specs.declared.timeline.ByteChange.{ByteChange}
-use Rattle.bpf_session.specs.Tables.{told_of}
-use Rattle.bpf_session.specs.Backward.{gone_back, before_last, back_by, marked, stepped, stops_back, to_stop, marks, kept_steps}
+use Rattle.bpf_session.specs.Forward.{state_after, kept, gone, is_done, stop, least, steps, reason, taken, cut, forward}
+use Rattle.bpf_journal.specs.Lookups.{Test, latest, state_before}
+use Rattle.bpf_session.specs.Backward.{back, gone_back, before_last, back_by, found, to_stop, marks, kept_steps}
 use Rattle.bpf_session.specs.Limits.{most_breaks, most_watches}
 use Rattle.bpfdb_commands.specs.Refusals.{number_of}
 use Rattle.bpf_session.specs.Refused.{when, present, starts, has_cell, refusals_of}
@@ -27,6 +25,12 @@ use Rattle.bpf_session.specs.Output.{effect, after_effect}
 use Rattle.bpf_session.specs.Laws.{RefusedChangesNothing, ShowsChangeNothing, Ascends, RefusalsAreInOrder, StepsAreLeast, BreakpointsStop, WatchesStop, CallsRunAsOne, TakesBackItsMoves, ReplayIsTheSame, UndoGoesToTheMark, GoingBackGivesBack, NothingRefusedNothingMissing}
 use Rattle.bpfdb_commands.specs.declared.command.Command.{Command}
 use Rattle.bpfdb_commands.specs.declared.command.Command.TheVariants as command
+use Rattle.bpfdb_commands.specs.declared.command.Goal.{Goal}
+use Rattle.bpfdb_commands.specs.declared.command.Goal.TheVariants as goals
+use Rattle.bpfdb_commands.specs.declared.command.Stop.TheVariants as stops
+use Rattle.bpfdb_commands.specs.declared.command.Target.{Target}
+use Rattle.bpfdb_commands.specs.declared.command.Target.TheVariants as targets
+use Rattle.bpfdb_commands.specs.declared.command.View.TheVariants as views
 use Rattle.bpf_session.specs.declared.reply.Reply.{Reply}
 use Rattle.bpf_session.specs.declared.reply.Reply.TheVariants.{Forward, Back}
 use Rattle.bpfdb_replies.specs.declared.why.Why.{Why}
@@ -49,31 +53,22 @@ to_stop-refused : (found : Option ℕ) (p : Point) (r : Refusal) → (to_stop fo
 to_stop-refused None p r e = absurd cc
 to_stop-refused (Some k) p r e = absurd cc
 
+back-refused : (target : Target) (p : Point) (r : Refusal) → (back target p).answer ≡ Err r → (back target p).point ≡ p
+back-refused (targets.Commands count) p r e = absurd cc
+back-refused (targets.Steps count) p r e = absurd cc
+back-refused targets.Next p r e = absurd cc
+back-refused targets.Continue p r e = to_stop-refused (found targets.Continue 1 p) p r e
+back-refused targets.Finish p r e = absurd cc
+
 accepted-refused : (gap : Option ℕ) (b : Bounds) (c : Command) (p : Point) (r : Refusal) → (accepted gap b c p).answer ≡ Err r → (accepted gap b c p).point ≡ p
 unfolding accepted
-accepted-refused gap b (command.Step count) p r e = cut-refused gap b.room _ _ p r e
-accepted-refused gap b command.Next p r e = cut-refused gap b.room _ _ p r e
-accepted-refused gap b command.Continue p r e = cut-refused gap b.room _ _ p r e
-accepted-refused gap b command.Finish p r e = cut-refused gap b.room _ _ p r e
-accepted-refused gap b (command.Undo count) p r e = absurd cc
-accepted-refused gap b (command.ReverseStep count) p r e = absurd cc
-accepted-refused gap b command.ReverseNext p r e = absurd cc
-accepted-refused gap b command.ReverseFinish p r e = absurd cc
-accepted-refused gap b command.ReverseContinue p r e = to_stop-refused (latest (stops_back p) 1 p.history p.state) p r e
+accepted-refused gap b (command.Forward goal) p r e = cut-refused gap b.room _ _ p r e
+accepted-refused gap b (command.Back target) p r e = back-refused target p r e
 accepted-refused None b (command.Edit change) p r e = absurd cc
 accepted-refused (Some m) b (command.Edit change) p r e = refl
-accepted-refused gap b (command.Break slot) p r e = absurd cc
-accepted-refused gap b (command.Delete slot) p r e = absurd cc
-accepted-refused gap b (command.Watch address) p r e = absurd cc
-accepted-refused gap b (command.Unwatch address) p r e = absurd cc
-accepted-refused gap b (command.LastWrite address) p r e = refl
-accepted-refused gap b command.InfoRegisters p r e = refl
-accepted-refused gap b command.InfoFrames p r e = refl
-accepted-refused gap b command.InfoBreaks p r e = refl
-accepted-refused gap b command.InfoHistory p r e = refl
-accepted-refused gap b command.InfoTrace p r e = refl
-accepted-refused gap b (command.Examine address span) p r e = refl
-accepted-refused gap b (command.Disassemble slot span) p r e = refl
+accepted-refused gap b (command.Add stop) p r e = absurd cc
+accepted-refused gap b (command.Remove stop) p r e = absurd cc
+accepted-refused gap b (command.Show view) p r e = refl
 accepted-refused gap b command.Quit p r e = refl
 
 unless-refused : (rs : List Refusal) (p : Point) (o : Outcome) (r : Refusal) → (o.answer ≡ Err r → o.point ≡ p) → (unless_refused rs p o).answer ≡ Err r → (unless_refused rs p o).point ≡ p
@@ -91,28 +86,12 @@ unless-same (q ∷ rs) p o same = refl
 
 pub shows-change-nothing : ShowsChangeNothing
 unfolding accepted
-shows-change-nothing gap b (command.Step count) p show = absurd cc
-shows-change-nothing gap b command.Next p show = absurd cc
-shows-change-nothing gap b command.Continue p show = absurd cc
-shows-change-nothing gap b command.Finish p show = absurd cc
-shows-change-nothing gap b (command.Undo count) p show = absurd cc
-shows-change-nothing gap b (command.ReverseStep count) p show = absurd cc
-shows-change-nothing gap b command.ReverseNext p show = absurd cc
-shows-change-nothing gap b command.ReverseContinue p show = absurd cc
-shows-change-nothing gap b command.ReverseFinish p show = absurd cc
+shows-change-nothing gap b (command.Forward goal) p show = absurd cc
+shows-change-nothing gap b (command.Back target) p show = absurd cc
 shows-change-nothing gap b (command.Edit change) p show = absurd cc
-shows-change-nothing gap b (command.Break slot) p show = absurd cc
-shows-change-nothing gap b (command.Delete slot) p show = absurd cc
-shows-change-nothing gap b (command.Watch address) p show = absurd cc
-shows-change-nothing gap b (command.Unwatch address) p show = absurd cc
-shows-change-nothing gap b (command.LastWrite address) p show = unless-same (refusals_of (command.LastWrite address) p) p _ refl
-shows-change-nothing gap b command.InfoRegisters p show = refl
-shows-change-nothing gap b command.InfoFrames p show = refl
-shows-change-nothing gap b command.InfoBreaks p show = refl
-shows-change-nothing gap b command.InfoHistory p show = refl
-shows-change-nothing gap b command.InfoTrace p show = refl
-shows-change-nothing gap b (command.Examine address span) p show = unless-same (refusals_of (command.Examine address span) p) p _ refl
-shows-change-nothing gap b (command.Disassemble slot span) p show = unless-same (refusals_of (command.Disassemble slot span) p) p _ refl
+shows-change-nothing gap b (command.Add stop) p show = absurd cc
+shows-change-nothing gap b (command.Remove stop) p show = absurd cc
+shows-change-nothing gap b (command.Show view) p show = unless-same (refusals_of (command.Show view) p) p _ refl
 shows-change-nothing gap b command.Quit p show = refl
 
 -- ---- the order of refusals
@@ -138,31 +117,31 @@ three-order false false true r q s less more = tt
 three-order false false false r q s less more = tt
 
 pub refusals-are-in-order : RefusalsAreInOrder
-refusals-are-in-order (command.Step count) p = one-alone (has_ended p.state.status) MachineEnded
-refusals-are-in-order command.Next p = one-alone (has_ended p.state.status) MachineEnded
-refusals-are-in-order command.Continue p = one-alone (has_ended p.state.status) MachineEnded
-refusals-are-in-order command.Finish p = two-order (has_ended p.state.status) (depth p.state == 0) MachineEnded OutermostFrame (omega arith)
-refusals-are-in-order (command.Undo count) p = one-alone (nat_lt (marks p) count) FewerCommands
-refusals-are-in-order (command.ReverseStep count) p = one-alone (kept_steps p == 0) NoKeptStep
-refusals-are-in-order command.ReverseNext p = one-alone (kept_steps p == 0) NoKeptStep
-refusals-are-in-order command.ReverseContinue p = one-alone (kept_steps p == 0) NoKeptStep
-refusals-are-in-order command.ReverseFinish p = two-order (kept_steps p == 0) (depth p.state == 0) NoKeptStep OutermostFrame (omega arith)
+refusals-are-in-order (command.Forward (goals.Steps count)) p = one-alone (has_ended p.state.status) MachineEnded
+refusals-are-in-order (command.Forward goals.Next) p = one-alone (has_ended p.state.status) MachineEnded
+refusals-are-in-order (command.Forward goals.Continue) p = one-alone (has_ended p.state.status) MachineEnded
+refusals-are-in-order (command.Forward goals.Finish) p = two-order (has_ended p.state.status) (depth p.state == 0) MachineEnded OutermostFrame (omega arith)
+refusals-are-in-order (command.Back (targets.Commands count)) p = one-alone (nat_lt (marks p) count) FewerCommands
+refusals-are-in-order (command.Back (targets.Steps count)) p = one-alone (kept_steps p == 0) NoKeptStep
+refusals-are-in-order (command.Back targets.Next) p = one-alone (kept_steps p == 0) NoKeptStep
+refusals-are-in-order (command.Back targets.Continue) p = one-alone (kept_steps p == 0) NoKeptStep
+refusals-are-in-order (command.Back targets.Finish) p = two-order (kept_steps p == 0) (depth p.state == 0) NoKeptStep OutermostFrame (omega arith)
 refusals-are-in-order (command.Edit (edit.Bytes a bytes)) p = one-alone (not (present p a (length bytes))) AddressNotPresent
 refusals-are-in-order (command.Edit (edit.Register r value)) p = one-alone (r == 10) RegisterNotWritable
 refusals-are-in-order (command.Edit (edit.Cell map index bytes)) p = one-alone (not (has_cell (slice_get p.state.program.maps map) index (length bytes))) NoCell
 refusals-are-in-order (command.Edit (edit.Pc slot)) p = one-alone (not (starts p slot)) NoStart
-refusals-are-in-order (command.Break slot) p = three-order (not (starts p slot)) (nat_le most_breaks (length p.breaks)) (has p.breaks slot) NoStart TableFull ThereOrNot (omega arith) (omega arith)
-refusals-are-in-order (command.Delete slot) p = one-alone (not (has p.breaks slot)) ThereOrNot
-refusals-are-in-order (command.Examine address span) p = one-alone (not (present p address span)) AddressNotPresent
-refusals-are-in-order (command.Disassemble slot span) p = one-alone (not (starts p slot)) NoStart
-refusals-are-in-order (command.Watch address) p = three-order (not (present p address 1)) (nat_le most_watches (length p.watches)) (has p.watches address) AddressNotPresent TableFull ThereOrNot (omega arith) (omega arith)
-refusals-are-in-order (command.Unwatch address) p = one-alone (not (has p.watches address)) ThereOrNot
-refusals-are-in-order (command.LastWrite address) p = one-alone (not (present p address 1)) AddressNotPresent
-refusals-are-in-order command.InfoRegisters p = tt
-refusals-are-in-order command.InfoFrames p = tt
-refusals-are-in-order command.InfoBreaks p = tt
-refusals-are-in-order command.InfoHistory p = tt
-refusals-are-in-order command.InfoTrace p = tt
+refusals-are-in-order (command.Add (stops.Breakpoint slot)) p = three-order (not (starts p slot)) (nat_le most_breaks (length p.breaks)) (has p.breaks slot) NoStart TableFull ThereOrNot (omega arith) (omega arith)
+refusals-are-in-order (command.Add (stops.Watch address)) p = three-order (not (present p address 1)) (nat_le most_watches (length p.watches)) (has p.watches address) AddressNotPresent TableFull ThereOrNot (omega arith) (omega arith)
+refusals-are-in-order (command.Remove (stops.Breakpoint slot)) p = one-alone (not (has p.breaks slot)) ThereOrNot
+refusals-are-in-order (command.Remove (stops.Watch address)) p = one-alone (not (has p.watches address)) ThereOrNot
+refusals-are-in-order (command.Show (views.Bytes address span)) p = one-alone (not (present p address span)) AddressNotPresent
+refusals-are-in-order (command.Show (views.Instructions slot span)) p = one-alone (not (starts p slot)) NoStart
+refusals-are-in-order (command.Show (views.LastWrite address)) p = one-alone (not (present p address 1)) AddressNotPresent
+refusals-are-in-order (command.Show views.Registers) p = tt
+refusals-are-in-order (command.Show views.Frames) p = tt
+refusals-are-in-order (command.Show views.Breaks) p = tt
+refusals-are-in-order (command.Show views.History) p = tt
+refusals-are-in-order (command.Show views.Trace) p = tt
 refusals-are-in-order command.Quit p = tt
 
 -- ---- the least number of steps
@@ -208,10 +187,10 @@ least-at-most test k n j a e b = let f : false ≡ true = sym (least-below test 
 same-true : (n : ℕ) → (n == n) ≡ true
 same-true n = grind (arith, nat_tests)
 
-stops-at-limit : (limit : ℕ) (done : Goal) (p : Point) (k : ℕ) → 1 ≤ k → k ≡ limit → is_some (stop limit done p k) ≡ true
-stops-at-limit limit done p zero some same = absurd (omega arith)
-stops-at-limit limit done p (suc k) some same =
-    at (has_ended (state_after (suc k) p.state).status) (breaks_at p (state_after (suc k) p.state)) (watch_differs p (state_after k p.state) (state_after (suc k) p.state)) (done (suc k) (state_after (suc k) p.state)) (suc k == limit) (grind (arith, nat_tests))
+stops-at-limit : (limit : ℕ) (goal : Goal) (p : Point) (k : ℕ) → 1 ≤ k → k ≡ limit → is_some (stop limit goal p k) ≡ true
+stops-at-limit limit goal p zero some same = absurd (omega arith)
+stops-at-limit limit goal p (suc k) some same =
+    at (has_ended (state_after (suc k) p.state).status) (breaks_at p (state_after (suc k) p.state)) (watch_differs p (state_after k p.state) (state_after (suc k) p.state)) (is_done goal (depth p.state) (suc k) (state_after (suc k) p.state)) (suc k == limit) (grind (arith, nat_tests))
   where
     at : (ended broken watched satisfied here : Bool) → here ≡ true → is_some (if ended then Some End else (if broken then Some Break else (if watched then Some Watch else (if satisfied then Some Done else (if here then Some Limit else None))))) ≡ true
     at true broken watched satisfied here h = refl
@@ -226,9 +205,9 @@ none-of None e = refl
 none-of (Some a) e = cc
 
 pub steps-are-least : StepsAreLeast
-steps-are-least limit done p some =
-    let test : ℕ → Bool = λ k. is_some (stop limit done p k) in
-    let last : test limit ≡ true = stops-at-limit limit done p limit some refl in record {
+steps-are-least limit goal p some =
+    let test : ℕ → Bool = λ k. is_some (stop limit goal p k) in
+    let last : test limit ≡ true = stops-at-limit limit goal p limit some refl in record {
       some = least-from test 1 limit;
       within = let no = least-at-most test 1 limit limit some last in omega (arith, no);
       stops = least-passes test 1 limit limit (omega arith) (omega arith) last;
@@ -238,12 +217,12 @@ steps-are-least limit done p some =
 -- ---- breakpoints on the way
 
 -- where nothing stops, no breakpoint is there
-no-break : (limit : ℕ) (done : Goal) (p : Point) (j : ℕ) → 1 ≤ j → is_some (stop limit done p j) ≡ false → breaks_at p (state_after j p.state) ≡ false
-no-break limit done p zero some e = absurd (omega arith)
-no-break limit done p (suc j) some e =
+no-break : (limit : ℕ) (goal : Goal) (p : Point) (j : ℕ) → 1 ≤ j → is_some (stop limit goal p j) ≡ false → breaks_at p (state_after j p.state) ≡ false
+no-break limit goal p zero some e = absurd (omega arith)
+no-break limit goal p (suc j) some e =
     at (has_ended (state_after (suc j) p.state).status) (breaks_at p (state_after (suc j) p.state)) e
   where
-    at : (ended broken : Bool) → is_some (if ended then Some End else (if broken then Some Break else (if watch_differs p (state_after j p.state) (state_after (suc j) p.state) then Some Watch else (if done (suc j) (state_after (suc j) p.state) then Some Done else (if suc j == limit then Some Limit else None))))) ≡ false → broken ≡ false
+    at : (ended broken : Bool) → is_some (if ended then Some End else (if broken then Some Break else (if watch_differs p (state_after j p.state) (state_after (suc j) p.state) then Some Watch else (if is_done goal (depth p.state) (suc j) (state_after (suc j) p.state) then Some Done else (if suc j == limit then Some Limit else None))))) ≡ false → broken ≡ false
     at true broken e = absurd cc
     at false true e = absurd cc
     at false false e = refl
@@ -266,42 +245,29 @@ to_stop-back : (found : Option ℕ) (p : Point) (k : ℕ) (why : Why) → (to_st
 to_stop-back None p k why e = cc
 to_stop-back (Some n) p k why e = cc
 
-told-back : (found : Option ByteChange) (p : Point) (k : ℕ) (why : Why) → (replied (told_of found) p).answer ≡ Ok (Forward k why) → ⊥
-told-back None p k why e = cc
-told-back (Some change) p k why e = cc
+back-forward : (target : Target) (p : Point) (k : ℕ) (why : Why) → (back target p).answer ≡ Ok (Forward k why) → ⊥
+back-forward (targets.Commands count) p k why e = cc
+back-forward (targets.Steps count) p k why e = cc
+back-forward targets.Next p k why e = cc
+back-forward targets.Continue p k why e = to_stop-back (found targets.Continue 1 p) p k why e
+back-forward targets.Finish p k why e = cc
 
-way : (limit : ℕ) (done : Goal) (p : Point) (k : ℕ) → k ≤ steps limit done p → (j : ℕ) → 1 ≤ j → j < k → breaks_at p (state_after j p.state) ≡ false
-way limit done p k most j some less = no-break limit done p j some (least-below (λ i. is_some (stop limit done p i)) 1 limit j some (omega arith))
+way : (limit : ℕ) (goal : Goal) (p : Point) (k : ℕ) → k ≤ steps limit goal p → (j : ℕ) → 1 ≤ j → j < k → breaks_at p (state_after j p.state) ≡ false
+way limit goal p k most j some less = no-break limit goal p j some (least-below (λ i. is_some (stop limit goal p i)) 1 limit j some (omega arith))
 
 -- a command that goes forward takes steps up to some goal
-accepted-forward : (gap : Option ℕ) (b : Bounds) (c : Command) (p : Point) (k : ℕ) (why : Why) → (accepted gap b c p).answer ≡ Ok (Forward k why) → (done : Goal) × (accepted gap b c p ≡ forward gap b done p)
+accepted-forward : (gap : Option ℕ) (b : Bounds) (c : Command) (p : Point) (k : ℕ) (why : Why) → (accepted gap b c p).answer ≡ Ok (Forward k why) → (goal : Goal) × (accepted gap b c p ≡ forward gap b goal p)
 unfolding accepted
-accepted-forward gap b (command.Step count) p k why e = ((λ i x. i == count), refl)
-accepted-forward gap b command.Next p k why e = ((λ i x. nat_le (depth x) (depth p.state)), refl)
-accepted-forward gap b command.Continue p k why e = ((λ i x. false), refl)
-accepted-forward gap b command.Finish p k why e = ((λ i x. nat_lt (depth x) (depth p.state)), refl)
-accepted-forward gap b (command.Undo count) p k why e = absurd cc
-accepted-forward gap b (command.ReverseStep count) p k why e = absurd cc
-accepted-forward gap b command.ReverseNext p k why e = absurd cc
-accepted-forward gap b command.ReverseFinish p k why e = absurd cc
-accepted-forward gap b command.ReverseContinue p k why e = absurd (to_stop-back (latest (stops_back p) 1 p.history p.state) p k why e)
+accepted-forward gap b (command.Forward goal) p k why e = (goal, refl)
+accepted-forward gap b (command.Back target) p k why e = absurd (back-forward target p k why e)
 accepted-forward None b (command.Edit change) p k why e = absurd cc
 accepted-forward (Some m) b (command.Edit change) p k why e = absurd cc
-accepted-forward gap b (command.Break slot) p k why e = absurd cc
-accepted-forward gap b (command.Delete slot) p k why e = absurd cc
-accepted-forward gap b (command.Watch address) p k why e = absurd cc
-accepted-forward gap b (command.Unwatch address) p k why e = absurd cc
-accepted-forward gap b (command.LastWrite address) p k why e = absurd (told-back (last_change address p.history p.state) p k why e)
-accepted-forward gap b command.InfoRegisters p k why e = absurd cc
-accepted-forward gap b command.InfoFrames p k why e = absurd cc
-accepted-forward gap b command.InfoBreaks p k why e = absurd cc
-accepted-forward gap b command.InfoHistory p k why e = absurd cc
-accepted-forward gap b command.InfoTrace p k why e = absurd cc
-accepted-forward gap b (command.Examine address span) p k why e = absurd cc
-accepted-forward gap b (command.Disassemble slot span) p k why e = absurd cc
+accepted-forward gap b (command.Add stop) p k why e = absurd cc
+accepted-forward gap b (command.Remove stop) p k why e = absurd cc
+accepted-forward gap b (command.Show view) p k why e = absurd cc
 accepted-forward gap b command.Quit p k why e = absurd cc
 
-does-forward : (gap : Option ℕ) (b : Bounds) (c : Command) (p : Point) (k : ℕ) (why : Why) → (does gap b c p).answer ≡ Ok (Forward k why) → (done : Goal) × (does gap b c p ≡ forward gap b done p)
+does-forward : (gap : Option ℕ) (b : Bounds) (c : Command) (p : Point) (k : ℕ) (why : Why) → (does gap b c p).answer ≡ Ok (Forward k why) → (goal : Goal) × (does gap b c p ≡ forward gap b goal p)
 does-forward gap b c p k why e =
     let same = unless-is (refusals_of c p) p (accepted gap b c p) (Forward k why) e in
     let w = accepted-forward gap b c p k why (ap (λ (o : Outcome). o.answer) (sym same) ∙ e) in
@@ -315,11 +281,11 @@ breakpoints-stop gap b c p k why e =
 -- ---- watches on the way
 
 -- where nothing stops, no watched byte has changed
-no-change : (limit : ℕ) (done : Goal) (p : Point) (j : ℕ) → is_some (stop limit done p (suc j)) ≡ false → watch_differs p (state_after j p.state) (state_after (suc j) p.state) ≡ false
-no-change limit done p j e =
+no-change : (limit : ℕ) (goal : Goal) (p : Point) (j : ℕ) → is_some (stop limit goal p (suc j)) ≡ false → watch_differs p (state_after j p.state) (state_after (suc j) p.state) ≡ false
+no-change limit goal p j e =
     at (has_ended (state_after (suc j) p.state).status) (breaks_at p (state_after (suc j) p.state)) (watch_differs p (state_after j p.state) (state_after (suc j) p.state)) e
   where
-    at : (ended broken watched : Bool) → is_some (if ended then Some End else (if broken then Some Break else (if watched then Some Watch else (if done (suc j) (state_after (suc j) p.state) then Some Done else (if suc j == limit then Some Limit else None))))) ≡ false → watched ≡ false
+    at : (ended broken watched : Bool) → is_some (if ended then Some End else (if broken then Some Break else (if watched then Some Watch else (if is_done goal (depth p.state) (suc j) (state_after (suc j) p.state) then Some Done else (if suc j == limit then Some Limit else None))))) ≡ false → watched ≡ false
     at true broken watched e = absurd cc
     at false true watched e = absurd cc
     at false false true e = absurd cc
@@ -334,10 +300,10 @@ watches-stop gap b c p k why e j less =
 -- ---- called functions
 
 -- a command that is done has done what it was asked for
-done-reached : (limit : ℕ) (done : Goal) (p : Point) (j : ℕ) → unwrap_or (stop limit done p j) Limit ≡ Done → done j (state_after j p.state) ≡ true
-done-reached limit done p zero e = absurd cc
-done-reached limit done p (suc j) e =
-    at (has_ended (state_after (suc j) p.state).status) (breaks_at p (state_after (suc j) p.state)) (watch_differs p (state_after j p.state) (state_after (suc j) p.state)) (done (suc j) (state_after (suc j) p.state)) (suc j == limit) e
+done-reached : (limit : ℕ) (goal : Goal) (p : Point) (j : ℕ) → unwrap_or (stop limit goal p j) Limit ≡ Done → is_done goal (depth p.state) j (state_after j p.state) ≡ true
+done-reached limit goal p zero e = absurd cc
+done-reached limit goal p (suc j) e =
+    at (has_ended (state_after (suc j) p.state).status) (breaks_at p (state_after (suc j) p.state)) (watch_differs p (state_after j p.state) (state_after (suc j) p.state)) (is_done goal (depth p.state) (suc j) (state_after (suc j) p.state)) (suc j == limit) e
   where
     at : (ended broken watched satisfied here : Bool) → unwrap_or (if ended then Some End else (if broken then Some Break else (if watched then Some Watch else (if satisfied then Some Done else (if here then Some Limit else None))))) Limit ≡ Done → satisfied ≡ true
     at true broken watched satisfied here e = absurd cc
@@ -356,11 +322,11 @@ cut-done (Some m) room n k because p e = test (nat_lt m n) (m == 0) e
     test true false e = absurd cc
     test false first e = (let s : because ≡ Done = cc in s, refl)
 
-forward-done : (gap : Option ℕ) (b : Bounds) (done : Goal) (p : Point) (k : ℕ) (rs : List Refusal) → (unless_refused rs p (forward gap b done p)).answer ≡ Ok (Forward k Done) → done (steps b.limit done p) (unless_refused rs p (forward gap b done p)).point.state ≡ true
-forward-done gap b done p k (r ∷ rs) e = absurd cc
-forward-done gap b done p k [] e =
-    let c = cut-done gap b.room (steps b.limit done p) k (reason b.limit done p) p e in
-    ap (λ (q : Point). done (steps b.limit done p) q.state) c.1 ∙ done-reached b.limit done p (steps b.limit done p) c.0
+forward-done : (gap : Option ℕ) (b : Bounds) (goal : Goal) (p : Point) (k : ℕ) (rs : List Refusal) → (unless_refused rs p (forward gap b goal p)).answer ≡ Ok (Forward k Done) → is_done goal (depth p.state) (steps b.limit goal p) (unless_refused rs p (forward gap b goal p)).point.state ≡ true
+forward-done gap b goal p k (r ∷ rs) e = absurd cc
+forward-done gap b goal p k [] e =
+    let c = cut-done gap b.room (steps b.limit goal p) k (reason b.limit goal p) p e in
+    ap (λ (q : Point). is_done goal (depth p.state) (steps b.limit goal p) q.state) c.1 ∙ done-reached b.limit goal p (steps b.limit goal p) c.0
 
 at-most : (m n : ℕ) → nat_le m n ≡ true → m ≤ n
 at-most m n h = grind (arith, nat_tests)
@@ -371,8 +337,8 @@ below m n h = grind (arith, nat_tests)
 pub calls-run-as-one : CallsRunAsOne
 unfolding accepted
 calls-run-as-one gap b p k = (
-  λ e. at-most _ _ (forward-done gap b (λ j x. nat_le (depth x) (depth p.state)) p k (refusals_of command.Next p) e),
-  λ e. below _ _ (forward-done gap b (λ j x. nat_lt (depth x) (depth p.state)) p k (refusals_of command.Finish p) e),
+  λ e. at-most _ _ (forward-done gap b goals.Next p k (refusals_of (command.Forward goals.Next) p) e),
+  λ e. below _ _ (forward-done gap b goals.Finish p k (refusals_of (command.Forward goals.Finish) p) e),
 )
 
 -- ---- what a command takes back
@@ -386,10 +352,6 @@ cut-forward (Some m) room n k because why p e = test (nat_lt m n) (m == 0) e
     test true false e = cc
     test false first e = cc
 
-told-shown : (found : Option ByteChange) (p : Point) (k : ℕ) (why : Why) → (replied (told_of found) p).answer ≡ Ok (Back k why) → ⊥
-told-shown None p k why e = cc
-told-shown (Some change) p k why e = cc
-
 gone-by : (n k : ℕ) (because why : Why) (p : Point) → (gone_back n because p).answer ≡ Ok (Back k why) → (gone_back n because p).point ≡ back_by k p
 gone-by n k because why p e = let s : n ≡ k = cc in ap (λ j. back_by j p) s
 
@@ -397,31 +359,22 @@ to_stop-by : (found : Option ℕ) (p : Point) (k : ℕ) (why : Why) → (to_stop
 to_stop-by None p k why e = gone-by _ k _ why p e
 to_stop-by (Some n) p k why e = gone-by n k _ why p e
 
+back-by : (target : Target) (p : Point) (k : ℕ) (why : Why) → (back target p).answer ≡ Ok (Back k why) → (back target p).point ≡ back_by k p
+back-by (targets.Commands count) p k why e = gone-by _ k _ why p e
+back-by (targets.Steps count) p k why e = gone-by _ k _ why p e
+back-by targets.Next p k why e = gone-by _ k _ why p e
+back-by targets.Continue p k why e = to_stop-by (found targets.Continue 1 p) p k why e
+back-by targets.Finish p k why e = gone-by _ k _ why p e
+
 accepted-back : (gap : Option ℕ) (b : Bounds) (c : Command) (p : Point) (k : ℕ) (why : Why) → (accepted gap b c p).answer ≡ Ok (Back k why) → (accepted gap b c p).point ≡ back_by k p
 unfolding accepted
-accepted-back gap b (command.Step count) p k why e = absurd (cut-forward gap b.room _ k _ why p e)
-accepted-back gap b command.Next p k why e = absurd (cut-forward gap b.room _ k _ why p e)
-accepted-back gap b command.Continue p k why e = absurd (cut-forward gap b.room _ k _ why p e)
-accepted-back gap b command.Finish p k why e = absurd (cut-forward gap b.room _ k _ why p e)
-accepted-back gap b (command.Undo count) p k why e = gone-by _ k _ why p e
-accepted-back gap b (command.ReverseStep count) p k why e = gone-by _ k _ why p e
-accepted-back gap b command.ReverseNext p k why e = gone-by _ k _ why p e
-accepted-back gap b command.ReverseContinue p k why e = to_stop-by (latest (stops_back p) 1 p.history p.state) p k why e
-accepted-back gap b command.ReverseFinish p k why e = gone-by _ k _ why p e
+accepted-back gap b (command.Forward goal) p k why e = absurd (cut-forward gap b.room _ k _ why p e)
+accepted-back gap b (command.Back target) p k why e = back-by target p k why e
 accepted-back None b (command.Edit change) p k why e = absurd cc
 accepted-back (Some m) b (command.Edit change) p k why e = absurd cc
-accepted-back gap b (command.Break slot) p k why e = absurd cc
-accepted-back gap b (command.Delete slot) p k why e = absurd cc
-accepted-back gap b (command.Watch address) p k why e = absurd cc
-accepted-back gap b (command.Unwatch address) p k why e = absurd cc
-accepted-back gap b command.InfoRegisters p k why e = absurd cc
-accepted-back gap b command.InfoFrames p k why e = absurd cc
-accepted-back gap b command.InfoBreaks p k why e = absurd cc
-accepted-back gap b command.InfoHistory p k why e = absurd cc
-accepted-back gap b command.InfoTrace p k why e = absurd cc
-accepted-back gap b (command.Examine address span) p k why e = absurd cc
-accepted-back gap b (command.Disassemble slot span) p k why e = absurd cc
-accepted-back gap b (command.LastWrite address) p k why e = absurd (told-shown (last_change address p.history p.state) p k why e)
+accepted-back gap b (command.Add stop) p k why e = absurd cc
+accepted-back gap b (command.Remove stop) p k why e = absurd cc
+accepted-back gap b (command.Show view) p k why e = absurd cc
 accepted-back gap b command.Quit p k why e = absurd cc
 
 pub moves-are-taken-back : TakesBackItsMoves
@@ -446,6 +399,13 @@ nothing-refused-nothing-missing (None ∷ gaps) n b (line ∷ lines) p low same 
 nothing-refused-nothing-missing (Some m ∷ gaps) n b (line ∷ lines) p low same = absurd (let r = refusals-rise gaps (min (n + 1) (2 ^ 64 - 1)) (omega arith) in omega (arith, r, same))
 
 -- ---- going back
+
+-- records with marks, and those of steps
+abbrev marked : Test
+marked r y = r.mark
+
+abbrev stepped : Test
+stepped r y = is_step r.move
 
 -- the history of k steps where none is dropped
 abbrev told : ℕ → Point → List Record
@@ -533,7 +493,7 @@ steps-told (suc k) p =
     let one : cond {A = ℕ} true 1 0 ≡ 1 = refl in
     omega (arith, e, one, i)
 
-undo-told : (b : Bounds) (later : Option ℕ) (k : ℕ) (p : Point) → 1 ≤ k → (does later b (command.Undo 1) (gone-told k p)).point ≡ p
+undo-told : (b : Bounds) (later : Option ℕ) (k : ℕ) (p : Point) → 1 ≤ k → (does later b (command.Back (targets.Commands 1)) (gone-told k p)).point ≡ p
 unfolding accepted
 undo-told b later zero p some = absurd (omega arith)
 undo-told b later (suc k) p some =
@@ -541,7 +501,7 @@ undo-told b later (suc k) p some =
     let e : nat_lt (marks (gone-told (suc k) p)) 1 ≡ false = grind (arith, nat_tests) in
     rw e (ap (λ (o : Option ℕ). back_by (unwrap_or o (length (told (suc k) p))) (gone-told (suc k) p)) (marked-told k p (state_after (suc k) p.state)) ∙ back-told (suc k) p some)
 
-reverse-told : (b : Bounds) (later : Option ℕ) (k : ℕ) (p : Point) → 1 ≤ k → (does later b (command.ReverseStep k) (gone-told k p)).point ≡ p
+reverse-told : (b : Bounds) (later : Option ℕ) (k : ℕ) (p : Point) → 1 ≤ k → (does later b (command.Back (targets.Steps k)) (gone-told k p)).point ≡ p
 unfolding accepted
 reverse-told b later zero p some = absurd (omega arith)
 reverse-told b later (suc k) p some =
@@ -569,8 +529,8 @@ going-back-gives-back gap later b c p k why e all =
     let whole : length (kept b.room k p) ≡ k + length p.history = ap (λ (q : Point). length q.history) (sym there) ∙ all in
     let here : (does gap b c p).point ≡ gone-told k p = there ∙ ap (λ (h : List Record). record p { history = h; state = state_after k p.state }) (kept-told b.room k p whole) in
     record {
-      reverse = ap (λ (q : Point). (does later b (command.ReverseStep k) q).point) here ∙ reverse-told b later k p g.1;
-      undo = ap (λ (q : Point). (does later b (command.Undo 1) q).point) here ∙ undo-told b later k p g.1;
+      reverse = ap (λ (q : Point). (does later b (command.Back (targets.Steps k)) q).point) here ∙ reverse-told b later k p g.1;
+      undo = ap (λ (q : Point). (does later b (command.Back (targets.Commands 1)) q).point) here ∙ undo-told b later k p g.1;
     }
 
 pub replay-is-the-same : ReplayIsTheSame

@@ -7,7 +7,7 @@ use Rattle.bpf_journal.specs.Histories.{Record, Kept}
 use Rattle.bpf_session.specs.Points.{Point, Bounds}
 use Rattle.bpf_session.specs.Meaning.{does}
 use Rattle.bpf_session.specs.Replies.{text_of_answer}
-use Rattle.bpf_session.specs.Sessions.{SessionValue, HasPast, StandsAt, Obeys, bounds_of, point_of, refusals_with}
+use Rattle.bpf_session.specs.Sessions.{SessionValue, HasPast, StandsAt, Obeys, bounds_of, gap_of, point_of, refusals_with}
 use Rattle.bpfdb_commands.specs.Commands.{command_of}
 use Rattle.bpf_session.specs.Output.{Effect, effect, effect_of, is_quit}
 use Rattle.bpf_session.specs.LineSteps.{ObeysLine}
@@ -17,9 +17,10 @@ use Rattle.bpfdb_commands.specs.declared.refusal.Refusal.{Refusal}
 
 module _ {K W : Type 0} (holds : K → List Kept → Type 0) (refusals room : K → ℕ) (contents : W → Option (List ℕ)) where
   -- by an effect
-  by-effect : {E : Type 0} (old new : SessionValue K) (before after : Tally W) (h : List Record) (line : List ℕ) (result : Result Bool E) (gap : Option ℕ) (e : Effect) → effect gap (bounds_of room old) (command_of line) (point_of old h) ≡ e → refusals new.moment.keeper ≡ refusals_with gap (refusals old.moment.keeper) → IfOk result (λ more. more ≡ e.goes_on) → OnErr result (e.goes_on ≡ true) → Writes contents before after result e.text → StandsAt holds new e.point → ObeysLine holds refusals room contents old new before after h line result
-  by-effect old new before after h line result gap e is counted on stays w st = record {
+  by-effect : {E : Type 0} (old new : SessionValue K) (before after : Tally W) (h : List Record) (line : List ℕ) (result : Result Bool E) (gap : Option ℕ) (e : Effect) → effect gap (bounds_of room old) (command_of line) (point_of old h) ≡ e → e.gap ≡ gap → refusals new.moment.keeper ≡ refusals_with gap (refusals old.moment.keeper) → IfOk result (λ more. more ≡ e.goes_on) → OnErr result (e.goes_on ≡ true) → Writes contents before after result e.text → StandsAt holds new e.point → ObeysLine holds refusals room contents old new before after h line result
+  by-effect old new before after h line result gap e is told counted on stays w st = record {
     gap = gap;
+    told = ap (λ (x : Effect). x.gap) is ∙ told;
     counted = counted;
     goes_on = subst (λ (x : Effect). IfOk result (λ more. more ≡ x.goes_on)) (sym is) on;
     stays = subst (λ (x : Effect). OnErr result (x.goes_on ≡ true)) (sym is) stays;
@@ -35,36 +36,33 @@ module _ {K W : Type 0} (holds : K → List Kept → Type 0) (refusals room : K 
   pub obeys-nothing : {E : Type 0} (now : SessionValue K) (writer : Tally W) (h : List Record) (line : List ℕ) → HasPast holds now h → Ok None ≡ command_of line → ObeysLine {E = E} holds refusals room contents now now writer writer h line (Ok true)
   obeys-nothing now writer h line past says =
       by-effect now now writer writer h line (Ok true) None (effect None (bounds_of room now) (Ok None) (point_of now h))
-      (ap (λ a. effect None (bounds_of room now) a (point_of now h)) (sym says)) refl refl tt (Writes-none contents writer true) (refl, past)
+      (ap (λ a. effect None (bounds_of room now) a (point_of now h)) (sym says)) refl refl refl tt (Writes-none contents writer true) (refl, past)
 
   -- `quit`
   pub obeys-quit : {E : Type 0} (now : SessionValue K) (writer : Tally W) (h : List Record) (line : List ℕ) (command : Command) → HasPast holds now h → Ok (Some command) ≡ command_of line → is_quit command ≡ true → ObeysLine {E = E} holds refusals room contents now now writer writer h line (Ok false)
   obeys-quit now writer h line command past says quits =
-      by-effect now now writer writer h line (Ok false) None (record { text = []; point = point_of now h; goes_on = false })
-      (ap (λ a. effect None (bounds_of room now) a (point_of now h)) (sym says) ∙ rw quits refl) refl refl tt (Writes-none contents writer false) (refl, past)
+      by-effect now now writer writer h line (Ok false) None (record { text = []; point = point_of now h; gap = None; goes_on = false })
+      (ap (λ a. effect None (bounds_of room now) a (point_of now h)) (sym says) ∙ rw quits refl) refl refl refl tt (Writes-none contents writer false) (refl, past)
 
   -- a line that is refused
   pub obeys-refused : {E : Type 0} (now : SessionValue K) (before after : Tally W) (h : List Record) (line : List ℕ) (result : Result Bool E) (refusal : Refusal) → HasPast holds now h → Err refusal ≡ command_of line → ((h : List Record) → HasPast holds now h → Writes contents before after result (text_of_answer (bounds_of room now) (Err refusal) (point_of now h))) → IfOk result (λ more. more ≡ true) → ObeysLine holds refusals room contents now now before after h line result
   obeys-refused now before after h line result refusal past says w on =
       by-effect now now before after h line result None (effect None (bounds_of room now) (Err refusal) (point_of now h))
-      (ap (λ a. effect None (bounds_of room now) a (point_of now h)) (sym says)) refl on (stays-on result) (w h past) (refl, past)
-
-  same-bounds : (old new : SessionValue K) → new.limit ≡ old.limit → room new.moment.keeper ≡ room old.moment.keeper → bounds_of room new ≡ bounds_of room old
-  same-bounds old new l r = ap (λ (n : ℕ). record { limit = n; room = room new.moment.keeper }) l ∙ ap (λ (n : ℕ). record { limit = old.limit; room = n }) r
+      (ap (λ a. effect None (bounds_of room now) a (point_of now h)) (sym says)) refl refl on (stays-on result) (w h past) (refl, past)
 
   -- a command
   pub obeys-command : {E : Type 0} (old new : SessionValue K) (before after : Tally W) (h : List Record) (line : List ℕ) (result : Result Bool E) (command : Command) (answer : Result Reply Refusal) → HasPast holds old h → Ok (Some command) ≡ command_of line → is_quit command ≡ false
-      → ((h : List Record) → HasPast holds old h → Obeys holds refusals old new (λ gap. does gap (bounds_of room old) command (point_of old h)) answer)
-      → new.limit ≡ old.limit → room new.moment.keeper ≡ room old.moment.keeper
+      → Obeys holds refusals room old new (λ gap. does gap (bounds_of room old) command) answer
       → ((h : List Record) → HasPast holds new h → Writes contents before after result (text_of_answer (bounds_of room new) answer (point_of new h))) → IfOk result (λ more. more ≡ true) → ObeysLine holds refusals room contents old new before after h line result
-  obeys-command old new before after h line result command answer past says goes apply limit same write on =
-      let o = apply h past in
-      let d = does o.gap (bounds_of room old) command (point_of old h) in
+  obeys-command old new before after h line result command answer past says goes o write on =
+      let d = does (gap_of answer) (bounds_of room old) command (point_of old h) in
+      let answered : answer ≡ d.answer = o.answered h past in
+      let stands : StandsAt holds new d.point = o.stands h past in
       let text : text_of_answer (bounds_of room new) answer (point_of new d.point.history) ≡ text_of_answer (bounds_of room old) d.answer d.point =
-      ap (λ (b : Bounds). text_of_answer b answer (point_of new d.point.history)) (same-bounds old new limit same)
-      ∙ ap (λ (a : Result Reply Refusal). text_of_answer (bounds_of room old) a (point_of new d.point.history)) o.answered
-      ∙ ap (λ (p : Point). text_of_answer (bounds_of room old) d.answer p) o.stands.0 in
-      by-effect old new before after h line result o.gap (effect_of (bounds_of room old) d)
-      (ap (λ a. effect o.gap (bounds_of room old) a (point_of old h)) (sym says) ∙ rw goes refl)
-      o.counted on (stays-on result)
-      (subst (λ (xs : List ℕ). Writes contents before after result xs) text (write d.point.history o.stands.1)) o.stands
+      ap (λ (b : Bounds). text_of_answer b answer (point_of new d.point.history)) o.bounds
+      ∙ ap (λ (a : Result Reply Refusal). text_of_answer (bounds_of room old) a (point_of new d.point.history)) answered
+      ∙ ap (λ (p : Point). text_of_answer (bounds_of room old) d.answer p) stands.0 in
+      by-effect old new before after h line result (gap_of answer) (effect_of (bounds_of room old) d)
+      (ap (λ a. effect (gap_of answer) (bounds_of room old) a (point_of old h)) (sym says) ∙ rw goes refl)
+      (ap gap_of (sym answered)) o.counted on (stays-on result)
+      (subst (λ (xs : List ℕ). Writes contents before after result xs) text (write d.point.history stands.1)) stands

@@ -28,19 +28,25 @@ appended None after xs ys e h = absurd cc
 appended (Some zs) None xs ys e h = absurd h
 appended (Some zs) (Some ws) xs ys e h = let s : zs ≡ xs = cc in ap Some (h ∙ ap (λ (v : List ℕ). v ++ ys) s)
 
--- what the lines before a walk print comes first
-abbrev ahead_of : List ℕ → Walk → Walk
-ahead_of text w = record w { out = text ++ w.out }
+-- what the lines before a walk print, and the gaps that they tell, come first
+abbrev ahead_of : List ℕ → List (Option ℕ) → Walk → Walk
+ahead_of text gaps w = record w { out = text ++ w.out; gaps = gaps ++ w.gaps }
 
-ahead-twice : (a b : List ℕ) (w : Walk) → ahead_of a (ahead_of b w) ≡ ahead_of (a ++ b) w
-ahead-twice a b w = ap (λ (v : List ℕ). record w { out = v }) (sym (append_assoc a b w.out))
+ahead-twice : (a b : List ℕ) (g k : List (Option ℕ)) (w : Walk) → ahead_of a g (ahead_of b k w) ≡ ahead_of (a ++ b) (g ++ k) w
+ahead-twice a b g k w =
+    ap (λ (v : List ℕ). record w { out = v; gaps = g ++ (k ++ w.gaps) }) (sym (append_assoc a b w.out))
+    ∙ ap (λ (v : List (Option ℕ)). record w { out = (a ++ b) ++ w.out; gaps = v }) (sym (append_assoc g k w.gaps))
 
 -- a line after which the session goes on, and one after which it doesn't
-walk-on : (gap : Option ℕ) (later : List (Option ℕ)) (b : Bounds) (line : List ℕ) (more : List (List ℕ)) (p : Point) (e : Effect) → effect gap b (command_of line) p ≡ e → e.goes_on ≡ true → walk (gap ∷ later) b (line ∷ more) p ≡ ahead_of e.text (walk later b more e.point)
-walk-on gap later b line more p e is on = rw (is, on) refl
+walk-on : (gap : Option ℕ) (later : List (Option ℕ)) (b : Bounds) (line : List ℕ) (more : List (List ℕ)) (p : Point) (e : Effect) → effect gap b (command_of line) p ≡ e → e.gap ≡ gap → e.goes_on ≡ true → walk (gap ∷ later) b (line ∷ more) p ≡ ahead_of e.text (gap ∷ []) (walk later b more e.point)
+walk-on gap later b line more p e is told on =
+    let here : walk (gap ∷ later) b (line ∷ more) p ≡ ahead_of e.text (e.gap ∷ []) (walk later b more e.point) = rw (is, on) refl in
+    here ∙ ap (λ (g : Option ℕ). ahead_of e.text (g ∷ []) (walk later b more e.point)) told
 
-walk-off : (gap : Option ℕ) (later : List (Option ℕ)) (b : Bounds) (line : List ℕ) (more : List (List ℕ)) (p : Point) (e : Effect) → effect gap b (command_of line) p ≡ e → e.goes_on ≡ false → walk (gap ∷ later) b (line ∷ more) p ≡ record { out = e.text; final = e.point; unread = more }
-walk-off gap later b line more p e is off = rw (is, off) refl
+walk-off : (gap : Option ℕ) (later : List (Option ℕ)) (b : Bounds) (line : List ℕ) (more : List (List ℕ)) (p : Point) (e : Effect) → effect gap b (command_of line) p ≡ e → e.gap ≡ gap → e.goes_on ≡ false → walk (gap ∷ later) b (line ∷ more) p ≡ record { out = e.text; gaps = gap ∷ []; final = e.point; unread = more }
+walk-off gap later b line more p e is told off =
+    let here : walk (gap ∷ later) b (line ∷ more) p ≡ record { out = e.text; gaps = e.gap ∷ []; final = e.point; unread = more } = rw (is, off) refl in
+    here ∙ ap (λ (g : Option ℕ). record { out = e.text; gaps = g ∷ []; final = e.point; unread = more }) told
 
 -- a line after which the session goes on isn't `quit`
 goes-on : (gap : Option ℕ) (b : Bounds) (line : List ℕ) (p : Point) (e : Effect) → effect gap b (command_of line) p ≡ e → e.goes_on ≡ true → GoesOn line
@@ -76,13 +82,14 @@ module _ {K : Type 0} (holds : K → List Kept → Type 0) (refusals room : K �
     pub each : length gaps ≡ length done
     pub counted : refusals now.moment.keeper ≡ refusals_after_all gaps (refusals old.moment.keeper)
     pub stands : StandsAt holds now point
-    pub walked : (later : List (Option ℕ)) (more : List (List ℕ)) → walk (gaps ++ later) (bounds_of room old) (done ++ more) (point_of old h) ≡ ahead_of printed (walk later (bounds_of room old) more point)
+    pub walked : (later : List (Option ℕ)) (more : List (List ℕ)) → walk (gaps ++ later) (bounds_of room old) (done ++ more) (point_of old h) ≡ ahead_of printed gaps (walk later (bounds_of room old) more point)
 
   -- one more of them
   record Turn (old now new : SessionValue K) (p : Point) (line : List ℕ) : Type 0 where
     pub gap : Option ℕ
     pub e : Effect
     pub is : effect gap (bounds_of room old) (command_of line) p ≡ e
+    pub told : e.gap ≡ gap
     pub counted : refusals new.moment.keeper ≡ refusals_with gap (refusals now.moment.keeper)
     pub stands : StandsAt holds new e.point
 
@@ -101,25 +108,25 @@ module _ {K : Type 0} (holds : K → List Kept → Type 0) (refusals room : K �
         ap (λ (g : List (Option ℕ)). walk g (bounds_of room old) ((b.done ++ line ∷ []) ++ more) (point_of old h)) (append_assoc b.gaps (t.gap ∷ []) later)
         ∙ ap (λ (ls : List (List ℕ)). walk (b.gaps ++ t.gap ∷ later) (bounds_of room old) ls (point_of old h)) (append_assoc b.done (line ∷ []) more)
         ∙ b.walked (t.gap ∷ later) (line ∷ more)
-        ∙ ap (ahead_of b.printed) (walk-on t.gap later (bounds_of room old) line more b.point t.e t.is on)
-        ∙ ahead-twice b.printed t.e.text _;
+        ∙ ap (ahead_of b.printed b.gaps) (walk-on t.gap later (bounds_of room old) line more b.point t.e t.is t.told on)
+        ∙ ahead-twice b.printed t.e.text b.gaps (t.gap ∷ []) _;
   }
 
   -- what the lines behind us come to
-  abbrev ended : List ℕ → Point → Walk
-  ended text p = record { out = text; final = p; unread = [] }
+  abbrev ended : List ℕ → List (Option ℕ) → Point → Walk
+  ended text gaps p = record { out = text; gaps = gaps; final = p; unread = [] }
 
   -- also with more gaps
-  done-walk : (old now : SessionValue K) (h : List Record) (script : List ℕ) (ahead : List (List ℕ)) (b : Behind old now h script ahead) (later : List (Option ℕ)) → walk (b.gaps ++ later) (bounds_of room old) b.done (point_of old h) ≡ ended b.printed b.point
+  done-walk : (old now : SessionValue K) (h : List Record) (script : List ℕ) (ahead : List (List ℕ)) (b : Behind old now h script ahead) (later : List (Option ℕ)) → walk (b.gaps ++ later) (bounds_of room old) b.done (point_of old h) ≡ ended b.printed b.gaps b.point
   done-walk old now h script ahead b later =
       ap (λ (ls : List (List ℕ)). walk (b.gaps ++ later) (bounds_of room old) ls (point_of old h)) (sym (append-nil b.done))
       ∙ b.walked later []
       ∙ nothing later
     where
-      nothing : (later : List (Option ℕ)) → ahead_of b.printed (walk later (bounds_of room old) [] b.point) ≡ ended b.printed b.point
-      nothing later = ap (λ (v : List ℕ). ended v b.point) (append-nil b.printed)
+      nothing : (later : List (Option ℕ)) → ahead_of b.printed b.gaps (walk later (bounds_of room old) [] b.point) ≡ ended b.printed b.gaps b.point
+      nothing later = ap (λ (v : List ℕ). ended v (b.gaps ++ []) b.point) (append-nil b.printed) ∙ ap (λ (g : List (Option ℕ)). ended b.printed g b.point) (append-nil b.gaps)
 
-  end-walk : (old now : SessionValue K) (h : List Record) (script : List ℕ) (ahead : List (List ℕ)) (b : Behind old now h script ahead) → walk b.gaps (bounds_of room old) b.done (point_of old h) ≡ ended b.printed b.point
+  end-walk : (old now : SessionValue K) (h : List Record) (script : List ℕ) (ahead : List (List ℕ)) (b : Behind old now h script ahead) → walk b.gaps (bounds_of room old) b.done (point_of old h) ≡ ended b.printed b.gaps b.point
   end-walk old now h script ahead b = ap (λ (g : List (Option ℕ)). walk g (bounds_of room old) b.done (point_of old h)) (sym (append-nil b.gaps)) ∙ done-walk old now h script ahead b []
 
   first-done : (old now : SessionValue K) (h : List Record) (script : List ℕ) (ahead : List (List ℕ)) (b : Behind old now h script ahead) → take (length b.done) (lines script) ≡ b.done
@@ -132,7 +139,8 @@ module _ {K : Type 0} (holds : K → List Kept → Type 0) (refusals room : K �
   Behind-end : (old now : SessionValue K) (h : List Record) (script told : List ℕ) (after left : Option (List ℕ)) (all : List (List ℕ)) (b : Behind old now h script all) → all ≡ [] → after ≡ Some (told ++ b.printed) → Leaves [] left → Prints holds refusals room old now h script told after left
   Behind-end old now h script told after left all b none held next = record {
     gaps = b.gaps;
-    whole = ended b.printed b.point;
+    whole = ended b.printed b.gaps b.point;
+    told_gaps = refl;
     walked = sym (ap (λ (ls : List (List ℕ)). walk b.gaps (bounds_of room old) ls (point_of old h)) (b.split ∙ ap (λ (ls : List (List ℕ)). b.done ++ ls) none ∙ append-nil b.done) ∙ end-walk old now h script all b);
     each = let n = ap length none in omega (arith, b.each, all-lines old now h script all b, n);
     counted = b.counted;
@@ -145,12 +153,13 @@ module _ {K : Type 0} (holds : K → List Kept → Type 0) (refusals room : K �
   Behind-quit : (old now new : SessionValue K) (h : List Record) (script told line : List ℕ) (after left : Option (List ℕ)) (all ahead : List (List ℕ)) (b : Behind old now h script all) → all ≡ line ∷ ahead → (t : Turn old now new b.point line) → t.e.goes_on ≡ false → after ≡ Some ((told ++ b.printed) ++ t.e.text) → Leaves ahead left → Prints holds refusals room old new h script told after left
   Behind-quit old now new h script told line after left all ahead b cut t off held next = record {
     gaps = b.gaps ++ t.gap ∷ [];
-    whole = record { out = b.printed ++ t.e.text; final = t.e.point; unread = ahead };
+    whole = record { out = b.printed ++ t.e.text; gaps = b.gaps ++ t.gap ∷ []; final = t.e.point; unread = ahead };
+    told_gaps = refl;
     walked = sym (
         ap (λ (ls : List (List ℕ)). walk (b.gaps ++ t.gap ∷ []) (bounds_of room old) ls (point_of old h)) b.split
         ∙ b.walked (t.gap ∷ []) all
-        ∙ ap (λ (ls : List (List ℕ)). ahead_of b.printed (walk (t.gap ∷ []) (bounds_of room old) ls b.point)) cut
-        ∙ ap (ahead_of b.printed) (walk-off t.gap [] (bounds_of room old) line ahead b.point t.e t.is off)
+        ∙ ap (λ (ls : List (List ℕ)). ahead_of b.printed b.gaps (walk (t.gap ∷ []) (bounds_of room old) ls b.point)) cut
+        ∙ ap (ahead_of b.printed b.gaps) (walk-off t.gap [] (bounds_of room old) line ahead b.point t.e t.is t.told off)
         );
     each = let c = ap length cut in omega (arith, b.each, all-lines old now h script all b, length-push b.gaps t.gap, c);
     counted = t.counted ∙ ap (refusals_with t.gap) b.counted ∙ sym (refusals-push b.gaps t.gap _);
@@ -168,6 +177,7 @@ module _ {K : Type 0} (holds : K → List Kept → Type 0) (refusals room : K �
         within = omega (arith, all-lines old now h script ahead b);
         on = subst (All GoesOn) (sym (first-done old now h script ahead b)) b.on;
         each = b.each;
+        told_gaps = ap (λ (w : Walk). w.gaps) first;
         counted = b.counted;
         stands = subst (λ (w : Walk). StandsAt holds now w.final) (sym first) b.stands;
         broken = record {
@@ -192,6 +202,7 @@ module _ {K : Type 0} (holds : K → List Kept → Type 0) (refusals room : K �
         within = omega (arith, all-lines old new h script ahead c);
         on = subst (All GoesOn) (sym (first-done old new h script ahead c)) c.on;
         each = c.each;
+        told_gaps = ap (λ (w : Walk). w.gaps) first;
         counted = c.counted;
         stands = subst (λ (w : Walk). StandsAt holds new w.final) (sym first) c.stands;
         broken = record {
@@ -204,7 +215,7 @@ module _ {K : Type 0} (holds : K → List Kept → Type 0) (refusals room : K �
         };
       }
     where
-      begins-as : (told printed front end : List ℕ) (w : Walk) (after : Option (List ℕ)) → after ≡ Some ((told ++ printed) ++ front) → t.e.text ≡ front ++ end → w ≡ ended printed b.point → AppendsBeginning (Some (told ++ w.out)) after t.e.text
+      begins-as : (told printed front end : List ℕ) (w : Walk) (after : Option (List ℕ)) → after ≡ Some ((told ++ printed) ++ front) → t.e.text ≡ front ++ end → w ≡ ended printed b.gaps b.point → AppendsBeginning (Some (told ++ w.out)) after t.e.text
       begins-as told printed front end w after held begins before = (front, end, begins, subst (λ (v : Option (List ℕ)). Appends (Some (told ++ w.out)) v front) (sym held) (ap (λ (v : Walk). (told ++ v.out) ++ front) (sym before)))
 
 module _ {K R W : Type 0} (holds : K → List Kept → Type 0) (refusals room : K → ℕ) (remaining : R → Option (List ℕ)) (contents : W → Option (List ℕ)) where
@@ -222,8 +233,7 @@ module _ {K R W : Type 0} (holds : K → List Kept → Type 0) (refusals room : 
   pub record Running (old now : SessionValue K) (reader0 reader : Tally R) (writer0 writer : Tally W) : Type 0 where
     pub read : reader.failures ≡ reader0.failures
     pub wrote : writer.failures ≡ writer0.failures
-    pub limit : now.limit ≡ old.limit
-    pub room_is : room now.moment.keeper ≡ room old.moment.keeper
+    pub bounds : bounds_of room now ≡ bounds_of room old
     pub here : (h : List Record) (script told : List ℕ) → HasPast holds old h → remaining reader0.inner ≡ Some script → contents writer0.inner ≡ Some told → Here old now reader writer h script told
 
   -- before the first line
@@ -231,8 +241,7 @@ module _ {K R W : Type 0} (holds : K → List Kept → Type 0) (refusals room : 
   Running-start old reader writer = record {
     read = refl;
     wrote = refl;
-    limit = refl;
-    room_is = refl;
+    bounds = refl;
     here = λ h script told past left held. record {
       taken = [];
       rest = script;
@@ -255,9 +264,6 @@ module _ {K R W : Type 0} (holds : K → List Kept → Type 0) (refusals room : 
     };
   }
 
-  same-bounds : (old now : SessionValue K) → now.limit ≡ old.limit → room now.moment.keeper ≡ room old.moment.keeper → bounds_of room now ≡ bounds_of room old
-  same-bounds old now l r = ap (λ (n : ℕ). record { limit = n; room = room now.moment.keeper }) l ∙ ap (λ (n : ℕ). record { limit = old.limit; room = n }) r
-
   module _ (old now new : SessionValue K) (reader0 reader reader' : Tally R) (writer0 writer writer' : Tally W) (buffer : Buffer) (i : Running old now reader0 reader writer0 writer) where
     -- what a line did, seen from the point in front of it
     record Deed {F : Type 0} (p : Point) (line : List ℕ) (result : Result Bool F) : Type 0 where
@@ -274,7 +280,8 @@ module _ {K R W : Type 0} (holds : K → List Kept → Type 0) (refusals room : 
           turn = record {
             gap = o.gap;
             e = e;
-            is = sym (ap (λ (b : Bounds). effect o.gap b (command_of line) (point_of now p.history)) (same-bounds old now i.limit i.room_is) ∙ ap (effect o.gap (bounds_of room old) (command_of line)) st.0);
+            is = sym (ap (λ (b : Bounds). effect o.gap b (command_of line) (point_of now p.history)) i.bounds ∙ ap (effect o.gap (bounds_of room old) (command_of line)) st.0);
+            told = o.told;
             counted = o.counted;
             stands = o.stands;
           };
@@ -356,12 +363,11 @@ module _ {K R W : Type 0} (holds : K → List Kept → Type 0) (refusals room : 
           written = wrote-on told x.behind.printed d.turn.e.text x.written d.writes.ok;
         }
 
-    pub Running-step : {E F : Type 0} (next : NextLine) → ReadsLine {E = E} remaining reader reader' buffer (Ok next) → is_missing next ≡ false → is_last next ≡ false → ((h : List Record) (text : List ℕ) → HasPast holds now h → Holds buffer text → ObeysLine {E = F} holds refusals room contents now new writer writer' h text (Ok true)) → writer'.failures ≡ writer.failures → new.limit ≡ now.limit → room new.moment.keeper ≡ room now.moment.keeper → Running old new reader0 reader' writer0 writer'
-    Running-step {E = E} next r some more obey wrote limit room_is = record {
+    pub Running-step : {E F : Type 0} (next : NextLine) → ReadsLine {E = E} remaining reader reader' buffer (Ok next) → is_missing next ≡ false → is_last next ≡ false → ((h : List Record) (text : List ℕ) → HasPast holds now h → Holds buffer text → ObeysLine {E = F} holds refusals room contents now new writer writer' h text (Ok true)) → writer'.failures ≡ writer.failures → bounds_of room new ≡ bounds_of room now → Running old new reader0 reader' writer0 writer'
+    Running-step {E = E} next r some more obey wrote bounds = record {
       read = r.same ∙ i.read;
       wrote = wrote ∙ i.wrote;
-      limit = limit ∙ i.limit;
-      room_is = room_is ∙ i.room_is;
+      bounds = bounds ∙ i.bounds;
       here = here-on (subst (λ (n : NextLine). ReadsLine {E = E} remaining reader reader' buffer (Ok n)) (step-of next some more) r) obey;
     }
 

@@ -12,11 +12,12 @@ use Rattle.bpf_machine.specs.Regions.{index_of}
 use Rattle.bpf_session.specs.Points.{Point}
 use Rattle.bpf_session.specs.Refused.{when, edit_refusals, refusals_of, has_cell}
 use Rattle.bpf_session.specs.Stops.{has}
-use Rattle.bpfdb_commands.specs.declared.command.Command.TheVariants.{Delete}
+use Rattle.bpfdb_commands.specs.declared.command.Command.TheVariants.{Remove}
+use Rattle.bpfdb_commands.specs.declared.command.Stop.TheVariants.{Breakpoint}
 use Rattle.bpf_session.specs.declared.reply.Reply.TheVariants.{Ok as ok}
 use Rattle.bpfdb_commands.specs.declared.refusal.Refusal.TheVariants.{ThereOrNot, NoCell}
 use Rattle.bpf_session.specs.EditRefusals.{refusal_for, answer_to}
-use Rattle.std.specs.Prelude.{Result, OnOk, IfErr, ◌&&◌, nat_lt, slice_get}
+use Rattle.std.specs.Prelude.{Result, OnOk, IfErr, IfOk, ◌&&◌, nat_lt, slice_get}
 use Rattle.bpf_machine.specs.State.{State}
 use Rattle.bpf_machine.specs.Edits.{edited}
 use Rattle.bpf_machine.specs.declared.moves.Move.TheVariants as move
@@ -25,10 +26,11 @@ use Rattle.bpf_journal.specs.declared.fault.TimelineFault.{TimelineFault}
 use Rattle.bpf_journal.specs.declared.fault.TimelineFault.TheVariants as timeline_fault
 use Rattle.bpf_journal.specs.Histories.{Record, Kept, StandsFor}
 use Rattle.bpf_journal.specs.Timelines.{Moment, Makes, Stays, Fails, refusals_by}
-use Rattle.bpf_session.specs.Outcomes.{refused, replied, unless_refused}
-use Rattle.bpf_session.specs.Sessions.{SessionValue, HasPast, StandsAt, Obeys, point_of}
-use Rattle.bpf_session.specs.Tables.{with_edit, edit, without_break}
-use Rattle.bpf_session.proofs.Answering.{obeys_as, obeys_whole}
+use Rattle.bpf_session.specs.Outcomes.{Outcome, replied, unless_refused}
+use Rattle.bpf_session.specs.Replies.{IsThere}
+use Rattle.bpf_session.specs.Sessions.{SessionValue, HasPast, StandsAt, Obeys, gap_of, point_of, refusals_with}
+use Rattle.bpf_session.specs.Tables.{with_edit, edit, without_stop}
+use Rattle.bpf_session.proofs.Answering.{Comes, comes_as, same-bounds}
 use Rattle.bpf_session.proofs.Forwards.{OnlyMoment}
 use Rattle.bpfdb_commands.specs.declared.refusal.Refusal.{Refusal}
 
@@ -105,22 +107,58 @@ module _ {K : Type 0} (holds : K → List Kept → Type 0) (refusals room : K �
     s.stands h past,
   )
 
+  -- the answer to a fault tells no gap
+  fault_told : (f : EditFault) → gap_of (Err (refusal_for f)) ≡ None
+  fault_told fault.AddressNotPresent = refl
+  fault_told fault.RegisterNotWritable = refl
+  fault_told fault.NoStart = refl
+  fault_told fault.NoCell = refl
+
+  abbrev pub EditMeaning : Option ℕ → Point → Outcome
+  EditMeaning gap p = unless_refused (edit_refusals e p) p (edit gap (room old.moment.keeper) e p)
+
   -- an edit that was tried
-  pub edit_obeys : (tried : Result (Unit {0}) TimelineFault) → OnlyMoment old new → OnOk tried (Makes holds (room old.moment.keeper) (move.Edit e) true old.moment new.moment) → IfErr tried (Fails holds (move.Edit e) old.moment new.moment) → refusals new.moment.keeper ≡ refusals_by tried (refusals old.moment.keeper) → (h : List Record) → HasPast holds old h → Obeys holds refusals old new (λ gap. unless_refused (edit_refusals e (point_of old h)) (point_of old h) (edit gap (room old.moment.keeper) e (point_of old h))) (answer_to tried)
-  edit_obeys (Ok u) only m f counted h past =
+  comes_to : (tried : Result (Unit {0}) TimelineFault) → OnlyMoment old new → OnOk tried (Makes holds (room old.moment.keeper) (move.Edit e) true old.moment new.moment) → IfErr tried (Fails holds (move.Edit e) old.moment new.moment) → (h : List Record) → HasPast holds old h → Comes holds new EditMeaning (answer_to tried) (point_of old h)
+  comes_to (Ok u) only m f h past =
       let none = edit_made (point_of old h) e m.leads.movable in
-      obeys_whole holds refusals old new _ _ _ (ap (λ (rs : List Refusal). unless_refused rs (point_of old h) (edit None (room old.moment.keeper) e (point_of old h))) none) refl (stands_made only m h past) counted
-  edit_obeys (Err timeline_fault.OutOfMemory) only m f counted h past =
+      comes_as holds new EditMeaning _ (point_of old h) None _ refl (ap (λ (rs : List Refusal). unless_refused rs (point_of old h) (edit None (room old.moment.keeper) e (point_of old h))) none) refl (stands_made only m h past)
+  comes_to (Err timeline_fault.OutOfMemory) only m f h past =
       let none = edit_made (point_of old h) e f.0 in
-      obeys_as holds refusals old new _ _ (Some 0) _ (ap (λ (rs : List Refusal). unless_refused rs (point_of old h) (edit (Some 0) (room old.moment.keeper) e (point_of old h))) none) refl (stands_same only f.1 h past) counted
-  edit_obeys (Err (timeline_fault.Move (move_fault.Edit fault))) only m f counted h past =
+      comes_as holds new EditMeaning _ (point_of old h) (Some 0) _ refl (ap (λ (rs : List Refusal). unless_refused rs (point_of old h) (edit (Some 0) (room old.moment.keeper) e (point_of old h))) none) refl (stands_same only f.1 h past)
+  comes_to (Err (timeline_fault.Move (move_fault.Edit fault))) only m f h past =
       let some = edit_refused (point_of old h) e fault f.0 in
       let same : Stays holds old.moment new.moment = record { state = ap (λ (t : Moment K). t.state) f.1; stands = λ g st. subst (λ (t : Moment K). StandsFor holds t.keeper t.state g) (sym f.1) st } in
-      obeys_whole holds refusals old new _ _ _ (ap (λ (rs : List Refusal). unless_refused rs (point_of old h) (edit None (room old.moment.keeper) e (point_of old h))) some) refl (stands_same only same h past) counted
-  edit_obeys (Err (timeline_fault.Move move_fault.Ended)) only m f counted h past = absurd f.0
+      comes_as holds new EditMeaning _ (point_of old h) None _ (fault_told fault) (ap (λ (rs : List Refusal). unless_refused rs (point_of old h) (edit None (room old.moment.keeper) e (point_of old h))) some) refl (stands_same only same h past)
+  comes_to (Err (timeline_fault.Move move_fault.Ended)) only m f h past = absurd f.0
 
-module _ {K : Type 0} (holds : K → List Kept → Type 0) (refusals : K → ℕ) (s : SessionValue K) where
+  counted_by : (tried : Result (Unit {0}) TimelineFault) → IfErr tried (Fails holds (move.Edit e) old.moment new.moment) → refusals new.moment.keeper ≡ refusals_by tried (refusals old.moment.keeper) → refusals new.moment.keeper ≡ refusals_with (gap_of (answer_to tried)) (refusals old.moment.keeper)
+  counted_by (Ok u) f counted = counted
+  counted_by (Err timeline_fault.OutOfMemory) f counted = counted
+  counted_by (Err (timeline_fault.Move (move_fault.Edit fault))) f counted = rw (fault_told fault) counted
+  counted_by (Err (timeline_fault.Move move_fault.Ended)) f counted = counted
+
+  there_by : (tried : Result (Unit {0}) TimelineFault) → IfOk (answer_to tried) (λ reply. IsThere reply new.moment.state)
+  there_by (Ok u) = tt
+  there_by (Err timeline_fault.OutOfMemory) = tt
+  there_by (Err (timeline_fault.Move (move_fault.Edit fault))) = tt
+  there_by (Err (timeline_fault.Move move_fault.Ended)) = tt
+
+  pub edit_obeys : (tried : Result (Unit {0}) TimelineFault) → OnlyMoment old new → OnOk tried (Makes holds (room old.moment.keeper) (move.Edit e) true old.moment new.moment) → IfErr tried (Fails holds (move.Edit e) old.moment new.moment) → refusals new.moment.keeper ≡ refusals_by tried (refusals old.moment.keeper) → room new.moment.keeper ≡ room old.moment.keeper → Obeys holds refusals room old new EditMeaning (answer_to tried)
+  edit_obeys tried only m f counted room_same = record {
+    answered = λ h past. (comes_to tried only m f h past).answered;
+    stands = λ h past. (comes_to tried only m f h past).stands;
+    counted = counted_by tried f counted;
+    bounds = same-bounds room old new only.limit room_same;
+    there = there_by tried;
+  }
+
+module _ {K : Type 0} (holds : K → List Kept → Type 0) (refusals room : K → ℕ) (s : SessionValue K) where
   -- no breakpoint is removed where none is
-  pub delete_refused : (slot : ℕ) → has s.breaks slot ≡ false → (h : List Record) → HasPast holds s h → Obeys holds refusals s s (λ _. unless_refused (refusals_of (Delete slot) (point_of s h)) (point_of s h) (replied ok (without_break slot (point_of s h)))) (Err ThereOrNot)
-  delete_refused slot none h past =
-      obeys_whole holds refusals s s _ _ (refused ThereOrNot (point_of s h)) (ap (λ (b : Bool). unless_refused (when (not b) ThereOrNot) (point_of s h) (replied ok (without_break slot (point_of s h)))) none) refl (refl, past) refl
+  pub remove_refused : (slot : ℕ) → has s.breaks slot ≡ false → Obeys holds refusals room s s (λ _ p. unless_refused (refusals_of (Remove (Breakpoint slot)) p) p (replied ok (without_stop (Breakpoint slot) p))) (Err ThereOrNot)
+  remove_refused slot none = record {
+    answered = λ h past. rw none refl;
+    stands = λ h past. rw none (refl, past);
+    counted = refl;
+    bounds = refl;
+    there = tt;
+  }

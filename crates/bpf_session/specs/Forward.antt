@@ -1,7 +1,7 @@
 -- A forward command takes the least number of steps, at least one, after which a stop holds.
-use Rattle.std.specs.Prelude.{◌+◌, ℕ, zero, suc, Bool, List, Option, Some, None, is_some, unwrap_or, if◌then◌else◌, ◌==◌, nat_lt}
+use Rattle.std.specs.Prelude.{◌+◌, ℕ, zero, suc, Bool, false, List, Option, Some, None, is_some, unwrap_or, if◌then◌else◌, ◌==◌, nat_le, nat_lt}
 use Rattle.bpf_machine.specs.Next.{next}
-use Rattle.bpf_machine.specs.State.{State}
+use Rattle.bpf_machine.specs.State.{State, depth}
 use Rattle.bpf_entries.specs.Status.{has_ended}
 use Rattle.bpf_machine.specs.declared.moves.Move.TheVariants.{Step}
 use Rattle.bpf_journal.specs.Histories.{Record, record_weight, keep}
@@ -12,6 +12,8 @@ use Rattle.bpf_session.specs.Stops.{breaks_at, watch_differs}
 use Rattle.bpfdb_replies.specs.declared.why.Why.{Why}
 use Rattle.bpfdb_replies.specs.declared.why.Why.TheVariants.{End, Break, Watch, Done, Limit, Memory}
 use Rattle.bpf_session.specs.declared.reply.Reply.TheVariants.{Forward}
+use Rattle.bpfdb_commands.specs.declared.command.Goal.{Goal}
+use Rattle.bpfdb_commands.specs.declared.command.Goal.TheVariants.{Steps, Next, Continue, Finish}
 use Rattle.bpfdb_commands.specs.declared.refusal.Refusal.TheVariants.{OutOfMemory}
 
 -- The state after so many steps.
@@ -28,24 +30,28 @@ kept room (suc k) p = keep record_weight room (kept room k p) (record_of (state_
 abbrev pub gone : ℕ → ℕ → Point → Point
 gone room k p = record p { history = kept room k p; state = state_after k p.state }
 
--- Whether a command has done what it was asked for, after so many steps, in the state that it then has.
-abbrev pub Goal : Type 0
-Goal = ℕ → State → Bool
+-- Whether a command that began at this depth has done what it was asked for, after k steps that led to x: `nexti` has come back to the
+-- depth or a smaller one, so that a called function runs as one step, and `finish` to a smaller one.
+abbrev pub is_done : Goal → ℕ → ℕ → State → Bool
+is_done (Steps count) start k x = k == count
+is_done Next start k x = nat_le (depth x) start
+is_done Continue start k x = false
+is_done Finish start k x = nat_lt (depth x) start
 
 -- Why a command that began at a point stops after its k-th step, which led from x to y: the first that holds.
 abbrev pub stop_in : ℕ → Goal → Point → ℕ → State → State → Option Why
-stop_in limit done p k x y =
+stop_in limit goal p k x y =
     if has_ended y.status then Some End
     else if breaks_at p y then Some Break
     else if watch_differs p x y then Some Watch
-    else if done k y then Some Done
+    else if is_done goal (depth p.state) k y then Some Done
     else if k == limit then Some Limit
     else None
 
 -- The same of the k-th step from the point on. (No command stops before its first step.)
 abbrev pub stop : ℕ → Goal → Point → ℕ → Option Why
-stop limit done p zero = None
-stop limit done p (suc k) = stop_in limit done p (suc k) (state_after k p.state) (state_after (suc k) p.state)
+stop limit goal p zero = None
+stop limit goal p (suc k) = stop_in limit goal p (suc k) (state_after k p.state) (state_after (suc k) p.state)
 
 -- The least number that passes a test, of the n numbers from k on; k + n where none does.
 abbrev pub least : (ℕ → Bool) → ℕ → ℕ → ℕ
@@ -54,10 +60,10 @@ least test k (suc n) = if test k then k else least test (k + 1) n
 
 -- How many steps are taken, and why no more.
 abbrev pub steps : ℕ → Goal → Point → ℕ
-steps limit done p = least (λ k. is_some (stop limit done p k)) 1 limit
+steps limit goal p = least (λ k. is_some (stop limit goal p k)) 1 limit
 
 abbrev pub reason : ℕ → Goal → Point → Why
-reason limit done p = unwrap_or (stop limit done p (steps limit done p)) Limit
+reason limit goal p = unwrap_or (stop limit goal p (steps limit goal p)) Limit
 
 -- k steps, and why no more.
 abbrev pub taken : ℕ → ℕ → Why → Point → Outcome
@@ -71,4 +77,4 @@ cut (Some m) room k why p =
 
 -- A forward command from a running state.
 abbrev pub forward : Option ℕ → Bounds → Goal → Point → Outcome
-forward gap b done p = cut gap b.room (steps b.limit done p) (reason b.limit done p) p
+forward gap b goal p = cut gap b.room (steps b.limit goal p) (reason b.limit goal p) p

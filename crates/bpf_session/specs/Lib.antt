@@ -14,8 +14,7 @@ pub mod Runs
 pub mod Laws
 pub mod SlotTables
 pub mod Watched
-pub mod Until
-pub mod Sought
+pub mod Searches
 pub mod EditRefusals
 pub mod Plain
 pub mod LineSteps

@@ -13,6 +13,10 @@ use Rattle.bpf_session.specs.Stops.{has}
 use Rattle.bpf_session.specs.Backward.{marks, kept_steps}
 use Rattle.bpfdb_commands.specs.declared.command.Command.{Command}
 use Rattle.bpfdb_commands.specs.declared.command.Command.TheVariants as command
+use Rattle.bpfdb_commands.specs.declared.command.Goal.TheVariants as goal
+use Rattle.bpfdb_commands.specs.declared.command.Stop.TheVariants as stop
+use Rattle.bpfdb_commands.specs.declared.command.Target.TheVariants as target
+use Rattle.bpfdb_commands.specs.declared.command.View.TheVariants as view
 use Rattle.bpfdb_commands.specs.declared.refusal.Refusal.{Refusal}
 use Rattle.bpfdb_commands.specs.declared.refusal.Refusal.TheVariants.{MachineEnded, NoKeptStep, FewerCommands, AddressNotPresent, RegisterNotWritable, NoStart, OutermostFrame, TableFull, ThereOrNot, NoCell}
 
@@ -42,32 +46,23 @@ edit_refusals (edit.Pc slot) p = when (not (starts p slot)) NoStart
 
 -- A command's.
 abbrev pub refusals_of : Command → Point → List Refusal
-refusals_of (command.Step count) p = when (has_ended p.state.status) MachineEnded
-refusals_of command.Next p = when (has_ended p.state.status) MachineEnded
-refusals_of command.Continue p = when (has_ended p.state.status) MachineEnded
-refusals_of command.Finish p = when (has_ended p.state.status) MachineEnded ++ when (depth p.state == 0) OutermostFrame
-refusals_of (command.Undo count) p = when (nat_lt (marks p) count) FewerCommands
-refusals_of (command.ReverseStep count) p = when (kept_steps p == 0) NoKeptStep
-refusals_of command.ReverseNext p = when (kept_steps p == 0) NoKeptStep
-refusals_of command.ReverseContinue p = when (kept_steps p == 0) NoKeptStep
-refusals_of command.ReverseFinish p = when (kept_steps p == 0) NoKeptStep ++ when (depth p.state == 0) OutermostFrame
+refusals_of (command.Forward goal.Finish) p = when (has_ended p.state.status) MachineEnded ++ when (depth p.state == 0) OutermostFrame
+refusals_of (command.Forward _) p = when (has_ended p.state.status) MachineEnded
+refusals_of (command.Back (target.Commands count)) p = when (nat_lt (marks p) count) FewerCommands
+refusals_of (command.Back target.Finish) p = when (kept_steps p == 0) NoKeptStep ++ when (depth p.state == 0) OutermostFrame
+refusals_of (command.Back _) p = when (kept_steps p == 0) NoKeptStep
 refusals_of (command.Edit e) p = edit_refusals e p
-refusals_of (command.Break slot) p =
+refusals_of (command.Add (stop.Breakpoint slot)) p =
     when (not (starts p slot)) NoStart
     ++ when (nat_le most_breaks (length p.breaks)) TableFull
     ++ when (has p.breaks slot) ThereOrNot
-refusals_of (command.Delete slot) p = when (not (has p.breaks slot)) ThereOrNot
-refusals_of (command.Watch address) p =
+refusals_of (command.Add (stop.Watch address)) p =
     when (not (present p address 1)) AddressNotPresent
     ++ when (nat_le most_watches (length p.watches)) TableFull
     ++ when (has p.watches address) ThereOrNot
-refusals_of (command.Unwatch address) p = when (not (has p.watches address)) ThereOrNot
-refusals_of (command.LastWrite address) p = when (not (present p address 1)) AddressNotPresent
-refusals_of (command.Examine address span) p = when (not (present p address span)) AddressNotPresent
-refusals_of (command.Disassemble slot span) p = when (not (starts p slot)) NoStart
-refusals_of command.InfoRegisters p = []
-refusals_of command.InfoFrames p = []
-refusals_of command.InfoBreaks p = []
-refusals_of command.InfoHistory p = []
-refusals_of command.InfoTrace p = []
-refusals_of command.Quit p = []
+refusals_of (command.Remove (stop.Breakpoint slot)) p = when (not (has p.breaks slot)) ThereOrNot
+refusals_of (command.Remove (stop.Watch address)) p = when (not (has p.watches address)) ThereOrNot
+refusals_of (command.Show (view.Bytes address span)) p = when (not (present p address span)) AddressNotPresent
+refusals_of (command.Show (view.Instructions slot span)) p = when (not (starts p slot)) NoStart
+refusals_of (command.Show (view.LastWrite address)) p = when (not (present p address 1)) AddressNotPresent
+refusals_of _ p = []

@@ -18,13 +18,14 @@ use Rattle.bpf_session.specs.declared.fault.RunFault.TheVariants.{Read, Write}
 abbrev pub Leaves : List (List ℕ) → Option (List ℕ) → Type 0
 Leaves ahead left = (rest : List ℕ) × (left ≡ Some rest) × (lines rest ≡ ahead)
 
--- A script was obeyed to its end or to `quit`, for some gaps: one for each line that was obeyed, and as many refusals as they make.
--- What it prints was written behind what the writer had been told before.
+-- A script was obeyed to its end or to `quit`, for the gaps that its answers tell: one for each line that was obeyed, and as many
+-- refusals as they make. What it prints was written behind what the writer had been told before.
 pub record Prints {K : Type 0} (holds : K → List Kept → Type 0) (refusals room : K → ℕ) (old new : SessionValue K) (h : List Record)
     (script told : List ℕ) (after left : Option (List ℕ)) : Type 0 where
   pub gaps : List (Option ℕ)
   pub whole : Walk
   pub walked : whole ≡ walk gaps (bounds_of room old) (lines script) (point_of old h)
+  pub told_gaps : whole.gaps ≡ gaps
   pub each : length gaps + length whole.unread ≡ length (lines script)
   pub counted : refusals new.moment.keeper ≡ refusals_after_all gaps (refusals old.moment.keeper)
   pub written : after ≡ Some (told ++ whole.out)
@@ -62,7 +63,8 @@ abbrev pub Interrupts : RunFault → (ℕ → Walk) → ℕ → List ℕ → Lis
 Interrupts Read = ReadsPart
 Interrupts Write = WritesPart
 
--- A read or a write failed: then the session stands after the first k lines, none of them `quit`, for some gaps, one for each of them.
+-- A read or a write failed: then the session stands after the first k lines, none of them `quit`, for the gaps that their answers tell,
+-- one for each of them.
 pub record BreaksOff {K : Type 0} (holds : K → List Kept → Type 0) (refusals room : K → ℕ) (old new : SessionValue K) (why : RunFault)
     (h : List Record) (script told : List ℕ) (after left : Option (List ℕ)) : Type 0 where
   pub gaps : List (Option ℕ)
@@ -70,6 +72,7 @@ pub record BreaksOff {K : Type 0} (holds : K → List Kept → Type 0) (refusals
   pub within : k ≤ length (lines script)
   pub on : All GoesOn (take k (lines script))
   pub each : length gaps ≡ k
+  pub told_gaps : (first_lines gaps (bounds_of room old) script (point_of old h) k).gaps ≡ gaps
   pub counted : refusals new.moment.keeper ≡ refusals_after_all gaps (refusals old.moment.keeper)
   pub stands : StandsAt holds new (first_lines gaps (bounds_of room old) script (point_of old h) k).final
   pub broken : Interrupts why (first_lines gaps (bounds_of room old) script (point_of old h)) k script told after left

@@ -1,12 +1,16 @@
 -- A session, as contracts see it.
-use Rattle.std.specs.Prelude.{◌≡◌, ℕ, List, [], ◌∷◌, Option, Some, None, Result}
+use Rattle.std.specs.Prelude.{◌≡◌, ℕ, List, [], ◌∷◌, Option, Some, None, Result, Ok, Err, IfOk}
 use Rattle.bpf_journal.specs.Counts.{once_more}
 use Rattle.bpf_journal.specs.Histories.{Record, Kept, StandsFor}
 use Rattle.bpf_journal.specs.Timelines.{Moment}
 use Rattle.bpf_session.specs.Points.{Point, Bounds}
 use Rattle.bpf_session.specs.Outcomes.{Outcome}
+use Rattle.bpf_session.specs.Replies.{IsThere}
 use Rattle.bpf_session.specs.declared.reply.Reply.{Reply}
+use Rattle.bpf_session.specs.declared.reply.Reply.TheVariants.{Forward}
 use Rattle.bpfdb_commands.specs.declared.refusal.Refusal.{Refusal}
+use Rattle.bpfdb_commands.specs.declared.refusal.Refusal.TheVariants.{OutOfMemory}
+use Rattle.bpfdb_replies.specs.declared.why.Why.TheVariants.{Memory}
 
 -- The present state with the keeper of the moves that led to it, the breakpoints and the watches in order of setting, and the limit of
 -- steps of a command.
@@ -42,11 +46,19 @@ abbrev pub refusals_after_all : List (Option ℕ) → ℕ → ℕ
 refusals_after_all [] n = n
 refusals_after_all (gap ∷ gaps) n = refusals_after_all gaps (refusals_with gap n)
 
--- A command was answered as its meaning says, for some gap: how many of its moves were kept before a refused one, None where the
--- keeper refused none. There is one more refusal where there is a gap, and else as many as before.
-pub record Obeys {K : Type 0} (holds : K → List Kept → Type 0) (refusals : K → ℕ) (old new : SessionValue K)
-    (meaning : Option ℕ → Outcome) (answer : Result Reply Refusal) : Type 0 where
-  pub gap : Option ℕ
-  pub counted : refusals new.moment.keeper ≡ refusals_with gap (refusals old.moment.keeper)
-  pub answered : answer ≡ (meaning gap).answer
-  pub stands : StandsAt holds new (meaning gap).point
+-- How many moves of a command were kept before the one that the keeper refused, as its answer tells; None where none was refused.
+abbrev pub gap_of : Result Reply Refusal → Option ℕ
+gap_of (Err OutOfMemory) = Some 0
+gap_of (Ok (Forward k Memory)) = Some k
+gap_of _ = None
+
+-- The session obeyed a command: what it answers, and where it then stands for each history that it stood for, is the command's meaning
+-- with the gap that the answer tells. The keeper counts one more refusal where there is a gap. What the session was opened with stays,
+-- and what the reply names is there.
+pub record Obeys {K : Type 0} (holds : K → List Kept → Type 0) (refusals room : K → ℕ) (old new : SessionValue K)
+    (meaning : Option ℕ → Point → Outcome) (answer : Result Reply Refusal) : Type 0 where
+  pub answered : (h : List Record) → HasPast holds old h → answer ≡ (meaning (gap_of answer) (point_of old h)).answer
+  pub stands : (h : List Record) → HasPast holds old h → StandsAt holds new (meaning (gap_of answer) (point_of old h)).point
+  pub counted : refusals new.moment.keeper ≡ refusals_with (gap_of answer) (refusals old.moment.keeper)
+  pub bounds : bounds_of room new ≡ bounds_of room old
+  pub there : IfOk answer (λ reply. IsThere reply new.moment.state)

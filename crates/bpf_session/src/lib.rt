@@ -8,10 +8,11 @@ mod plain;
 mod reply;
 mod script;
 mod session;
-mod sought;
-mod until;
 mod watches;
 
+pub use bpfdb_commands::{Command, Count, Goal, Refusal, Span, Stop, Target, View, parse_command};
+pub use bpfdb_replies::{Why, write_place};
+pub use counted_io::Counted;
 pub use fault::RunFault;
 pub use plain::{Ending, run_plain};
 pub use reply::Reply;

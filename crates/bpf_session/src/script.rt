@@ -2,6 +2,7 @@
 ghost use Rattle.std.specs.Prelude.{◌≡◌, List, ℕ, IfErr, IfOk, OnOk, Some, true};
 ghost use Rattle.counted_io.specs.Writing.{Writes};
 ghost use Rattle.bpf_journal.specs.Histories.{Record};
+ghost use Rattle.bpfdb_commands.specs.Commands.{command_of};
 ghost use Rattle.bpfdb_commands.specs.ReadLines.{Holds};
 ghost use Rattle.bpf_session.specs.LineSteps.{FailsOnce, ObeysLine};
 ghost use Rattle.bpf_session.specs.Output.{is_quit};
@@ -13,7 +14,7 @@ use crate::fault::RunFault;
 use crate::reply::Reply;
 use crate::session::Session;
 use bpf_journal::Keeper;
-use bpfdb_commands::{Command, LineBuffer, Refusal, next_line};
+use bpfdb_commands::{Command, LineBuffer, Refusal, next_line, parse_command};
 use bpfdb_replies::put_refusal;
 use counted_io::{Counted, WriteFault};
 use std::io::{Read, Write};
@@ -25,6 +26,16 @@ fn is_quit(command: &Command) -> bool
     match command {
         Command::Quit => true,
         _ => false,
+    }
+}
+
+/// What a line says: its command, None where it has no tokens, or why it is refused.
+fn said_by(line: &LineBuffer) -> Result<Option<Command>, Refusal>
+    ensures { (text : List ℕ) → Holds line.now text → result ≡ command_of text }
+{
+    match line.bytes() {
+        Some(bytes) => parse_command(bytes),
+        None => Err(Refusal::LineTooLong),
     }
 }
 
@@ -74,11 +85,10 @@ fn obey<K: Keeper, W: Write>(
     ensures value { (h : List Record) (text : List ℕ) → HasPast K.holds session.old h → Holds line.now text →
         ObeysLine K.holds K.refused K.room W.contents session.old session.new writer.old writer.new h text result }
     ensures fault { FailsOnce result writer.old writer.new }
-    ensures limit { session.new.limit ≡ session.old.limit }
-    ensures room { K.room session.new.moment.keeper ≡ K.room session.old.moment.keeper }
+    ensures bounds { bounds_of K.room session.new ≡ bounds_of K.room session.old }
 {
     session.invariant();
-    let answer = match line.command() {
+    let answer = match said_by(line) {
         Ok(None) => return Ok(true),
         Ok(Some(command)) => {
             if is_quit(&command) {
@@ -109,8 +119,7 @@ pub fn run<K: Keeper, R: Read, W: Write>(
         BreaksOff K.holds K.refused K.room session.old session.new why h script told (W.contents writer.new.inner) (R.remaining reader.new.inner)) }
     ensures ok { OnOk result ((reader.new.failures ≡ reader.old.failures) × (writer.new.failures ≡ writer.old.failures)) }
     ensures err { IfErr result (λ why. FailsBy why reader.old reader.new writer.old writer.new) }
-    ensures limit { session.new.limit ≡ session.old.limit }
-    ensures room { K.room session.new.moment.keeper ≡ K.room session.old.moment.keeper }
+    ensures bounds { bounds_of K.room session.new ≡ bounds_of K.room session.old }
 {
     let mut line = LineBuffer::new();
     'lines: loop {

@@ -1,21 +1,19 @@
 //! Sessions: commands over a machine and the keeper of its moves.
-ghost use Rattle.std.specs.Prelude.{◌≡◌, ◌≤◌, [], List, IfOk};
-ghost use Rattle.bpf_journal.specs.Histories.{HasHistory, Record};
+ghost use Rattle.std.specs.Prelude.{◌≡◌, ◌≤◌, []};
+ghost use Rattle.bpf_journal.specs.Histories.{HasHistory};
 ghost use Rattle.bpfdb_commands.specs.Limits.{greatest_count};
 ghost use Rattle.bpf_session.specs.Meaning.{does};
-ghost use Rattle.bpf_session.specs.Replies.{IsThere};
-ghost use Rattle.bpf_session.specs.Sessions.{HasPast, Obeys, bounds_of, point_of};
+ghost use Rattle.bpf_session.specs.Sessions.{Obeys, bounds_of};
 
 mod backward;
-mod changes;
+mod edits;
 mod forward;
 mod replies;
-mod table;
-mod watching;
+mod shows;
+mod stops;
 
 use crate::breakpoints::Breakpoints;
 use crate::reply::Reply;
-use crate::until::Until;
 use crate::watches::Watches;
 use bpf_journal::{Keeper, Timeline};
 use bpf_machine::Cpu;
@@ -97,35 +95,15 @@ impl<K: Keeper> Session<K> {
     /// Obeys a command, or refuses it, and then nothing changes. `quit` changes nothing.
     #[tactic(auto, unfolding(crate::specs::Meaning::accepted))]
     pub fn apply(&mut self, command: &Command) -> Result<Reply, Refusal>
-        ensures value { (h : List Record) → HasPast K.holds self.old h →
-            Obeys K.holds K.refused self.old self.new (λ gap. does gap (bounds_of K.room self.old) command.now (point_of self.old h)) result }
-        ensures limit { self.new.limit ≡ self.old.limit }
-        ensures room { K.room self.new.moment.keeper ≡ K.room self.old.moment.keeper }
-        ensures there { IfOk result (λ reply. IsThere reply self.new.moment.state) }
+        ensures { Obeys K.holds K.refused K.room self.old self.new (λ gap. does gap (bounds_of K.room self.old) command.now) result }
     {
         match command {
-            Command::Step(count) => self.go_forward(Until::Steps(*count)),
-            Command::Next => self.next(),
-            Command::Continue => self.go_forward(Until::Never),
-            Command::Finish => self.finish(),
-            Command::Undo(count) => self.undo(*count),
-            Command::ReverseStep(count) => self.reverse_step(*count),
-            Command::ReverseNext => self.reverse_next(),
-            Command::ReverseContinue => self.reverse_continue(),
-            Command::ReverseFinish => self.reverse_finish(),
+            Command::Forward(goal) => self.forward(*goal),
+            Command::Back(target) => self.back(*target),
             Command::Edit(edit) => self.edit(edit),
-            Command::Break(slot) => self.set_break(*slot),
-            Command::Delete(slot) => self.delete_break(*slot),
-            Command::Watch(address) => self.set_watch(*address),
-            Command::Unwatch(address) => self.remove_watch(*address),
-            Command::InfoRegisters => Ok(Reply::Registers),
-            Command::InfoFrames => Ok(Reply::Frames),
-            Command::InfoBreaks => Ok(Reply::Breaks),
-            Command::InfoHistory => Ok(Reply::History),
-            Command::InfoTrace => Ok(Reply::Trace),
-            Command::Examine { address, span } => self.examine(*address, *span),
-            Command::Disassemble { slot, span } => self.disassemble(*slot, *span),
-            Command::LastWrite(address) => self.last_write(*address),
+            Command::Add(stop) => self.add(*stop),
+            Command::Remove(stop) => self.remove(*stop),
+            Command::Show(view) => self.show(*view),
             Command::Quit => Ok(Reply::Nothing),
         }
     }

@@ -1,4 +1,4 @@
--- Bytes that a word writes in hexadecimal.
+-- Bytes that a token writes in hexadecimal.
 use Rattle.std.proofs.Common.{◌≡◌, ℕ, ◌<◌, ◌/◌, List, length, None, Result, Ok, Err, refl, arith}
 use Rattle.std.specs.Option.{option_and_then}
 use Rattle.std.specs.Result.{result_ok}

@@ -8,93 +8,97 @@ use Rattle.hex.specs.Hex.{decode_of}
 use Rattle.bpf_isa.specs.Registers.{register_named}
 use Rattle.bpf_machine.specs.declared.edit.Edit.TheVariants as edit
 use Rattle.bpfdb_commands.specs.Limits.{greatest_count, greatest_span, longest_bytes, longest_line}
-use Rattle.bpfdb_commands.specs.Lines.{words, number}
+use Rattle.bpfdb_commands.specs.Lines.{tokens, number}
 use Rattle.bpfdb_commands.specs.declared.command.Command.{Command}
 use Rattle.bpfdb_commands.specs.declared.command.Command.TheVariants as command
+use Rattle.bpfdb_commands.specs.declared.command.Goal.TheVariants as goal
+use Rattle.bpfdb_commands.specs.declared.command.Stop.TheVariants as stop
+use Rattle.bpfdb_commands.specs.declared.command.Target.TheVariants as target
+use Rattle.bpfdb_commands.specs.declared.command.View.TheVariants as view
 use Rattle.bpfdb_commands.specs.declared.refusal.Refusal.{Refusal}
 use Rattle.bpfdb_commands.specs.declared.refusal.Refusal.TheVariants.{UnknownCommand, WrongArgument, LineTooLong}
 
--- what the words after a name make of a command, None where one is wrong, missing or too many
+-- What the tokens after a name make of a command, None where one is wrong, missing or too many.
 abbrev pub Arguments : Type 0
 Arguments = List (List ℕ) → Option Command
 
--- no word
+-- No token.
 abbrev pub bare : Command → Arguments
 bare command [] = Some command
-bare command (word ∷ more) = None
+bare command (token ∷ more) = None
 
--- a number from 1 to the greatest
+-- A number from 1 to the greatest.
 abbrev pub number_within : ℕ → List ℕ → Option ℕ
-number_within most word =
-    option_and_then (λ n. if nat_le 1 n && nat_le n most then Some n else None) (number word)
+number_within most token =
+    option_and_then (λ n. if nat_le 1 n && nat_le n most then Some n else None) (number token)
 
--- a count, which is 1 where it is left out
+-- A count, which is 1 where it is left out.
 abbrev pub optional_count : List (List ℕ) → Option ℕ
 optional_count [] = Some 1
-optional_count (word ∷ []) = number_within greatest_count word
-optional_count (word ∷ next ∷ more) = None
+optional_count (token ∷ []) = number_within greatest_count token
+optional_count (token ∷ next ∷ more) = None
 
--- so many times the command
+-- So many times the command.
 abbrev pub counted : (ℕ → Command) → Arguments
 counted command more = option_map command (optional_count more)
 
--- one number
+-- One number.
 abbrev pub one_number : List (List ℕ) → Option ℕ
-one_number (word ∷ []) = number word
+one_number (token ∷ []) = number token
 one_number _ = None
 
 abbrev pub numbered : (ℕ → Command) → Arguments
 numbered command more = option_map command (one_number more)
 
--- a number, and how much is shown from there on
+-- A number, and how much is shown from there on.
 abbrev pub number_and_span : List (List ℕ) → Option (ℕ × ℕ)
-number_and_span (word ∷ span ∷ []) =
-    option_and_then (λ n. option_map (λ most. (n, most)) (number_within greatest_span span)) (number word)
+number_and_span (token ∷ span ∷ []) =
+    option_and_then (λ n. option_map (λ most. (n, most)) (number_within greatest_span span)) (number token)
 number_and_span _ = None
 
 abbrev pub spanned : (ℕ → ℕ → Command) → Arguments
 spanned command more = option_map (λ p. command p.0 p.1) (number_and_span more)
 
--- bytes as hexadecimal digits of either case, two a byte: 1 to 256 bytes
+-- Bytes as hexadecimal digits of either case, two a byte: 1 to 256 bytes.
 abbrev pub byte_string : List ℕ → Option (List ℕ)
 byte_string bytes = if nat_le 1 (length bytes) && nat_le (length bytes) longest_bytes then Some bytes else None
 
 abbrev pub bytes_of : List ℕ → Option (List ℕ)
-bytes_of word = option_and_then byte_string (result_ok (decode_of word))
+bytes_of token = option_and_then byte_string (result_ok (decode_of token))
 
--- `set reg`: a register and a number
+-- `set reg`: a register and a number.
 abbrev pub set_register : Arguments
-set_register (word ∷ value ∷ []) =
-    option_and_then (λ r. option_map (λ n. command.Edit (edit.Register r n)) (number value)) (register_named word)
+set_register (token ∷ value ∷ []) =
+    option_and_then (λ r. option_map (λ n. command.Edit (edit.Register r n)) (number value)) (register_named token)
 set_register _ = None
 
--- `set mem`: an address and bytes
+-- `set mem`: an address and bytes.
 abbrev pub set_bytes : Arguments
-set_bytes (word ∷ digits ∷ []) =
-    option_and_then (λ address. option_map (λ bytes. command.Edit (edit.Bytes address bytes)) (bytes_of digits)) (number word)
+set_bytes (token ∷ digits ∷ []) =
+    option_and_then (λ address. option_map (λ bytes. command.Edit (edit.Bytes address bytes)) (bytes_of digits)) (number token)
 set_bytes _ = None
 
--- `set cell`: a map, an index and bytes
+-- `set cell`: a map, an index and bytes.
 abbrev pub set_cell : Arguments
-set_cell (word ∷ place ∷ digits ∷ []) =
-    option_and_then (λ map. option_and_then (λ index. option_map (λ bytes. command.Edit (edit.Cell map index bytes)) (bytes_of digits)) (number place)) (number word)
+set_cell (token ∷ place ∷ digits ∷ []) =
+    option_and_then (λ map. option_and_then (λ index. option_map (λ bytes. command.Edit (edit.Cell map index bytes)) (bytes_of digits)) (number place)) (number token)
 set_cell _ = None
 
--- names, each with the words that may follow it
+-- Names, each with the tokens that may follow it.
 abbrev pub Table : Type 0
 Table = List (List ℕ × Arguments)
 
--- what may follow a name, None where the table doesn't have it
+-- What may follow a name, None where the table doesn't have it.
 abbrev pub arguments_of : Table → List ℕ → Option Arguments
 arguments_of [] name = None
 arguments_of (row ∷ rows) name = if bytes_eq name row.0 then Some row.1 else arguments_of rows name
 
--- a name of the table and the words that may follow it
+-- A name of the table and the tokens that may follow it.
 unfoldable pub one_of : Table → Arguments
 one_of table [] = None
 one_of table (name ∷ more) = option_and_then (λ arguments. arguments more) (arguments_of table name)
 
--- what `set` changes
+-- What `set` changes.
 abbrev pub settings : Table
 settings =
     (codes "reg", set_register)
@@ -103,51 +107,51 @@ settings =
     ∷ (codes "pc", numbered (λ slot. command.Edit (edit.Pc slot)))
     ∷ []
 
--- what `info` shows
+-- What `info` shows.
 abbrev pub infos : Table
 infos =
-    (codes "regs", bare command.InfoRegisters)
-    ∷ (codes "frames", bare command.InfoFrames)
-    ∷ (codes "breaks", bare command.InfoBreaks)
-    ∷ (codes "history", bare command.InfoHistory)
-    ∷ (codes "trace", bare command.InfoTrace)
+    (codes "regs", bare (command.Show view.Registers))
+    ∷ (codes "frames", bare (command.Show view.Frames))
+    ∷ (codes "breaks", bare (command.Show view.Breaks))
+    ∷ (codes "history", bare (command.Show view.History))
+    ∷ (codes "trace", bare (command.Show view.Trace))
     ∷ []
 
--- the commands by their first words
+-- The commands by their first tokens.
 abbrev pub commands : Table
 commands =
-    (codes "stepi", counted command.Step)
-    ∷ (codes "nexti", bare command.Next)
-    ∷ (codes "continue", bare command.Continue)
-    ∷ (codes "finish", bare command.Finish)
-    ∷ (codes "undo", counted command.Undo)
-    ∷ (codes "reverse-stepi", counted command.ReverseStep)
-    ∷ (codes "reverse-nexti", bare command.ReverseNext)
-    ∷ (codes "reverse-continue", bare command.ReverseContinue)
-    ∷ (codes "rc", bare command.ReverseContinue)
-    ∷ (codes "reverse-finish", bare command.ReverseFinish)
+    (codes "stepi", counted (λ count. command.Forward (goal.Steps count)))
+    ∷ (codes "nexti", bare (command.Forward goal.Next))
+    ∷ (codes "continue", bare (command.Forward goal.Continue))
+    ∷ (codes "finish", bare (command.Forward goal.Finish))
+    ∷ (codes "undo", counted (λ count. command.Back (target.Commands count)))
+    ∷ (codes "reverse-stepi", counted (λ count. command.Back (target.Steps count)))
+    ∷ (codes "reverse-nexti", bare (command.Back target.Next))
+    ∷ (codes "reverse-continue", bare (command.Back target.Continue))
+    ∷ (codes "rc", bare (command.Back target.Continue))
+    ∷ (codes "reverse-finish", bare (command.Back target.Finish))
     ∷ (codes "set", one_of settings)
-    ∷ (codes "break", numbered command.Break)
-    ∷ (codes "delete", numbered command.Delete)
-    ∷ (codes "watch", numbered command.Watch)
-    ∷ (codes "unwatch", numbered command.Unwatch)
+    ∷ (codes "break", numbered (λ slot. command.Add (stop.Breakpoint slot)))
+    ∷ (codes "delete", numbered (λ slot. command.Remove (stop.Breakpoint slot)))
+    ∷ (codes "watch", numbered (λ address. command.Add (stop.Watch address)))
+    ∷ (codes "unwatch", numbered (λ address. command.Remove (stop.Watch address)))
     ∷ (codes "info", one_of infos)
-    ∷ (codes "x", spanned command.Examine)
-    ∷ (codes "disas", spanned command.Disassemble)
-    ∷ (codes "last-write", numbered command.LastWrite)
+    ∷ (codes "x", spanned (λ address span. command.Show (view.Bytes address span)))
+    ∷ (codes "disas", spanned (λ slot span. command.Show (view.Instructions slot span)))
+    ∷ (codes "last-write", numbered (λ address. command.Show (view.LastWrite address)))
     ∷ (codes "quit", bare command.Quit)
     ∷ []
 
--- an unknown name, or its words right or wrong
+-- An unknown name, or its tokens right or wrong.
 abbrev pub outcome : Option Arguments → List (List ℕ) → Result Command Refusal
 outcome None more = Err UnknownCommand
 outcome (Some arguments) more = ok_or (arguments more) WrongArgument
 
--- what a name and the words after it say
+-- What a name and the tokens after it say.
 unfoldable pub command_named : List ℕ → List (List ℕ) → Result Command Refusal
 command_named name more = outcome (arguments_of commands name) more
 
--- what a line says: nothing, a command or a refusal
+-- What a line says: nothing, a command or a refusal.
 abbrev pub Answer : Type 0
 Answer = Result (Option Command) Refusal
 
@@ -155,11 +159,11 @@ abbrev pub as_answer : Result Command Refusal → Answer
 as_answer (Ok command) = Ok (Some command)
 as_answer (Err refusal) = Err refusal
 
--- no words say nothing; else the first is the command's name
-abbrev pub command_of_words : List (List ℕ) → Answer
-command_of_words [] = Ok None
-command_of_words (name ∷ more) = as_answer (command_named name more)
+-- No tokens say nothing; else the first is the command's name.
+abbrev pub command_of_tokens : List (List ℕ) → Answer
+command_of_tokens [] = Ok None
+command_of_tokens (name ∷ more) = as_answer (command_named name more)
 
--- a line that is too long is refused, whatever its words
+-- A line that is too long is refused, whatever its tokens.
 unfoldable pub command_of : List ℕ → Answer
-command_of line = if nat_lt longest_line (length line) then Err LineTooLong else command_of_words (words line)
+command_of line = if nat_lt longest_line (length line) then Err LineTooLong else command_of_tokens (tokens line)

@@ -7,9 +7,9 @@ mod line;
 mod number;
 mod parser;
 mod refusal;
-mod words;
+mod tokens;
 
-pub use command::Command;
+pub use command::{Command, Goal, Stop, Target, View};
 pub use count::{Count, GREATEST_SPAN, Span};
 pub use line::{LineBuffer, NextLine, next_line};
 pub use parser::{LONGEST_LINE, parse_command};

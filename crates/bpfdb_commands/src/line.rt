@@ -1,11 +1,9 @@
 //! Lines of a script, read a byte at a time into a buffer of fixed size.
-ghost use Rattle.std.specs.Prelude.{◌≡◌, ◌++◌, ◌∷◌, [], ◌↔◌, IsTrue, List, ℕ};
-ghost use Rattle.bpfdb_commands.specs.Commands.{command_of};
+ghost use Rattle.std.specs.Prelude.{◌≡◌, ◌<◌, ◌++◌, ◌∷◌, [], ◌↔◌, IsTrue, List, MatchOption, length, ℕ};
+ghost use Rattle.bpfdb_commands.specs.Limits.{longest_line};
 ghost use Rattle.bpfdb_commands.specs.ReadLines.{Holds, ReadsLine, is_last, is_missing};
 
-use crate::command::Command;
-use crate::parser::{LONGEST_LINE, parse_command};
-use crate::refusal::Refusal;
+use crate::parser::LONGEST_LINE;
 use arrayvec::ArrayVec;
 use counted_io::{Counted, ReadFault, read_byte};
 use std::io::Read;
@@ -61,14 +59,14 @@ impl LineBuffer {
         }
     }
 
-    /// The command on it, as `parse_command` reads it: Q12 where the line is too long.
-    pub fn command(&self) -> Result<Option<Command>, Refusal>
-        ensures { (line : List ℕ) → Holds self.now line → result ≡ command_of line }
+    /// Its bytes, None where there are more than can be read.
+    pub fn bytes(&self) -> Option<&[u8]>
+        ensures { (line : List ℕ) → Holds self.now line → MatchOption result (longest_line < length line) (λ bytes. bytes.now ≡ line) }
     {
         if self.is_long {
-            return Err(Refusal::LineTooLong);
+            return None;
         }
-        parse_command(&self.bytes)
+        Some(self.bytes.as_slice())
     }
 }
 

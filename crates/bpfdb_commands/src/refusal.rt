@@ -7,7 +7,7 @@ ghost use Rattle.bpfdb_commands.specs.Refusals.{number_of, text_of};
 pub enum Refusal {
     /// Q1: no command has this name.
     UnknownCommand,
-    /// Q2: a word after the command's name is wrong, missing or too many.
+    /// Q2: a token after the command's name is wrong, missing or too many.
     WrongArgument,
     /// Q3: no step can be taken, since the machine has ended.
     MachineEnded,

@@ -1,6 +1,6 @@
 //! Lines and what they say, by the user's manual.
 use bpf_machine::Edit;
-use bpfdb_commands::{Command, Count, Refusal, Span, parse_command};
+use bpfdb_commands::{Command, Count, Goal, Refusal, Span, Stop, Target, View, parse_command};
 use std::process::Abort;
 
 // What a line says: its command, `nothing` or `refused`, and two numbers, of which those that it doesn't need are 0. Bytes are told by
@@ -213,29 +213,47 @@ fn said(line: &[u8]) -> Said<'static> {
 
 fn said_by(command: &Command) -> Said<'static> {
     match command {
-        Command::Step(count) => ("stepi", count.get(), 0),
-        Command::Next => ("nexti", 0, 0),
-        Command::Continue => ("continue", 0, 0),
-        Command::Finish => ("finish", 0, 0),
-        Command::Undo(count) => ("undo", count.get(), 0),
-        Command::ReverseStep(count) => ("reverse-stepi", count.get(), 0),
-        Command::ReverseNext => ("reverse-nexti", 0, 0),
-        Command::ReverseContinue => ("reverse-continue", 0, 0),
-        Command::ReverseFinish => ("reverse-finish", 0, 0),
+        Command::Forward(goal) => said_by_goal(*goal),
+        Command::Back(target) => said_by_target(*target),
         Command::Edit(edit) => said_by_edit(edit),
-        Command::Break(slot) => ("break", *slot, 0),
-        Command::Delete(slot) => ("delete", *slot, 0),
-        Command::Watch(address) => ("watch", *address, 0),
-        Command::Unwatch(address) => ("unwatch", *address, 0),
-        Command::InfoRegisters => ("info regs", 0, 0),
-        Command::InfoFrames => ("info frames", 0, 0),
-        Command::InfoBreaks => ("info breaks", 0, 0),
-        Command::InfoHistory => ("info history", 0, 0),
-        Command::InfoTrace => ("info trace", 0, 0),
-        Command::Examine { address, span } => ("x", *address, span.get()),
-        Command::Disassemble { slot, span } => ("disas", *slot, span.get()),
-        Command::LastWrite(address) => ("last-write", *address, 0),
+        Command::Add(Stop::Breakpoint(slot)) => ("break", *slot, 0),
+        Command::Add(Stop::Watch(address)) => ("watch", *address, 0),
+        Command::Remove(Stop::Breakpoint(slot)) => ("delete", *slot, 0),
+        Command::Remove(Stop::Watch(address)) => ("unwatch", *address, 0),
+        Command::Show(view) => said_by_view(*view),
         Command::Quit => ("quit", 0, 0),
+    }
+}
+
+fn said_by_goal(goal: Goal) -> Said<'static> {
+    match goal {
+        Goal::Steps(count) => ("stepi", count.get(), 0),
+        Goal::Next => ("nexti", 0, 0),
+        Goal::Continue => ("continue", 0, 0),
+        Goal::Finish => ("finish", 0, 0),
+    }
+}
+
+fn said_by_target(target: Target) -> Said<'static> {
+    match target {
+        Target::Commands(count) => ("undo", count.get(), 0),
+        Target::Steps(count) => ("reverse-stepi", count.get(), 0),
+        Target::Next => ("reverse-nexti", 0, 0),
+        Target::Continue => ("reverse-continue", 0, 0),
+        Target::Finish => ("reverse-finish", 0, 0),
+    }
+}
+
+fn said_by_view(view: View) -> Said<'static> {
+    match view {
+        View::Registers => ("info regs", 0, 0),
+        View::Frames => ("info frames", 0, 0),
+        View::Breaks => ("info breaks", 0, 0),
+        View::History => ("info history", 0, 0),
+        View::Trace => ("info trace", 0, 0),
+        View::Bytes { address, span } => ("x", address, span.get()),
+        View::Instructions { slot, span } => ("disas", slot, span.get()),
+        View::LastWrite(address) => ("last-write", address, 0),
     }
 }
 

@@ -9,7 +9,7 @@ use Rattle.counted_io.specs.Writing.{AppendsBeginning, Writes}
 use Rattle.bpf_machine.specs.State.{State, initial}
 use Rattle.bpf_journal.specs.Histories.{Kept}
 use Rattle.counted_io.specs.Lines.{lines}
-use Rattle.bpf_session.specs.Output.{walk}
+use Rattle.bpf_session.specs.Output.{Walk, walk}
 use Rattle.bpf_session.specs.Plain.{plain_end}
 use Rattle.bpf_session.specs.Points.{Bounds, Point}
 use Rattle.bpf_session.specs.Runs.{BreaksOff, Interrupts, Prints, first_lines}
@@ -52,7 +52,11 @@ run-yields job script x end o e = (o.0, o.1, ap (run_yield script) (e ∙ ap (pl
 pub debug-completes : {K : Type 0} (holds : K → List Kept → Type 0) (refusals room : K → ℕ) (job : Job) (old new : SessionValue K) (script told : List ℕ) (after left : Option (List ℕ)) → IsOpening holds room job old → Prints holds refusals room old new [] script told after left → Completes Debug job script told after left 0
 debug-completes holds refusals room job old new script told after left o p = record {
   yield = debug_yield p.whole;
-  right = (o.code, o.opens, o.sized, p.gaps, ap debug_yield (p.walked ∙ ap₂ (λ (b : Bounds) (q : Point). walk p.gaps b (lines script) q) o.bounded o.begins));
+  right = (
+    o.code, o.opens, o.sized, p.gaps,
+    ap (λ (w : Walk). w.gaps) (sym (p.walked ∙ ap₂ (λ (b : Bounds) (q : Point). walk p.gaps b (lines script) q) o.bounded o.begins)) ∙ p.told_gaps,
+    ap debug_yield (p.walked ∙ ap₂ (λ (b : Bounds) (q : Point). walk p.gaps b (lines script) q) o.bounded o.begins),
+  );
   ends = refl;
   written = p.written;
   ahead = p.ahead;
@@ -69,6 +73,9 @@ debug-begins holds refusals room job old new why script told after left o p = re
   k = p.k;
   within = p.within;
   on = p.on;
+  told_gaps =
+      subst (λ (q : Point). (first_lines p.gaps (bounds_of_job job) script q p.k).gaps ≡ p.gaps) o.begins
+      (subst (λ (b : Bounds). (first_lines p.gaps b script (point_of old []) p.k).gaps ≡ p.gaps) o.bounded p.told_gaps);
   broken =
       subst (λ (q : Point). Interrupts why (first_lines p.gaps (bounds_of_job job) script q) p.k script told after left) o.begins
       (subst (λ (b : Bounds). Interrupts why (first_lines p.gaps b script (point_of old [])) p.k script told after left) o.bounded p.broken);

@@ -74,7 +74,8 @@ abbrev pub run_yield : List ℕ → State → Yield
 run_yield script end =
     unread_with (status_of_ending (ending_of end.status)) script (text_of_ending (ending_of end.status) end)
 
--- `debug`: what the script prints in a debugger that keeps whole states, where the journal's keeper refused what the gaps say.
+-- `debug`: what the script prints in a debugger that keeps whole states, where the journal's keeper refused what the gaps say, which the
+-- answers tell.
 abbrev pub bounds_of_job : Job → Bounds
 bounds_of_job job = record { limit = job.limit; room = job.journal }
 
@@ -93,6 +94,7 @@ check_line code =
 abbrev pub Yields : JobKind → Job → List ℕ → Yield → Type 0
 Yields Run job script a = (code : Checked) × Opens job code × (a ≡ run_yield script (plain_end job.limit (initial code job.context.now)))
 Yields Debug job script a = (code : Checked) × Opens job code × IsSize job.journal × (gaps : List (Option ℕ))
+    × ((walk gaps (bounds_of_job job) (lines script) (beginning job code)).gaps ≡ gaps)
     × (a ≡ debug_yield (walk gaps (bounds_of_job job) (lines script) (beginning job code)))
 Yields Asm job script a = (words : List ℕ) × IsListing job.file.now words × (a ≡ unread_with 0 script words)
 Yields Disasm job script a = (code : Checked) × IsProgramOf job code × (a ≡ unread_with 0 script (canon code))
@@ -116,6 +118,7 @@ pub record DebugsPart (job : Job) (script told : List ℕ) (after left : Option 
   pub k : ℕ
   pub within : k ≤ length (lines script)
   pub on : All GoesOn (take k (lines script))
+  pub told_gaps : (first_lines gaps (bounds_of_job job) script (beginning job code) k).gaps ≡ gaps
   pub broken : Interrupts why (first_lines gaps (bounds_of_job job) script (beginning job code)) k script told after left
 
 -- A beginning of the answer was written.

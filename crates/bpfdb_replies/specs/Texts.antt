@@ -55,7 +55,7 @@ unfoldable pub registers_from : State → ℕ → ℕ → List ℕ
 registers_from x r zero = []
 registers_from x r (suc n) = text_of_register x r ++ registers_from x (r + 1) n
 
--- r0 to r10 on one line
+-- r0 to r10 on one line.
 unfoldable pub text_of_registers : State → List ℕ
 text_of_registers x = codes "r0=" ++ hexadecimal (register x 0) ++ registers_from x 1 10
 
@@ -88,6 +88,25 @@ watch_text address = codes "watch " ++ hexadecimal address ++ codes "\n"
 abbrev pub or_none : List ℕ → List ℕ
 or_none [] = codes "none\n"
 or_none (byte ∷ more) = byte ∷ more
+
+-- A line for each breakpoint and then for each watch, in order of setting.
+unfoldable pub text_of_breaks : List ℕ → List ℕ → List ℕ
+text_of_breaks breaks watches = or_none (flat_map break_text breaks ++ flat_map watch_text watches)
+
+-- How many moves and commands that moved are kept, and how many bytes of the journal's size they weigh.
+unfoldable pub text_of_history : ℕ → ℕ → ℕ → ℕ → List ℕ
+text_of_history moves commands weight size =
+    decimal moves ++ codes " moves, " ++ decimal commands ++ codes " commands, "
+    ++ decimal weight ++ codes " of " ++ decimal size ++ codes " bytes\n"
+
+-- How many moves back a byte was changed, from what to what.
+unfoldable pub text_of_change : ℕ → ℕ → ℕ → List ℕ
+text_of_change moves old new =
+    codes "changed " ++ decimal moves ++ codes " moves back: " ++ hexadecimal old ++ codes " to " ++ hexadecimal new ++ codes "\n"
+
+-- How many moves did not change it.
+unfoldable pub text_of_unchanged : ℕ → List ℕ
+text_of_unchanged moves = codes "not changed in " ++ decimal moves ++ codes " kept moves\n"
 
 -- How many words were traced, and the words.
 abbrev pub word_text : ℕ → List ℕ

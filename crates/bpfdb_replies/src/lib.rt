@@ -1,10 +1,11 @@
-//! The texts of replies: what is printed of a machine, of breakpoints and of refusals.
+//! The texts of replies: what is printed of a machine, of breakpoints, of a history and of refusals.
 //! Their tests stand in `bpf_session_tests`.
 #![tactic(auto)]
 
 mod breaks;
 mod bytes;
 mod frames;
+mod history;
 mod instructions;
 mod moves;
 mod place;
@@ -16,6 +17,7 @@ mod why;
 pub use breaks::put_breaks;
 pub use bytes::put_bytes;
 pub use frames::put_frames;
+pub use history::{put_change, put_history, put_unchanged};
 pub use instructions::put_instructions;
 pub use moves::put_move;
 pub use place::write_place;

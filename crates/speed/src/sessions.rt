@@ -5,8 +5,7 @@ use crate::{back, check_steps, failure, used};
 use bpf_isa::{MapTable, check};
 use bpf_journal::{ListKeeper, Timeline};
 use bpf_machine::Cpu;
-use bpf_session::{Reply, Session};
-use bpfdb_commands::Command;
+use bpf_session::{Command, Counted, Goal, Reply, Session, Stop, Target, View};
 use std::alloc::Global;
 use std::io;
 use std::time::Instant;
@@ -199,10 +198,10 @@ fn through_session(
     if !set_stops(&mut session, stops) {
         return Err(failure(rt, "a breakpoint or a watch was refused"));
     }
-    let forward = time(rt, &mut session, &Command::Continue)?;
+    let forward = time(rt, &mut session, &Command::Forward(Goal::Continue))?;
     *sum = sum.wrapping_add(used(session.cpu()));
-    let last_write = time(rt, &mut session, &Command::LastWrite(FRAME))?;
-    let reverse = time(rt, &mut session, &Command::ReverseContinue)?;
+    let last_write = time(rt, &mut session, &Command::Show(View::LastWrite(FRAME)))?;
+    let reverse = time(rt, &mut session, &Command::Back(Target::Continue))?;
     *sum = sum.wrapping_add(used(session.cpu()));
     Ok(Timed {
         forward,
@@ -219,31 +218,35 @@ fn set_stops(session: &mut Session<ListKeeper>, stops: Stops) -> bool {
         Stops::Nothing => {}
         Stops::Breakpoints => {
             for slot in 2..66u64 {
-                are_set &= session.apply(&Command::Break(slot)).is_ok();
+                are_set &= session.apply(&Command::Add(Stop::Breakpoint(slot))).is_ok();
             }
         }
         Stops::Watches => {
             for offset in 0..4u64 {
-                are_set &= session.apply(&Command::Watch(FRAME + offset)).is_ok();
+                are_set &= session.apply(&Command::Add(Stop::Watch(FRAME + offset))).is_ok();
             }
         }
     }
     are_set
 }
 
-/// Nanoseconds of a command, which has to go over all of the steps.
+/// Nanoseconds of a command and of its reply. The command has to go over all of the steps.
 fn time(
     rt: &HostRuntime,
     session: &mut Session<ListKeeper>,
     command: &Command,
 ) -> io::Result<u128> {
+    let mut sink = Counted::new(io::sink());
     let start = Instant::now(rt)?;
     let answer = session.apply(command);
+    if let Ok(reply) = &answer {
+        let _ = session.write_reply(reply, &mut sink);
+    }
     let elapsed = start.elapsed(rt)?.as_nanos();
     let moves = match answer {
         Ok(Reply::Forward { steps, .. }) => steps,
         Ok(Reply::Back { moves, .. }) => moves,
-        Ok(Reply::Unchanged) => STEPS,
+        Ok(Reply::Shown(_)) => STEPS,
         _ => 0,
     };
     check_steps(rt, moves, STEPS)?;

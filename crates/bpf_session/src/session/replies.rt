@@ -1,18 +1,21 @@
 //! What is printed for a reply.
-ghost use Rattle.std.specs.Prelude.{List};
+ghost use Rattle.std.specs.Prelude.{List, length};
 ghost use Rattle.bpf_journal.specs.Histories.{Record};
+ghost use Rattle.bpf_journal.specs.Lookups.{last_change};
 ghost use Rattle.counted_io.specs.Writing.{Writes, WritesAfter};
-ghost use Rattle.bpf_session.specs.Replies.{IsThere, text_of_history, text_of_reply, text_of_unchanged};
+ghost use Rattle.bpf_session.specs.Replies.{IsInSight, IsThere, text_of_last, text_of_reply, text_of_view};
 ghost use Rattle.bpf_session.specs.Sessions.{HasPast, bounds_of, point_of};
 
 use super::Session;
-use super::changes::put_change;
 use crate::reply::Reply;
+use crate::watches::byte_at;
 use bpf_journal::Keeper;
+use bpfdb_commands::View;
 use bpfdb_replies::{
-    put_breaks, put_bytes, put_frames, put_instructions, put_move, put_state, put_trace,
+    put_breaks, put_bytes, put_change, put_frames, put_history, put_instructions, put_move,
+    put_state, put_trace, put_unchanged,
 };
-use counted_io::{Counted, WriteFault, put, put_decimal};
+use counted_io::{Counted, WriteFault, put};
 use std::io::Write;
 
 impl<K: Keeper> Session<K> {
@@ -49,58 +52,64 @@ impl<K: Keeper> Session<K> {
             }
             Reply::Back { moves, why } => put_move(writer, so_far, moves, b" back; ", why, cpu),
             Reply::Ok => put(writer, so_far, b"ok\n"),
-            Reply::Registers => put_state(writer, so_far, cpu),
-            Reply::Frames => put_frames(writer, so_far, cpu),
-            Reply::Breaks => {
-                put_breaks(
-                    writer,
-                    so_far,
-                    self.breaks.as_slice(),
-                    self.watches.as_slice(),
-                )
-            }
-            Reply::History => self.put_history(writer, so_far),
-            Reply::Trace => put_trace(writer, so_far, cpu),
-            Reply::Bytes { address, span } => put_bytes(writer, so_far, cpu, address, span),
-            Reply::Instructions { slot, span } => {
-                put_instructions(writer, so_far, cpu.program(), usize::from(slot), span)
-            }
-            Reply::Changed(change) => put_change(writer, so_far, change),
-            Reply::Unchanged => self.put_unchanged(writer, so_far),
+            Reply::Shown(view) => self.put_view(writer, so_far, view),
             Reply::Nothing => so_far,
         }
     }
 
-    /// Writes how many moves are kept, none of which changed a byte.
-    fn put_unchanged<W: Write>(
+    /// Writes the lines of a view.
+    #[tactic(auto, unfolding(crate::specs::Replies::text_of_view))]
+    fn put_view<W: Write>(
         &self,
         writer: &mut Counted<W>,
         so_far: Result<(), WriteFault>,
+        view: View,
     ) -> Result<(), WriteFault>
+        requires there { IsInSight view self.now.moment.state }
         ensures { (h : List Record) → HasPast K.holds self.now h → WritesAfter W.contents writer.old so_far writer.new result
-            (text_of_unchanged (point_of self.now h)) }
+            (text_of_view (bounds_of K.room self.now) view (point_of self.now h)) }
     {
-        let begun = put(writer, so_far, b"not changed in ");
-        let counted = put_decimal(writer, begun, self.timeline.len() as u64);
-        put(writer, counted, b" kept moves\n")
+        let cpu = self.cpu();
+        match view {
+            View::Registers => put_state(writer, so_far, cpu),
+            View::Frames => put_frames(writer, so_far, cpu),
+            View::Breaks => put_breaks(
+                writer,
+                so_far,
+                self.breaks.as_slice(),
+                self.watches.as_slice(),
+            ),
+            View::History => put_history(
+                writer,
+                so_far,
+                self.timeline.len(),
+                self.timeline.marked(),
+                self.timeline.weight(),
+                self.keeper().capacity(),
+            ),
+            View::Trace => put_trace(writer, so_far, cpu),
+            View::Bytes { address, span } => put_bytes(writer, so_far, cpu, address, span),
+            View::Instructions { slot, span } => {
+                put_instructions(writer, so_far, cpu.program(), slot as usize, span)
+            }
+            View::LastWrite(address) => self.put_last(writer, so_far, address),
+        }
     }
 
-    /// Writes how many moves and marked moves are kept, and their weight.
-    fn put_history<W: Write>(
+    /// Writes the latest kept change of the byte at an address.
+    fn put_last<W: Write>(
         &self,
         writer: &mut Counted<W>,
         so_far: Result<(), WriteFault>,
+        address: u64,
     ) -> Result<(), WriteFault>
         ensures { (h : List Record) → HasPast K.holds self.now h → WritesAfter W.contents writer.old so_far writer.new result
-            (text_of_history (bounds_of K.room self.now) (point_of self.now h)) }
+            (text_of_last (last_change address h self.now.moment.state) (length h)) }
     {
-        let moves = put_decimal(writer, so_far, self.timeline.len() as u64);
-        let named = put(writer, moves, b" moves, ");
-        let commands = put_decimal(writer, named, self.timeline.marked() as u64);
-        let parted = put(writer, commands, b" commands, ");
-        let weight = put_decimal(writer, parted, self.timeline.weight() as u64);
-        let within = put(writer, weight, b" of ");
-        let room = put_decimal(writer, within, self.keeper().capacity() as u64);
-        put(writer, room, b" bytes\n")
+        let value = byte_at(self.cpu(), address);
+        match self.timeline.last_change(address, value) {
+            Some(change) => put_change(writer, so_far, change.moves, change.old, change.new),
+            None => put_unchanged(writer, so_far, self.timeline.len()),
+        }
     }
 }

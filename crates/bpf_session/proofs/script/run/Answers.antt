@@ -44,5 +44,4 @@ lines-preserved g c =
     (sym c.is_last.ensures ∙ c.if-is_last.false)
     (rw (c.in-Ok-obey.is ∙ ap Ok c.if-not-goes_on.false) at c.obey.ensures.value)
     c.in-Ok-obey.ensures.fault
-    c.obey.ensures.limit
-    c.obey.ensures.room
+    c.obey.ensures.bounds

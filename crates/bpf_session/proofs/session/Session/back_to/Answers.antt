@@ -1,5 +1,6 @@
-use Rattle.std.proofs.Common.{refl, arith}
-use Rattle.bpf_session.proofs.Backwards.{seeking_step, seeking_found, seeking_on, looked, comparing}
+use Rattle.std.proofs.Common.{[], refl, ap, ◌∙◌, arith}
+use Rattle.bpf_machine.specs.State.{depth}
+use Rattle.bpf_session.proofs.Backwards.{seeking_step, seeking_found, seeking_on, seeking_end, looked, comparing, went_for}
 use Rattle.bpf_session.specs.Sessions.{SessionValue}
 use Rattle.bpf_session.proofs.session.Session.back_to.Goals as goal
 
@@ -20,15 +21,18 @@ returns-then-left-eq0-clause-back g c = λ h past.
     let i = rw (← c.self-in-loop-k.view_is) at c.loop-k.invariant in
     let n = c.len-kept.ensures h (rw (← c.self.view_is) at past) in
     let here = c.loop-k-test.true in
+    let began = c.depth-start.ensures ∙ ap depth c.cpu.ensures in
     let new : SessionValue g.row.K.Denot = record { moment = c.back.new.self; breaks = c.self-in-loop-k.inside.breaks; watches = c.self-in-loop-k.inside.watches; limit = c.self-in-loop-k.inside.limit } in
-    seeking_found _ _ _ _ _ _ _ _ _ _ _ _ i (record { breaks = refl; watches = refl; limit = refl }) c.in-Some.ensures.back _ _
-    (comparing {K = g.row.K.Denot} _ _ new _ _ _ refl c.watched_differ-differs.ensures)
-    (looked {K = g.row.K.Denot} c.args.self.now new _ _ _ _ _ i.only.breaks i.only.watches c.hits-left.ensures.value) c.if-left-eq0.true h past (omega arith)
+    went_for _ _ _ h _ _ _
+    (seeking_found _ _ _ _ _ _ _ _ _ _ _ _ i (record { breaks = refl; watches = refl; limit = refl }) c.in-Some.ensures.back _ _
+    (comparing {K = g.row.K.Denot} _ _ new _ _ _ refl (rw c.cpu-3.ensures at c.differ-differs.ensures))
+    (looked {K = g.row.K.Denot} c.args.self.now new _ _ _ _ _ i.only.breaks i.only.watches (λ r z. c.hits-left.ensures.value c.args.self.now.moment.state z [] r began)) c.if-left-eq0.true h past (omega arith))
 
 pub loop-k-preserved : goal.loop-k-preserved
 loop-k-preserved g c =
     let i = rw (← c.self-in-loop-k.view_is) at c.loop-k.invariant in
+    let began = c.depth-start.ensures ∙ ap depth c.cpu.ensures in
     let new : SessionValue g.row.K.Denot = record { moment = c.back.new.self; breaks = c.self-in-loop-k.inside.breaks; watches = c.self-in-loop-k.inside.watches; limit = c.self-in-loop-k.inside.limit } in
     seeking_step _ _ _ _ _ _ _ _ _ _ _ _ i (record { breaks = refl; watches = refl; limit = refl }) c.in-Some.ensures.back _ _ _ c.in-Some.ensures.refused c.in-Some.ensures.room
-    (comparing {K = g.row.K.Denot} _ _ new _ _ _ refl c.watched_differ-differs.ensures) c.seen_now-seen.ensures
-    (looked {K = g.row.K.Denot} c.args.self.now new _ _ _ _ _ i.only.breaks i.only.watches c.hits-left.ensures.value) c.if-left-eq0.false
+    (comparing {K = g.row.K.Denot} _ _ new _ _ _ refl (rw c.cpu-3.ensures at c.differ-differs.ensures)) (rw c.cpu-4.ensures at c.seen_now-seen.ensures)
+    (looked {K = g.row.K.Denot} c.args.self.now new _ _ _ _ _ i.only.breaks i.only.watches (λ r z. c.hits-left.ensures.value c.args.self.now.moment.state z [] r began)) c.if-left-eq0.false
