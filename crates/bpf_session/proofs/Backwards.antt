@@ -20,7 +20,7 @@ use Rattle.bpf_session.specs.declared.reply.Reply.{Reply}
 use Rattle.bpfdb_commands.specs.declared.refusal.Refusal.{Refusal}
 use Rattle.bpfdb_commands.specs.declared.refusal.Refusal.TheVariants.{NoKeptStep, FewerCommands, OutermostFrame}
 use Rattle.bpf_session.specs.Searches.{GoesBackTo}
-use Rattle.bpf_session.specs.Sessions.{SessionValue, HasPast, StandsAt, Obeys, bounds_of, gap_of, point_of}
+use Rattle.bpf_session.specs.Sessions.{SessionValue, HasPast, StandsAt, Obeys, bounds_of, point_of}
 use Rattle.bpf_session.specs.Stops.{has, breaks_at, some_differs}
 use Rattle.bpf_session.specs.Watched.{Compares, bytes_at}
 use Rattle.bpf_session.specs.declared.session.backward.Found.{Found}
@@ -229,15 +229,6 @@ continued s h found broken (Some k) l moves there here =
     ∙ ap (λ (b : Bool). gone_back found.moves (if b then Why.Break else Why.Watch) (point_of s h)) (sym here)
     ∙ ap (λ (b : Bool). gone_back found.moves (if b then (if broken then Why.Break else Why.Watch) else Why.Start) (point_of s h)) (sym there)
 
-why_told : (n : ℕ) (there broken : Bool) → gap_of (Ok (Back n (if there then (if broken then Why.Break else Why.Watch) else Why.Start))) ≡ None
-why_told n true true = refl
-why_told n true false = refl
-why_told n false broken = refl
-
-done_told : (n : ℕ) (there : Bool) → gap_of (Ok (Back n (if there then Why.Done else Why.Start))) ≡ None
-done_told n true = refl
-done_told n false = refl
-
 when_none : (test : Bool) (r : Refusal) → test ≡ false → when test r ≡ []
 when_none test r off = rw off refl
 
@@ -256,42 +247,42 @@ enough_steps s k n is = at (nat_le n k) refl
 
 module _ {K : Type 0} (holds : K → List Kept → Type 0) (refusals room : K → ℕ) (old new : SessionValue K) where
   -- a command that went back
-  went_obeys : (target : Target) (moves : ℕ) (why : Why) → gap_of (Ok (Back moves why)) ≡ None → ((h : List Record) → HasPast holds old h → refusals_of (command.Back target) (point_of old h) ≡ []) → ((h : List Record) → HasPast holds old h → back target (point_of old h) ≡ gone_back moves why (point_of old h)) → ((h : List Record) → HasPast holds old h → StandsAt holds new (back_by moves (point_of old h))) → refusals new.moment.keeper ≡ refusals old.moment.keeper → bounds_of room new ≡ bounds_of room old → Obeys holds refusals room old new (λ _ p. unless_refused (refusals_of (command.Back target) p) p (back target p)) (Ok (Back moves why))
-  went_obeys target moves why tells none is stands same bounds =
+  went_obeys : (target : Target) (moves : ℕ) (why : Why) → ((h : List Record) → HasPast holds old h → refusals_of (command.Back target) (point_of old h) ≡ []) → ((h : List Record) → HasPast holds old h → back target (point_of old h) ≡ gone_back moves why (point_of old h)) → ((h : List Record) → HasPast holds old h → StandsAt holds new (back_by moves (point_of old h))) → refusals new.moment.keeper ≡ refusals old.moment.keeper → bounds_of room new ≡ bounds_of room old → Obeys holds refusals room old new (λ _ p. unless_refused (refusals_of (command.Back target) p) p (back target p)) (Ok (Back moves why))
+  went_obeys target moves why none is stands same bounds =
       unrefused holds refusals room old new (refusals_of (command.Back target)) (λ _. back target) (Ok (Back moves why)) none (record {
         answered = λ h past. ap (λ (o : Outcome). o.answer) (sym (is h past));
         stands = λ h past. subst (λ (o : Outcome). StandsAt holds new o.point) (sym (is h past)) (stands h past);
-        counted = rw tells same;
+        counted = same;
         bounds = bounds;
         there = tt;
       })
 
   pub continue_obeys : (steps : ℕ) (found : Found) (broken : Bool) → steps ≢ 0 → ((h : List Record) → HasPast holds old h → steps ≡ min 1 (kept_steps (point_of old h))) → ((h : List Record) → HasPast holds old h → GoesBackTo holds (passes Continue (point_of old h)) 1 h old new found) → broken ≡ has new.breaks new.moment.state.pc → refusals new.moment.keeper ≡ refusals old.moment.keeper → bounds_of room new ≡ bounds_of room old → Obeys holds refusals room old new (λ _ p. unless_refused (refusals_of (command.Back Continue) p) p (back Continue p)) (Ok (Back found.moves (if found.is_there then (if broken then Why.Break else Why.Watch) else Why.Start)))
   continue_obeys steps found broken some counted went is same bounds =
-      went_obeys Continue found.moves _ (why_told found.moves found.is_there broken)
+      went_obeys Continue found.moves _
       (λ h past. when_none _ NoKeptStep (some_steps steps _ 1 some (counted h past)))
       (λ h past.
-          let b = went h past in
-          let at : has new.breaks new.moment.state.pc ≡ breaks_at (point_of old h) (before_last found.moves (point_of old h)) = ap (λ (p : Point). has p.breaks p.state.pc) b.stands.0 in
-          continued old h found broken (latest (passes Continue (point_of old h)) 1 h old.moment.state) refl b.moves b.is_there (is ∙ at))
+      let b = went h past in
+      let at : has new.breaks new.moment.state.pc ≡ breaks_at (point_of old h) (before_last found.moves (point_of old h)) = ap (λ (p : Point). has p.breaks p.state.pc) b.stands.0 in
+      continued old h found broken (latest (passes Continue (point_of old h)) 1 h old.moment.state) refl b.moves b.is_there (is ∙ at))
       (λ h past. (went h past).stands) same bounds
 
   pub undo_obeys : (marked count : ℕ) (found : Found) → count ≤ marked → ((h : List Record) → HasPast holds old h → marked ≡ marks (point_of old h)) → ((h : List Record) → HasPast holds old h → GoesBackTo holds (passes (Commands count) (point_of old h)) count h old new found) → refusals new.moment.keeper ≡ refusals old.moment.keeper → bounds_of room new ≡ bounds_of room old → Obeys holds refusals room old new (λ _ p. unless_refused (refusals_of (command.Back (Commands count)) p) p (back (Commands count) p)) (Ok (Back found.moves Why.Done))
   undo_obeys marked count found enough is went same bounds =
-      went_obeys (Commands count) found.moves Why.Done refl
+      went_obeys (Commands count) found.moves Why.Done
       (λ h past. let m = is h past in let off : nat_lt (marks (point_of old h)) count ≡ false = grind (arith, nat_tests) in when_none _ FewerCommands off)
       (λ h past. ap (λ (n : ℕ). gone_back n Why.Done (point_of old h)) (sym (went h past).moves))
       (λ h past. (went h past).stands) same bounds
 
   pub step_obeys : (steps count : ℕ) (found : Found) (enough : Bool) → steps ≢ 0 → ((h : List Record) → HasPast holds old h → steps ≡ min count (kept_steps (point_of old h))) → enough ≡ (steps == count) → ((h : List Record) → HasPast holds old h → GoesBackTo holds (passes (Steps count) (point_of old h)) steps h old new found) → refusals new.moment.keeper ≡ refusals old.moment.keeper → bounds_of room new ≡ bounds_of room old → Obeys holds refusals room old new (λ _ p. unless_refused (refusals_of (command.Back (Steps count)) p) p (back (Steps count) p)) (Ok (Back found.moves (if enough then Why.Done else Why.Start)))
   step_obeys steps count found enough some counted all went same bounds =
-      went_obeys (Steps count) found.moves _ (done_told found.moves enough)
+      went_obeys (Steps count) found.moves _
       (λ h past. when_none _ NoKeptStep (some_steps steps _ count some (counted h past)))
       (λ h past.
-          let n = counted h past in
-          ap (λ (m : ℕ). gone_back (unwrap_or (latest (passes (Steps count) (point_of old h)) m h old.moment.state) (length h)) (if nat_le count (kept_steps (point_of old h)) then Why.Done else Why.Start) (point_of old h)) (sym n)
-          ∙ ap (λ (m : ℕ). gone_back m (if nat_le count (kept_steps (point_of old h)) then Why.Done else Why.Start) (point_of old h)) (sym (went h past).moves)
-          ∙ ap (λ (b : Bool). gone_back found.moves (if b then Why.Done else Why.Start) (point_of old h)) (sym (all ∙ enough_steps steps _ count n)))
+      let n = counted h past in
+      ap (λ (m : ℕ). gone_back (unwrap_or (latest (passes (Steps count) (point_of old h)) m h old.moment.state) (length h)) (if nat_le count (kept_steps (point_of old h)) then Why.Done else Why.Start) (point_of old h)) (sym n)
+      ∙ ap (λ (m : ℕ). gone_back m (if nat_le count (kept_steps (point_of old h)) then Why.Done else Why.Start) (point_of old h)) (sym (went h past).moves)
+      ∙ ap (λ (b : Bool). gone_back found.moves (if b then Why.Done else Why.Start) (point_of old h)) (sym (all ∙ enough_steps steps _ count n)))
       (λ h past. (went h past).stands) same bounds
 
   -- to the latest record that is looked for
@@ -299,7 +290,7 @@ module _ {K : Type 0} (holds : K → List Kept → Type 0) (refusals room : K �
   latest_obeys target found went same bounds = record {
     answered = λ h past. ap (λ (o : Outcome). o.answer) (is h past);
     stands = λ h past. subst (λ (o : Outcome). StandsAt holds new o.point) (is h past) (went h past).stands;
-    counted = rw (done_told found.moves found.is_there) same;
+    counted = same;
     bounds = bounds;
     there = tt;
   }

@@ -208,10 +208,10 @@ module _ {K : Type 0} (holds : K → List Kept → Type 0) (refusals room : K �
       let p : Point = record (point_of new []) { state = old.moment.state } in
       let tells = none_told (k + 1) why (has_ended new.moment.state.status) (breaks_at p new.moment.state) (watch_differs p now.moment.state new.moment.state) (is_done goal (depth p.state) (k + 1) new.moment.state) (k + 1 == new.limit) (found []) in
       let comes : (h : List Record) → HasPast holds old h → Comes holds new Meaning (Ok (replies.Forward (k + 1) why)) (point_of old h) = λ h st.
-          let there = stop_more i only e (Some why) found h in
-          let n : steps old.limit goal (point_of old h) ≡ k + 1 = i.none h ∙ least_here (λ j. is_some (stop old.limit goal (point_of old h) j)) (k + 1) (old.limit - k) (omega arith) (ap is_some there) in
-          let is : Meaning None (point_of old h) ≡ taken (room old.moment.keeper) (k + 1) why (point_of old h) = rw (fresh, n, there) refl in
-          comes_as holds new Meaning _ (point_of old h) None _ tells is refl (stands_gone holds (room old.moment.keeper) (k + 1) old new h all e (past_more i m h st)) in
+      let there = stop_more i only e (Some why) found h in
+      let n : steps old.limit goal (point_of old h) ≡ k + 1 = i.none h ∙ least_here (λ j. is_some (stop old.limit goal (point_of old h) j)) (k + 1) (old.limit - k) (omega arith) (ap is_some there) in
+      let is : Meaning None (point_of old h) ≡ taken (room old.moment.keeper) (k + 1) why (point_of old h) = rw (fresh, n, there) refl in
+      comes_as holds new Meaning _ (point_of old h) None _ tells is refl (stands_gone holds (room old.moment.keeper) (k + 1) old new h all e (past_more i m h st)) in
       record {
         answered = λ h st. (comes h st).answered;
         stands = λ h st. (comes h st).stands;
@@ -227,11 +227,11 @@ module _ {K : Type 0} (holds : K → List Kept → Type 0) (refusals room : K �
       let all = only_more i only in
       let tells = cut_told (k == 0) k (is_first k) in
       let comes : (h : List Record) → HasPast holds old h → Comes holds new Meaning (if k == 0 then Err OutOfMemory else Ok (replies.Forward k Memory)) (point_of old h) = λ h st.
-          let far : k < steps old.limit goal (point_of old h) = rw (i.none h) (omega (arith, least_from (λ j. is_some (stop old.limit goal (point_of old h) j)) (k + 1) (old.limit - k))) in
-          let lt : nat_lt k (steps old.limit goal (point_of old h)) ≡ true = lt_true _ _ far in
-          let is : Meaning (Some k) (point_of old h) ≡ cut_of (k == 0) (room old.moment.keeper) k (point_of old h) = rw (fresh, lt) refl in
-          let stands = stands_gone holds (room old.moment.keeper) k old new h all (s.state ∙ i.state) (s.stands _ (i.past h st)) in
-          comes_as holds new Meaning _ (point_of old h) (Some k) _ tells is (cut_answer (k == 0) (room old.moment.keeper) k (point_of old h)) (cut_point (k == 0) (room old.moment.keeper) k (point_of old h) (StandsAt holds new) (is_first k) stands) in
+      let far : k < steps old.limit goal (point_of old h) = rw (i.none h) (omega (arith, least_from (λ j. is_some (stop old.limit goal (point_of old h) j)) (k + 1) (old.limit - k))) in
+      let lt : nat_lt k (steps old.limit goal (point_of old h)) ≡ true = lt_true _ _ far in
+      let is : Meaning (Some k) (point_of old h) ≡ cut_of (k == 0) (room old.moment.keeper) k (point_of old h) = rw (fresh, lt) refl in
+      let stands = stands_gone holds (room old.moment.keeper) k old new h all (s.state ∙ i.state) (s.stands _ (i.past h st)) in
+      comes_as holds new Meaning _ (point_of old h) (Some k) _ tells is (cut_answer (k == 0) (room old.moment.keeper) k (point_of old h)) (cut_point (k == 0) (room old.moment.keeper) k (point_of old h) (StandsAt holds new) (is_first k) stands) in
       record {
         answered = λ h st. (comes h st).answered;
         stands = λ h st. (comes h st).stands;

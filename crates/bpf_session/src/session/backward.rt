@@ -138,7 +138,7 @@ impl<K: Keeper> Session<K> {
         let kept = self.timeline.len() as u64;
         let mut left = count;
         let start = self.cpu().depth();
-        let mut seen = self.watches.bytes(self.cpu());
+        let mut seen = self.watches.bytes(self.timeline.cpu());
         for k in 0..kept {
             let Some(taken) = self.timeline.back() else {
                 return Found {
@@ -146,9 +146,11 @@ impl<K: Keeper> Session<K> {
                     is_there: false,
                 };
             };
-            let differs = self.watches.differ(self.timeline.cpu(), &seen, taken.replaced_bytes);
+            let differs = self
+                .watches
+                .differ(self.timeline.cpu(), &seen, taken.replaced_bytes);
             seen = self.watches.seen_now(self.timeline.cpu(), seen, differs);
-            left -= self.hits(target, start, taken, differs);
+            left -= self.hits(&target, start, taken, differs);
             if left == 0 {
                 return Found {
                     moves: k + 1,
@@ -164,11 +166,11 @@ impl<K: Keeper> Session<K> {
 
     /// How many moves of those that a command looks for, which was given at a depth, was the one that was taken back just now, so that the
     /// state before it is the present one: one or none. It had changed a watched byte or not.
-    fn hits(&self, target: Target, start: usize, taken: Taken, differs: bool) -> u64
+    fn hits(&self, target: &Target, start: usize, taken: Taken, differs: bool) -> u64
         ensures fits { result ≤ 1 }
         ensures value { (first y : State) (h : List Record) (r : Record) → start ≡ depth first → taken ≡ taken_of r → self.now.moment.state ≡ r.before →
             differs ≡ some_differs self.now.watches r.before y →
-            result ≡ (if passes target (record (point_of self.now h) { state = first }) r y then 1 else 0) }
+            result ≡ (if passes target.now (record (point_of self.now h) { state = first }) r y then 1 else 0) }
     {
         let is_hit = match target {
             Target::Commands(_) => taken.mark,

@@ -53,7 +53,7 @@ impl<K: Keeper> Session<K> {
             return Err(Refusal::MachineEnded);
         }
         let start = self.cpu().depth();
-        let seen = self.watches.bytes(self.cpu());
+        let seen = self.watches.bytes(self.timeline.cpu());
         for k in 0..self.limit {
             let is_first = k == 0;
             let replaced = match self.timeline.step(is_first) {
@@ -62,7 +62,7 @@ impl<K: Keeper> Session<K> {
                 Err(TimelineFault::OutOfMemory) => return cut_short(k),
             };
             let differs = self.watches.differ(self.timeline.cpu(), &seen, replaced);
-            if let Some(why) = self.stop(goal, start, k + 1, differs) {
+            if let Some(why) = self.stop(&goal, start, k + 1, differs) {
                 return Ok(Reply::Forward { steps: k + 1, why });
             }
         }
@@ -70,9 +70,9 @@ impl<K: Keeper> Session<K> {
     }
 
     /// Why a command that began at a depth stops after so many steps, if it does. The last one changed a watched byte or not.
-    fn stop(&self, goal: Goal, start: usize, taken: u64, differs: bool) -> Option<Why>
+    fn stop(&self, goal: &Goal, start: usize, taken: u64, differs: bool) -> Option<Why>
         ensures { (first x : State) (h : List Record) → start ≡ depth_of first → differs ≡ some_differs self.now.watches x self.now.moment.state →
-            result ≡ stop_in self.now.limit goal (record (point_of self.now h) { state = first }) taken x self.now.moment.state }
+            result ≡ stop_in self.now.limit goal.now (record (point_of self.now h) { state = first }) taken x self.now.moment.state }
     {
         if self.cpu().status().has_ended() {
             Some(Why::End)
@@ -91,8 +91,8 @@ impl<K: Keeper> Session<K> {
 }
 
 /// Whether a command that began at a depth has reached its goal after so many steps, at the depth that they led to.
-fn is_done(goal: Goal, start: usize, taken: u64, depth: usize) -> bool
-    ensures { (x : State) → depth ≡ depth_of x → result ≡ is_done goal start taken x }
+fn is_done(goal: &Goal, start: usize, taken: u64, depth: usize) -> bool
+    ensures { (x : State) → depth ≡ depth_of x → result ≡ is_done goal.now start taken x }
 {
     match goal {
         Goal::Steps(count) => taken == count.get(),

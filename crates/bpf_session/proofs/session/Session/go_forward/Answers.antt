@@ -11,9 +11,9 @@ returns-in-Err-OutOfMemory g c =
 pub returns-in-Some : goal.returns-in-Some
 returns-in-Some g c =
     let began = c.depth-start.ensures ∙ ap depth c.cpu-2.ensures in
-    going_stop _ _ _ _ _ _ _ _ _ (rw (← c.self-in-loop-k.view_is) at c.loop-k.invariant) c.in-Ok.ensures.ok (record { breaks = refl; watches = refl; limit = refl }) c.in-Ok.ensures.refused c.in-Ok.ensures.room _ _ c.in-Ok.ensures.bytes (rw c.cpu-3.ensures at c.differ-differs.ensures) _ (λ x h differs. sym c.in-Some.is ∙ c.stop.ensures c.args.self.now.moment.state x h began differs)
+    going_stop _ _ _ _ _ _ _ _ _ (rw (← c.self-in-loop-k.view_is) at c.loop-k.invariant) c.in-Ok.ensures.ok (record { breaks = refl; watches = refl; limit = refl }) c.in-Ok.ensures.refused c.in-Ok.ensures.room _ _ c.in-Ok.ensures.bytes (rw c.cpu-in-loop-k.ensures at c.differ-differs.ensures) _ (λ x h differs. sym c.in-Some.is ∙ c.stop.ensures c.args.self.now.moment.state x h began differs)
 
 pub loop-k-preserved : goal.loop-k-preserved
 loop-k-preserved g c =
     let began = c.depth-start.ensures ∙ ap depth c.cpu-2.ensures in
-    going_step _ _ _ _ _ _ _ _ _ (rw (← c.self-in-loop-k.view_is) at c.loop-k.invariant) c.in-Ok.ensures.ok (record { breaks = refl; watches = refl; limit = refl }) c.in-Ok.ensures.refused c.in-Ok.ensures.room _ _ c.in-Ok.ensures.bytes (rw c.cpu-3.ensures at c.differ-differs.ensures) (λ x h differs. sym c.in_default.is ∙ c.stop.ensures c.args.self.now.moment.state x h began differs)
+    going_step _ _ _ _ _ _ _ _ _ (rw (← c.self-in-loop-k.view_is) at c.loop-k.invariant) c.in-Ok.ensures.ok (record { breaks = refl; watches = refl; limit = refl }) c.in-Ok.ensures.refused c.in-Ok.ensures.room _ _ c.in-Ok.ensures.bytes (rw c.cpu-in-loop-k.ensures at c.differ-differs.ensures) (λ x h differs. sym c.in_default.is ∙ c.stop.ensures c.args.self.now.moment.state x h began differs)

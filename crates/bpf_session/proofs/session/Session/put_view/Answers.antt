@@ -8,7 +8,7 @@ pub returns-in-Breaks : goal.returns-in-Breaks
 unfolding text_of_view
 returns-in-Breaks g c = λ h past.
     let slots = c.as_slice.ensures ∙ ap (λ s. s.breaks) c.self.view_is in
-    let addresses = c.as_slice-2.ensures ∙ ap (λ s. s.watches) c.self.view_is in
+    let addresses = c.as_slice-in-Breaks.ensures ∙ ap (λ s. s.watches) c.self.view_is in
     rw c.in-Breaks.is (rw (slots, addresses) at c.put_breaks.ensures)
 
 pub returns-in-History : goal.returns-in-History
