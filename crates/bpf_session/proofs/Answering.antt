@@ -1,5 +1,5 @@
 -- How a command is shown to obey its meaning.
-use Rattle.std.proofs.Common.{◌≡◌, ℕ, List, [], ◌∷◌, Option, None, Result, Err, refl, sym, ap, subst, ◌∙◌}
+use Rattle.std.proofs.Common.{◌≡◌, ℕ, List, [], Option, Result, sym, ap, subst, ◌∙◌}
 use Rattle.bpf_journal.specs.Histories.{Record, Kept}
 use Rattle.bpf_session.specs.Outcomes.{Outcome, unless_refused}
 use Rattle.bpf_session.specs.Points.{Point}
@@ -34,14 +34,4 @@ module _ {K : Type 0} (holds : K → List Kept → Type 0) (refusals room : K �
     counted = o.counted;
     bounds = o.bounds;
     there = o.there;
-  }
-
-  -- A command that is refused.
-  pub refused_for : (s : SessionValue K) (rs : Point → List Refusal) (meaning : Option ℕ → Point → Outcome) (refusal : Refusal) (more : List Refusal) → gap_of (Err refusal) ≡ None → ((h : List Record) → HasPast holds s h → rs (point_of s h) ≡ refusal ∷ more) → Obeys holds refusals room s s (λ gap p. unless_refused (rs p) p (meaning gap p)) (Err refusal)
-  refused_for s rs meaning refusal more tells first = record {
-    answered = λ h past. ap (λ (v : List Refusal). (unless_refused v (point_of s h) (meaning (gap_of (Err refusal)) (point_of s h))).answer) (sym (first h past));
-    stands = λ h past. subst (λ (v : List Refusal). StandsAt holds s (unless_refused v (point_of s h) (meaning (gap_of (Err refusal)) (point_of s h))).point) (sym (first h past)) (refl, past);
-    counted = rw tells refl;
-    bounds = refl;
-    there = tt;
   }

@@ -1,8 +1,8 @@
 -- A backward command's loop: after k turns the session is at the state before the k-th last move.
-use Rattle.std.specs.Prelude.{if◌then◌else◌, min, nat_le, nat_lt, Result}
-use Rattle.std.proofs.Common.{◌≡◌, ◌≢◌, ◌+◌, ◌-◌, ◌<◌, ◌≤◌, ◌==◌, ◌&&◌, ◌||◌, ℕ, zero, suc, Bool, true, false, List, [], ◌∷◌, ◌++◌, Option, Some, None, Ok, is_some, unwrap_or, option_map, length, drop, refl, sym, ap, subst, ◌∙◌, arith, add-one}
+use Rattle.std.specs.Prelude.{if◌then◌else◌, min}
+use Rattle.std.proofs.Common.{◌≡◌, ◌≢◌, ◌+◌, ◌-◌, ◌<◌, ◌≤◌, ◌==◌, ◌&&◌, ◌||◌, ℕ, zero, suc, Bool, true, false, List, [], ◌∷◌, Option, Some, None, Ok, is_some, unwrap_or, option_map, length, drop, refl, sym, ap, subst, ◌∙◌, arith, add-one}
 use Rattle.std.proofs.lemmas.Bool.Decides.{nat_tests}
-use Rattle.bpf_machine.specs.State.{State, depth}
+use Rattle.bpf_machine.specs.State.{State}
 use Rattle.bpf_machine.specs.ByAddress.{byte}
 use Rattle.bpf_machine.specs.Moves.{Leads}
 use Rattle.bpf_journal.specs.Histories.{Record, Kept, IsRun, is_step}
@@ -13,12 +13,11 @@ use Rattle.bpf_journal.specs.declared.timeline.Taken.{Taken}
 use Rattle.bpf_session.specs.Points.{Point}
 use Rattle.bpf_session.specs.Outcomes.{Outcome, unless_refused}
 use Rattle.bpf_session.specs.Refused.{when, refusals_of}
-use Rattle.bpf_session.specs.Backward.{before_last, back, back_by, back_to, found, gone_back, passes, to_latest, kept_steps, marks, to_stop}
+use Rattle.bpf_session.specs.Backward.{before_last, back, back_by, found, gone_back, passes, kept_steps, to_stop}
 use Rattle.bpfdb_replies.specs.declared.why.Why.{Why}
 use Rattle.bpf_session.specs.declared.reply.Reply.TheVariants.{Back}
-use Rattle.bpf_session.specs.declared.reply.Reply.{Reply}
 use Rattle.bpfdb_commands.specs.declared.refusal.Refusal.{Refusal}
-use Rattle.bpfdb_commands.specs.declared.refusal.Refusal.TheVariants.{NoKeptStep, FewerCommands, OutermostFrame}
+use Rattle.bpfdb_commands.specs.declared.refusal.Refusal.TheVariants.{NoKeptStep}
 use Rattle.bpf_session.specs.Searches.{GoesBackTo}
 use Rattle.bpf_session.specs.Sessions.{SessionValue, HasPast, StandsAt, Obeys, bounds_of, point_of}
 use Rattle.bpf_session.specs.Stops.{has, breaks_at, some_differs}
@@ -232,18 +231,8 @@ continued s h found broken (Some k) l moves there here =
 when_none : (test : Bool) (r : Refusal) → test ≡ false → when test r ≡ []
 when_none test r off = rw off refl
 
-when_neither : (first second : Bool) (r q : Refusal) → first ≡ false → second ≡ false → when first r ++ when second q ≡ []
-when_neither first second r q one two = rw (one, two) refl
-
 some_steps : (s k n : ℕ) → s ≢ 0 → s ≡ min n k → (k == 0) ≡ false
 some_steps s k n some is = let here : k ≢ 0 = λ none. some (omega (arith, is, none)) in grind (arith, nat_tests)
-
-enough_steps : (s k n : ℕ) → s ≡ min n k → (s == n) ≡ nat_le n k
-enough_steps s k n is = at (nat_le n k) refl
-  where
-    at : (t : Bool) → nat_le n k ≡ t → (s == n) ≡ t
-    at true e = let le : n ≤ k = grind (arith, nat_tests) in let same : s ≡ n = omega (arith, is, le) in grind (arith, nat_tests)
-    at false e = let lt : k < n = grind (arith, nat_tests) in let less : s ≢ n = λ same. omega (arith, is, lt, same) in grind (arith, nat_tests)
 
 module _ {K : Type 0} (holds : K → List Kept → Type 0) (refusals room : K → ℕ) (old new : SessionValue K) where
   -- a command that went back
@@ -266,46 +255,3 @@ module _ {K : Type 0} (holds : K → List Kept → Type 0) (refusals room : K �
       let at : has new.breaks new.moment.state.pc ≡ breaks_at (point_of old h) (before_last found.moves (point_of old h)) = ap (λ (p : Point). has p.breaks p.state.pc) b.stands.0 in
       continued old h found broken (latest (passes Continue (point_of old h)) 1 h old.moment.state) refl b.moves b.is_there (is ∙ at))
       (λ h past. (went h past).stands) same bounds
-
-  pub undo_obeys : (marked count : ℕ) (found : Found) → count ≤ marked → ((h : List Record) → HasPast holds old h → marked ≡ marks (point_of old h)) → ((h : List Record) → HasPast holds old h → GoesBackTo holds (passes (Commands count) (point_of old h)) count h old new found) → refusals new.moment.keeper ≡ refusals old.moment.keeper → bounds_of room new ≡ bounds_of room old → Obeys holds refusals room old new (λ _ p. unless_refused (refusals_of (command.Back (Commands count)) p) p (back (Commands count) p)) (Ok (Back found.moves Why.Done))
-  undo_obeys marked count found enough is went same bounds =
-      went_obeys (Commands count) found.moves Why.Done
-      (λ h past. let m = is h past in let off : nat_lt (marks (point_of old h)) count ≡ false = grind (arith, nat_tests) in when_none _ FewerCommands off)
-      (λ h past. ap (λ (n : ℕ). gone_back n Why.Done (point_of old h)) (sym (went h past).moves))
-      (λ h past. (went h past).stands) same bounds
-
-  pub step_obeys : (steps count : ℕ) (found : Found) (enough : Bool) → steps ≢ 0 → ((h : List Record) → HasPast holds old h → steps ≡ min count (kept_steps (point_of old h))) → enough ≡ (steps == count) → ((h : List Record) → HasPast holds old h → GoesBackTo holds (passes (Steps count) (point_of old h)) steps h old new found) → refusals new.moment.keeper ≡ refusals old.moment.keeper → bounds_of room new ≡ bounds_of room old → Obeys holds refusals room old new (λ _ p. unless_refused (refusals_of (command.Back (Steps count)) p) p (back (Steps count) p)) (Ok (Back found.moves (if enough then Why.Done else Why.Start)))
-  step_obeys steps count found enough some counted all went same bounds =
-      went_obeys (Steps count) found.moves _
-      (λ h past. when_none _ NoKeptStep (some_steps steps _ count some (counted h past)))
-      (λ h past.
-      let n = counted h past in
-      ap (λ (m : ℕ). gone_back (unwrap_or (latest (passes (Steps count) (point_of old h)) m h old.moment.state) (length h)) (if nat_le count (kept_steps (point_of old h)) then Why.Done else Why.Start) (point_of old h)) (sym n)
-      ∙ ap (λ (m : ℕ). gone_back m (if nat_le count (kept_steps (point_of old h)) then Why.Done else Why.Start) (point_of old h)) (sym (went h past).moves)
-      ∙ ap (λ (b : Bool). gone_back found.moves (if b then Why.Done else Why.Start) (point_of old h)) (sym (all ∙ enough_steps steps _ count n)))
-      (λ h past. (went h past).stands) same bounds
-
-  -- to the latest record that is looked for
-  pub latest_obeys : (target : Target) (found : Found) → ((h : List Record) → HasPast holds old h → GoesBackTo holds (passes target (point_of old h)) 1 h old new found) → refusals new.moment.keeper ≡ refusals old.moment.keeper → bounds_of room new ≡ bounds_of room old → Obeys holds refusals room old new (λ _. to_latest target) (Ok (Back found.moves (if found.is_there then Why.Done else Why.Start)))
-  latest_obeys target found went same bounds = record {
-    answered = λ h past. ap (λ (o : Outcome). o.answer) (is h past);
-    stands = λ h past. subst (λ (o : Outcome). StandsAt holds new o.point) (is h past) (went h past).stands;
-    counted = same;
-    bounds = bounds;
-    there = tt;
-  }
-    where
-      is : (h : List Record) → HasPast holds old h → gone_back found.moves (if found.is_there then Why.Done else Why.Start) (point_of old h) ≡ to_latest target (point_of old h)
-      is h past =
-          let b = went h past in
-          ap (λ (t : Bool). gone_back found.moves (if t then Why.Done else Why.Start) (point_of old h)) b.is_there
-          ∙ ap (λ (n : ℕ). gone_back n (if is_some (latest (passes target (point_of old h)) 1 h old.moment.state) then Why.Done else Why.Start) (point_of old h)) b.moves
-
-  pub next_obeys : (steps : ℕ) (answer : Result Reply Refusal) → steps ≢ 0 → ((h : List Record) → HasPast holds old h → steps ≡ min 1 (kept_steps (point_of old h))) → Obeys holds refusals room old new (λ _. to_latest Next) answer → Obeys holds refusals room old new (λ _ p. unless_refused (refusals_of (command.Back Next) p) p (back Next p)) answer
-  next_obeys steps answer some counted o =
-      unrefused holds refusals room old new (refusals_of (command.Back Next)) (λ _. to_latest Next) answer (λ h past. when_none _ NoKeptStep (some_steps steps _ 1 some (counted h past))) o
-
-  pub finish_obeys : (steps : ℕ) (answer : Result Reply Refusal) → steps ≢ 0 → depth old.moment.state ≢ 0 → ((h : List Record) → HasPast holds old h → steps ≡ min 1 (kept_steps (point_of old h))) → Obeys holds refusals room old new (λ _. to_latest Finish) answer → Obeys holds refusals room old new (λ _ p. unless_refused (refusals_of (command.Back Finish) p) p (back Finish p)) answer
-  finish_obeys steps answer some deep counted o =
-      let off : (depth old.moment.state == 0) ≡ false = grind (arith, nat_tests) in
-      unrefused holds refusals room old new (refusals_of (command.Back Finish)) (λ _. to_latest Finish) answer (λ h past. when_neither _ _ NoKeptStep OutermostFrame (some_steps steps _ 1 some (counted h past)) off) o

@@ -10,7 +10,7 @@ use Rattle.bpf_machine.specs.declared.moves.Move.TheVariants.{Step}
 use Rattle.bpf_journal.specs.Histories.{Record, is_step, record_weight, fit}
 use Rattle.bpf_journal.specs.Timelines.{record_of}
 use Rattle.bpf_session.specs.Points.{Point, Bounds}
-use Rattle.bpf_session.specs.Outcomes.{Outcome, refused, replied, unless_refused}
+use Rattle.bpf_session.specs.Outcomes.{Outcome, refused, unless_refused}
 use Rattle.bpf_session.specs.Stops.{breaks_at, watch_differs, has}
 use Rattle.bpf_session.specs.Forward.{state_after, kept, gone, is_done, stop, least, steps, reason, taken, cut, forward}
 use Rattle.bpf_journal.specs.Lookups.{Test, latest, state_before}

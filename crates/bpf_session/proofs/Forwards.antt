@@ -1,5 +1,5 @@
 -- A forward command's loop: what holds after k steps, and what each exit comes to.
-use Rattle.std.proofs.Common.{◌≡◌, ◌≢◌, ◌+◌, ◌-◌, ◌<◌, ◌≤◌, ◌==◌, ℕ, zero, suc, Bool, true, false, List, [], ◌++◌, Option, Some, None, Ok, Err, is_some, refl, sym, ap, subst, ◌∙◌, arith, add-one}
+use Rattle.std.proofs.Common.{◌≡◌, ◌≢◌, ◌+◌, ◌-◌, ◌<◌, ◌≤◌, ◌==◌, ℕ, zero, suc, Bool, true, false, List, [], Option, Some, None, Ok, Err, is_some, refl, sym, ap, subst, ◌∙◌, arith, add-one}
 use Rattle.std.proofs.lemmas.Bool.Decides.{nat_tests}
 use Rattle.std.specs.Prelude.{if◌then◌else◌, nat_lt, IfOk, Result}
 use Rattle.bpf_machine.specs.State.{State, depth}
@@ -31,7 +31,7 @@ use Rattle.bpfdb_replies.specs.declared.why.Why.{Why}
 use Rattle.bpfdb_replies.specs.declared.why.Why.TheVariants.{End, Break, Watch, Done, Limit, Memory}
 use Rattle.bpf_session.specs.declared.reply.Reply.{Reply}
 use Rattle.bpf_session.specs.declared.reply.Reply.TheVariants as replies
-use Rattle.bpfdb_commands.specs.declared.refusal.Refusal.TheVariants.{OutOfMemory, OutermostFrame, MachineEnded}
+use Rattle.bpfdb_commands.specs.declared.refusal.Refusal.TheVariants.{OutOfMemory, MachineEnded}
 
 -- the least number is not below the first one that is tried
 pub least_from : (test : ℕ → Bool) (k n : ℕ) → k ≤ least test k n
@@ -240,25 +240,8 @@ module _ {K : Type 0} (holds : K → List Kept → Type 0) (refusals room : K �
         there = cut_there (k == 0) k new.moment.state;
       }
 
-unless_first : (first second : Bool) (r q : Refusal) (p : Point) (o : Outcome) → second ≡ false → unless_refused (when first r) p o ≡ unless_refused (when first r ++ when second q) p o
-unless_first true second r q p o off = refl
-unless_first false second r q p o off = rw off refl
-
 module _ {K : Type 0} (holds : K → List Kept → Type 0) (refusals room : K → ℕ) (old new : SessionValue K) where
-  -- `finish` below the outermost frame
-  pub finish_forward : (answer : Result Reply Refusal) → depth old.moment.state ≢ 0 → Obeys holds refusals room old new (λ gap p. unless_refused (when (has_ended p.state.status) MachineEnded) p (forward gap (bounds_of room old) Finish p)) answer → Obeys holds refusals room old new (λ gap p. unless_refused (refusals_of (command.Forward Finish) p) p (forward gap (bounds_of room old) Finish p)) answer
-  finish_forward answer deep o = record {
-    answered = λ h past. o.answered h past ∙ ap (λ (v : Outcome). v.answer) (more h);
-    stands = λ h past. subst (λ (v : Outcome). StandsAt holds new v.point) (more h) (o.stands h past);
-    counted = o.counted;
-    bounds = o.bounds;
-    there = o.there;
-  }
-    where
-      more : (h : List Record) → unless_refused (when (has_ended old.moment.state.status) MachineEnded) (point_of old h) (forward (gap_of answer) (bounds_of room old) Finish (point_of old h)) ≡ unless_refused (refusals_of (command.Forward Finish) (point_of old h)) (point_of old h) (forward (gap_of answer) (bounds_of room old) Finish (point_of old h))
-      more h = let off : (depth old.moment.state == 0) ≡ false = grind (arith, nat_tests) in unless_first _ _ MachineEnded OutermostFrame (point_of old h) _ off
-
-  -- the others
+  -- a command other than `finish`
   pub forward_obeys : (goal : Goal) (answer : Result Reply Refusal) → goal ≢ Finish → Obeys holds refusals room old new (λ gap p. unless_refused (when (has_ended p.state.status) MachineEnded) p (forward gap (bounds_of room old) goal p)) answer → Obeys holds refusals room old new (λ gap p. unless_refused (refusals_of (command.Forward goal) p) p (forward gap (bounds_of room old) goal p)) answer
   forward_obeys (Steps count) answer other o = o
   forward_obeys Next answer other o = o

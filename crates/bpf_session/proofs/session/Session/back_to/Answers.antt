@@ -1,6 +1,6 @@
 use Rattle.std.proofs.Common.{[], refl, ap, ◌∙◌, arith}
 use Rattle.bpf_machine.specs.State.{depth}
-use Rattle.bpf_session.proofs.Backwards.{seeking_step, seeking_found, seeking_on, seeking_end, looked, comparing, went_for}
+use Rattle.bpf_session.proofs.Backwards.{seeking_step, seeking_found, seeking_on, looked, comparing, went_for}
 use Rattle.bpf_session.specs.Sessions.{SessionValue}
 use Rattle.bpf_session.proofs.session.Session.back_to.Goals as goal
 

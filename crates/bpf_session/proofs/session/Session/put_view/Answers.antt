@@ -1,6 +1,4 @@
 use Rattle.std.proofs.Common.{ap, ◌∙◌}
-use Rattle.counted_io.proofs.Appending.{WritesAfter-text}
-use Rattle.bpfdb_replies.specs.Texts.{text_of_breaks, text_of_history}
 use Rattle.bpf_session.specs.Replies.{text_of_view}
 use Rattle.bpf_session.proofs.session.Session.put_view.Goals as goal
 

@@ -1,6 +1,5 @@
 use Rattle.std.proofs.Common.{ap, ◌∙◌}
 use Rattle.bpf_session.specs.Stops.{has}
-use Rattle.bpf_session.proofs.Answering.{same-bounds}
 use Rattle.bpf_session.proofs.Backwards.{continue_obeys}
 use Rattle.bpf_session.proofs.session.Session.reverse_continue.Goals as goal
 
