@@ -1,8 +1,7 @@
--- The laws of the meaning of commands and of scripts.
-use Rattle.std.proofs.Common.{◌≡◌, ◌+◌, ◌-◌, ◌^◌, ◌<◌, ◌≤◌, ℕ, zero, suc, Bool, true, false, List, [], ◌∷◌, ◌++◌, Option, Some, None, Ok, Err, is_some, unwrap_or, length, refl, sym, ap, ◌∙◌, arith, IsNone}
-use Rattle.std.specs.Prelude.{if◌then◌else◌, nat_lt, nat_le, not, ◌==◌, min, map, count_by, cond, option_map, take, drop, slice_get}
+-- The laws of refusals, of going back and forward again, and of scripts.
+use Rattle.std.proofs.Common.{◌≡◌, ◌+◌, ◌-◌, ◌^◌, ◌<◌, ◌≤◌, ℕ, zero, suc, Bool, true, false, List, [], ◌∷◌, ◌++◌, Option, Some, None, Ok, Err, unwrap_or, length, refl, sym, ap, ◌∙◌, arith}
+use Rattle.std.specs.Prelude.{if◌then◌else◌, nat_lt, nat_le, not, ◌==◌, min, map, count_by, cond, option_map, drop, slice_get}
 use Rattle.std.proofs.lemmas.Bool.Decides.{nat_tests}
-use Rattle.std.proofs.lemmas.List.Sums.{sum_by-cons}
 use Rattle.bpf_machine.specs.State.{State, depth}
 use Rattle.bpf_entries.specs.Status.{has_ended}
 use Rattle.bpf_machine.specs.declared.edit.Edit.TheVariants as edit
@@ -11,10 +10,10 @@ use Rattle.bpf_journal.specs.Histories.{Record, is_step, record_weight, fit}
 use Rattle.bpf_journal.specs.Timelines.{record_of}
 use Rattle.bpf_session.specs.Points.{Point, Bounds}
 use Rattle.bpf_session.specs.Outcomes.{Outcome, refused, unless_refused}
-use Rattle.bpf_session.specs.Stops.{breaks_at, watch_differs, has}
-use Rattle.bpf_session.specs.Forward.{state_after, kept, gone, is_done, stop, least, steps, reason, taken, cut, forward}
+use Rattle.bpf_session.specs.Stops.{has}
+use Rattle.bpf_session.specs.Forward.{state_after, kept, gone, stop, steps, reason, taken, cut}
 use Rattle.bpf_journal.specs.Lookups.{Test, latest, state_before}
-use Rattle.bpf_session.specs.Backward.{back, gone_back, before_last, back_by, found, to_stop, marks, kept_steps}
+use Rattle.bpf_session.specs.Backward.{back, before_last, back_by, found, to_stop, marks, kept_steps}
 use Rattle.bpf_session.specs.Limits.{most_breaks, most_watches}
 use Rattle.bpfdb_commands.specs.Refusals.{number_of}
 use Rattle.bpf_session.specs.Refused.{when, present, starts, has_cell, refusals_of}
@@ -22,19 +21,19 @@ use Rattle.bpf_session.specs.Meaning.{accepted, does}
 use Rattle.bpf_session.specs.Sessions.{refusals_after_all}
 use Rattle.bpfdb_commands.specs.Commands.{command_of}
 use Rattle.bpf_session.specs.Output.{effect, after_effect}
-use Rattle.bpf_session.specs.Laws.{RefusedChangesNothing, ShowsChangeNothing, Ascends, RefusalsAreInOrder, StepsAreLeast, BreakpointsStop, WatchesStop, CallsRunAsOne, TakesBackItsMoves, ReplayIsTheSame, UndoGoesToTheMark, GoingBackGivesBack, NothingRefusedNothingMissing}
+use Rattle.bpf_session.specs.Laws.{RefusedChangesNothing, ShowsChangeNothing, Ascends, RefusalsAreInOrder, ReplayIsTheSame, GoingBackGivesBack, NothingRefusedNothingMissing}
+use Rattle.bpf_session.proofs.BackwardLaws.{count-more}
+use Rattle.bpf_session.proofs.ForwardLaws.{does-forward, least-from}
 use Rattle.bpfdb_commands.specs.declared.command.Command.{Command}
 use Rattle.bpfdb_commands.specs.declared.command.Command.TheVariants as command
-use Rattle.bpfdb_commands.specs.declared.command.Goal.{Goal}
 use Rattle.bpfdb_commands.specs.declared.command.Goal.TheVariants as goals
 use Rattle.bpfdb_commands.specs.declared.command.Stop.TheVariants as stops
 use Rattle.bpfdb_commands.specs.declared.command.Target.{Target}
 use Rattle.bpfdb_commands.specs.declared.command.Target.TheVariants as targets
 use Rattle.bpfdb_commands.specs.declared.command.View.TheVariants as views
-use Rattle.bpf_session.specs.declared.reply.Reply.{Reply}
-use Rattle.bpf_session.specs.declared.reply.Reply.TheVariants.{Forward, Back}
+use Rattle.bpf_session.specs.declared.reply.Reply.TheVariants.{Forward}
 use Rattle.bpfdb_replies.specs.declared.why.Why.{Why}
-use Rattle.bpfdb_replies.specs.declared.why.Why.TheVariants.{End, Break, Watch, Done, Limit, Memory}
+use Rattle.bpfdb_replies.specs.declared.why.Why.TheVariants.{Memory}
 use Rattle.bpfdb_commands.specs.declared.refusal.Refusal.{Refusal}
 use Rattle.bpfdb_commands.specs.declared.refusal.Refusal.TheVariants.{MachineEnded, NoKeptStep, FewerCommands, AddressNotPresent, RegisterNotWritable, NoStart, OutermostFrame, TableFull, ThereOrNot, NoCell, OutOfMemory}
 
@@ -144,244 +143,6 @@ refusals-are-in-order (command.Show views.History) p = tt
 refusals-are-in-order (command.Show views.Trace) p = tt
 refusals-are-in-order command.Quit p = tt
 
--- ---- the least number of steps
-
--- a number that passes differs from one that doesn't
-differs : (test : ℕ → Bool) (k j : ℕ) → test k ≡ false → test j ≡ true → k ≡ j → ⊥
-differs test k j off on same = let f : false ≡ true = sym off ∙ ap test same ∙ on in cc
-
--- the least number passes, where one of those that are tried does
-least-passes : (test : ℕ → Bool) (k n j : ℕ) → k ≤ j → j < k + n → test j ≡ true → test (least test k n) ≡ true
-least-passes test k zero j a b e = absurd (omega arith)
-least-passes test k (suc n) j a b e = at (test k) refl (λ (c : k + 1 ≤ j). least-passes test (k + 1) n j c (omega arith) e)
-  where
-    at : (v : Bool) → test k ≡ v → (k + 1 ≤ j → test (least test (k + 1) n) ≡ true) → test (if v then k else least test (k + 1) n) ≡ true
-    at true q rest = q
-    at false q rest = rest (let d : k ≡ j → ⊥ = differs test k j q e in omega arith)
-
--- and none below it does
-least-below : (test : ℕ → Bool) (k n j : ℕ) → k ≤ j → j < least test k n → test j ≡ false
-least-below test k zero j a b = absurd (omega arith)
-least-below test k (suc n) j a b = at (test k) refl b (λ (c : k + 1 ≤ j) (d : j < least test (k + 1) n). least-below test (k + 1) n j c d)
-  where
-    at : (v : Bool) → test k ≡ v → j < (if v then k else least test (k + 1) n) → (k + 1 ≤ j → j < least test (k + 1) n → test j ≡ false) → test j ≡ false
-    at true q less rest = absurd (omega arith)
-    at false q less rest = here (j == k) refl
-      where
-        here : (same : Bool) → (j == k) ≡ same → test j ≡ false
-        here true s = let same : j ≡ k = grind (arith, nat_tests) in ap test same ∙ q
-        here false s = let other : j ≡ k → ⊥ = λ same. grind (arith, nat_tests) in rest (omega arith) less
-
-least-from : (test : ℕ → Bool) (k n : ℕ) → k ≤ least test k n
-least-from test k zero = omega arith
-least-from test k (suc n) = at (test k) (least-from test (k + 1) n)
-  where
-    at : (v : Bool) → k + 1 ≤ least test (k + 1) n → k ≤ (if v then k else least test (k + 1) n)
-    at true rest = omega arith
-    at false rest = omega arith
-
--- where one of those that are tried passes, the least is no greater
-least-at-most : (test : ℕ → Bool) (k n j : ℕ) → k ≤ j → test j ≡ true → j < least test k n → ⊥
-least-at-most test k n j a e b = let f : false ≡ true = sym (least-below test k n j a b) ∙ e in cc
-
-same-true : (n : ℕ) → (n == n) ≡ true
-same-true n = grind (arith, nat_tests)
-
-stops-at-limit : (limit : ℕ) (goal : Goal) (p : Point) (k : ℕ) → 1 ≤ k → k ≡ limit → is_some (stop limit goal p k) ≡ true
-stops-at-limit limit goal p zero some same = absurd (omega arith)
-stops-at-limit limit goal p (suc k) some same =
-    at (has_ended (state_after (suc k) p.state).status) (breaks_at p (state_after (suc k) p.state)) (watch_differs p (state_after k p.state) (state_after (suc k) p.state)) (is_done goal (depth p.state) (suc k) (state_after (suc k) p.state)) (suc k == limit) (grind (arith, nat_tests))
-  where
-    at : (ended broken watched satisfied here : Bool) → here ≡ true → is_some (if ended then Some End else (if broken then Some Break else (if watched then Some Watch else (if satisfied then Some Done else (if here then Some Limit else None))))) ≡ true
-    at true broken watched satisfied here h = refl
-    at false true watched satisfied here h = refl
-    at false false true satisfied here h = refl
-    at false false false true here h = refl
-    at false false false false true h = refl
-    at false false false false false h = cc
-
-none-of : {A : Type 0} (o : Option A) → is_some o ≡ false → IsNone o
-none-of None e = refl
-none-of (Some a) e = cc
-
-pub steps-are-least : StepsAreLeast
-steps-are-least limit goal p some =
-    let test : ℕ → Bool = λ k. is_some (stop limit goal p k) in
-    let last : test limit ≡ true = stops-at-limit limit goal p limit some refl in record {
-      some = least-from test 1 limit;
-      within = let no = least-at-most test 1 limit limit some last in omega (arith, no);
-      stops = least-passes test 1 limit limit (omega arith) (omega arith) last;
-      least = λ j one less. none-of _ (least-below test 1 limit j one less);
-    }
-
--- ---- breakpoints on the way
-
--- where nothing stops, no breakpoint is there
-no-break : (limit : ℕ) (goal : Goal) (p : Point) (j : ℕ) → 1 ≤ j → is_some (stop limit goal p j) ≡ false → breaks_at p (state_after j p.state) ≡ false
-no-break limit goal p zero some e = absurd (omega arith)
-no-break limit goal p (suc j) some e =
-    at (has_ended (state_after (suc j) p.state).status) (breaks_at p (state_after (suc j) p.state)) e
-  where
-    at : (ended broken : Bool) → is_some (if ended then Some End else (if broken then Some Break else (if watch_differs p (state_after j p.state) (state_after (suc j) p.state) then Some Watch else (if is_done goal (depth p.state) (suc j) (state_after (suc j) p.state) then Some Done else (if suc j == limit then Some Limit else None))))) ≡ false → broken ≡ false
-    at true broken e = absurd cc
-    at false true e = absurd cc
-    at false false e = refl
-
--- how many steps are told, of a command that goes forward
-cut-steps : (gap : Option ℕ) (room n k : ℕ) (because why : Why) (p : Point) → (cut gap room n because p).answer ≡ Ok (Forward k why) → k ≤ n
-cut-steps None room n k because why p e = let s : n ≡ k = cc in omega arith
-cut-steps (Some m) room n k because why p e = test (nat_lt m n) refl (m == 0) e
-  where
-    test : (less : Bool) → nat_lt m n ≡ less → (first : Bool) → (if less then (if first then refused OutOfMemory p else taken room m Memory p) else taken room n because p).answer ≡ Ok (Forward k why) → k ≤ n
-    test true l true e = absurd cc
-    test true l false e = let s : m ≡ k = cc in let t : m < n = grind (arith, nat_tests) in omega arith
-    test false l first e = let s : n ≡ k = cc in omega arith
-
-unless-is : (rs : List Refusal) (p : Point) (o : Outcome) (r : Reply) → (unless_refused rs p o).answer ≡ Ok r → unless_refused rs p o ≡ o
-unless-is [] p o r e = refl
-unless-is (q ∷ rs) p o r e = absurd cc
-
-to_stop-back : (found : Option ℕ) (p : Point) (k : ℕ) (why : Why) → (to_stop found p).answer ≡ Ok (Forward k why) → ⊥
-to_stop-back None p k why e = cc
-to_stop-back (Some n) p k why e = cc
-
-back-forward : (target : Target) (p : Point) (k : ℕ) (why : Why) → (back target p).answer ≡ Ok (Forward k why) → ⊥
-back-forward (targets.Commands count) p k why e = cc
-back-forward (targets.Steps count) p k why e = cc
-back-forward targets.Next p k why e = cc
-back-forward targets.Continue p k why e = to_stop-back (found targets.Continue 1 p) p k why e
-back-forward targets.Finish p k why e = cc
-
-way : (limit : ℕ) (goal : Goal) (p : Point) (k : ℕ) → k ≤ steps limit goal p → (j : ℕ) → 1 ≤ j → j < k → breaks_at p (state_after j p.state) ≡ false
-way limit goal p k most j some less = no-break limit goal p j some (least-below (λ i. is_some (stop limit goal p i)) 1 limit j some (omega arith))
-
--- a command that goes forward takes steps up to some goal
-accepted-forward : (gap : Option ℕ) (b : Bounds) (c : Command) (p : Point) (k : ℕ) (why : Why) → (accepted gap b c p).answer ≡ Ok (Forward k why) → (goal : Goal) × (accepted gap b c p ≡ forward gap b goal p)
-unfolding accepted
-accepted-forward gap b (command.Forward goal) p k why e = (goal, refl)
-accepted-forward gap b (command.Back target) p k why e = absurd (back-forward target p k why e)
-accepted-forward None b (command.Edit change) p k why e = absurd cc
-accepted-forward (Some m) b (command.Edit change) p k why e = absurd cc
-accepted-forward gap b (command.Add stop) p k why e = absurd cc
-accepted-forward gap b (command.Remove stop) p k why e = absurd cc
-accepted-forward gap b (command.Show view) p k why e = absurd cc
-accepted-forward gap b command.Quit p k why e = absurd cc
-
-does-forward : (gap : Option ℕ) (b : Bounds) (c : Command) (p : Point) (k : ℕ) (why : Why) → (does gap b c p).answer ≡ Ok (Forward k why) → (goal : Goal) × (does gap b c p ≡ forward gap b goal p)
-does-forward gap b c p k why e =
-    let same = unless-is (refusals_of c p) p (accepted gap b c p) (Forward k why) e in
-    let w = accepted-forward gap b c p k why (ap (λ (o : Outcome). o.answer) (sym same) ∙ e) in
-    (w.0, same ∙ w.1)
-
-pub breakpoints-stop : BreakpointsStop
-breakpoints-stop gap b c p k why e =
-    let w = does-forward gap b c p k why e in
-    way b.limit w.0 p k (cut-steps gap b.room (steps b.limit w.0 p) k (reason b.limit w.0 p) why p (ap (λ (o : Outcome). o.answer) (sym w.1) ∙ e))
-
--- ---- watches on the way
-
--- where nothing stops, no watched byte has changed
-no-change : (limit : ℕ) (goal : Goal) (p : Point) (j : ℕ) → is_some (stop limit goal p (suc j)) ≡ false → watch_differs p (state_after j p.state) (state_after (suc j) p.state) ≡ false
-no-change limit goal p j e =
-    at (has_ended (state_after (suc j) p.state).status) (breaks_at p (state_after (suc j) p.state)) (watch_differs p (state_after j p.state) (state_after (suc j) p.state)) e
-  where
-    at : (ended broken watched : Bool) → is_some (if ended then Some End else (if broken then Some Break else (if watched then Some Watch else (if is_done goal (depth p.state) (suc j) (state_after (suc j) p.state) then Some Done else (if suc j == limit then Some Limit else None))))) ≡ false → watched ≡ false
-    at true broken watched e = absurd cc
-    at false true watched e = absurd cc
-    at false false true e = absurd cc
-    at false false false e = refl
-
-pub watches-stop : WatchesStop
-watches-stop gap b c p k why e j less =
-    let w = does-forward gap b c p k why e in
-    let most = cut-steps gap b.room (steps b.limit w.0 p) k (reason b.limit w.0 p) why p (ap (λ (o : Outcome). o.answer) (sym w.1) ∙ e) in
-    no-change b.limit w.0 p j (least-below (λ i. is_some (stop b.limit w.0 p i)) 1 b.limit (suc j) (omega arith) (omega (arith, less, most)))
-
--- ---- called functions
-
--- a command that is done has done what it was asked for
-done-reached : (limit : ℕ) (goal : Goal) (p : Point) (j : ℕ) → unwrap_or (stop limit goal p j) Limit ≡ Done → is_done goal (depth p.state) j (state_after j p.state) ≡ true
-done-reached limit goal p zero e = absurd cc
-done-reached limit goal p (suc j) e =
-    at (has_ended (state_after (suc j) p.state).status) (breaks_at p (state_after (suc j) p.state)) (watch_differs p (state_after j p.state) (state_after (suc j) p.state)) (is_done goal (depth p.state) (suc j) (state_after (suc j) p.state)) (suc j == limit) e
-  where
-    at : (ended broken watched satisfied here : Bool) → unwrap_or (if ended then Some End else (if broken then Some Break else (if watched then Some Watch else (if satisfied then Some Done else (if here then Some Limit else None))))) Limit ≡ Done → satisfied ≡ true
-    at true broken watched satisfied here e = absurd cc
-    at false true watched satisfied here e = absurd cc
-    at false false true satisfied here e = absurd cc
-    at false false false true here e = refl
-    at false false false false true e = absurd cc
-    at false false false false false e = absurd cc
-
-cut-done : (gap : Option ℕ) (room n k : ℕ) (because : Why) (p : Point) → (cut gap room n because p).answer ≡ Ok (Forward k Done) → (because ≡ Done) × ((cut gap room n because p).point ≡ gone room n p)
-cut-done None room n k because p e = (let s : because ≡ Done = cc in s, refl)
-cut-done (Some m) room n k because p e = test (nat_lt m n) (m == 0) e
-  where
-    test : (less first : Bool) → (if less then (if first then refused OutOfMemory p else taken room m Memory p) else taken room n because p).answer ≡ Ok (Forward k Done) → (because ≡ Done) × ((if less then (if first then refused OutOfMemory p else taken room m Memory p) else taken room n because p).point ≡ gone room n p)
-    test true true e = absurd cc
-    test true false e = absurd cc
-    test false first e = (let s : because ≡ Done = cc in s, refl)
-
-forward-done : (gap : Option ℕ) (b : Bounds) (goal : Goal) (p : Point) (k : ℕ) (rs : List Refusal) → (unless_refused rs p (forward gap b goal p)).answer ≡ Ok (Forward k Done) → is_done goal (depth p.state) (steps b.limit goal p) (unless_refused rs p (forward gap b goal p)).point.state ≡ true
-forward-done gap b goal p k (r ∷ rs) e = absurd cc
-forward-done gap b goal p k [] e =
-    let c = cut-done gap b.room (steps b.limit goal p) k (reason b.limit goal p) p e in
-    ap (λ (q : Point). is_done goal (depth p.state) (steps b.limit goal p) q.state) c.1 ∙ done-reached b.limit goal p (steps b.limit goal p) c.0
-
-at-most : (m n : ℕ) → nat_le m n ≡ true → m ≤ n
-at-most m n h = grind (arith, nat_tests)
-
-below : (m n : ℕ) → nat_lt m n ≡ true → m < n
-below m n h = grind (arith, nat_tests)
-
-pub calls-run-as-one : CallsRunAsOne
-unfolding accepted
-calls-run-as-one gap b p k = (
-  λ e. at-most _ _ (forward-done gap b goals.Next p k (refusals_of (command.Forward goals.Next) p) e),
-  λ e. below _ _ (forward-done gap b goals.Finish p k (refusals_of (command.Forward goals.Finish) p) e),
-)
-
--- ---- what a command takes back
-
-cut-forward : (gap : Option ℕ) (room n k : ℕ) (because why : Why) (p : Point) → (cut gap room n because p).answer ≡ Ok (Back k why) → ⊥
-cut-forward None room n k because why p e = cc
-cut-forward (Some m) room n k because why p e = test (nat_lt m n) (m == 0) e
-  where
-    test : (less first : Bool) → (if less then (if first then refused OutOfMemory p else taken room m Memory p) else taken room n because p).answer ≡ Ok (Back k why) → ⊥
-    test true true e = cc
-    test true false e = cc
-    test false first e = cc
-
-gone-by : (n k : ℕ) (because why : Why) (p : Point) → (gone_back n because p).answer ≡ Ok (Back k why) → (gone_back n because p).point ≡ back_by k p
-gone-by n k because why p e = let s : n ≡ k = cc in ap (λ j. back_by j p) s
-
-to_stop-by : (found : Option ℕ) (p : Point) (k : ℕ) (why : Why) → (to_stop found p).answer ≡ Ok (Back k why) → (to_stop found p).point ≡ back_by k p
-to_stop-by None p k why e = gone-by _ k _ why p e
-to_stop-by (Some n) p k why e = gone-by n k _ why p e
-
-back-by : (target : Target) (p : Point) (k : ℕ) (why : Why) → (back target p).answer ≡ Ok (Back k why) → (back target p).point ≡ back_by k p
-back-by (targets.Commands count) p k why e = gone-by _ k _ why p e
-back-by (targets.Steps count) p k why e = gone-by _ k _ why p e
-back-by targets.Next p k why e = gone-by _ k _ why p e
-back-by targets.Continue p k why e = to_stop-by (found targets.Continue 1 p) p k why e
-back-by targets.Finish p k why e = gone-by _ k _ why p e
-
-accepted-back : (gap : Option ℕ) (b : Bounds) (c : Command) (p : Point) (k : ℕ) (why : Why) → (accepted gap b c p).answer ≡ Ok (Back k why) → (accepted gap b c p).point ≡ back_by k p
-unfolding accepted
-accepted-back gap b (command.Forward goal) p k why e = absurd (cut-forward gap b.room _ k _ why p e)
-accepted-back gap b (command.Back target) p k why e = back-by target p k why e
-accepted-back None b (command.Edit change) p k why e = absurd cc
-accepted-back (Some m) b (command.Edit change) p k why e = absurd cc
-accepted-back gap b (command.Add stop) p k why e = absurd cc
-accepted-back gap b (command.Remove stop) p k why e = absurd cc
-accepted-back gap b (command.Show view) p k why e = absurd cc
-accepted-back gap b command.Quit p k why e = absurd cc
-
-pub moves-are-taken-back : TakesBackItsMoves
-moves-are-taken-back gap b c p k why e =
-    let same = unless-is (refusals_of c p) p (accepted gap b c p) (Back k why) e in
-    ap (λ (o : Outcome). o.point) same ∙ accepted-back gap b c p k why (ap (λ (o : Outcome). o.answer) (sym same) ∙ e)
-
 -- ---- gaps that made no refusal
 
 -- refusals never sink
@@ -468,9 +229,6 @@ marked-told : (k : ℕ) (p : Point) (y : State) → latest marked 1 (told (suc k
 marked-told zero p y = refl
 marked-told (suc k) p y = let e : (suc k == 0) ≡ false = grind (arith, nat_tests) in rw e (ap (option_map suc) (marked-told k p (state_after (suc k) p.state)))
 
-count-more : (test : Record → Bool) (r : Record) (h : List Record) → count_by test (r ∷ h) ≡ cond (test r) 1 0 + count_by test h
-count-more test r h = sum_by-cons (λ x. cond (test x) 1 0) r h
-
 marks-told : (k : ℕ) (p : Point) → 1 ≤ count_by (λ r. r.mark) (told (suc k) p)
 marks-told zero p =
     let e = count-more (λ r. r.mark) (record_of p.state Step true) p.history in
@@ -536,82 +294,3 @@ going-back-gives-back gap later b c p k why e all =
 pub replay-is-the-same : ReplayIsTheSame
 replay-is-the-same gap later b c p k why e all =
     ap (does gap b c) (going-back-gives-back gap later b c p k why e all).reverse
-
--- ---- undoing
-
--- the n-th latest marked record
-record NthMark (n : ℕ) (h : List Record) (y : State) : Type 0 where
-  newer : ℕ
-  found : Record
-  far : latest marked n h y ≡ Some (suc newer)
-  there : slice_get h newer ≡ Some found
-  here : state_before (suc newer) h y ≡ found.before
-  is : found.mark ≡ true
-  last : count_by (λ r. r.mark) (take newer h) + 1 ≡ n
-
-none-marked : count_by (λ (r : Record). r.mark) [] ≡ 0
-none-marked = refl
-
-nth-mark : (n : ℕ) (h : List Record) (y : State) → 1 ≤ n → n ≤ count_by (λ r. r.mark) h → NthMark n h y
-nth-mark n [] y some enough = absurd (omega (arith, none-marked))
-nth-mark n (r ∷ h) y some enough = at r.mark refl (n == 1) refl (λ m one more. nth-mark m h r.before one more)
-  where
-    at : (hit : Bool) → r.mark ≡ hit → (one : Bool) → (n == 1) ≡ one → ((m : ℕ) → 1 ≤ m → m ≤ count_by (λ r. r.mark) h → NthMark m h r.before) → NthMark n (r ∷ h) y
-    at true e true o rest =
-        let first : n ≡ 1 = grind (arith, nat_tests) in
-        record {
-          newer = 0;
-          found = r;
-          far = ap (λ (b : Bool). if b then (if n == 1 then Some 1 else option_map suc (latest marked (n - 1) h r.before)) else option_map suc (latest marked n h r.before)) e ∙ ap (λ (b : Bool). if b then Some 1 else option_map suc (latest marked (n - 1) h r.before)) o;
-          there = refl;
-          here = refl;
-          is = e;
-          last = omega (arith, first, none-marked);
-        }
-    at true e false o rest =
-        let several : n ≡ 1 → ⊥ = λ same. grind (arith, nat_tests) in
-        let all = count-more (λ x. x.mark) r h in
-        let here : cond {A = ℕ} r.mark 1 0 ≡ 1 = ap (λ (b : Bool). cond {A = ℕ} b 1 0) e in
-        let m = rest (n - 1) (omega arith) (omega (arith, all, here)) in
-        let front = count-more (λ x. x.mark) r (take m.newer h) in
-        record {
-          newer = suc m.newer;
-          found = m.found;
-          far = ap (λ (b : Bool). if b then (if n == 1 then Some 1 else option_map suc (latest marked (n - 1) h r.before)) else option_map suc (latest marked n h r.before)) e ∙ ap (λ (b : Bool). if b then Some 1 else option_map suc (latest marked (n - 1) h r.before)) o ∙ ap (option_map suc) m.far;
-          there = m.there;
-          here = m.here;
-          is = m.is;
-          last = let last = m.last in omega (arith, front, here, last);
-        }
-    at false e o s rest =
-        let all = count-more (λ x. x.mark) r h in
-        let here : cond {A = ℕ} r.mark 1 0 ≡ 0 = ap (λ (b : Bool). cond {A = ℕ} b 1 0) e in
-        let m = rest n some (omega (arith, all, here)) in
-        let front = count-more (λ x. x.mark) r (take m.newer h) in
-        record {
-          newer = suc m.newer;
-          found = m.found;
-          far = ap (λ (b : Bool). if b then (if n == 1 then Some 1 else option_map suc (latest marked (n - 1) h r.before)) else option_map suc (latest marked n h r.before)) e ∙ ap (option_map suc) m.far;
-          there = m.there;
-          here = m.here;
-          is = m.is;
-          last = let last = m.last in omega (arith, front, here, last);
-        }
-
-pub undo-goes-to-the-mark : UndoGoesToTheMark
-unfolding accepted
-undo-goes-to-the-mark gap b n p some enough =
-    let m = nth-mark n p.history p.state some enough in
-    let e : nat_lt (marks p) n ≡ false = grind (arith, nat_tests) in
-    let one : suc m.newer ≡ m.newer + 1 = omega arith in
-    record {
-      newer = m.newer;
-      found = m.found;
-      there = m.there;
-      marked = m.is;
-      last = m.last;
-      back =
-          rw e (ap (λ (o : Option ℕ). back_by (unwrap_or o (length p.history)) p) m.far
-          ∙ ap (λ (x : State). record p { history = drop (suc m.newer) p.history; state = x }) m.here
-          ∙ ap (λ (j : ℕ). record p { history = drop j p.history; state = m.found.before }) one);
-    }

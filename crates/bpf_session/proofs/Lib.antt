@@ -1,8 +1,10 @@
 pub mod Answering
 pub mod Backwards
 pub mod Breaks
+pub mod BackwardLaws
 pub mod CommandLaws
 pub mod Flushing
+pub mod ForwardLaws
 pub mod Forwards
 pub mod Obeying
 pub mod Running

@@ -1,10 +1,11 @@
 -- Facts about the meaning of commands and of scripts, in the words of those who use them.
-use Rattle.std.specs.Prelude.{◌≡◌, ◌<◌, ◌≤◌, ◌-◌, ◌^◌, ◌+◌, ℕ, suc, Bool, true, false, List, [], ◌∷◌, length, map, take, drop, count_by, slice_get, Option, Some, Ok, Err, IsSome, IsNone, IsTrue}
+use Rattle.std.specs.Prelude.{◌≡◌, ◌≢◌, ◌<◌, ◌≤◌, ◌-◌, ◌^◌, ◌+◌, ◌⊎◌, ◌↔◌, if◌then◌else◌, ℕ, suc, Bool, true, false, List, [], ◌∷◌, length, map, min, take, drop, count_by, slice_get, Option, Some, Ok, Err, IsTrue, option_map}
 use Rattle.bpf_session.specs.Points.{Point, Bounds}
-use Rattle.bpf_session.specs.Forward.{state_after, stop, steps}
-use Rattle.bpf_machine.specs.State.{depth}
-use Rattle.bpf_journal.specs.Histories.{Record}
-use Rattle.bpf_session.specs.Backward.{back_by, marks}
+use Rattle.bpf_session.specs.Forward.{state_after}
+use Rattle.bpf_machine.specs.State.{State, depth}
+use Rattle.bpf_entries.specs.Status.{has_ended}
+use Rattle.bpf_journal.specs.Histories.{Record, is_step}
+use Rattle.bpf_session.specs.Backward.{before_last, marks}
 use Rattle.bpf_session.specs.Stops.{breaks_at, watch_differs}
 use Rattle.bpf_session.specs.Refused.{refusals_of}
 use Rattle.bpfdb_commands.specs.Refusals.{number_of}
@@ -14,12 +15,13 @@ use Rattle.bpf_session.specs.Output.{walk}
 use Rattle.bpfdb_commands.specs.declared.command.Command.{Command}
 use Rattle.bpfdb_commands.specs.declared.command.Command.TheVariants as command
 use Rattle.bpfdb_commands.specs.declared.command.Goal.{Goal}
-use Rattle.bpfdb_commands.specs.declared.command.Goal.TheVariants.{Next, Finish}
-use Rattle.bpfdb_commands.specs.declared.command.Target.TheVariants.{Commands, Steps}
+use Rattle.bpfdb_commands.specs.declared.command.Goal.TheVariants as goal
+use Rattle.bpfdb_commands.specs.declared.command.Target.{Target}
+use Rattle.bpfdb_commands.specs.declared.command.Target.TheVariants as target
 use Rattle.bpfdb_commands.specs.declared.refusal.Refusal.{Refusal}
 use Rattle.bpfdb_replies.specs.declared.why.Why.{Why}
 use Rattle.bpf_session.specs.declared.reply.Reply.TheVariants.{Forward, Back}
-use Rattle.bpfdb_replies.specs.declared.why.Why.TheVariants.{Done}
+use Rattle.bpfdb_replies.specs.declared.why.Why.TheVariants.{End, Break, Watch, Done, Limit, Memory, Start}
 
 -- A refused command changes nothing: neither history nor state, breakpoints or watches.
 abbrev pub RefusedChangesNothing : Type 0
@@ -46,15 +48,44 @@ Ascends (n ∷ m ∷ more) = (n < m) × Ascends (m ∷ more)
 abbrev pub RefusalsAreInOrder : Type 0
 RefusalsAreInOrder = (c : Command) (p : Point) → Ascends (map number_of (refusals_of c p))
 
--- A forward command stops after its steps, and after no fewer, of which there is one at least.
-pub record IsLeastStop (limit : ℕ) (goal : Goal) (p : Point) : Type 0 where
-  pub some : 1 ≤ steps limit goal p
-  pub within : steps limit goal p ≤ limit
-  pub stops : IsSome (stop limit goal p (steps limit goal p))
-  pub least : (j : ℕ) → 1 ≤ j → j < steps limit goal p → IsNone (stop limit goal p j)
+-- What a command that goes forward is asked for, after k steps: `stepi` has taken as many as it counts, `nexti` is back at the depth where
+-- it began or a smaller one, and `finish` at a smaller one.
+abbrev pub IsDone : Goal → Point → ℕ → Type 0
+IsDone (goal.Steps count) p k = k ≡ count
+IsDone goal.Next p k = depth (state_after k p.state) ≤ depth p.state
+IsDone goal.Finish p k = depth (state_after k p.state) < depth p.state
+IsDone goal.Continue p k = ⊥
 
-abbrev pub StepsAreLeast : Type 0
-StepsAreLeast = (limit : ℕ) (goal : Goal) (p : Point) → 1 ≤ limit → IsLeastStop limit goal p
+-- Why it stops after its k-th step: the machine has ended, a breakpoint is at pc, that step changed a watched byte, it is done, or it may
+-- take no more steps.
+abbrev pub IsReason : Why → ℕ → Goal → Point → ℕ → Type 0
+IsReason End limit goal p k = has_ended (state_after k p.state).status ≡ true
+IsReason Break limit goal p k = breaks_at p (state_after k p.state) ≡ true
+IsReason Watch limit goal p k = watch_differs p (state_after (k - 1) p.state) (state_after k p.state) ≡ true
+IsReason Done limit goal p k = IsDone goal p k
+IsReason Limit limit goal p k = k ≡ limit
+IsReason _ limit goal p k = ⊥
+
+-- Their order.
+abbrev pub rank : Why → ℕ
+rank End = 1
+rank Break = 2
+rank Watch = 3
+rank Done = 4
+rank Limit = 5
+rank _ = 6
+
+-- It stops after the first step, of one at least, after which there is a reason, and tells the first one in their order. Only a keeper
+-- that refuses a move ends it before.
+pub record StopsFirst (limit : ℕ) (goal : Goal) (p : Point) (k : ℕ) (why : Why) : Type 0 where
+  pub some : 1 ≤ k
+  pub holds : why ≢ Memory → IsReason why limit goal p k
+  pub first : (other : Why) → rank other < rank why → IsReason other limit goal p k → ⊥
+  pub never : (j : ℕ) (other : Why) → 1 ≤ j → j < k → IsReason other limit goal p j → ⊥
+
+abbrev pub TheFirstReasonStops : Type 0
+TheFirstReasonStops = (gap : Option ℕ) (b : Bounds) (goal : Goal) (p : Point) (k : ℕ) (why : Why)
+    → 1 ≤ b.limit → (does gap b (command.Forward goal) p).answer ≡ Ok (Forward k why) → StopsFirst b.limit goal p k why
 
 -- No breakpoint is at a state between the first and the last one of a command that goes forward.
 abbrev pub BreakpointsStop : Type 0
@@ -66,23 +97,82 @@ abbrev pub WatchesStop : Type 0
 WatchesStop = (gap : Option ℕ) (b : Bounds) (c : Command) (p : Point) (k : ℕ) (why : Why)
     → (does gap b c p).answer ≡ Ok (Forward k why) → (j : ℕ) → suc j < k → watch_differs p (state_after j p.state) (state_after (suc j) p.state) ≡ false
 
--- `nexti` that is done has come back to the depth where it began or a smaller one, `finish` to a smaller one.
+-- `nexti` that is done has come back to the depth where it began or a smaller one, and each state on the way was deeper. `finish` that is
+-- done has come to a smaller one, and no state on the way was at one.
 abbrev pub CallsRunAsOne : Type 0
-CallsRunAsOne = (gap : Option ℕ) (b : Bounds) (p : Point) (k : ℕ)
-    → ((does gap b (command.Forward Next) p).answer ≡ Ok (Forward k Done) → depth (does gap b (command.Forward Next) p).point.state ≤ depth p.state)
-    × ((does gap b (command.Forward Finish) p).answer ≡ Ok (Forward k Done) → depth (does gap b (command.Forward Finish) p).point.state < depth p.state)
+CallsRunAsOne = (gap : Option ℕ) (b : Bounds) (p : Point) (k : ℕ) (why : Why) → 1 ≤ b.limit
+    → ((does gap b (command.Forward goal.Next) p).answer ≡ Ok (Forward k why)
+    → (why ≡ Done → depth (state_after k p.state) ≤ depth p.state)
+    × ((j : ℕ) → 1 ≤ j → j < k → depth p.state < depth (state_after j p.state)))
+    × ((does gap b (command.Forward goal.Finish) p).answer ≡ Ok (Forward k why)
+    → (why ≡ Done → depth (state_after k p.state) < depth p.state)
+    × ((j : ℕ) → j < k → depth p.state ≤ depth (state_after j p.state)))
 
--- A command that goes back takes back as many moves as it says, and nothing else: the state before the last of them comes back, and the
--- moves in front of it are still kept.
+-- A command that goes back takes back as many moves as it says, of those that are kept, and nothing else: the state before the last of
+-- them comes back, and the moves in front of it are still kept.
+pub record TakesBack (k : ℕ) (p q : Point) : Type 0 where
+  pub some : 1 ≤ k
+  pub within : k ≤ length p.history
+  pub last : Record
+  pub there : slice_get p.history (k - 1) ≡ Some last
+  pub back : q ≡ record p { history = drop k p.history; state = last.before }
+
+-- A count is 1 at least.
+abbrev pub HasCount : Target → Type 0
+HasCount (target.Commands count) = 1 ≤ count
+HasCount (target.Steps count) = 1 ≤ count
+HasCount _ = Unit {0}
+
 abbrev pub TakesBackItsMoves : Type 0
-TakesBackItsMoves = (gap : Option ℕ) (b : Bounds) (c : Command) (p : Point) (k : ℕ) (why : Why)
-    → (does gap b c p).answer ≡ Ok (Back k why) → (does gap b c p).point ≡ back_by k p
+TakesBackItsMoves = (gap : Option ℕ) (b : Bounds) (t : Target) (p : Point) (k : ℕ) (why : Why) → HasCount t
+    → (does gap b (command.Back t) p).answer ≡ Ok (Back k why) → TakesBack k p (does gap b (command.Back t) p).point
+
+-- Of the moves that are taken back, the last one among them, as many pass a test as were asked for. Where fewer are kept it is all of
+-- them, and the answer is `start`.
+pub record CountsBack (test : Record → Bool) (count : ℕ) (p : Point) (k : ℕ) (why : Why) : Type 0 where
+  pub last : option_map test (slice_get p.history (k - 1)) ≡ Some true
+  pub counted : count_by test (take k p.history) ≡ min count (count_by test p.history)
+  pub done : (why ≡ Done) ↔ (count ≤ count_by test p.history)
+  pub start : (why ≡ Start) ↔ (count_by test p.history < count)
+
+-- `undo` counts marked moves, `reverse-stepi` steps.
+abbrev pub CountsAreGoneBack : Type 0
+CountsAreGoneBack = (gap : Option ℕ) (b : Bounds) (count : ℕ) (p : Point) (k : ℕ) (why : Why) → 1 ≤ count
+    → ((does gap b (command.Back (target.Commands count)) p).answer ≡ Ok (Back k why) → CountsBack (λ r. r.mark) count p k why)
+    × ((does gap b (command.Back (target.Steps count)) p).answer ≡ Ok (Back k why) → CountsBack (λ r. is_step r.move) count p k why)
+
+-- The k-th last move is such a one, by its record and the state that it led to.
+abbrev pub IsAt : (Record → State → Type 0) → Point → ℕ → Type 0
+IsAt Sought p k = (r : Record) × (slice_get p.history (k - 1) ≡ Some r) × Sought r (before_last (k - 1) p)
+
+-- The latest such move is the last that is taken back, and the answer tells why. Or none is kept, all moves are taken back, and the
+-- answer is `start`.
+pub record FindsLatest (Sought : Record → State → Type 0) (because : Why) (p : Point) (k : ℕ) (why : Why) : Type 0 where
+  pub newer : (j : ℕ) → 1 ≤ j → j < k → IsAt Sought p j → ⊥
+  pub found : why ≢ Start → (why ≡ because) × IsAt Sought p k
+  pub start : why ≡ Start → (k ≡ length p.history) × (IsAt Sought p k → ⊥)
+
+-- `reverse-nexti` looks for a step from the present depth or a smaller one, `reverse-finish` for a move from a smaller one, and
+-- `reverse-continue` for a step from a breakpoint, or one that changed a watched byte.
+abbrev pub IsSought : Target → Point → Record → State → Type 0
+IsSought target.Next p r y = (is_step r.move ≡ true) × (depth r.before ≤ depth p.state)
+IsSought target.Finish p r y = depth r.before < depth p.state
+IsSought target.Continue p r y = (is_step r.move ≡ true) × ((breaks_at p r.before ≡ true) ⊎ (watch_differs p r.before y ≡ true))
+IsSought _ p r y = ⊥
+
+-- `reverse-continue` answers `break` where a breakpoint is at the pc that came back, and else `watch`.
+abbrev pub TheLatestIsFound : Type 0
+TheLatestIsFound = (gap : Option ℕ) (b : Bounds) (p : Point) (k : ℕ) (why : Why)
+    → ((does gap b (command.Back target.Next) p).answer ≡ Ok (Back k why) → FindsLatest (IsSought target.Next p) Done p k why)
+    × ((does gap b (command.Back target.Finish) p).answer ≡ Ok (Back k why) → FindsLatest (IsSought target.Finish p) Done p k why)
+    × ((does gap b (command.Back target.Continue) p).answer ≡ Ok (Back k why)
+    → FindsLatest (IsSought target.Continue p) (if breaks_at p (before_last k p) then Break else Watch) p k why)
 
 -- Going back over the steps that a command took, or undoing it, gives back the point in front of it in every component, where none of
 -- the history was dropped for them.
 pub record GivesBack (later : Option ℕ) (b : Bounds) (k : ℕ) (p q : Point) : Type 0 where
-  pub reverse : (does later b (command.Back (Steps k)) q).point ≡ p
-  pub undo : (does later b (command.Back (Commands 1)) q).point ≡ p
+  pub reverse : (does later b (command.Back (target.Steps k)) q).point ≡ p
+  pub undo : (does later b (command.Back (target.Commands 1)) q).point ≡ p
 
 abbrev pub GoingBackGivesBack : Type 0
 GoingBackGivesBack = (gap later : Option ℕ) (b : Bounds) (c : Command) (p : Point) (k : ℕ) (why : Why)
@@ -93,7 +183,7 @@ GoingBackGivesBack = (gap later : Option ℕ) (b : Bounds) (c : Command) (p : Po
 abbrev pub ReplayIsTheSame : Type 0
 ReplayIsTheSame = (gap later : Option ℕ) (b : Bounds) (c : Command) (p : Point) (k : ℕ) (why : Why)
     → (does gap b c p).answer ≡ Ok (Forward k why) → length (does gap b c p).point.history ≡ k + length p.history
-    → does gap b c (does later b (command.Back (Steps k)) (does gap b c p).point).point ≡ does gap b c p
+    → does gap b c (does later b (command.Back (target.Steps k)) (does gap b c p).point).point ≡ does gap b c p
 
 -- `undo` of n gives back the point in front of the n-th last marked record that is kept, whatever commands made the records behind it.
 pub record GoesToTheMark (n : ℕ) (p q : Point) : Type 0 where
@@ -105,7 +195,7 @@ pub record GoesToTheMark (n : ℕ) (p q : Point) : Type 0 where
   pub back : q ≡ record p { history = drop (newer + 1) p.history; state = found.before }
 
 abbrev pub UndoGoesToTheMark : Type 0
-UndoGoesToTheMark = (gap : Option ℕ) (b : Bounds) (n : ℕ) (p : Point) → 1 ≤ n → n ≤ marks p → GoesToTheMark n p (does gap b (command.Back (Commands n)) p).point
+UndoGoesToTheMark = (gap : Option ℕ) (b : Bounds) (n : ℕ) (p : Point) → 1 ≤ n → n ≤ marks p → GoesToTheMark n p (does gap b (command.Back (target.Commands n)) p).point
 
 -- Where the gaps of a script made no refusal more, and the count of refusals isn't at its last value, no gap did anything.
 abbrev pub NothingRefusedNothingMissing : Type 0

@@ -1,5 +1,5 @@
 //! Laws of the meaning of commands and of scripts. Each stands on a function without code, since it speaks of the definitions alone.
-ghost use Rattle.bpf_session.specs.Laws.{BreakpointsStop, CallsRunAsOne, GoingBackGivesBack, NothingRefusedNothingMissing, RefusalsAreInOrder, RefusedChangesNothing, ReplayIsTheSame, ShowsChangeNothing, StepsAreLeast, TakesBackItsMoves, UndoGoesToTheMark, WatchesStop};
+ghost use Rattle.bpf_session.specs.Laws.{BreakpointsStop, CallsRunAsOne, CountsAreGoneBack, GoingBackGivesBack, NothingRefusedNothingMissing, RefusalsAreInOrder, RefusedChangesNothing, ReplayIsTheSame, ShowsChangeNothing, TakesBackItsMoves, TheFirstReasonStops, TheLatestIsFound, UndoGoesToTheMark, WatchesStop};
 
 /// A refused command changes nothing: neither history nor state, breakpoints or watches.
 #[tactic(none)]
@@ -19,10 +19,11 @@ pub fn refusals_are_in_order()
     ensures { RefusalsAreInOrder }
 {}
 
-/// A forward command takes the least number of steps, at least one, after which a stop holds.
+/// A command that goes forward stops after the first step, of one at least, after which there is a reason for it, and tells the first
+/// reason in the order end, break, watch, done, limit.
 #[tactic(none)]
-pub fn steps_are_least()
-    ensures { StepsAreLeast }
+pub fn the_first_reason_stops()
+    ensures { TheFirstReasonStops }
 {}
 
 /// A command passes over no breakpoint on its way forward.
@@ -37,16 +38,30 @@ pub fn watches_stop()
     ensures { WatchesStop }
 {}
 
-/// A called function runs as one step of `nexti`, and `finish` runs until it has returned, unless another stop comes first.
+/// A called function runs as one step of `nexti`, and `finish` runs until it has returned and no further, unless another stop comes first.
 #[tactic(none)]
 pub fn calls_run_as_one()
     ensures { CallsRunAsOne }
 {}
 
-/// A command that goes back takes back as many moves as it says, and nothing else.
+/// A command that goes back takes back as many moves as it says, of those that are kept, and nothing else.
 #[tactic(none)]
 pub fn moves_are_taken_back()
     ensures { TakesBackItsMoves }
+{}
+
+/// `undo` takes back as many marked moves as it counts and `reverse-stepi` as many steps, and the last move that either takes back is
+/// one of these; `reverse-stepi` says `start` where fewer are kept.
+#[tactic(none)]
+pub fn counts_are_gone_back()
+    ensures { CountsAreGoneBack }
+{}
+
+/// `reverse-nexti`, `reverse-finish` and `reverse-continue` go back to before the latest move that they look for, and say `start` where
+/// none is kept.
+#[tactic(none)]
+pub fn the_latest_is_found()
+    ensures { TheLatestIsFound }
 {}
 
 /// Going back over the steps that a command took, or undoing it, gives back the point in front of it, where nothing was dropped for them.

@@ -1,4 +1,4 @@
-use Rattle.bpf_session.proofs.CommandLaws.{breakpoints-stop}
+use Rattle.bpf_session.proofs.ForwardLaws.{breakpoints-stop}
 use Rattle.bpf_session.proofs.laws.breakpoints_stop.Goals as goal
 
 pub returns : goal.returns

@@ -1,4 +1,4 @@
-use Rattle.bpf_session.proofs.CommandLaws.{moves-are-taken-back}
+use Rattle.bpf_session.proofs.BackwardLaws.{moves-are-taken-back}
 use Rattle.bpf_session.proofs.laws.moves_are_taken_back.Goals as goal
 
 pub returns : goal.returns
