@@ -223,7 +223,9 @@ fn set_stops(session: &mut Session<ListKeeper>, stops: Stops) -> bool {
         }
         Stops::Watches => {
             for offset in 0..4u64 {
-                are_set &= session.apply(&Command::Add(Stop::Watch(FRAME + offset))).is_ok();
+                are_set &= session
+                    .apply(&Command::Add(Stop::Watch(FRAME + offset)))
+                    .is_ok();
             }
         }
     }
