@@ -1,5 +1,5 @@
 -- Scaffolding: how an entry is put back into a state, as the code does it. The contract of `revert` speaks of moves alone.
-use Rattle.std.specs.Prelude.{◌<◌, ℕ, ◌+◌, ◌-◌, if◌then◌else◌, List, Option, Some, None, length, take, slice_set, unwrap_or, IfSome}
+use Rattle.std.specs.Prelude.{◌<◌, ℕ, ◌+◌, ◌-◌, if◌then◌else◌, List, length, take, slice_set, unwrap_or, IfSome}
 use Rattle.std.specs.Option.{option_map_or}
 use Rattle.bpf_isa.specs.Programs.{IsStart}
 use Rattle.bpf_entries.specs.Past.{Frames, Same, Fewer, More, past, replaced}
