@@ -1,0 +1,142 @@
+//! A ring of bytes.
+ghost use Rattle.std.specs.Prelude.{◌≡◌, ◌≤◌, ◌<◌, ◌+◌, ◌-◌, ◌^◌, ◌++◌, [], length, take, drop, slice_get, ℕ, List, IfOk};
+ghost use Rattle.byteorder.specs.Endian.{little_bytes};
+ghost use Rattle.bpf_ring.specs.Blocks.{IsRingSize};
+
+use crate::block::{place, write_around};
+use circular_buffer::HeapCircularBuffer;
+use std::alloc::{AllocError, Global};
+use std::marker::Model;
+
+/// A ring of bytes of a fixed size, 1,024 to 16,777,216. Its block is taken once, when it is opened. No other call takes memory.
+#[derive(Drop)]
+pub struct Ring {
+    /// The block: always full, and never turned.
+    buffer: HeapCircularBuffer<u8>,
+    /// The place of the oldest byte in it.
+    first: usize,
+    /// How many bytes there are.
+    len: usize,
+}
+
+impl Model for Ring {
+    ghost use Rattle.std.specs.Prelude.{◌≡◌, ◌<◌, ◌≤◌, ◌^◌, length};
+    ghost use Rattle.bpf_ring.specs.Blocks.{Content, around};
+
+    ghost Value = { Content };
+
+    ghost view = { λ r. record { size = r.buffer.capacity; bytes = around r.buffer.items r.first r.len } };
+
+    ghost invariant = { λ r. record {
+      full : length r.buffer.items ≡ r.buffer.capacity;
+      within : r.first < r.buffer.capacity;
+      fits : r.len ≤ r.buffer.capacity;
+      short : r.buffer.capacity < 2 ^ 63;
+    } };
+}
+
+impl Ring {
+    /// A ring of this size with no bytes.
+    pub fn open(alloc: Global, size: usize) -> Result<Ring, AllocError>
+        requires { IsRingSize size }
+        ensures { IfOk result (λ ring. (ring.size ≡ size) × (ring.bytes ≡ [])) }
+    {
+        let mut buffer = HeapCircularBuffer::with_capacity(alloc, size)?;
+        for i in 0..size {
+            let _ = buffer.push_back(0);
+        }
+        Ok(Ring::over(buffer))
+    }
+
+    /// A ring over a full buffer, with no bytes.
+    fn over(buffer: HeapCircularBuffer<u8>) -> Ring
+        requires full { length buffer.items ≡ buffer.capacity }
+        requires some { (0 < buffer.capacity) × (buffer.capacity < 2 ^ 63) }
+        ensures size { result.size ≡ buffer.capacity }
+        ensures none { result.bytes ≡ [] }
+    {
+        Ring {
+            buffer,
+            first: 0,
+            len: 0,
+        }
+    }
+
+    /// How many bytes it may have.
+    pub fn size(&self) -> usize
+        ensures { result ≡ self.now.size }
+    {
+        self.buffer.capacity()
+    }
+
+    /// How many bytes it has.
+    pub fn len(&self) -> usize
+        ensures { result ≡ length self.now.bytes }
+    {
+        self.len
+    }
+
+    /// Appends bytes, for which there must be room. It takes no memory.
+    pub fn push(&mut self, bytes: &[u8])
+        requires { length self.old.bytes + length bytes.now ≤ self.old.size }
+        ensures size { self.new.size ≡ self.old.size }
+        ensures bytes { self.new.bytes ≡ self.old.bytes ++ bytes.now }
+    {
+        let block = self.buffer.make_contiguous();
+        write_around(block, self.first, self.len, bytes);
+        self.len += bytes.len();
+    }
+
+    /// Drops the oldest bytes.
+    pub fn drop_oldest(&mut self, n: usize)
+        requires { n ≤ length self.old.bytes }
+        ensures size { self.new.size ≡ self.old.size }
+        ensures bytes { self.new.bytes ≡ drop n self.old.bytes }
+    {
+        self.first = place(self.buffer.capacity(), self.first, n);
+        self.len -= n;
+    }
+
+    /// Drops the newest bytes.
+    pub fn drop_newest(&mut self, n: usize)
+        requires { n ≤ length self.old.bytes }
+        ensures size { self.new.size ≡ self.old.size }
+        ensures bytes { self.new.bytes ≡ take (length self.old.bytes - n) self.old.bytes }
+    {
+        self.len -= n;
+    }
+
+    /// The byte at an index, the oldest first.
+    pub fn byte(&self, index: usize) -> Option<u8>
+        ensures { result ≡ slice_get self.now.bytes index }
+    {
+        if index >= self.len {
+            return None;
+        }
+        self.buffer
+            .get(place(self.buffer.capacity(), self.first, index))
+            .copied()
+    }
+
+    /// How many bytes the oldest entry has, by the first two bytes.
+    pub fn oldest_len(&self) -> usize
+        requires { 2 ≤ length self.now.bytes }
+        ensures { (n : ℕ) (rest : List ℕ) → n < 2 ^ 16 → self.now.bytes ≡ little_bytes 2 n ++ rest → result ≡ n }
+    {
+        match (self.byte(0), self.byte(1)) {
+            (Some(low), Some(high)) => usize::from(low) + 256 * usize::from(high),
+            _ => 0,
+        }
+    }
+
+    /// How many bytes the newest entry has, by the last two bytes.
+    pub fn newest_len(&self) -> usize
+        requires { 2 ≤ length self.now.bytes }
+        ensures { (n : ℕ) (before : List ℕ) → n < 2 ^ 16 → self.now.bytes ≡ before ++ little_bytes 2 n → result ≡ n }
+    {
+        match (self.byte(self.len() - 2), self.byte(self.len() - 1)) {
+            (Some(low), Some(high)) => usize::from(low) + 256 * usize::from(high),
+            _ => 0,
+        }
+    }
+}
