@@ -1,6 +1,6 @@
 -- A text is of one entry alone: what its bytes are read as is that entry.
-use Rattle.std.proofs.Common.{◌≡◌, ℕ, zero, suc, ◌+◌, ◌-◌, ◌*◌, ◌/◌, ◌%◌, ◌^◌, ◌≤◌, ◌<◌, Bool, true, false, if◌then◌else◌, List, [], ◌∷◌, ◌++◌, length, take, drop, refl, sym, ap, ◌∙◌, append_assoc, arith}
-use Rattle.std.specs.Prelude.{All, slice_index, nat_eq, nat_le}
+use Rattle.std.proofs.Common.{◌≡◌, ℕ, zero, suc, ◌+◌, ◌-◌, ◌*◌, ◌/◌, ◌%◌, ◌^◌, ◌≤◌, ◌<◌, Bool, true, false, if◌then◌else◌, List, [], ◌∷◌, ◌++◌, length, take, drop, refl, sym, ap, ◌∙◌, append_assoc, subst, arith}
+use Rattle.std.specs.Prelude.{All, slice_index, nat_le, Option, Some}
 use Rattle.std.proofs.lemmas.List.{take_at, drop_at, length-append, append-nil}
 use Rattle.std.proofs.lemmas.Grind.{common_steps}
 use Rattle.std.proofs.lemmas.Bool.Decides.{nat_tests}
@@ -14,42 +14,8 @@ use Rattle.bpf_entries.specs.declared.status.Status.TheVariants.{Running, Exited
 use Rattle.bpf_entries.specs.Status.{FitsNumber, FitsStatus}
 use Rattle.bpf_entries.specs.Fields.{FitsFields}
 use Rattle.bpf_entries.specs.Weights.{weight}
+use Rattle.bpf_entries.specs.Reading.{slot_at, number_at, run_at, status_of, entry_of, ReadsAs}
 use Rattle.bpf_entries.specs.Texts.{text, number, numbers, slot, body, tag, kind, status_text}
-
--- Parts of bytes: a slot, a number, a run of so many bytes.
-abbrev slot_at : ℕ → List ℕ → ℕ
-slot_at i bytes = little_number 2 (drop i bytes)
-
-abbrev number_at : ℕ → List ℕ → ℕ
-number_at i bytes = little_number 8 (drop i bytes)
-
-abbrev run_at : ℕ → ℕ → List ℕ → List ℕ
-run_at i n bytes = take n (drop i bytes)
-
--- A status by its kind and number.
-abbrev status_of : ℕ → ℕ → Status
-status_of kind n =
-    if nat_eq kind 0 then Running
-    else if nat_eq kind 1 then Exited
-    else if nat_eq kind 2 then Faulted (Access n)
-    else if nat_eq kind 3 then Faulted (Token n)
-    else Faulted Depth
-
--- An entry by its kind, its weight and its bytes.
-abbrev entry_of : ℕ → ℕ → List ℕ → Entry
-entry_of kind n b =
-    if nat_eq kind 1 then entry.Register (slot_at 3 b) (slice_index b 5) (number_at 6 b)
-    else if nat_eq kind 2 then entry.Jump (slot_at 3 b)
-    else if nat_eq kind 3 then entry.Call (slot_at 3 b)
-    else if nat_eq kind 4 then entry.Return (slot_at 3 b) (number_at 5 b ∷ number_at 13 b ∷ number_at 21 b ∷ number_at 29 b ∷ [])
-    else if nat_eq kind 5 then entry.Store (slot_at 3 b) (number_at 5 b) (run_at 14 (slice_index b 13) b)
-    else if nat_eq kind 6 then entry.Fetch (slot_at 3 b) (slice_index b 5) (number_at 6 b) (number_at 14 b) (run_at 23 (slice_index b 22) b)
-    else if nat_eq kind 7 then entry.Cell (slot_at 3 b) (number_at 5 b) (number_at 13 b) (run_at 21 (n - 23) b)
-    else if nat_eq kind 8 then entry.Trace (slot_at 3 b) (number_at 5 b)
-    else if nat_eq kind 9 then entry.End
-    else if nat_eq kind 10 then entry.EditRegister (slice_index b 3) (number_at 4 b)
-    else if nat_eq kind 11 then entry.EditBytes (number_at 3 b) (run_at 11 (n - 13) b)
-    else entry.EditPc (slot_at 3 b) (status_of (slice_index b 5) (number_at 6 b))
 
 -- A number's bytes are read as the number.
 read2 : (x : ℕ) (s : List ℕ) → x < 2 ^ 16 → little_number 2 (little_bytes 2 x ++ s) ≡ x
@@ -237,3 +203,33 @@ mark_back e false rest bytes h =
     let at : slice_index bytes 2 ≡ kind e = ap (λ l. slice_index l 2) h in
     let low = kind_low e in
     grind (arith, nat_tests)
+
+-- So bytes that are read by their own kind are the entry whose text they are.
+pub kind_high : (e : Entry) → (1 ≤ kind e) × (kind e ≤ 12)
+kind_high (entry.Register pc r x) = (omega arith, omega arith)
+kind_high (entry.Jump pc) = (omega arith, omega arith)
+kind_high (entry.Call pc) = (omega arith, omega arith)
+kind_high (entry.Return pc saved) = (omega arith, omega arith)
+kind_high (entry.Store pc c old) = (omega arith, omega arith)
+kind_high (entry.Fetch pc r x c old) = (omega arith, omega arith)
+kind_high (entry.Cell pc x c old) = (omega arith, omega arith)
+kind_high (entry.Trace pc x) = (omega arith, omega arith)
+kind_high entry.End = (omega arith, omega arith)
+kind_high (entry.EditRegister r x) = (omega arith, omega arith)
+kind_high (entry.EditBytes c old) = (omega arith, omega arith)
+kind_high (entry.EditPc pc st) = (omega arith, omega arith)
+
+pub read_whole : (e : Entry) (m : Bool) (k : ℕ) (bytes : List ℕ) → FitsFields e → bytes ≡ text e m → k ≡ kind e → entry_of k (length bytes) bytes ≡ e
+read_whole e m k bytes a h q =
+    let count : length bytes ≡ weight e = ap length h ∙ length-text e m a in
+    ap (λ i. entry_of i (length bytes) bytes) q
+    ∙ ap (λ n. entry_of (kind e) n bytes) count
+    ∙ ap (λ t. entry_of (kind e) (weight e) t) h
+    ∙ read_entry e m a
+
+pub read_as : (e : Entry) (m : Bool) (k : ℕ) (bytes : List ℕ) (result : Option Entry) → FitsFields e → bytes ≡ text e m → k ≡ kind e → ReadsAs k bytes result → result ≡ Some e
+read_as e m k bytes result a h q reads =
+    let is : entry_of k (length bytes) bytes ≡ e = read_whole e m k bytes a h q in
+    let fits : FitsFields (entry_of k (length bytes) bytes) = subst FitsFields (sym is) a in
+    let count : length bytes ≡ weight (entry_of k (length bytes) bytes) = ap length h ∙ length-text e m a ∙ ap weight (sym is) in
+    reads fits count ∙ ap Some is

@@ -4,3 +4,5 @@ pub mod Fields
 pub mod Weights
 pub mod Texts
 pub mod Rings
+pub mod Keeping
+pub mod Reading
