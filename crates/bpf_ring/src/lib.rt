@@ -2,6 +2,9 @@
 #![tactic(auto)]
 
 mod block;
+mod counts;
+mod entries;
 mod ring;
 
+pub use entries::EntryRing;
 pub use ring::Ring;

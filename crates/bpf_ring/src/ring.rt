@@ -1,6 +1,8 @@
 //! A ring of bytes.
-ghost use Rattle.std.specs.Prelude.{◌≡◌, ◌≤◌, ◌<◌, ◌+◌, ◌-◌, ◌^◌, ◌++◌, [], length, take, drop, slice_get, ℕ, List, IfOk};
+ghost use Rattle.std.specs.Prelude.{◌≡◌, ◌≤◌, ◌<◌, ◌+◌, ◌-◌, ◌^◌, ◌++◌, [], length, take, drop, slice_get, ℕ, Bool, List, IfOk};
 ghost use Rattle.byteorder.specs.Endian.{little_bytes};
+ghost use Rattle.bpf_entries.specs.declared.entry.Entry.{Entry};
+ghost use Rattle.bpf_entries.specs.Texts.{text};
 ghost use Rattle.bpf_ring.specs.Blocks.{IsRingSize};
 
 use crate::block::{place, write_around};
@@ -20,8 +22,8 @@ pub struct Ring {
 }
 
 impl Model for Ring {
-    ghost use Rattle.std.specs.Prelude.{◌≡◌, ◌<◌, ◌≤◌, ◌^◌, length};
-    ghost use Rattle.bpf_ring.specs.Blocks.{Content, around};
+    ghost use Rattle.std.specs.Prelude.{◌≡◌, ◌<◌, ◌≤◌, length};
+    ghost use Rattle.bpf_ring.specs.Blocks.{Content, IsRingSize, around};
 
     ghost Value = { Content };
 
@@ -31,7 +33,7 @@ impl Model for Ring {
       full : length r.buffer.items ≡ r.buffer.capacity;
       within : r.first < r.buffer.capacity;
       fits : r.len ≤ r.buffer.capacity;
-      short : r.buffer.capacity < 2 ^ 63;
+      sized : IsRingSize r.buffer.capacity;
     } };
 }
 
@@ -51,7 +53,7 @@ impl Ring {
     /// A ring over a full buffer, with no bytes.
     fn over(buffer: HeapCircularBuffer<u8>) -> Ring
         requires full { length buffer.items ≡ buffer.capacity }
-        requires some { (0 < buffer.capacity) × (buffer.capacity < 2 ^ 63) }
+        requires sized { IsRingSize buffer.capacity }
         ensures size { result.size ≡ buffer.capacity }
         ensures none { result.bytes ≡ [] }
     {
@@ -64,14 +66,16 @@ impl Ring {
 
     /// How many bytes it may have.
     pub fn size(&self) -> usize
-        ensures { result ≡ self.now.size }
+        ensures value { result ≡ self.now.size }
+        ensures sized { IsRingSize result }
     {
         self.buffer.capacity()
     }
 
     /// How many bytes it has.
     pub fn len(&self) -> usize
-        ensures { result ≡ length self.now.bytes }
+        ensures value { result ≡ length self.now.bytes }
+        ensures within { result ≤ self.now.size }
     {
         self.len
     }
@@ -126,6 +130,18 @@ impl Ring {
         match (self.byte(0), self.byte(1)) {
             (Some(low), Some(high)) => usize::from(low) + 256 * usize::from(high),
             _ => 0,
+        }
+    }
+
+    /// Whether the oldest entry is marked.
+    #[tactic(auto, using(bpf_entries::proofs::Texts::mark_back))]
+    pub fn oldest_is_marked(&self) -> bool
+        requires { 3 ≤ length self.now.bytes }
+        ensures { (e : Entry) (mark : Bool) (rest : List ℕ) → self.now.bytes ≡ text e mark ++ rest → result ≡ mark }
+    {
+        match self.byte(2) {
+            Some(tag) => tag >= 128,
+            None => false,
         }
     }
 

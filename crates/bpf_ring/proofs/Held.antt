@@ -1,0 +1,174 @@
+-- What a ring of entries holds, when the oldest is dropped and a new one is appended.
+use Rattle.std.proofs.Common.{◌≡◌, ℕ, zero, suc, ◌+◌, ◌-◌, ◌*◌, ◌^◌, ◌≤◌, ◌<◌, Bool, true, false, if◌then◌else◌, List, [], ◌∷◌, ◌++◌, length, take, drop, refl, sym, ap, ◌∙◌, append_assoc, subst, arith}
+use Rattle.std.specs.Prelude.{All, cond, count_by, sum_by}
+use Rattle.std.proofs.lemmas.List.{take_at, drop_at, length-append, append-nil}
+use Rattle.std.proofs.lemmas.List.Sums.{sum_by-cons, sum_by_push}
+use Rattle.std.proofs.lemmas.List.Elements.{All-head, All-tail, All-cons}
+use Rattle.byteorder.specs.Endian.{little_bytes}
+use Rattle.bpf_entries.specs.declared.entry.Entry.{Entry}
+use Rattle.bpf_entries.specs.Fields.{FitsFields}
+use Rattle.bpf_entries.specs.Keeping.{Kept, kept_weight, fit, keep}
+use Rattle.bpf_entries.specs.Weights.{weight}
+use Rattle.bpf_entries.specs.Texts.{text, body, tag, kind}
+use Rattle.bpf_entries.specs.Rings.{AllFit, ring}
+use Rattle.bpf_entries.proofs.Texts.{length-text, weight_low, weight_high}
+use Rattle.bpf_entries.proofs.Rings.{begins_with_oldest}
+use Rattle.bpf_entries.proofs.Keeping.{fit_in, fit_none, fit_all, fit_without_oldest}
+use Rattle.bpf_ring.specs.Blocks.{Content}
+use Rattle.bpf_ring.specs.Held.{IsHeld}
+
+-- A ring has as many bytes as its entries weigh, so at least as many as there are entries and marks.
+pub length-ring : (ks : List Kept) → AllFit ks → length (ring ks) ≡ sum_by kept_weight ks
+length-ring [] a = refl
+length-ring (k ∷ ks) a =
+    let rest : length (ring ks) ≡ sum_by kept_weight ks = length-ring ks (All-tail (λ k. FitsFields k.0) k ks a) in
+    let here : length (text k.0 k.1) ≡ weight k.0 = length-text k.0 k.1 (All-head (λ k. FitsFields k.0) k ks a) in
+    let sum = sum_by-cons kept_weight k ks in
+    let both = length-append (ring ks) (text k.0 k.1) in
+    omega (arith, rest, here, sum, both)
+
+pub few_entries : (ks : List Kept) → AllFit ks → length ks ≤ length (ring ks)
+few_entries [] a = omega arith
+few_entries (k ∷ ks) a =
+    let rest = few_entries ks (All-tail (λ k. FitsFields k.0) k ks a) in
+    let here : length (text k.0 k.1) ≡ weight k.0 = length-text k.0 k.1 (All-head (λ k. FitsFields k.0) k ks a) in
+    let high = weight_high k.0 in
+    let both = length-append (ring ks) (text k.0 k.1) in
+    omega (arith, rest, here, high, both)
+
+one_mark : (b : Bool) → cond b 1 0 ≤ 1
+one_mark true = omega arith
+one_mark false = omega arith
+
+pub few_marks : (ks : List Kept) → count_by (λ k. k.1) ks ≤ length ks
+few_marks [] = omega arith
+few_marks (k ∷ ks) =
+    let sum = sum_by-cons (λ (k : Kept). cond k.1 1 0) k ks in
+    let rest = few_marks ks in
+    let one = one_mark k.1 in
+    omega (arith, sum, rest, one)
+
+-- The parts of a list that was pushed to at the far end.
+pub all_but_last : (ks : List Kept) (z : Kept) → AllFit (ks ++ z ∷ []) → AllFit ks
+all_but_last [] z a = λ i d h. absurd (omega (arith, h))
+all_but_last (k ∷ ks) z a = All-cons (λ k. FitsFields k.0) k ks (All-head (λ k. FitsFields k.0) k (ks ++ z ∷ []) a) (all_but_last ks z (All-tail (λ k. FitsFields k.0) k (ks ++ z ∷ []) a))
+
+pub last_of_all : (ks : List Kept) (z : Kept) → AllFit (ks ++ z ∷ []) → FitsFields z.0
+last_of_all [] z a = All-head (λ k. FitsFields k.0) z [] a
+last_of_all (k ∷ ks) z a = last_of_all ks z (All-tail (λ k. FitsFields k.0) k (ks ++ z ∷ []) a)
+
+-- The oldest dropped.
+less_marks : (b : Bool) (n old new : ℕ) → n ≡ old + cond b 1 0 → new ≡ (if b then n - 1 else n) → new ≡ old
+less_marks true n old new e f = omega (arith, e, f)
+less_marks false n old new e f = f ∙ omega (arith, e)
+
+pub dropped : (old new : Content) (entries marks entries2 marks2 : ℕ) (ks : List Kept) (z : Kept) → IsHeld old entries marks (ks ++ z ∷ [])
+    → new.bytes ≡ drop (weight z.0) old.bytes → entries2 ≡ entries - 1 → marks2 ≡ (if z.1 then marks - 1 else marks) → IsHeld new entries2 marks2 ks
+dropped old new entries marks entries2 marks2 ks z held bytes count less =
+    let front : FitsFields z.0 = last_of_all ks z held.fit in
+    let whole : old.bytes ≡ text z.0 z.1 ++ ring ks = held.bytes ∙ begins_with_oldest ks z.0 z.1 in
+    let sum : count_by (λ (k : Kept). k.1) (ks ++ z ∷ []) ≡ count_by (λ (k : Kept). k.1) ks + cond z.1 1 0 = sum_by_push (λ (k : Kept). cond k.1 1 0) ks z in
+    record {
+      fit = all_but_last ks z held.fit;
+      bytes = bytes ∙ ap (drop (weight z.0)) whole ∙ drop_at (text z.0 z.1) (ring ks) (weight z.0) (length-text z.0 z.1 front);
+      counted = omega (arith, count, held.counted, length-append ks (z ∷ []));
+      marked = less_marks z.1 marks (count_by (λ (k : Kept). k.1) ks) marks2 (held.marked ∙ sum) less;
+    }
+
+-- One more.
+more_marks : (b : Bool) (n old new : ℕ) → n ≡ old → new ≡ n + (if b then 1 else 0) → new ≡ cond b 1 0 + old
+more_marks true n old new e f = omega (arith, e, f)
+more_marks false n old new e f = omega (arith, e, f)
+
+pub appended : (old new : Content) (entries marks entries2 marks2 : ℕ) (ks : List Kept) (e : Entry) (m : Bool) → IsHeld old entries marks ks → FitsFields e
+    → new.bytes ≡ old.bytes ++ text e m → entries2 ≡ entries + 1 → marks2 ≡ marks + (if m then 1 else 0) → IsHeld new entries2 marks2 ((e, m) ∷ ks)
+appended old new entries marks entries2 marks2 ks e m held fits bytes count more =
+    let sum : count_by (λ (k : Kept). k.1) ((e, m) ∷ ks) ≡ cond m 1 0 + count_by (λ (k : Kept). k.1) ks = sum_by-cons (λ (k : Kept). cond k.1 1 0) (e, m) ks in
+    record {
+      fit = All-cons (λ k. FitsFields k.0) (e, m) ks fits held.fit;
+      bytes = bytes ∙ ap (λ b. b ++ text e m) held.bytes;
+      counted = omega (arith, count, held.counted);
+      marked = more_marks m marks (count_by (λ (k : Kept). k.1) ks) marks2 held.marked more ∙ sym sum;
+    }
+
+-- A list that isn't empty has an oldest.
+pub record Oldest (ks : List Kept) : Type 0 where
+  pub others : List Kept
+  pub oldest : Kept
+  pub whole : ks ≡ others ++ oldest ∷ []
+
+pub oldest_of : (k : Kept) (ks : List Kept) → Oldest (k ∷ ks)
+oldest_of k [] = record { others = []; oldest = k; whole = refl }
+oldest_of k (l ∷ ks) = let rest = oldest_of l ks in record { others = k ∷ rest.others; oldest = rest.oldest; whole = ap (λ t. k ∷ t) rest.whole }
+
+-- What is left of a list, of which as much fits the room as of it.
+pub record Left (content : Content) (entries marks room : ℕ) (ks : List Kept) : Type 0 where
+  pub front : List Kept
+  pub held : IsHeld content entries marks front
+  pub same : fit kept_weight room front ≡ fit kept_weight room ks
+
+pub left_dropped : (old new : Content) (entries marks entries2 marks2 room : ℕ) (ks : List Kept) → room < length old.bytes
+    → ((front : List Kept) (z : Kept) → IsHeld old entries marks (front ++ z ∷ []) → IsHeld new entries2 marks2 front)
+    → Left old entries marks room ks → Left new entries2 marks2 room ks
+left_dropped old new entries marks entries2 marks2 room ks more drops left = split left.front left.held left.same where
+  split : (front : List Kept) → IsHeld old entries marks front → fit kept_weight room front ≡ fit kept_weight room ks → Left new entries2 marks2 room ks
+  split [] held same = absurd (omega (arith, more, ap length held.bytes))
+  split (k ∷ front) held same =
+      let parts = oldest_of k front in
+      let there : IsHeld old entries marks (parts.others ++ parts.oldest ∷ []) = subst (IsHeld old entries marks) parts.whole held in
+      let weighs : room < sum_by kept_weight (parts.others ++ parts.oldest ∷ []) = omega (arith, more, ap length there.bytes, length-ring (parts.others ++ parts.oldest ∷ []) there.fit) in
+      record {
+        front = parts.others;
+        held = drops parts.others parts.oldest there;
+        same = sym (fit_without_oldest kept_weight room parts.others parts.oldest weighs) ∙ ap (fit kept_weight room) (sym parts.whole) ∙ same;
+      }
+
+pub left_all : (content : Content) (entries marks room : ℕ) (ks : List Kept) → length content.bytes ≤ room → Left content entries marks room ks
+    → IsHeld content entries marks (fit kept_weight room ks)
+left_all content entries marks room ks within left =
+    let weighs : sum_by kept_weight left.front ≤ room = omega (arith, within, ap length left.held.bytes, length-ring left.front left.held.fit) in
+    subst (IsHeld content entries marks) (sym (fit_all kept_weight room left.front weighs) ∙ left.same) left.held
+
+-- What the oldest entry's text says of a ring that begins with it.
+pub begins : (content : Content) (entries marks : ℕ) (ks : List Kept) (z : Kept) → IsHeld content entries marks (ks ++ z ∷ []) → content.bytes ≡ text z.0 z.1 ++ ring ks
+begins content entries marks ks z held = held.bytes ∙ begins_with_oldest ks z.0 z.1
+
+pub begins_with_weight : (bytes : List ℕ) (z : Kept) (rest : List ℕ) → bytes ≡ text z.0 z.1 ++ rest
+    → bytes ≡ little_bytes 2 (weight z.0) ++ ((tag (kind z.0) z.1 ∷ (body z.0 ++ little_bytes 2 (weight z.0))) ++ rest)
+begins_with_weight bytes z rest h = h
+
+pub weighs_within : (bytes : List ℕ) (z : Kept) (rest : List ℕ) → FitsFields z.0 → bytes ≡ text z.0 z.1 ++ rest → weight z.0 ≤ length bytes
+weighs_within bytes z rest a h = omega (arith, ap length h, length-append (text z.0 z.1) rest, length-text z.0 z.1 a)
+
+-- The whole of a drop, by what was read of the oldest.
+pub drop_held : (old new : Content) (entries marks entries2 marks2 n count : ℕ) (marked : Bool) (ks : List Kept) (z : Kept) → IsHeld old entries marks (ks ++ z ∷ [])
+    → ((k : ℕ) (rest : List ℕ) → k < 2 ^ 16 → old.bytes ≡ little_bytes 2 k ++ rest → n ≡ k)
+    → ((e : Entry) (m : Bool) (rest : List ℕ) → old.bytes ≡ text e m ++ rest → marked ≡ m)
+    → (1 ≤ n → n ≤ length old.bytes → count ≡ n)
+    → new.bytes ≡ drop count old.bytes → entries2 ≡ entries - 1 → marks2 ≡ (if marked then marks - 1 else marks) → IsHeld new entries2 marks2 ks
+drop_held old new entries marks entries2 marks2 n count marked ks z held len tags same bytes less fewer =
+    let fits : FitsFields z.0 = last_of_all ks z held.fit in
+    let whole : old.bytes ≡ text z.0 z.1 ++ ring ks = begins old entries marks ks z held in
+    let low = weight_low z.0 fits in
+    let high = weight_high z.0 in
+    let inside = weighs_within old.bytes z (ring ks) fits whole in
+    let is : n ≡ weight z.0 = len (weight z.0) _ (omega (arith, low)) (begins_with_weight old.bytes z (ring ks) whole) in
+    let exact : count ≡ weight z.0 = same (omega (arith, is, high)) (omega (arith, is, inside)) ∙ is in
+    let mark : marked ≡ z.1 = tags z.0 z.1 (ring ks) whole in
+    dropped old new entries marks entries2 marks2 ks z held (bytes ∙ ap (λ k. drop k old.bytes) exact) less (fewer ∙ ap (λ b. if b then marks - 1 else marks) mark)
+
+-- The whole of a push: the entry's text behind what was left.
+pub push_held : (old new : Content) (entries marks entries2 marks2 size : ℕ) (ks : List Kept) (e : Entry) (m : Bool) → 1024 ≤ size → length old.bytes ≤ size → size ≤ 16777216
+    → IsHeld old entries marks (fit kept_weight (size - weight e) ks) → FitsFields e → new.bytes ≡ old.bytes ++ text e m
+    → (entries < 2 ^ 63 → entries2 ≡ entries + 1) → (marks < 2 ^ 63 → marks2 ≡ marks + (if m then 1 else 0)) → IsHeld new entries2 marks2 (keep kept_weight size ks (e, m))
+push_held old new entries marks entries2 marks2 size ks e m large within small held fits bytes count more =
+    let front = fit kept_weight (size - weight e) ks in
+    let few = few_entries front held.fit in
+    let marked = few_marks front in
+    let low = weight_low e fits in
+    let text_len = ap length held.bytes in
+    let entries_low : entries < 2 ^ 63 = omega (arith, few, held.counted, text_len, within, small) in
+    let marks_low : marks < 2 ^ 63 = omega (arith, few, marked, held.marked, text_len, within, small) in
+    let there = appended old new entries marks entries2 marks2 front e m held fits bytes (count entries_low) (more marks_low) in
+    let same : keep kept_weight size ks (e, m) ≡ (e, m) ∷ front = fit_in kept_weight size (e, m) ks (omega (arith, low, large)) in
+    subst (IsHeld new entries2 marks2) (sym same) there

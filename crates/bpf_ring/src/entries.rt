@@ -1,0 +1,132 @@
+//! The entries in a ring of bytes.
+ghost use Rattle.std.specs.Prelude.{◌≡◌, ◌≤◌, ◌<◌, ◌+◌, ◌-◌, ◌^◌, if◌then◌else◌, ◌∷◌, ◌++◌, [], List, length, sum_by, count_by, IfOk};
+ghost use Rattle.bpf_entries.specs.Fields.{FitsFields};
+ghost use Rattle.bpf_entries.specs.Keeping.{Kept, kept_weight, fit, keep};
+ghost use Rattle.bpf_entries.specs.Weights.{weight as weight_of};
+ghost use Rattle.bpf_ring.specs.Blocks.{IsRingSize};
+ghost use Rattle.bpf_ring.specs.Held.{IsHeld};
+
+use crate::counts::{one_less, one_more, within};
+use crate::ring::Ring;
+use bpf_entries::Entry;
+use std::alloc::{AllocError, Global};
+
+/// The newest entries and marks that fit a ring of bytes. Its memory is taken once, when it is opened: no other call takes any, so no
+/// push is ever refused.
+#[derive(Drop)]
+pub struct EntryRing {
+    ring: Ring,
+    entries: usize,
+    marks: usize,
+}
+
+impl EntryRing {
+    /// A ring of this many bytes, 1,024 to 16,777,216, that holds nothing.
+    pub fn open(alloc: Global, size: usize) -> Result<EntryRing, AllocError>
+        requires { IsRingSize size }
+        ensures size { IfOk result (λ r. r.ring.size ≡ size) }
+        ensures empty { IfOk result (λ r. IsHeld r.ring r.entries r.marks []) }
+    {
+        Ok(EntryRing {
+            ring: Ring::open(alloc, size)?,
+            entries: 0,
+            marks: 0,
+        })
+    }
+
+    /// How many entries it holds.
+    pub fn len(&self) -> usize
+        ensures { (ks : List Kept) → IsHeld self.now.ring self.now.entries self.now.marks ks → result ≡ length ks }
+    {
+        self.entries
+    }
+
+    /// How many of them are marked.
+    pub fn marked(&self) -> usize
+        ensures { (ks : List Kept) → IsHeld self.now.ring self.now.entries self.now.marks ks → result ≡ count_by (λ k. k.1) ks }
+    {
+        self.marks
+    }
+
+    /// How many bytes they have.
+    pub fn weight(&self) -> usize
+        ensures { (ks : List Kept) → IsHeld self.now.ring self.now.entries self.now.marks ks → result ≡ sum_by kept_weight ks }
+    {
+        self.ring.len()
+    }
+
+    /// How many bytes they may have.
+    pub fn capacity(&self) -> usize
+        ensures { result ≡ self.now.ring.size }
+    {
+        self.ring.size()
+    }
+
+    /// Drops the oldest entry, whole.
+    fn drop_oldest(&mut self)
+        requires { 5 ≤ length self.old.ring.bytes }
+        ensures size { self.new.ring.size ≡ self.old.ring.size }
+        ensures shrinks { length self.new.ring.bytes < length self.old.ring.bytes }
+        ensures held { (ks : List Kept) (z : Kept) → IsHeld self.old.ring self.old.entries self.old.marks (ks ++ z ∷ []) → IsHeld self.new.ring self.new.entries self.new.marks ks }
+    {
+        let marked = self.ring.oldest_is_marked();
+        let count = within(self.ring.oldest_len(), self.ring.len());
+        self.ring.drop_oldest(count);
+        self.entries = one_less(self.entries);
+        if marked {
+            self.marks = one_less(self.marks);
+        }
+    }
+
+    /// Drops the fewest oldest entries that leave room for so many bytes.
+    fn make_room(&mut self, room: usize)
+        requires { room ≤ 280 }
+        ensures size { self.new.ring.size ≡ self.old.ring.size }
+        ensures sized { IsRingSize self.new.ring.size }
+        ensures within { length self.new.ring.bytes + room ≤ self.new.ring.size }
+        ensures held { (ks : List Kept) → IsHeld self.old.ring self.old.entries self.old.marks ks → IsHeld self.new.ring self.new.entries self.new.marks (fit kept_weight (self.old.ring.size - room) ks) }
+    {
+        let most = self.ring.size() - room;
+        while self.ring.len() > most {
+            self.drop_oldest();
+        }
+    }
+
+    /// Keeps one more entry, and drops the fewest oldest ones that make room for it. It takes no memory and is never refused.
+    pub fn push(&mut self, entry: &Entry, mark: bool)
+        requires { FitsFields entry.now }
+        ensures size { self.new.ring.size ≡ self.old.ring.size }
+        ensures held { (ks : List Kept) → IsHeld self.old.ring self.old.entries self.old.marks ks → IsHeld self.new.ring self.new.entries self.new.marks (keep kept_weight self.old.ring.size ks (entry.now, mark)) }
+    {
+        let weight = weight_in(entry);
+        self.make_room(weight);
+        let mut text = [0u8; 280];
+        entry.write(&mut text, mark);
+        self.append(&text[..weight], mark);
+    }
+
+    /// Appends an entry's text, for which there must be room.
+    fn append(&mut self, text: &[u8], mark: bool)
+        requires { length self.old.ring.bytes + length text.now ≤ self.old.ring.size }
+        ensures size { self.new.ring.size ≡ self.old.ring.size }
+        ensures bytes { self.new.ring.bytes ≡ self.old.ring.bytes ++ text.now }
+        ensures entries { self.old.entries < 2 ^ 63 → self.new.entries ≡ self.old.entries + 1 }
+        ensures marks { self.old.marks < 2 ^ 63 → self.new.marks ≡ self.old.marks + (if mark then 1 else 0) }
+    {
+        self.ring.push(text);
+        self.entries = one_more(self.entries);
+        if mark {
+            self.marks = one_more(self.marks);
+        }
+    }
+}
+
+/// How many bytes an entry has.
+#[tactic(auto, using(bpf_entries::proofs::Texts::weight_low))]
+fn weight_in(entry: &Entry) -> usize
+    requires { FitsFields entry.now }
+    ensures value { result ≡ weight_of entry.now }
+    ensures within { result ≤ 280 }
+{
+    entry.weight()
+}
