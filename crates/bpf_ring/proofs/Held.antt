@@ -1,7 +1,7 @@
 -- What a ring of entries holds, when the oldest is dropped and a new one is appended.
 use Rattle.std.proofs.Common.{◌≡◌, ℕ, zero, suc, ◌+◌, ◌-◌, ◌*◌, ◌^◌, ◌≤◌, ◌<◌, Bool, true, false, if◌then◌else◌, List, [], ◌∷◌, ◌++◌, length, take, drop, refl, sym, ap, ◌∙◌, append_assoc, subst, arith}
 use Rattle.std.specs.Prelude.{All, cond, count_by, sum_by}
-use Rattle.std.proofs.lemmas.List.{take_at, drop_at, length-append, append-nil}
+use Rattle.std.proofs.lemmas.List.{take_at, take_all, drop_at, length-append, append-nil}
 use Rattle.std.proofs.lemmas.List.Sums.{sum_by-cons, sum_by_push}
 use Rattle.std.proofs.lemmas.List.Elements.{All-head, All-tail, All-cons}
 use Rattle.byteorder.specs.Endian.{little_bytes}
@@ -12,7 +12,7 @@ use Rattle.bpf_entries.specs.Weights.{weight}
 use Rattle.bpf_entries.specs.Texts.{text, body, tag, kind}
 use Rattle.bpf_entries.specs.Rings.{AllFit, ring}
 use Rattle.bpf_entries.proofs.Texts.{length-text, weight_low, weight_high}
-use Rattle.bpf_entries.proofs.Rings.{begins_with_oldest}
+use Rattle.bpf_entries.proofs.Rings.{begins_with_oldest, back_of, front}
 use Rattle.bpf_entries.proofs.Keeping.{fit_in, fit_none, fit_all, fit_without_oldest}
 use Rattle.bpf_ring.specs.Blocks.{Content}
 use Rattle.bpf_ring.specs.Held.{IsHeld}
@@ -172,3 +172,31 @@ push_held old new entries marks entries2 marks2 size ks e m large within small h
     let there = appended old new entries marks entries2 marks2 front e m held fits bytes (count entries_low) (more marks_low) in
     let same : keep kept_weight size ks (e, m) ≡ (e, m) ∷ front = fit_in kept_weight size (e, m) ks (omega (arith, low, large)) in
     subst (IsHeld new entries2 marks2) (sym same) there
+
+-- The newest entry's text, as it is copied out.
+pub newest_text : (content : Content) (entries marks n count : ℕ) (ks : List Kept) (k : Kept) (bytes : List ℕ) → IsHeld content entries marks (k ∷ ks)
+    → ((w : ℕ) (before : List ℕ) → w < 2 ^ 16 → content.bytes ≡ before ++ little_bytes 2 w → n ≡ w)
+    → (1 ≤ n → n ≤ length content.bytes → count ≡ n)
+    → bytes ≡ drop (length content.bytes - count) content.bytes → (count ≡ weight k.0) × (bytes ≡ text k.0 k.1)
+newest_text content entries marks n count ks k bytes held len same copied =
+    let fits : FitsFields k.0 = All-head (λ k. FitsFields k.0) k ks held.fit in
+    let low = weight_low k.0 fits in
+    let high = weight_high k.0 in
+    let long : length (text k.0 k.1) ≡ weight k.0 = length-text k.0 k.1 fits in
+    let sum : length content.bytes ≡ length (ring ks) + length (text k.0 k.1) = ap length held.bytes ∙ length-append (ring ks) (text k.0 k.1) in
+    let is : n ≡ weight k.0 = len (weight k.0) (ring ks ++ front k.0 k.1) (omega (arith, low)) (held.bytes ∙ back_of (ring ks) k.0 k.1) in
+    let exact : count ≡ weight k.0 = same (omega (arith, is, high)) (omega (arith, is, sum, long)) ∙ is in
+    let place : length (ring ks) ≡ length content.bytes - count = omega (arith, sum, long, exact) in
+    let last : drop (length content.bytes - count) content.bytes ≡ text k.0 k.1 = ap (drop (length content.bytes - count)) held.bytes ∙ drop_at (ring ks) (text k.0 k.1) (length content.bytes - count) place in
+    (exact, copied ∙ last)
+
+pub some_bytes : (content : Content) (entries marks : ℕ) (ks : List Kept) (k : Kept) → IsHeld content entries marks (k ∷ ks) → 5 ≤ length content.bytes
+some_bytes content entries marks ks k held =
+    let high = weight_high k.0 in
+    omega (arith, high, ap length held.bytes, length-append (ring ks) (text k.0 k.1), length-text k.0 k.1 (All-head (λ k. FitsFields k.0) k ks held.fit))
+
+pub newest_count : (content : Content) (entries marks n count : ℕ) (ks : List Kept) (k : Kept) → IsHeld content entries marks (k ∷ ks)
+    → ((w : ℕ) (before : List ℕ) → w < 2 ^ 16 → content.bytes ≡ before ++ little_bytes 2 w → n ≡ w)
+    → (1 ≤ n → n ≤ length content.bytes → count ≡ n) → count ≡ weight k.0
+newest_count content entries marks n count ks k held len same =
+    (newest_text content entries marks n count ks k (drop (length content.bytes - count) content.bytes) held len same refl).0

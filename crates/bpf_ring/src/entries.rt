@@ -1,5 +1,5 @@
 //! The entries in a ring of bytes.
-ghost use Rattle.std.specs.Prelude.{◌≡◌, ◌≤◌, ◌<◌, ◌+◌, ◌-◌, ◌^◌, if◌then◌else◌, ◌∷◌, ◌++◌, [], List, length, sum_by, count_by, IfOk};
+ghost use Rattle.std.specs.Prelude.{◌≡◌, ◌≤◌, ◌<◌, ◌+◌, ◌-◌, ◌^◌, if◌then◌else◌, ◌∷◌, ◌++◌, [], List, length, sum_by, count_by, IfOk, None, Some};
 ghost use Rattle.bpf_entries.specs.Fields.{FitsFields};
 ghost use Rattle.bpf_entries.specs.Keeping.{Kept, kept_weight, fit, keep};
 ghost use Rattle.bpf_entries.specs.Weights.{weight as weight_of};
@@ -60,6 +60,24 @@ impl EntryRing {
         ensures { result ≡ self.now.ring.size }
     {
         self.ring.size()
+    }
+
+    /// The newest entry and its mark, None where none is held. It stays.
+    pub fn last(&self) -> Option<(Entry, bool)>
+        ensures none { IsHeld self.now.ring self.now.entries self.now.marks [] → result ≡ None }
+        ensures some { (ks : List Kept) (k : Kept) → IsHeld self.now.ring self.now.entries self.now.marks (k ∷ ks) → result ≡ Some k }
+    {
+        if self.ring.len() < 5 {
+            return None;
+        }
+        let len = self.ring.len();
+        let count = within(self.ring.newest_len(), len);
+        if count > 280 {
+            return None;
+        }
+        let mut text = [0u8; 280];
+        self.ring.copy_newest(count, &mut text);
+        Entry::read(&text[..count])
     }
 
     /// Drops the oldest entry, whole.

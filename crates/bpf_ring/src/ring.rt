@@ -122,6 +122,29 @@ impl Ring {
             .copied()
     }
 
+    /// Copies bytes, from an index on, into the whole of a slice.
+    pub fn copy(&self, from: usize, into: &mut [u8])
+        requires { from + length into.old ≤ length self.now.bytes }
+        ensures { into.new ≡ take (length into.old) (drop from self.now.bytes) }
+    {
+        let _len = self.len();
+        for i in 0..into.len() {
+            if let Some(byte) = self.byte(from + i) {
+                into[i] = byte;
+            }
+        }
+    }
+
+    /// Copies the newest bytes, so many, into the beginning of a slice.
+    pub fn copy_newest(&self, count: usize, into: &mut [u8])
+        requires held { count ≤ length self.now.bytes }
+        requires room { count ≤ length into.old }
+        ensures { take count into.new ≡ drop (length self.now.bytes - count) self.now.bytes }
+    {
+        let from = self.len() - count;
+        self.copy(from, &mut into[..count]);
+    }
+
     /// How many bytes the oldest entry has, by the first two bytes.
     pub fn oldest_len(&self) -> usize
         requires { 2 ≤ length self.now.bytes }
