@@ -200,3 +200,23 @@ pub newest_count : (content : Content) (entries marks n count : ℕ) (ks : List 
     → (1 ≤ n → n ≤ length content.bytes → count ≡ n) → count ≡ weight k.0
 newest_count content entries marks n count ks k held len same =
     (newest_text content entries marks n count ks k (drop (length content.bytes - count) content.bytes) held len same refl).0
+
+-- The newest dropped, by what was read of it.
+pub popped : (old new : Content) (entries marks entries2 marks2 n count : ℕ) (marked : Bool) (ks : List Kept) (k : Kept) → IsHeld old entries marks (k ∷ ks)
+    → ((w : ℕ) (before : List ℕ) → w < 2 ^ 16 → old.bytes ≡ before ++ little_bytes 2 w → n ≡ w)
+    → (1 ≤ n → n ≤ length old.bytes → count ≡ n)
+    → new.bytes ≡ take (length old.bytes - count) old.bytes → entries2 ≡ entries - 1 → marks2 ≡ (if marked then marks - 1 else marks) → marked ≡ k.1 → IsHeld new entries2 marks2 ks
+popped old new entries marks entries2 marks2 n count marked ks k held len same bytes less fewer mark =
+    let fits : FitsFields k.0 = All-head (λ k. FitsFields k.0) k ks held.fit in
+    let exact : count ≡ weight k.0 = newest_count old entries marks n count ks k held len same in
+    let long : length (text k.0 k.1) ≡ weight k.0 = length-text k.0 k.1 fits in
+    let sum : length old.bytes ≡ length (ring ks) + length (text k.0 k.1) = ap length held.bytes ∙ length-append (ring ks) (text k.0 k.1) in
+    let place : length (ring ks) ≡ length old.bytes - count = omega (arith, sum, long, exact) in
+    let marks_sum : count_by (λ (k : Kept). k.1) (k ∷ ks) ≡ cond k.1 1 0 + count_by (λ (k : Kept). k.1) ks = sum_by-cons (λ (k : Kept). cond k.1 1 0) k ks in
+    let total : marks ≡ count_by (λ (k : Kept). k.1) ks + cond k.1 1 0 = omega (arith, held.marked, marks_sum) in
+    record {
+      fit = All-tail (λ k. FitsFields k.0) k ks held.fit;
+      bytes = bytes ∙ ap (take (length old.bytes - count)) held.bytes ∙ take_at (ring ks) (text k.0 k.1) (length old.bytes - count) place;
+      counted = omega (arith, less, held.counted);
+      marked = less_marks k.1 marks (count_by (λ (k : Kept). k.1) ks) marks2 total (fewer ∙ ap (λ b. if b then marks - 1 else marks) mark);
+    }

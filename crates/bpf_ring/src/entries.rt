@@ -80,6 +80,39 @@ impl EntryRing {
         Entry::read(&text[..count])
     }
 
+    /// Takes the newest entry off, None where none is held.
+    pub fn pop(&mut self) -> Option<(Entry, bool)>
+        ensures size { self.new.ring.size ≡ self.old.ring.size }
+        ensures none { IsHeld self.old.ring self.old.entries self.old.marks [] → (result ≡ None) × IsHeld self.new.ring self.new.entries self.new.marks [] }
+        ensures some { (ks : List Kept) (k : Kept) → IsHeld self.old.ring self.old.entries self.old.marks (k ∷ ks) → (result ≡ Some k) × IsHeld self.new.ring self.new.entries self.new.marks ks }
+    {
+        if self.ring.len() < 5 {
+            return None;
+        }
+        match self.last() {
+            Some((entry, mark)) => {
+                self.drop_last(mark);
+                Some((entry, mark))
+            }
+            None => None,
+        }
+    }
+
+    /// Drops the newest entry, whole. `marked` says whether it is marked.
+    fn drop_last(&mut self, marked: bool)
+        requires { 5 ≤ length self.old.ring.bytes }
+        ensures size { self.new.ring.size ≡ self.old.ring.size }
+        ensures held { (ks : List Kept) (k : Kept) → IsHeld self.old.ring self.old.entries self.old.marks (k ∷ ks) → marked ≡ k.1 → IsHeld self.new.ring self.new.entries self.new.marks ks }
+    {
+        let len = self.ring.len();
+        let count = within(self.ring.newest_len(), len);
+        self.ring.drop_newest(count);
+        self.entries = one_less(self.entries);
+        if marked {
+            self.marks = one_less(self.marks);
+        }
+    }
+
     /// Drops the oldest entry, whole.
     fn drop_oldest(&mut self)
         requires { 5 ≤ length self.old.ring.bytes }
