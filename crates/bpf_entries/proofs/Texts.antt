@@ -1,8 +1,7 @@
 -- A text is of one entry alone: what its bytes are read as is that entry.
-use Rattle.std.proofs.Common.{◌≡◌, ℕ, zero, suc, ◌+◌, ◌-◌, ◌*◌, ◌/◌, ◌%◌, ◌^◌, ◌≤◌, ◌<◌, Bool, true, false, if◌then◌else◌, List, [], ◌∷◌, ◌++◌, length, take, drop, refl, sym, ap, ◌∙◌, append_assoc, subst, arith}
-use Rattle.std.specs.Prelude.{All, slice_index, nat_le, Option, Some}
-use Rattle.std.proofs.lemmas.List.{take_at, drop_at, length-append, append-nil}
-use Rattle.std.proofs.lemmas.Grind.{common_steps}
+use Rattle.std.proofs.Common.{◌≡◌, ℕ, ◌+◌, ◌-◌, ◌%◌, ◌^◌, ◌≤◌, ◌<◌, Bool, true, false, List, [], ◌∷◌, ◌++◌, length, take, drop, refl, sym, ap, ◌∙◌, subst, arith}
+use Rattle.std.specs.Prelude.{slice_index, nat_le, Option, Some}
+use Rattle.std.proofs.lemmas.List.{take_at, length-append}
 use Rattle.std.proofs.lemmas.Bool.Decides.{nat_tests}
 use Rattle.byteorder.specs.Endian.{little_bytes, little_number}
 use Rattle.byteorder.specs.Numbers.{little_number-reads_back}
@@ -11,11 +10,11 @@ use Rattle.bpf_entries.specs.declared.entry.Entry.TheVariants as entry
 use Rattle.bpf_entries.specs.declared.status.Fault.TheVariants.{Access, Token, Depth}
 use Rattle.bpf_entries.specs.declared.status.Status.{Status}
 use Rattle.bpf_entries.specs.declared.status.Status.TheVariants.{Running, Exited, Faulted}
-use Rattle.bpf_entries.specs.Status.{FitsNumber, FitsStatus}
+use Rattle.bpf_entries.specs.Status.{FitsStatus}
 use Rattle.bpf_entries.specs.Fields.{FitsFields}
 use Rattle.bpf_entries.specs.Weights.{weight}
 use Rattle.bpf_entries.specs.Reading.{slot_at, number_at, run_at, status_of, entry_of, ReadsAs}
-use Rattle.bpf_entries.specs.Texts.{text, number, numbers, slot, body, tag, kind, status_text}
+use Rattle.bpf_entries.specs.Texts.{text, tag, kind, status_text}
 
 -- A number's bytes are read as the number.
 read2 : (x : ℕ) (s : List ℕ) → x < 2 ^ 16 → little_number 2 (little_bytes 2 x ++ s) ≡ x

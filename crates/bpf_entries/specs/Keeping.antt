@@ -1,5 +1,5 @@
 -- What a journal keeps: entries and marks, the newest first, as many of the newest as weigh no more than its size.
-use Rattle.std.specs.Prelude.{ℕ, ◌-◌, nat_le, Bool, if◌then◌else◌, List, [], ◌∷◌, Option, Some, None}
+use Rattle.std.specs.Prelude.{ℕ, ◌-◌, nat_le, Bool, if◌then◌else◌, List, [], ◌∷◌}
 use Rattle.bpf_entries.specs.declared.entry.Entry.{Entry}
 use Rattle.bpf_entries.specs.Weights.{weight}
 

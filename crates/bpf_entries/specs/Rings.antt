@@ -1,6 +1,6 @@
 -- The text of a journal: the bytes of its entries, one entry after another. In a list of entries and marks the newest comes first, in
 -- the text the oldest.
-use Rattle.std.specs.Prelude.{◌≡◌, ◌<◌, ℕ, ◌-◌, Bool, List, [], ◌∷◌, ◌++◌, All, length, drop}
+use Rattle.std.specs.Prelude.{◌≡◌, ℕ, ◌-◌, Bool, List, [], ◌∷◌, ◌++◌, All, length, drop}
 use Rattle.byteorder.specs.Endian.{little_number}
 use Rattle.bpf_entries.specs.declared.entry.Entry.{Entry}
 use Rattle.bpf_entries.specs.Fields.{FitsFields}

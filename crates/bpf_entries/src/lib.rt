@@ -11,7 +11,9 @@ mod write;
 
 pub use byte_string::ByteString;
 pub use entry::Entry;
-pub use laws::{a_ring_is_cut_from_the_back, a_ring_is_of_one_list, a_text_is_of_one_entry, worked_texts};
+pub use laws::{
+    a_ring_is_cut_from_the_back, a_ring_is_of_one_list, a_text_is_of_one_entry, worked_texts,
+};
 pub use read::{first_len, is_marked, kind_of, last_len};
 pub use status::{Fault, Status};
 pub use write::{

@@ -1,7 +1,7 @@
 -- Bytes around a block's end, item by item.
-use Rattle.std.proofs.Common.{◌≡◌, ℕ, ◌+◌, ◌-◌, ◌≤◌, ◌<◌, ◌⊎◌, List, [], ◌∷◌, ◌++◌, length, get_or, take, drop, refl, sym, ap, ◌∙◌, arith, inl, inr}
-use Rattle.std.proofs.lemmas.List.{length-append, length-take, length-drop, drop-drop, take_all, drop_all, append-nil, take-append-drop, get_or-take, get_or-drop, get_or_append_left, get_or-append_right, same_lists}
-use Rattle.std.proofs.lemmas.Grind.{common_steps, elements}
+use Rattle.std.proofs.Common.{◌≡◌, ℕ, ◌+◌, ◌-◌, ◌≤◌, ◌<◌, ◌⊎◌, List, [], ◌++◌, length, get_or, take, drop, refl, sym, ap, ◌∙◌, arith, inl, inr}
+use Rattle.std.proofs.lemmas.List.{length-append, length-drop, drop-drop, take_all, drop_all, append-nil, take-append-drop, get_or-drop, get_or_append_left, get_or-append_right, same_lists}
+use Rattle.std.proofs.lemmas.Grind.{common_steps}
 use Rattle.std.proofs.lemmas.Bool.{cases_lt}
 use Rattle.std.proofs.lemmas.Bool.Decides.{nat_tests}
 use borrow.Rule.Slice.PartMut.{put_mid}
@@ -59,13 +59,13 @@ around_drop xs first len n at e a b c =
     let left : length (around xs at (len - n)) ≡ len - n = length-around xs at (len - n) (omega arith) (omega arith) in
     let right : length (drop n (around xs first len)) ≡ len - n = omega (arith, length-drop n (around xs first len), kept) in
     same_lists _ _ (left ∙ sym right) (λ k d h.
-      let short : k < len - n = omega (arith, h, left) in
-      let j = behind (length xs) at k in
-      let here = stands J at k j refl in
-      let within = stands_within J at k j refl low (omega (arith, short)) in
-      around_at xs at (len - n) k j d here within short (omega (arith, short)) low
-      ∙ sym (around_at xs first len (n + k) j d (drop_place J first n at k j (stands J first n at e) here within a (omega (arith, short)) low) within (omega (arith, short)) (omega (arith, short)) a)
-      ∙ sym (get_or-drop n (around xs first len) k d))
+    let short : k < len - n = omega (arith, h, left) in
+    let j = behind (length xs) at k in
+    let here = stands J at k j refl in
+    let within = stands_within J at k j refl low (omega (arith, short)) in
+    around_at xs at (len - n) k j d here within short (omega (arith, short)) low
+    ∙ sym (around_at xs first len (n + k) j d (drop_place J first n at k j (stands J first n at e) here within a (omega (arith, short)) low) within (omega (arith, short)) (omega (arith, short)) a)
+    ∙ sym (get_or-drop n (around xs first len) k d))
 
 -- Bytes put behind the others, in one piece.
 old_place : (J first len n end k j : ℕ) → (j ≡ first + k) ⊎ (j + J ≡ first + k) → (end ≡ first + len) ⊎ (end + J ≡ first + len) → j < J → k < len → len + n ≤ J → end + n ≤ J
@@ -96,24 +96,24 @@ around_more xs es first len end e a b c =
     let kept : length (around xs first len) ≡ len = length-around xs first len (omega arith) (omega arith) in
     let sum : length (around xs first len ++ es) ≡ len + length es = omega (arith, length-append (around xs first len) es, kept) in
     same_lists _ _ (whole ∙ sym sum) (λ k d h.
-      let short : k < len + length es = omega (arith, h, whole) in
-      let j = behind (length xs) first k in
-      let here = stands J first k j refl in
-      let within : j < length xs = stands_within J first k j refl a (omega (arith, short)) in
-      let there : (j ≡ first + k) ⊎ (j + length (pasted xs end es) ≡ first + k) = rw size here in
-      around_at (pasted xs end es) first (len + length es) k j d there (omega (arith, size, within)) short (omega (arith, size, short)) (omega (arith, size))
-      ∙ elim (cases_lt k len) [
-        | inl old ↦
-            pasted_out xs es end j d c (old_place J first len (length es) end k j here is within old b c)
-            ∙ sym (around_at xs first len k j d here within old (omega arith) a)
-            ∙ sym (get_or_append_left (around xs first len) es d k (omega (arith, kept)))
-        | inr new ↦
-            let at : j ≡ end + (k - len) = new_place J first len (length es) end k j here is within new short c in
-            let off : j - end ≡ k - len = omega (arith, at) in
-            pasted_in xs es end j d c (omega (arith, at)) (omega (arith, at, short))
-            ∙ ap (λ i. get_or es i d) off
-            ∙ sym (get_or-append_right (around xs first len) es len k d kept new)
-      ])
+    let short : k < len + length es = omega (arith, h, whole) in
+    let j = behind (length xs) first k in
+    let here = stands J first k j refl in
+    let within : j < length xs = stands_within J first k j refl a (omega (arith, short)) in
+    let there : (j ≡ first + k) ⊎ (j + length (pasted xs end es) ≡ first + k) = rw size here in
+    around_at (pasted xs end es) first (len + length es) k j d there (omega (arith, size, within)) short (omega (arith, size, short)) (omega (arith, size))
+    ∙ elim (cases_lt k len) [
+      | inl old ↦
+          pasted_out xs es end j d c (old_place J first len (length es) end k j here is within old b c)
+          ∙ sym (around_at xs first len k j d here within old (omega arith) a)
+          ∙ sym (get_or_append_left (around xs first len) es d k (omega (arith, kept)))
+      | inr new ↦
+          let at : j ≡ end + (k - len) = new_place J first len (length es) end k j here is within new short c in
+          let off : j - end ≡ k - len = omega (arith, at) in
+          pasted_in xs es end j d c (omega (arith, at)) (omega (arith, at, short))
+          ∙ ap (λ i. get_or es i d) off
+          ∙ sym (get_or-append_right (around xs first len) es len k d kept new)
+    ])
 
 -- The same in two pieces: the first up to the block's end, the second from its start.
 two_old : (J first len n end k j : ℕ) → (j ≡ first + k) ⊎ (j + J ≡ first + k) → end ≡ first + len → end + n ≡ J → k < len → (first ≤ j) × (j < end)
@@ -142,37 +142,37 @@ around_two xs x y first len end e a b c =
     let kept : length (around xs first len) ≡ len = length-around xs first len (omega (arith, a)) (omega (arith, room)) in
     let sum : length (around xs first len ++ (x ++ y)) ≡ len + n = length-append (around xs first len) (x ++ y) ∙ omega (arith, kept, length-append x y) in
     same_lists _ _ (whole ∙ sym sum) (λ k d h.
-      let short : k < len + n = omega (arith, h, whole) in
-      let j = behind (length xs) first k in
-      let here = stands J first k j refl in
-      let within : j < length xs = stands_within J first k j refl a (omega (arith, short, room)) in
-      let there : (j ≡ first + k) ⊎ (j + length new ≡ first + k) = rw size here in
-      around_at new first (len + n) k j d there (omega (arith, size, within)) short (omega (arith, size, short, room)) (omega (arith, size, a))
-      ∙ elim (cases_lt k len) [
-        | inl old ↦
-            let place = two_old J first len (length x) end k j here e b old in
-            pasted_high mid y 0 j d (omega (arith, size1, c, a)) (omega (arith, place.0, c))
-            ∙ pasted_low xs x end j d (omega (arith, b)) (place.1)
-            ∙ sym (around_at xs first len k j d here within old (omega (arith, short, room)) a)
-            ∙ sym (get_or_append_left (around xs first len) (x ++ y) d k (omega (arith, kept, old)))
-        | inr past ↦ elim (cases_lt k (len + length x)) [
-          | inl one ↦
-              let at : j ≡ end + (k - len) = two_first J first len (length x) end k j here e b past one in
-              let off : j - end ≡ k - len = omega (arith, at) in
-              pasted_high mid y 0 j d (omega (arith, size1, c, a)) (omega (arith, at, c, e))
-              ∙ pasted_in xs x end j d (omega (arith, b)) (omega (arith, at)) (omega (arith, at, one, past))
-              ∙ ap (λ i. get_or x i d) off
-              ∙ sym (get_or_append_left x y d (k - len) (omega (arith, one, past)))
-              ∙ sym (get_or-append_right (around xs first len) (x ++ y) len k d kept past)
-          | inr two ↦
-              let at : j ≡ k - len - length x = two_second J first len (length x) end k j here within e b two in
-              let off : j - 0 ≡ k - len - length x = omega (arith, at) in
-              pasted_in mid y 0 j d (omega (arith, size1, c, a)) (omega arith) (omega (arith, at, short, two))
-              ∙ ap (λ i. get_or y i d) off
-              ∙ sym (get_or-append_right x y (length x) (k - len) d refl (omega (arith, two)))
-              ∙ sym (get_or-append_right (around xs first len) (x ++ y) len k d kept past)
-        ]
-      ])
+    let short : k < len + n = omega (arith, h, whole) in
+    let j = behind (length xs) first k in
+    let here = stands J first k j refl in
+    let within : j < length xs = stands_within J first k j refl a (omega (arith, short, room)) in
+    let there : (j ≡ first + k) ⊎ (j + length new ≡ first + k) = rw size here in
+    around_at new first (len + n) k j d there (omega (arith, size, within)) short (omega (arith, size, short, room)) (omega (arith, size, a))
+    ∙ elim (cases_lt k len) [
+      | inl old ↦
+          let place = two_old J first len (length x) end k j here e b old in
+          pasted_high mid y 0 j d (omega (arith, size1, c, a)) (omega (arith, place.0, c))
+          ∙ pasted_low xs x end j d (omega (arith, b)) (place.1)
+          ∙ sym (around_at xs first len k j d here within old (omega (arith, short, room)) a)
+          ∙ sym (get_or_append_left (around xs first len) (x ++ y) d k (omega (arith, kept, old)))
+      | inr past ↦ elim (cases_lt k (len + length x)) [
+        | inl one ↦
+            let at : j ≡ end + (k - len) = two_first J first len (length x) end k j here e b past one in
+            let off : j - end ≡ k - len = omega (arith, at) in
+            pasted_high mid y 0 j d (omega (arith, size1, c, a)) (omega (arith, at, c, e))
+            ∙ pasted_in xs x end j d (omega (arith, b)) (omega (arith, at)) (omega (arith, at, one, past))
+            ∙ ap (λ i. get_or x i d) off
+            ∙ sym (get_or_append_left x y d (k - len) (omega (arith, one, past)))
+            ∙ sym (get_or-append_right (around xs first len) (x ++ y) len k d kept past)
+        | inr two ↦
+            let at : j ≡ k - len - length x = two_second J first len (length x) end k j here within e b two in
+            let off : j - 0 ≡ k - len - length x = omega (arith, at) in
+            pasted_in mid y 0 j d (omega (arith, size1, c, a)) (omega arith) (omega (arith, at, short, two))
+            ∙ ap (λ i. get_or y i d) off
+            ∙ sym (get_or-append_right x y (length x) (k - len) d refl (omega (arith, two)))
+            ∙ sym (get_or-append_right (around xs first len) (x ++ y) len k d kept past)
+      ]
+    ])
 
 -- What a write to a part leaves.
 pub put_pasted : (xs ys es : List ℕ) (at k : ℕ) → ys ≡ es → k ≡ length es → put_mid at k xs ys ≡ pasted xs at es
@@ -200,9 +200,9 @@ wraps xs es one two first len end e w a b c f g =
     let mid : put_mid end here xs one ≡ pasted xs end x = put_pasted xs one x end here f (sym nx) in
     let past : length es - here ≡ 0 + length y = omega (arith, ny) in
     let all : two ++ drop (length es - here) (put_mid end here xs one) ≡ pasted (pasted xs end x) 0 y =
-        ap (λ l. l ++ drop (length es - here) (put_mid end here xs one)) second
-        ∙ ap (λ p. y ++ drop (length es - here) p) mid
-        ∙ ap (λ m. y ++ drop m (pasted xs end x)) past in
+    ap (λ l. l ++ drop (length es - here) (put_mid end here xs one)) second
+    ∙ ap (λ p. y ++ drop (length es - here) p) mid
+    ∙ ap (λ m. y ++ drop m (pasted xs end x)) past in
     let count : len + length es ≡ len + (length x + length y) = omega (arith, nx, ny, c, w) in
     ap (λ l. around l first (len + length es)) all
     ∙ ap (λ n. around (pasted (pasted xs end x) 0 y) first n) count
@@ -218,9 +218,9 @@ one_piece xs ys es first len end w e a b c f g =
     let past : drop (length xs - end) (drop end xs) ≡ [] = drop_all (length xs - end) (drop end xs) (omega (arith, rest)) in
     let tail : drop w (take (length xs - end) (drop end xs)) ≡ drop (end + length es) xs = ap (drop w) whole ∙ drop-drop w end xs ∙ ap (λ m. drop (end + m) xs) (sym f) in
     let same : put_mid end (length xs - end) xs ys ≡ pasted xs end es =
-        ap (λ l. take end xs ++ (l ++ drop (length xs - end) (drop end xs))) (g ∙ ap (λ t. es ++ t) tail)
-        ∙ ap (λ r. take end xs ++ ((es ++ drop (end + length es) xs) ++ r)) past
-        ∙ ap (λ l. take end xs ++ l) (append-nil (es ++ drop (end + length es) xs)) in
+    ap (λ l. take end xs ++ (l ++ drop (length xs - end) (drop end xs))) (g ∙ ap (λ t. es ++ t) tail)
+    ∙ ap (λ r. take end xs ++ ((es ++ drop (end + length es) xs) ++ r)) past
+    ∙ ap (λ l. take end xs ++ l) (append-nil (es ++ drop (end + length es) xs)) in
     ap (λ l. around l first (len + w)) same
     ∙ ap (λ n. around (pasted xs end es) first (len + n)) (sym f)
     ∙ around_more xs es first len end e a (omega (arith, b, f)) (omega (arith, c, f))

@@ -1,7 +1,7 @@
 -- What a ring of entries holds, when the oldest is dropped and a new one is appended.
-use Rattle.std.proofs.Common.{◌≡◌, ℕ, zero, suc, ◌+◌, ◌-◌, ◌*◌, ◌^◌, ◌≤◌, ◌<◌, Bool, true, false, if◌then◌else◌, List, [], ◌∷◌, ◌++◌, length, take, drop, refl, sym, ap, ◌∙◌, append_assoc, subst, arith}
-use Rattle.std.specs.Prelude.{All, cond, count_by, sum_by}
-use Rattle.std.proofs.lemmas.List.{take_at, take_all, drop_at, length-append, append-nil}
+use Rattle.std.proofs.Common.{◌≡◌, ℕ, ◌+◌, ◌-◌, ◌^◌, ◌≤◌, ◌<◌, Bool, true, false, if◌then◌else◌, List, [], ◌∷◌, ◌++◌, length, take, drop, refl, sym, ap, ◌∙◌, subst, arith}
+use Rattle.std.specs.Prelude.{cond, count_by, sum_by}
+use Rattle.std.proofs.lemmas.List.{take_at, drop_at, length-append}
 use Rattle.std.proofs.lemmas.List.Sums.{sum_by-cons, sum_by_push}
 use Rattle.std.proofs.lemmas.List.Elements.{All-head, All-tail, All-cons}
 use Rattle.byteorder.specs.Endian.{little_bytes}
@@ -13,7 +13,7 @@ use Rattle.bpf_entries.specs.Texts.{text, body, tag, kind}
 use Rattle.bpf_entries.specs.Rings.{AllFit, ring}
 use Rattle.bpf_entries.proofs.Texts.{length-text, weight_low, weight_high}
 use Rattle.bpf_entries.proofs.Rings.{begins_with_oldest, back_of, front}
-use Rattle.bpf_entries.proofs.Keeping.{fit_in, fit_none, fit_all, fit_without_oldest}
+use Rattle.bpf_entries.proofs.Keeping.{fit_in, fit_all, fit_without_oldest}
 use Rattle.bpf_ring.specs.Blocks.{Content}
 use Rattle.bpf_ring.specs.Held.{IsHeld}
 

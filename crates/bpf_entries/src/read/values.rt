@@ -128,7 +128,10 @@ fn fetch_entry(bytes: &[u8]) -> Option<Entry>
     if bytes.len() < 25 {
         return None;
     }
-    match (Reg::new(bytes[5]), run_of(bytes, 23, usize::from(bytes[22]))) {
+    match (
+        Reg::new(bytes[5]),
+        run_of(bytes, 23, usize::from(bytes[22])),
+    ) {
         (Some(register), Some(old)) => Some(Entry::Fetch {
             pc: LittleEndian::read_u16(&bytes[3..5]),
             register,

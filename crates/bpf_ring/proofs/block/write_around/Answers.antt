@@ -1,10 +1,7 @@
-use Rattle.std.proofs.Common.{rules, ◌≡◌, ◌≤◌, ◌<◌, ◌+◌, ◌-◌, ◌++◌, ◌∙◌, List, length, take, drop, ℕ, arith, ap, sym, refl}
-use Rattle.std.proofs.lemmas.List.{take-append-drop, take_all, length-take, length-drop}
-use Rattle.std.proofs.lemmas.Grind.{common_steps}
-use Rattle.bpf_ring.specs.Blocks.{around, behind, pasted}
+use Rattle.std.proofs.Common.{◌+◌, ◌-◌, ◌∙◌, length, arith, ap}
+use Rattle.bpf_ring.specs.Blocks.{around}
 use Rattle.bpf_ring.proofs.block.write_around.Goals as goal
-use Rattle.bpf_ring.proofs.Arounds.{around_more, around_two, put_pasted, wraps}
-use borrow.Rule.Slice.PartMut.{put_mid}
+use Rattle.bpf_ring.proofs.Arounds.{around_more, put_pasted, wraps}
 
 pub returns-then-end-bytes-clause-text : goal.returns-then-end-bytes-clause-text
 returns-then-end-bytes-clause-text c =
@@ -18,4 +15,4 @@ returns-then-end-bytes-clause-text c =
 pub returns-else-end-bytes-clause-text : goal.returns-else-end-bytes-clause-text
 returns-else-end-bytes-clause-text c =
     wraps c.args.block.now c.args.bytes.now c.copy_from_slice-else-end-bytes.new.self c.copy_from_slice-else-end-bytes-2.new.self c.args.first c.args.len c.place-end.result
-      c.place-end.ensures.value c.place-end.ensures.within c.requires.first c.requires.fits c.if-end-bytes.false c.copy_from_slice-else-end-bytes.ensures.after c.copy_from_slice-else-end-bytes-2.ensures.after
+    c.place-end.ensures.value c.place-end.ensures.within c.requires.first c.requires.fits c.if-end-bytes.false c.copy_from_slice-else-end-bytes.ensures.after c.copy_from_slice-else-end-bytes-2.ensures.after

@@ -1,5 +1,5 @@
-use Rattle.std.proofs.Common.{◌≡◌, ◌≤◌, ◌<◌, ◌∙◌, [], sym, ap, arith}
-use Rattle.std.specs.Prelude.{Some, None}
+use Rattle.std.proofs.Common.{◌≡◌, ◌∙◌, [], sym, arith}
+use Rattle.std.specs.Prelude.{Some}
 use Rattle.std.proofs.lemmas.List.{append-nil}
 use Rattle.bpf_entries.specs.Texts.{kind, text}
 use Rattle.bpf_entries.proofs.entry.Entry.read.Goals as goal
@@ -12,8 +12,8 @@ returns-then-kind-lt1 c = λ e mark fits h.
     let low = (kind_high e).0 in
     let high = (kind_high e).1 in
     elim c.then-kind-lt1.branch [
-    | then-kind-lt1-via-then-kind-lt1 w ↦ absurd (omega (arith, is, low, w.if-kind-lt1))
-    | then-kind-lt1-via-else-kind-lt1+then-kind-gt12 w ↦ absurd (omega (arith, is, high, w.if-kind-gt12))
+      | then-kind-lt1-via-then-kind-lt1 w ↦ absurd (omega (arith, is, low, w.if-kind-lt1))
+      | then-kind-lt1-via-else-kind-lt1+then-kind-gt12 w ↦ absurd (omega (arith, is, high, w.if-kind-gt12))
     ]
 
 pub returns-in-Some : goal.returns-in-Some

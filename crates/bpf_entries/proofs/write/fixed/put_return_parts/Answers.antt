@@ -1,4 +1,4 @@
-use Rattle.std.proofs.Common.{rules, ◌≡◌, ◌∷◌, ◌++◌, refl, arith}
+use Rattle.std.proofs.Common.{◌∷◌, ◌++◌, refl, arith}
 use Rattle.byteorder.specs.Endian.{little_bytes}
 use Rattle.bpf_entries.specs.Texts.{number, slot, tag}
 use Rattle.bpf_entries.proofs.write.fixed.put_return_parts.Goals as goal

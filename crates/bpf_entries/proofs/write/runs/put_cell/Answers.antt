@@ -1,4 +1,4 @@
-use Rattle.std.proofs.Common.{rules, ◌≡◌, ◌≤◌, ◌<◌, ◌+◌, ◌++◌, length, drop, ℕ, ◌-◌, List, [], ◌∷◌, refl, arith}
+use Rattle.std.proofs.Common.{◌+◌, ◌++◌, length, ◌∷◌, refl, arith}
 use Rattle.byteorder.specs.Endian.{little_bytes}
 use Rattle.bpf_entries.specs.Texts.{number, slot, tag}
 use Rattle.bpf_entries.proofs.write.runs.put_cell.Goals as goal

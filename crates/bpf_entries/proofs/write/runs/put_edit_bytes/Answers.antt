@@ -1,6 +1,6 @@
-use Rattle.std.proofs.Common.{rules, ◌≡◌, ◌≤◌, ◌<◌, ◌+◌, ◌++◌, length, drop, ℕ, ◌-◌, List, [], ◌∷◌, refl, arith}
+use Rattle.std.proofs.Common.{◌+◌, ◌++◌, length, ◌∷◌, refl, arith}
 use Rattle.byteorder.specs.Endian.{little_bytes}
-use Rattle.bpf_entries.specs.Texts.{number, slot, tag}
+use Rattle.bpf_entries.specs.Texts.{number, tag}
 use Rattle.bpf_entries.proofs.write.runs.put_edit_bytes.Goals as goal
 use Rattle.bpf_entries.proofs.Parts.{two_parts}
 

@@ -1,4 +1,4 @@
-use Rattle.std.proofs.Common.{◌≡◌, ◌≤◌, ◌<◌, ◌∙◌, length, sym, subst, arith}
+use Rattle.std.proofs.Common.{◌≤◌, sym, subst, arith}
 use Rattle.std.proofs.lemmas.List.Elements.{All-head}
 use Rattle.bpf_entries.specs.Fields.{FitsFields}
 use Rattle.bpf_entries.proofs.Texts.{weight_low}
@@ -9,7 +9,7 @@ pub returns-then-count-gt280-clause-some : goal.returns-then-count-gt280-clause-
 returns-then-count-gt280-clause-some c = λ ks k held.
     let now = c.args.self.now in
     let count = newest_count now.ring now.entries now.marks c.newest_len.result c.within-count.result ks k held c.newest_len.ensures
-      (λ a b. c.within-count.ensures.same a (subst (λ n. c.newest_len.result ≤ n) (sym c.len-len.ensures.value) b)) in
+    (λ a b. c.within-count.ensures.same a (subst (λ n. c.newest_len.result ≤ n) (sym c.len-len.ensures.value) b)) in
     let low = weight_low k.0 (All-head (λ k. FitsFields k.0) k ks held.fit) in
     absurd (omega (arith, count, low, c.if-count-gt280.true))
 
@@ -17,5 +17,5 @@ pub returns-clause-some : goal.returns-clause-some
 returns-clause-some c = λ ks k held.
     let now = c.args.self.now in
     let told = newest_text now.ring now.entries now.marks c.newest_len.result c.within-count.result ks k _ held c.newest_len.ensures
-      (λ a b. c.within-count.ensures.same a (subst (λ n. c.newest_len.result ≤ n) (sym c.len-len.ensures.value) b)) c.copy_newest.ensures in
+    (λ a b. c.within-count.ensures.same a (subst (λ n. c.newest_len.result ≤ n) (sym c.len-len.ensures.value) b)) c.copy_newest.ensures in
     c.read.ensures k.0 k.1 (All-head (λ k. FitsFields k.0) k ks held.fit) told.1

@@ -1,4 +1,4 @@
-use Rattle.std.proofs.Common.{◌≡◌, length, ap, ◌∙◌}
+use Rattle.std.proofs.Common.{length, ap, ◌∙◌}
 use Rattle.bpf_ring.proofs.entries.EntryRing.weight.Goals as goal
 use Rattle.bpf_ring.proofs.Held.{length-ring}
 

@@ -1,4 +1,4 @@
-use Rattle.std.proofs.Common.{rules, ◌≡◌, ◌≤◌, ◌<◌, ◌+◌, ◌-◌, ◌∙◌, length, drop, ℕ, arith, ap, sym}
+use Rattle.std.proofs.Common.{◌≡◌, ◌≤◌, ◌∙◌, length, drop, arith, ap}
 use Rattle.bpf_ring.specs.Blocks.{Content, around, behind}
 use Rattle.bpf_ring.proofs.ring.Ring.drop_oldest.Goals as goal
 use Rattle.bpf_ring.proofs.Arounds.{around_drop, length-around}
