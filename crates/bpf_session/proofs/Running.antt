@@ -1,13 +1,12 @@
 -- A run's loop: what the lines behind us came to, and what the rest comes to from there, make up what the script comes to.
-use Rattle.std.proofs.Common.{◌≡◌, ◌+◌, ℕ, Bool, true, false, List, [], ◌∷◌, ◌++◌, Option, Some, None, Result, Ok, Err, IfOk, OnErr, refl, sym, ap, subst, ◌∙◌, arith, append_assoc, length, take, drop}
+use Rattle.std.proofs.Common.{◌≡◌, ◌+◌, ℕ, Bool, true, false, List, [], ◌∷◌, ◌++◌, Option, Some, None, Result, Ok, Err, IfOk, OnErr, refl, sym, ap, subst, ◌∙◌, arith, append_assoc, length}
 use Rattle.std.proofs.lemmas.List.{append-nil, length-append}
 use Rattle.std.proofs.lemmas.List.Sums.{sum_by-append}
 use Rattle.std.proofs.lemmas.List.Elements.{All-push}
-use Rattle.std.proofs.Math.Seq.{take-append_seam, drop-append_seam}
 use Rattle.std.specs.List.{All}
 use Rattle.std.specs.Io.KnownBytes.{Appends}
 use Rattle.counted_io.specs.Counted.{Tally}
-use Rattle.counted_io.specs.Writing.{AppendsBeginning, Writes}
+use Rattle.counted_io.specs.Writing.{Writes}
 use Rattle.bpf_journal.specs.Histories.{Record, Kept}
 use Rattle.bpf_session.specs.Points.{Point, Bounds}
 use Rattle.bpf_session.specs.Sessions.{SessionValue, HasPast, StandsAt, bounds_of, point_of, refusals_with, refusals_after_all}
@@ -15,9 +14,10 @@ use Rattle.counted_io.specs.Lines.{lines}
 use Rattle.bpfdb_commands.specs.Commands.{command_of}
 use Rattle.bpf_session.specs.Output.{Effect, effect, Walk, walk}
 use Rattle.bpfdb_commands.specs.Lines.{line_feeds}
-use Rattle.bpf_session.specs.Runs.{Leaves, Prints, GoesOn, BreaksOff}
+use Rattle.bpf_session.specs.Runs.{BreaksOff, Exchange, GoesOn, HasStanding, Interrupts, Leaves, Prints, Reaches, Standing, Wrote}
 use Rattle.bpfdb_commands.specs.ReadLines.{Buffer, Holds, ReadsLine, is_missing, is_last}
 use Rattle.bpf_session.specs.LineSteps.{ObeysLine}
+use Rattle.bpf_session.specs.declared.fault.RunFault.{RunFault}
 use Rattle.bpf_session.specs.declared.fault.RunFault.TheVariants.{Read, Write}
 use Rattle.bpfdb_commands.specs.declared.line.NextLine.{NextLine}
 use Rattle.bpfdb_commands.specs.declared.line.NextLine.TheVariants.{Ended, Last, Missing}
@@ -129,94 +129,113 @@ module _ {K : Type 0} (holds : K → List Kept → Type 0) (refusals room : K �
   end-walk : (old now : SessionValue K) (h : List Record) (script : List ℕ) (ahead : List (List ℕ)) (b : Behind old now h script ahead) → walk b.gaps (bounds_of room old) b.done (point_of old h) ≡ ended b.printed b.gaps b.point
   end-walk old now h script ahead b = ap (λ (g : List (Option ℕ)). walk g (bounds_of room old) b.done (point_of old h)) (sym (append-nil b.gaps)) ∙ done-walk old now h script ahead b []
 
-  first-done : (old now : SessionValue K) (h : List Record) (script : List ℕ) (ahead : List (List ℕ)) (b : Behind old now h script ahead) → take (length b.done) (lines script) ≡ b.done
-  first-done old now h script ahead b = ap (take (length b.done)) b.split ∙ take-append_seam b.done ahead
-
   all-lines : (old now : SessionValue K) (h : List Record) (script : List ℕ) (ahead : List (List ℕ)) (b : Behind old now h script ahead) → length (lines script) ≡ length b.done + length ahead
   all-lines old now h script ahead b = ap length b.split ∙ length-append b.done ahead
 
-  -- no line is left
-  Behind-end : (old now : SessionValue K) (h : List Record) (script told : List ℕ) (after left : Option (List ℕ)) (all : List (List ℕ)) (b : Behind old now h script all) → all ≡ [] → after ≡ Some (told ++ b.printed) → Leaves [] left → Prints holds refusals room old now h script told after left
-  Behind-end old now h script told after left all b none held next = record {
-    gaps = b.gaps;
-    whole = ended b.printed b.gaps b.point;
-    told_gaps = refl;
-    walked = sym (ap (λ (ls : List (List ℕ)). walk b.gaps (bounds_of room old) ls (point_of old h)) (b.split ∙ ap (λ (ls : List (List ℕ)). b.done ++ ls) none ∙ append-nil b.done) ∙ end-walk old now h script all b);
-    each = let n = ap length none in omega (arith, b.each, all-lines old now h script all b, n);
-    counted = b.counted;
-    written = held;
-    stands = b.stands;
-    ahead = next;
+  -- where a session stands at a point, and what holds of some standing that it has
+  abbrev pub standing_at : SessionValue K → Point → Standing
+  standing_at s p = record { point = p; bounds = bounds_of room s; refusals = refusals s.moment.keeper }
+
+  abbrev pub Somewhere : SessionValue K → (Standing → Type 0) → Type 0
+  Somewhere s P = (to : Standing) × HasStanding holds refusals room s to × P to
+
+  -- what holds from where the session stands with each history holds from each standing that it has
+  pub from-there : (P : Standing → Type 0) (old : SessionValue K) → ((h : List Record) → HasPast holds old h → P (standing_at old (point_of old h))) → (from : Standing) → HasStanding holds refusals room old from → P from
+  from-there P old each from s =
+      subst P
+      (ap (standing_at old) s.point.0
+      ∙ ap (λ (b : Bounds). record { point = from.point; bounds = b; refusals = refusals old.moment.keeper }) s.bounds
+      ∙ ap (λ (n : ℕ). record { point = from.point; bounds = from.bounds; refusals = n }) s.refusals)
+      (each from.point.history s.point.1)
+
+  -- what lines come to that were obeyed
+  reached : (old now : SessionValue K) (h : List Record) (gaps : List (Option ℕ)) (ls : List (List ℕ)) (w : Walk) → w ≡ walk gaps (bounds_of room old) ls (point_of old h) → w.gaps ≡ gaps → length gaps + length w.unread ≡ length ls → refusals now.moment.keeper ≡ refusals_after_all gaps (refusals old.moment.keeper) → Reaches (standing_at old (point_of old h)) (standing_at now w.final) gaps ls
+  reached old now h gaps ls w e told each counted = record {
+    point = ap (λ (v : Walk). v.final) e;
+    refusals = counted;
+    told = ap (λ (v : Walk). v.gaps) (sym e) ∙ told;
+    each = ap (λ (v : Walk). length gaps + length v.unread) (sym e) ∙ each;
   }
+
+  printed : (old now : SessionValue K) (h : List Record) (x : Exchange) (gaps : List (Option ℕ)) (w : Walk) → w ≡ walk gaps (bounds_of room old) (lines x.script) (point_of old h) → w.gaps ≡ gaps → length gaps + length w.unread ≡ length (lines x.script) → refusals now.moment.keeper ≡ refusals_after_all gaps (refusals old.moment.keeper) → StandsAt holds now w.final → Wrote x w.out → Leaves x w.unread → Somewhere now (λ to. Prints (standing_at old (point_of old h)) to x)
+  printed old now h x gaps w e told each counted stands wrote left = (
+    standing_at now w.final,
+    record { point = stands; bounds = refl; refusals = refl },
+    (
+      gaps,
+      reached old now h gaps (lines x.script) w e told each counted,
+      wrote ∙ ap (λ (v : Walk). Some (x.told ++ v.out)) e,
+      subst (λ (v : Walk). Leaves x v.unread) e left,
+    ),
+  )
+
+  -- no line is left
+  Behind-end : (old now : SessionValue K) (h : List Record) (x : Exchange) (all : List (List ℕ)) (b : Behind old now h x.script all) → all ≡ [] → Wrote x b.printed → Leaves x [] → Somewhere now (λ to. Prints (standing_at old (point_of old h)) to x)
+  Behind-end old now h x all b none wrote left =
+      printed old now h x b.gaps (ended b.printed b.gaps b.point)
+      (sym (ap (λ (ls : List (List ℕ)). walk b.gaps (bounds_of room old) ls (point_of old h)) (b.split ∙ ap (λ (ls : List (List ℕ)). b.done ++ ls) none ∙ append-nil b.done) ∙ end-walk old now h x.script all b))
+      refl
+      (let n = ap length none in omega (arith, b.each, all-lines old now h x.script all b, n))
+      b.counted b.stands wrote left
 
   -- `quit` is the next line
-  Behind-quit : (old now new : SessionValue K) (h : List Record) (script told line : List ℕ) (after left : Option (List ℕ)) (all ahead : List (List ℕ)) (b : Behind old now h script all) → all ≡ line ∷ ahead → (t : Turn old now new b.point line) → t.e.goes_on ≡ false → after ≡ Some ((told ++ b.printed) ++ t.e.text) → Leaves ahead left → Prints holds refusals room old new h script told after left
-  Behind-quit old now new h script told line after left all ahead b cut t off held next = record {
-    gaps = b.gaps ++ t.gap ∷ [];
-    whole = record { out = b.printed ++ t.e.text; gaps = b.gaps ++ t.gap ∷ []; final = t.e.point; unread = ahead };
-    told_gaps = refl;
-    walked = sym (
-        ap (λ (ls : List (List ℕ)). walk (b.gaps ++ t.gap ∷ []) (bounds_of room old) ls (point_of old h)) b.split
-        ∙ b.walked (t.gap ∷ []) all
-        ∙ ap (λ (ls : List (List ℕ)). ahead_of b.printed b.gaps (walk (t.gap ∷ []) (bounds_of room old) ls b.point)) cut
-        ∙ ap (ahead_of b.printed b.gaps) (walk-off t.gap [] (bounds_of room old) line ahead b.point t.e t.is t.told off)
-        );
-    each = let c = ap length cut in omega (arith, b.each, all-lines old now h script all b, length-push b.gaps t.gap, c);
-    counted = t.counted ∙ ap (refusals_with t.gap) b.counted ∙ sym (refusals-push b.gaps t.gap _);
-    written = held ∙ ap (λ (v : List ℕ). Some v) (append_assoc told b.printed t.e.text);
-    stands = t.stands;
-    ahead = next;
-  }
+  Behind-quit : (old now new : SessionValue K) (h : List Record) (x : Exchange) (line : List ℕ) (all ahead : List (List ℕ)) (b : Behind old now h x.script all) → all ≡ line ∷ ahead → (t : Turn old now new b.point line) → t.e.goes_on ≡ false → Wrote x (b.printed ++ t.e.text) → Leaves x ahead → Somewhere new (λ to. Prints (standing_at old (point_of old h)) to x)
+  Behind-quit old now new h x line all ahead b cut t off wrote left =
+      printed old new h x (b.gaps ++ t.gap ∷ []) (record { out = b.printed ++ t.e.text; gaps = b.gaps ++ t.gap ∷ []; final = t.e.point; unread = ahead })
+      (sym (
+      ap (λ (ls : List (List ℕ)). walk (b.gaps ++ t.gap ∷ []) (bounds_of room old) ls (point_of old h)) b.split
+      ∙ b.walked (t.gap ∷ []) all
+      ∙ ap (λ (ls : List (List ℕ)). ahead_of b.printed b.gaps (walk (t.gap ∷ []) (bounds_of room old) ls b.point)) cut
+      ∙ ap (ahead_of b.printed b.gaps) (walk-off t.gap [] (bounds_of room old) line ahead b.point t.e t.is t.told off)
+      ))
+      refl
+      (let c = ap length cut in omega (arith, b.each, all-lines old now h x.script all b, length-push b.gaps t.gap, c))
+      (t.counted ∙ ap (refusals_with t.gap) b.counted ∙ sym (refusals-push b.gaps t.gap _))
+      t.stands wrote left
+
+  -- the lines behind us were obeyed, and what broke them off
+  broken : (why : RunFault) (old now : SessionValue K) (h : List Record) (x : Exchange) (ahead : List (List ℕ)) (b : Behind old now h x.script ahead) → Interrupts why x (λ ls. (walk b.gaps (bounds_of room old) ls (point_of old h)).out) b.done ahead → Somewhere now (λ to. BreaksOff why (standing_at old (point_of old h)) to x)
+  broken why old now h x ahead b part = (
+    standing_at now b.point,
+    record { point = b.stands; bounds = refl; refusals = refl },
+    record {
+      gaps = b.gaps;
+      obeyed = b.done;
+      ahead = ahead;
+      split = b.split;
+      on = b.on;
+      reaches = reached old now h b.gaps b.done (ended b.printed b.gaps b.point) (sym (end-walk old now h x.script ahead b)) refl (omega (arith, b.each)) b.counted;
+      part = part;
+    },
+  )
 
   -- a read failed
-  Behind-unread : (old now : SessionValue K) (h : List Record) (script told taken rest : List ℕ) (after left : Option (List ℕ)) (ahead : List (List ℕ)) (b : Behind old now h script ahead) → script ≡ taken ++ rest → line_feeds taken ≡ length b.done → left ≡ Some rest → after ≡ Some (told ++ b.printed) → BreaksOff holds refusals room old now Read h script told after left
-  Behind-unread old now h script told taken rest after left ahead b cut feeds next held =
-      let first = ap (λ (ls : List (List ℕ)). walk b.gaps (bounds_of room old) ls (point_of old h)) (first-done old now h script ahead b) ∙ end-walk old now h script ahead b in record {
-        gaps = b.gaps;
-        k = length b.done;
-        within = omega (arith, all-lines old now h script ahead b);
-        on = subst (All GoesOn) (sym (first-done old now h script ahead b)) b.on;
-        each = b.each;
-        told_gaps = ap (λ (w : Walk). w.gaps) first;
-        counted = b.counted;
-        stands = subst (λ (w : Walk). StandsAt holds now w.final) (sym first) b.stands;
-        broken = record {
-          taken = taken;
-          rest = rest;
-          split = cut;
-          feeds = feeds;
-          ahead = next;
-          written = held ∙ ap (λ (w : Walk). Some (told ++ w.out)) (sym first);
-        };
-      }
+  Behind-unread : (old now : SessionValue K) (h : List Record) (x : Exchange) (taken rest : List ℕ) (ahead : List (List ℕ)) (b : Behind old now h x.script ahead) → x.script ≡ taken ++ rest → line_feeds taken ≡ length b.done → x.left ≡ Some rest → Wrote x b.printed → Somewhere now (λ to. BreaksOff Read (standing_at old (point_of old h)) to x)
+  Behind-unread old now h x taken rest ahead b cut feeds left wrote =
+      broken Read old now h x ahead b (taken, rest, cut, feeds, left, wrote ∙ ap (λ (w : Walk). Some (x.told ++ w.out)) (sym (end-walk old now h x.script ahead b)))
 
   -- a write failed
-  Behind-unwritten : (old now new : SessionValue K) (h : List Record) (script told line front end : List ℕ) (after left : Option (List ℕ)) (all ahead : List (List ℕ)) (b : Behind old now h script all) → all ≡ line ∷ ahead → (t : Turn old now new b.point line) → t.e.goes_on ≡ true → t.e.text ≡ front ++ end → after ≡ Some ((told ++ b.printed) ++ front) → Leaves ahead left → BreaksOff holds refusals room old new Write h script told after left
+  Behind-unwritten : (old now new : SessionValue K) (h : List Record) (x : Exchange) (line front end : List ℕ) (all ahead : List (List ℕ)) (b : Behind old now h x.script all) → all ≡ line ∷ ahead → (t : Turn old now new b.point line) → t.e.goes_on ≡ true → t.e.text ≡ front ++ end → Wrote x (b.printed ++ front) → Leaves x ahead → Somewhere new (λ to. BreaksOff Write (standing_at old (point_of old h)) to x)
   unfolding Behind-step
-  Behind-unwritten old now new h script told line front end after left all ahead b cut t on begins held next =
-      let c = Behind-step old now new h script line all ahead b cut t on in
-      let first = ap (λ (ls : List (List ℕ)). walk c.gaps (bounds_of room old) ls (point_of old h)) (first-done old new h script ahead c) ∙ end-walk old new h script ahead c in
-      let before = ap (λ (ls : List (List ℕ)). walk c.gaps (bounds_of room old) ls (point_of old h)) (first-done old now h script all b) ∙ done-walk old now h script all b (t.gap ∷ []) in record {
-        gaps = c.gaps;
-        k = length c.done;
-        within = omega (arith, all-lines old new h script ahead c);
-        on = subst (All GoesOn) (sym (first-done old new h script ahead c)) c.on;
-        each = c.each;
-        told_gaps = ap (λ (w : Walk). w.gaps) first;
-        counted = c.counted;
-        stands = subst (λ (w : Walk). StandsAt holds new w.final) (sym first) c.stands;
-        broken = record {
-          before = length b.done;
-          last = omega (arith, length-push b.done line);
-          text = t.e.text;
-          printed = ap (λ (w : Walk). w.out) first ∙ ap (λ (w : Walk). w.out ++ t.e.text) (sym before);
-          written = begins-as told b.printed front end _ after held begins before;
-          ahead = (next.0, next.1, next.2 ∙ sym (ap (drop (length c.done)) c.split ∙ drop-append_seam c.done ahead));
-        };
-      }
-    where
-      begins-as : (told printed front end : List ℕ) (w : Walk) (after : Option (List ℕ)) → after ≡ Some ((told ++ printed) ++ front) → t.e.text ≡ front ++ end → w ≡ ended printed b.gaps b.point → AppendsBeginning (Some (told ++ w.out)) after t.e.text
-      begins-as told printed front end w after held begins before = (front, end, begins, subst (λ (v : Option (List ℕ)). Appends (Some (told ++ w.out)) v front) (sym held) (ap (λ (v : Walk). (told ++ v.out) ++ front) (sym before)))
+  Behind-unwritten old now new h x line front end all ahead b cut t on begins wrote left =
+      let c = Behind-step old now new h x.script line all ahead b cut t on in
+      let whole = end-walk old new h x.script ahead c in
+      let before = done-walk old now h x.script all b (t.gap ∷ []) in
+      broken Write old new h x ahead c (
+        b.done,
+        line,
+        refl,
+        (
+          front,
+          end,
+          ap (λ (w : Walk). w.out) whole
+              ∙ ap (λ (v : List ℕ). b.printed ++ v) begins
+              ∙ sym (append_assoc b.printed front end)
+              ∙ ap (λ (w : Walk). w.out ++ front ++ end) (sym before),
+          wrote ∙ ap (λ (w : Walk). Some (x.told ++ (w.out ++ front))) (sym before),
+        ),
+        left,
+      )
 
 module _ {K R W : Type 0} (holds : K → List Kept → Type 0) (refusals room : K → ℕ) (remaining : R → Option (List ℕ)) (contents : W → Option (List ℕ)) where
   -- what was read, written and left in front of a line
@@ -264,6 +283,18 @@ module _ {K R W : Type 0} (holds : K → List Kept → Type 0) (refusals room : 
     };
   }
 
+  -- what came in and went out
+  abbrev exchange : List ℕ → List ℕ → Tally R → Tally W → Exchange
+  exchange script told reader writer = record { script = script; told = told; after = contents writer.inner; left = remaining reader.inner }
+
+  -- what is told of a run, from each standing and from each history
+  abbrev pub Tells : (Standing → Standing → Exchange → Type 0) → SessionValue K → SessionValue K → Tally R → Tally R → Tally W → Tally W → Type 0
+  Tells P old new reader reader' writer writer' = (from : Standing) (script told : List ℕ) → HasStanding holds refusals room old from → remaining reader.inner ≡ Some script → contents writer.inner ≡ Some told → Somewhere holds refusals room new (λ to. P from to (exchange script told reader' writer'))
+
+  by-history : (P : Standing → Standing → Exchange → Type 0) (old new : SessionValue K) (reader reader' : Tally R) (writer writer' : Tally W) → ((h : List Record) (script told : List ℕ) → HasPast holds old h → remaining reader.inner ≡ Some script → contents writer.inner ≡ Some told → Somewhere holds refusals room new (λ to. P (standing_at holds refusals room old (point_of old h)) to (exchange script told reader' writer'))) → Tells P old new reader reader' writer writer'
+  by-history P old new reader reader' writer writer' each from script told s left held =
+      from-there holds refusals room (λ (f : Standing). Somewhere holds refusals room new (λ to. P f to (exchange script told reader' writer'))) old (λ h past. each h script told past left held) from s
+
   module _ (old now new : SessionValue K) (reader0 reader reader' : Tally R) (writer0 writer writer' : Tally W) (buffer : Buffer) (i : Running old now reader0 reader writer0 writer) where
     -- what a line did, seen from the point in front of it
     record Deed {F : Type 0} (p : Point) (line : List ℕ) (result : Result Bool F) : Type 0 where
@@ -295,49 +326,49 @@ module _ {K R W : Type 0} (holds : K → List Kept → Type 0) (refusals room : 
     wrote-on told printed text held more = appended _ _ _ text held more ∙ ap (λ (v : List ℕ). Some v) (append_assoc told printed text)
 
     -- a read failed
-    pub Running-unread : {E : Type 0} (fault : E) → ReadsLine {E = E} remaining reader reader' buffer (Err fault) → (h : List Record) (script told : List ℕ) → HasPast holds old h → remaining reader0.inner ≡ Some script → contents writer0.inner ≡ Some told → BreaksOff holds refusals room old now Read h script told (contents writer.inner) (remaining reader'.inner)
-    Running-unread fault r h script told past left held =
+    pub Running-unread : {E : Type 0} (fault : E) → ReadsLine {E = E} remaining reader reader' buffer (Err fault) → Tells (BreaksOff Read) old now reader0 reader' writer0 writer
+    Running-unread fault r = by-history (BreaksOff Read) old now reader0 reader' writer0 writer (λ h script told past left held.
         let x = i.here h script told past left held in
         let c = r.part x.rest x.left in
-        Behind-unread holds refusals room old now h script told (x.taken ++ c.taken) c.rest _ _ _ x.behind
+        Behind-unread holds refusals room old now h (exchange script told reader' writer) (x.taken ++ c.taken) c.rest (lines x.rest) x.behind
         (x.cut ∙ ap (λ (v : List ℕ). x.taken ++ v) c.split ∙ sym (append_assoc x.taken c.taken c.rest))
         (feeds-append x.taken c.taken ∙ (let s = x.feeds in let n = c.none in omega arith))
-        c.ahead x.written
+        c.ahead x.written)
 
     -- no line is left
-    pub Running-missing : {E : Type 0} (next : NextLine) → ReadsLine {E = E} remaining reader reader' buffer (Ok next) → is_missing next ≡ true → (h : List Record) (script told : List ℕ) → HasPast holds old h → remaining reader0.inner ≡ Some script → contents writer0.inner ≡ Some told → Prints holds refusals room old now h script told (contents writer.inner) (remaining reader'.inner)
-    Running-missing Ended r is h script told past left held = absurd cc
-    Running-missing Last r is h script told past left held = absurd cc
-    Running-missing Missing r is h script told past left held =
+    pub Running-missing : {E : Type 0} (next : NextLine) → ReadsLine {E = E} remaining reader reader' buffer (Ok next) → is_missing next ≡ true → Tells Prints old now reader0 reader' writer0 writer
+    Running-missing Ended r is = absurd cc
+    Running-missing Last r is = absurd cc
+    Running-missing Missing r is = by-history Prints old now reader0 reader' writer0 writer (λ h script told past left held.
         let x = i.here h script told past left held in
         let c = r.cut x.rest x.left in
-        Behind-end holds refusals room old now h script told _ _ (lines x.rest) x.behind (ap lines c.2.0) x.written (c.0, c.1, ap lines c.2.1)
+        Behind-end holds refusals room old now h (exchange script told reader' writer) (lines x.rest) x.behind (ap lines c.2.0) x.written (c.0, c.1, ap lines c.2.1))
 
     -- a line that ends the session
-    pub Running-quit : {E F : Type 0} (next : NextLine) → ReadsLine {E = E} remaining reader reader' buffer (Ok next) → is_missing next ≡ false → ((h : List Record) (text : List ℕ) → HasPast holds now h → Holds buffer text → ObeysLine {E = F} holds refusals room contents now new writer writer' h text (Ok false)) → (h : List Record) (script told : List ℕ) → HasPast holds old h → remaining reader0.inner ≡ Some script → contents writer0.inner ≡ Some told → Prints holds refusals room old new h script told (contents writer'.inner) (remaining reader'.inner)
-    Running-quit Missing r is obey h script told past left held = absurd cc
-    Running-quit Ended r is obey h script told past left held =
+    pub Running-quit : {E F : Type 0} (next : NextLine) → ReadsLine {E = E} remaining reader reader' buffer (Ok next) → is_missing next ≡ false → ((h : List Record) (text : List ℕ) → HasPast holds now h → Holds buffer text → ObeysLine {E = F} holds refusals room contents now new writer writer' h text (Ok false)) → Tells Prints old new reader0 reader' writer0 writer'
+    Running-quit Missing r is obey = absurd cc
+    Running-quit Ended r is obey = by-history Prints old new reader0 reader' writer0 writer' (λ h script told past left held.
         let x = i.here h script told past left held in
         let c = r.cut x.rest x.left in
         let d = deed-of x.behind.point c.2.0 (Ok false) x.behind.stands c.2.4 obey in
-        Behind-quit holds refusals room old now new h script told c.2.0 _ _ (lines x.rest) (lines c.0) x.behind c.2.3 d.turn (sym d.goes_on) (appended _ _ (told ++ x.behind.printed) d.turn.e.text x.written d.writes.ok) (c.0, c.1, refl)
-    Running-quit Last r is obey h script told past left held =
+        Behind-quit holds refusals room old now new h (exchange script told reader' writer') c.2.0 (lines x.rest) (lines c.0) x.behind c.2.3 d.turn (sym d.goes_on) (wrote-on told x.behind.printed d.turn.e.text x.written d.writes.ok) (c.0, c.1, refl))
+    Running-quit Last r is obey = by-history Prints old new reader0 reader' writer0 writer' (λ h script told past left held.
         let x = i.here h script told past left held in
         let c = r.cut x.rest x.left in
         let d = deed-of x.behind.point x.rest (Ok false) x.behind.stands c.2.2 obey in
-        Behind-quit holds refusals room old now new h script told x.rest _ _ (lines x.rest) [] x.behind c.2.0 d.turn (sym d.goes_on) (appended _ _ (told ++ x.behind.printed) d.turn.e.text x.written d.writes.ok) (c.0, c.1, ap lines c.2.1)
+        Behind-quit holds refusals room old now new h (exchange script told reader' writer') x.rest (lines x.rest) [] x.behind c.2.0 d.turn (sym d.goes_on) (wrote-on told x.behind.printed d.turn.e.text x.written d.writes.ok) (c.0, c.1, ap lines c.2.1))
 
     -- the last line
-    pub Running-last : {E F : Type 0} (next : NextLine) → ReadsLine {E = E} remaining reader reader' buffer (Ok next) → is_last next ≡ true → ((h : List Record) (text : List ℕ) → HasPast holds now h → Holds buffer text → ObeysLine {E = F} holds refusals room contents now new writer writer' h text (Ok true)) → (h : List Record) (script told : List ℕ) → HasPast holds old h → remaining reader0.inner ≡ Some script → contents writer0.inner ≡ Some told → Prints holds refusals room old new h script told (contents writer'.inner) (remaining reader'.inner)
+    pub Running-last : {E F : Type 0} (next : NextLine) → ReadsLine {E = E} remaining reader reader' buffer (Ok next) → is_last next ≡ true → ((h : List Record) (text : List ℕ) → HasPast holds now h → Holds buffer text → ObeysLine {E = F} holds refusals room contents now new writer writer' h text (Ok true)) → Tells Prints old new reader0 reader' writer0 writer'
     unfolding Behind-step
-    Running-last Missing r is obey h script told past left held = absurd cc
-    Running-last Ended r is obey h script told past left held = absurd cc
-    Running-last Last r is obey h script told past left held =
+    Running-last Missing r is obey = absurd cc
+    Running-last Ended r is obey = absurd cc
+    Running-last Last r is obey = by-history Prints old new reader0 reader' writer0 writer' (λ h script told past left held.
         let x = i.here h script told past left held in
         let c = r.cut x.rest x.left in
         let d = deed-of x.behind.point x.rest (Ok true) x.behind.stands c.2.2 obey in
         let b = Behind-step holds refusals room old now new h script x.rest (lines x.rest) [] x.behind c.2.0 d.turn (sym d.goes_on) in
-        Behind-end holds refusals room old new h script told _ _ [] b refl (wrote-on told x.behind.printed d.turn.e.text x.written d.writes.ok) (c.0, c.1, ap lines c.2.1)
+        Behind-end holds refusals room old new h (exchange script told reader' writer') [] b refl (wrote-on told x.behind.printed d.turn.e.text x.written d.writes.ok) (c.0, c.1, ap lines c.2.1))
 
     -- a line after which others may stand
     step-of : (next : NextLine) → is_missing next ≡ false → is_last next ≡ false → next ≡ Ended
@@ -372,17 +403,17 @@ module _ {K R W : Type 0} (holds : K → List Kept → Type 0) (refusals room : 
     }
 
     -- a write failed
-    pub Running-unwritten : {E F : Type 0} (next : NextLine) (fault : F) → ReadsLine {E = E} remaining reader reader' buffer (Ok next) → is_missing next ≡ false → ((h : List Record) (text : List ℕ) → HasPast holds now h → Holds buffer text → ObeysLine holds refusals room contents now new writer writer' h text (Err fault)) → (h : List Record) (script told : List ℕ) → HasPast holds old h → remaining reader0.inner ≡ Some script → contents writer0.inner ≡ Some told → BreaksOff holds refusals room old new Write h script told (contents writer'.inner) (remaining reader'.inner)
-    Running-unwritten Missing fault r is obey h script told past left held = absurd cc
-    Running-unwritten Ended fault r is obey h script told past left held =
+    pub Running-unwritten : {E F : Type 0} (next : NextLine) (fault : F) → ReadsLine {E = E} remaining reader reader' buffer (Ok next) → is_missing next ≡ false → ((h : List Record) (text : List ℕ) → HasPast holds now h → Holds buffer text → ObeysLine holds refusals room contents now new writer writer' h text (Err fault)) → Tells (BreaksOff Write) old new reader0 reader' writer0 writer'
+    Running-unwritten Missing fault r is obey = absurd cc
+    Running-unwritten Ended fault r is obey = by-history (BreaksOff Write) old new reader0 reader' writer0 writer' (λ h script told past left held.
         let x = i.here h script told past left held in
         let c = r.cut x.rest x.left in
         let d = deed-of x.behind.point c.2.0 (Err fault) x.behind.stands c.2.4 obey in
         let w = d.writes.err in
-        Behind-unwritten holds refusals room old now new h script told c.2.0 w.0 w.1 _ _ (lines x.rest) (lines c.0) x.behind c.2.3 d.turn d.stays w.2 (appended _ _ (told ++ x.behind.printed) w.0 x.written w.3) (c.0, c.1, refl)
-    Running-unwritten Last fault r is obey h script told past left held =
+        Behind-unwritten holds refusals room old now new h (exchange script told reader' writer') c.2.0 w.0 w.1 (lines x.rest) (lines c.0) x.behind c.2.3 d.turn d.stays w.2 (wrote-on told x.behind.printed w.0 x.written w.3) (c.0, c.1, refl))
+    Running-unwritten Last fault r is obey = by-history (BreaksOff Write) old new reader0 reader' writer0 writer' (λ h script told past left held.
         let x = i.here h script told past left held in
         let c = r.cut x.rest x.left in
         let d = deed-of x.behind.point x.rest (Err fault) x.behind.stands c.2.2 obey in
         let w = d.writes.err in
-        Behind-unwritten holds refusals room old now new h script told x.rest w.0 w.1 _ _ (lines x.rest) [] x.behind c.2.0 d.turn d.stays w.2 (appended _ _ (told ++ x.behind.printed) w.0 x.written w.3) (c.0, c.1, ap lines c.2.1)
+        Behind-unwritten holds refusals room old now new h (exchange script told reader' writer') x.rest w.0 w.1 (lines x.rest) [] x.behind c.2.0 d.turn d.stays w.2 (wrote-on told x.behind.printed w.0 x.written w.3) (c.0, c.1, ap lines c.2.1))

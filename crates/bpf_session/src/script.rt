@@ -7,7 +7,7 @@ ghost use Rattle.bpfdb_commands.specs.ReadLines.{Holds};
 ghost use Rattle.bpf_session.specs.LineSteps.{FailsOnce, ObeysLine};
 ghost use Rattle.bpf_session.specs.Output.{is_quit};
 ghost use Rattle.bpf_session.specs.Replies.{IsThere, text_of_answer};
-ghost use Rattle.bpf_session.specs.Runs.{BreaksOff, FailsBy, Prints};
+ghost use Rattle.bpf_session.specs.Runs.{BreaksOff, FailsBy, HasStanding, Prints, Standing};
 ghost use Rattle.bpf_session.specs.Sessions.{HasPast, bounds_of, point_of};
 
 use crate::fault::RunFault;
@@ -110,13 +110,15 @@ pub fn run<K: Keeper, R: Read, W: Write>(
 ) -> Result<(), RunFault>
     // What is printed is what the script prints in a debugger that keeps whole states. Where the keeper's refusals didn't rise nothing
     // is missing of it, as the law `nothing_refused_nothing_missing` says.
-    ensures value { OnOk result ((h : List Record) (script told : List ℕ) → HasPast K.holds session.old h →
+    ensures value { OnOk result ((from : Standing) (script told : List ℕ) → HasStanding K.holds K.refused K.room session.old from →
         R.remaining reader.old.inner ≡ Some script → W.contents writer.old.inner ≡ Some told →
-        Prints K.holds K.refused K.room session.old session.new h script told (W.contents writer.new.inner) (R.remaining reader.new.inner)) }
+        (to : Standing) × HasStanding K.holds K.refused K.room session.new to × Prints from to
+            (record { script = script; told = told; after = W.contents writer.new.inner; left = R.remaining reader.new.inner })) }
     // Where a read or a write failed the session stands after the lines that were obeyed.
-    ensures broken { IfErr result (λ why. (h : List Record) (script told : List ℕ) → HasPast K.holds session.old h →
+    ensures broken { IfErr result (λ why. (from : Standing) (script told : List ℕ) → HasStanding K.holds K.refused K.room session.old from →
         R.remaining reader.old.inner ≡ Some script → W.contents writer.old.inner ≡ Some told →
-        BreaksOff K.holds K.refused K.room session.old session.new why h script told (W.contents writer.new.inner) (R.remaining reader.new.inner)) }
+        (to : Standing) × HasStanding K.holds K.refused K.room session.new to × BreaksOff why from to
+            (record { script = script; told = told; after = W.contents writer.new.inner; left = R.remaining reader.new.inner })) }
     ensures ok { OnOk result ((reader.new.failures ≡ reader.old.failures) × (writer.new.failures ≡ writer.old.failures)) }
     ensures err { IfErr result (λ why. FailsBy why reader.old reader.new writer.old writer.new) }
     ensures bounds { bounds_of K.room session.new ≡ bounds_of K.room session.old }

@@ -1,22 +1,20 @@
 -- What a job comes to: the program, what each kind of job answers, and what a call of `tool` leaves.
-use Rattle.std.specs.Prelude.{◌≡◌, ◌≤◌, ◌⊎◌, ℕ, Bool, true, false, List, [], ◌++◌, Option, Some, None, is_some, length, map, take, count_by, codes, decimal}
+use Rattle.std.specs.Prelude.{◌≡◌, ◌≤◌, ◌⊎◌, ℕ, Bool, true, false, List, [], ◌++◌, Option, Some, None, is_some, length, map, count_by, codes, decimal}
 use Rattle.std.specs.Borrow.{Bor}
-use Rattle.std.specs.List.{All}
 use Rattle.bpf_isa.specs.Maps.{IsMapList, items_of, shape_of}
 use Rattle.bpf_isa.specs.Programs.{Checked, IsProgram}
 use Rattle.bpf_isa.specs.declared.maps.MapShape.{MapShape}
 use Rattle.bpf_text.specs.Canonical.{canon}
 use Rattle.counted_io.specs.Counted.{Tally}
 use Rattle.bpf_text.specs.Listing.{IsListing}
-use Rattle.counted_io.specs.Writing.{AppendsBeginning}
 use Rattle.bpf_machine.specs.Platform.{context_limit}
 use Rattle.bpf_machine.specs.State.{State, initial}
 use Rattle.bpf_journal.specs.Opening.{IsSize}
 use Rattle.counted_io.specs.Lines.{lines}
-use Rattle.bpf_session.specs.Output.{Walk, walk}
+use Rattle.bpf_session.specs.Output.{Walk}
 use Rattle.bpf_session.specs.Plain.{ending_of, plain_end, text_of_ending}
-use Rattle.bpf_session.specs.Points.{Bounds, Point, opening}
-use Rattle.bpf_session.specs.Runs.{Interrupts, GoesOn, Leaves, first_lines}
+use Rattle.bpf_session.specs.Points.{opening}
+use Rattle.bpf_session.specs.Runs.{BreaksOff, Exchange, Leaves, Standing, Wrote, WroteBetween, come_to}
 use Rattle.bpf_session.specs.declared.fault.RunFault.{RunFault}
 use Rattle.bpf_session.specs.declared.plain.Ending.{Ending}
 use Rattle.bpf_session.specs.declared.plain.Ending.TheVariants.{Exited, Faulted, Limit}
@@ -74,14 +72,16 @@ abbrev pub run_yield : List ℕ → State → Yield
 run_yield script end =
     unread_with (status_of_ending (ending_of end.status)) script (text_of_ending (ending_of end.status) end)
 
+-- Where the session of `debug` begins.
+abbrev pub start_of : Job → Checked → Standing
+start_of job code = record {
+  point = opening (initial code job.context.now);
+  bounds = record { limit = job.limit; room = job.journal };
+  refusals = 0;
+}
+
 -- `debug`: what the script prints in a debugger that keeps whole states, where the journal's keeper refused what the gaps say, which the
 -- answers tell.
-abbrev pub bounds_of_job : Job → Bounds
-bounds_of_job job = record { limit = job.limit; room = job.journal }
-
-abbrev pub beginning : Job → Checked → Point
-beginning job code = opening (initial code job.context.now)
-
 abbrev pub debug_yield : Walk → Yield
 debug_yield whole = record { out = whole.out; status = 0; unread = whole.unread }
 
@@ -94,49 +94,29 @@ check_line code =
 abbrev pub Yields : JobKind → Job → List ℕ → Yield → Type 0
 Yields Run job script a = (code : Checked) × Opens job code × (a ≡ run_yield script (plain_end job.limit (initial code job.context.now)))
 Yields Debug job script a = (code : Checked) × Opens job code × IsSize job.journal × (gaps : List (Option ℕ))
-    × ((walk gaps (bounds_of_job job) (lines script) (beginning job code)).gaps ≡ gaps)
-    × (a ≡ debug_yield (walk gaps (bounds_of_job job) (lines script) (beginning job code)))
+    × ((come_to (start_of job code) gaps (lines script)).gaps ≡ gaps)
+    × (a ≡ debug_yield (come_to (start_of job code) gaps (lines script)))
 Yields Asm job script a = (words : List ℕ) × IsListing job.file.now words × (a ≡ unread_with 0 script words)
 Yields Disasm job script a = (code : Checked) × IsProgramOf job code × (a ≡ unread_with 0 script (canon code))
 Yields Check job script a = (code : Checked) × IsProgramOf job code × (a ≡ unread_with 0 script (check_line code))
 
--- The whole answer was written behind what had been told before.
-pub record Completes (kind : JobKind) (job : Job) (script told : List ℕ) (after left : Option (List ℕ)) (status : ℕ) : Type 0 where
-  pub yield : Yield
-  pub right : Yields kind job script yield
-  pub ends : status ≡ yield.status
-  pub written : after ≡ Some (told ++ yield.out)
-  pub ahead : Leaves yield.unread left
+-- The whole answer was written, and its lines are left to the reader.
+abbrev pub Completes : JobKind → Job → Exchange → ℕ → Type 0
+Completes kind job x status = (a : Yield) × Yields kind job x.script a × (status ≡ a.status) × Wrote x a.out × Leaves x a.unread
 
--- A session that a failed read or write broke off behind k lines of the script.
-pub record DebugsPart (job : Job) (script told : List ℕ) (after left : Option (List ℕ)) : Type 0 where
-  pub why : RunFault
-  pub code : Checked
-  pub opens : Opens job code
-  pub sized : IsSize job.journal
-  pub gaps : List (Option ℕ)
-  pub k : ℕ
-  pub within : k ≤ length (lines script)
-  pub on : All GoesOn (take k (lines script))
-  pub told_gaps : (first_lines gaps (bounds_of_job job) script (beginning job code) k).gaps ≡ gaps
-  pub broken : Interrupts why (first_lines gaps (bounds_of_job job) script (beginning job code)) k script told after left
+-- The whole script is left.
+abbrev pub Unread : Exchange → Type 0
+Unread x = x.left ≡ Some x.script
 
--- A beginning of the answer was written.
-abbrev pub BeginsYield : JobKind → Job → List ℕ → List ℕ → Option (List ℕ) → Option (List ℕ) → Type 0
-BeginsYield kind job script told after left = (a : Yield) × Yields kind job script a
-    × AppendsBeginning (Some told) after a.out × (left ≡ Some script)
-
-abbrev pub Begins : JobKind → Job → List ℕ → List ℕ → Option (List ℕ) → Option (List ℕ) → Type 0
-Begins Run = BeginsYield Run
-Begins Debug = DebugsPart
-Begins Asm = BeginsYield Asm
-Begins Disasm = BeginsYield Disasm
-Begins Check = BeginsYield Check
+-- A beginning of the answer was written: of `debug`, what its session did until a read or a write failed.
+abbrev pub Begins : JobKind → Job → Exchange → Type 0
+Begins Debug job x = (code : Checked) × Opens job code × IsSize job.journal
+    × (why : RunFault) × (to : Standing) × BreaksOff why (start_of job code) to x
+Begins kind job x = (a : Yield) × Yields kind job x.script a × WroteBetween x [] a.out × Unread x
 
 -- A call that broke off: nothing was read and written, or a beginning of the answer was.
-abbrev pub StopsShort : JobKind → Job → List ℕ → List ℕ → Option (List ℕ) → Option (List ℕ) → Type 0
-StopsShort kind job script told after left =
-    ((after ≡ Some told) × (left ≡ Some script)) ⊎ Begins kind job script told after left
+abbrev pub StopsShort : JobKind → Job → Exchange → Type 0
+StopsShort kind job x = ((x.after ≡ Some x.told) × Unread x) ⊎ Begins kind job x
 
 -- A reader, a writer or standard error counted no failure.
 abbrev pub Spared : {T : Type 0} → Tally T → Tally T → Type 0

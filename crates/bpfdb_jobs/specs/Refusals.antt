@@ -1,5 +1,5 @@
 -- Scaffolding: why a job is refused, in this order: its maps, its listing, its program, its context, its journal.
-use Rattle.std.specs.Prelude.{◌≡◌, ℕ, List, [], Some, true}
+use Rattle.std.specs.Prelude.{◌≡◌, ℕ, List, Some, true}
 use Rattle.std.specs.Borrow.{Bor}
 use Rattle.bpf_isa.specs.Checker.{IsRefused}
 use Rattle.bpf_isa.specs.Maps.{IsListFault}
@@ -10,8 +10,9 @@ use Rattle.bpf_machine.specs.Opening.{Refused}
 use Rattle.bpf_journal.specs.Opening.{IsSize}
 use Rattle.bpf_journal.specs.Histories.{Kept}
 use Rattle.bpf_journal.specs.declared.fault.JournalFault.TheVariants.{SizeOutOfRange}
-use Rattle.bpf_session.specs.Sessions.{HasPast, SessionValue, bounds_of, point_of}
-use Rattle.bpfdb_jobs.specs.Jobs.{HasMaps, HasWords, IsProgramOf, Opens, beginning, bounds_of_job}
+use Rattle.bpf_session.specs.Runs.{HasStanding}
+use Rattle.bpf_session.specs.Sessions.{SessionValue}
+use Rattle.bpfdb_jobs.specs.Jobs.{HasMaps, HasWords, IsProgramOf, Opens, start_of}
 use Rattle.bpfdb_jobs.specs.declared.job.Job.{Job}
 use Rattle.bpfdb_jobs.specs.declared.refusal.JobRefusal.{JobRefusal}
 use Rattle.bpfdb_jobs.specs.declared.refusal.JobRefusal.TheVariants.{Maps, Listing, Load, Open, Journal}
@@ -27,10 +28,8 @@ Refuses job (Open fault) = (code : Checked) × IsProgramOf job code × Refused j
 Refuses job (Journal fault) = (code : Checked) × Opens job code × (fault ≡ SizeOutOfRange) × (IsSize job.journal → ⊥)
 
 -- A session that was just opened for a job.
-pub record IsOpening {K : Type 0} (holds : K → List Kept → Type 0) (room : K → ℕ) (job : Job) (session : SessionValue K) : Type 0 where
+pub record IsOpening {K : Type 0} (holds : K → List Kept → Type 0) (refused room : K → ℕ) (job : Job) (session : SessionValue K) : Type 0 where
   pub code : Checked
   pub opens : Opens job code
   pub sized : IsSize job.journal
-  pub past : HasPast holds session []
-  pub begins : point_of session [] ≡ beginning job code
-  pub bounded : bounds_of room session ≡ bounds_of_job job
+  pub stands : HasStanding holds refused room session (start_of job code)

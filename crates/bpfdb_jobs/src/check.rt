@@ -21,9 +21,9 @@ pub fn check_job<W: Write, E: Write>(
     errors: &mut Counted<E>,
 ) -> u8
     ensures value { (script told : List ℕ) → W.contents writer.old.inner ≡ Some told → result ≢ 2 →
-        Completes Check job.now script told (W.contents writer.new.inner) (Some script) result }
+        Completes Check job.now (record { script = script; told = told; after = W.contents writer.new.inner; left = Some script }) result }
     ensures broken { (script told : List ℕ) → W.contents writer.old.inner ≡ Some told → result ≡ 2 →
-        StopsShort Check job.now script told (W.contents writer.new.inner) (Some script) }
+        StopsShort Check job.now (record { script = script; told = told; after = W.contents writer.new.inner; left = Some script }) }
     ensures refused { (Needs Check job.now → ⊥) → (result ≡ 2) × (writer.new ≡ writer.old) }
     ensures spared { result ≢ 2 → Spared writer.old writer.new × Spared errors.old errors.new }
 {

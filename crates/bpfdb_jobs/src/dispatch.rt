@@ -26,10 +26,10 @@ pub fn tool<R: Read, W: Write, E: Write>(
     requires limit { IsLimit job.now.limit }
     // The whole answer was written, and the status is the answer's; what follows `quit` is left unread.
     ensures value { (script told : List ℕ) → R.remaining reader.old.inner ≡ Some script → W.contents writer.old.inner ≡ Some told → result ≢ 2 →
-        Completes job.now.kind job.now script told (W.contents writer.new.inner) (R.remaining reader.new.inner) result }
+        Completes job.now.kind job.now (record { script = script; told = told; after = W.contents writer.new.inner; left = R.remaining reader.new.inner }) result }
     // Nothing was written, or a beginning of the answer to what was read.
     ensures broken { (script told : List ℕ) → R.remaining reader.old.inner ≡ Some script → W.contents writer.old.inner ≡ Some told → result ≡ 2 →
-        StopsShort job.now.kind job.now script told (W.contents writer.new.inner) (R.remaining reader.new.inner) }
+        StopsShort job.now.kind job.now (record { script = script; told = told; after = W.contents writer.new.inner; left = R.remaining reader.new.inner }) }
     // A job that lacks what its kind needs leaves the reader and the writer untouched.
     ensures refused { (Needs job.now.kind job.now → ⊥) → (result ≡ 2) × (reader.new ≡ reader.old) × (writer.new ≡ writer.old) }
     // Where anything failed the status is 2.

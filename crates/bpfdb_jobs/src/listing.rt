@@ -21,9 +21,9 @@ pub fn asm_job<W: Write, E: Write>(
     errors: &mut Counted<E>,
 ) -> u8
     ensures value { (script told : List ℕ) → W.contents writer.old.inner ≡ Some told → result ≢ 2 →
-        Completes Asm job.now script told (W.contents writer.new.inner) (Some script) result }
+        Completes Asm job.now (record { script = script; told = told; after = W.contents writer.new.inner; left = Some script }) result }
     ensures broken { (script told : List ℕ) → W.contents writer.old.inner ≡ Some told → result ≡ 2 →
-        StopsShort Asm job.now script told (W.contents writer.new.inner) (Some script) }
+        StopsShort Asm job.now (record { script = script; told = told; after = W.contents writer.new.inner; left = Some script }) }
     ensures refused { (Needs Asm job.now → ⊥) → (result ≡ 2) × (writer.new ≡ writer.old) }
     ensures spared { result ≢ 2 → Spared writer.old writer.new × Spared errors.old errors.new }
 {
@@ -44,9 +44,9 @@ pub fn disasm_job<W: Write, E: Write>(
     errors: &mut Counted<E>,
 ) -> u8
     ensures value { (script told : List ℕ) → W.contents writer.old.inner ≡ Some told → result ≢ 2 →
-        Completes Disasm job.now script told (W.contents writer.new.inner) (Some script) result }
+        Completes Disasm job.now (record { script = script; told = told; after = W.contents writer.new.inner; left = Some script }) result }
     ensures broken { (script told : List ℕ) → W.contents writer.old.inner ≡ Some told → result ≡ 2 →
-        StopsShort Disasm job.now script told (W.contents writer.new.inner) (Some script) }
+        StopsShort Disasm job.now (record { script = script; told = told; after = W.contents writer.new.inner; left = Some script }) }
     ensures refused { (Needs Disasm job.now → ⊥) → (result ≡ 2) × (writer.new ≡ writer.old) }
     ensures spared { result ≢ 2 → Spared writer.old writer.new × Spared errors.old errors.new }
 {

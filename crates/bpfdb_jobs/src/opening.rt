@@ -97,7 +97,7 @@ pub fn machine_of(alloc: Global, job: &Job<'_>) -> Result<Cpu, JobRefusal>
 /// A session before its first command.
 pub fn session_of(alloc: Global, job: &Job<'_>) -> Result<Session<ListKeeper>, JobRefusal>
     requires limit { IsLimit job.now.limit }
-    ensures ok { IfOk result (IsOpening ⟦<ListKeeper as Keeper>⟧.holds ⟦<ListKeeper as Keeper>⟧.room job.now) }
+    ensures ok { IfOk result (IsOpening ⟦<ListKeeper as Keeper>⟧.holds ⟦<ListKeeper as Keeper>⟧.refused ⟦<ListKeeper as Keeper>⟧.room job.now) }
     ensures err { IfErr result (Refuses job.now) }
 {
     let cpu = match machine_of(alloc, job) {

@@ -1,21 +1,24 @@
-use Rattle.std.proofs.Common.{[], inr}
-use Rattle.bpfdb_jobs.proofs.Yielding.{debug-begins, debug-completes}
+use Rattle.std.proofs.Common.{inr, refl}
+use Rattle.counted_io.specs.Lines.{lines}
+use Rattle.bpf_session.specs.Runs.{come_to}
+use Rattle.bpfdb_jobs.specs.Jobs.{debug_yield, start_of}
 use Rattle.bpfdb_jobs.proofs.debug.debug_job.Goals as goal
 
 pub returns-in-Ok-run-clause-value : goal.returns-in-Ok-run-clause-value
 returns-in-Ok-run-clause-value g c = λ script told left held not.
     let o = c.in-Ok.ensures.ok in
-    debug-completes _ _ _ c.args.job.now c.in-Ok.session _ script told _ _ o
-    (c.in-Ok-run.ensures.value [] script told o.past left held)
+    let from = start_of c.args.job.now o.code in
+    let r = c.in-Ok-run.ensures.value from script told o.stands left held in
+    (debug_yield (come_to from r.2.0 (lines script)), (o.code, o.opens, o.sized, r.2.0, r.2.1.told, refl), refl, r.2.2, r.2.3)
 
 pub returns-in-Err-Read-clause-broken : goal.returns-in-Err-Read-clause-broken
 returns-in-Err-Read-clause-broken g c = λ script told left held two.
     let o = c.in-Ok.ensures.ok in
-    inr (debug-begins _ _ _ c.args.job.now c.in-Ok.session _ c.in-Err-Read.field-0 script told _ _ o
-    (c.in-Err-Read.ensures.broken [] script told o.past left held))
+    let r = c.in-Err-Read.ensures.broken (start_of c.args.job.now o.code) script told o.stands left held in
+    inr (o.code, o.opens, o.sized, c.in-Err-Read.field-0, r.0, r.2)
 
 pub returns-clause-broken : goal.returns-clause-broken
 returns-clause-broken g c = λ script told left held two.
     let o = c.in-Ok.ensures.ok in
-    inr (debug-begins _ _ _ c.args.job.now c.in-Ok.session _ c.in-Err-Write.field-0 script told _ _ o
-    (c.in-Err-Write.ensures.broken [] script told o.past left held))
+    let r = c.in-Err-Write.ensures.broken (start_of c.args.job.now o.code) script told o.stands left held in
+    inr (o.code, o.opens, o.sized, c.in-Err-Write.field-0, r.0, r.2)

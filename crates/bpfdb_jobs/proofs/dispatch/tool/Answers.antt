@@ -1,4 +1,4 @@
-use Rattle.bpfdb_jobs.proofs.Yielding.{stops-short, stops-short-debug}
+use Rattle.bpfdb_jobs.proofs.Yielding.{completes-debug, completes-too, stops-short, stops-short-debug}
 use Rattle.bpfdb_jobs.specs.declared.job.JobKind.TheVariants.{Run, Debug, Asm, Disasm, Check}
 use Rattle.bpfdb_jobs.proofs.dispatch.tool.Goals as goal
 
@@ -9,8 +9,9 @@ returns-in-Run-clause-broken g c = λ script told left held two.
 
 pub returns-in-Debug-clause-broken : goal.returns-in-Debug-clause-broken
 returns-in-Debug-clause-broken g c = λ script told left held two.
-    stops-short-debug c.args.job.now.kind Debug c.args.job.now script told (g.W.Write.contents c.debug_job.new.writer.inner)
-    (g.R.Read.remaining c.debug_job.new.reader.inner) c.in-Debug.is (c.debug_job.ensures.broken script told left held two)
+    stops-short-debug c.args.job.now.kind Debug c.args.job.now
+    (record { script = script; told = told; after = g.W.Write.contents c.debug_job.new.writer.inner; left = g.R.Read.remaining c.debug_job.new.reader.inner })
+    c.in-Debug.is (c.debug_job.ensures.broken script told left held two)
 
 pub returns-in-Asm-clause-broken : goal.returns-in-Asm-clause-broken
 returns-in-Asm-clause-broken g c = λ script told left held two.
@@ -26,3 +27,29 @@ pub returns-in-Check-clause-broken : goal.returns-in-Check-clause-broken
 returns-in-Check-clause-broken g c = λ script told left held two.
     stops-short c.args.job.now.kind Check c.args.job.now script told (g.W.Write.contents c.check_job.new.writer.inner)
     (g.R.Read.remaining c.args.reader.now.inner) c.in-Check.is left (c.check_job.ensures.broken script told held two)
+
+pub returns-in-Run-clause-value : goal.returns-in-Run-clause-value
+returns-in-Run-clause-value g c = λ script told left held not.
+    completes-too c.args.job.now.kind Run c.args.job.now script told (g.W.Write.contents c.run_job.new.writer.inner)
+    (g.R.Read.remaining c.args.reader.now.inner) c.run_job.result c.in-Run.is left (c.run_job.ensures.value script told held not)
+
+pub returns-in-Asm-clause-value : goal.returns-in-Asm-clause-value
+returns-in-Asm-clause-value g c = λ script told left held not.
+    completes-too c.args.job.now.kind Asm c.args.job.now script told (g.W.Write.contents c.asm_job.new.writer.inner)
+    (g.R.Read.remaining c.args.reader.now.inner) c.asm_job.result c.in-Asm.is left (c.asm_job.ensures.value script told held not)
+
+pub returns-in-Disasm-clause-value : goal.returns-in-Disasm-clause-value
+returns-in-Disasm-clause-value g c = λ script told left held not.
+    completes-too c.args.job.now.kind Disasm c.args.job.now script told (g.W.Write.contents c.disasm_job.new.writer.inner)
+    (g.R.Read.remaining c.args.reader.now.inner) c.disasm_job.result c.in-Disasm.is left (c.disasm_job.ensures.value script told held not)
+
+pub returns-in-Check-clause-value : goal.returns-in-Check-clause-value
+returns-in-Check-clause-value g c = λ script told left held not.
+    completes-too c.args.job.now.kind Check c.args.job.now script told (g.W.Write.contents c.check_job.new.writer.inner)
+    (g.R.Read.remaining c.args.reader.now.inner) c.check_job.result c.in-Check.is left (c.check_job.ensures.value script told held not)
+
+pub returns-in-Debug-clause-value : goal.returns-in-Debug-clause-value
+returns-in-Debug-clause-value g c = λ script told left held not.
+    completes-debug c.args.job.now.kind Debug c.args.job.now
+    (record { script = script; told = told; after = g.W.Write.contents c.debug_job.new.writer.inner; left = g.R.Read.remaining c.debug_job.new.reader.inner })
+    c.debug_job.result c.in-Debug.is (c.debug_job.ensures.value script told left held not)
