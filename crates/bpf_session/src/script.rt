@@ -113,12 +113,12 @@ pub fn run<K: Keeper, R: Read, W: Write>(
     ensures value { OnOk result ((from : Standing) (script told : List ℕ) → HasStanding K.holds K.refused K.room session.old from →
         R.remaining reader.old.inner ≡ Some script → W.contents writer.old.inner ≡ Some told →
         (to : Standing) × HasStanding K.holds K.refused K.room session.new to × Prints from to
-            (record { script = script; told = told; after = W.contents writer.new.inner; left = R.remaining reader.new.inner })) }
+        (record { script = script; told = told; after = W.contents writer.new.inner; left = R.remaining reader.new.inner })) }
     // Where a read or a write failed the session stands after the lines that were obeyed.
     ensures broken { IfErr result (λ why. (from : Standing) (script told : List ℕ) → HasStanding K.holds K.refused K.room session.old from →
         R.remaining reader.old.inner ≡ Some script → W.contents writer.old.inner ≡ Some told →
         (to : Standing) × HasStanding K.holds K.refused K.room session.new to × BreaksOff why from to
-            (record { script = script; told = told; after = W.contents writer.new.inner; left = R.remaining reader.new.inner })) }
+        (record { script = script; told = told; after = W.contents writer.new.inner; left = R.remaining reader.new.inner })) }
     ensures ok { OnOk result ((reader.new.failures ≡ reader.old.failures) × (writer.new.failures ≡ writer.old.failures)) }
     ensures err { IfErr result (λ why. FailsBy why reader.old reader.new writer.old writer.new) }
     ensures bounds { bounds_of K.room session.new ≡ bounds_of K.room session.old }
