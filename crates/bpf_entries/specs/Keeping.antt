@@ -1,8 +1,19 @@
--- What a journal keeps: entries and marks, the newest first, as many of the newest as weigh no more than its size.
-use Rattle.std.specs.Prelude.{ℕ, ◌-◌, nat_le, Bool, if◌then◌else◌, List, [], ◌∷◌}
+-- What a journal keeps: entries and marks, the newest first, as many of the newest as weigh no more than its size. bpfdb's own choice.
+use Rattle.std.specs.Prelude.{◌≤◌, ℕ, ◌-◌, nat_le, Bool, if◌then◌else◌, List, [], ◌∷◌}
 use Rattle.bpf_entries.specs.declared.entry.Entry.{Entry}
 use Rattle.bpf_entries.specs.Weights.{weight}
 
+-- A journal's size is 1,024 to 16,777,216 bytes.
+abbrev pub least_size : ℕ
+least_size = 1024
+
+abbrev pub greatest_size : ℕ
+greatest_size = 16777216
+
+abbrev pub IsSize : ℕ → Type 0
+IsSize size = (least_size ≤ size) × (size ≤ greatest_size)
+
+-- An entry with its mark.
 abbrev pub Kept : Type 0
 Kept = Entry × Bool
 

@@ -6,7 +6,8 @@ use Rattle.bpf_machine.specs.ByAddress.{byte}
 use Rattle.bpf_entries.specs.declared.entry.Entry.{Entry}
 use Rattle.bpf_machine.specs.Moves.{overwritten}
 use Rattle.bpf_machine.specs.State.{State, depth}
-use Rattle.bpf_journal.specs.Histories.{Kept, Record, IsRun, kept_of}
+use Rattle.bpf_entries.specs.Keeping.{Kept}
+use Rattle.bpf_journal.specs.Histories.{Record, IsRun, kept_of}
 use Rattle.bpf_journal.specs.Keepers.{IsPlace, WalksBack, walked}
 use Rattle.bpf_journal.specs.Lookups.{Test, latest, state_before, changes_byte, byte_change, last_change, IsLatestChange, LastChangeIsLatest, NoChangeNoDifference}
 use Rattle.bpf_journal.specs.Replaced.{byte_before, depth_before}

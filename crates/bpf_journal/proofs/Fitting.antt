@@ -5,22 +5,12 @@ use Rattle.std.proofs.lemmas.Bool.{cases_lt}
 use Rattle.std.proofs.lemmas.Bool.Decides.{nat_tests}
 use Rattle.std.proofs.lemmas.List.Sums.{sum_by-cons}
 use Rattle.bpf_machine.specs.State.{State}
-use Rattle.bpf_journal.specs.Histories.{Record, IsRun, record_weight, fit, keep}
+use Rattle.bpf_entries.specs.Keeping.{fit, keep}
+use Rattle.bpf_entries.proofs.Keeping.{fit_in, fit_out, fit_none}
+use Rattle.bpf_journal.specs.Histories.{Record, IsRun, record_weight}
 use Rattle.bpf_journal.specs.Laws.{IsLongest}
 
 module _ {A : Type 0} (weigh : A → ℕ) where
-  pub fit_in : (room : ℕ) (e : A) (es : List A) → weigh e ≤ room → fit weigh room (e ∷ es) ≡ e ∷ fit weigh (room - weigh e) es
-  unfolding fit
-  fit_in room e es h = grind (arith, nat_tests)
-
-  pub fit_out : (room : ℕ) (e : A) (es : List A) → room < weigh e → fit weigh room (e ∷ es) ≡ []
-  unfolding fit
-  fit_out room e es h = grind (arith, nat_tests)
-
-  pub fit_none : (room : ℕ) → fit weigh room [] ≡ []
-  unfolding fit
-  fit_none room = refl
-
   -- It is the longest beginning within the room.
   none_longer : (room : ℕ) (e : A) (es : List A) → room < weigh e → (f : A) (more : List A) → (e ∷ es) ≡ f ∷ more → room < sum_by weigh ([] ++ f ∷ [])
   none_longer room e es h f more q =
@@ -32,13 +22,13 @@ module _ {A : Type 0} (weigh : A → ℕ) where
   one_longer room e f es h l = omega (arith, sum_by-cons weigh e (es ++ f ∷ []))
 
   pub longest : (room : ℕ) (es : List A) → IsLongest weigh room es (fit weigh room es)
-  longest room [] = subst (IsLongest weigh room []) (sym (fit_none room)) (record { rest = []; whole = refl; within = omega arith; longest = λ e more q. absurd cc })
+  longest room [] = subst (IsLongest weigh room []) (sym (fit_none weigh room)) (record { rest = []; whole = refl; within = omega arith; longest = λ e more q. absurd cc })
   longest room (e ∷ es) = elim (cases_lt room (weigh e)) [
-    | inl h ↦ subst (IsLongest weigh room (e ∷ es)) (sym (fit_out room e es h)) (record { rest = e ∷ es; whole = refl; within = omega arith; longest = none_longer room e es h })
+    | inl h ↦ subst (IsLongest weigh room (e ∷ es)) (sym (fit_out weigh room e es h)) (record { rest = e ∷ es; whole = refl; within = omega arith; longest = none_longer room e es h })
     | inr h ↦
         let i = longest (room - weigh e) es in
         let front = fit weigh (room - weigh e) es in
-        subst (IsLongest weigh room (e ∷ es)) (sym (fit_in room e es h)) (record {
+        subst (IsLongest weigh room (e ∷ es)) (sym (fit_in weigh room e es h)) (record {
           rest = i.rest;
           whole = ap (λ t. e ∷ t) i.whole;
           within = omega (arith, sum_by-cons weigh e front, i.within);
@@ -49,49 +39,30 @@ module _ {A : Type 0} (weigh : A → ℕ) where
   pub fit_within : (room : ℕ) (es : List A) → sum_by weigh (fit weigh room es) ≤ room
   fit_within room es = (longest room es).within
 
-  -- What weighs at most the room fits whole.
-  pub fit_all : (room : ℕ) (es : List A) → sum_by weigh es ≤ room → fit weigh room es ≡ es
-  fit_all room [] h = fit_none room
-  fit_all room (e ∷ es) h =
-      let sum = sum_by-cons weigh e es in
-      let here : weigh e ≤ room = omega arith in
-      fit_in room e es here ∙ ap (λ t. e ∷ t) (fit_all (room - weigh e) es (omega arith))
-
   -- What fits in less room, of what fits in more.
   pub fit_fit : (less room : ℕ) (es : List A) → less ≤ room → fit weigh less (fit weigh room es) ≡ fit weigh less es
-  fit_fit less room [] h = ap (fit weigh less) (fit_none room)
+  fit_fit less room [] h = ap (fit weigh less) (fit_none weigh room)
   fit_fit less room (e ∷ es) h = elim (cases_lt less (weigh e)) [
     | inl small ↦ elim (cases_lt room (weigh e)) [
-      | inl out ↦ ap (fit weigh less) (fit_out room e es out) ∙ fit_none less ∙ sym (fit_out less e es small)
-      | inr within ↦ ap (fit weigh less) (fit_in room e es within) ∙ fit_out less e (fit weigh (room - weigh e) es) small ∙ sym (fit_out less e es small)
+      | inl out ↦ ap (fit weigh less) (fit_out weigh room e es out) ∙ fit_none weigh less ∙ sym (fit_out weigh less e es small)
+      | inr within ↦ ap (fit weigh less) (fit_in weigh room e es within) ∙ fit_out weigh less e (fit weigh (room - weigh e) es) small ∙ sym (fit_out weigh less e es small)
     ]
     | inr here ↦
         let within : weigh e ≤ room = omega arith in
         let rest : less - weigh e ≤ room - weigh e = omega arith in
-        ap (fit weigh less) (fit_in room e es within)
-        ∙ fit_in less e (fit weigh (room - weigh e) es) here
+        ap (fit weigh less) (fit_in weigh room e es within)
+        ∙ fit_in weigh less e (fit weigh (room - weigh e) es) here
         ∙ ap (λ t. e ∷ t) (fit_fit (less - weigh e) (room - weigh e) es rest)
-        ∙ sym (fit_in less e es here)
+        ∙ sym (fit_in weigh less e es here)
   ]
 
   -- What was dropped before makes no difference.
   pub keep_fit : (room : ℕ) (es : List A) (e : A) → keep weigh room (fit weigh room es) e ≡ keep weigh room es e
   keep_fit room es e = elim (cases_lt room (weigh e)) [
-    | inl out ↦ fit_out room e (fit weigh room es) out ∙ sym (fit_out room e es out)
+    | inl out ↦ fit_out weigh room e (fit weigh room es) out ∙ sym (fit_out weigh room e es out)
     | inr here ↦
         let rest : room - weigh e ≤ room = omega arith in
-        fit_in room e (fit weigh room es) here ∙ ap (λ t. e ∷ t) (fit_fit (room - weigh e) room es rest) ∙ sym (fit_in room e es here)
-  ]
-
-  -- The oldest of what weighs more than the room doesn't fit.
-  pub fit_without_oldest : (room : ℕ) (es : List A) (z : A) → room < sum_by weigh (es ++ z ∷ []) → fit weigh room (es ++ z ∷ []) ≡ fit weigh room es
-  fit_without_oldest room [] z h = fit_out room z [] (omega arith) ∙ sym (fit_none room)
-  fit_without_oldest room (e ∷ es) z h = elim (cases_lt room (weigh e)) [
-    | inl out ↦ fit_out room e (es ++ z ∷ []) out ∙ sym (fit_out room e es out)
-    | inr here ↦
-        let sum = sum_by-cons weigh e (es ++ z ∷ []) in
-        let rest : room - weigh e < sum_by weigh (es ++ z ∷ []) = omega arith in
-        fit_in room e (es ++ z ∷ []) here ∙ ap (λ t. e ∷ t) (fit_without_oldest (room - weigh e) es z rest) ∙ sym (fit_in room e es here)
+        fit_in weigh room e (fit weigh room es) here ∙ ap (λ t. e ∷ t) (fit_fit (room - weigh e) room es rest) ∙ sym (fit_in weigh room e es here)
   ]
 
 -- What fits of the images is the image of what fits.

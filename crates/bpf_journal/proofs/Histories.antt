@@ -16,7 +16,8 @@ use Rattle.bpf_machine.specs.declared.compact.CompactEntry.TheVariants as compac
 use Rattle.bpf_machine.specs.Entries.{entry_of, expanded}
 use Rattle.bpf_machine.specs.Next.{change}
 use Rattle.bpf_journal.specs.EditEntries.{is_of_step}
-use Rattle.bpf_journal.specs.Histories.{Record, IsRun, Kept, kept_of, kept_weight, record_weight, keep, newest, older, is_step, StandsFor, HasHistory}
+use Rattle.bpf_entries.specs.Keeping.{Kept, kept_weight, keep}
+use Rattle.bpf_journal.specs.Histories.{Record, IsRun, kept_of, record_weight, newest, older, is_step, StandsFor, HasHistory}
 use Rattle.bpf_journal.specs.Replaced.{replaces_bytes}
 use Rattle.bpf_journal.specs.Timelines.{Moment, Makes, Stays, GoesBack, record_of, taken_of}
 use Rattle.bpf_journal.specs.declared.timeline.Taken.{Taken}

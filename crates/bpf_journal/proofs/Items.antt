@@ -9,9 +9,10 @@ use Rattle.bpf_entries.specs.declared.entry.Entry.{Entry}
 use Rattle.bpf_entries.specs.declared.entry.Entry.TheVariants as entry
 use Rattle.bpf_entries.specs.Weights.{weight}
 use Rattle.bpf_journal.specs.declared.item.Item.{Item}
-use Rattle.bpf_journal.specs.Histories.{Kept, kept_weight, newest, fit}
+use Rattle.bpf_entries.specs.Keeping.{Kept, kept_weight, fit}
+use Rattle.bpf_journal.specs.Histories.{newest}
 use Rattle.bpf_journal.specs.Items.{kept_item, mark_count, held, marks, IsCounted, LosesOldest}
-use Rattle.bpf_journal.proofs.Fitting.{fit_without_oldest}
+use Rattle.bpf_entries.proofs.Keeping.{fit_without_oldest}
 
 pub held_none : held [] ≡ []
 unfolding held

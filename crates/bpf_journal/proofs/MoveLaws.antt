@@ -17,10 +17,10 @@ use Rattle.bpf_machine.proofs.Undoing.{undoing}
 use Rattle.bpf_journal.specs.declared.fault.MoveFault.{MoveFault}
 use Rattle.bpf_journal.specs.declared.fault.MoveFault.TheVariants as fault
 use Rattle.bpf_entries.specs.Fields.{FitsFields}
-use Rattle.bpf_journal.specs.Histories.{kept_weight}
+use Rattle.bpf_entries.specs.Keeping.{kept_weight}
 use Rattle.bpf_journal.specs.Laws.{OneAfter, OneBefore, ReplayIsExact, RefusedLeadsNowhere, EveryEntryIsKept}
 use Rattle.bpf_journal.specs.Reverting.{RefusesMove}
-use Rattle.bpf_journal.proofs.Fitting.{fit_in}
+use Rattle.bpf_entries.proofs.Keeping.{fit_in}
 
 pub one_after : OneAfter
 one_after x y z m l k = l.after ∙ sym k.after

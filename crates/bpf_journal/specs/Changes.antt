@@ -1,6 +1,6 @@
 -- Scaffolding: the latest change of a byte, as a walk over kept entries finds it.
 use Rattle.std.specs.Prelude.{ℕ, ◌==◌, ◌+◌, List, [], ◌∷◌, Option, Some, None, option_map, if◌then◌else◌}
-use Rattle.bpf_journal.specs.Histories.{Kept}
+use Rattle.bpf_entries.specs.Keeping.{Kept}
 use Rattle.bpf_journal.specs.Replaced.{byte_before, depth_before}
 use Rattle.bpf_journal.specs.declared.timeline.ByteChange.{ByteChange}
 

@@ -2,7 +2,7 @@
 use Rattle.std.specs.Prelude.{Bool, true, false, List}
 use Rattle.bpf_entries.specs.declared.entry.Entry.{Entry}
 use Rattle.bpf_entries.specs.declared.entry.Entry.TheVariants as entry
-use Rattle.bpf_journal.specs.Histories.{Kept}
+use Rattle.bpf_entries.specs.Keeping.{Kept}
 
 -- Whether an entry is a step's, and not an edit's.
 abbrev pub is_of_step : Entry → Bool

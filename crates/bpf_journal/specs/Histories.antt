@@ -1,10 +1,9 @@
 -- A history keeps whole states: what a debugger would hold that never takes anything back, but looks it up. The newest comes first
 -- in every list here.
-use Rattle.std.specs.Prelude.{ℕ, ◌-◌, nat_le, Bool, true, false, if◌then◌else◌, List, [], ◌∷◌, Option, Some, None, map}
-use Rattle.bpf_entries.specs.declared.entry.Entry.{Entry}
+use Rattle.std.specs.Prelude.{ℕ, Bool, true, false, List, [], ◌∷◌, Option, Some, None, map}
 use Rattle.bpf_machine.specs.declared.moves.Move.{Move}
 use Rattle.bpf_machine.specs.declared.moves.Move.TheVariants as move
-use Rattle.bpf_entries.specs.Weights.{weight}
+use Rattle.bpf_entries.specs.Keeping.{Kept, kept_weight}
 use Rattle.bpf_machine.specs.Moves.{Leads, overwritten}
 use Rattle.bpf_machine.specs.State.{State}
 
@@ -25,27 +24,11 @@ IsRun [] y = Unit {0}
 IsRun (r ∷ h) y = Leads r.before r.move y × IsRun h r.before
 
 -- What a journal keeps of a record: the entry of its move, and the mark.
-abbrev pub Kept : Type 0
-Kept = Entry × Bool
-
 abbrev pub kept_of : Record → Kept
 kept_of r = (overwritten r.before r.move, r.mark)
 
--- What each weighs, in bytes.
-abbrev pub kept_weight : Kept → ℕ
-kept_weight k = weight k.0
-
 abbrev pub record_weight : Record → ℕ
 record_weight r = kept_weight (kept_of r)
-
--- The longest beginning whose weights sum to at most the room.
-unfoldable pub fit : {A : Type 0} → (A → ℕ) → ℕ → List A → List A
-fit weigh room [] = []
-fit weigh room (e ∷ es) = if nat_le (weigh e) room then e ∷ fit weigh (room - weigh e) es else []
-
--- A new one goes in front, and what no longer fits is dropped.
-abbrev pub keep : {A : Type 0} → (A → ℕ) → ℕ → List A → A → List A
-keep weigh room es e = fit weigh room (e ∷ es)
 
 -- The newest, and the list without it.
 abbrev pub newest : {A : Type 0} → List A → Option A

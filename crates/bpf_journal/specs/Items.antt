@@ -5,7 +5,7 @@ use Rattle.bpf_machine.specs.Entries.{expanded}
 use Rattle.bpf_journal.specs.declared.item.Item.{Item}
 use Rattle.bpf_journal.specs.declared.item.Stored.{Stored}
 use Rattle.bpf_journal.specs.declared.item.Stored.TheVariants.{Compact, Large}
-use Rattle.bpf_journal.specs.Histories.{Kept, kept_weight}
+use Rattle.bpf_entries.specs.Keeping.{Kept, kept_weight}
 
 -- What an item keeps.
 abbrev pub stored : Stored → Entry

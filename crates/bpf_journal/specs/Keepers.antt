@@ -4,8 +4,9 @@ use Rattle.bpf_machine.specs.declared.compact.CompactEntry.{CompactEntry}
 use Rattle.bpf_entries.specs.declared.entry.Entry.{Entry}
 use Rattle.bpf_machine.specs.Entries.{expanded}
 use Rattle.bpf_journal.specs.Counts.{once_more}
-use Rattle.bpf_journal.specs.Histories.{Kept, kept_weight, newest, older}
-use Rattle.bpf_journal.specs.Opening.{IsSize}
+use Rattle.bpf_entries.specs.Keeping.{Kept, kept_weight}
+use Rattle.bpf_journal.specs.Histories.{newest, older}
+use Rattle.bpf_entries.specs.Keeping.{IsSize}
 
 -- How often a keeper has refused, after one more push.
 abbrev pub refusals_after : {E : Type 0} → Result (Unit {0}) E → ℕ → ℕ

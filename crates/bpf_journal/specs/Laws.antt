@@ -6,8 +6,8 @@ use Rattle.bpf_machine.specs.Moves.{Leads, overwritten}
 use Rattle.bpf_machine.specs.State.{State}
 use Rattle.bpf_journal.specs.declared.fault.MoveFault.{MoveFault}
 use Rattle.bpf_entries.specs.Fields.{FitsFields}
-use Rattle.bpf_journal.specs.Histories.{Kept, kept_weight, fit, keep}
-use Rattle.bpf_journal.specs.Opening.{IsSize}
+use Rattle.bpf_entries.specs.Keeping.{Kept, kept_weight, fit, keep}
+use Rattle.bpf_entries.specs.Keeping.{IsSize}
 use Rattle.bpf_journal.specs.Reverting.{RefusesMove}
 
 module _ {A : Type 0} (weigh : A → ℕ) where

@@ -1,16 +1,7 @@
--- A journal's size is 1,024 to 16,777,216 bytes. bpfdb's own choice.
-use Rattle.std.specs.Prelude.{◌≤◌, ℕ, List, codes}
+-- The faults of a journal that can't be opened. bpfdb's own choice.
+use Rattle.std.specs.Prelude.{ℕ, List, codes}
 use Rattle.bpf_journal.specs.declared.fault.JournalFault.{JournalFault}
 use Rattle.bpf_journal.specs.declared.fault.JournalFault.TheVariants.{SizeOutOfRange, OutOfMemory}
-
-abbrev pub least_size : ℕ
-least_size = 1024
-
-abbrev pub greatest_size : ℕ
-greatest_size = 16777216
-
-abbrev pub IsSize : ℕ → Type 0
-IsSize size = (least_size ≤ size) × (size ≤ greatest_size)
 
 -- A fault's number and text.
 abbrev pub number_of : JournalFault → ℕ

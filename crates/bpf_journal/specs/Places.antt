@@ -3,9 +3,9 @@ use Rattle.std.specs.Prelude.{◌≡◌, ◌≤◌, ℕ, List, ◌++◌, length,
 use Rattle.std.proofs.Common.{sym, ap, subst, ◌∙◌, arith}
 use Rattle.std.proofs.lemmas.List.{length-append}
 use Rattle.std.proofs.Math.Seq.{drop-append_seam}
-use Rattle.bpf_journal.specs.Histories.{Kept, kept_weight}
+use Rattle.bpf_entries.specs.Keeping.{Kept, kept_weight}
 use Rattle.bpf_journal.specs.Keepers.{IsWithin}
-use Rattle.bpf_journal.specs.Opening.{IsSize}
+use Rattle.bpf_entries.specs.Keeping.{IsSize}
 
 -- What is held is within the room.
 pub within_all : (room : ℕ) (kept es : List Kept) → es ≡ kept → IsSize room → sum_by kept_weight kept ≤ room → IsWithin room es

@@ -7,7 +7,8 @@ use Rattle.bpf_journal.specs.declared.fault.TimelineFault.{TimelineFault}
 use Rattle.bpf_journal.specs.declared.fault.TimelineFault.TheVariants as fault
 use Rattle.bpf_journal.specs.Counts.{once_more}
 use Rattle.bpf_journal.specs.declared.timeline.Taken.{Taken}
-use Rattle.bpf_journal.specs.Histories.{Kept, Record, is_step, record_weight, keep, StandsFor}
+use Rattle.bpf_entries.specs.Keeping.{Kept, keep}
+use Rattle.bpf_journal.specs.Histories.{Record, is_step, record_weight, StandsFor}
 use Rattle.bpf_journal.specs.Replaced.{replaces_bytes}
 use Rattle.bpf_journal.specs.Reverting.{RefusesMove}
 

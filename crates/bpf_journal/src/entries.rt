@@ -1,6 +1,7 @@
 //! A list of entries with marks, and the sums over it that are asked for often.
 ghost use Rattle.std.specs.Prelude.{◌≡◌, ◌≤◌, ◌<◌, ◌^◌, ◌++◌, [], ◌∷◌, ℕ, List, Option, option_map, length, sum_by, MatchOption, IfSome, OnOk, OnErr};
-ghost use Rattle.bpf_journal.specs.Histories.{Kept, kept_weight, fit, newest};
+ghost use Rattle.bpf_entries.specs.Keeping.{Kept, kept_weight, fit};
+ghost use Rattle.bpf_journal.specs.Histories.{newest};
 ghost use Rattle.bpf_journal.specs.Items.{kept_item, marks, LosesOldest};
 ghost use Rattle.bpf_journal.specs.Keepers.{kept_compact};
 
@@ -20,7 +21,7 @@ pub struct Entries {
 
 impl Model for Entries {
     ghost use Rattle.std.specs.Prelude.{List};
-    ghost use Rattle.bpf_journal.specs.Histories.{Kept};
+    ghost use Rattle.bpf_entries.specs.Keeping.{Kept};
     ghost use Rattle.bpf_journal.specs.Items.{held, IsCounted};
 
     ghost Value = { List Kept };

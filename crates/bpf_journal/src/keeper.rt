@@ -1,7 +1,8 @@
 //! Keepers hold the entries and marks of moves, the newest ones that fit a journal's size.
 ghost use Rattle.std.specs.Prelude.{◌≡◌, ◌<◌, ◌^◌, ◌++◌, ℕ, List, length, sum_by, count_by, OnOk, OnErr};
 ghost use Rattle.bpf_entries.specs.Fields.{FitsFields};
-ghost use Rattle.bpf_journal.specs.Histories.{Kept, kept_weight, keep, newest};
+ghost use Rattle.bpf_entries.specs.Keeping.{Kept, kept_weight, keep};
+ghost use Rattle.bpf_journal.specs.Histories.{newest};
 ghost use Rattle.bpf_journal.specs.Keepers.{IsPlace, IsWithin, PlacesDiffer, TakesCompact, TakesNewest, WalksBack, kept_compact, refusals_after};
 
 use crate::fields::compact_fits;

@@ -1,5 +1,6 @@
 //! Laws of the definitions, each proved as the contract of a function that does nothing.
-ghost use Rattle.bpf_journal.specs.Histories.{record_weight, kept_weight};
+ghost use Rattle.bpf_entries.specs.Keeping.{kept_weight};
+ghost use Rattle.bpf_journal.specs.Histories.{record_weight};
 ghost use Rattle.bpf_journal.specs.Lookups.{LastChangeIsLatest, NoChangeNoDifference};
 ghost use Rattle.bpf_journal.specs.Replaced.{EntriesTellBefore};
 ghost use Rattle.bpf_journal.specs.Laws.{FitIsLongest, NewIsKept, DroppedIsForgotten, EveryEntryIsKept, OneAfter, OneBefore, ReplayIsExact, RefusedLeadsNowhere};

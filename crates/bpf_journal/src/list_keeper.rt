@@ -1,8 +1,8 @@
 //! The keeper that keeps entries in a growing list.
 ghost use Rattle.std.specs.Prelude.{◌≡◌, ◌<◌, ◌≤◌, ◌^◌, ◌∷◌, [], sum_by, IfOk, IfErr, OnOk, OnErr};
-ghost use Rattle.bpf_journal.specs.Histories.{kept_weight, keep};
+ghost use Rattle.bpf_entries.specs.Keeping.{kept_weight, keep};
 ghost use Rattle.bpf_journal.specs.Keepers.{refusals_after};
-ghost use Rattle.bpf_journal.specs.Opening.{IsSize};
+ghost use Rattle.bpf_entries.specs.Keeping.{IsSize};
 
 use crate::entries::Entries;
 use crate::fault::JournalFault;

@@ -6,10 +6,6 @@ pub record Content : Type 0 where
   pub size : ℕ
   pub bytes : List ℕ
 
--- A journal's size is 1,024 to 16,777,216 bytes.
-abbrev pub IsRingSize : ℕ → Type 0
-IsRingSize size = (1024 ≤ size) × (size ≤ 16777216)
-
 -- The n items of a block from a place on, around the end.
 abbrev pub around : List ℕ → ℕ → ℕ → List ℕ
 around xs first n = take n (drop first xs ++ take first xs)

@@ -3,7 +3,7 @@ ghost use Rattle.std.specs.Prelude.{◌≡◌, ◌≤◌, ◌<◌, ◌+◌, ◌-
 ghost use Rattle.bpf_entries.specs.Fields.{FitsFields};
 ghost use Rattle.bpf_entries.specs.Keeping.{Kept, kept_weight, fit, keep};
 ghost use Rattle.bpf_entries.specs.Weights.{weight as weight_of};
-ghost use Rattle.bpf_ring.specs.Blocks.{IsRingSize};
+ghost use Rattle.bpf_entries.specs.Keeping.{IsSize};
 ghost use Rattle.bpf_ring.specs.Held.{IsHeld};
 
 use crate::counts::{one_less, one_more, within};
@@ -23,7 +23,7 @@ pub struct EntryRing {
 impl EntryRing {
     /// A ring of this many bytes, 1,024 to 16,777,216, that holds nothing.
     pub fn open(alloc: Global, size: usize) -> Result<EntryRing, AllocError>
-        requires { IsRingSize size }
+        requires { IsSize size }
         ensures size { IfOk result (λ r. r.ring.size ≡ size) }
         ensures empty { IfOk result (λ r. IsHeld r.ring r.entries r.marks []) }
     {
@@ -133,7 +133,7 @@ impl EntryRing {
     fn make_room(&mut self, room: usize)
         requires { room ≤ 280 }
         ensures size { self.new.ring.size ≡ self.old.ring.size }
-        ensures sized { IsRingSize self.new.ring.size }
+        ensures sized { IsSize self.new.ring.size }
         ensures within { length self.new.ring.bytes + room ≤ self.new.ring.size }
         ensures held { (ks : List Kept) → IsHeld self.old.ring self.old.entries self.old.marks ks → IsHeld self.new.ring self.new.entries self.new.marks (fit kept_weight (self.old.ring.size - room) ks) }
     {

@@ -3,7 +3,7 @@ ghost use Rattle.std.specs.Prelude.{◌≡◌, ◌≤◌, ◌<◌, ◌+◌, ◌-
 ghost use Rattle.byteorder.specs.Endian.{little_bytes};
 ghost use Rattle.bpf_entries.specs.declared.entry.Entry.{Entry};
 ghost use Rattle.bpf_entries.specs.Texts.{text};
-ghost use Rattle.bpf_ring.specs.Blocks.{IsRingSize};
+ghost use Rattle.bpf_entries.specs.Keeping.{IsSize};
 
 use crate::block::{place, write_around};
 use circular_buffer::HeapCircularBuffer;
@@ -23,7 +23,8 @@ pub struct Ring {
 
 impl Model for Ring {
     ghost use Rattle.std.specs.Prelude.{◌≡◌, ◌<◌, ◌≤◌, length};
-    ghost use Rattle.bpf_ring.specs.Blocks.{Content, IsRingSize, around};
+    ghost use Rattle.bpf_entries.specs.Keeping.{IsSize};
+    ghost use Rattle.bpf_ring.specs.Blocks.{Content, around};
 
     ghost Value = { Content };
 
@@ -33,14 +34,14 @@ impl Model for Ring {
       full : length r.buffer.items ≡ r.buffer.capacity;
       within : r.first < r.buffer.capacity;
       fits : r.len ≤ r.buffer.capacity;
-      sized : IsRingSize r.buffer.capacity;
+      sized : IsSize r.buffer.capacity;
     } };
 }
 
 impl Ring {
     /// A ring of this size with no bytes.
     pub fn open(alloc: Global, size: usize) -> Result<Ring, AllocError>
-        requires { IsRingSize size }
+        requires { IsSize size }
         ensures { IfOk result (λ ring. (ring.size ≡ size) × (ring.bytes ≡ [])) }
     {
         let mut buffer = HeapCircularBuffer::with_capacity(alloc, size)?;
@@ -53,7 +54,7 @@ impl Ring {
     /// A ring over a full buffer, with no bytes.
     fn over(buffer: HeapCircularBuffer<u8>) -> Ring
         requires full { length buffer.items ≡ buffer.capacity }
-        requires sized { IsRingSize buffer.capacity }
+        requires sized { IsSize buffer.capacity }
         ensures size { result.size ≡ buffer.capacity }
         ensures none { result.bytes ≡ [] }
     {
@@ -67,7 +68,7 @@ impl Ring {
     /// How many bytes it may have.
     pub fn size(&self) -> usize
         ensures value { result ≡ self.now.size }
-        ensures sized { IsRingSize result }
+        ensures sized { IsSize result }
     {
         self.buffer.capacity()
     }

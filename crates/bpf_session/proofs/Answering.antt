@@ -1,6 +1,7 @@
 -- How a command is shown to obey its meaning.
 use Rattle.std.proofs.Common.{◌≡◌, ℕ, List, [], Option, Result, sym, ap, subst, ◌∙◌}
-use Rattle.bpf_journal.specs.Histories.{Record, Kept}
+use Rattle.bpf_entries.specs.Keeping.{Kept}
+use Rattle.bpf_journal.specs.Histories.{Record}
 use Rattle.bpf_session.specs.Outcomes.{Outcome, unless_refused}
 use Rattle.bpf_session.specs.Points.{Point}
 use Rattle.bpf_session.specs.Sessions.{SessionValue, HasPast, StandsAt, Obeys, gap_of, bounds_of, point_of}

@@ -5,7 +5,8 @@ use Rattle.std.proofs.lemmas.Bool.Decides.{nat_tests}
 use Rattle.bpf_machine.specs.State.{State}
 use Rattle.bpf_machine.specs.ByAddress.{byte}
 use Rattle.bpf_machine.specs.Moves.{Leads}
-use Rattle.bpf_journal.specs.Histories.{Record, Kept, IsRun, is_step}
+use Rattle.bpf_entries.specs.Keeping.{Kept}
+use Rattle.bpf_journal.specs.Histories.{Record, IsRun, is_step}
 use Rattle.bpf_journal.specs.Lookups.{Test, latest, state_before}
 use Rattle.bpf_journal.proofs.Telling.{kept_bytes}
 use Rattle.bpf_journal.specs.Timelines.{GoesBack, taken_of}

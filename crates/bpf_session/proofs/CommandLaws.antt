@@ -6,7 +6,8 @@ use Rattle.bpf_machine.specs.State.{State, depth}
 use Rattle.bpf_entries.specs.Status.{has_ended}
 use Rattle.bpf_machine.specs.declared.edit.Edit.TheVariants as edit
 use Rattle.bpf_machine.specs.declared.moves.Move.TheVariants.{Step}
-use Rattle.bpf_journal.specs.Histories.{Record, is_step, record_weight, fit}
+use Rattle.bpf_entries.specs.Keeping.{fit}
+use Rattle.bpf_journal.specs.Histories.{Record, is_step, record_weight}
 use Rattle.bpf_journal.specs.Timelines.{record_of}
 use Rattle.bpf_session.specs.Points.{Point, Bounds}
 use Rattle.bpf_session.specs.Outcomes.{Outcome, refused, unless_refused}

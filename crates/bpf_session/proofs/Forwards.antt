@@ -10,7 +10,8 @@ use Rattle.bpf_machine.specs.Moves.{Leads}
 use Rattle.bpf_entries.specs.Status.{has_ended}
 use Rattle.bpf_machine.specs.declared.moves.Move.TheVariants.{Step}
 use Rattle.bpf_journal.specs.Counts.{once_more}
-use Rattle.bpf_journal.specs.Histories.{Record, Kept, record_weight, keep}
+use Rattle.bpf_entries.specs.Keeping.{Kept, keep}
+use Rattle.bpf_journal.specs.Histories.{Record, record_weight}
 use Rattle.bpf_journal.specs.Replaced.{replaces_bytes}
 use Rattle.bpf_journal.proofs.Telling.{kept_bytes}
 use Rattle.bpf_journal.specs.Timelines.{Makes, Stays, record_of}

@@ -24,7 +24,8 @@ use Rattle.bpf_machine.specs.declared.moves.Move.TheVariants as move
 use Rattle.bpf_journal.specs.declared.fault.MoveFault.TheVariants as move_fault
 use Rattle.bpf_journal.specs.declared.fault.TimelineFault.{TimelineFault}
 use Rattle.bpf_journal.specs.declared.fault.TimelineFault.TheVariants as timeline_fault
-use Rattle.bpf_journal.specs.Histories.{Record, Kept, StandsFor}
+use Rattle.bpf_entries.specs.Keeping.{Kept}
+use Rattle.bpf_journal.specs.Histories.{Record, StandsFor}
 use Rattle.bpf_journal.specs.Timelines.{Moment, Makes, Stays, Fails, refusals_by}
 use Rattle.bpf_session.specs.Outcomes.{Outcome, replied, unless_refused}
 use Rattle.bpf_session.specs.Replies.{IsThere}

@@ -4,7 +4,8 @@ use Rattle.bpf_machine.specs.Next.{next}
 use Rattle.bpf_machine.specs.State.{State, depth}
 use Rattle.bpf_entries.specs.Status.{has_ended}
 use Rattle.bpf_machine.specs.declared.moves.Move.TheVariants.{Step}
-use Rattle.bpf_journal.specs.Histories.{Record, record_weight, keep}
+use Rattle.bpf_entries.specs.Keeping.{keep}
+use Rattle.bpf_journal.specs.Histories.{Record, record_weight}
 use Rattle.bpf_journal.specs.Timelines.{record_of}
 use Rattle.bpf_session.specs.Points.{Point, Bounds}
 use Rattle.bpf_session.specs.Outcomes.{Outcome, refused, replied}

@@ -2,7 +2,8 @@
 use Rattle.std.specs.Prelude.{◌≡◌, ℕ, Bool, true, List, Option, Result, Ok, Err, IfOk, OnErr}
 use Rattle.counted_io.specs.Counted.{Tally, one_more}
 use Rattle.counted_io.specs.Writing.{Writes}
-use Rattle.bpf_journal.specs.Histories.{Record, Kept}
+use Rattle.bpf_entries.specs.Keeping.{Kept}
+use Rattle.bpf_journal.specs.Histories.{Record}
 use Rattle.bpfdb_commands.specs.Commands.{command_of}
 use Rattle.bpf_session.specs.Sessions.{SessionValue, StandsAt, bounds_of, point_of, refusals_with}
 use Rattle.bpf_session.specs.Output.{effect}

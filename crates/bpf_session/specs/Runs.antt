@@ -2,7 +2,7 @@
 use Rattle.std.specs.Prelude.{◌≡◌, ◌+◌, ℕ, List, [], ◌∷◌, ◌++◌, Option, Some, Ok, length}
 use Rattle.std.specs.List.{All}
 use Rattle.counted_io.specs.Counted.{Tally, one_more}
-use Rattle.bpf_journal.specs.Histories.{Kept}
+use Rattle.bpf_entries.specs.Keeping.{Kept}
 use Rattle.bpf_session.specs.Points.{Point, Bounds}
 use Rattle.bpf_session.specs.Sessions.{SessionValue, StandsAt, bounds_of, refusals_after_all}
 use Rattle.counted_io.specs.Lines.{lines}

@@ -1,6 +1,7 @@
 -- Scaffolding: how far back a backward command went for what it looks for.
 use Rattle.std.specs.Prelude.{◌≡◌, ℕ, List, length, is_some, unwrap_or}
-use Rattle.bpf_journal.specs.Histories.{Record, Kept}
+use Rattle.bpf_entries.specs.Keeping.{Kept}
+use Rattle.bpf_journal.specs.Histories.{Record}
 use Rattle.bpf_journal.specs.Lookups.{Test, latest}
 use Rattle.bpf_session.specs.Backward.{back_by}
 use Rattle.bpf_session.specs.Sessions.{SessionValue, StandsAt, point_of}

@@ -1,7 +1,8 @@
 -- A session, as contracts see it.
 use Rattle.std.specs.Prelude.{◌≡◌, ℕ, List, [], ◌∷◌, Option, Some, None, Result, Ok, Err, IfOk}
 use Rattle.bpf_journal.specs.Counts.{once_more}
-use Rattle.bpf_journal.specs.Histories.{Record, Kept, StandsFor}
+use Rattle.bpf_entries.specs.Keeping.{Kept}
+use Rattle.bpf_journal.specs.Histories.{Record, StandsFor}
 use Rattle.bpf_journal.specs.Timelines.{Moment}
 use Rattle.bpf_session.specs.Points.{Point, Bounds}
 use Rattle.bpf_session.specs.Outcomes.{Outcome}

@@ -3,7 +3,8 @@ use Rattle.std.specs.Prelude.{ℕ, true, not, ◌==◌, [], ◌∷◌, ◌++◌,
 use Rattle.bpf_machine.specs.Edits.{edited}
 use Rattle.bpf_machine.specs.declared.edit.Edit.{Edit}
 use Rattle.bpf_machine.specs.declared.moves.Move.TheVariants as move
-use Rattle.bpf_journal.specs.Histories.{record_weight, keep}
+use Rattle.bpf_entries.specs.Keeping.{keep}
+use Rattle.bpf_journal.specs.Histories.{record_weight}
 use Rattle.bpf_journal.specs.Timelines.{record_of}
 use Rattle.bpf_session.specs.Points.{Point}
 use Rattle.bpf_session.specs.Outcomes.{Outcome, refused, replied}

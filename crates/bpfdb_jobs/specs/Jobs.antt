@@ -9,7 +9,7 @@ use Rattle.counted_io.specs.Counted.{Tally}
 use Rattle.bpf_text.specs.Listing.{IsListing}
 use Rattle.bpf_machine.specs.Platform.{context_limit}
 use Rattle.bpf_machine.specs.State.{State, initial}
-use Rattle.bpf_journal.specs.Opening.{IsSize}
+use Rattle.bpf_entries.specs.Keeping.{IsSize}
 use Rattle.counted_io.specs.Lines.{lines}
 use Rattle.bpf_session.specs.Output.{Walk}
 use Rattle.bpf_session.specs.Plain.{ending_of, plain_end, text_of_ending}

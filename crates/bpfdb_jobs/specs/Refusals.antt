@@ -7,8 +7,8 @@ use Rattle.bpf_isa.specs.Programs.{Checked}
 use Rattle.bpf_isa.specs.declared.maps.MapShape.{MapShape}
 use Rattle.bpf_text.specs.Listing.{IsFaultOf}
 use Rattle.bpf_machine.specs.Opening.{Refused}
-use Rattle.bpf_journal.specs.Opening.{IsSize}
-use Rattle.bpf_journal.specs.Histories.{Kept}
+use Rattle.bpf_entries.specs.Keeping.{IsSize}
+use Rattle.bpf_entries.specs.Keeping.{Kept}
 use Rattle.bpf_journal.specs.declared.fault.JournalFault.TheVariants.{SizeOutOfRange}
 use Rattle.bpf_session.specs.Runs.{HasStanding}
 use Rattle.bpf_session.specs.Sessions.{SessionValue}

@@ -1,4 +1,5 @@
-use Rattle.bpf_journal.specs.Histories.{record_weight, kept_weight}
+use Rattle.bpf_entries.specs.Keeping.{kept_weight}
+use Rattle.bpf_journal.specs.Histories.{record_weight}
 use Rattle.bpf_journal.proofs.Fitting.{keep_fit}
 use Rattle.bpf_journal.proofs.laws.the_dropped_is_forgotten.Goals as goal
 

@@ -1,5 +1,6 @@
-use Rattle.bpf_journal.specs.Histories.{record_weight, kept_weight}
-use Rattle.bpf_journal.proofs.Fitting.{fit_in}
+use Rattle.bpf_entries.specs.Keeping.{kept_weight}
+use Rattle.bpf_journal.specs.Histories.{record_weight}
+use Rattle.bpf_entries.proofs.Keeping.{fit_in}
 use Rattle.bpf_journal.proofs.MoveLaws.{every_kept}
 use Rattle.bpf_journal.proofs.laws.the_new_one_is_kept.Goals as goal
 

@@ -1,4 +1,5 @@
-use Rattle.bpf_journal.specs.Histories.{record_weight, kept_weight}
+use Rattle.bpf_entries.specs.Keeping.{kept_weight}
+use Rattle.bpf_journal.specs.Histories.{record_weight}
 use Rattle.bpf_journal.proofs.Fitting.{longest}
 use Rattle.bpf_journal.proofs.laws.what_fits_is_the_longest.Goals as goal
 

@@ -1,5 +1,5 @@
 use Rattle.std.proofs.Common.{◌≤◌, List}
-use Rattle.bpf_journal.specs.Histories.{Kept}
+use Rattle.bpf_entries.specs.Keeping.{Kept}
 use Rattle.bpf_journal.proofs.Walks.{Walking}
 use Rattle.bpf_journal.proofs.timeline.steps_in.Given as goal
 

@@ -1,6 +1,6 @@
 use Rattle.std.proofs.Common.{sym, ◌∙◌, arith}
-use Rattle.bpf_journal.specs.Histories.{kept_weight}
-use Rattle.bpf_journal.proofs.Fitting.{fit_all}
+use Rattle.bpf_entries.specs.Keeping.{kept_weight}
+use Rattle.bpf_entries.proofs.Keeping.{fit_all}
 use Rattle.bpf_journal.proofs.Items.{fit_after_drop}
 use Rattle.bpf_journal.proofs.entries.Entries.trim.Goals as goal
 

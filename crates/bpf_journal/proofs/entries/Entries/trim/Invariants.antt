@@ -1,5 +1,5 @@
 use Rattle.std.proofs.Common.{◌≡◌, length}
-use Rattle.bpf_journal.specs.Histories.{kept_weight, fit}
+use Rattle.bpf_entries.specs.Keeping.{kept_weight, fit}
 use Rattle.bpf_journal.proofs.entries.Entries.trim.Given as goal
 
 abbrev pub invariant-loop-self : goal.invariant-loop-self
