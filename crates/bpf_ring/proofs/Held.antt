@@ -1,7 +1,7 @@
 -- What a ring of entries holds, when the oldest is dropped and a new one is appended.
-use Rattle.std.proofs.Common.{◌≡◌, ℕ, ◌+◌, ◌-◌, ◌^◌, ◌≤◌, ◌<◌, Bool, true, false, if◌then◌else◌, List, [], ◌∷◌, ◌++◌, length, take, drop, refl, sym, ap, ◌∙◌, subst, arith}
+use Rattle.std.proofs.Common.{◌≡◌, ℕ, ◌+◌, ◌-◌, ◌^◌, ◌≤◌, ◌<◌, Bool, true, false, if◌then◌else◌, List, [], ◌∷◌, ◌++◌, Option, Some, length, take, drop, refl, sym, ap, ◌∙◌, subst, append_assoc, arith}
 use Rattle.std.specs.Prelude.{cond, count_by, sum_by}
-use Rattle.std.proofs.lemmas.List.{take_at, drop_at, length-append}
+use Rattle.std.proofs.lemmas.List.{take_at, drop_at, length-append, append-nil}
 use Rattle.std.proofs.lemmas.List.Sums.{sum_by-cons, sum_by_push}
 use Rattle.std.proofs.lemmas.List.Elements.{All-head, All-tail, All-cons}
 use Rattle.byteorder.specs.Endian.{little_bytes}
@@ -12,7 +12,7 @@ use Rattle.bpf_entries.specs.Weights.{weight}
 use Rattle.bpf_entries.specs.Texts.{text, body, tag, kind}
 use Rattle.bpf_entries.specs.Rings.{AllFit, ring}
 use Rattle.bpf_entries.proofs.Texts.{length-text, weight_low, weight_high}
-use Rattle.bpf_entries.proofs.Rings.{begins_with_oldest, back_of, front}
+use Rattle.bpf_entries.proofs.Rings.{begins_with_oldest, back_of, front as front_of}
 use Rattle.bpf_entries.proofs.Keeping.{fit_in, fit_all, fit_without_oldest}
 use Rattle.bpf_ring.specs.Blocks.{Content}
 use Rattle.bpf_ring.specs.Held.{IsHeld}
@@ -184,7 +184,7 @@ newest_text content entries marks n count ks k bytes held len same copied =
     let high = weight_high k.0 in
     let long : length (text k.0 k.1) ≡ weight k.0 = length-text k.0 k.1 fits in
     let sum : length content.bytes ≡ length (ring ks) + length (text k.0 k.1) = ap length held.bytes ∙ length-append (ring ks) (text k.0 k.1) in
-    let is : n ≡ weight k.0 = len (weight k.0) (ring ks ++ front k.0 k.1) (omega (arith, low)) (held.bytes ∙ back_of (ring ks) k.0 k.1) in
+    let is : n ≡ weight k.0 = len (weight k.0) (ring ks ++ front_of k.0 k.1) (omega (arith, low)) (held.bytes ∙ back_of (ring ks) k.0 k.1) in
     let exact : count ≡ weight k.0 = same (omega (arith, is, high)) (omega (arith, is, sum, long)) ∙ is in
     let place : length (ring ks) ≡ length content.bytes - count = omega (arith, sum, long, exact) in
     let last : drop (length content.bytes - count) content.bytes ≡ text k.0 k.1 = ap (drop (length content.bytes - count)) held.bytes ∙ drop_at (ring ks) (text k.0 k.1) (length content.bytes - count) place in
@@ -220,3 +220,82 @@ popped old new entries marks entries2 marks2 n count marked ks k held len same b
       counted = omega (arith, less, held.counted);
       marked = less_marks k.1 marks (count_by (λ (k : Kept). k.1) ks) marks2 total (fewer ∙ ap (λ b. if b then marks - 1 else marks) mark);
     }
+
+-- The text of a list without some of its newest stands in front.
+pub ring-append : (newer front : List Kept) → ring (newer ++ front) ≡ ring front ++ ring newer
+ring-append [] front = sym (append-nil (ring front))
+ring-append (k ∷ ks) front = ap (λ l. l ++ text k.0 k.1) (ring-append ks front) ∙ append_assoc (ring front) (ring ks) (text k.0 k.1)
+
+pub fit_front : (newer front : List Kept) → AllFit (newer ++ front) → AllFit front
+fit_front [] front a = a
+fit_front (k ∷ ks) front a = fit_front ks front (All-tail (λ k. FitsFields k.0) k (ks ++ front) a)
+
+-- Where an entry stands: behind the text of the older ones, in front of that of the newer ones.
+pub record Stands (content : Content) (place : ℕ) (newer front : List Kept) (k : Kept) : Type 0 where
+  pub fits : FitsFields k.0
+  pub bytes : content.bytes ≡ ring front ++ (text k.0 k.1 ++ ring newer)
+  pub older : length (ring front) ≡ sum_by kept_weight front
+  pub end : place ≡ length (ring front) + weight k.0
+
+pub stands_at : (content : Content) (entries marks place : ℕ) (newer front : List Kept) (k : Kept) → IsHeld content entries marks (newer ++ k ∷ front)
+    → place ≡ sum_by kept_weight (k ∷ front) → Stands content place newer front k
+stands_at content entries marks place newer front k held at =
+    let all : AllFit (k ∷ front) = fit_front newer (k ∷ front) held.fit in
+    let older : length (ring front) ≡ sum_by kept_weight front = length-ring front (All-tail (λ k. FitsFields k.0) k front all) in
+    let sum : sum_by kept_weight (k ∷ front) ≡ kept_weight k + sum_by kept_weight front = sum_by-cons kept_weight k front in
+    record {
+      fits = All-head (λ k. FitsFields k.0) k front all;
+      bytes = held.bytes ∙ ring-append newer (k ∷ front) ∙ append_assoc (ring front) (text k.0 k.1) (ring newer);
+      older = older;
+      end = omega (arith, at, sum, older);
+    }
+
+-- The number in front of its end, the count that is made of it, and the bytes that were copied.
+pub record Found (content : Content) (place count : ℕ) (bytes : List ℕ) (front : List Kept) (k : Kept) : Type 0 where
+  pub weighs : count ≡ weight k.0
+  pub copied : bytes ≡ text k.0 k.1
+  pub behind : place - count ≡ sum_by kept_weight front
+
+pub found_at : (content : Content) (place n count : ℕ) (newer front : List Kept) (k : Kept) (bytes : List ℕ) → Stands content place newer front k
+    → ((w : ℕ) (before rest : List ℕ) → w < 2 ^ 16 → content.bytes ≡ before ++ (little_bytes 2 w ++ rest) → place ≡ length before + 2 → n ≡ w)
+    → (1 ≤ n → n ≤ place → count ≡ n)
+    → bytes ≡ take count (drop (place - count) content.bytes) → Found content place count bytes front k
+found_at content place n count newer front k bytes s len same copied =
+    let low = weight_low k.0 s.fits in
+    let high = weight_high k.0 in
+    let w = weight k.0 in
+    let long : length (text k.0 k.1) ≡ w = length-text k.0 k.1 s.fits in
+    let before : List ℕ = ring front ++ front_of k.0 k.1 in
+    let cut : content.bytes ≡ before ++ (little_bytes 2 w ++ ring newer) =
+    s.bytes ∙ sym (append_assoc (ring front) (text k.0 k.1) (ring newer))
+    ∙ ap (λ l. l ++ ring newer) (back_of (ring front) k.0 k.1)
+    ∙ append_assoc before (little_bytes 2 w) (ring newer) in
+    let two : length (ring front ++ text k.0 k.1) ≡ length before + 2 = ap length (back_of (ring front) k.0 k.1) ∙ length-append before (little_bytes 2 w) in
+    let ends : place ≡ length before + 2 = omega (arith, s.end, two, long, length-append (ring front) (text k.0 k.1)) in
+    let is : n ≡ w = len w before (ring newer) (omega (arith, low)) cut ends in
+    let exact : count ≡ w = same (omega (arith, is, high)) (omega (arith, is, s.end)) ∙ is in
+    let from : length (ring front) ≡ place - count = omega (arith, s.end, exact) in
+    let tail : drop (place - count) content.bytes ≡ text k.0 k.1 ++ ring newer =
+    ap (drop (place - count)) s.bytes ∙ drop_at (ring front) (text k.0 k.1 ++ ring newer) (place - count) from in
+    record {
+      weighs = exact;
+      copied = copied ∙ ap (take count) tail ∙ take_at (text k.0 k.1) (ring newer) count (omega (arith, long, exact));
+      behind = omega (arith, from, s.older);
+    }
+
+-- Its end is past the five bytes that each text has at least, and within the ring.
+pub some_before : (content : Content) (place : ℕ) (newer front : List Kept) (k : Kept) → Stands content place newer front k → (5 ≤ place) × (place ≤ length content.bytes)
+some_before content place newer front k s =
+    let high = weight_high k.0 in
+    let long : length (text k.0 k.1) ≡ weight k.0 = length-text k.0 k.1 s.fits in
+    let whole : length content.bytes ≡ length (ring front) + (weight k.0 + length (ring newer)) = omega (arith, ap length s.bytes, length-append (ring front) (text k.0 k.1 ++ ring newer), length-append (text k.0 k.1) (ring newer), long) in
+    (omega (arith, s.end, high), omega (arith, s.end, whole))
+
+-- What was read, with the place of what is left.
+pub walked : (found : Option (Entry × Bool)) (e f : Entry) (m n : Bool) (rest sum : ℕ) → found ≡ Some (e, m) → found ≡ Some (f, n) → rest ≡ sum
+    → ◌≡◌ {A = Option (Entry × Bool × ℕ)} (Some (e, m, rest)) (Some (f, n, sum))
+walked found e f m n rest sum is read behind =
+    let pair : ◌≡◌ {A = Entry × Bool} (e, m) (f, n) = cc in
+    let entries : e ≡ f = ap (λ (q : Entry × Bool). q.0) pair in
+    let marks : m ≡ n = ap (λ (q : Entry × Bool). q.1) pair in
+    cc

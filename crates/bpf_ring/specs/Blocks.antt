@@ -1,5 +1,5 @@
 -- A ring of bytes: a block of a fixed size, and the bytes from a place on, around its end.
-use Rattle.std.specs.Prelude.{◌≤◌, ℕ, ◌+◌, ◌-◌, nat_lt, if◌then◌else◌, List, ◌++◌, length, take, drop}
+use Rattle.std.specs.Prelude.{ℕ, ◌+◌, ◌-◌, nat_lt, if◌then◌else◌, List, ◌++◌, length, take, drop}
 
 -- What a ring has: how many bytes it may have, and those that it has, the oldest first.
 pub record Content : Type 0 where

@@ -80,6 +80,35 @@ impl EntryRing {
         Entry::read(&text[..count])
     }
 
+    /// The place of the whole list: how many bytes it has.
+    pub fn end(&self) -> usize
+        ensures { (ks : List Kept) → IsHeld self.now.ring self.now.entries self.now.marks ks → result ≡ sum_by kept_weight ks }
+    {
+        self.weight()
+    }
+
+    /// The newest entry of the front at a place, its mark, and the place of the front without it; None at the place of the front without
+    /// entries, which is 0.
+    pub fn walk_back(&self, place: usize) -> Option<(Entry, bool, usize)>
+        ensures none { place ≡ 0 → result ≡ None }
+        ensures some { (newer front : List Kept) (k : Kept) → IsHeld self.now.ring self.now.entries self.now.marks (newer ++ k ∷ front) → place ≡ sum_by kept_weight (k ∷ front) →
+            result ≡ Some (k.0, k.1, sum_by kept_weight front) }
+    {
+        if place < 5 || place > self.ring.len() {
+            return None;
+        }
+        let count = within(self.ring.len_before(place), place);
+        if count > 280 {
+            return None;
+        }
+        let mut text = [0u8; 280];
+        self.ring.copy_part(place - count, count, &mut text);
+        match Entry::read(&text[..count]) {
+            Some((entry, mark)) => Some((entry, mark, place - count)),
+            None => None,
+        }
+    }
+
     /// Takes the newest entry off, None where none is held.
     pub fn pop(&mut self) -> Option<(Entry, bool)>
         ensures size { self.new.ring.size ≡ self.old.ring.size }

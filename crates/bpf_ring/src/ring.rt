@@ -143,6 +143,15 @@ impl Ring {
         ensures { take count into.new ≡ drop (length self.now.bytes - count) self.now.bytes }
     {
         let from = self.len() - count;
+        self.copy_part(from, count, into);
+    }
+
+    /// Copies so many bytes, from an index on, into the beginning of a slice.
+    pub fn copy_part(&self, from: usize, count: usize, into: &mut [u8])
+        requires held { from + count ≤ length self.now.bytes }
+        requires room { count ≤ length into.old }
+        ensures { take count into.new ≡ take count (drop from self.now.bytes) }
+    {
         self.copy(from, &mut into[..count]);
     }
 
@@ -174,7 +183,15 @@ impl Ring {
         requires { 2 ≤ length self.now.bytes }
         ensures { (n : ℕ) (before : List ℕ) → n < 2 ^ 16 → self.now.bytes ≡ before ++ little_bytes 2 n → result ≡ n }
     {
-        match (self.byte(self.len() - 2), self.byte(self.len() - 1)) {
+        self.len_before(self.len())
+    }
+
+    /// How many bytes an entry has that ends at a place, by the two bytes in front of the place.
+    pub fn len_before(&self, place: usize) -> usize
+        requires { (2 ≤ place) × (place ≤ length self.now.bytes) }
+        ensures { (n : ℕ) (before rest : List ℕ) → n < 2 ^ 16 → self.now.bytes ≡ before ++ (little_bytes 2 n ++ rest) → place ≡ length before + 2 → result ≡ n }
+    {
+        match (self.byte(place - 2), self.byte(place - 1)) {
             (Some(low), Some(high)) => usize::from(low) + 256 * usize::from(high),
             _ => 0,
         }
