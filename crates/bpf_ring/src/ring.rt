@@ -65,6 +65,39 @@ impl Ring {
         }
     }
 
+    /// Gives the ring up as a circular buffer of the same size with the same bytes. It takes no memory.
+    pub fn into_buffer(self) -> HeapCircularBuffer<u8>
+        ensures size { result.capacity ≡ self.size }
+        ensures bytes { result.items ≡ self.bytes }
+    {
+        let Ring {
+            mut buffer,
+            first,
+            len,
+        } = self;
+        buffer.make_contiguous().rotate_left(first);
+        buffer.truncate_back(len);
+        buffer
+    }
+
+    /// The ring of a circular buffer, of its capacity and with its bytes. It takes no memory.
+    pub fn from_buffer(mut buffer: HeapCircularBuffer<u8>) -> Ring
+        requires { IsSize buffer.capacity }
+        ensures size { result.size ≡ buffer.capacity }
+        ensures bytes { result.bytes ≡ buffer.items }
+    {
+        let len = buffer.len();
+        let size = buffer.capacity();
+        for i in len..size {
+            let _ = buffer.push_back(0);
+        }
+        Ring {
+            buffer,
+            first: 0,
+            len,
+        }
+    }
+
     /// How many bytes it may have.
     pub fn size(&self) -> usize
         ensures value { result ≡ self.now.size }
