@@ -52,3 +52,10 @@ past (entry.EditPc pc status) = record (at_slot pc) { status = Some status }
 -- The run that a move replaced, by the depth of calls after it; None where memory stays. (No entry needs the depth yet.)
 abbrev pub replaced : ℕ → Entry → Option Run
 replaced depth e = (past e).run
+
+-- Whether an entry is a step's, and not an edit's.
+abbrev pub is_of_step : Entry → Bool
+is_of_step (entry.EditRegister r value) = false
+is_of_step (entry.EditBytes a old) = false
+is_of_step (entry.EditPc pc status) = false
+is_of_step _ = true
