@@ -1,6 +1,8 @@
 //! What a step does to the machine: the places that it replaces, and their new values.
+ghost use Rattle.std.specs.Prelude.{◌≡◌};
+ghost use Rattle.bpf_machine.specs.Codes.{change_weight};
 
-use bpf_entries::Status;
+use bpf_entries::{Status, weights};
 use bpf_isa::{Reg, Size};
 
 /// What a step does. There is a variant for each kind of entry that a step makes.
@@ -55,4 +57,24 @@ pub enum Change {
     Stop {
         status: Status,
     },
+}
+
+impl Change {
+    /// How many bytes the entry of it has in a journal.
+    #[inline(always)]
+    pub(crate) fn entry_weight(&self) -> usize
+        ensures { result ≡ change_weight self.now }
+    {
+        match *self {
+            Change::Set { .. } => weights::REGISTER,
+            Change::Go { .. } => weights::JUMP,
+            Change::Store { size, .. } => weights::STORE + size.len(),
+            Change::Fetch { size, .. } => weights::FETCH + size.len(),
+            Change::Call { .. } => weights::CALL,
+            Change::Return => weights::RETURN,
+            Change::Cell { length, .. } => weights::CELL + usize::from(length),
+            Change::Trace { .. } => weights::TRACE,
+            Change::Stop { .. } => weights::END,
+        }
+    }
 }

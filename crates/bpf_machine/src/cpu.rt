@@ -8,6 +8,7 @@ mod frames;
 mod helpers;
 mod open;
 mod reads;
+mod record;
 mod revert;
 mod step;
 
