@@ -5,3 +5,4 @@ mod values;
 
 pub use lengths::{first_len, last_len};
 pub use tags::{is_marked, kind_of};
+pub use values::{saved_in, slot_in, status_by};

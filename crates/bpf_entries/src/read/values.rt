@@ -27,7 +27,7 @@ fn run_of(bytes: &[u8], start: usize, count: usize) -> Option<ByteString>
 }
 
 /// A status by its kind and number.
-fn status_by(kind: u8, number: u64) -> Status
+pub fn status_by(kind: u8, number: u64) -> Status
     ensures { result ≡ status_of kind number }
 {
     match kind {
@@ -73,7 +73,8 @@ fn edit_register_entry(bytes: &[u8]) -> Option<Entry>
 }
 
 /// The slot that stands behind the tag.
-fn slot_in(bytes: &[u8]) -> u16
+#[inline(always)]
+pub fn slot_in(bytes: &[u8]) -> u16
     requires { 5 ≤ length bytes.now }
     ensures { result ≡ slot_at 3 bytes.now }
 {
@@ -81,7 +82,7 @@ fn slot_in(bytes: &[u8]) -> u16
 }
 
 /// The four numbers of a return's entry.
-fn saved_in(bytes: &[u8]) -> [u64; 4]
+pub fn saved_in(bytes: &[u8]) -> [u64; 4]
     requires { 39 ≤ length bytes.now }
     ensures { result ≡ number_at 5 bytes.now ∷ number_at 13 bytes.now ∷ number_at 21 bytes.now ∷ number_at 29 bytes.now ∷ [] }
 {
