@@ -1,9 +1,11 @@
 -- Moves: a step or an edit, where it leads and what it replaces.
-use Rattle.std.specs.Prelude.{◌≡◌, false}
+use Rattle.std.specs.Prelude.{◌≡◌, ℕ, Bool, false, List}
 use Rattle.bpf_machine.specs.declared.moves.Move.{Move}
 use Rattle.bpf_machine.specs.declared.moves.Move.TheVariants as move
 use Rattle.bpf_entries.specs.declared.entry.Entry.{Entry}
+use Rattle.bpf_entries.specs.Fields.{FitsFields}
 use Rattle.bpf_entries.specs.Status.{has_ended}
+use Rattle.bpf_entries.specs.Texts.{text}
 use Rattle.bpf_machine.specs.State.{State, IsState}
 use Rattle.bpf_machine.specs.Next.{next}
 use Rattle.bpf_machine.specs.Entries.{step_entry}
@@ -36,3 +38,11 @@ pub record HasCome (y : State) (entry : Entry) : Type 0 where
   pub m : Move
   pub leads : Leads x m y
   pub held : overwritten x m ≡ entry
+
+-- Some move leads to y whose entry, with some mark, has this text, and fits its fields.
+pub record HasComeBy (y : State) (bytes : List ℕ) : Type 0 where
+  pub entry : Entry
+  pub mark : Bool
+  pub come : HasCome y entry
+  pub fits : FitsFields entry
+  pub held : bytes ≡ text entry mark

@@ -1,8 +1,11 @@
 -- Scaffolding: how an entry is put back into a state, as the code does it. The contract of `revert` speaks of moves alone.
-use Rattle.std.specs.Prelude.{◌<◌, ℕ, ◌+◌, ◌-◌, if◌then◌else◌, List, length, take, slice_set, unwrap_or, IfSome}
+use Rattle.std.specs.Prelude.{◌≡◌, ◌<◌, ℕ, ◌+◌, ◌-◌, if◌then◌else◌, List, length, take, slice_set, unwrap_or, IfSome}
 use Rattle.std.specs.Option.{option_map_or}
 use Rattle.bpf_isa.specs.Programs.{IsStart}
 use Rattle.bpf_entries.specs.Past.{Frames, Same, Fewer, More, past, replaced}
+use Rattle.bpf_entries.specs.Fields.{FitsFields}
+use Rattle.bpf_entries.specs.Reading.{entry_of as entry_read}
+use Rattle.bpf_entries.specs.Weights.{weight}
 use Rattle.bpf_entries.specs.declared.entry.Entry.{Entry}
 use Rattle.bpf_machine.specs.declared.frame.Frame.{Frame}
 use Rattle.bpf_machine.specs.Calls.{with_saved, pushed, popped}
@@ -38,3 +41,12 @@ HasRoom _ y = Unit {0}
 
 abbrev pub Restores : State → Entry → Type 0
 Restores y e = IfSome (past e).pc (IsStart y.program) × IfSome (past e).register (λ (r : ℕ × ℕ). r.0 < 10) × HasRoom (past e).frames y
+
+-- The entry of a kind that bytes are read as: it fits its fields, it weighs as many bytes as there are, and it can be put back.
+abbrev pub read_as : ℕ → List ℕ → Entry
+read_as kind bytes = entry_read kind (length bytes) bytes
+
+pub record RestoresText (y : State) (kind : ℕ) (bytes : List ℕ) : Type 0 where
+  pub fits : FitsFields (read_as kind bytes)
+  pub count : length bytes ≡ weight (read_as kind bytes)
+  pub restores : Restores y (read_as kind bytes)

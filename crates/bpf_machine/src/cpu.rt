@@ -10,6 +10,7 @@ mod open;
 mod reads;
 mod record;
 mod revert;
+mod revert_text;
 mod step;
 
 use crate::change::Change;
