@@ -1,14 +1,19 @@
 //! The entries in a ring of bytes.
-ghost use Rattle.std.specs.Prelude.{◌≡◌, ◌≤◌, ◌<◌, ◌+◌, ◌-◌, ◌^◌, if◌then◌else◌, ◌∷◌, ◌++◌, [], List, length, sum_by, count_by, IfOk, None, Some};
+ghost use Rattle.std.specs.Prelude.{◌≡◌, ◌≤◌, ◌<◌, ◌+◌, ◌-◌, ◌^◌, if◌then◌else◌, ◌∷◌, ◌++◌, [], List, length, sum_by, count_by, IfOk, None, Some, false};
 ghost use Rattle.bpf_entries.specs.Fields.{FitsFields};
 ghost use Rattle.bpf_entries.specs.Keeping.{Kept, kept_weight, fit, keep};
 ghost use Rattle.bpf_entries.specs.Weights.{weight as weight_of};
 ghost use Rattle.bpf_entries.specs.Keeping.{IsSize};
+ghost use Rattle.bpf_entries.specs.Status.{has_ended};
+ghost use Rattle.bpf_machine.specs.Entries.{step_entry};
+ghost use Rattle.bpf_machine.specs.Next.{change as change_of, next};
 ghost use Rattle.bpf_ring.specs.Held.{IsHeld};
 
 use crate::counts::{one_less, one_more, within};
 use crate::ring::Ring;
 use bpf_entries::Entry;
+use bpf_machine::laws::entries_fit;
+use bpf_machine::{Change, Cpu};
 use std::alloc::{AllocError, Global};
 
 /// The newest entries and marks that fit a ring of bytes. Its memory is taken once, when it is opened: no other call takes any, so no
@@ -185,6 +190,37 @@ impl EntryRing {
         self.append(&text[..weight], mark);
     }
 
+    /// Lets a machine do what `look` answered of it, and keeps the entry of that step: it is written where it stays, and no entry is made on
+    /// the way. The fewest oldest ones that make room for it are dropped. It takes no memory and is never refused.
+    #[inline(always)]
+    pub fn record(&mut self, cpu: &mut Cpu, change: &Change, mark: bool)
+        requires runs { has_ended cpu.old.status ≡ false }
+        requires looked { change.now ≡ change_of cpu.old }
+        ensures next { cpu.new ≡ next cpu.old }
+        ensures size { self.new.ring.size ≡ self.old.ring.size }
+        ensures held { (ks : List Kept) → IsHeld self.old.ring self.old.entries self.old.marks ks → IsHeld self.new.ring self.new.entries self.new.marks (keep kept_weight self.old.ring.size ks (step_entry cpu.old, mark)) }
+    {
+        cpu.invariant();
+        entries_fit();
+        let weight = cpu.entry_weight(change);
+        self.make_room(weight);
+        self.ring.record(cpu, change, weight, mark);
+        self.count(mark);
+    }
+
+    /// Counts one more entry.
+    #[inline(always)]
+    fn count(&mut self, mark: bool)
+        ensures ring { self.new.ring ≡ self.old.ring }
+        ensures entries { self.old.entries < 2 ^ 63 → self.new.entries ≡ self.old.entries + 1 }
+        ensures marks { self.old.marks < 2 ^ 63 → self.new.marks ≡ self.old.marks + (if mark then 1 else 0) }
+    {
+        self.entries = one_more(self.entries);
+        if mark {
+            self.marks = one_more(self.marks);
+        }
+    }
+
     /// Appends an entry's text, for which there must be room.
     fn append(&mut self, text: &[u8], mark: bool)
         requires { length self.old.ring.bytes + length text.now ≤ self.old.ring.size }
@@ -194,10 +230,7 @@ impl EntryRing {
         ensures marks { self.old.marks < 2 ^ 63 → self.new.marks ≡ self.old.marks + (if mark then 1 else 0) }
     {
         self.ring.push(text);
-        self.entries = one_more(self.entries);
-        if mark {
-            self.marks = one_more(self.marks);
-        }
+        self.count(mark);
     }
 }
 

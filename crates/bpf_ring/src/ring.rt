@@ -1,11 +1,17 @@
 //! A ring of bytes.
-ghost use Rattle.std.specs.Prelude.{◌≡◌, ◌≤◌, ◌<◌, ◌+◌, ◌-◌, ◌^◌, ◌++◌, [], length, take, drop, slice_get, ℕ, Bool, List, IfOk};
+ghost use Rattle.std.specs.Prelude.{◌≡◌, ◌≤◌, ◌<◌, ◌+◌, ◌-◌, ◌^◌, ◌++◌, [], length, take, drop, slice_get, ℕ, Bool, List, IfOk, false};
 ghost use Rattle.byteorder.specs.Endian.{little_bytes};
 ghost use Rattle.bpf_entries.specs.declared.entry.Entry.{Entry};
+ghost use Rattle.bpf_entries.specs.Fields.{FitsFields};
+ghost use Rattle.bpf_entries.specs.Status.{has_ended};
 ghost use Rattle.bpf_entries.specs.Texts.{text};
+ghost use Rattle.bpf_entries.specs.Weights.{weight as weight_of};
+ghost use Rattle.bpf_machine.specs.Entries.{step_entry};
+ghost use Rattle.bpf_machine.specs.Next.{change as change_of, next};
 ghost use Rattle.bpf_entries.specs.Keeping.{IsSize};
 
-use crate::block::{place, write_around};
+use crate::block::{place, record_around, write_around};
+use bpf_machine::{Change, Cpu};
 use circular_buffer::HeapCircularBuffer;
 use std::alloc::{AllocError, Global};
 use std::marker::Model;
@@ -123,6 +129,25 @@ impl Ring {
         let block = self.buffer.make_contiguous();
         write_around(block, self.first, self.len, bytes);
         self.len += bytes.len();
+    }
+
+    /// Lets a machine do what `look` answered of it, and appends the entry of that, which has so many bytes and for which there must be room. It
+    /// takes no memory.
+    #[inline(always)]
+    pub fn record(&mut self, cpu: &mut Cpu, change: &Change, weight: usize, mark: bool)
+        requires runs { has_ended cpu.old.status ≡ false }
+        requires looked { change.now ≡ change_of cpu.old }
+        requires entry { FitsFields (step_entry cpu.old) }
+        requires weight { weight ≡ weight_of (step_entry cpu.old) }
+        requires light { weight ≤ 280 }
+        requires room { length self.old.bytes + weight ≤ self.old.size }
+        ensures next { cpu.new ≡ next cpu.old }
+        ensures size { self.new.size ≡ self.old.size }
+        ensures bytes { self.new.bytes ≡ self.old.bytes ++ text (step_entry cpu.old) mark }
+    {
+        let block = self.buffer.make_contiguous();
+        record_around(cpu, change, block, self.first, self.len, weight, mark);
+        self.len += weight;
     }
 
     /// Drops the oldest bytes.
