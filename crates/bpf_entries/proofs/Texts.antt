@@ -12,6 +12,7 @@ use Rattle.bpf_entries.specs.declared.status.Status.{Status}
 use Rattle.bpf_entries.specs.declared.status.Status.TheVariants.{Running, Exited, Faulted}
 use Rattle.bpf_entries.specs.Status.{FitsStatus}
 use Rattle.bpf_entries.specs.Fields.{FitsFields}
+use Rattle.bpf_entries.specs.Past.{is_of_step}
 use Rattle.bpf_entries.specs.Weights.{weight}
 use Rattle.bpf_entries.specs.Reading.{slot_at, number_at, run_at, status_of, entry_of, ReadsAs}
 use Rattle.bpf_entries.specs.Texts.{text, tag, kind, status_text}
@@ -151,7 +152,7 @@ weight_high (entry.EditPc pc st) = omega arith
 weight_small : (e : Entry) → FitsFields e → weight e < 256 ^ 2
 weight_small e a = let low = weight_low e a in omega arith
 
-kind_low : (e : Entry) → kind e < 128
+pub kind_low : (e : Entry) → kind e < 128
 kind_low (entry.Register pc r x) = omega arith
 kind_low (entry.Jump pc) = omega arith
 kind_low (entry.Call pc) = omega arith
@@ -202,6 +203,21 @@ mark_back e false rest bytes h =
     let at : slice_index bytes 2 ≡ kind e = ap (λ l. slice_index l 2) h in
     let low = kind_low e in
     grind (arith, nat_tests)
+
+-- Kinds up to 9 are of steps.
+pub kind_step : (e : Entry) → nat_le (kind e) 9 ≡ is_of_step e
+kind_step (entry.Register pc r x) = refl
+kind_step (entry.Jump pc) = refl
+kind_step (entry.Call pc) = refl
+kind_step (entry.Return pc saved) = refl
+kind_step (entry.Store pc c old) = refl
+kind_step (entry.Fetch pc r x c old) = refl
+kind_step (entry.Cell pc x c old) = refl
+kind_step (entry.Trace pc x) = refl
+kind_step entry.End = refl
+kind_step (entry.EditRegister r x) = refl
+kind_step (entry.EditBytes c old) = refl
+kind_step (entry.EditPc pc st) = refl
 
 -- So bytes that are read by their own kind are the entry whose text they are.
 pub kind_high : (e : Entry) → (1 ≤ kind e) × (kind e ≤ 12)

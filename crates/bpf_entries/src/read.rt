@@ -4,5 +4,5 @@ mod tags;
 mod values;
 
 pub use lengths::{first_len, last_len};
-pub use tags::{is_marked, kind_of};
+pub use tags::{is_marked, is_of_step, kind_of};
 pub use values::{saved_in, slot_in, status_by};

@@ -6,6 +6,12 @@ use Rattle.std.proofs.lemmas.List.Sums.{sum_by-cons, sum_by_push}
 use Rattle.std.proofs.lemmas.List.Elements.{All-head, All-tail, All-cons}
 use Rattle.byteorder.specs.Endian.{little_bytes}
 use Rattle.bpf_entries.specs.declared.entry.Entry.{Entry}
+use Rattle.bpf_entries.specs.Past.{is_of_step}
+use Rattle.bpf_machine.specs.declared.change.Change.{Change}
+use Rattle.bpf_machine.specs.declared.change.Change.TheVariants as change
+use Rattle.bpf_machine.specs.Entries.{entry_of, step_entry}
+use Rattle.bpf_machine.specs.Next.{change as change_of}
+use Rattle.bpf_machine.specs.State.{State}
 use Rattle.bpf_entries.specs.Fields.{FitsFields}
 use Rattle.bpf_entries.specs.Keeping.{Kept, kept_weight, fit, keep}
 use Rattle.bpf_entries.specs.Weights.{weight}
@@ -15,6 +21,8 @@ use Rattle.bpf_entries.proofs.Texts.{length-text, weight_low, weight_high}
 use Rattle.bpf_entries.proofs.Rings.{begins_with_oldest, back_of, front as front_of}
 use Rattle.bpf_entries.proofs.Keeping.{fit_in, fit_all, fit_without_oldest}
 use Rattle.bpf_ring.specs.Blocks.{Content}
+use Rattle.bpf_ring.specs.declared.counts.Counts.{Counts}
+use Rattle.bpf_ring.specs.Counted.{Counted}
 use Rattle.bpf_ring.specs.Held.{IsHeld}
 
 -- A ring has as many bytes as its entries weigh, so at least as many as there are entries and marks.
@@ -36,18 +44,6 @@ few_entries (k ∷ ks) a =
     let both = length-append (ring ks) (text k.0 k.1) in
     omega (arith, rest, here, high, both)
 
-one_mark : (b : Bool) → cond b 1 0 ≤ 1
-one_mark true = omega arith
-one_mark false = omega arith
-
-pub few_marks : (ks : List Kept) → count_by (λ k. k.1) ks ≤ length ks
-few_marks [] = omega arith
-few_marks (k ∷ ks) =
-    let sum = sum_by-cons (λ (k : Kept). cond k.1 1 0) k ks in
-    let rest = few_marks ks in
-    let one = one_mark k.1 in
-    omega (arith, sum, rest, one)
-
 -- The parts of a list that was pushed to at the far end.
 pub all_but_last : (ks : List Kept) (z : Kept) → AllFit (ks ++ z ∷ []) → AllFit ks
 all_but_last [] z a = λ i d h. absurd (omega (arith, h))
@@ -58,38 +54,28 @@ last_of_all [] z a = All-head (λ k. FitsFields k.0) z [] a
 last_of_all (k ∷ ks) z a = last_of_all ks z (All-tail (λ k. FitsFields k.0) k (ks ++ z ∷ []) a)
 
 -- The oldest dropped.
-less_marks : (b : Bool) (n old new : ℕ) → n ≡ old + cond b 1 0 → new ≡ (if b then n - 1 else n) → new ≡ old
-less_marks true n old new e f = omega (arith, e, f)
-less_marks false n old new e f = f ∙ omega (arith, e)
-
-pub dropped : (old new : Content) (entries marks entries2 marks2 : ℕ) (ks : List Kept) (z : Kept) → IsHeld old entries marks (ks ++ z ∷ [])
-    → new.bytes ≡ drop (weight z.0) old.bytes → entries2 ≡ entries - 1 → marks2 ≡ (if z.1 then marks - 1 else marks) → IsHeld new entries2 marks2 ks
-dropped old new entries marks entries2 marks2 ks z held bytes count less =
+pub dropped : (old new : Content) (before after : Counts) (ks : List Kept) (z : Kept) → IsHeld old before (ks ++ z ∷ [])
+    → new.bytes ≡ drop (weight z.0) old.bytes → Counted after ks → IsHeld new after ks
+dropped old new before after ks z held bytes counted =
     let front : FitsFields z.0 = last_of_all ks z held.fit in
     let whole : old.bytes ≡ text z.0 z.1 ++ ring ks = held.bytes ∙ begins_with_oldest ks z.0 z.1 in
-    let sum : count_by (λ (k : Kept). k.1) (ks ++ z ∷ []) ≡ count_by (λ (k : Kept). k.1) ks + cond z.1 1 0 = sum_by_push (λ (k : Kept). cond k.1 1 0) ks z in
     record {
       fit = all_but_last ks z held.fit;
       bytes = bytes ∙ ap (drop (weight z.0)) whole ∙ drop_at (text z.0 z.1) (ring ks) (weight z.0) (length-text z.0 z.1 front);
-      counted = omega (arith, count, held.counted, length-append ks (z ∷ []));
-      marked = less_marks z.1 marks (count_by (λ (k : Kept). k.1) ks) marks2 (held.marked ∙ sum) less;
+      counted = counted;
     }
 
 -- One more.
-more_marks : (b : Bool) (n old new : ℕ) → n ≡ old → new ≡ n + (if b then 1 else 0) → new ≡ cond b 1 0 + old
-more_marks true n old new e f = omega (arith, e, f)
-more_marks false n old new e f = omega (arith, e, f)
+pub appended : (old new : Content) (before after : Counts) (ks : List Kept) (e : Entry) (m : Bool) (bytes : List ℕ) → IsHeld old before ks → FitsFields e → bytes ≡ text e m
+    → new.bytes ≡ old.bytes ++ bytes → Counted after ((e, m) ∷ ks) → IsHeld new after ((e, m) ∷ ks)
+appended old new before after ks e m bytes held fits is new_bytes counted = record {
+  fit = All-cons (λ k. FitsFields k.0) (e, m) ks fits held.fit;
+  bytes = new_bytes ∙ ap (λ b. old.bytes ++ b) is ∙ ap (λ b. b ++ text e m) held.bytes;
+  counted = counted;
+}
 
-pub appended : (old new : Content) (entries marks entries2 marks2 : ℕ) (ks : List Kept) (e : Entry) (m : Bool) → IsHeld old entries marks ks → FitsFields e
-    → new.bytes ≡ old.bytes ++ text e m → entries2 ≡ entries + 1 → marks2 ≡ marks + (if m then 1 else 0) → IsHeld new entries2 marks2 ((e, m) ∷ ks)
-appended old new entries marks entries2 marks2 ks e m held fits bytes count more =
-    let sum : count_by (λ (k : Kept). k.1) ((e, m) ∷ ks) ≡ cond m 1 0 + count_by (λ (k : Kept). k.1) ks = sum_by-cons (λ (k : Kept). cond k.1 1 0) (e, m) ks in
-    record {
-      fit = All-cons (λ k. FitsFields k.0) (e, m) ks fits held.fit;
-      bytes = bytes ∙ ap (λ b. b ++ text e m) held.bytes;
-      counted = omega (arith, count, held.counted);
-      marked = more_marks m marks (count_by (λ (k : Kept). k.1) ks) marks2 held.marked more ∙ sym sum;
-    }
+pub few_held : (content : Content) (counts : Counts) (size n : ℕ) (ks : List Kept) → length content.bytes + n ≤ size → size ≤ 16777216 → IsHeld content counts ks → length ks < 2 ^ 63
+few_held content counts size n ks within small held = omega (arith, within, small, ap length held.bytes, few_entries ks held.fit)
 
 -- A list that isn't empty has an oldest.
 pub record Oldest (ks : List Kept) : Type 0 where
@@ -102,20 +88,20 @@ oldest_of k [] = record { others = []; oldest = k; whole = refl }
 oldest_of k (l ∷ ks) = let rest = oldest_of l ks in record { others = k ∷ rest.others; oldest = rest.oldest; whole = ap (λ t. k ∷ t) rest.whole }
 
 -- What is left of a list, of which as much fits the room as of it.
-pub record Left (content : Content) (entries marks room : ℕ) (ks : List Kept) : Type 0 where
+pub record Left (content : Content) (counts : Counts) (room : ℕ) (ks : List Kept) : Type 0 where
   pub front : List Kept
-  pub held : IsHeld content entries marks front
+  pub held : IsHeld content counts front
   pub same : fit kept_weight room front ≡ fit kept_weight room ks
 
-pub left_dropped : (old new : Content) (entries marks entries2 marks2 room : ℕ) (ks : List Kept) → room < length old.bytes
-    → ((front : List Kept) (z : Kept) → IsHeld old entries marks (front ++ z ∷ []) → IsHeld new entries2 marks2 front)
-    → Left old entries marks room ks → Left new entries2 marks2 room ks
-left_dropped old new entries marks entries2 marks2 room ks more drops left = split left.front left.held left.same where
-  split : (front : List Kept) → IsHeld old entries marks front → fit kept_weight room front ≡ fit kept_weight room ks → Left new entries2 marks2 room ks
+pub left_dropped : (old new : Content) (before after : Counts) (room : ℕ) (ks : List Kept) → room < length old.bytes
+    → ((front : List Kept) (z : Kept) → IsHeld old before (front ++ z ∷ []) → IsHeld new after front)
+    → Left old before room ks → Left new after room ks
+left_dropped old new before after room ks more drops left = split left.front left.held left.same where
+  split : (front : List Kept) → IsHeld old before front → fit kept_weight room front ≡ fit kept_weight room ks → Left new after room ks
   split [] held same = absurd (omega (arith, more, ap length held.bytes))
   split (k ∷ front) held same =
       let parts = oldest_of k front in
-      let there : IsHeld old entries marks (parts.others ++ parts.oldest ∷ []) = subst (IsHeld old entries marks) parts.whole held in
+      let there : IsHeld old before (parts.others ++ parts.oldest ∷ []) = subst (IsHeld old before) parts.whole held in
       let weighs : room < sum_by kept_weight (parts.others ++ parts.oldest ∷ []) = omega (arith, more, ap length there.bytes, length-ring (parts.others ++ parts.oldest ∷ []) there.fit) in
       record {
         front = parts.others;
@@ -123,15 +109,15 @@ left_dropped old new entries marks entries2 marks2 room ks more drops left = spl
         same = sym (fit_without_oldest kept_weight room parts.others parts.oldest weighs) ∙ ap (fit kept_weight room) (sym parts.whole) ∙ same;
       }
 
-pub left_all : (content : Content) (entries marks room : ℕ) (ks : List Kept) → length content.bytes ≤ room → Left content entries marks room ks
-    → IsHeld content entries marks (fit kept_weight room ks)
-left_all content entries marks room ks within left =
+pub left_all : (content : Content) (counts : Counts) (room : ℕ) (ks : List Kept) → length content.bytes ≤ room → Left content counts room ks
+    → IsHeld content counts (fit kept_weight room ks)
+left_all content counts room ks within left =
     let weighs : sum_by kept_weight left.front ≤ room = omega (arith, within, ap length left.held.bytes, length-ring left.front left.held.fit) in
-    subst (IsHeld content entries marks) (sym (fit_all kept_weight room left.front weighs) ∙ left.same) left.held
+    subst (IsHeld content counts) (sym (fit_all kept_weight room left.front weighs) ∙ left.same) left.held
 
 -- What the oldest entry's text says of a ring that begins with it.
-pub begins : (content : Content) (entries marks : ℕ) (ks : List Kept) (z : Kept) → IsHeld content entries marks (ks ++ z ∷ []) → content.bytes ≡ text z.0 z.1 ++ ring ks
-begins content entries marks ks z held = held.bytes ∙ begins_with_oldest ks z.0 z.1
+pub begins : (content : Content) (counts : Counts) (ks : List Kept) (z : Kept) → IsHeld content counts (ks ++ z ∷ []) → content.bytes ≡ text z.0 z.1 ++ ring ks
+begins content counts ks z held = held.bytes ∙ begins_with_oldest ks z.0 z.1
 
 pub begins_with_weight : (bytes : List ℕ) (z : Kept) (rest : List ℕ) → bytes ≡ text z.0 z.1 ++ rest
     → bytes ≡ little_bytes 2 (weight z.0) ++ ((tag (kind z.0) z.1 ∷ (body z.0 ++ little_bytes 2 (weight z.0))) ++ rest)
@@ -140,45 +126,46 @@ begins_with_weight bytes z rest h = h
 pub weighs_within : (bytes : List ℕ) (z : Kept) (rest : List ℕ) → FitsFields z.0 → bytes ≡ text z.0 z.1 ++ rest → weight z.0 ≤ length bytes
 weighs_within bytes z rest a h = omega (arith, ap length h, length-append (text z.0 z.1) rest, length-text z.0 z.1 a)
 
+-- What a tag at a place is.
+abbrev pub TagAt : Content → ℕ → ℕ → Type 0
+TagAt content place t = (e : Entry) (m : Bool) (before rest : List ℕ) → content.bytes ≡ before ++ (text e m ++ rest) → place ≡ length before → t ≡ tag (kind e) m
+
+-- What counts do without an entry with a tag.
+abbrev pub CountsOldest : Counts → Counts → ℕ → Type 0
+CountsOldest old new t = (ks : List Kept) (z : Kept) → Counted old (ks ++ z ∷ []) → t ≡ tag (kind z.0) z.1 → Counted new ks
+
+abbrev pub CountsNewest : Counts → Counts → ℕ → Type 0
+CountsNewest old new t = (ks : List Kept) (k : Kept) → Counted old (k ∷ ks) → t ≡ tag (kind k.0) k.1 → Counted new ks
+
 -- The whole of a drop, by what was read of the oldest.
-pub drop_held : (old new : Content) (entries marks entries2 marks2 n count : ℕ) (marked : Bool) (ks : List Kept) (z : Kept) → IsHeld old entries marks (ks ++ z ∷ [])
+pub drop_held : (old new : Content) (before after : Counts) (n count t : ℕ) (ks : List Kept) (z : Kept) → IsHeld old before (ks ++ z ∷ [])
     → ((k : ℕ) (rest : List ℕ) → k < 2 ^ 16 → old.bytes ≡ little_bytes 2 k ++ rest → n ≡ k)
-    → ((e : Entry) (m : Bool) (rest : List ℕ) → old.bytes ≡ text e m ++ rest → marked ≡ m)
+    → TagAt old 0 t
     → (1 ≤ n → n ≤ length old.bytes → count ≡ n)
-    → new.bytes ≡ drop count old.bytes → entries2 ≡ entries - 1 → marks2 ≡ (if marked then marks - 1 else marks) → IsHeld new entries2 marks2 ks
-drop_held old new entries marks entries2 marks2 n count marked ks z held len tags same bytes less fewer =
+    → new.bytes ≡ drop count old.bytes → CountsOldest before after t → IsHeld new after ks
+drop_held old new before after n count t ks z held len tags same bytes counts =
     let fits : FitsFields z.0 = last_of_all ks z held.fit in
-    let whole : old.bytes ≡ text z.0 z.1 ++ ring ks = begins old entries marks ks z held in
+    let whole : old.bytes ≡ text z.0 z.1 ++ ring ks = begins old before ks z held in
     let low = weight_low z.0 fits in
     let high = weight_high z.0 in
     let inside = weighs_within old.bytes z (ring ks) fits whole in
     let is : n ≡ weight z.0 = len (weight z.0) _ (omega (arith, low)) (begins_with_weight old.bytes z (ring ks) whole) in
     let exact : count ≡ weight z.0 = same (omega (arith, is, high)) (omega (arith, is, inside)) ∙ is in
-    let mark : marked ≡ z.1 = tags z.0 z.1 (ring ks) whole in
-    dropped old new entries marks entries2 marks2 ks z held (bytes ∙ ap (λ k. drop k old.bytes) exact) less (fewer ∙ ap (λ b. if b then marks - 1 else marks) mark)
+    dropped old new before after ks z held (bytes ∙ ap (λ k. drop k old.bytes) exact) (counts ks z held.counted (tags z.0 z.1 [] (ring ks) whole refl))
 
--- The whole of a push: the entry's text behind what was left.
-pub push_held : (old new : Content) (entries marks entries2 marks2 size : ℕ) (ks : List Kept) (e : Entry) (m : Bool) → 1024 ≤ size → length old.bytes ≤ size → size ≤ 16777216
-    → IsHeld old entries marks (fit kept_weight (size - weight e) ks) → FitsFields e → new.bytes ≡ old.bytes ++ text e m
-    → (entries < 2 ^ 63 → entries2 ≡ entries + 1) → (marks < 2 ^ 63 → marks2 ≡ marks + (if m then 1 else 0)) → IsHeld new entries2 marks2 (keep kept_weight size ks (e, m))
-push_held old new entries marks entries2 marks2 size ks e m large within small held fits bytes count more =
-    let front = fit kept_weight (size - weight e) ks in
-    let few = few_entries front held.fit in
-    let marked = few_marks front in
+-- What a ring kept for a new entry, and the entry behind it.
+pub kept_more : (size : ℕ) (content : Content) (counts : Counts) (ks : List Kept) (e : Entry) (m : Bool) → 1024 ≤ size → FitsFields e
+    → IsHeld content counts ((e, m) ∷ fit kept_weight (size - weight e) ks) → IsHeld content counts (keep kept_weight size ks (e, m))
+kept_more size content counts ks e m large fits held =
     let low = weight_low e fits in
-    let text_len = ap length held.bytes in
-    let entries_low : entries < 2 ^ 63 = omega (arith, few, held.counted, text_len, within, small) in
-    let marks_low : marks < 2 ^ 63 = omega (arith, few, marked, held.marked, text_len, within, small) in
-    let there = appended old new entries marks entries2 marks2 front e m held fits bytes (count entries_low) (more marks_low) in
-    let same : keep kept_weight size ks (e, m) ≡ (e, m) ∷ front = fit_in kept_weight size (e, m) ks (omega (arith, low, large)) in
-    subst (IsHeld new entries2 marks2) (sym same) there
+    subst (IsHeld content counts) (sym (fit_in kept_weight size (e, m) ks (omega (arith, low, large)))) held
 
 -- The newest entry's text, as it is copied out.
-pub newest_text : (content : Content) (entries marks n count : ℕ) (ks : List Kept) (k : Kept) (bytes : List ℕ) → IsHeld content entries marks (k ∷ ks)
+pub newest_text : (content : Content) (counts : Counts) (n count : ℕ) (ks : List Kept) (k : Kept) (bytes : List ℕ) → IsHeld content counts (k ∷ ks)
     → ((w : ℕ) (before : List ℕ) → w < 2 ^ 16 → content.bytes ≡ before ++ little_bytes 2 w → n ≡ w)
     → (1 ≤ n → n ≤ length content.bytes → count ≡ n)
     → bytes ≡ drop (length content.bytes - count) content.bytes → (count ≡ weight k.0) × (bytes ≡ text k.0 k.1)
-newest_text content entries marks n count ks k bytes held len same copied =
+newest_text content counts n count ks k bytes held len same copied =
     let fits : FitsFields k.0 = All-head (λ k. FitsFields k.0) k ks held.fit in
     let low = weight_low k.0 fits in
     let high = weight_high k.0 in
@@ -190,35 +177,34 @@ newest_text content entries marks n count ks k bytes held len same copied =
     let last : drop (length content.bytes - count) content.bytes ≡ text k.0 k.1 = ap (drop (length content.bytes - count)) held.bytes ∙ drop_at (ring ks) (text k.0 k.1) (length content.bytes - count) place in
     (exact, copied ∙ last)
 
-pub some_bytes : (content : Content) (entries marks : ℕ) (ks : List Kept) (k : Kept) → IsHeld content entries marks (k ∷ ks) → 5 ≤ length content.bytes
-some_bytes content entries marks ks k held =
+pub some_bytes : (content : Content) (counts : Counts) (ks : List Kept) (k : Kept) → IsHeld content counts (k ∷ ks) → 5 ≤ length content.bytes
+some_bytes content counts ks k held =
     let high = weight_high k.0 in
     omega (arith, high, ap length held.bytes, length-append (ring ks) (text k.0 k.1), length-text k.0 k.1 (All-head (λ k. FitsFields k.0) k ks held.fit))
 
-pub newest_count : (content : Content) (entries marks n count : ℕ) (ks : List Kept) (k : Kept) → IsHeld content entries marks (k ∷ ks)
+pub newest_count : (content : Content) (counts : Counts) (n count : ℕ) (ks : List Kept) (k : Kept) → IsHeld content counts (k ∷ ks)
     → ((w : ℕ) (before : List ℕ) → w < 2 ^ 16 → content.bytes ≡ before ++ little_bytes 2 w → n ≡ w)
     → (1 ≤ n → n ≤ length content.bytes → count ≡ n) → count ≡ weight k.0
-newest_count content entries marks n count ks k held len same =
-    (newest_text content entries marks n count ks k (drop (length content.bytes - count) content.bytes) held len same refl).0
+newest_count content counts n count ks k held len same =
+    (newest_text content counts n count ks k (drop (length content.bytes - count) content.bytes) held len same refl).0
 
 -- The newest dropped, by what was read of it.
-pub popped : (old new : Content) (entries marks entries2 marks2 n count : ℕ) (marked : Bool) (ks : List Kept) (k : Kept) → IsHeld old entries marks (k ∷ ks)
+pub popped : (old new : Content) (before after : Counts) (n count t : ℕ) (ks : List Kept) (k : Kept) → IsHeld old before (k ∷ ks)
     → ((w : ℕ) (before : List ℕ) → w < 2 ^ 16 → old.bytes ≡ before ++ little_bytes 2 w → n ≡ w)
     → (1 ≤ n → n ≤ length old.bytes → count ≡ n)
-    → new.bytes ≡ take (length old.bytes - count) old.bytes → entries2 ≡ entries - 1 → marks2 ≡ (if marked then marks - 1 else marks) → marked ≡ k.1 → IsHeld new entries2 marks2 ks
-popped old new entries marks entries2 marks2 n count marked ks k held len same bytes less fewer mark =
+    → TagAt old (length old.bytes - count) t
+    → new.bytes ≡ take (length old.bytes - count) old.bytes → CountsNewest before after t → IsHeld new after ks
+popped old new before after n count t ks k held len same tags bytes counts =
     let fits : FitsFields k.0 = All-head (λ k. FitsFields k.0) k ks held.fit in
-    let exact : count ≡ weight k.0 = newest_count old entries marks n count ks k held len same in
+    let exact : count ≡ weight k.0 = newest_count old before n count ks k held len same in
     let long : length (text k.0 k.1) ≡ weight k.0 = length-text k.0 k.1 fits in
     let sum : length old.bytes ≡ length (ring ks) + length (text k.0 k.1) = ap length held.bytes ∙ length-append (ring ks) (text k.0 k.1) in
     let place : length (ring ks) ≡ length old.bytes - count = omega (arith, sum, long, exact) in
-    let marks_sum : count_by (λ (k : Kept). k.1) (k ∷ ks) ≡ cond k.1 1 0 + count_by (λ (k : Kept). k.1) ks = sum_by-cons (λ (k : Kept). cond k.1 1 0) k ks in
-    let total : marks ≡ count_by (λ (k : Kept). k.1) ks + cond k.1 1 0 = omega (arith, held.marked, marks_sum) in
+    let whole : old.bytes ≡ ring ks ++ (text k.0 k.1 ++ []) = held.bytes ∙ ap (λ l. ring ks ++ l) (sym (append-nil (text k.0 k.1))) in
     record {
       fit = All-tail (λ k. FitsFields k.0) k ks held.fit;
       bytes = bytes ∙ ap (take (length old.bytes - count)) held.bytes ∙ take_at (ring ks) (text k.0 k.1) (length old.bytes - count) place;
-      counted = omega (arith, less, held.counted);
-      marked = less_marks k.1 marks (count_by (λ (k : Kept). k.1) ks) marks2 total (fewer ∙ ap (λ b. if b then marks - 1 else marks) mark);
+      counted = counts ks k held.counted (tags k.0 k.1 (ring ks) [] whole (sym place));
     }
 
 -- The text of a list without some of its newest stands in front.
@@ -237,9 +223,9 @@ pub record Stands (content : Content) (place : ℕ) (newer front : List Kept) (k
   pub older : length (ring front) ≡ sum_by kept_weight front
   pub end : place ≡ length (ring front) + weight k.0
 
-pub stands_at : (content : Content) (entries marks place : ℕ) (newer front : List Kept) (k : Kept) → IsHeld content entries marks (newer ++ k ∷ front)
+pub stands_at : (content : Content) (counts : Counts) (place : ℕ) (newer front : List Kept) (k : Kept) → IsHeld content counts (newer ++ k ∷ front)
     → place ≡ sum_by kept_weight (k ∷ front) → Stands content place newer front k
-stands_at content entries marks place newer front k held at =
+stands_at content counts place newer front k held at =
     let all : AllFit (k ∷ front) = fit_front newer (k ∷ front) held.fit in
     let older : length (ring front) ≡ sum_by kept_weight front = length-ring front (All-tail (λ k. FitsFields k.0) k front all) in
     let sum : sum_by kept_weight (k ∷ front) ≡ kept_weight k + sum_by kept_weight front = sum_by-cons kept_weight k front in
@@ -299,3 +285,19 @@ walked found e f m n rest sum is read behind =
     let entries : e ≡ f = ap (λ (q : Entry × Bool). q.0) pair in
     let marks : m ≡ n = ap (λ (q : Entry × Bool). q.1) pair in
     cc
+
+-- The entry of a step is of a step.
+by_change : (x : State) (d : Change) → true ≡ is_of_step (entry_of x d)
+unfolding entry_of
+by_change x (change.Set r value after) = refl
+by_change x (change.Go after) = refl
+by_change x (change.Store a at size value after) = refl
+by_change x (change.Fetch a at size value r after) = refl
+by_change x (change.Call to) = refl
+by_change x change.Return = refl
+by_change x (change.Cell a from n after) = refl
+by_change x (change.Trace word after) = refl
+by_change x (change.Stop status) = refl
+
+pub of_a_step : (x : State) → true ≡ is_of_step (step_entry x)
+of_a_step x = by_change x (change_of x)

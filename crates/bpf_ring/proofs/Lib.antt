@@ -1,2 +1,3 @@
 pub mod Arounds
+pub mod Counted
 pub mod Held

@@ -1,7 +1,9 @@
 //! The entries in a ring of bytes.
-ghost use Rattle.std.specs.Prelude.{◌≡◌, ◌≤◌, ◌<◌, ◌+◌, ◌-◌, ◌^◌, if◌then◌else◌, ◌∷◌, ◌++◌, [], List, length, sum_by, count_by, IfOk, None, Some, false};
+ghost use Rattle.std.specs.Prelude.{◌≡◌, ◌≤◌, ◌<◌, ◌+◌, ◌-◌, ◌^◌, if◌then◌else◌, ◌∷◌, ◌++◌, [], List, length, sum_by, count_by, IfOk, None, Some, slice_get, false};
 ghost use Rattle.bpf_entries.specs.Fields.{FitsFields};
 ghost use Rattle.bpf_entries.specs.Keeping.{Kept, kept_weight, fit, keep};
+ghost use Rattle.bpf_entries.specs.Past.{is_of_step as of_step};
+ghost use Rattle.bpf_entries.specs.Texts.{text as text_of};
 ghost use Rattle.bpf_entries.specs.Weights.{weight as weight_of};
 ghost use Rattle.bpf_entries.specs.Keeping.{IsSize};
 ghost use Rattle.bpf_entries.specs.Status.{has_ended};
@@ -9,11 +11,12 @@ ghost use Rattle.bpf_machine.specs.Entries.{step_entry};
 ghost use Rattle.bpf_machine.specs.Next.{change as change_of, next};
 ghost use Rattle.bpf_ring.specs.Held.{IsHeld};
 
-use crate::counts::{one_less, one_more, within};
+use crate::counts::{Counts, within};
 use crate::ring::Ring;
-use bpf_entries::Entry;
+use bpf_entries::{Entry, is_of_step};
 use bpf_machine::laws::entries_fit;
 use bpf_machine::{Change, Cpu};
+use circular_buffer::HeapCircularBuffer;
 use std::alloc::{AllocError, Global};
 
 /// The newest entries and marks that fit a ring of bytes. Its memory is taken once, when it is opened: no other call takes any, so no
@@ -21,8 +24,7 @@ use std::alloc::{AllocError, Global};
 #[derive(Drop)]
 pub struct EntryRing {
     ring: Ring,
-    entries: usize,
-    marks: usize,
+    counts: Counts,
 }
 
 impl EntryRing {
@@ -30,32 +32,64 @@ impl EntryRing {
     pub fn open(alloc: Global, size: usize) -> Result<EntryRing, AllocError>
         requires { IsSize size }
         ensures size { IfOk result (λ r. r.ring.size ≡ size) }
-        ensures empty { IfOk result (λ r. IsHeld r.ring r.entries r.marks []) }
+        ensures empty { IfOk result (λ r. IsHeld r.ring r.counts []) }
     {
         Ok(EntryRing {
             ring: Ring::open(alloc, size)?,
-            entries: 0,
-            marks: 0,
+            counts: Counts::none(),
         })
+    }
+
+    /// Brings into a proof that the size is a journal's, and that the bytes are within it.
+    #[inline(always)]
+    pub fn invariant(&self)
+        ensures sized { IsSize self.now.ring.size }
+        ensures within { length self.now.ring.bytes ≤ self.now.ring.size }
+    {
+        let _size = self.ring.size();
+        let _len = self.ring.len();
+    }
+
+    /// Gives the ring up as a circular buffer of the same size with the same bytes. It takes no memory.
+    pub fn into_buffer(self) -> HeapCircularBuffer<u8>
+        ensures size { result.capacity ≡ self.ring.size }
+        ensures bytes { result.items ≡ self.ring.bytes }
+    {
+        let EntryRing { ring, counts: _ } = self;
+        ring.into_buffer()
+    }
+
+    /// The byte at an index, the oldest first.
+    pub fn byte(&self, index: usize) -> Option<u8>
+        ensures { result ≡ slice_get self.now.ring.bytes index }
+    {
+        self.ring.byte(index)
     }
 
     /// How many entries it holds.
     pub fn len(&self) -> usize
-        ensures { (ks : List Kept) → IsHeld self.now.ring self.now.entries self.now.marks ks → result ≡ length ks }
+        ensures { (ks : List Kept) → IsHeld self.now.ring self.now.counts ks → result ≡ length ks }
     {
-        self.entries
+        self.counts.entries()
     }
 
     /// How many of them are marked.
     pub fn marked(&self) -> usize
-        ensures { (ks : List Kept) → IsHeld self.now.ring self.now.entries self.now.marks ks → result ≡ count_by (λ k. k.1) ks }
+        ensures { (ks : List Kept) → IsHeld self.now.ring self.now.counts ks → result ≡ count_by (λ k. k.1) ks }
     {
-        self.marks
+        self.counts.marks()
+    }
+
+    /// How many of them are of steps, and not of edits.
+    pub fn steps(&self) -> usize
+        ensures { (ks : List Kept) → IsHeld self.now.ring self.now.counts ks → result ≡ count_by (λ k. of_step k.0) ks }
+    {
+        self.counts.steps()
     }
 
     /// How many bytes they have.
     pub fn weight(&self) -> usize
-        ensures { (ks : List Kept) → IsHeld self.now.ring self.now.entries self.now.marks ks → result ≡ sum_by kept_weight ks }
+        ensures { (ks : List Kept) → IsHeld self.now.ring self.now.counts ks → result ≡ sum_by kept_weight ks }
     {
         self.ring.len()
     }
@@ -69,8 +103,8 @@ impl EntryRing {
 
     /// The newest entry and its mark, None where none is held. It stays.
     pub fn last(&self) -> Option<(Entry, bool)>
-        ensures none { IsHeld self.now.ring self.now.entries self.now.marks [] → result ≡ None }
-        ensures some { (ks : List Kept) (k : Kept) → IsHeld self.now.ring self.now.entries self.now.marks (k ∷ ks) → result ≡ Some k }
+        ensures none { IsHeld self.now.ring self.now.counts [] → result ≡ None }
+        ensures some { (ks : List Kept) (k : Kept) → IsHeld self.now.ring self.now.counts (k ∷ ks) → result ≡ Some k }
     {
         if self.ring.len() < 5 {
             return None;
@@ -87,7 +121,7 @@ impl EntryRing {
 
     /// The place of the whole list: how many bytes it has.
     pub fn end(&self) -> usize
-        ensures { (ks : List Kept) → IsHeld self.now.ring self.now.entries self.now.marks ks → result ≡ sum_by kept_weight ks }
+        ensures { (ks : List Kept) → IsHeld self.now.ring self.now.counts ks → result ≡ sum_by kept_weight ks }
     {
         self.weight()
     }
@@ -96,7 +130,7 @@ impl EntryRing {
     /// entries, which is 0.
     pub fn walk_back(&self, place: usize) -> Option<(Entry, bool, usize)>
         ensures none { place ≡ 0 → result ≡ None }
-        ensures some { (newer front : List Kept) (k : Kept) → IsHeld self.now.ring self.now.entries self.now.marks (newer ++ k ∷ front) → place ≡ sum_by kept_weight (k ∷ front) →
+        ensures some { (newer front : List Kept) (k : Kept) → IsHeld self.now.ring self.now.counts (newer ++ k ∷ front) → place ≡ sum_by kept_weight (k ∷ front) →
             result ≡ Some (k.0, k.1, sum_by kept_weight front) }
     {
         if place < 5 || place > self.ring.len() {
@@ -117,34 +151,30 @@ impl EntryRing {
     /// Takes the newest entry off, None where none is held.
     pub fn pop(&mut self) -> Option<(Entry, bool)>
         ensures size { self.new.ring.size ≡ self.old.ring.size }
-        ensures none { IsHeld self.old.ring self.old.entries self.old.marks [] → (result ≡ None) × IsHeld self.new.ring self.new.entries self.new.marks [] }
-        ensures some { (ks : List Kept) (k : Kept) → IsHeld self.old.ring self.old.entries self.old.marks (k ∷ ks) → (result ≡ Some k) × IsHeld self.new.ring self.new.entries self.new.marks ks }
+        ensures fits { length self.new.ring.bytes ≤ self.new.ring.size }
+        ensures none { IsHeld self.old.ring self.old.counts [] → (result ≡ None) × IsHeld self.new.ring self.new.counts [] }
+        ensures some { (ks : List Kept) (k : Kept) → IsHeld self.old.ring self.old.counts (k ∷ ks) → (result ≡ Some k) × IsHeld self.new.ring self.new.counts ks }
     {
-        if self.ring.len() < 5 {
-            return None;
-        }
-        match self.last() {
-            Some((entry, mark)) => {
-                self.drop_last(mark);
-                Some((entry, mark))
-            }
-            None => None,
-        }
+        let newest = self.last();
+        self.drop_last();
+        self.invariant();
+        newest
     }
 
-    /// Drops the newest entry, whole. `marked` says whether it is marked.
-    fn drop_last(&mut self, marked: bool)
-        requires { 5 ≤ length self.old.ring.bytes }
+    /// Drops the newest entry, whole, where there is one.
+    pub fn drop_last(&mut self)
         ensures size { self.new.ring.size ≡ self.old.ring.size }
-        ensures held { (ks : List Kept) (k : Kept) → IsHeld self.old.ring self.old.entries self.old.marks (k ∷ ks) → marked ≡ k.1 → IsHeld self.new.ring self.new.entries self.new.marks ks }
+        ensures none { IsHeld self.old.ring self.old.counts [] → IsHeld self.new.ring self.new.counts [] }
+        ensures some { (ks : List Kept) (k : Kept) → IsHeld self.old.ring self.old.counts (k ∷ ks) → IsHeld self.new.ring self.new.counts ks }
     {
         let len = self.ring.len();
-        let count = within(self.ring.newest_len(), len);
-        self.ring.drop_newest(count);
-        self.entries = one_less(self.entries);
-        if marked {
-            self.marks = one_less(self.marks);
+        if len < 5 {
+            return;
         }
+        let count = within(self.ring.newest_len(), len);
+        let tag = self.ring.tag_at(len - count);
+        self.ring.drop_newest(count);
+        self.counts.subtract(tag);
     }
 
     /// Drops the oldest entry, whole.
@@ -152,15 +182,12 @@ impl EntryRing {
         requires { 5 ≤ length self.old.ring.bytes }
         ensures size { self.new.ring.size ≡ self.old.ring.size }
         ensures shrinks { length self.new.ring.bytes < length self.old.ring.bytes }
-        ensures held { (ks : List Kept) (z : Kept) → IsHeld self.old.ring self.old.entries self.old.marks (ks ++ z ∷ []) → IsHeld self.new.ring self.new.entries self.new.marks ks }
+        ensures held { (ks : List Kept) (z : Kept) → IsHeld self.old.ring self.old.counts (ks ++ z ∷ []) → IsHeld self.new.ring self.new.counts ks }
     {
-        let marked = self.ring.oldest_is_marked();
+        let tag = self.ring.tag_at(0);
         let count = within(self.ring.oldest_len(), self.ring.len());
         self.ring.drop_oldest(count);
-        self.entries = one_less(self.entries);
-        if marked {
-            self.marks = one_less(self.marks);
-        }
+        self.counts.subtract(tag);
     }
 
     /// Drops the fewest oldest entries that leave room for so many bytes.
@@ -169,7 +196,7 @@ impl EntryRing {
         ensures size { self.new.ring.size ≡ self.old.ring.size }
         ensures sized { IsSize self.new.ring.size }
         ensures within { length self.new.ring.bytes + room ≤ self.new.ring.size }
-        ensures held { (ks : List Kept) → IsHeld self.old.ring self.old.entries self.old.marks ks → IsHeld self.new.ring self.new.entries self.new.marks (fit kept_weight (self.old.ring.size - room) ks) }
+        ensures held { (ks : List Kept) → IsHeld self.old.ring self.old.counts ks → IsHeld self.new.ring self.new.counts (fit kept_weight (self.old.ring.size - room) ks) }
     {
         let most = self.ring.size() - room;
         while self.ring.len() > most {
@@ -181,13 +208,16 @@ impl EntryRing {
     pub fn push(&mut self, entry: &Entry, mark: bool)
         requires { FitsFields entry.now }
         ensures size { self.new.ring.size ≡ self.old.ring.size }
-        ensures held { (ks : List Kept) → IsHeld self.old.ring self.old.entries self.old.marks ks → IsHeld self.new.ring self.new.entries self.new.marks (keep kept_weight self.old.ring.size ks (entry.now, mark)) }
+        ensures fits { length self.new.ring.bytes ≤ self.new.ring.size }
+        ensures held { (ks : List Kept) → IsHeld self.old.ring self.old.counts ks → IsHeld self.new.ring self.new.counts (keep kept_weight self.old.ring.size ks (entry.now, mark)) }
     {
         let weight = weight_in(entry);
         self.make_room(weight);
         let mut text = [0u8; 280];
         entry.write(&mut text, mark);
-        self.append(&text[..weight], mark);
+        let is_step = is_of_step(&text);
+        self.append(&text[..weight], mark, is_step);
+        self.invariant();
     }
 
     /// Lets a machine do what `look` answered of it, and keeps the entry of that step: it is written where it stays, and no entry is made on
@@ -198,39 +228,27 @@ impl EntryRing {
         requires looked { change.now ≡ change_of cpu.old }
         ensures next { cpu.new ≡ next cpu.old }
         ensures size { self.new.ring.size ≡ self.old.ring.size }
-        ensures held { (ks : List Kept) → IsHeld self.old.ring self.old.entries self.old.marks ks → IsHeld self.new.ring self.new.entries self.new.marks (keep kept_weight self.old.ring.size ks (step_entry cpu.old, mark)) }
+        ensures fits { length self.new.ring.bytes ≤ self.new.ring.size }
+        ensures held { (ks : List Kept) → IsHeld self.old.ring self.old.counts ks → IsHeld self.new.ring self.new.counts (keep kept_weight self.old.ring.size ks (step_entry cpu.old, mark)) }
     {
         cpu.invariant();
         entries_fit();
         let weight = cpu.entry_weight(change);
         self.make_room(weight);
         self.ring.record(cpu, change, weight, mark);
-        self.count(mark);
-    }
-
-    /// Counts one more entry.
-    #[inline(always)]
-    fn count(&mut self, mark: bool)
-        ensures ring { self.new.ring ≡ self.old.ring }
-        ensures entries { self.old.entries < 2 ^ 63 → self.new.entries ≡ self.old.entries + 1 }
-        ensures marks { self.old.marks < 2 ^ 63 → self.new.marks ≡ self.old.marks + (if mark then 1 else 0) }
-    {
-        self.entries = one_more(self.entries);
-        if mark {
-            self.marks = one_more(self.marks);
-        }
+        self.counts.add(mark, true);
+        self.invariant();
     }
 
     /// Appends an entry's text, for which there must be room.
-    fn append(&mut self, text: &[u8], mark: bool)
+    fn append(&mut self, text: &[u8], mark: bool, is_step: bool)
         requires { length self.old.ring.bytes + length text.now ≤ self.old.ring.size }
         ensures size { self.new.ring.size ≡ self.old.ring.size }
-        ensures bytes { self.new.ring.bytes ≡ self.old.ring.bytes ++ text.now }
-        ensures entries { self.old.entries < 2 ^ 63 → self.new.entries ≡ self.old.entries + 1 }
-        ensures marks { self.old.marks < 2 ^ 63 → self.new.marks ≡ self.old.marks + (if mark then 1 else 0) }
+        ensures held { (ks : List Kept) (e : Entry) → IsHeld self.old.ring self.old.counts ks → FitsFields e → text.now ≡ text_of e mark → is_step ≡ of_step e → IsHeld self.new.ring self.new.counts ((e, mark) ∷ ks) }
     {
+        let _size = self.ring.size();
         self.ring.push(text);
-        self.count(mark);
+        self.counts.add(mark, is_step);
     }
 }
 

@@ -4,7 +4,7 @@ ghost use Rattle.byteorder.specs.Endian.{little_bytes};
 ghost use Rattle.bpf_entries.specs.declared.entry.Entry.{Entry};
 ghost use Rattle.bpf_entries.specs.Fields.{FitsFields};
 ghost use Rattle.bpf_entries.specs.Status.{has_ended};
-ghost use Rattle.bpf_entries.specs.Texts.{text};
+ghost use Rattle.bpf_entries.specs.Texts.{kind, tag, text};
 ghost use Rattle.bpf_entries.specs.Weights.{weight as weight_of};
 ghost use Rattle.bpf_machine.specs.Entries.{step_entry};
 ghost use Rattle.bpf_machine.specs.Next.{change as change_of, next};
@@ -224,16 +224,14 @@ impl Ring {
         }
     }
 
-    /// Whether the oldest entry is marked.
-    #[tactic(auto, using(bpf_entries::proofs::Texts::mark_back))]
-    pub fn oldest_is_marked(&self) -> bool
-        requires { 3 ≤ length self.now.bytes }
-        ensures { (e : Entry) (mark : Bool) (rest : List ℕ) → self.now.bytes ≡ text e mark ++ rest → result ≡ mark }
+    /// The tag of the entry that begins at a place.
+    pub fn tag_at(&self, place: usize) -> u8
+        ensures { (e : Entry) (mark : Bool) (before rest : List ℕ) → self.now.bytes ≡ before ++ (text e mark ++ rest) → place ≡ length before → result ≡ tag (kind e) mark }
     {
-        match self.byte(2) {
-            Some(tag) => tag >= 128,
-            None => false,
+        if place >= self.len {
+            return 0;
         }
+        self.byte(place + 2).unwrap_or(0)
     }
 
     /// How many bytes the newest entry has, by the last two bytes.

@@ -11,7 +11,7 @@ loop-self-preserved c =
     record {
       size = c.drop_oldest.ensures.size ∙ c.loop-self.invariant.size;
       left = λ ks held.
-          left_dropped now.ring new.ring now.entries now.marks new.entries new.marks (c.size.result - c.args.room) ks
+          left_dropped now.ring new.ring now.counts new.counts (c.size.result - c.args.room) ks
           (omega (arith, c.len.ensures.value, c.loop-self-test.true)) c.drop_oldest.ensures.held (c.loop-self.invariant.left ks held);
     }
 
@@ -19,6 +19,6 @@ pub returns-clause-held : goal.returns-clause-held
 returns-clause-held c = λ ks held.
     let now = c.loop-self.self in
     let at : c.size.result - c.args.room ≡ c.args.self.now.ring.size - c.args.room = ap (λ n. n - c.args.room) c.size.ensures.value in
-    subst (λ n. IsHeld now.ring now.entries now.marks (fit kept_weight n ks)) at
-    (left_all now.ring now.entries now.marks (c.size.result - c.args.room) ks
+    subst (λ n. IsHeld now.ring now.counts (fit kept_weight n ks)) at
+    (left_all now.ring now.counts (c.size.result - c.args.room) ks
     (omega (arith, c.len.ensures.value, c.loop-self-test.false)) (c.loop-self.invariant.left ks held))

@@ -7,7 +7,7 @@ use Rattle.bpf_ring.proofs.entries.EntryRing.make_room.Given as goal
 abbrev pub invariant-loop-self : goal.invariant-loop-self
 invariant-loop-self l = record {
   size : l.self.ring.size ≡ l.initial.self.ring.size;
-  left : (ks : List Kept) → IsHeld l.initial.self.ring l.initial.self.entries l.initial.self.marks ks → Left l.self.ring l.self.entries l.self.marks l.most ks;
+  left : (ks : List Kept) → IsHeld l.initial.self.ring l.initial.self.counts ks → Left l.self.ring l.self.counts l.most ks;
 }
 
 abbrev pub decreases-loop-self : goal.decreases-loop-self

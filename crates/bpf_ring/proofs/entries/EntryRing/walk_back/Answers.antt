@@ -9,7 +9,7 @@ use Rattle.bpf_ring.proofs.entries.EntryRing.walk_back.Goals.{then-place-lt5-via
 pub returns-then-place-lt5-clause-some : goal.returns-then-place-lt5-clause-some
 returns-then-place-lt5-clause-some c = λ newer front k held at.
     let now = c.args.self.now in
-    let s = stands_at now.ring now.entries now.marks c.args.place newer front k held at in
+    let s = stands_at now.ring now.counts c.args.place newer front k held at in
     let here = some_before now.ring c.args.place newer front k s in
     elim c.then-place-lt5.branch [
       | then-place-lt5-via-then-place-lt5 w ↦ absurd (omega (arith, here.0, w.if-place-lt5))
@@ -19,7 +19,7 @@ returns-then-place-lt5-clause-some c = λ newer front k held at.
 pub returns-then-count-gt280-clause-some : goal.returns-then-count-gt280-clause-some
 returns-then-count-gt280-clause-some c = λ newer front k held at.
     let now = c.args.self.now in
-    let s = stands_at now.ring now.entries now.marks c.args.place newer front k held at in
+    let s = stands_at now.ring now.counts c.args.place newer front k held at in
     let f = found_at now.ring c.args.place c.len_before.result c.within-count.result newer front k _ s c.len_before.ensures c.within-count.ensures.same refl in
     let low = weight_low k.0 s.fits in
     absurd (omega (arith, f.weighs, low, c.if-count-gt280.true))
@@ -27,14 +27,14 @@ returns-then-count-gt280-clause-some c = λ newer front k held at.
 pub returns-in-Some-clause-some : goal.returns-in-Some-clause-some
 returns-in-Some-clause-some c = λ newer front k held at.
     let now = c.args.self.now in
-    let s = stands_at now.ring now.entries now.marks c.args.place newer front k held at in
+    let s = stands_at now.ring now.counts c.args.place newer front k held at in
     let f = found_at now.ring c.args.place c.len_before.result c.within-count.result newer front k _ s c.len_before.ensures c.within-count.ensures.same c.copy_part.ensures in
     walked c.read.result c.in-Some.entry k.0 c.in-Some.mark k.1 (c.args.place - c.within-count.result) (sum_by kept_weight front) c.in-Some.is (c.read.ensures k.0 k.1 s.fits f.copied) f.behind
 
 pub returns-in-None-clause-some : goal.returns-in-None-clause-some
 returns-in-None-clause-some c = λ newer front k held at.
     let now = c.args.self.now in
-    let s = stands_at now.ring now.entries now.marks c.args.place newer front k held at in
+    let s = stands_at now.ring now.counts c.args.place newer front k held at in
     let f = found_at now.ring c.args.place c.len_before.result c.within-count.result newer front k _ s c.len_before.ensures c.within-count.ensures.same c.copy_part.ensures in
     let read = c.read.ensures k.0 k.1 s.fits f.copied in
     absurd cc
