@@ -1,5 +1,8 @@
-# bpfdb: run, test, pages and fmt. The toolchain's command is rt; docs/WORKING.md lists what else is called.
-.PHONY: run test pages fmt
+# bpfdb: run, test, install, uninstall, pages and fmt. The toolchain's command is rt; docs/WORKING.md lists what else is called.
+.PHONY: run test install uninstall pages fmt
+
+PREFIX = /usr/local
+DESTDIR =
 
 # Proves and builds the debugger, where that is not done yet, and shows the session of tests/session/script.
 run:
@@ -9,6 +12,20 @@ run:
 # program from outside.
 test:
 	@sh tests/gate.sh
+
+# Installs the program and its man page, below DESTDIR. It proves and builds the program where that is not done yet.
+install:
+	@sh tests/build.sh
+	@mkdir -p "$(DESTDIR)$(PREFIX)/bin" "$(DESTDIR)$(PREFIX)/share/man/man1"
+	@cp crates/bpfdb/out/bpfdb "$(DESTDIR)$(PREFIX)/bin/bpfdb"
+	@chmod 755 "$(DESTDIR)$(PREFIX)/bin/bpfdb"
+	@cp docs/bpfdb.1 "$(DESTDIR)$(PREFIX)/share/man/man1/bpfdb.1"
+	@chmod 644 "$(DESTDIR)$(PREFIX)/share/man/man1/bpfdb.1"
+	@echo "installed $(DESTDIR)$(PREFIX)/bin/bpfdb and its man page"
+
+# Takes both away again.
+uninstall:
+	@rm -f "$(DESTDIR)$(PREFIX)/bin/bpfdb" "$(DESTDIR)$(PREFIX)/share/man/man1/bpfdb.1"
 
 # Makes the tables of the pages anew, and holds the pages against the repository.
 pages:

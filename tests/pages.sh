@@ -60,7 +60,7 @@ clauses() {
     ' {} +
 }
 
-# contracts: each function and clause in the second column of the tables under '### CRATE' in README's '## What is proved'.
+# contracts: each function and clause in the second column of the tables under '### CRATE' in '## What is proved' of docs/PROMISES.md.
 contracts() {
     awk -F ' *\\| *' '
         /^## / { inside = $0 ~ /What is proved/ }
@@ -78,9 +78,9 @@ contracts() {
                 }
             }
         }
-    ' README.md | while read -r crate name; do
+    ' docs/PROMISES.md | while read -r crate name; do
         [ -f "$work/clauses-$crate" ] || clauses "$crate" > "$work/clauses-$crate"
-        grep -q -x "$name" "$work/clauses-$crate" || fault "README.md names the contract '$name' of $crate, which has none"
+        grep -q -x "$name" "$work/clauses-$crate" || fault "docs/PROMISES.md names the contract '$name' of $crate, which has none"
     done
 }
 
@@ -175,5 +175,7 @@ examples
 commands
 refusals
 sh docs/man.sh --check || fault 'the man page'
-grep -q -F "$(rt version)" README.md || fault "README.md does not name the toolchain, $(rt version)"
+for page in README.md docs/PROMISES.md; do
+    grep -q -F "$(rt version)" "$page" || fault "$page does not name the toolchain, $(rt version)"
+done
 [ ! -s "$work/faults" ]
