@@ -1,4 +1,4 @@
--- Scaffolding: what bytes are read as, whatever they are. Of an entry's text it is the entry.
+-- What bytes are read as, whatever they are. Of an entry's text it is the entry.
 use Rattle.std.specs.Prelude.{◌≡◌, ℕ, ◌-◌, nat_eq, if◌then◌else◌, Option, Some, List, [], ◌∷◌, length, take, drop, slice_index}
 use Rattle.byteorder.specs.Endian.{little_number}
 use Rattle.bpf_entries.specs.declared.entry.Entry.{Entry}
