@@ -1,6 +1,6 @@
 -- Bytes around a block's end, item by item.
-use Rattle.std.proofs.Common.{◌≡◌, ℕ, ◌+◌, ◌-◌, ◌≤◌, ◌<◌, ◌⊎◌, List, [], ◌++◌, length, get_or, take, drop, refl, sym, ap, ◌∙◌, arith, inl, inr}
-use Rattle.std.proofs.lemmas.List.{length-append, length-drop, drop-drop, take_all, drop_all, append-nil, take-append-drop, get_or-drop, get_or_append_left, get_or-append_right, same_lists}
+use Rattle.std.proofs.Common.{◌≡◌, ℕ, ◌+◌, ◌-◌, ◌≤◌, ◌<◌, ◌⊎◌, List, [], ◌++◌, length, get_or, take, drop, refl, sym, ap, ◌∙◌, append_assoc, arith, inl, inr}
+use Rattle.std.proofs.lemmas.List.{length-append, length-drop, drop-drop, take_all, drop_all, append-nil, take-append-drop, take-append-le, drop-append-le, get_or-drop, get_or_append_left, get_or-append_right, same_lists}
 use Rattle.std.proofs.lemmas.Grind.{common_steps}
 use Rattle.std.proofs.lemmas.Bool.{cases_lt}
 use Rattle.std.proofs.lemmas.Bool.Decides.{nat_tests}
@@ -224,3 +224,24 @@ one_piece xs ys es first len end w e a b c f g =
     ap (λ l. around l first (len + w)) same
     ∙ ap (λ n. around (pasted xs end es) first (len + n)) (sym f)
     ∙ around_more xs es first len end e a (omega (arith, b, f)) (omega (arith, c, f))
+
+-- The newest bytes, read where they lie: in the first of the two pieces that the block was lent in.
+around_piece : (xs front rest : List ℕ) (at n : ℕ) → front ++ rest ≡ xs → at + n ≤ length front → around xs at n ≡ take (at + n - at) (drop at front)
+around_piece xs front rest at n e fits =
+    let count : n ≡ at + n - at = omega arith in
+    let tail : length (drop at front) ≡ length front - at = length-drop at front in
+    ap (λ l. around l at n) (sym e)
+    ∙ ap (λ l. take n (l ++ take at (front ++ rest))) (drop-append-le at front rest (omega (arith, fits)))
+    ∙ ap (take n) (append_assoc (drop at front) rest (take at (front ++ rest)))
+    ∙ take-append-le n (drop at front) (rest ++ take at (front ++ rest)) (omega (arith, tail, fits))
+    ∙ ap (λ k. take k (drop at front)) count
+
+pub newest_piece : (xs front rest bytes : List ℕ) (first len n at : ℕ) → around xs first len ≡ bytes → at ≡ behind (length xs) first (length bytes - n) → first < length xs → len ≤ length xs
+    → n ≤ length bytes → front ++ rest ≡ xs → at + n ≤ length front → take (at + n - at) (drop at front) ≡ drop (length bytes - n) bytes
+newest_piece xs front rest bytes first len n at is e a b c cut fits =
+    let long : length bytes ≡ len = ap length (sym is) ∙ length-around xs first len (omega (arith, a)) b in
+    let all : n ≡ len - (length bytes - n) = omega (arith, long, c) in
+    sym (around_piece xs front rest at n cut fits)
+    ∙ ap (around xs at) all
+    ∙ around_drop xs first len (length bytes - n) at e a b (omega (arith, long))
+    ∙ ap (drop (length bytes - n)) is

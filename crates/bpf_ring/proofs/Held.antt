@@ -1,8 +1,8 @@
 -- What a ring of entries holds, when the oldest is dropped and a new one is appended.
-use Rattle.std.proofs.Common.{◌≡◌, ℕ, ◌+◌, ◌-◌, ◌^◌, ◌≤◌, ◌<◌, Bool, true, false, if◌then◌else◌, List, [], ◌∷◌, ◌++◌, Option, Some, length, take, drop, refl, sym, ap, ◌∙◌, subst, append_assoc, arith}
-use Rattle.std.specs.Prelude.{cond, count_by, sum_by}
+use Rattle.std.proofs.Common.{◌≡◌, ℕ, ◌+◌, ◌-◌, ◌^◌, ◌≤◌, ◌<◌, Bool, true, List, [], ◌∷◌, ◌++◌, Option, Some, length, take, drop, refl, sym, ap, ◌∙◌, subst, append_assoc, arith}
+use Rattle.std.specs.Prelude.{sum_by}
 use Rattle.std.proofs.lemmas.List.{take_at, drop_at, length-append, append-nil}
-use Rattle.std.proofs.lemmas.List.Sums.{sum_by-cons, sum_by_push}
+use Rattle.std.proofs.lemmas.List.Sums.{sum_by-cons}
 use Rattle.std.proofs.lemmas.List.Elements.{All-head, All-tail, All-cons}
 use Rattle.byteorder.specs.Endian.{little_bytes}
 use Rattle.bpf_entries.specs.declared.entry.Entry.{Entry}
@@ -10,6 +10,7 @@ use Rattle.bpf_entries.specs.Past.{is_of_step}
 use Rattle.bpf_machine.specs.declared.change.Change.{Change}
 use Rattle.bpf_machine.specs.declared.change.Change.TheVariants as change
 use Rattle.bpf_machine.specs.Entries.{entry_of, step_entry}
+use Rattle.bpf_machine.specs.Moves.{HasComeBy}
 use Rattle.bpf_machine.specs.Next.{change as change_of}
 use Rattle.bpf_machine.specs.State.{State}
 use Rattle.bpf_entries.specs.Fields.{FitsFields}
@@ -23,7 +24,7 @@ use Rattle.bpf_entries.proofs.Keeping.{fit_in, fit_all, fit_without_oldest}
 use Rattle.bpf_ring.specs.Blocks.{Content}
 use Rattle.bpf_ring.specs.declared.counts.Counts.{Counts}
 use Rattle.bpf_ring.specs.Counted.{Counted}
-use Rattle.bpf_ring.specs.Held.{IsHeld}
+use Rattle.bpf_ring.specs.Held.{IsHeld, NewestLed, HoldsWay}
 
 -- A ring has as many bytes as its entries weigh, so at least as many as there are entries and marks.
 pub length-ring : (ks : List Kept) → AllFit ks → length (ring ks) ≡ sum_by kept_weight ks
@@ -188,6 +189,38 @@ pub newest_count : (content : Content) (counts : Counts) (n count : ℕ) (ks : L
 newest_count content counts n count ks k held len same =
     (newest_text content counts n count ks k (drop (length content.bytes - count) content.bytes) held len same refl).0
 
+-- The newest's tag.
+pub newest_tag : (content : Content) (counts : Counts) (n count t : ℕ) (ks : List Kept) (k : Kept) → IsHeld content counts (k ∷ ks)
+    → ((w : ℕ) (before : List ℕ) → w < 2 ^ 16 → content.bytes ≡ before ++ little_bytes 2 w → n ≡ w)
+    → (1 ≤ n → n ≤ length content.bytes → count ≡ n)
+    → TagAt content (length content.bytes - count) t → t ≡ tag (kind k.0) k.1
+newest_tag content counts n count t ks k held len same tags =
+    let exact : count ≡ weight k.0 = newest_count content counts n count ks k held len same in
+    let long : length (text k.0 k.1) ≡ weight k.0 = length-text k.0 k.1 (All-head (λ k. FitsFields k.0) k ks held.fit) in
+    let sum : length content.bytes ≡ length (ring ks) + length (text k.0 k.1) = ap length held.bytes ∙ length-append (ring ks) (text k.0 k.1) in
+    let whole : content.bytes ≡ ring ks ++ (text k.0 k.1 ++ []) = held.bytes ∙ ap (λ l. ring ks ++ l) (sym (append-nil (text k.0 k.1))) in
+    tags k.0 k.1 (ring ks) [] whole (omega (arith, sum, long, exact))
+
+-- The newest led to a state, by its text.
+pub record CameBy (content : Content) (count : ℕ) (y : State) : Type 0 where
+  pub light : count ≤ 280
+  pub come : HasComeBy y (drop (length content.bytes - count) content.bytes)
+
+pub came_by : (content : Content) (counts : Counts) (n count : ℕ) (y : State) → HoldsWay content counts y → 5 ≤ length content.bytes
+    → ((w : ℕ) (before : List ℕ) → w < 2 ^ 16 → content.bytes ≡ before ++ little_bytes 2 w → n ≡ w)
+    → (1 ≤ n → n ≤ length content.bytes → count ≡ n) → CameBy content count y
+came_by content counts n count y way some len same = split way.ks way.held way.led where
+  split : (ks : List Kept) → IsHeld content counts ks → NewestLed ks y → CameBy content count y
+  split [] held led = absurd (omega (arith, some, ap length held.bytes))
+  split (k ∷ ks) held led =
+      let fits : FitsFields k.0 = All-head (λ k. FitsFields k.0) k ks held.fit in
+      let told = newest_text content counts n count ks k (drop (length content.bytes - count) content.bytes) held len same refl in
+      let low = weight_low k.0 fits in
+      record {
+        light = omega (arith, told.0, low);
+        come = record { entry = k.0; mark = k.1; come = led; fits = fits; held = told.1 };
+      }
+
 -- The newest dropped, by what was read of it.
 pub popped : (old new : Content) (before after : Counts) (n count t : ℕ) (ks : List Kept) (k : Kept) → IsHeld old before (k ∷ ks)
     → ((w : ℕ) (before : List ℕ) → w < 2 ^ 16 → old.bytes ≡ before ++ little_bytes 2 w → n ≡ w)
@@ -200,11 +233,10 @@ popped old new before after n count t ks k held len same tags bytes counts =
     let long : length (text k.0 k.1) ≡ weight k.0 = length-text k.0 k.1 fits in
     let sum : length old.bytes ≡ length (ring ks) + length (text k.0 k.1) = ap length held.bytes ∙ length-append (ring ks) (text k.0 k.1) in
     let place : length (ring ks) ≡ length old.bytes - count = omega (arith, sum, long, exact) in
-    let whole : old.bytes ≡ ring ks ++ (text k.0 k.1 ++ []) = held.bytes ∙ ap (λ l. ring ks ++ l) (sym (append-nil (text k.0 k.1))) in
     record {
       fit = All-tail (λ k. FitsFields k.0) k ks held.fit;
       bytes = bytes ∙ ap (take (length old.bytes - count)) held.bytes ∙ take_at (ring ks) (text k.0 k.1) (length old.bytes - count) place;
-      counted = counts ks k held.counted (tags k.0 k.1 (ring ks) [] whole (sym place));
+      counted = counts ks k held.counted (newest_tag old before n count t ks k held len same tags);
     }
 
 -- The text of a list without some of its newest stands in front.

@@ -1,3 +1,4 @@
 pub mod Arounds
 pub mod Counted
 pub mod Held
+pub mod Walks

@@ -63,6 +63,13 @@ impl Counts {
         }
     }
 
+    /// Counts one more, which has this tag.
+    pub(crate) fn add_by_tag(&mut self, tag: u8)
+        ensures { (ks : List Kept) (k : Kept) → Counted self.old ks → length ks < 2 ^ 63 → tag ≡ tag_text (kind k.0) k.1 → Counted self.new (k ∷ ks) }
+    {
+        self.add(tag >= 128, tag % 128 <= 9);
+    }
+
     /// Counts one less, the one with this tag.
     #[inline(always)]
     pub(crate) fn subtract(&mut self, tag: u8)

@@ -3,13 +3,18 @@ ghost use Rattle.std.specs.Prelude.{◌≡◌, ◌≤◌, ◌<◌, ◌+◌, ◌-
 ghost use Rattle.bpf_entries.specs.Fields.{FitsFields};
 ghost use Rattle.bpf_entries.specs.Keeping.{Kept, kept_weight, fit, keep};
 ghost use Rattle.bpf_entries.specs.Past.{is_of_step as of_step};
-ghost use Rattle.bpf_entries.specs.Texts.{text as text_of};
+ghost use Rattle.bpf_entries.specs.Rings.{AllFit, ring as ring_of};
+ghost use Rattle.bpf_entries.specs.Texts.{kind, tag as tag_of, text as text_of};
 ghost use Rattle.bpf_entries.specs.Weights.{weight as weight_of};
 ghost use Rattle.bpf_entries.specs.Keeping.{IsSize};
 ghost use Rattle.bpf_entries.specs.Status.{has_ended};
 ghost use Rattle.bpf_machine.specs.Entries.{step_entry};
+ghost use Rattle.bpf_machine.specs.Moves.{Leads, overwritten};
 ghost use Rattle.bpf_machine.specs.Next.{change as change_of, next};
-ghost use Rattle.bpf_ring.specs.Held.{IsHeld};
+ghost use Rattle.bpf_machine.specs.State.{State};
+ghost use Rattle.bpf_machine.specs.declared.moves.Move.{Move};
+ghost use Rattle.bpf_ring.specs.Counted.{Counted};
+ghost use Rattle.bpf_ring.specs.Held.{HoldsWay, IsHeld};
 
 use crate::counts::{Counts, within};
 use crate::ring::Ring;
@@ -38,6 +43,19 @@ impl EntryRing {
             ring: Ring::open(alloc, size)?,
             counts: Counts::none(),
         })
+    }
+
+    /// The ring of a circular buffer, of its capacity and with its bytes, which it holds entries by: those of whose text the bytes are. It takes
+    /// no memory.
+    pub fn from_buffer(buffer: HeapCircularBuffer<u8>) -> EntryRing
+        requires { IsSize buffer.capacity }
+        ensures size { result.ring.size ≡ buffer.capacity }
+        ensures bytes { result.ring.bytes ≡ buffer.items }
+        ensures held { (ks : List Kept) → AllFit ks → buffer.items ≡ ring_of ks → IsHeld result.ring result.counts ks }
+    {
+        let ring = Ring::from_buffer(buffer);
+        let counts = counted(&ring);
+        EntryRing { ring, counts }
     }
 
     /// Brings into a proof that the size is a journal's, and that the bytes are within it.
@@ -161,6 +179,30 @@ impl EntryRing {
         newest
     }
 
+    /// Takes back the move whose entry is the newest, which led to a machine's state: the entry is read where it lies, no other is made, and it
+    /// is taken off. Answers its tag, None where none is held.
+    #[inline(always)]
+    pub fn take_back(&mut self, cpu: &mut Cpu) -> Option<u8>
+        requires { HoldsWay self.old.ring self.old.counts cpu.old }
+        ensures size { self.new.ring.size ≡ self.old.ring.size }
+        ensures fits { length self.new.ring.bytes ≤ self.new.ring.size }
+        ensures none { IsHeld self.old.ring self.old.counts [] → (result ≡ None) × (cpu.new ≡ cpu.old) × IsHeld self.new.ring self.new.counts [] }
+        ensures some { (ks : List Kept) (k : Kept) → IsHeld self.old.ring self.old.counts (k ∷ ks) → (result ≡ Some (tag_of (kind k.0) k.1)) × IsHeld self.new.ring self.new.counts ks }
+        ensures back { (ks : List Kept) (k : Kept) (x : State) (m : Move) → IsHeld self.old.ring self.old.counts (k ∷ ks) → Leads x m cpu.old → overwritten x m ≡ k.0 → cpu.new ≡ x }
+    {
+        let len = self.ring.len();
+        if len < 5 {
+            return None;
+        }
+        let weight = within(self.ring.newest_len(), len);
+        let tag = self.ring.tag_at(len - weight);
+        self.ring.revert_newest(cpu, weight);
+        self.ring.drop_newest(weight);
+        self.counts.subtract(tag);
+        self.invariant();
+        Some(tag)
+    }
+
     /// Drops the newest entry, whole, where there is one.
     pub fn drop_last(&mut self)
         ensures size { self.new.ring.size ≡ self.old.ring.size }
@@ -250,6 +292,21 @@ impl EntryRing {
         self.ring.push(text);
         self.counts.add(mark, is_step);
     }
+}
+
+/// The counts of the entries of whose text a ring's bytes are, from the oldest on.
+fn counted(ring: &Ring) -> Counts
+    ensures { (ks : List Kept) → AllFit ks → ring.now.bytes ≡ ring_of ks → Counted result ks }
+{
+    let _size = ring.size();
+    let len = ring.len();
+    let mut counts = Counts::none();
+    let mut place = 0;
+    while place < len {
+        counts.add_by_tag(ring.tag_at(place));
+        place += within(ring.len_at(place), len - place);
+    }
+    counts
 }
 
 /// How many bytes an entry has.

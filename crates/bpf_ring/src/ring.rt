@@ -7,7 +7,10 @@ ghost use Rattle.bpf_entries.specs.Status.{has_ended};
 ghost use Rattle.bpf_entries.specs.Texts.{kind, tag, text};
 ghost use Rattle.bpf_entries.specs.Weights.{weight as weight_of};
 ghost use Rattle.bpf_machine.specs.Entries.{step_entry};
+ghost use Rattle.bpf_machine.specs.Moves.{HasComeBy, Leads, overwritten};
 ghost use Rattle.bpf_machine.specs.Next.{change as change_of, next};
+ghost use Rattle.bpf_machine.specs.State.{State};
+ghost use Rattle.bpf_machine.specs.declared.moves.Move.{Move};
 ghost use Rattle.bpf_entries.specs.Keeping.{IsSize};
 
 use crate::block::{place, record_around, write_around};
@@ -150,6 +153,26 @@ impl Ring {
         self.len += weight;
     }
 
+    /// Takes back the move whose entry's text the newest bytes are, so many: they are read where they lie, or from a copy where they go around
+    /// the block's end. They stay.
+    #[inline(always)]
+    pub fn revert_newest(&self, cpu: &mut Cpu, count: usize)
+        requires held { count ≤ length self.now.bytes }
+        requires light { count ≤ 280 }
+        requires come { HasComeBy cpu.old (drop (length self.now.bytes - count) self.now.bytes) }
+        ensures { (x : State) (m : Move) (mark : Bool) → Leads x m cpu.old → FitsFields (overwritten x m) → drop (length self.now.bytes - count) self.now.bytes ≡ text (overwritten x m) mark → cpu.new ≡ x }
+    {
+        let start = place(self.buffer.capacity(), self.first, self.len() - count);
+        let (block, _) = self.buffer.as_slices();
+        if start + count <= block.len() {
+            cpu.revert_text(&block[start..start + count]);
+        } else {
+            let mut scratch = [0u8; 280];
+            self.copy_newest(count, &mut scratch);
+            cpu.revert_text(&scratch[..count]);
+        }
+    }
+
     /// Drops the oldest bytes.
     pub fn drop_oldest(&mut self, n: usize)
         requires { n ≤ length self.old.bytes }
@@ -215,10 +238,19 @@ impl Ring {
 
     /// How many bytes the oldest entry has, by the first two bytes.
     pub fn oldest_len(&self) -> usize
-        requires { 2 ≤ length self.now.bytes }
         ensures { (n : ℕ) (rest : List ℕ) → n < 2 ^ 16 → self.now.bytes ≡ little_bytes 2 n ++ rest → result ≡ n }
     {
-        match (self.byte(0), self.byte(1)) {
+        self.len_at(0)
+    }
+
+    /// How many bytes an entry has that begins at a place, by the two bytes there.
+    pub fn len_at(&self, place: usize) -> usize
+        ensures { (n : ℕ) (before rest : List ℕ) → n < 2 ^ 16 → self.now.bytes ≡ before ++ (little_bytes 2 n ++ rest) → place ≡ length before → result ≡ n }
+    {
+        if place >= self.len {
+            return 0;
+        }
+        match (self.byte(place), self.byte(place + 1)) {
             (Some(low), Some(high)) => usize::from(low) + 256 * usize::from(high),
             _ => 0,
         }

@@ -1,4 +1,4 @@
-use Rattle.std.proofs.Common.{◌≡◌, ◌≤◌, ◌+◌, ◌-◌, ◌∙◌, ◌++◌, ℕ, List, length, take, drop, arith, ap, sym, subst}
+use Rattle.std.proofs.Common.{◌≡◌, ◌+◌, ◌-◌, ◌∙◌, ◌++◌, ℕ, List, length, take, drop, arith, ap, sym}
 use Rattle.std.proofs.lemmas.List.{take_at, drop_all, append-nil}
 use Rattle.bpf_entries.specs.Texts.{text}
 use Rattle.bpf_entries.specs.Weights.{weight}
