@@ -1,6 +1,6 @@
 -- What moves, refusals and going back make of the histories that a keeper stands for.
 use Rattle.std.specs.Prelude.{◌+◌, fold, cond, count_by, sum_by}
-use Rattle.std.proofs.Common.{◌≡◌, ℕ, List, [], ◌∷◌, Bool, true, false, Some, map, refl, sym, ap, subst, ◌∙◌}
+use Rattle.std.proofs.Common.{◌≡◌, ℕ, List, [], ◌∷◌, Bool, true, false, Option, Some, None, map, refl, sym, ap, subst, ◌∙◌}
 use Rattle.bpf_machine.specs.declared.edit.Edit.{Edit}
 use Rattle.bpf_machine.specs.declared.edit.Edit.TheVariants as edit
 use Rattle.bpf_entries.specs.declared.entry.Entry.{Entry}
@@ -11,16 +11,15 @@ use Rattle.bpf_machine.specs.State.{State}
 use Rattle.bpf_machine.specs.declared.change.Change.{Change}
 use Rattle.bpf_machine.specs.declared.change.Change.TheVariants.{Set, Go, Store, Fetch, Call, Return, Cell, Trace, Stop}
 use Rattle.bpf_machine.specs.declared.moves.Move.TheVariants as move
-use Rattle.bpf_machine.specs.declared.compact.CompactEntry.{CompactEntry}
-use Rattle.bpf_machine.specs.declared.compact.CompactEntry.TheVariants as compact
-use Rattle.bpf_machine.specs.Entries.{entry_of, expanded}
+use Rattle.bpf_machine.specs.Entries.{entry_of}
 use Rattle.bpf_machine.specs.Next.{change}
 use Rattle.bpf_journal.specs.EditEntries.{is_of_step}
 use Rattle.bpf_entries.specs.Keeping.{Kept, kept_weight, keep}
 use Rattle.bpf_journal.specs.Histories.{Record, IsRun, kept_of, record_weight, newest, older, is_step, StandsFor, HasHistory}
 use Rattle.bpf_journal.specs.Replaced.{replaces_bytes}
-use Rattle.bpf_journal.specs.Timelines.{Moment, Makes, Stays, GoesBack, record_of, taken_of}
-use Rattle.bpf_journal.specs.declared.timeline.Taken.{Taken}
+use Rattle.bpf_journal.specs.Timelines.{Makes, Stays, record_of}
+use Rattle.bpf_journal.specs.TakingBack.{TakesBack, taken_by, taken_of}
+use Rattle.bpf_journal.specs.declared.taken.Taken.{Taken}
 use Rattle.bpf_journal.proofs.Fitting.{map-fit, run-fit}
 
 -- the entry of a step is a step's, and that of an edit is none
@@ -50,18 +49,12 @@ pub of_move : (x : State) (m : Move) → is_of_step (overwritten x m) ≡ is_ste
 of_move x move.Step = of_change x (change x)
 of_move x (move.Edit e) = not_of_edit x e
 
-pub of_compact : (entry : CompactEntry) → is_of_step (expanded entry) ≡ true
-unfolding expanded
-of_compact (compact.Register register pc value) = refl
-of_compact (compact.Jump pc) = refl
-of_compact (compact.Store size pc address old) = refl
-of_compact (compact.Fetch size register pc address old value) = refl
-of_compact (compact.Call pc) = refl
-of_compact (compact.Trace pc r0) = refl
-of_compact compact.End = refl
-
 abbrev the_taken : Bool → Bool → Bool → Taken
 the_taken stepped mark replaced = record { is_step = stepped; mark = mark; replaced_bytes = replaced }
+
+-- a record is told by what is kept of it
+pub told : (r : Record) → taken_by (kept_of r) ≡ taken_of r
+told r = ap (λ (b : Bool). the_taken b r.mark (replaces_bytes (overwritten r.before r.move))) (of_move r.before r.move)
 
 -- the newest entry is that of the move that led here
 pub newest_came : (h : List Record) (y : State) (k : Kept) → newest (map kept_of h) ≡ Some k → IsRun h y → HasCome y k.0
@@ -95,25 +88,23 @@ module _ {K : Type 0} (holds : K → List Kept → Type 0) where
   pub history_stays : (old new : K) (x z : State) → z ≡ x → ((es : List Kept) → holds old es → holds new es) → HasHistory holds old x → HasHistory holds new z
   history_stays old new x z same push i = record { history = i.history; stands = stays_stands old new x z same push i.history i.stands }
 
-  -- the state before the newest record has a history
-  pub history_before : (h : List Record) (keeper : K) (y z : State) (k : Kept) → newest (map kept_of h) ≡ Some k → IsRun h y → holds keeper (older (map kept_of h)) → ((x : State) (m : Move) → Leads x m y → overwritten x m ≡ k.0 → z ≡ x) → HasHistory holds keeper z
-  history_before [] keeper y z k q run held back = absurd cc
-  history_before (r ∷ h) keeper y z k q run held back =
-      let is : kept_of r ≡ k = cc in
-      let same : z ≡ r.before = back r.before r.move run.0 (ap (λ e. e.0) is) in
-      record { history = h; stands = (held, subst (IsRun h) (sym same) run.1) }
-
   -- the newest record is told, and the state before it comes back
-  pub goes_back : (h : List Record) (old : Moment K) (keeper : K) (y z : State) (k : Kept) (taken : Taken) → newest (map kept_of h) ≡ Some k → taken.is_step ≡ is_of_step k.0 → taken.mark ≡ k.1 → taken.replaced_bytes ≡ replaces_bytes k.0 → IsRun h y → holds keeper (older (map kept_of h)) → ((x : State) (m : Move) → Leads x m y → overwritten x m ≡ k.0 → z ≡ x) → GoesBack holds (Some taken) h old (record { state = z; keeper = keeper })
-  goes_back [] old keeper y z k taken q stepped marked stored run held back = absurd cc
-  goes_back (r ∷ h) old keeper y z k taken q stepped marked stored run held back =
+  pub goes_back : (h : List Record) (keeper : K) (y z : State) (k : Kept) (taken : Taken) → newest (map kept_of h) ≡ Some k → taken ≡ taken_by k → IsRun h y → holds keeper (older (map kept_of h)) → ((x : State) (m : Move) → Leads x m y → overwritten x m ≡ k.0 → z ≡ x) → TakesBack holds (Some taken) h y keeper z
+  goes_back [] keeper y z k taken q by run held back = absurd cc
+  goes_back (r ∷ h) keeper y z k taken q by run held back =
       let is : kept_of r ≡ k = cc in
       let same : z ≡ r.before = back r.before r.move run.0 (ap (λ e. e.0) is) in
-      let kind : taken.is_step ≡ is_step r.move = stepped ∙ sym (ap (λ (e : Kept). is_of_step e.0) is) ∙ of_move r.before r.move in
-      let mark : taken.mark ≡ r.mark = marked ∙ sym (ap (λ (e : Kept). e.1) is) in
-      let bytes : taken.replaced_bytes ≡ replaces_bytes (overwritten r.before r.move) = stored ∙ sym (ap (λ (e : Kept). replaces_bytes e.0) is) in
-      let told : taken ≡ taken_of r = ap (λ (b : Bool). the_taken b taken.mark taken.replaced_bytes) kind ∙ ap (λ (b : Bool). the_taken (is_step r.move) b taken.replaced_bytes) mark ∙ ap (λ (b : Bool). the_taken (is_step r.move) r.mark b) bytes in
-      (ap Some told, same, (held, subst (IsRun h) (sym same) run.1))
+      (ap Some (by ∙ sym (ap taken_by is) ∙ told r), same, (held, subst (IsRun h) (sym same) run.1))
+
+  -- without a record nothing changes
+  pub stays_there : (h : List Record) (keeper : K) (y z : State) → newest (map kept_of h) ≡ None → z ≡ y → holds keeper (older (map kept_of h)) → TakesBack holds None h y keeper z
+  stays_there [] keeper y z q same held = (refl, same, (held, tt))
+  stays_there (r ∷ h) keeper y z q same held = absurd cc
+
+  -- a history is left
+  pub history_left : (h : List Record) (taken : Option Taken) (keeper : K) (y z : State) → TakesBack holds taken h y keeper z → HasHistory holds keeper z
+  history_left [] taken keeper y z back = record { history = []; stands = back.2 }
+  history_left (r ∷ h) taken keeper y z back = record { history = h; stands = back.2 }
 
 -- sums over what is kept are sums over the records
 fold_kept : (f : Kept → ℕ) (n : ℕ) (h : List Record) → fold (λ a k. a + f k) n (map kept_of h) ≡ fold (λ a r. a + f (kept_of r)) n h

@@ -5,3 +5,4 @@ pub mod Items
 pub mod Walks
 pub mod Telling
 pub mod ByteChanges
+pub mod RingKeeping

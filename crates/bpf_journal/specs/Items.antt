@@ -1,19 +1,11 @@
 -- Scaffolding: how a list keeper keeps its entries. No public contract cites this.
 use Rattle.std.specs.Prelude.{◌≡◌, ℕ, List, [], ◌∷◌, ◌++◌, if◌then◌else◌, map, reverse, sum_by, count_by}
-use Rattle.bpf_entries.specs.declared.entry.Entry.{Entry}
-use Rattle.bpf_machine.specs.Entries.{expanded}
 use Rattle.bpf_journal.specs.declared.item.Item.{Item}
-use Rattle.bpf_journal.specs.declared.item.Stored.{Stored}
-use Rattle.bpf_journal.specs.declared.item.Stored.TheVariants.{Compact, Large}
 use Rattle.bpf_entries.specs.Keeping.{Kept, kept_weight}
 
 -- What an item keeps.
-abbrev pub stored : Stored → Entry
-stored (Compact entry) = expanded entry
-stored (Large entry) = entry.value
-
 abbrev pub kept_item : Item → Kept
-kept_item item = (stored item.entry, item.mark)
+kept_item item = (item.entry.value, item.mark)
 
 -- What items keep, which lie with the oldest first.
 unfoldable pub held : List Item → List Kept

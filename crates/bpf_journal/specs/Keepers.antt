@@ -1,8 +1,6 @@
 -- What a keeper's calls say of the lists that it holds.
 use Rattle.std.specs.Prelude.{◌≡◌, ◌≤◌, ℕ, Bool, List, [], ◌∷◌, ◌++◌, Option, Some, None, Result, Ok, Err, sum_by}
-use Rattle.bpf_machine.specs.declared.compact.CompactEntry.{CompactEntry}
 use Rattle.bpf_entries.specs.declared.entry.Entry.{Entry}
-use Rattle.bpf_machine.specs.Entries.{expanded}
 use Rattle.bpf_journal.specs.Counts.{once_more}
 use Rattle.bpf_entries.specs.Keeping.{Kept, kept_weight}
 use Rattle.bpf_journal.specs.Histories.{newest, older}
@@ -13,10 +11,6 @@ abbrev pub refusals_after : {E : Type 0} → Result (Unit {0}) E → ℕ → ℕ
 refusals_after (Ok u) n = n
 refusals_after (Err e) n = once_more n
 
--- What is kept of a compact entry and a mark.
-abbrev pub kept_compact : CompactEntry → Bool → Kept
-kept_compact entry mark = (expanded entry, mark)
-
 -- A front's newest, its mark, and the place of the front without it.
 abbrev pub walked : (List Kept → ℕ) → List Kept → Option (Entry × Bool × ℕ)
 walked place [] = None
@@ -26,12 +20,6 @@ module _ {K : Type 0} (holds : K → List Kept → Type 0) where
   -- The newest is taken off; nothing changes where nothing is held.
   abbrev pub TakesNewest : K → K → Option Kept → Type 0
   TakesNewest old new result = (es : List Kept) → holds old es → (result ≡ newest es) × holds new (older es)
-
-  -- The newest is taken off where an answer is given; else nothing changes.
-  abbrev pub TakesCompact : K → K → Option (CompactEntry × Bool) → Type 0
-  TakesCompact old new None = (es : List Kept) → holds old es → holds new es
-  TakesCompact old new (Some taken) =
-      (es : List Kept) → holds old es → (newest es ≡ Some (kept_compact taken.0 taken.1)) × holds new (older es)
 
   -- The place is that of a front: of a held list without so many of its newest.
   pub record IsPlace (place : K → List Kept → ℕ) (keeper : K) (at : ℕ) : Type 0 where

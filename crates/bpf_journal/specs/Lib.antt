@@ -4,8 +4,10 @@ pub mod Histories
 pub mod EditEntries
 pub mod Keepers
 pub mod Places
+pub mod Rings
 pub mod Items
 pub mod Reverting
+pub mod TakingBack
 pub mod Timelines
 pub mod Laws
 pub mod Replaced

@@ -1,16 +1,16 @@
 -- A state with the keeper of the moves that led to it: what a move leaves of both, and what going back leaves.
-use Rattle.std.specs.Prelude.{◌≡◌, ℕ, Bool, List, [], ◌∷◌, Option, Some, None, Result, Err}
+use Rattle.std.specs.Prelude.{◌≡◌, ℕ, Bool, List, Option, Result, Err}
 use Rattle.bpf_machine.specs.declared.moves.Move.{Move}
-use Rattle.bpf_machine.specs.Moves.{IsMovable, Leads, overwritten}
+use Rattle.bpf_machine.specs.Moves.{IsMovable, Leads}
 use Rattle.bpf_machine.specs.State.{State}
 use Rattle.bpf_journal.specs.declared.fault.TimelineFault.{TimelineFault}
 use Rattle.bpf_journal.specs.declared.fault.TimelineFault.TheVariants as fault
 use Rattle.bpf_journal.specs.Counts.{once_more}
-use Rattle.bpf_journal.specs.declared.timeline.Taken.{Taken}
+use Rattle.bpf_journal.specs.declared.taken.Taken.{Taken}
 use Rattle.bpf_entries.specs.Keeping.{Kept, keep}
-use Rattle.bpf_journal.specs.Histories.{Record, is_step, record_weight, StandsFor}
-use Rattle.bpf_journal.specs.Replaced.{replaces_bytes}
+use Rattle.bpf_journal.specs.Histories.{Record, record_weight, StandsFor}
 use Rattle.bpf_journal.specs.Reverting.{RefusesMove}
+use Rattle.bpf_journal.specs.TakingBack.{TakesBack}
 
 -- A state and the keeper.
 pub record Moment (K : Type 0) : Type 0 where
@@ -20,10 +20,6 @@ pub record Moment (K : Type 0) : Type 0 where
 -- The record of a move.
 abbrev pub record_of : State → Move → Bool → Record
 record_of x m mark = record { before = x; move = m; mark = mark }
-
--- What is told of a record whose move was taken back.
-abbrev pub taken_of : Record → Taken
-taken_of r = record { is_step = is_step r.move; mark = r.mark; replaced_bytes = replaces_bytes (overwritten r.before r.move) }
 
 module _ {K : Type 0} (holds : K → List Kept → Type 0) where
   -- A moment stands for a history.
@@ -45,10 +41,9 @@ module _ {K : Type 0} (holds : K → List Kept → Type 0) where
   Fails m old new (fault.Move f) = RefusesMove old.state m f × (new ≡ old)
   Fails m old new fault.OutOfMemory = IsMovable old.state m × Stays old new
 
-  -- The newest record is looked up: its state comes back, and the history in front of it is left. Without a record nothing changes.
+  -- The newest record's move is taken back.
   abbrev pub GoesBack : Option Taken → List Record → Moment K → Moment K → Type 0
-  GoesBack taken [] old new = (taken ≡ None) × (new.state ≡ old.state) × StandsAt new []
-  GoesBack taken (r ∷ h) old new = (taken ≡ Some (taken_of r)) × (new.state ≡ r.before) × StandsAt new h
+  GoesBack taken h old new = TakesBack holds taken h old.state new.keeper new.state
 
 -- What a move that was tried does to the number of refusals: one more where the keeper refused it.
 abbrev pub refusals_by : {A : Type 0} → Result A TimelineFault → ℕ → ℕ

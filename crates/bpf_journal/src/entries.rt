@@ -3,10 +3,8 @@ ghost use Rattle.std.specs.Prelude.{◌≡◌, ◌≤◌, ◌<◌, ◌^◌, ◌+
 ghost use Rattle.bpf_entries.specs.Keeping.{Kept, kept_weight, fit};
 ghost use Rattle.bpf_journal.specs.Histories.{newest};
 ghost use Rattle.bpf_journal.specs.Items.{kept_item, marks, LosesOldest};
-ghost use Rattle.bpf_journal.specs.Keepers.{kept_compact};
 
 use crate::item::Item;
-use bpf_machine::CompactEntry;
 use std::alloc::{AllocError, Global};
 use std::collections::VecDeque;
 use std::marker::Model;
@@ -136,16 +134,6 @@ impl Entries {
         ensures { option_map (λ item. kept_item item.now) result ≡ newest self.now }
     {
         self.items.back()
-    }
-
-    /// The newest, where it is compact.
-    pub fn newest_compact(&self) -> Option<(CompactEntry, bool)>
-        ensures { IfSome result (λ taken. newest self.now ≡ Some (kept_compact taken.0 taken.1)) }
-    {
-        match self.newest() {
-            Some(item) => item.as_compact(),
-            None => None,
-        }
     }
 
     /// The entry that has so many older ones.

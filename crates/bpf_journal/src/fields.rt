@@ -1,53 +1,10 @@
 //! Which entries are steps', and that the parts of each fit their fields.
-ghost use Rattle.std.specs.Prelude.{◌≡◌, false, if◌then◌else◌, ◌<◌, ◌≤◌, ◌^◌, All};
-ghost use Rattle.bpf_machine.specs.Entries.{expanded};
+ghost use Rattle.std.specs.Prelude.{◌≡◌, false, if◌then◌else◌, ◌<◌, All};
 ghost use Rattle.bpf_entries.specs.Fields.{FitsBytes, FitsFields};
 ghost use Rattle.bpf_entries.specs.Status.{FitsStatus};
 ghost use Rattle.bpf_journal.specs.EditEntries.{is_of_step as is_of_step_of};
 
-use bpf_machine::{ByteString, CompactEntry, Entry, Fault, Status};
-
-/// Brings into a proof that each compact entry fits its fields.
-#[tactic(auto, unfolding(bpf_machine::specs::Entries::expanded))]
-pub fn compact_fits(entry: &CompactEntry)
-    ensures { FitsFields (expanded entry.now) }
-{
-    match *entry {
-        CompactEntry::Register {
-            register,
-            pc: _pc,
-            value: _value,
-        } => {
-            let _number = register.number();
-        }
-        CompactEntry::Jump { pc } => slot_fits(pc),
-        CompactEntry::Store {
-            size,
-            pc: _pc,
-            address: _address,
-            old: _old,
-        } => {
-            let _len = size.len();
-        }
-        CompactEntry::Fetch {
-            size,
-            register,
-            pc: _pc,
-            address: _address,
-            old: _old,
-            value: _value,
-        } => {
-            let _len = size.len();
-            let _number = register.number();
-        }
-        CompactEntry::Call { pc } => slot_fits(pc),
-        CompactEntry::Trace { pc, r0 } => {
-            slot_fits(pc);
-            number_fits(r0);
-        }
-        CompactEntry::End => {}
-    }
-}
+use bpf_machine::{ByteString, Entry, Fault, Status};
 
 /// Brings into a proof that the entry of an edit fits its fields.
 pub fn edit_fits(entry: &Entry)
@@ -86,20 +43,6 @@ pub fn step_count(entry: &Entry) -> u64
     ensures { result ≡ (if is_of_step_of entry.now then 1 else 0) }
 {
     if is_of_step(entry) { 1 } else { 0 }
-}
-
-/// Brings the range of a slot into a proof.
-fn slot_fits(pc: u16)
-    ensures { pc < 2 ^ 16 }
-{
-    let _pc = pc;
-}
-
-/// Brings the range of a number into a proof.
-fn number_fits(number: u64)
-    ensures { number < 2 ^ 64 }
-{
-    let _number = number;
 }
 
 /// Brings the number and the range of bytes into a proof.

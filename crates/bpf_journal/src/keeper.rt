@@ -1,12 +1,17 @@
 //! Keepers hold the entries and marks of moves, the newest ones that fit a journal's size.
-ghost use Rattle.std.specs.Prelude.{◌≡◌, ◌<◌, ◌^◌, ◌++◌, ℕ, List, length, sum_by, count_by, OnOk, OnErr};
+ghost use Rattle.std.specs.Prelude.{◌≡◌, ◌<◌, ◌^◌, ◌++◌, ℕ, List, length, sum_by, count_by, OnOk, OnErr, false};
 ghost use Rattle.bpf_entries.specs.Fields.{FitsFields};
 ghost use Rattle.bpf_entries.specs.Keeping.{Kept, kept_weight, keep};
-ghost use Rattle.bpf_journal.specs.Histories.{newest};
-ghost use Rattle.bpf_journal.specs.Keepers.{IsPlace, IsWithin, PlacesDiffer, TakesCompact, TakesNewest, WalksBack, kept_compact, refusals_after};
+ghost use Rattle.bpf_entries.specs.Status.{has_ended};
+ghost use Rattle.bpf_machine.specs.Entries.{step_entry};
+ghost use Rattle.bpf_machine.specs.Next.{change as change_of, next};
+ghost use Rattle.bpf_journal.specs.Histories.{HasHistory, Record, StandsFor, newest};
+ghost use Rattle.bpf_journal.specs.TakingBack.{TakesBack};
+ghost use Rattle.bpf_journal.specs.Keepers.{IsPlace, IsWithin, PlacesDiffer, TakesNewest, WalksBack, refusals_after};
 
-use crate::fields::compact_fits;
-use bpf_machine::{CompactEntry, Entry};
+use crate::taken::Taken;
+use bpf_machine::laws::entries_fit;
+use bpf_machine::{Change, Cpu, Entry};
 use std::alloc::AllocError;
 
 /// Keeps the newest entries of moves, in a journal of some size. Its content is a list of entries and marks, the newest first, and it
@@ -33,16 +38,28 @@ pub trait Keeper {
         ensures refused { refused self.new ≡ refusals_after result (refused self.old) }
         ensures room { room self.new ≡ room self.old };
 
-    /// The same of a compact entry, which fits its fields. A keeper that keeps such entries as they are writes this anew; by itself it
-    /// pushes the entry that is meant.
-    fn push_compact(&mut self, entry: &CompactEntry, mark: bool) -> Result<(), AllocError>
-        ensures ok { OnOk result ((es : List Kept) → holds self.old es → holds self.new (keep kept_weight (room self.old) es (kept_compact entry.now mark))) }
+    /// Lets a machine take the step that `look` answered of it, and keeps the entry of that step, as `push` does. Where the entry is refused
+    /// the machine stays as well. A keeper that writes an entry where it is kept writes this anew; by itself it makes the entry and pushes it.
+    fn record(&mut self, cpu: &mut Cpu, change: &Change, mark: bool) -> Result<(), AllocError>
+        requires runs { has_ended cpu.old.status ≡ false }
+        requires looked { change.now ≡ change_of cpu.old }
+        ensures ok { OnOk result ((es : List Kept) → holds self.old es → holds self.new (keep kept_weight (room self.old) es (step_entry cpu.old, mark))) }
+        ensures stepped { OnOk result (cpu.new ≡ next cpu.old) }
         ensures err { OnErr result ((es : List Kept) → holds self.old es → holds self.new es) }
+        ensures stays { OnErr result (cpu.new ≡ cpu.old) }
         ensures refused { refused self.new ≡ refusals_after result (refused self.old) }
         ensures room { room self.new ≡ room self.old }
     {
-        compact_fits(entry);
-        self.push(&entry.expanded(), mark)
+        cpu.invariant();
+        entries_fit();
+        let entry = cpu.entry(change);
+        match self.push(&entry, mark) {
+            Ok(()) => {
+                cpu.commit(change);
+                Ok(())
+            }
+            Err(_) => Err(AllocError),
+        }
     }
 
     /// How many pushes were refused. It stays once at 2^64 - 1.
@@ -59,14 +76,21 @@ pub trait Keeper {
         ensures refused { refused self.new ≡ refused self.old }
         ensures room { room self.new ≡ room self.old };
 
-    /// Takes the newest entry off where it is kept as a compact one, which by itself none is. None says nothing of what is held: ask
-    /// `pop` then.
-    fn pop_compact(&mut self) -> Option<(CompactEntry, bool)>
-        ensures taken { TakesCompact holds self.old self.new result }
+    /// Takes the newest entry off and takes its move back: the machine is as it was before that move. Answers what move it was, None where
+    /// nothing is held. A keeper that reads an entry where it is kept writes this anew; by itself it pops the entry and reverts it.
+    fn take_back(&mut self, cpu: &mut Cpu) -> Option<Taken>
+        requires way { HasHistory holds self.old cpu.old }
+        ensures back { (h : List Record) → StandsFor holds self.old cpu.old h → TakesBack holds result h cpu.old self.new cpu.new }
         ensures refused { refused self.new ≡ refused self.old }
         ensures room { room self.new ≡ room self.old }
     {
-        None
+        match self.pop() {
+            Some((entry, mark)) => {
+                cpu.revert(&entry);
+                Some(Taken::of(&entry, mark))
+            }
+            None => None,
+        }
     }
 
     /// How many entries are held.

@@ -10,6 +10,9 @@ pub mod laws;
 mod list_keeper;
 mod replaced;
 mod reversible;
+mod ring_keeper;
+mod size;
+mod taken;
 mod timeline;
 
 pub use bpf_machine::Move;
@@ -17,4 +20,6 @@ pub use fault::{JournalFault, MoveFault, TimelineFault};
 pub use keeper::Keeper;
 pub use list_keeper::ListKeeper;
 pub use reversible::Reversible;
-pub use timeline::{ByteChange, Taken, Timeline};
+pub use ring_keeper::RingKeeper;
+pub use taken::Taken;
+pub use timeline::{ByteChange, Timeline};

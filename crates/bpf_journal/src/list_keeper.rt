@@ -6,16 +6,11 @@ ghost use Rattle.bpf_entries.specs.Keeping.{IsSize};
 
 use crate::entries::Entries;
 use crate::fault::JournalFault;
-use crate::fields::compact_fits;
 use crate::item::Item;
 use crate::keeper::Keeper;
-use bpf_machine::{CompactEntry, Entry};
+use crate::size::is_size;
+use bpf_machine::Entry;
 use std::alloc::{AllocError, Global};
-
-/// The sizes of a journal, in bytes.
-const LEAST_SIZE: usize = 1_024;
-
-const GREATEST_SIZE: usize = 16_777_216;
 
 /// Keeps entries in a growing list. A push takes memory now and then, and moves no entry but the one that it keeps; each entry that
 /// it drops was pushed once, so that many pushes cost as much each whatever the journal's size is.
@@ -42,7 +37,7 @@ impl ListKeeper {
         ensures refused { IfOk result (λ keeper. ⟦<ListKeeper as Keeper>⟧.refused keeper ≡ 0) }
         ensures err { IfErr result (λ fault. (fault ≡ JournalFault.SizeOutOfRange) × (¬ IsSize size)) }
     {
-        if size < LEAST_SIZE || size > GREATEST_SIZE {
+        if !is_size(size) {
             return Err(JournalFault::SizeOutOfRange);
         }
         Ok(ListKeeper {
@@ -101,15 +96,10 @@ impl Keeper for ListKeeper {
     ghost apart = { λ k n m a b held same count. ends_apart n m a b same count };
 
     fn push(&mut self, entry: &Entry, mark: bool) -> Result<(), AllocError> {
-        match Item::large(self.alloc, entry, mark) {
+        match Item::new(self.alloc, entry, mark) {
             Ok(item) => self.keep(item),
             Err(AllocError) => self.refuse(),
         }
-    }
-
-    fn push_compact(&mut self, entry: &CompactEntry, mark: bool) -> Result<(), AllocError> {
-        compact_fits(entry);
-        self.keep(Item::compact(entry, mark))
     }
 
     fn refusals(&self) -> u64 {
@@ -126,16 +116,6 @@ impl Keeper for ListKeeper {
     fn pop(&mut self) -> Option<(Entry, bool)> {
         match self.entries.pop() {
             Some(item) => Some(item.taken()),
-            None => None,
-        }
-    }
-
-    fn pop_compact(&mut self) -> Option<(CompactEntry, bool)> {
-        match self.entries.newest_compact() {
-            Some(taken) => {
-                let _ = self.entries.pop();
-                Some(taken)
-            }
             None => None,
         }
     }

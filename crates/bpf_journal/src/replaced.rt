@@ -1,10 +1,10 @@
 //! The bytes of memory that moves replaced, as their entries tell them.
 ghost use Rattle.std.specs.Prelude.{◌≡◌, ℕ, Some};
-ghost use Rattle.bpf_machine.specs.Entries.{entry_of, expanded};
+ghost use Rattle.bpf_machine.specs.Entries.{entry_of};
 ghost use Rattle.bpf_machine.specs.State.{State};
 ghost use Rattle.bpf_journal.specs.Replaced.{byte_before as byte_before_of, byte_in as byte_in_run, replaces_bytes as replaces_bytes_of};
 
-use bpf_machine::{Change, CompactEntry, Entry};
+use bpf_machine::{Change, Entry};
 
 /// Whether a move with this entry replaced bytes.
 pub fn replaces_bytes(entry: &Entry) -> bool
@@ -13,17 +13,6 @@ pub fn replaces_bytes(entry: &Entry) -> bool
     match entry.replaced() {
         Some(_) => true,
         None => false,
-    }
-}
-
-/// The same of a step with this compact entry.
-#[tactic(auto, unfolding(bpf_machine::specs::Entries::expanded))]
-pub fn compact_replaces_bytes(entry: &CompactEntry) -> bool
-    ensures { result ≡ replaces_bytes_of (expanded entry.now) }
-{
-    match entry {
-        CompactEntry::Store { .. } | CompactEntry::Fetch { .. } => true,
-        _ => false,
     }
 }
 

@@ -15,24 +15,12 @@ ghost use Rattle.bpf_machine.specs.ByAddress.{byte};
 ghost use Rattle.bpf_journal.specs.Timelines.{Moment, Makes, Fails, GoesBack, refusals_by};
 
 use crate::fault::{MoveFault, TimelineFault};
-use crate::fields::{edit_fits, is_of_step, step_count};
+use crate::fields::{edit_fits, step_count};
 use crate::keeper::Keeper;
-use crate::replaced::{byte_before, change_replaces_bytes, compact_replaces_bytes, replaces_bytes};
-use bpf_machine::laws::entries_fit;
-use bpf_machine::{Change, Cpu, Edit, Ended, Move};
-use std::alloc::AllocError;
+use crate::replaced::{byte_before, change_replaces_bytes};
+use crate::taken::Taken;
+use bpf_machine::{Cpu, Edit, Ended, Move};
 use std::marker::Model;
-
-/// A move that was taken back.
-#[derive(Clone, Copy)]
-pub struct Taken {
-    /// Whether it was a step, and no edit.
-    pub is_step: bool,
-    /// Whether it was the first move of a command.
-    pub mark: bool,
-    /// Whether it had replaced bytes of memory.
-    pub replaced_bytes: bool,
-}
 
 /// A move that changed the value of a byte.
 #[derive(Clone, Copy)]
@@ -163,13 +151,11 @@ impl<K: Keeper> Timeline<K> {
             Ok(change) => change,
             Err(Ended) => return Err(TimelineFault::Move(MoveFault::Ended)),
         };
-        match push_step(&self.cpu, &mut self.keeper, &change, mark) {
-            Ok(()) => {
-                self.cpu.commit(&change);
-                Ok(change_replaces_bytes(&change))
-            }
-            Err(_) => Err(TimelineFault::OutOfMemory),
+        match self.keeper.record(&mut self.cpu, &change, mark) {
+            Ok(()) => {}
+            Err(_) => return Err(TimelineFault::OutOfMemory),
         }
+        Ok(change_replaces_bytes(&change))
     }
 
     /// Makes an edit and keeps it. Nothing changes where the edit is refused; where the keeper refuses, it is taken back.
@@ -216,69 +202,8 @@ impl<K: Keeper> Timeline<K> {
         ensures refused { K.refused self.new.keeper ≡ K.refused self.old.keeper }
         ensures room { K.room self.new.keeper ≡ K.room self.old.keeper }
     {
-        match self.keeper.pop_compact() {
-            Some((entry, mark)) => {
-                self.cpu.revert_compact(&entry);
-                Some(Taken {
-                    is_step: true,
-                    mark,
-                    replaced_bytes: compact_replaces_bytes(&entry),
-                })
-            }
-            None => match self.keeper.pop() {
-                Some((entry, mark)) => {
-                    self.cpu.revert(&entry);
-                    Some(Taken {
-                        is_step: is_of_step(&entry),
-                        mark,
-                        replaced_bytes: replaces_bytes(&entry),
-                    })
-                }
-                None => None,
-            },
-        }
+        self.keeper.take_back(&mut self.cpu)
     }
-}
-
-/// Keeps the entry of the step that a machine is about to take.
-fn push_step<K: Keeper>(
-    cpu: &Cpu,
-    keeper: &mut K,
-    change: &Change,
-    mark: bool,
-) -> Result<(), AllocError>
-    requires runs { has_ended cpu.now.status ≡ false }
-    requires looked { change.now ≡ change_of cpu.now }
-    ensures ok { OnOk result ((es : List Kept) → K.holds keeper.old es → K.holds keeper.new (keep kept_weight (K.room keeper.old) es (step_entry cpu.now, mark))) }
-    ensures err { OnErr result ((es : List Kept) → K.holds keeper.old es → K.holds keeper.new es) }
-    ensures refused { K.refused keeper.new ≡ refusals_after result (K.refused keeper.old) }
-    ensures room { K.room keeper.new ≡ K.room keeper.old }
-{
-    match cpu.compact(change) {
-        Some(entry) => keeper.push_compact(&entry, mark),
-        None => push_large(cpu, keeper, change, mark),
-    }
-}
-
-/// The same, where the entry has no compact form.
-#[inline(never)]
-fn push_large<K: Keeper>(
-    cpu: &Cpu,
-    keeper: &mut K,
-    change: &Change,
-    mark: bool,
-) -> Result<(), AllocError>
-    requires runs { has_ended cpu.now.status ≡ false }
-    requires looked { change.now ≡ change_of cpu.now }
-    ensures ok { OnOk result ((es : List Kept) → K.holds keeper.old es → K.holds keeper.new (keep kept_weight (K.room keeper.old) es (step_entry cpu.now, mark))) }
-    ensures err { OnErr result ((es : List Kept) → K.holds keeper.old es → K.holds keeper.new es) }
-    ensures refused { K.refused keeper.new ≡ refusals_after result (K.refused keeper.old) }
-    ensures room { K.room keeper.new ≡ K.room keeper.old }
-{
-    cpu.invariant();
-    entries_fit();
-    let entry = cpu.entry(change);
-    keeper.push(&entry, mark)
 }
 
 /// How many entries that a keeper holds are of steps, counted up to `most`, the newest first.

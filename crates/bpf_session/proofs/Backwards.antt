@@ -9,8 +9,9 @@ use Rattle.bpf_entries.specs.Keeping.{Kept}
 use Rattle.bpf_journal.specs.Histories.{Record, IsRun, is_step}
 use Rattle.bpf_journal.specs.Lookups.{Test, latest, state_before}
 use Rattle.bpf_journal.proofs.Telling.{kept_bytes}
-use Rattle.bpf_journal.specs.Timelines.{GoesBack, taken_of}
-use Rattle.bpf_journal.specs.declared.timeline.Taken.{Taken}
+use Rattle.bpf_journal.specs.TakingBack.{taken_of}
+use Rattle.bpf_journal.specs.Timelines.{GoesBack}
+use Rattle.bpf_journal.specs.declared.taken.Taken.{Taken}
 use Rattle.bpf_session.specs.Points.{Point}
 use Rattle.bpf_session.specs.Outcomes.{Outcome, unless_refused}
 use Rattle.bpf_session.specs.Refused.{when, refusals_of}

@@ -4,7 +4,7 @@ ghost use Rattle.bpf_journal.specs.Keepers.{refusals_after};
 
 use crate::play::{machine, plays, stop_unless};
 use bpf_journal::{Keeper, ListKeeper};
-use bpf_machine::{CompactEntry, Entry};
+use bpf_machine::Entry;
 use bpf_session::Session;
 use std::alloc::{AllocError, Global};
 use std::process::Abort;
@@ -55,16 +55,6 @@ impl<K: Keeper> Keeper for Narrow<K> {
         self.refuse()
     }
 
-    fn push_compact(&mut self, entry: &CompactEntry, mark: bool) -> Result<(), AllocError> {
-        if self.kept.len() < self.most {
-            match self.kept.push_compact(entry, mark) {
-                Ok(()) => return Ok(()),
-                Err(AllocError) => {}
-            }
-        }
-        self.refuse()
-    }
-
     fn refusals(&self) -> u64 {
         self.refusals
     }
@@ -75,10 +65,6 @@ impl<K: Keeper> Keeper for Narrow<K> {
 
     fn pop(&mut self) -> Option<(Entry, bool)> {
         self.kept.pop()
-    }
-
-    fn pop_compact(&mut self) -> Option<(CompactEntry, bool)> {
-        self.kept.pop_compact()
     }
 
     fn len(&self) -> usize {

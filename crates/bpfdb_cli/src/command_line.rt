@@ -4,6 +4,7 @@ ghost use Rattle.clap.specs.Words.{app_of, rule_of, with_subcommand};
 ghost use Rattle.bpfdb_cli.specs.CommandLine.{asm_app, bare_app, check_app, command_app, debug_app, disasm_app, file_rule, journal_rule, listing_rule, maps_rule, mem_rule, run_app, steps_rule};
 
 use crate::help;
+use bpfdb_limits::GREATEST_COUNT;
 use clap::{Arg, ArgAction, Command, value_parser};
 use std::alloc::{AllocError, Global};
 
@@ -54,7 +55,7 @@ fn steps_option<'a>(alloc: Global) -> Arg<'a>
     Arg::new(alloc, "steps")
         .long("steps")
         .value_name("N")
-        .value_parser(value_parser!(u64).range(1..=1_000_000_000))
+        .value_parser(value_parser!(u64).range(1..=GREATEST_COUNT.cast_signed()))
         .default_value("1000000")
         .help(help::STEPS)
         .long_help(help::STEPS_LONG)

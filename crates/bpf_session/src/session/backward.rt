@@ -2,7 +2,7 @@
 ghost use Rattle.std.specs.Prelude.{◌≡◌, ◌≤◌, List, Ok, if◌then◌else◌, ◌==◌};
 ghost use Rattle.bpf_machine.specs.State.{State, depth};
 ghost use Rattle.bpf_journal.specs.Histories.{Record};
-ghost use Rattle.bpf_journal.specs.Timelines.{taken_of};
+ghost use Rattle.bpf_journal.specs.TakingBack.{taken_of};
 ghost use Rattle.bpf_session.specs.Backward.{back, passes, to_latest};
 ghost use Rattle.bpf_session.specs.Outcomes.{unless_refused};
 ghost use Rattle.bpf_session.specs.Refused.{refusals_of};

@@ -1,0 +1,147 @@
+//! The keeper that keeps entries as their bytes, in one ring of the journal's size.
+ghost use Rattle.std.specs.Prelude.{◌≡◌, ◌≤◌, [], List, length, sum_by, IfOk, IfErr, OnOk, slice_get};
+ghost use Rattle.bpf_entries.specs.Keeping.{IsSize, Kept, kept_weight};
+ghost use Rattle.bpf_entries.specs.Rings.{AllFit, ring as ring_of};
+ghost use Rattle.bpf_journal.specs.Opening.{RefusesSize};
+
+use crate::fault::JournalFault;
+use crate::keeper::Keeper;
+use crate::size::is_size;
+use crate::taken::Taken;
+use bpf_machine::{Change, Cpu, Entry};
+use bpf_ring::EntryRing;
+use circular_buffer::HeapCircularBuffer;
+use std::alloc::{AllocError, Global};
+
+/// Keeps entries in one ring of bytes, one entry after another. It takes all its memory when it is opened, so that no push is ever refused.
+#[derive(Drop)]
+pub struct RingKeeper {
+    entries: EntryRing,
+    ghost sized: { IsSize entries.ring.size },
+    ghost fits: { length entries.ring.bytes ≤ entries.ring.size },
+}
+
+impl RingKeeper {
+    /// A keeper for a journal of this many bytes, 1,024 to 16,777,216, that holds nothing. It takes all the memory that it will ever need.
+    pub fn open(alloc: Global, size: usize) -> Result<RingKeeper, JournalFault>
+        ensures size { OnOk result (IsSize size) }
+        ensures room { IfOk result (λ keeper. ⟦<RingKeeper as Keeper>⟧.room keeper ≡ size) }
+        ensures empty { IfOk result (λ keeper. ⟦<RingKeeper as Keeper>⟧.holds keeper []) }
+        ensures err { IfErr result (RefusesSize size) }
+    {
+        if !is_size(size) {
+            return Err(JournalFault::SizeOutOfRange);
+        }
+        match EntryRing::open(alloc, size) {
+            Ok(entries) => {
+                entries.invariant();
+                Ok(RingKeeper { entries })
+            }
+            Err(_) => Err(JournalFault::OutOfMemory),
+        }
+    }
+
+    /// A keeper of a ring that `into_ring` gave, or of any other whose bytes are the text of a list of entries: it is for a journal of the ring's
+    /// capacity, and holds that list. It takes no memory.
+    pub fn from_ring(ring: HeapCircularBuffer<u8>) -> RingKeeper
+        requires { IsSize ring.capacity }
+        ensures room { ⟦<RingKeeper as Keeper>⟧.room result ≡ ring.capacity }
+        ensures held { (es : List Kept) → AllFit es → ring.items ≡ ring_of es → ⟦<RingKeeper as Keeper>⟧.holds result es }
+    {
+        let entries = EntryRing::from_buffer(ring);
+        entries.invariant();
+        RingKeeper { entries }
+    }
+
+    /// The byte at an index, the oldest first; None at and after the end.
+    pub fn byte(&self, index: usize) -> Option<u8>
+        ensures { (es : List Kept) → ⟦<RingKeeper as Keeper>⟧.holds self.now es → result ≡ slice_get (ring_of es) index }
+    {
+        self.entries.byte(index)
+    }
+
+    /// Gives the ring up as a circular buffer of the journal's size with the same bytes. It takes no memory.
+    pub fn into_ring(self) -> HeapCircularBuffer<u8>
+        ensures size { result.capacity ≡ ⟦<RingKeeper as Keeper>⟧.room self }
+        ensures sized { IsSize result.capacity }
+        ensures bytes { (es : List Kept) → ⟦<RingKeeper as Keeper>⟧.holds self es → AllFit es × (result.items ≡ ring_of es) }
+    {
+        let RingKeeper { entries } = self;
+        entries.into_buffer()
+    }
+}
+
+impl Keeper for RingKeeper {
+    ghost use Rattle.std.proofs.Common.{arith};
+    ghost use Rattle.bpf_journal.specs.Rings.{within_ring, fronts_apart};
+    ghost use Rattle.bpf_ring.specs.Held.{IsHeld};
+
+    ghost holds = { λ k es. IsHeld k.entries.ring k.entries.counts es };
+
+    ghost room = { λ k. k.entries.ring.size };
+
+    ghost refused = { λ k. 0 };
+
+    ghost place = { λ k front. sum_by kept_weight front };
+
+    ghost counted = { λ k. omega arith };
+
+    ghost within = { λ k es held. within_ring k.entries.ring k.entries.counts es held k.sized k.fits };
+
+    ghost apart = { λ k n m a b held same weigh. fronts_apart n m a b same weigh };
+
+    fn push(&mut self, entry: &Entry, mark: bool) -> Result<(), AllocError> {
+        self.entries.push(entry, mark);
+        Ok(())
+    }
+
+    #[inline(always)]
+    fn record(&mut self, cpu: &mut Cpu, change: &Change, mark: bool) -> Result<(), AllocError> {
+        self.entries.record(cpu, change, mark);
+        Ok(())
+    }
+
+    fn refusals(&self) -> u64 {
+        0
+    }
+
+    #[inline(always)]
+    fn take_back(&mut self, cpu: &mut Cpu) -> Option<Taken> {
+        match self.entries.take_back(cpu) {
+            Some(tag) => Some(Taken::of_tag(tag)),
+            None => None,
+        }
+    }
+
+    fn last(&self) -> Option<(Entry, bool)> {
+        self.entries.last()
+    }
+
+    fn pop(&mut self) -> Option<(Entry, bool)> {
+        self.entries.pop()
+    }
+
+    fn len(&self) -> usize {
+        self.entries.len()
+    }
+
+    fn marked(&self) -> usize {
+        self.entries.marked()
+    }
+
+    fn weight(&self) -> usize {
+        self.entries.weight()
+    }
+
+    fn capacity(&self) -> usize {
+        self.entries.capacity()
+    }
+
+    fn end(&self) -> usize {
+        self.entries.end()
+    }
+
+    fn walk_back(&self, at: usize) -> Option<(Entry, bool, usize)> {
+        self.entries.walk_back(at)
+    }
+}
