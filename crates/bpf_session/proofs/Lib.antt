@@ -10,3 +10,4 @@ pub mod Obeying
 pub mod Running
 pub mod Tables
 pub mod Watching
+mod WholeScripts

@@ -1,5 +1,5 @@
 -- Facts about the meaning of commands and of scripts, in the words of those who use them.
-use Rattle.std.specs.Prelude.{◌≡◌, ◌≢◌, ◌<◌, ◌≤◌, ◌-◌, ◌^◌, ◌+◌, ◌⊎◌, ◌↔◌, if◌then◌else◌, ℕ, suc, Bool, true, false, List, [], ◌∷◌, length, map, min, take, drop, count_by, slice_get, Option, Some, Ok, Err, IsTrue, option_map}
+use Rattle.std.specs.Prelude.{◌≡◌, ◌≢◌, ◌<◌, ◌≤◌, ◌-◌, ◌^◌, ◌+◌, ◌⊎◌, ◌↔◌, if◌then◌else◌, ℕ, suc, Bool, true, false, List, [], ◌∷◌, length, map, min, take, drop, count_by, slice_get, Option, Some, None, Result, Ok, Err, IsTrue, option_map}
 use Rattle.bpf_session.specs.Points.{Point, Bounds}
 use Rattle.bpf_session.specs.Forward.{state_after}
 use Rattle.bpf_machine.specs.State.{State, depth}
@@ -10,7 +10,10 @@ use Rattle.bpf_session.specs.Stops.{breaks_at, watch_differs}
 use Rattle.bpf_session.specs.Refused.{refusals_of}
 use Rattle.bpfdb_commands.specs.Refusals.{number_of}
 use Rattle.bpf_session.specs.Meaning.{does}
-use Rattle.bpf_session.specs.Sessions.{refusals_after_all}
+use Rattle.bpf_entries.specs.Keeping.{Kept}
+use Rattle.bpf_session.specs.Outcomes.{Outcome}
+use Rattle.bpf_session.specs.Runs.{Exchange, Prints, PrintsWhole, Standing}
+use Rattle.bpf_session.specs.Sessions.{HasPast, Obeys, SessionValue, StandsAt, point_of, refusals_after_all}
 use Rattle.bpf_session.specs.Output.{walk}
 use Rattle.bpfdb_commands.specs.declared.command.Command.{Command}
 use Rattle.bpfdb_commands.specs.declared.command.Command.TheVariants as command
@@ -19,6 +22,8 @@ use Rattle.bpfdb_commands.specs.declared.command.Goal.TheVariants as goal
 use Rattle.bpfdb_commands.specs.declared.command.Target.{Target}
 use Rattle.bpfdb_commands.specs.declared.command.Target.TheVariants as target
 use Rattle.bpfdb_commands.specs.declared.refusal.Refusal.{Refusal}
+use Rattle.bpfdb_commands.specs.declared.refusal.Refusal.TheVariants.{OutOfMemory}
+use Rattle.bpf_session.specs.declared.reply.Reply.{Reply}
 use Rattle.bpfdb_replies.specs.declared.why.Why.{Why}
 use Rattle.bpf_session.specs.declared.reply.Reply.TheVariants.{Forward, Back}
 use Rattle.bpfdb_replies.specs.declared.why.Why.TheVariants.{End, Break, Watch, Done, Limit, Memory, Start}
@@ -201,3 +206,28 @@ UndoGoesToTheMark = (gap : Option ℕ) (b : Bounds) (n : ℕ) (p : Point) → 1 
 abbrev pub NothingRefusedNothingMissing : Type 0
 NothingRefusedNothingMissing = (gaps : List (Option ℕ)) (refusals : ℕ) (b : Bounds) (lines : List (List ℕ)) (p : Point)
     → refusals < 2 ^ 64 - 1 → refusals_after_all gaps refusals ≡ refusals → walk gaps b lines p ≡ walk [] b lines p
+
+-- The same of a whole script, by what its run leaves.
+abbrev pub NothingRefusedAllPrinted : Type 0
+NothingRefusedAllPrinted = (from to : Standing) (x : Exchange)
+    → from.refusals < 2 ^ 64 - 1 → to.refusals ≡ from.refusals → Prints from to x → PrintsWhole from to x
+
+-- A keeper that refuses no push, as one that takes all its memory when it is opened: its count of refusals is 0, whatever it holds.
+abbrev pub RefusesNone : {K : Type 0} → (K → ℕ) → Type 0
+RefusesNone {K = K} refused = (keeper : K) → refused keeper ≡ 0
+
+module _ {K : Type 0} (holds : K → List Kept → Type 0) (refused room : K → ℕ) where
+  -- Over a keeper that refuses no push no answer tells of want of memory: no command is refused for it, and none ends by it.
+  abbrev pub NoAnswerIsOfMemory : Type 0
+  NoAnswerIsOfMemory = RefusesNone refused
+      → (old new : SessionValue K) (meaning : Option ℕ → Point → Outcome) (answer : Result Reply Refusal)
+      → Obeys holds refused room old new meaning answer
+      → (answer ≢ Err OutOfMemory) × ((k : ℕ) → answer ≢ Ok (Forward k Memory))
+
+  -- What a command answers, and where it leaves the session, is then what it means where each of its moves is kept.
+  abbrev pub EachMoveIsKept : Type 0
+  EachMoveIsKept = RefusesNone refused
+      → (old new : SessionValue K) (meaning : Option ℕ → Point → Outcome) (answer : Result Reply Refusal)
+      → Obeys holds refused room old new meaning answer
+      → (h : List Record) → HasPast holds old h
+      → (answer ≡ (meaning None (point_of old h)).answer) × StandsAt holds new (meaning None (point_of old h)).point

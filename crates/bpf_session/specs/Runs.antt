@@ -60,6 +60,16 @@ abbrev pub Prints : Standing → Standing → Exchange → Type 0
 Prints from to x = (gaps : List (Option ℕ)) × Reaches from to gaps (lines x.script)
     × Wrote x (come_to from gaps (lines x.script)).out × Leaves x (come_to from gaps (lines x.script)).unread
 
+-- What a whole script comes to from there where each move is kept.
+abbrev pub whole_walk : Standing → List ℕ → Walk
+whole_walk from script = come_to from [] (lines script)
+
+-- A script was obeyed to its end or to `quit`, and each move was kept: exactly what its lines print was written, the session stands
+-- where they lead, and the lines behind `quit` are left.
+abbrev pub PrintsWhole : Standing → Standing → Exchange → Type 0
+PrintsWhole from to x = (to.point ≡ (whole_walk from x.script).final)
+    × Wrote x (whole_walk from x.script).out × Leaves x (whole_walk from x.script).unread
+
 -- A line that is obeyed without ending the session.
 abbrev pub GoesOn : List ℕ → Type 0
 GoesOn line = command_of line ≡ Ok (Some Quit) → ⊥

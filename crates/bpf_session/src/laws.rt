@@ -1,5 +1,7 @@
 //! Laws of the meaning of commands and of scripts. Each stands on a function without code, since it speaks of the definitions alone.
-ghost use Rattle.bpf_session.specs.Laws.{BreakpointsStop, CallsRunAsOne, CountsAreGoneBack, GoingBackGivesBack, NothingRefusedNothingMissing, RefusalsAreInOrder, RefusedChangesNothing, ReplayIsTheSame, ShowsChangeNothing, TakesBackItsMoves, TheFirstReasonStops, TheLatestIsFound, UndoGoesToTheMark, WatchesStop};
+ghost use Rattle.bpf_session.specs.Laws.{BreakpointsStop, CallsRunAsOne, CountsAreGoneBack, EachMoveIsKept, GoingBackGivesBack, NoAnswerIsOfMemory, NothingRefusedAllPrinted, NothingRefusedNothingMissing, RefusalsAreInOrder, RefusedChangesNothing, ReplayIsTheSame, ShowsChangeNothing, TakesBackItsMoves, TheFirstReasonStops, TheLatestIsFound, UndoGoesToTheMark, WatchesStop};
+
+use bpf_journal::Keeper;
 
 /// A refused command changes nothing: neither history nor state, breakpoints or watches.
 #[tactic(none)]
@@ -86,5 +88,14 @@ pub fn undo_goes_to_the_mark()
 /// and where it ends is the same as where each is kept.
 #[tactic(none)]
 pub fn nothing_refused_nothing_missing()
-    ensures { NothingRefusedNothingMissing }
+    ensures walk { NothingRefusedNothingMissing }
+    ensures run { NothingRefusedAllPrinted }
+{}
+
+/// Over a keeper that refuses no push no answer to a command tells of want of memory, and each command does what it means where each
+/// of its moves is kept.
+#[tactic(none)]
+pub fn no_answer_is_of_memory<K: Keeper>()
+    ensures answer { NoAnswerIsOfMemory K.holds K.refused K.room }
+    ensures meaning { EachMoveIsKept K.holds K.refused K.room }
 {}

@@ -1,0 +1,46 @@
+-- Where no push was refused there is no gap: no answer tells of want of memory, and nothing is missing of what is printed.
+use Rattle.std.proofs.Common.{◌≡◌, ◌≢◌, ℕ, List, Option, Some, None, Result, Ok, Err, refl, sym, ap, subst, ◌∙◌, arith}
+use Rattle.bpf_entries.specs.Keeping.{Kept}
+use Rattle.counted_io.specs.Lines.{lines}
+use Rattle.bpf_session.specs.Laws.{EachMoveIsKept, NoAnswerIsOfMemory, NothingRefusedAllPrinted}
+use Rattle.bpf_session.specs.Output.{Walk}
+use Rattle.bpf_session.specs.Runs.{Leaves, Wrote, come_to, whole_walk}
+use Rattle.bpf_session.specs.Sessions.{StandsAt, gap_of, point_of, refusals_with}
+use Rattle.bpf_session.proofs.CommandLaws.{nothing-refused-nothing-missing}
+use Rattle.bpf_session.specs.declared.reply.Reply.{Reply}
+use Rattle.bpf_session.specs.declared.reply.Reply.TheVariants.{Forward}
+use Rattle.bpfdb_commands.specs.declared.refusal.Refusal.{Refusal}
+use Rattle.bpfdb_commands.specs.declared.refusal.Refusal.TheVariants.{OutOfMemory}
+use Rattle.bpfdb_replies.specs.declared.why.Why.TheVariants.{Memory}
+
+-- a whole script
+pub nothing-refused-all-printed : NothingRefusedAllPrinted
+nothing-refused-all-printed from to x low still printed =
+    let gaps = printed.0 in
+    let same : come_to from gaps (lines x.script) ≡ whole_walk from x.script =
+    nothing-refused-nothing-missing gaps from.refusals from.bounds (lines x.script) from.point low (sym printed.1.refusals ∙ still) in (
+      printed.1.point ∙ ap (λ (w : Walk). w.final) same,
+      subst (λ (w : Walk). Wrote x w.out) same printed.2,
+      subst (λ (w : Walk). Leaves x w.unread) same printed.3,
+    )
+
+-- a gap is counted
+uncounted : (gap : Option ℕ) → 0 ≡ refusals_with gap 0 → gap ≡ None
+uncounted None e = refl
+uncounted (Some m) e = absurd (omega (arith, e))
+
+-- an answer that tells no gap
+gapless : (answer : Result Reply Refusal) → gap_of answer ≡ None → (answer ≢ Err OutOfMemory) × ((k : ℕ) → answer ≢ Ok (Forward k Memory))
+gapless answer none = (λ is. let e : Some 0 ≡ None = sym (ap gap_of is) ∙ none in absurd cc, λ k is. let e : Some k ≡ None = sym (ap gap_of is) ∙ none in absurd cc)
+
+module _ {K : Type 0} (holds : K → List Kept → Type 0) (refused room : K → ℕ) where
+  pub no-answer-is-of-memory : NoAnswerIsOfMemory holds refused room
+  no-answer-is-of-memory never old new meaning answer o =
+      gapless answer (uncounted (gap_of answer) (sym (never new.moment.keeper) ∙ o.counted ∙ ap (refusals_with (gap_of answer)) (never old.moment.keeper)))
+
+  pub each-move-is-kept : EachMoveIsKept holds refused room
+  each-move-is-kept never old new meaning answer o h past =
+      let none = uncounted (gap_of answer) (sym (never new.moment.keeper) ∙ o.counted ∙ ap (refusals_with (gap_of answer)) (never old.moment.keeper)) in (
+        o.answered h past ∙ ap (λ (gap : Option ℕ). (meaning gap (point_of old h)).answer) none,
+        subst (λ (gap : Option ℕ). StandsAt holds new (meaning gap (point_of old h)).point) none (o.stands h past),
+      )
