@@ -14,7 +14,7 @@ use Rattle.counted_io.specs.Lines.{lines}
 use Rattle.bpf_session.specs.Output.{Walk}
 use Rattle.bpf_session.specs.Plain.{ending_of, plain_end, text_of_ending}
 use Rattle.bpf_session.specs.Points.{opening}
-use Rattle.bpf_session.specs.Runs.{BreaksOff, Exchange, Leaves, Standing, Wrote, WroteBetween, come_to}
+use Rattle.bpf_session.specs.Runs.{BreaksOff, Exchange, Leaves, Standing, Wrote, WroteBetween, whole_walk}
 use Rattle.bpf_session.specs.declared.fault.RunFault.{RunFault}
 use Rattle.bpf_session.specs.declared.plain.Ending.{Ending}
 use Rattle.bpf_session.specs.declared.plain.Ending.TheVariants.{Exited, Faulted, Limit}
@@ -80,8 +80,7 @@ start_of job code = record {
   refusals = 0;
 }
 
--- `debug`: what the script prints in a debugger that keeps whole states, where the journal's keeper refused what the gaps say, which the
--- answers tell.
+-- `debug`: what the script prints in a debugger that keeps whole states, with each move kept in the journal's room.
 abbrev pub debug_yield : Walk → Yield
 debug_yield whole = record { out = whole.out; status = 0; unread = whole.unread }
 
@@ -93,9 +92,8 @@ check_line code =
 -- The answer to a job with a script on standard input.
 abbrev pub Yields : JobKind → Job → List ℕ → Yield → Type 0
 Yields Run job script a = (code : Checked) × Opens job code × (a ≡ run_yield script (plain_end job.limit (initial code job.context.now)))
-Yields Debug job script a = (code : Checked) × Opens job code × IsSize job.journal × (gaps : List (Option ℕ))
-    × ((come_to (start_of job code) gaps (lines script)).gaps ≡ gaps)
-    × (a ≡ debug_yield (come_to (start_of job code) gaps (lines script)))
+Yields Debug job script a = (code : Checked) × Opens job code × IsSize job.journal
+    × (a ≡ debug_yield (whole_walk (start_of job code) script))
 Yields Asm job script a = (words : List ℕ) × IsListing job.file.now words × (a ≡ unread_with 0 script words)
 Yields Disasm job script a = (code : Checked) × IsProgramOf job code × (a ≡ unread_with 0 script (canon code))
 Yields Check job script a = (code : Checked) × IsProgramOf job code × (a ≡ unread_with 0 script (check_line code))
@@ -108,10 +106,10 @@ Completes kind job x status = (a : Yield) × Yields kind job x.script a × (stat
 abbrev pub Unread : Exchange → Type 0
 Unread x = x.left ≡ Some x.script
 
--- A beginning of the answer was written: of `debug`, what its session did until a read or a write failed.
+-- A beginning of the answer was written: of `debug`, what its session did until a read or a write failed, with no move refused.
 abbrev pub Begins : JobKind → Job → Exchange → Type 0
 Begins Debug job x = (code : Checked) × Opens job code × IsSize job.journal
-    × (why : RunFault) × (to : Standing) × BreaksOff why (start_of job code) to x
+    × (why : RunFault) × (to : Standing) × (to.refusals ≡ 0) × BreaksOff why (start_of job code) to x
 Begins kind job x = (a : Yield) × Yields kind job x.script a × WroteBetween x [] a.out × Unread x
 
 -- A call that broke off: nothing was read and written, or a beginning of the answer was.

@@ -9,7 +9,7 @@ use Rattle.bpf_text.specs.Listing.{IsFaultOf}
 use Rattle.bpf_machine.specs.Opening.{Refused}
 use Rattle.bpf_entries.specs.Keeping.{IsSize}
 use Rattle.bpf_entries.specs.Keeping.{Kept}
-use Rattle.bpf_journal.specs.declared.fault.JournalFault.TheVariants.{SizeOutOfRange}
+use Rattle.bpf_journal.specs.Opening.{RefusesSize}
 use Rattle.bpf_session.specs.Runs.{HasStanding}
 use Rattle.bpf_session.specs.Sessions.{SessionValue}
 use Rattle.bpfdb_jobs.specs.Jobs.{HasMaps, HasWords, IsProgramOf, Opens, start_of}
@@ -25,7 +25,7 @@ Refuses job (Listing fault) = (shapes : List MapShape) × HasMaps job.maps shape
 Refuses job (Load fault) = (shapes : List MapShape) × HasMaps job.maps shapes
     × (words : List ℕ) × HasWords job.is_listing job.file.now words × IsRefused words shapes fault
 Refuses job (Open fault) = (code : Checked) × IsProgramOf job code × Refused job.context.now fault
-Refuses job (Journal fault) = (code : Checked) × Opens job code × (fault ≡ SizeOutOfRange) × (IsSize job.journal → ⊥)
+Refuses job (Journal fault) = (code : Checked) × Opens job code × RefusesSize job.journal fault
 
 -- A session that was just opened for a job.
 pub record IsOpening {K : Type 0} (holds : K → List Kept → Type 0) (refused room : K → ℕ) (job : Job) (session : SessionValue K) : Type 0 where

@@ -8,12 +8,13 @@ use crate::fault::JobFault;
 use crate::job::Job;
 use crate::opening::session_of;
 use crate::report::give_up;
+use bpf_session::laws::nothing_refused_nothing_missing;
 use bpf_session::{RunFault, run};
 use counted_io::Counted;
 use std::alloc::Global;
 use std::io::{Read, Write};
 
-/// Obeys the script from the reader and writes the replies.
+/// Obeys the script from the reader and writes the replies. The journal takes its memory before the first line is read.
 pub fn debug_job<R: Read, W: Write, E: Write>(
     alloc: Global,
     job: &Job<'_>,
@@ -34,6 +35,7 @@ pub fn debug_job<R: Read, W: Write, E: Write>(
         Ok(session) => session,
         Err(refusal) => return give_up(errors, JobFault::refused(refusal)),
     };
+    nothing_refused_nothing_missing();
     match run(&mut session, reader, writer) {
         Ok(()) => 0,
         Err(RunFault::Read) => give_up(errors, JobFault::Input),

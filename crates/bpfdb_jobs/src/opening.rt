@@ -9,7 +9,7 @@ ghost use Rattle.bpfdb_limits.specs.Limits.{IsLimit};
 use crate::job::Job;
 use crate::refusal::JobRefusal;
 use bpf_isa::{MapTable, Program, check};
-use bpf_journal::{Keeper, ListKeeper};
+use bpf_journal::{Keeper, RingKeeper};
 use bpf_machine::Cpu;
 use bpf_session::Session;
 use bpf_text::assemble;
@@ -95,16 +95,16 @@ pub fn machine_of(alloc: Global, job: &Job<'_>) -> Result<Cpu, JobRefusal>
 }
 
 /// A session before its first command.
-pub fn session_of(alloc: Global, job: &Job<'_>) -> Result<Session<ListKeeper>, JobRefusal>
+pub fn session_of(alloc: Global, job: &Job<'_>) -> Result<Session<RingKeeper>, JobRefusal>
     requires limit { IsLimit job.now.limit }
-    ensures ok { IfOk result (IsOpening ⟦<ListKeeper as Keeper>⟧.holds ⟦<ListKeeper as Keeper>⟧.refused ⟦<ListKeeper as Keeper>⟧.room job.now) }
+    ensures ok { IfOk result (IsOpening ⟦<RingKeeper as Keeper>⟧.holds ⟦<RingKeeper as Keeper>⟧.refused ⟦<RingKeeper as Keeper>⟧.room job.now) }
     ensures err { IfErr result (Refuses job.now) }
 {
     let cpu = match machine_of(alloc, job) {
         Ok(cpu) => cpu,
         Err(refusal) => return Err(refusal),
     };
-    match ListKeeper::open(alloc, job.journal as usize) {
+    match RingKeeper::open(alloc, job.journal as usize) {
         Ok(keeper) => Ok(Session::open(cpu, keeper, job.limit)),
         Err(fault) => Err(JobRefusal::Journal(fault)),
     }
