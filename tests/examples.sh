@@ -9,6 +9,7 @@ BPFDB=${BPFDB:-$PWD/crates/bpfdb/out/bpfdb}
 export BPFDB
 work=$(mktemp -d) || exit 1
 trap 'rm -rf "$work"' EXIT
+trap 'exit 130' HUP INT TERM
 top=$PWD
 count=0
 : > "$work/faults"

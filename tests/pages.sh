@@ -6,6 +6,7 @@ set -u
 cd "$(dirname "$0")/.." || exit 1
 work=$(mktemp -d) || exit 1
 trap 'rm -rf "$work"' EXIT
+trap 'exit 130' HUP INT TERM
 : > "$work/faults"
 
 # fault TEXT: says what a page has wrong; the run fails at its end.

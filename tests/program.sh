@@ -12,6 +12,7 @@ parts=$top/tests/program
 program=${BPFDB:-$top/crates/bpfdb/out/bpfdb}
 work=$(mktemp -d) || exit 1
 trap 'rm -rf "$work"' EXIT
+trap 'exit 130' HUP INT TERM
 
 . "$parts/harness.sh"
 [ $# -gt 0 ] || set -- session usage refusals results files streams memory

@@ -5,6 +5,7 @@ cd "$(dirname "$0")/.." || exit 1
 sh tests/build.sh || exit 1
 work=$(mktemp -d) || exit 1
 trap 'rm -rf "$work"' EXIT
+trap 'exit 130' HUP INT TERM
 script=$PWD/tests/session/script
 cd crates/bpfdb || exit 1
 

@@ -7,6 +7,7 @@ cd "$(dirname "$0")/.." || exit 1
 millions=${1:-20}
 work=$(mktemp -d) || exit 1
 trap 'rm -rf "$work"' EXIT
+trap 'exit 130' HUP INT TERM
 
 # fail WHAT: ends this with a line.
 fail() {

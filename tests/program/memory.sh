@@ -33,7 +33,8 @@ lacks() {
     line='' more=''
     { read -r line; read -r more; } < found/err
     case $line in
-        'out of memory' | 'refused A7: out of memory' | 'refused C13: out of memory' | 'refused O2: out of memory')
+        'out of memory' | 'refused A7: out of memory' | 'refused C13: out of memory' | 'refused O2: out of memory' | \
+            'refused J2: out of memory')
             echo "$line" >> met ;;
         *) line='out of memory' more=none ;;
     esac
@@ -76,10 +77,11 @@ plain='out of memory\n'
 a7='refused A7: out of memory\n'
 c13='refused C13: out of memory\n'
 o2='refused O2: out of memory\n'
+j2='refused J2: out of memory\n'
 wants "$plain$c13$o2" 0 '0x2a\n' '' run -m context --maps 8x2 program
 wants "$plain$a7$c13$o2" 0 '0x2a\n' '' run --listing program.s
-wants "$plain$c13$o2" 0 '' '' debug -m context --maps 8x2 --journal 1024 --steps 7 program
-wants "$plain$a7$c13$o2" 0 '' '' debug --listing program.s
+wants "$plain$c13$o2$j2" 0 '' '' debug -m context --maps 8x2 --journal 1024 --steps 7 program
+wants "$plain$a7$c13$o2$j2" 0 '' '' debug --listing program.s
 wants "$plain$a7" 0 "$words" '' asm program.s
 wants "$plain$c13" 0 'mov r0, 42\nexit\n' '' disasm --maps 8x2 program
 wants "$plain$a7$c13" 0 'mov r0, 42\nexit\n' '' disasm --listing program.s
@@ -112,61 +114,15 @@ wants_usage "unrecognized subcommand 'rum'" rum program
 wants_usage "unexpected argument '--frob' found" run --frob program
 wants_usage "invalid value '0' for '--steps <N>': 0 is not in 1..=1000000000" run --steps 0 program
 
-# Sessions: a run ends before the first command, or the first step is refused: alone, it can be taken by a later command.
-q15='refused Q15: out of memory\n'
+# Sessions: each request that can be refused is one before the first command, and then nothing is replied. A session that has begun
+# makes none, also one whose moves go around the end of its journal.
 others='r1=0x0 r2=0x0 r3=0x0 r4=0x0 r5=0x0 r6=0x0 r7=0x0 r8=0x0 r9=0x0 r10=0x200000200\n'
 start="r0=0x0 ${others}at 0: mov r0, 42\n"
-q4='refused Q4: no kept step\n'
 end='2 forward; end; exited at 1: r0 0x2a\nrefused Q3: the machine has ended\n'
-kept="1 forward; done; at 1: exit\nr0=0x2a ${others}at 1: exit\n1 back; done; at 0: mov r0, 42\n$end"
-printf '%b' "$kept" > kept
-
-# steps_refused ARGUMENT..: the session of `kept`, with each request refused.
-steps_refused() {
-    faults=0 refusals=0 request=1
-    while [ "$request" -le "$most" ]; do
-        refuse "$request" '' "$@"
-        if cmp -s found/out kept; then
-            break
-        elif [ -s found/out ]; then
-            refusals=$((refusals + 1))
-            check "bpfdb $*: request $request for memory refused: the first step" 0 "$q15$start$q4$end" ''
-            refuse "$request" all "$@"
-            check "bpfdb $*: requests for memory from $request on refused: each step" 0 "$q15$start$q4$q15$q15" ''
-        else
-            faults=$((faults + 1))
-            lacks "bpfdb $*: request $request for memory refused: nothing is debugged"
-            refuse "$request" all "$@"
-            lacks "bpfdb $*: requests for memory from $request on refused: nothing is debugged"
-        fi
-        request=$((request + 1))
-    done
-    check "bpfdb $*: a session in which no request is refused" 0 "$kept" ''
-    [ "$faults" -gt 0 ] && [ "$refusals" -eq 1 ] ||
-        complain "bpfdb $*: requests refused: $faults that it needs to begin, $refusals of the first step"
-}
-printf 'stepi\ninfo regs\nreverse-stepi\nstepi 5\nstepi\n' > script
-steps_refused
-steps_refused debug program
-
-# One command of many steps, whose history grows: it stops at the last step that could be kept, or takes all of them.
-printf 'stepi 1000\ninfo history\n' > script
-request=1
-stops=0
-taken=0
-while [ "$request" -le "$most" ] && [ "$taken" != 1000 ]; do
-    refuse "$request" '' debug endless
-    taken='' rest=''
-    read -r taken rest < found/out
-    name="bpfdb debug endless: request $request for memory refused"
-    case $taken in
-        '') lacks "$name" ;;
-        refused) check "$name" 0 "${q15}0 moves, 0 commands, 0 of 65536 bytes\n" '' ;;
-        *)
-            [ "$taken" = 1000 ] && why='done' || why=memory
-            stops=$((stops + 1))
-            check "$name" 0 "$taken forward; $why; at 0: ja L0\n$taken moves, 1 commands, $((taken * 7)) of 65536 bytes\n" '' ;;
-    esac
-    request=$((request + 1))
-done
-[ "$stops" -gt 1 ] || complain 'bpfdb debug endless: no step behind the first one met a refused request for memory'
+printf 'stepi\ninfo regs\nreverse-stepi\ninfo regs\nset reg r0 1\nundo\nstepi 5\nstepi\n' > script
+wants "$plain$c13$o2$j2" 0 \
+    "1 forward; done; at 1: exit\nr0=0x2a ${others}at 1: exit\n1 back; done; at 0: mov r0, 42\n${start}ok\n1 back; done; at 0: mov r0, 42\n$end" \
+    '' debug program
+printf 'stepi 10000\ninfo history\nreverse-stepi 9362\n' > script
+wants "$plain$c13$o2$j2" 0 \
+    '10000 forward; done; at 0: ja L0\n9362 moves, 0 commands, 65534 of 65536 bytes\n9362 back; done; at 0: ja L0\n' '' debug endless

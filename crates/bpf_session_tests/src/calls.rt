@@ -1,6 +1,6 @@
 //! Worked sessions with calls, watches and the question who wrote a byte. The expected replies were worked out by hand from what each
 //! command means; none is bpfdb's own output.
-use crate::play::{plays, session};
+use crate::play::{plays, ring_session, session};
 use std::alloc::Global;
 use std::process::Abort;
 
@@ -264,11 +264,13 @@ const ROWS: [Row; 14] = [
     ATOMIC, DROPPED,
 ];
 
-/// Plays the transcript of a row.
+/// Plays the transcript of a row over either keeper.
 fn play_row(rt: &impl Abort, alloc: Global, row: Row) {
     let (program, context, size, transcript) = row;
-    let mut session = session(rt, alloc, program, context, size, 1_000_000);
-    plays(rt, alloc, &mut session, transcript, 7);
+    let mut listed = session(rt, alloc, program, context, size, 1_000_000);
+    plays(rt, alloc, &mut listed, transcript, 7);
+    let mut ringed = ring_session(rt, alloc, program, context, size, 1_000_000);
+    plays(rt, alloc, &mut ringed, transcript, 7);
 }
 
 /// Plays the transcript of each row.

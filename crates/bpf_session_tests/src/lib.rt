@@ -16,6 +16,8 @@ mod play;
 #[cfg(test)]
 mod refusals;
 #[cfg(test)]
+mod rings;
+#[cfg(test)]
 mod scripts;
 #[cfg(test)]
 mod shown;

@@ -1,7 +1,7 @@
 //! Transcripts, and sessions that they are played in. Each row of a transcript is a command and its reply, with a bar between; a further
 //! line of a reply stands behind a bar alone, and a command without a reply has no bar.
 use bpf_isa::{MapTable, check};
-use bpf_journal::{Keeper, ListKeeper};
+use bpf_journal::{Keeper, ListKeeper, RingKeeper};
 use bpf_machine::Cpu;
 use bpf_session::{Session, run};
 use bpfdb_commands::Count;
@@ -91,6 +91,33 @@ pub fn session_over(
     }
 }
 
+/// The same session over a ring of bytes.
+pub fn ring_session(
+    rt: &impl Abort,
+    alloc: Global,
+    program: &str,
+    context: &[u8],
+    size: usize,
+    limit: u64,
+) -> Session<RingKeeper> {
+    ring_session_over(rt, alloc, machine(rt, alloc, program, context), size, limit)
+}
+
+/// The same over a machine.
+pub fn ring_session_over(
+    rt: &impl Abort,
+    alloc: Global,
+    cpu: Cpu,
+    size: usize,
+    limit: u64,
+) -> Session<RingKeeper> {
+    let limit = Count::new(limit).expect(rt, "no limit");
+    match RingKeeper::open(alloc, size) {
+        Ok(keeper) => Session::open(cpu, keeper, limit.get()),
+        Err(_) => panic!(rt; "no journal"),
+    }
+}
+
 /// The session that closing one and opening another over what it gave makes.
 pub fn reopened<K: Keeper>(rt: &impl Abort, session: Session<K>, limit: u64) -> Session<K> {
     let limit = Count::new(limit).expect(rt, "no limit");
@@ -126,7 +153,7 @@ fn append_line(rt: &impl Abort, lines: &mut Vec<u8>, line: &str) {
 }
 
 /// The command of a row.
-fn command_of(row: &str) -> &str {
+pub fn command_of(row: &str) -> &str {
     match row.split_once('|') {
         Some((command, _)) => command,
         None => row,

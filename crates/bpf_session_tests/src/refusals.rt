@@ -1,6 +1,6 @@
 //! What is refused in every status of a machine. The expected replies were worked out by hand from the table of refusals; none is bpfdb's
 //! own output.
-use crate::play::{check_bytes, machine_on, plays, printed, session_over};
+use crate::play::{check_bytes, machine_on, plays, printed, ring_session_over, session_over};
 use bpf_journal::Keeper;
 use bpf_machine::Cpu;
 use bpf_session::Session;
@@ -221,12 +221,15 @@ fn play_texts<K: Keeper>(rt: &impl Abort, alloc: Global, session: &mut Session<K
     plays(rt, alloc, session, own, 10_000);
 }
 
-/// The same in the session of a row.
+/// The same in the session of a row, over either keeper.
 fn play_row(rt: &impl Abort, alloc: Global, row: Row) {
     let (first, steps, transcript) = row;
     let cpu = machine_after(rt, alloc, first, steps);
-    let mut session = session_over(rt, alloc, cpu, 65_536, 1_000_000);
-    play_texts(rt, alloc, &mut session, transcript);
+    let mut listed = session_over(rt, alloc, cpu, 65_536, 1_000_000);
+    play_texts(rt, alloc, &mut listed, transcript);
+    let cpu = machine_after(rt, alloc, first, steps);
+    let mut ringed = ring_session_over(rt, alloc, cpu, 65_536, 1_000_000);
+    play_texts(rt, alloc, &mut ringed, transcript);
 }
 
 /// The same of all rows.

@@ -1,5 +1,5 @@
 //! Worked sessions. The expected replies were worked out by hand from what each command means; none is bpfdb's own output.
-use crate::play::{check_bytes, plays, printed, session};
+use crate::play::{check_bytes, plays, printed, ring_session, session};
 use std::alloc::Global;
 use std::process::Abort;
 
@@ -218,11 +218,13 @@ const ROWS: [Row; 12] = [
 /// Those that set no breakpoints and go on to their end.
 pub const WITHOUT_BREAKPOINTS: [Row; 7] = [LOAD, FAULT, DROPPED, REFUSED, PART, DOUBLED, EDITS];
 
-/// Plays the transcript of a row in pieces of `step` bytes.
+/// Plays the transcript of a row over either keeper, in pieces of `step` bytes.
 fn play_row(rt: &impl Abort, alloc: Global, row: Row, step: usize) {
     let (program, context, size, limit, transcript) = row;
-    let mut session = session(rt, alloc, program, context, size, limit);
-    plays(rt, alloc, &mut session, transcript, step);
+    let mut listed = session(rt, alloc, program, context, size, limit);
+    plays(rt, alloc, &mut listed, transcript, step);
+    let mut ringed = ring_session(rt, alloc, program, context, size, limit);
+    plays(rt, alloc, &mut ringed, transcript, step);
 }
 
 /// Plays the transcript of each row in pieces of `step` bytes.

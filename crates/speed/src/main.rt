@@ -1,18 +1,14 @@
 //! How fast the machine takes steps. Without arguments it prints nothing. With a number of millions of steps it runs each loop
-//! for that long in five rounds, plain, recorded, kept in journals of several sizes, and back, by turns, and prints the best of
+//! for that long in five rounds, plain, kept in rings of several sizes, and back, by turns, and prints the best of
 //! each in nanoseconds a step and as a ratio to plain steps. What is timed is used: the last line is a sum over what came out.
 //! What can't be opened, or takes fewer steps than it is timed for, ends the program with a line on standard error and status 1.
 #![tactic(auto)]
 
-ghost use Rattle.std.specs.Prelude.{◌≡◌, false};
-ghost use Rattle.bpf_machine.specs.Next.{change as change_of};
-ghost use Rattle.bpf_entries.specs.Status.{has_ended};
-
 mod sessions;
 
 use bpf_isa::{MapTable, Reg, check};
-use bpf_journal::{ListKeeper, Timeline};
-use bpf_machine::{Change, CompactEntry, Cpu, Ended};
+use bpf_journal::{RingKeeper, Timeline};
+use bpf_machine::Cpu;
 use sessions::time_sessions;
 use std::alloc::Global;
 use std::io::{Error, ErrorKind};
@@ -51,9 +47,6 @@ const LOOKUPS: [u8; 48] = [
 
 /// How many steps are taken before as many are taken back.
 const STRIDE: u64 = 4_000;
-
-/// How many entries a plain buffer keeps at a time.
-const KEPT: usize = 65_536;
 
 fn main(rt: HostRuntime) -> io::Result<()> {
     let mut words = env::args(&rt)?.skip(1);
@@ -128,17 +121,14 @@ fn show(
 enum Way {
     /// The step alone.
     Plain,
-    /// Its compact entry is kept in a buffer before it is done.
-    Recorded,
-    /// It is kept by a list keeper, in a journal of so many bytes.
+    /// It is kept by a ring keeper, in a journal of so many bytes.
     Kept(usize),
     /// It is taken back from there.
     Back,
 }
 
-const WAYS: [Way; 6] = [
+const WAYS: [Way; 5] = [
     Way::Plain,
-    Way::Recorded,
     Way::Kept(1_024),
     Way::Kept(65_536),
     Way::Kept(16_777_216),
@@ -149,7 +139,6 @@ impl Way {
     fn name(self) -> &'static str {
         match self {
             Way::Plain => "plain",
-            Way::Recorded => "recorded",
             Way::Kept(1_024) => "kept in 1,024 bytes",
             Way::Kept(65_536) => "kept in 65,536 bytes",
             Way::Kept(_) => "kept in 16,777,216 bytes",
@@ -169,23 +158,16 @@ fn timed(
     let Some(mut cpu) = opened(rt.alloc(), program) else {
         return Err(failure(rt, "a machine can't be opened"));
     };
-    let Ok(mut kept) = vec![in rt.alloc(); CompactEntry::End; KEPT] else {
-        return Err(failure(rt, "there is too little memory"));
-    };
     let steps = millions.min(1000) * 1_000_000;
     let start = Instant::now(rt)?;
     let taken = match way {
         Way::Plain => run_plain(&mut cpu, steps),
-        Way::Recorded => run_recorded(&mut cpu, &mut kept, steps),
         Way::Kept(size) => return run_kept(rt, cpu, size, steps, sum),
         Way::Back => return run_back(rt, cpu, steps, sum),
     };
     let elapsed = start.elapsed(rt)?.as_nanos();
     check_steps(rt, taken, steps)?;
     *sum = sum.wrapping_add(used(&cpu));
-    for entry in &kept {
-        *sum = sum.wrapping_add(entry.weight() as u64);
-    }
     Ok(elapsed)
 }
 
@@ -199,41 +181,7 @@ fn run_plain(cpu: &mut Cpu, steps: u64) -> u64 {
     steps
 }
 
-/// Steps whose compact entries are kept, the newest in place of the oldest. Answers how many were taken.
-fn run_recorded(cpu: &mut Cpu, kept: &mut [CompactEntry], steps: u64) -> u64 {
-    for step in 0..steps {
-        match cpu.look() {
-            Err(Ended) => return step,
-            Ok(change) => {
-                let slot = (step % 65_536) as usize;
-                if slot < kept.len() {
-                    kept[slot] = match cpu.compact(&change) {
-                        Some(entry) => entry,
-                        None => shortened(cpu, &change),
-                    };
-                }
-                cpu.commit(&change);
-            }
-        }
-    }
-    steps
-}
-
-/// What stands for an entry that is not compact: the entry is made, and its weight kept.
-#[inline(never)]
-fn shortened(cpu: &Cpu, change: &Change) -> CompactEntry
-    requires runs { has_ended cpu.now.status ≡ false }
-    requires looked { change.now ≡ change_of cpu.now }
-{
-    let weight = cpu.entry(change).weight();
-    if weight > 39 {
-        CompactEntry::End
-    } else {
-        CompactEntry::Jump { pc: weight as u16 }
-    }
-}
-
-/// Steps that a list keeper keeps.
+/// Steps that a ring keeper keeps.
 fn run_kept(
     rt: &HostRuntime,
     cpu: Cpu,
@@ -241,7 +189,7 @@ fn run_kept(
     steps: u64,
     sum: &mut u64,
 ) -> io::Result<u128> {
-    let Ok(keeper) = ListKeeper::open(rt.alloc(), size) else {
+    let Ok(keeper) = RingKeeper::open(rt.alloc(), size) else {
         return Err(failure(rt, "a journal can't be opened"));
     };
     let mut timeline = Timeline::open(cpu, keeper);
@@ -257,7 +205,7 @@ fn run_kept(
 
 /// Steps that are taken back, some thousands at a time.
 fn run_back(rt: &HostRuntime, cpu: Cpu, steps: u64, sum: &mut u64) -> io::Result<u128> {
-    let Ok(keeper) = ListKeeper::open(rt.alloc(), 16_777_216) else {
+    let Ok(keeper) = RingKeeper::open(rt.alloc(), 16_777_216) else {
         return Err(failure(rt, "a journal can't be opened"));
     };
     let mut timeline = Timeline::open(cpu, keeper);
@@ -274,7 +222,7 @@ fn run_back(rt: &HostRuntime, cpu: Cpu, steps: u64, sum: &mut u64) -> io::Result
 }
 
 /// Steps, until the machine has ended or memory runs out. Answers how many were taken.
-fn forward(timeline: &mut Timeline<ListKeeper>, steps: u64) -> u64 {
+fn forward(timeline: &mut Timeline<RingKeeper>, steps: u64) -> u64 {
     for step in 0..steps {
         if timeline.step(false).is_err() {
             return step;
@@ -284,7 +232,7 @@ fn forward(timeline: &mut Timeline<ListKeeper>, steps: u64) -> u64 {
 }
 
 /// Takes steps back, until none is kept. Answers how many it took back.
-fn back(timeline: &mut Timeline<ListKeeper>, steps: u64) -> u64 {
+fn back(timeline: &mut Timeline<RingKeeper>, steps: u64) -> u64 {
     for step in 0..steps {
         if timeline.back().is_none() {
             return step;

@@ -3,7 +3,7 @@
 
 use crate::{back, check_steps, failure, used};
 use bpf_isa::{MapTable, check};
-use bpf_journal::{ListKeeper, Timeline};
+use bpf_journal::{RingKeeper, Timeline};
 use bpf_machine::Cpu;
 use bpf_session::{Command, Counted, Goal, Reply, Session, Stop, Target, View};
 use std::alloc::Global;
@@ -147,7 +147,7 @@ fn through_timeline(rt: &HostRuntime, sum: &mut u64) -> io::Result<(u128, u128)>
     let Some(cpu) = opened(rt.alloc(), &LOOP) else {
         return Err(failure(rt, "a machine can't be opened"));
     };
-    let Ok(keeper) = ListKeeper::open(rt.alloc(), SIZE) else {
+    let Ok(keeper) = RingKeeper::open(rt.alloc(), SIZE) else {
         return Err(failure(rt, "a journal can't be opened"));
     };
     let mut timeline = Timeline::start(cpu, keeper);
@@ -164,7 +164,7 @@ fn through_timeline(rt: &HostRuntime, sum: &mut u64) -> io::Result<(u128, u128)>
 }
 
 /// The steps of a command, the first of them marked. Answers how many were taken.
-fn forward(timeline: &mut Timeline<ListKeeper>) -> u64 {
+fn forward(timeline: &mut Timeline<RingKeeper>) -> u64 {
     for step in 0..STEPS {
         if timeline.step(step == 0).is_err() {
             return step;
@@ -191,7 +191,7 @@ fn through_session(
     let Some(cpu) = opened(rt.alloc(), program) else {
         return Err(failure(rt, "a machine can't be opened"));
     };
-    let Ok(keeper) = ListKeeper::open(rt.alloc(), SIZE) else {
+    let Ok(keeper) = RingKeeper::open(rt.alloc(), SIZE) else {
         return Err(failure(rt, "a journal can't be opened"));
     };
     let mut session = Session::open(cpu, keeper, STEPS);
@@ -212,7 +212,7 @@ fn through_session(
 
 /// Sets what is never met: breakpoints behind the loop, or watches of bytes that it doesn't store to. Answers whether all of them
 /// are set.
-fn set_stops(session: &mut Session<ListKeeper>, stops: Stops) -> bool {
+fn set_stops(session: &mut Session<RingKeeper>, stops: Stops) -> bool {
     let mut are_set = true;
     match stops {
         Stops::Nothing => {}
@@ -235,7 +235,7 @@ fn set_stops(session: &mut Session<ListKeeper>, stops: Stops) -> bool {
 /// Nanoseconds of a command and of its reply. The command has to go over all of the steps.
 fn time(
     rt: &HostRuntime,
-    session: &mut Session<ListKeeper>,
+    session: &mut Session<RingKeeper>,
     command: &Command,
 ) -> io::Result<u128> {
     let mut sink = Counted::new(io::sink());

@@ -1,0 +1,130 @@
+//! The bytes of rings, and rings that are taken out of a session and put back.
+ghost use Rattle.bpf_journal.specs.Histories.{HasHistory};
+
+use crate::play::{
+    check_bytes, command_of, commands_of, plays, printed, replies_of, ring_session,
+};
+use crate::scripts::{Row, WITHOUT_BREAKPOINTS};
+use bpf_journal::{Keeper, RingKeeper};
+use bpf_machine::Cpu;
+use bpf_session::Session;
+use bpfdb_commands::Count;
+use std::alloc::Global;
+use std::process::Abort;
+
+/// atomic_fetch_add64 [r1+0], r1; exit.
+const FETCH: &str = "db110000010000009500000000000000";
+
+/// What its first step leaves in the ring.
+const FETCHED: [u8; 33] = [
+    0x21, 0, 0x86, 0, 0, 1, 0, 0, 0, 0, 1, 0, 0, 0, 0, 0, 0, 0, 1, 0, 0, 0, 8, 1, 0, 0, 0, 0, 0, 0,
+    0, 0x21, 0,
+];
+
+/// add r0, 1; ja -2.
+const ENDLESS: &str = "07000000010000000500feff00000000";
+
+/// What the ring begins with where the oldest entries were dropped: a jump's.
+const DROPPED: [u8; 7] = [7, 0, 2, 1, 0, 7, 0];
+
+/// How the session goes on.
+const GOES_ON: &str = "\
+stepi|1 forward; done; at 1: ja L0
+info history|88 moves, 1 commands, 1012 of 1024 bytes
+undo|1 back; done; at 0: add r0, 1
+info history|87 moves, 0 commands, 996 of 1024 bytes
+reverse-stepi 2|2 back; done; at 0: add r0, 1
+info regs|r0=0x31 r1=0x0 r2=0x0 r3=0x0 r4=0x0 r5=0x0 r6=0x0 r7=0x0 r8=0x0 r9=0x0 r10=0x200000200
+|at 0: add r0, 1
+";
+
+/// The oldest bytes of a ring, at most so many.
+fn oldest(rt: &impl Abort, alloc: Global, keeper: &RingKeeper, most: usize) -> Vec<u8> {
+    let mut bytes = Vec::new(alloc);
+    for index in 0..most {
+        match keeper.byte(index) {
+            Some(byte) => bytes.push(byte).expect(rt, "no memory"),
+            None => return bytes,
+        }
+    }
+    bytes
+}
+
+/// A keeper of the ring that another one gives up.
+fn put_back(cpu: &Cpu, keeper: RingKeeper) -> RingKeeper
+    requires { HasHistory ⟦<RingKeeper as Keeper>⟧.holds keeper cpu.now }
+    ensures { HasHistory ⟦<RingKeeper as Keeper>⟧.holds result cpu.now }
+{
+    let _cpu = cpu;
+    RingKeeper::from_ring(keeper.into_ring())
+}
+
+/// A session over the machine and the ring of another one.
+fn passed_on(
+    rt: &impl Abort,
+    session: Session<RingKeeper>,
+    limit: u64,
+) -> Session<RingKeeper> {
+    let limit = Count::new(limit).expect(rt, "no limit");
+    let (cpu, keeper) = session.close();
+    let keeper = put_back(&cpu, keeper);
+    Session::open(cpu, keeper, limit.get())
+}
+
+/// Plays a row, and passes the ring on after each command.
+fn plays_in_turns(rt: &impl Abort, alloc: Global, row: &Row) {
+    let (program, context, size, limit, transcript) = *row;
+    let mut session = ring_session(rt, alloc, program, context, size, limit);
+    let mut told = Vec::new(alloc);
+    for line in transcript.lines() {
+        let command = command_of(line);
+        if !command.is_empty() {
+            let script = commands_of(rt, alloc, line);
+            let reply = printed(rt, alloc, &mut session, &script, 1_024);
+            told.extend_from_slice(&reply).expect(rt, "no memory");
+            session = passed_on(rt, session, limit);
+        }
+    }
+    check_bytes(rt, &told, &replies_of(rt, alloc, transcript), transcript);
+}
+
+#[test]
+fn a_fetch_leaves_its_bytes(rt: HostRuntime) {
+    let alloc = rt.alloc();
+    let mut session = ring_session(
+        &rt,
+        alloc,
+        FETCH,
+        &[1, 0, 0, 0, 0, 0, 0, 0],
+        65_536,
+        1_000_000,
+    );
+    plays(&rt, alloc, &mut session, "stepi|1 forward; done; at 1: exit\n", 7);
+    let (_, keeper) = session.close();
+    check_bytes(&rt, &oldest(&rt, alloc, &keeper, 64), &FETCHED, FETCH);
+}
+
+#[test]
+fn a_ring_goes_on(rt: HostRuntime) {
+    let alloc = rt.alloc();
+    let mut session = ring_session(&rt, alloc, ENDLESS, &[], 1_024, 1_000_000);
+    plays(
+        &rt,
+        alloc,
+        &mut session,
+        "stepi 100|100 forward; done; at 0: add r0, 1\n",
+        7,
+    );
+    let (cpu, keeper) = session.close();
+    check_bytes(&rt, &oldest(&rt, alloc, &keeper, 7), &DROPPED, ENDLESS);
+    let keeper = put_back(&cpu, keeper);
+    let mut session = Session::open(cpu, keeper, 1_000_000);
+    plays(&rt, alloc, &mut session, GOES_ON, 7);
+}
+
+#[test]
+fn rings_are_passed_on_after_each_command(rt: HostRuntime) {
+    for row in &WITHOUT_BREAKPOINTS {
+        plays_in_turns(&rt, rt.alloc(), row);
+    }
+}
