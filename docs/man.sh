@@ -11,6 +11,7 @@ LC_ALL=C
 export LC_ALL
 work=$(mktemp -d) || exit 1
 trap 'rm -rf "$work"' EXIT
+trap 'exit 130' HUP INT TERM
 
 # page: docs/COMMANDS.md in roff's man macros.
 page() {

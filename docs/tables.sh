@@ -10,6 +10,7 @@ LC_ALL=C
 export LC_ALL
 work=$(mktemp -d) || exit 1
 trap 'rm -rf "$work"' EXIT
+trap 'exit 130' HUP INT TERM
 : > "$work/faults"
 
 # fault TEXT: says what is wrong with a file; the run fails at its end.
