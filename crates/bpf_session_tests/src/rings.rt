@@ -1,9 +1,7 @@
 //! The bytes of rings, and rings that are taken out of a session and put back.
 ghost use Rattle.bpf_journal.specs.Histories.{HasHistory};
 
-use crate::play::{
-    check_bytes, command_of, commands_of, plays, printed, replies_of, ring_session,
-};
+use crate::play::{check_bytes, command_of, commands_of, plays, printed, replies_of, ring_session};
 use crate::scripts::{Row, WITHOUT_BREAKPOINTS};
 use bpf_journal::{Keeper, RingKeeper};
 use bpf_machine::Cpu;
@@ -60,11 +58,7 @@ fn put_back(cpu: &Cpu, keeper: RingKeeper) -> RingKeeper
 }
 
 /// A session over the machine and the ring of another one.
-fn passed_on(
-    rt: &impl Abort,
-    session: Session<RingKeeper>,
-    limit: u64,
-) -> Session<RingKeeper> {
+fn passed_on(rt: &impl Abort, session: Session<RingKeeper>, limit: u64) -> Session<RingKeeper> {
     let limit = Count::new(limit).expect(rt, "no limit");
     let (cpu, keeper) = session.close();
     let keeper = put_back(&cpu, keeper);
@@ -99,7 +93,13 @@ fn a_fetch_leaves_its_bytes(rt: HostRuntime) {
         65_536,
         1_000_000,
     );
-    plays(&rt, alloc, &mut session, "stepi|1 forward; done; at 1: exit\n", 7);
+    plays(
+        &rt,
+        alloc,
+        &mut session,
+        "stepi|1 forward; done; at 1: exit\n",
+        7,
+    );
     let (_, keeper) = session.close();
     check_bytes(&rt, &oldest(&rt, alloc, &keeper, 64), &FETCHED, FETCH);
 }
