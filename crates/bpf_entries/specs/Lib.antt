@@ -1,5 +1,6 @@
 pub mod Status
 pub mod Past
+pub mod Before
 pub mod Fields
 pub mod Weights
 pub mod Texts

@@ -2,6 +2,7 @@
 ghost use Rattle.std.specs.Prelude.{◌≡◌, ℕ, option_map};
 
 use crate::byte_string::ByteString;
+use crate::read::runs::byte_in;
 use crate::status::Status;
 use crate::weights;
 use bpf_isa::Reg;
@@ -74,6 +75,7 @@ pub enum Entry {
 }
 
 impl Entry {
+    ghost use Rattle.bpf_entries.specs.Before.{byte_before as byte_before_by};
     ghost use Rattle.bpf_entries.specs.Past.{replaced as replaced_by};
     ghost use Rattle.bpf_entries.specs.Weights.{weight as weight_of};
 
@@ -107,6 +109,16 @@ impl Entry {
             | Entry::Cell { address, old, .. }
             | Entry::EditBytes { address, old } => Some((*address, old.as_slice())),
             _ => None,
+        }
+    }
+
+    /// The byte at an address before its move, where it is `after` behind the move.
+    pub fn byte_before(&self, address: u64, after: u8) -> u8
+        ensures { (depth : ℕ) → result ≡ byte_before_by depth self.now address after }
+    {
+        match self.replaced() {
+            Some((start, old)) => byte_in(start, old, address, after),
+            None => after,
         }
     }
 

@@ -14,7 +14,10 @@ pub use entry::Entry;
 pub use laws::{
     a_ring_is_cut_from_the_back, a_ring_is_of_one_list, a_text_is_of_one_entry, worked_texts,
 };
-pub use read::{first_len, is_marked, is_of_step, kind_of, last_len, saved_in, slot_in, status_by};
+pub use read::{
+    byte_before, first_len, is_marked, is_of_step, kind_of, last_len, replaced_in, saved_in,
+    slot_in, status_by,
+};
 pub use status::{Fault, Status};
 pub use write::{
     put_call, put_cell, put_edit_bytes, put_edit_pc, put_edit_register, put_end, put_fetch,

@@ -7,6 +7,7 @@ ghost use Rattle.bpf_entries.specs.Texts.{text};
 
 use crate::byte_string::ByteString;
 use crate::entry::Entry;
+use crate::read::runs::piece;
 use crate::read::tags::{is_marked, kind_of};
 use crate::status::{Fault, Status};
 use bpf_isa::Reg;
@@ -18,12 +19,7 @@ fn run_of(bytes: &[u8], start: usize, count: usize) -> Option<ByteString>
     ensures found { IsSome result ↔ (1 ≤ length (run_at start count bytes.now)) × (length (run_at start count bytes.now) ≤ 256) }
     ensures value { IfSome result (λ s. s ≡ run_at start count bytes.now) }
 {
-    let rest = &bytes[start..];
-    if count <= rest.len() {
-        ByteString::new(&rest[..count])
-    } else {
-        ByteString::new(rest)
-    }
+    ByteString::new(piece(bytes, start, count))
 }
 
 /// A status by its kind and number.

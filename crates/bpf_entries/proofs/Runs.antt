@@ -1,0 +1,33 @@
+-- The run that an entry's move replaced, as the entry's text tells it.
+use Rattle.std.proofs.Common.{◌≡◌, ℕ, Bool, List, length, refl, sym, ap, ◌∙◌}
+use Rattle.std.specs.Prelude.{None}
+use Rattle.bpf_entries.specs.declared.entry.Entry.{Entry}
+use Rattle.bpf_entries.specs.declared.entry.Entry.TheVariants as entry
+use Rattle.bpf_entries.specs.Fields.{FitsFields}
+use Rattle.bpf_entries.specs.Past.{replaced}
+use Rattle.bpf_entries.specs.Reading.{entry_of}
+use Rattle.bpf_entries.specs.Texts.{text, kind}
+use Rattle.bpf_entries.specs.Weights.{weight}
+use Rattle.bpf_entries.proofs.Texts.{length-text, read_whole}
+
+-- What the bytes of a text are read as by its kind weighs as many as there are, and replaced what the entry's move did.
+pub run_back : (e : Entry) (m : Bool) (k d : ℕ) (bytes : List ℕ) → FitsFields e → bytes ≡ text e m → k ≡ kind e
+    → (length bytes ≡ weight (entry_of k (length bytes) bytes)) × (replaced d (entry_of k (length bytes) bytes) ≡ replaced d e)
+run_back e m k d bytes a h q =
+    let is : entry_of k (length bytes) bytes ≡ e = read_whole e m k bytes a h q in
+    (ap length h ∙ length-text e m a ∙ ap weight (sym is), ap (replaced d) is)
+
+-- Entries of other kinds left memory as it was.
+pub no_run : (e : Entry) (d : ℕ) → (kind e ≡ 5 → ⊥) → (kind e ≡ 6 → ⊥) → (kind e ≡ 7 → ⊥) → (kind e ≡ 11 → ⊥) → replaced d e ≡ None
+no_run (entry.Register pc r x) d s f c b = refl
+no_run (entry.Jump pc) d s f c b = refl
+no_run (entry.Call pc) d s f c b = refl
+no_run (entry.Return pc saved) d s f c b = refl
+no_run (entry.Store pc a old) d s f c b = absurd (s refl)
+no_run (entry.Fetch pc r x a old) d s f c b = absurd (f refl)
+no_run (entry.Cell pc x a old) d s f c b = absurd (c refl)
+no_run (entry.Trace pc x) d s f c b = refl
+no_run entry.End d s f c b = refl
+no_run (entry.EditRegister r x) d s f c b = refl
+no_run (entry.EditBytes a old) d s f c b = absurd (b refl)
+no_run (entry.EditPc pc st) d s f c b = refl
