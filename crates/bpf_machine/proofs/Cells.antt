@@ -1,6 +1,8 @@
 -- Cells of maps: where one is, all of its bytes are present.
-use Rattle.std.proofs.Common.{sym, ◌≡◌, ◌≤◌, ◌<◌, ◌+◌, ◌-◌, ◌*◌, ◌^◌, ℕ, zero, suc, List, [], ◌∷◌, Option, Some, None, refl, ap, subst, ◌∙◌, arith}
-use Rattle.std.specs.Prelude.{All, IsSome, slice_get, option_map, ◌++◌}
+use Rattle.std.proofs.Common.{sym, ◌≡◌, ◌≤◌, ◌<◌, ◌+◌, ◌-◌, ◌*◌, ◌^◌, ℕ, zero, suc, true, List, [], ◌∷◌, Option, Some, None, refl, ap, subst, ◌∙◌, arith}
+use Rattle.std.specs.Prelude.{All, IsSome, slice_get, option_map, ◌++◌, nat_lt, ◌==◌}
+use Rattle.std.proofs.lemmas.Bool.{and_from, and_parts}
+use Rattle.std.proofs.lemmas.Bool.Decides.{nat_tests}
 use Rattle.std.proofs.Math.Nat.{mul-le-mul_left}
 use Rattle.std.proofs.lemmas.Nat.{mul-le}
 use Rattle.std.proofs.lemmas.Option.{slice_get_within}
@@ -9,7 +11,7 @@ use Rattle.bpf_isa.specs.Maps.{IsShape}
 use Rattle.bpf_machine.specs.Platform.{context_base, frame_len, frame_count, map_address, cell_address}
 use Rattle.bpf_machine.specs.Regions.{Image, IsImage, frames_from, maps_from, map_len, index_in, index_of, is_from_frame}
 use Rattle.bpf_machine.specs.State.{State, IsState, depth}
-use Rattle.bpf_machine.specs.Edits.{HasCell}
+use Rattle.bpf_machine.specs.Edits.{has_cell}
 use Rattle.bpf_machine.specs.ByAddress.{CellsAreAccessible}
 use Rattle.bpf_machine.proofs.ByAddress.{shown, past_frames}
 use Rattle.bpf_machine.proofs.Indices.{index_here, index_above, frames_before}
@@ -39,16 +41,24 @@ in_memory m a n at h low some found =
     is_some_by (Some l) k e = refl
 
 -- The shape of a map that has a cell.
-has_shape : (found : Option MapShape) (index n : ℕ) → HasCell found index n → (shape : MapShape) × (found ≡ Some shape) × (index < shape.entries) × (n ≡ shape.value_size)
-has_shape None index n able = absurd able
-has_shape (Some shape) index n able = (shape, refl, able.0, able.1)
+has_shape : (found : Option MapShape) (index n : ℕ) → has_cell found index n ≡ true → (shape : MapShape) × (found ≡ Some shape) × (index < shape.entries) × (n ≡ shape.value_size)
+has_shape None index n able = cc
+has_shape (Some shape) index n able =
+    let two = and_parts (nat_lt index shape.entries) (n == shape.value_size) able in
+    let low : index < shape.entries = let holds = two.0 in grind (arith, nat_tests) in
+    let whole : n ≡ shape.value_size = let holds = two.1 in grind (arith, nat_tests) in
+    (shape, refl, low, whole)
+
+-- Such a cell is there.
+pub cell_is_there : (shape : MapShape) (index n : ℕ) → index < shape.entries → n ≡ shape.value_size → has_cell (Some shape) index n ≡ true
+cell_is_there shape index n low whole = and_from (nat_lt index shape.entries) (n == shape.value_size) (grind (arith, nat_tests)) (grind (arith, nat_tests))
 
 shape_at : (shapes : List MapShape) (i : ℕ) (shape : MapShape) → All IsShape shapes → slice_get shapes i ≡ Some shape → IsShape shape
 shape_at [] i shape h e = cc
 shape_at (s ∷ shapes) zero shape h e = let same : s ≡ shape = cc in subst IsShape same (first_shape s shapes h)
 shape_at (s ∷ shapes) (suc i) shape h e = shape_at shapes i shape (later_shapes s shapes h) e
 
-pub cell_present : (x : State) (map index n : ℕ) → IsState x → HasCell (slice_get x.program.maps map) index n → IsSome (index_of x.memory (cell_address map index n) n)
+pub cell_present : (x : State) (map index n : ℕ) → IsState x → has_cell (slice_get x.program.maps map) index n ≡ true → IsSome (index_of x.memory (cell_address map index n) n)
 cell_present x map index n is able =
     let found = has_shape (slice_get x.program.maps map) index n able in
     let shape = found.0 in
@@ -67,7 +77,7 @@ cell_present x map index n is able =
         omega (arith, whole, same, e)
 
 -- The address of a cell.
-pub cell_limits : (x : State) (map index n : ℕ) → IsState x → HasCell (slice_get x.program.maps map) index n → (map < 16) × (index < 4096) × (1 ≤ n) × (n ≤ 256)
+pub cell_limits : (x : State) (map index n : ℕ) → IsState x → has_cell (slice_get x.program.maps map) index n ≡ true → (map < 16) × (index < 4096) × (1 ≤ n) × (n ≤ 256)
 cell_limits x map index n is able =
     let found = has_shape (slice_get x.program.maps map) index n able in
     let limits = shape_at x.program.maps map found.0 is.checked.tables.shapes found.1 in
@@ -78,7 +88,7 @@ cell_limits x map index n is able =
     let within = slice_get_within x.program.maps map found.0 found.1 in
     (omega (arith, few, within), omega (arith, found.2, entries), omega (arith, found.3, some), omega (arith, found.3, value))
 
-pub cell_address_fits : (x : State) (map index n : ℕ) → IsState x → HasCell (slice_get x.program.maps map) index n → cell_address map index n < 2 ^ 64
+pub cell_address_fits : (x : State) (map index n : ℕ) → IsState x → has_cell (slice_get x.program.maps map) index n ≡ true → cell_address map index n < 2 ^ 64
 cell_address_fits x map index n is able =
     let limits = cell_limits x map index n is able in
     address_low map index n limits.0 limits.1 limits.3
@@ -90,5 +100,5 @@ pub law_cells : CellsAreAccessible
 law_cells x is map index shape here low =
     let n = shape.value_size in
     let a = cell_address map index n in
-    let able : HasCell (slice_get x.program.maps map) index n = subst (λ found. HasCell found index n) (sym here) (low, refl) in
+    let able : has_cell (slice_get x.program.maps map) index n ≡ true = subst (λ found. has_cell found index n ≡ true) (sym here) (cell_is_there shape index shape.value_size low refl) in
     shown (is_from_frame (depth x + 1) a) (index_of x.memory a n) (past_frames (depth x + 1) a (omega arith)) (cell_present x map index n is able)

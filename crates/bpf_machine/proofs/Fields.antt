@@ -25,6 +25,7 @@ use Rattle.bpf_machine.specs.Moves.{IsMovable, overwritten}
 use Rattle.bpf_entries.specs.Fields.{FitsSlot, FitsBytes, FitsFields}
 use Rattle.bpf_machine.specs.Fields.{FitsEdit, FitsMove, EntriesFit}
 use Rattle.bpf_entries.specs.Status.{FitsNumber, FitsStatus}
+use Rattle.bpf_machine.proofs.Editable.{able_bytes, able_cell}
 use Rattle.bpf_machine.proofs.ByAddress.{fits_within, length-run}
 use Rattle.bpf_machine.proofs.Cells.{cell_present, cell_address_fits}
 use Rattle.bpf_machine.proofs.Fitting.{number_fits, four_fit, change_fits}
@@ -88,12 +89,13 @@ edit_fits : (x : State) (e : Edit) → IsState x → IsEditable x e → FitsStat
 unfolding edit_entry
 edit_fits x (edit.Register r value) is able status fits = (fits.0, number_fits x r is)
 edit_fits x (edit.Bytes a bytes) is able status fits =
-    (fits.0, bytes_fit x a (length bytes) bytes (index_of x.memory a (length bytes)) is refl able (fits.1.0) (fits.1.1))
+    (fits.0, bytes_fit x a (length bytes) bytes (index_of x.memory a (length bytes)) is refl (able_bytes x a bytes able) (fits.1.0) (fits.1.1))
 edit_fits x (edit.Cell map index bytes) is able status fits =
     let n = length bytes in
+    let cell = able_cell x map index bytes able in
     let a = cell_address map index n in (
-      cell_address_fits x map index n is able,
-      bytes_fit x a n bytes (index_of x.memory a n) is refl (cell_present x map index n is able) (fits.2.0) (fits.2.1),
+      cell_address_fits x map index n is cell,
+      bytes_fit x a n bytes (index_of x.memory a n) is refl (cell_present x map index n is cell) (fits.2.0) (fits.2.1),
     )
 edit_fits x (edit.Pc slot) is able status fits = (slot_fits x is, status)
 

@@ -7,6 +7,7 @@ pub mod Loans
 pub mod Codes
 pub mod Fitting
 pub mod EntryParts
+pub mod Editable
 pub mod Undoing
 pub mod Restoring
 pub mod StepLaws

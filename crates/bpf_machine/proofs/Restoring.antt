@@ -19,6 +19,7 @@ use Rattle.bpf_machine.specs.Entries.{entry_of}
 use Rattle.bpf_machine.specs.Edits.{IsEditable, edited, edit_entry}
 use Rattle.bpf_machine.specs.Moves.{Leads, HasCome, IsMovable, moved, overwritten}
 use Rattle.bpf_machine.specs.Undoing.{undone, Restores}
+use Rattle.bpf_machine.proofs.Editable.{able_register}
 use Rattle.bpf_machine.proofs.Fitting.{change_fits}
 use Rattle.bpf_machine.proofs.Undoing.{undoing, innermost_there}
 
@@ -43,7 +44,7 @@ restores_change x (Stop status) is fits = (tt, tt, tt)
 
 restores_edit : (x : State) (e : Edit) → IsState x → IsEditable x e → Restores (edited x e) (edit_entry x e)
 unfolding edited edit_entry
-restores_edit x (edit.Register r value) is able = (tt, able, tt)
+restores_edit x (edit.Register r value) is able = (tt, able_register x r value able, tt)
 restores_edit x (edit.Bytes a bytes) is able = (tt, tt, tt)
 restores_edit x (edit.Cell map index bytes) is able = (tt, tt, tt)
 restores_edit x (edit.Pc slot) is able = (is.start, tt, tt)

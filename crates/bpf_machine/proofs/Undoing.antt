@@ -34,6 +34,7 @@ use Rattle.bpf_machine.specs.Entries.{entry_of}
 use Rattle.bpf_machine.specs.Edits.{IsEditable, edited, edit_entry}
 use Rattle.bpf_machine.specs.Moves.{Leads, IsMovable, moved, overwritten}
 use Rattle.bpf_machine.specs.Undoing.{undone}
+use Rattle.bpf_machine.proofs.Editable.{able_bytes, able_cell}
 use Rattle.bpf_machine.proofs.ByAddress.{fits_within, length-run}
 use Rattle.bpf_machine.proofs.Cells.{cell_present}
 use Rattle.bpf_machine.proofs.Fitting.{change_fits}
@@ -168,10 +169,10 @@ unfolding undone edit_entry edited
 edit_back x (edit.Register r value) is able =
     ap (λ registers. record x { registers = registers }) (register_back x r value is.ten)
 edit_back x (edit.Bytes a bytes) is able =
-    ap (λ memory. record x { memory = memory }) (bytes_back x a (length bytes) bytes bytes (index_of x.memory a (length bytes)) is refl refl able)
+    ap (λ memory. record x { memory = memory }) (bytes_back x a (length bytes) bytes bytes (index_of x.memory a (length bytes)) is refl refl (able_bytes x a bytes able))
 edit_back x (edit.Cell map index bytes) is able =
     let a = cell_address map index (length bytes) in
-    ap (λ memory. record x { memory = memory }) (bytes_back x a (length bytes) bytes bytes (index_of x.memory a (length bytes)) is refl refl (cell_present x map index (length bytes) is able))
+    ap (λ memory. record x { memory = memory }) (bytes_back x a (length bytes) bytes bytes (index_of x.memory a (length bytes)) is refl refl (cell_present x map index (length bytes) is (able_cell x map index bytes able)))
 edit_back x (edit.Pc slot) is able = refl
 
 move_back : (x : State) (m : Move) → IsState x → IsMovable x m → undone (overwritten x m) (moved x m) ≡ x

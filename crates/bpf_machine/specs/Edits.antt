@@ -1,6 +1,6 @@
 -- Edits: what a user changes in a machine by hand, in every status. bpfdb's own choice.
-use Rattle.std.specs.Prelude.{◌≡◌, ◌<◌, ℕ, List, Option, Some, None, IsSome, IsNone, length, unwrap_or, slice_get, slice_set}
-use Rattle.bpf_isa.specs.Programs.{IsStart}
+use Rattle.std.specs.Prelude.{◌≡◌, ℕ, Bool, false, ◌&&◌, ◌==◌, if◌then◌else◌, nat_lt, is_some, List, Option, Some, None, length, unwrap_or, slice_get, slice_set}
+use Rattle.bpf_isa.specs.Programs.{insn_at}
 use Rattle.bpf_isa.specs.declared.maps.MapShape.{MapShape}
 use Rattle.bpf_machine.specs.declared.edit.Edit.{Edit}
 use Rattle.bpf_machine.specs.declared.edit.Edit.TheVariants as edit
@@ -13,26 +13,25 @@ use Rattle.bpf_machine.specs.Platform.{cell_address}
 use Rattle.bpf_machine.specs.Regions.{index_of, run_at, put}
 use Rattle.bpf_machine.specs.State.{State, register}
 
--- A map of this shape has a cell of this index, and its values have n bytes.
-abbrev pub HasCell : Option MapShape → ℕ → ℕ → Type 0
-HasCell None index n = ⊥
-HasCell (Some shape) index n = (index < shape.entries) × (n ≡ shape.value_size)
+-- A fault where a test doesn't hold.
+abbrev pub unless : Bool → EditFault → Option EditFault
+unless holds fault = if holds then None else Some fault
 
--- Whether an edit can be made: r10 is not writable, a run of bytes lies whole in one region, a cell is there and gets as many bytes
--- as it has, and an instruction starts at the new pc.
+-- There is a map of this shape, its cells go past this index, and its values have n bytes.
+abbrev pub has_cell : Option MapShape → ℕ → ℕ → Bool
+has_cell None index n = false
+has_cell (Some shape) index n = nat_lt index shape.entries && (n == shape.value_size)
+
+-- Why an edit can't be made: r10 is not writable, a run of bytes lies whole in one region, a cell is there and gets as many bytes
+-- as it has, and an instruction starts at the new pc. None where it can.
+abbrev pub edit_fault : State → Edit → Option EditFault
+edit_fault x (edit.Register r value) = unless (nat_lt r 10) RegisterNotWritable
+edit_fault x (edit.Bytes a bytes) = unless (is_some (index_of x.memory a (length bytes))) AddressNotPresent
+edit_fault x (edit.Cell map index bytes) = unless (has_cell (slice_get x.program.maps map) index (length bytes)) NoCell
+edit_fault x (edit.Pc slot) = unless (is_some (insn_at x.program slot)) NoStart
+
 abbrev pub IsEditable : State → Edit → Type 0
-IsEditable x (edit.Register r value) = r < 10
-IsEditable x (edit.Bytes a bytes) = IsSome (index_of x.memory a (length bytes))
-IsEditable x (edit.Cell map index bytes) = HasCell (slice_get x.program.maps map) index (length bytes)
-IsEditable x (edit.Pc slot) = IsStart x.program slot
-
--- Why it can't.
-abbrev pub RefusesEdit : State → Edit → EditFault → Type 0
-RefusesEdit x (edit.Register r value) RegisterNotWritable = r ≡ 10
-RefusesEdit x (edit.Bytes a bytes) AddressNotPresent = IsNone (index_of x.memory a (length bytes))
-RefusesEdit x (edit.Cell map index bytes) NoCell = ¬ HasCell (slice_get x.program.maps map) index (length bytes)
-RefusesEdit x (edit.Pc slot) NoStart = ¬ IsStart x.program slot
-RefusesEdit x _ _ = ⊥
+IsEditable x e = edit_fault x e ≡ None
 
 -- Memory with other bytes at an address, and the bytes that they replace.
 abbrev pub with_run : State → ℕ → List ℕ → State

@@ -4,7 +4,6 @@
 mod alu;
 mod change;
 mod code;
-mod compact;
 mod cpu;
 mod edit;
 mod ended;
@@ -18,7 +17,6 @@ mod platform;
 
 pub use bpf_entries::{ByteString, Entry, Fault, Status};
 pub use change::Change;
-pub use compact::CompactEntry;
 pub use cpu::Cpu;
 pub use edit::{Edit, EditFault};
 pub use ended::Ended;

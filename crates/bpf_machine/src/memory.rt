@@ -34,7 +34,6 @@ impl Model for Memory {
 
 impl Memory {
     ghost use Rattle.std.specs.Borrow.{sem};
-    ghost use Rattle.byteorder.specs.Endian.{little_bytes};
     ghost use Rattle.bpf_isa.specs.Sizes.{size_len};
     ghost use Rattle.bpf_machine.specs.Regions.{index_of, run, run_at, number_at, with_number, put, IsImage};
     ghost use Rattle.bpf_machine.specs.Opening.{MemoryOpened, Refused};
@@ -136,16 +135,6 @@ impl Memory {
     {
         if let Some(at) = self.index(address, bytes.len(), FRAME_COUNT) {
             copy(self.run_mut(at, bytes.len()), bytes);
-        }
-    }
-
-    /// Stores the low bytes of a number at this address where all of them are present; else nothing changes.
-    pub(crate) fn put_number(&mut self, address: u64, size: Size, value: u64)
-        ensures next { self.new ≡ put self.old address (size_len size) (little_bytes (size_len size) value) }
-        ensures maps { self.new.maps ≡ self.old.maps }
-    {
-        if let Some(at) = self.index(address, size.len(), FRAME_COUNT) {
-            self.store(at, size, value);
         }
     }
 

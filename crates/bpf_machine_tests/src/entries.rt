@@ -1,10 +1,8 @@
 //! Entries and what they weigh in a journal. Expected values are those of docs/MACHINE.md.
-use crate::machines::entry_text;
-use crate::rows::{number, parts, two};
+use crate::rows::{parts, two};
 use crate::tables::{Table, check};
-use bpf_isa::{Reg, Size};
-use bpf_machine::{ByteString, CompactEntry, Entry, Status};
-use std::alloc::Global;
+use bpf_isa::Reg;
+use bpf_machine::{ByteString, Entry, Status};
 use std::process::Abort;
 
 // A kind of entry, how many bytes it replaced, and its weight.
@@ -113,65 +111,4 @@ pub fn weight_holds(rt: &impl Abort, row: &str) -> bool {
 #[test]
 fn weights(rt: HostRuntime) {
     check(&rt, rt.alloc(), Table::Weights, WEIGHTS, 20);
-}
-
-// A compact entry at slot 9, its weight, and the entry that it means.
-const COMPACT: &str = "\
-register; 16; register at 9 r3 0xffffffffffffffff
-jump; 7; jump at 9
-byte; 17; store at 9 0x2000001ff 11
-half; 18; store at 9 0x2000001ff 1122
-word; 20; store at 9 0x2000001ff 11223344
-double; 24; store at 9 0x2000001ff 1122334455667788
-end; 5; end
-";
-
-/// A compact entry by its name.
-fn compact_entry(rt: &impl Abort, name: &str) -> CompactEntry {
-    let r3 = Reg::new(3).expect(rt, "r3");
-    let found = match name {
-        "register" => Some(CompactEntry::Register {
-            register: r3,
-            pc: 9,
-            value: u64::MAX,
-        }),
-        "jump" => Some(CompactEntry::Jump { pc: 9 }),
-        "byte" => Some(stored(Size::Byte)),
-        "half" => Some(stored(Size::Half)),
-        "word" => Some(stored(Size::Word)),
-        "double" => Some(stored(Size::Double)),
-        "end" => Some(CompactEntry::End),
-        _ => None,
-    };
-    found.expect(rt, "unknown name")
-}
-
-/// A store of this size over the low bytes of a number.
-fn stored(size: Size) -> CompactEntry {
-    CompactEntry::Store {
-        size,
-        pc: 9,
-        address: 0x2_0000_01ff,
-        old: 0x8877_6655_4433_2211,
-    }
-}
-
-/// Whether a compact entry has this weight and means this entry.
-fn means(rt: &impl Abort, alloc: Global, compact: &CompactEntry, weight: u64, text: &str) -> bool {
-    let entry = compact.expanded();
-    (compact.weight() as u64, entry.weight() as u64) == (weight, weight)
-        && entry_text(rt, alloc, &entry).as_str() == text
-}
-
-/// Whether a row of compact entries holds.
-pub fn compact_entry_holds(rt: &impl Abort, alloc: Global, row: &str) -> bool {
-    let (name, rest) = parts(rt, row);
-    let (weight, text) = parts(rt, rest);
-    let compact = compact_entry(rt, name);
-    means(rt, alloc, &compact, number(rt, weight), text)
-}
-
-#[test]
-fn compact_entries(rt: HostRuntime) {
-    check(&rt, rt.alloc(), Table::CompactEntries, COMPACT, 7);
 }

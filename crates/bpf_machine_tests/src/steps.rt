@@ -28,14 +28,11 @@ b400000007000000; register at 14 r0 0xfffffffffffffffb
 9500000000000000; end
 ";
 
-/// A step by its halves, and its entry: the compact one, where there is one.
+/// A step by its halves, and its entry.
 fn step_by_halves(cpu: &mut Cpu) -> Option<Entry> {
     match cpu.look() {
         Ok(change) => {
-            let entry = match cpu.compact(&change) {
-                Some(entry) => entry.expanded(),
-                None => cpu.entry(&change),
-            };
+            let entry = cpu.entry(&change);
             cpu.commit(&change);
             Some(entry)
         }

@@ -1,7 +1,7 @@
 //! Edits: the test, the entry, and the doing.
-ghost use Rattle.std.specs.Prelude.{◌≡◌, ◌≤◌, ◌↔◌, IsTrue, IsSome, Some, IfOk, IfErr, OnOk, OnErr, IfSome, IfNone, slice_get};
-ghost use Rattle.bpf_isa.specs.Programs.{IsStart};
-ghost use Rattle.bpf_machine.specs.Edits.{HasCell, IsEditable, RefusesEdit, edited, edit_entry};
+ghost use Rattle.std.specs.Prelude.{◌≡◌, ◌≤◌, true, is_some, IsSome, Some, IfOk, IfErr, OnOk, OnErr, slice_get};
+ghost use Rattle.bpf_isa.specs.Programs.{IsStart, insn_at};
+ghost use Rattle.bpf_machine.specs.Edits.{IsEditable, edit_fault, edited, edit_entry, has_cell};
 ghost use Rattle.bpf_machine.specs.Platform.{cell_address as cell_address_of};
 ghost use Rattle.bpf_machine.specs.Regions.{index_of, run_at};
 
@@ -17,7 +17,7 @@ impl Cpu {
         ensures ok { OnOk result (IsEditable self.old edit.now) }
         ensures next { OnOk result (self.new ≡ edited self.old edit.now) }
         ensures entry { IfOk result (λ entry. entry ≡ edit_entry self.old edit.now) }
-        ensures err { IfErr result (RefusesEdit self.old edit.now) }
+        ensures err { IfErr result (λ fault. edit_fault self.old edit.now ≡ Some fault) }
         ensures same { OnErr result (self.new ≡ self.old) }
     {
         match self.refusal(edit) {
@@ -32,8 +32,7 @@ impl Cpu {
 
     /// Why an edit is refused, if it is.
     fn refusal(&self, edit: &Edit) -> Option<EditFault>
-        ensures found { IfSome result (RefusesEdit self.now edit.now) }
-        ensures none { IfNone result (IsEditable self.now edit.now) }
+        ensures { result ≡ edit_fault self.now edit.now }
     {
         match edit {
             Edit::Register { register, value: _ } => {
@@ -62,7 +61,7 @@ impl Cpu {
 
     /// Whether a map has this cell, with values of n bytes.
     fn has_cell(&self, map: u64, index: u64, n: usize) -> bool
-        ensures { IsTrue result ↔ HasCell (slice_get self.now.program.maps map) index n }
+        ensures { result ≡ has_cell (slice_get self.now.program.maps map) index n }
     {
         match self.program.maps().shape(map as usize) {
             Some(shape) => index < u64::from(shape.entries) && n == shape.value_size as usize,
@@ -72,7 +71,7 @@ impl Cpu {
 
     /// The address of a cell that a map has.
     fn cell(&self, map: u64, index: u64, n: usize) -> u64
-        requires { HasCell (slice_get self.now.program.maps map) index n }
+        requires { has_cell (slice_get self.now.program.maps map) index n ≡ true }
         ensures value { result ≡ cell_address_of map index n }
         ensures present { IsSome (index_of self.now.memory result n) }
     {
@@ -82,7 +81,7 @@ impl Cpu {
 
     /// Whether an instruction of the program starts at this slot.
     fn is_start(&self, slot: u64) -> bool
-        ensures { IsTrue result ↔ IsStart self.now.program slot }
+        ensures { result ≡ is_some (insn_at self.now.program slot) }
     {
         self.program.is_start(slot as usize)
     }

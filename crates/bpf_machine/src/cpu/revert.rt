@@ -1,14 +1,12 @@
 //! Going back: an entry is put back into the state that its move led to.
 ghost use Rattle.std.specs.Prelude.{◌≡◌, ◌≤◌, length};
 ghost use Rattle.bpf_isa.specs.Programs.{IsStart};
-ghost use Rattle.bpf_machine.specs.Entries.{expanded};
 ghost use Rattle.bpf_machine.specs.Moves.{Leads, HasCome, overwritten};
 ghost use Rattle.bpf_machine.specs.State.{State};
 ghost use Rattle.bpf_machine.specs.Undoing.{undone, Restores};
 ghost use Rattle.bpf_machine.specs.declared.moves.Move.{Move};
 
 use super::Cpu;
-use crate::compact::CompactEntry;
 use bpf_entries::{Entry, Status};
 use bpf_isa::Reg;
 
@@ -19,14 +17,6 @@ impl Cpu {
         ensures { (x : State) (m : Move) → Leads x m self.old → overwritten x m ≡ entry.now → self.new ≡ x }
     {
         self.undo(entry);
-    }
-
-    /// The same for a compact entry.
-    pub fn revert_compact(&mut self, entry: &CompactEntry)
-        requires { HasCome self.old (expanded entry.now) }
-        ensures { (x : State) (m : Move) → Leads x m self.old → overwritten x m ≡ expanded entry.now → self.new ≡ x }
-    {
-        self.undo_compact(entry);
     }
 
     /// Puts an entry back.
@@ -62,49 +52,6 @@ impl Cpu {
             Entry::EditRegister { register, value } => self.undo_edit_register(*register, *value),
             Entry::EditBytes { address, old } => self.undo_edit_bytes(*address, old.as_slice()),
             Entry::EditPc { pc, status } => self.undo_edit_pc(*pc, *status),
-        }
-    }
-
-    /// Puts a compact entry back.
-    #[tactic(auto, unfolding(crate::specs::Undoing::undone, crate::specs::Entries::expanded))]
-    fn undo_compact(&mut self, entry: &CompactEntry)
-        requires { Restores self.old (expanded entry.now) }
-        ensures { self.new ≡ undone (expanded entry.now) self.old }
-    {
-        match *entry {
-            CompactEntry::Register {
-                register,
-                pc,
-                value,
-            } => {
-                self.write_register(register, value);
-                self.pc = pc;
-            }
-            CompactEntry::Jump { pc } => self.pc = pc,
-            CompactEntry::Store {
-                size,
-                pc,
-                address,
-                old,
-            } => {
-                self.memory.put_number(address, size, old);
-                self.pc = pc;
-            }
-            CompactEntry::Fetch {
-                size,
-                register,
-                pc,
-                address,
-                old,
-                value,
-            } => {
-                self.memory.put_number(address, size, old);
-                self.write_register(register, value);
-                self.pc = pc;
-            }
-            CompactEntry::Call { pc } => self.undo_call(pc),
-            CompactEntry::Trace { pc, r0 } => self.undo_trace(pc, r0),
-            CompactEntry::End => self.status = Status::Running,
         }
     }
 
