@@ -1,6 +1,6 @@
 -- Bytes around a block's end, item by item.
 use Rattle.std.proofs.Common.{◌≡◌, ℕ, ◌+◌, ◌-◌, ◌≤◌, ◌<◌, ◌⊎◌, List, [], ◌++◌, length, get_or, take, drop, refl, sym, ap, ◌∙◌, append_assoc, arith, inl, inr}
-use Rattle.std.proofs.lemmas.List.{length-append, length-drop, drop-drop, take_all, drop_all, append-nil, take-append-drop, take-append-le, drop-append-le, get_or-drop, get_or_append_left, get_or-append_right, same_lists}
+use Rattle.std.proofs.lemmas.List.{length-append, length-drop, drop-drop, take_all, drop_all, append-nil, take-append-drop, take-append-le, take-take, drop-append-le, length-take, get_or-take, get_or-drop, get_or_append_left, get_or-append_right, same_lists}
 use Rattle.std.proofs.lemmas.Grind.{common_steps}
 use Rattle.std.proofs.lemmas.Bool.{cases_lt}
 use Rattle.std.proofs.lemmas.Bool.Decides.{nat_tests}
@@ -225,7 +225,7 @@ one_piece xs ys es first len end w e a b c f g =
     ∙ ap (λ n. around (pasted xs end es) first (len + n)) (sym f)
     ∙ around_more xs es first len end e a (omega (arith, b, f)) (omega (arith, c, f))
 
--- The newest bytes, read where they lie: in the first of the two pieces that the block was lent in.
+-- Bytes from a place on, and the newest ones, read where they lie: in the first of the two pieces that the block was lent in.
 around_piece : (xs front rest : List ℕ) (at n : ℕ) → front ++ rest ≡ xs → at + n ≤ length front → around xs at n ≡ take (at + n - at) (drop at front)
 around_piece xs front rest at n e fits =
     let count : n ≡ at + n - at = omega arith in
@@ -236,12 +236,46 @@ around_piece xs front rest at n e fits =
     ∙ take-append-le n (drop at front) (rest ++ take at (front ++ rest)) (omega (arith, tail, fits))
     ∙ ap (λ k. take k (drop at front)) count
 
+pub piece_at : (xs front rest bytes : List ℕ) (first len from n at : ℕ) → around xs first len ≡ bytes → at ≡ behind (length xs) first from → first < length xs → len ≤ length xs
+    → from + n ≤ length bytes → front ++ rest ≡ xs → at + n ≤ length front → take (at + n - at) (drop at front) ≡ take n (drop from bytes)
+piece_at xs front rest bytes first len from n at is e a b c cut fits =
+    let long : length bytes ≡ len = ap length (sym is) ∙ length-around xs first len (omega (arith, a)) b in
+    sym (around_piece xs front rest at n cut fits)
+    ∙ sym (take-take n (len - from) (drop at xs ++ take at xs) (omega (arith, long, c)))
+    ∙ ap (take n) (around_drop xs first len from at e a b (omega (arith, long, c)))
+    ∙ ap (λ l. take n (drop from l)) is
+
 pub newest_piece : (xs front rest bytes : List ℕ) (first len n at : ℕ) → around xs first len ≡ bytes → at ≡ behind (length xs) first (length bytes - n) → first < length xs → len ≤ length xs
     → n ≤ length bytes → front ++ rest ≡ xs → at + n ≤ length front → take (at + n - at) (drop at front) ≡ drop (length bytes - n) bytes
 newest_piece xs front rest bytes first len n at is e a b c cut fits =
-    let long : length bytes ≡ len = ap length (sym is) ∙ length-around xs first len (omega (arith, a)) b in
-    let all : n ≡ len - (length bytes - n) = omega (arith, long, c) in
-    sym (around_piece xs front rest at n cut fits)
-    ∙ ap (around xs at) all
-    ∙ around_drop xs first len (length bytes - n) at e a b (omega (arith, long))
-    ∙ ap (drop (length bytes - n)) is
+    piece_at xs front rest bytes first len (length bytes - n) n at is e a b (omega (arith, c)) cut fits
+    ∙ take_all n (drop (length bytes - n) bytes) (omega (arith, length-drop (length bytes - n) bytes, c))
+
+-- The oldest bytes, read there.
+pub oldest_piece : (xs front rest bytes : List ℕ) (first len n : ℕ) → around xs first len ≡ bytes → front ++ rest ≡ xs → n ≤ len → first + n ≤ length front
+    → take (first + n - first) (drop first front) ≡ take n bytes
+oldest_piece xs front rest bytes first len n is cut within fits =
+    sym (around_piece xs front rest first n cut fits)
+    ∙ sym (grind (arith, common_steps))
+    ∙ ap (take n) is
+
+-- A block that was filled on has the same bytes.
+pub around_filled : (xs ys : List ℕ) (first len size : ℕ) → take (length xs) ys ≡ xs → length ys ≤ size → (length xs < size → first + len < length xs) → first < length xs → len ≤ length xs
+    → around ys first len ≡ around xs first len
+around_filled xs ys first len size same fits straight a b = elim (cases_lt (length xs) size) [
+  | inl grows ↦
+      let within : first + len < length xs = straight grows in
+      let more : length xs ≤ length ys = omega (arith, ap length same, length-take (length xs) ys) in
+      let left = length-around ys first len (omega (arith, a, more)) (omega (arith, b, more)) in
+      let right = length-around xs first len (omega (arith, a)) b in
+      same_lists _ _ (left ∙ sym right) (λ k d h.
+      let short : k < len = omega (arith, h, left) in
+      let inside : first + k < length xs = omega (arith, short, within) in
+      around_low ys first len k d short (omega (arith, inside, more))
+      ∙ sym (get_or-take (length xs) ys (first + k) d inside)
+      ∙ ap (λ l. get_or l (first + k) d) same
+      ∙ sym (around_low xs first len k d short inside))
+  | inr full ↦
+      let all : ys ≡ xs = sym (take_all (length xs) ys (omega (arith, fits, full))) ∙ same in
+      ap (λ l. around l first len) all
+]

@@ -141,7 +141,7 @@ CountsNewest old new t = (ks : List Kept) (k : Kept) → Counted old (k ∷ ks) 
 -- The whole of a drop, by what was read of the oldest.
 pub drop_held : (old new : Content) (before after : Counts) (n count t : ℕ) (ks : List Kept) (z : Kept) → IsHeld old before (ks ++ z ∷ [])
     → ((k : ℕ) (rest : List ℕ) → k < 2 ^ 16 → old.bytes ≡ little_bytes 2 k ++ rest → n ≡ k)
-    → TagAt old 0 t
+    → ((e : Entry) (mark : Bool) (rest : List ℕ) → old.bytes ≡ text e mark ++ rest → t ≡ tag (kind e) mark)
     → (1 ≤ n → n ≤ length old.bytes → count ≡ n)
     → new.bytes ≡ drop count old.bytes → CountsOldest before after t → IsHeld new after ks
 drop_held old new before after n count t ks z held len tags same bytes counts =
@@ -152,7 +152,7 @@ drop_held old new before after n count t ks z held len tags same bytes counts =
     let inside = weighs_within old.bytes z (ring ks) fits whole in
     let is : n ≡ weight z.0 = len (weight z.0) _ (omega (arith, low)) (begins_with_weight old.bytes z (ring ks) whole) in
     let exact : count ≡ weight z.0 = same (omega (arith, is, high)) (omega (arith, is, inside)) ∙ is in
-    dropped old new before after ks z held (bytes ∙ ap (λ k. drop k old.bytes) exact) (counts ks z held.counted (tags z.0 z.1 [] (ring ks) whole refl))
+    dropped old new before after ks z held (bytes ∙ ap (λ k. drop k old.bytes) exact) (counts ks z held.counted (tags z.0 z.1 (ring ks) whole))
 
 -- What a ring kept for a new entry, and the entry behind it.
 pub kept_more : (size : ℕ) (content : Content) (counts : Counts) (ks : List Kept) (e : Entry) (m : Bool) → 1024 ≤ size → FitsFields e

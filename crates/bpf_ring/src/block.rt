@@ -1,5 +1,5 @@
 //! A block whose bytes go around its end.
-ghost use Rattle.std.specs.Prelude.{◌≡◌, ◌≤◌, ◌<◌, ◌+◌, ◌^◌, ◌++◌, length, false};
+ghost use Rattle.std.specs.Prelude.{◌≡◌, ◌≤◌, ◌<◌, ◌+◌, ◌^◌, ◌++◌, length, nat_lt, take, true, false};
 ghost use Rattle.bpf_entries.specs.Fields.{FitsFields};
 ghost use Rattle.bpf_entries.specs.Status.{has_ended};
 ghost use Rattle.bpf_entries.specs.Texts.{text};
@@ -9,6 +9,36 @@ ghost use Rattle.bpf_machine.specs.Next.{change as change_of, next};
 ghost use Rattle.bpf_ring.specs.Blocks.{around, behind};
 
 use bpf_machine::{Change, Cpu};
+use circular_buffer::HeapCircularBuffer;
+
+/// Fills a buffer with zeros so that it has so many bytes, or until it is full: 4,096 at a time. Where it then goes around its end, it
+/// is filled on to twice that, since all of it will be moved.
+pub(crate) fn fill(buffer: &mut HeapCircularBuffer<u8>, count: usize)
+    ensures capacity { buffer.new.capacity ≡ buffer.old.capacity }
+    ensures items { take (length buffer.old.items) buffer.new.items ≡ buffer.old.items }
+    ensures fits { length buffer.new.items ≤ buffer.old.capacity }
+    ensures filled { length buffer.new.items < buffer.old.capacity → count ≤ length buffer.new.items }
+{
+    if count > buffer.len() {
+        fill_on(buffer, count);
+        if !buffer.as_slices().1.is_empty() {
+            fill_on(buffer, 2 * buffer.len());
+        }
+    }
+}
+
+/// Fills a buffer so that it has so many bytes, or until it is full.
+fn fill_on(buffer: &mut HeapCircularBuffer<u8>, count: usize)
+    ensures capacity { buffer.new.capacity ≡ buffer.old.capacity }
+    ensures items { take (length buffer.old.items) buffer.new.items ≡ buffer.old.items }
+    ensures fits { length buffer.new.items ≤ buffer.old.capacity }
+    ensures filled { length buffer.new.items < buffer.old.capacity → count ≤ length buffer.new.items }
+{
+    let end = count.min(buffer.capacity());
+    while buffer.len() < end {
+        buffer.fill_from_slice(&[0u8; 4096]);
+    }
+}
 
 /// The place n behind another, in a block of this size.
 #[inline(always)]
@@ -42,9 +72,9 @@ pub(crate) fn write_around(block: &mut [u8], first: usize, len: usize, bytes: &[
 }
 
 /// Lets a machine do what `look` answered of it, and writes the entry of that, which has so many bytes, behind the `len` ones from `first`
-/// on: in one piece where it stays, or in two.
+/// on: in one piece, in front of the block's last byte. Where that is no room for it, all stays.
 #[inline(always)]
-pub(crate) fn record_around(
+pub(crate) fn record_in_place(
     cpu: &mut Cpu,
     change: &Change,
     block: &mut [u8],
@@ -52,7 +82,7 @@ pub(crate) fn record_around(
     len: usize,
     weight: usize,
     mark: bool,
-)
+) -> bool
     requires runs { has_ended cpu.old.status ≡ false }
     requires looked { change.now ≡ change_of cpu.old }
     requires entry { FitsFields (step_entry cpu.old) }
@@ -60,18 +90,19 @@ pub(crate) fn record_around(
     requires light { weight ≤ 280 }
     requires short { length block.old < 2 ^ 63 }
     requires first { first < length block.old }
-    requires fits { len + weight ≤ length block.old }
-    ensures next { cpu.new ≡ next cpu.old }
+    requires len { len ≤ length block.old }
+    ensures room { result ≡ nat_lt (behind (length block.old) first len + weight) (length block.old) }
+    ensures stays { result ≡ false → (cpu.new ≡ cpu.old) × (block.new ≡ block.old) }
+    ensures next { result ≡ true → cpu.new ≡ next cpu.old }
     ensures len { length block.new ≡ length block.old }
-    ensures text { around block.new first (len + weight) ≡ around block.old first len ++ text (step_entry cpu.old) mark }
+    ensures text { result ≡ true → len + weight ≤ length block.old → around block.new first (len + weight) ≡ around block.old first len ++ text (step_entry cpu.old) mark }
 {
     let size = block.len();
     let end = place(size, first, len);
-    if end + weight <= size {
+    if end + weight < size {
         cpu.record(change, &mut block[end..end + weight], mark);
+        true
     } else {
-        let mut scratch = [0u8; 280];
-        cpu.record(change, &mut scratch, mark);
-        write_around(block, first, len, &scratch[..weight]);
+        false
     }
 }

@@ -1,5 +1,6 @@
 //! The entries in a ring of bytes.
-ghost use Rattle.std.specs.Prelude.{◌≡◌, ◌≤◌, ◌<◌, ◌+◌, ◌-◌, ◌^◌, if◌then◌else◌, ◌∷◌, ◌++◌, [], List, length, sum_by, count_by, IfOk, None, Some, slice_get, false};
+ghost use Rattle.std.specs.Prelude.{◌≡◌, ◌≤◌, ◌<◌, ◌+◌, ◌-◌, ◌^◌, if◌then◌else◌, ◌∷◌, ◌++◌, [], List, length, sum_by, count_by, IfOk, None, Some, slice_get, ℕ, false};
+ghost use Rattle.bpf_entries.specs.Before.{byte_before as byte_before_by};
 ghost use Rattle.bpf_entries.specs.Fields.{FitsFields};
 ghost use Rattle.bpf_entries.specs.Keeping.{Kept, kept_weight, fit, keep};
 ghost use Rattle.bpf_entries.specs.Past.{is_of_step as of_step};
@@ -166,6 +167,24 @@ impl EntryRing {
         }
     }
 
+    /// What the byte at an address was before the move of the newest entry of the front at a place, where it is `after` behind that move, and
+    /// the place of the front without that entry; None at the place of the front without entries, which is 0. The entry is read where it lies.
+    pub fn byte_before(&self, place: usize, address: u64, after: u8) -> Option<(u8, usize)>
+        ensures none { place ≡ 0 → result ≡ None }
+        ensures some { (newer front : List Kept) (k : Kept) (depth : ℕ) → IsHeld self.now.ring self.now.counts (newer ++ k ∷ front) → place ≡ sum_by kept_weight (k ∷ front) →
+            result ≡ Some (byte_before_by depth k.0 address after, sum_by kept_weight front) }
+    {
+        if place < 5 || place > self.ring.len() {
+            return None;
+        }
+        let count = within(self.ring.len_before(place), place);
+        if count > 280 {
+            return None;
+        }
+        let old = self.ring.byte_before(place - count, count, address, after);
+        Some((old, place - count))
+    }
+
     /// Takes the newest entry off, None where none is held.
     pub fn pop(&mut self) -> Option<(Entry, bool)>
         ensures size { self.new.ring.size ≡ self.old.ring.size }
@@ -220,19 +239,21 @@ impl EntryRing {
     }
 
     /// Drops the oldest entry, whole.
+    #[inline(always)]
     fn drop_oldest(&mut self)
         requires { 5 ≤ length self.old.ring.bytes }
         ensures size { self.new.ring.size ≡ self.old.ring.size }
         ensures shrinks { length self.new.ring.bytes < length self.old.ring.bytes }
         ensures held { (ks : List Kept) (z : Kept) → IsHeld self.old.ring self.old.counts (ks ++ z ∷ []) → IsHeld self.new.ring self.new.counts ks }
     {
-        let tag = self.ring.tag_at(0);
-        let count = within(self.ring.oldest_len(), self.ring.len());
+        let (len, tag) = self.ring.oldest();
+        let count = within(len, self.ring.len());
         self.ring.drop_oldest(count);
         self.counts.subtract(tag);
     }
 
     /// Drops the fewest oldest entries that leave room for so many bytes.
+    #[inline(always)]
     fn make_room(&mut self, room: usize)
         requires { room ≤ 280 }
         ensures size { self.new.ring.size ≡ self.old.ring.size }
@@ -266,6 +287,24 @@ impl EntryRing {
     /// the way. The fewest oldest ones that make room for it are dropped. It takes no memory and is never refused.
     #[inline(always)]
     pub fn record(&mut self, cpu: &mut Cpu, change: &Change, mark: bool)
+        requires runs { has_ended cpu.old.status ≡ false }
+        requires looked { change.now ≡ change_of cpu.old }
+        ensures next { cpu.new ≡ next cpu.old }
+        ensures size { self.new.ring.size ≡ self.old.ring.size }
+        ensures fits { length self.new.ring.bytes ≤ self.new.ring.size }
+        ensures held { (ks : List Kept) → IsHeld self.old.ring self.old.counts ks → IsHeld self.new.ring self.new.counts (keep kept_weight self.old.ring.size ks (step_entry cpu.old, mark)) }
+    {
+        // The arms are alike. Each is built for its kind of change, whose weight and fields are known in it.
+        match change {
+            Change::Set { .. } => self.record_change(cpu, change, mark),
+            Change::Go { .. } => self.record_change(cpu, change, mark),
+            _ => self.record_change(cpu, change, mark),
+        }
+    }
+
+    /// The same of a change.
+    #[inline(always)]
+    fn record_change(&mut self, cpu: &mut Cpu, change: &Change, mark: bool)
         requires runs { has_ended cpu.old.status ≡ false }
         requires looked { change.now ≡ change_of cpu.old }
         ensures next { cpu.new ≡ next cpu.old }

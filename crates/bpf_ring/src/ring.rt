@@ -1,7 +1,8 @@
 //! A ring of bytes.
-ghost use Rattle.std.specs.Prelude.{◌≡◌, ◌≤◌, ◌<◌, ◌+◌, ◌-◌, ◌^◌, ◌++◌, [], length, take, drop, slice_get, ℕ, Bool, List, IfOk, false};
+ghost use Rattle.std.specs.Prelude.{◌≡◌, ◌≤◌, ◌<◌, ◌+◌, ◌-◌, ◌^◌, ◌++◌, ◌∷◌, [], length, take, drop, slice_get, ℕ, Bool, List, IfOk, false};
 ghost use Rattle.byteorder.specs.Endian.{little_bytes};
 ghost use Rattle.bpf_entries.specs.declared.entry.Entry.{Entry};
+ghost use Rattle.bpf_entries.specs.Before.{byte_before as byte_before_by};
 ghost use Rattle.bpf_entries.specs.Fields.{FitsFields};
 ghost use Rattle.bpf_entries.specs.Status.{has_ended};
 ghost use Rattle.bpf_entries.specs.Texts.{kind, tag, text};
@@ -13,8 +14,10 @@ ghost use Rattle.bpf_machine.specs.State.{State};
 ghost use Rattle.bpf_machine.specs.declared.moves.Move.{Move};
 ghost use Rattle.bpf_entries.specs.Keeping.{IsSize};
 
-use crate::block::{place, record_around, write_around};
+use crate::block::{fill, place, record_in_place, write_around};
+use bpf_entries::byte_before;
 use bpf_machine::{Change, Cpu};
+use byteorder::{ByteOrder, LittleEndian};
 use circular_buffer::HeapCircularBuffer;
 use std::alloc::{AllocError, Global};
 use std::marker::Model;
@@ -22,7 +25,7 @@ use std::marker::Model;
 /// A ring of bytes of a fixed size, 1,024 to 16,777,216. Its block is taken once, when it is opened. No other call takes memory.
 #[derive(Drop)]
 pub struct Ring {
-    /// The block: always full, and never turned.
+    /// The block, never turned. It is filled as the bytes get on in it: past their end, until it is full.
     buffer: HeapCircularBuffer<u8>,
     /// The place of the oldest byte in it.
     first: usize,
@@ -31,7 +34,7 @@ pub struct Ring {
 }
 
 impl Model for Ring {
-    ghost use Rattle.std.specs.Prelude.{◌≡◌, ◌<◌, ◌≤◌, length};
+    ghost use Rattle.std.specs.Prelude.{◌+◌, ◌<◌, ◌≤◌, length};
     ghost use Rattle.bpf_entries.specs.Keeping.{IsSize};
     ghost use Rattle.bpf_ring.specs.Blocks.{Content, around};
 
@@ -40,9 +43,10 @@ impl Model for Ring {
     ghost view = { λ r. record { size = r.buffer.capacity; bytes = around r.buffer.items r.first r.len } };
 
     ghost invariant = { λ r. record {
-      full : length r.buffer.items ≡ r.buffer.capacity;
-      within : r.first < r.buffer.capacity;
-      fits : r.len ≤ r.buffer.capacity;
+      held : length r.buffer.items ≤ r.buffer.capacity;
+      within : r.first < length r.buffer.items;
+      fits : r.len ≤ length r.buffer.items;
+      filled : length r.buffer.items < r.buffer.capacity → r.first + r.len < length r.buffer.items;
       sized : IsSize r.buffer.capacity;
     } };
 }
@@ -53,25 +57,8 @@ impl Ring {
         requires { IsSize size }
         ensures { IfOk result (λ ring. (ring.size ≡ size) × (ring.bytes ≡ [])) }
     {
-        let mut buffer = HeapCircularBuffer::with_capacity(alloc, size)?;
-        for i in 0..size {
-            let _ = buffer.push_back(0);
-        }
-        Ok(Ring::over(buffer))
-    }
-
-    /// A ring over a full buffer, with no bytes.
-    fn over(buffer: HeapCircularBuffer<u8>) -> Ring
-        requires full { length buffer.items ≡ buffer.capacity }
-        requires sized { IsSize buffer.capacity }
-        ensures size { result.size ≡ buffer.capacity }
-        ensures none { result.bytes ≡ [] }
-    {
-        Ring {
-            buffer,
-            first: 0,
-            len: 0,
-        }
+        let buffer = HeapCircularBuffer::with_capacity(alloc, size)?;
+        Ok(Ring::from_buffer(buffer))
     }
 
     /// Gives the ring up as a circular buffer of the same size with the same bytes. It takes no memory.
@@ -96,10 +83,7 @@ impl Ring {
         ensures bytes { result.bytes ≡ buffer.items }
     {
         let len = buffer.len();
-        let size = buffer.capacity();
-        for i in len..size {
-            let _ = buffer.push_back(0);
-        }
+        fill(&mut buffer, len + 1);
         Ring {
             buffer,
             first: 0,
@@ -129,6 +113,7 @@ impl Ring {
         ensures size { self.new.size ≡ self.old.size }
         ensures bytes { self.new.bytes ≡ self.old.bytes ++ bytes.now }
     {
+        fill(&mut self.buffer, self.first + self.len + bytes.len() + 1);
         let block = self.buffer.make_contiguous();
         write_around(block, self.first, self.len, bytes);
         self.len += bytes.len();
@@ -149,8 +134,29 @@ impl Ring {
         ensures bytes { self.new.bytes ≡ self.old.bytes ++ text (step_entry cpu.old) mark }
     {
         let block = self.buffer.make_contiguous();
-        record_around(cpu, change, block, self.first, self.len, weight, mark);
-        self.len += weight;
+        if record_in_place(cpu, change, block, self.first, self.len, weight, mark) {
+            self.len += weight;
+        } else {
+            self.record_apart(cpu, *change, weight, mark);
+        }
+    }
+
+    /// The same, by way of a copy of the entry.
+    #[inline(never)]
+    fn record_apart(&mut self, cpu: &mut Cpu, change: Change, weight: usize, mark: bool)
+        requires runs { has_ended cpu.old.status ≡ false }
+        requires looked { change ≡ change_of cpu.old }
+        requires entry { FitsFields (step_entry cpu.old) }
+        requires weight { weight ≡ weight_of (step_entry cpu.old) }
+        requires light { weight ≤ 280 }
+        requires room { length self.old.bytes + weight ≤ self.old.size }
+        ensures next { cpu.new ≡ next cpu.old }
+        ensures size { self.new.size ≡ self.old.size }
+        ensures bytes { self.new.bytes ≡ self.old.bytes ++ text (step_entry cpu.old) mark }
+    {
+        let mut scratch = [0u8; 280];
+        cpu.record(&change, &mut scratch, mark);
+        self.push(&scratch[..weight]);
     }
 
     /// Takes back the move whose entry's text the newest bytes are, so many: they are read where they lie, or from a copy where they go around
@@ -162,24 +168,65 @@ impl Ring {
         requires come { HasComeBy cpu.old (drop (length self.now.bytes - count) self.now.bytes) }
         ensures { (x : State) (m : Move) (mark : Bool) → Leads x m cpu.old → FitsFields (overwritten x m) → drop (length self.now.bytes - count) self.now.bytes ≡ text (overwritten x m) mark → cpu.new ≡ x }
     {
-        let start = place(self.buffer.capacity(), self.first, self.len() - count);
+        let start = place(self.buffer.len(), self.first, self.len() - count);
         let (block, _) = self.buffer.as_slices();
         if start + count <= block.len() {
             cpu.revert_text(&block[start..start + count]);
         } else {
-            let mut scratch = [0u8; 280];
-            self.copy_newest(count, &mut scratch);
-            cpu.revert_text(&scratch[..count]);
+            self.revert_apart(cpu, count);
         }
     }
 
+    /// The same, by way of a copy of the bytes.
+    #[inline(never)]
+    fn revert_apart(&self, cpu: &mut Cpu, count: usize)
+        requires held { count ≤ length self.now.bytes }
+        requires light { count ≤ 280 }
+        requires come { HasComeBy cpu.old (drop (length self.now.bytes - count) self.now.bytes) }
+        ensures { (x : State) (m : Move) (mark : Bool) → Leads x m cpu.old → FitsFields (overwritten x m) → drop (length self.now.bytes - count) self.now.bytes ≡ text (overwritten x m) mark → cpu.new ≡ x }
+    {
+        let mut scratch = [0u8; 280];
+        self.copy_newest(count, &mut scratch);
+        cpu.revert_text(&scratch[..count]);
+    }
+
+    /// The byte at an address before the move whose entry's text are so many bytes from an index on, where it is `after` behind the move: they
+    /// are read where they lie, or from a copy where they go around the block's end.
+    #[inline(always)]
+    pub fn byte_before(&self, from: usize, count: usize, address: u64, after: u8) -> u8
+        requires held { from + count ≤ length self.now.bytes }
+        requires light { count ≤ 280 }
+        ensures { (e : Entry) (mark : Bool) (depth : ℕ) → FitsFields e → take count (drop from self.now.bytes) ≡ text e mark → result ≡ byte_before_by depth e address after }
+    {
+        let start = place(self.buffer.len(), self.first, from);
+        let (block, _) = self.buffer.as_slices();
+        if start + count <= block.len() {
+            byte_before(&block[start..start + count], address, after)
+        } else {
+            self.byte_before_apart(from, count, address, after)
+        }
+    }
+
+    /// The same, by way of a copy of the bytes.
+    #[inline(never)]
+    fn byte_before_apart(&self, from: usize, count: usize, address: u64, after: u8) -> u8
+        requires held { from + count ≤ length self.now.bytes }
+        requires light { count ≤ 280 }
+        ensures { (e : Entry) (mark : Bool) (depth : ℕ) → FitsFields e → take count (drop from self.now.bytes) ≡ text e mark → result ≡ byte_before_by depth e address after }
+    {
+        let mut scratch = [0u8; 280];
+        self.copy_part(from, count, &mut scratch);
+        byte_before(&scratch[..count], address, after)
+    }
+
     /// Drops the oldest bytes.
+    #[inline(always)]
     pub fn drop_oldest(&mut self, n: usize)
         requires { n ≤ length self.old.bytes }
         ensures size { self.new.size ≡ self.old.size }
         ensures bytes { self.new.bytes ≡ drop n self.old.bytes }
     {
-        self.first = place(self.buffer.capacity(), self.first, n);
+        self.first = place(self.buffer.len(), self.first, n);
         self.len -= n;
     }
 
@@ -200,7 +247,7 @@ impl Ring {
             return None;
         }
         self.buffer
-            .get(place(self.buffer.capacity(), self.first, index))
+            .get(place(self.buffer.len(), self.first, index))
             .copied()
     }
 
@@ -234,6 +281,20 @@ impl Ring {
         ensures { take count into.new ≡ take count (drop from self.now.bytes) }
     {
         self.copy(from, &mut into[..count]);
+    }
+
+    /// How many bytes the oldest entry has, and its tag, by the first three bytes: they are read at once where they lie in one piece.
+    #[inline(always)]
+    pub fn oldest(&self) -> (usize, u8)
+        ensures len { (n : ℕ) (rest : List ℕ) → n < 2 ^ 16 → self.now.bytes ≡ little_bytes 2 n ++ rest → result.0 ≡ n }
+        ensures tag { (e : Entry) (mark : Bool) (rest : List ℕ) → self.now.bytes ≡ text e mark ++ rest → result.1 ≡ tag (kind e) mark }
+    {
+        let (block, _) = self.buffer.as_slices();
+        if self.len >= 3 && self.first + 3 <= block.len() {
+            head(&block[self.first..self.first + 3])
+        } else {
+            (self.oldest_len(), self.tag_at(0))
+        }
     }
 
     /// How many bytes the oldest entry has, by the first two bytes.
@@ -284,4 +345,14 @@ impl Ring {
             _ => 0,
         }
     }
+}
+
+/// The length and the tag that an entry's first three bytes are.
+#[inline(always)]
+fn head(bytes: &[u8]) -> (usize, u8)
+    requires { length bytes.now ≡ 3 }
+    ensures len { (n : ℕ) (rest : List ℕ) → n < 2 ^ 16 → bytes.now ≡ little_bytes 2 n ++ rest → result.0 ≡ n }
+    ensures tag { (low high third : ℕ) → bytes.now ≡ low ∷ high ∷ third ∷ [] → result.1 ≡ third }
+{
+    (usize::from(LittleEndian::read_u16(&bytes[..2])), bytes[2])
 }

@@ -1,4 +1,4 @@
-use Rattle.std.proofs.Common.{◌≡◌, ◌∙◌, ◌-◌, length, ap, sym, subst, arith}
+use Rattle.std.proofs.Common.{◌≡◌, ◌∙◌, ◌-◌, length, ap, sym, subst}
 use Rattle.bpf_machine.specs.Moves.{HasComeBy}
 use Rattle.bpf_ring.specs.Blocks.{Content, behind}
 use Rattle.bpf_ring.proofs.ring.Ring.revert_newest.Goals as goal
@@ -8,16 +8,16 @@ pub revert_text-requires : goal.revert_text-requires
 revert_text-requires c =
     let items = c.self.inside.buffer.items in
     let bytes = c.args.self.now.bytes in
-    let at : c.place-start.result ≡ behind (length items) c.self.inside.first (length bytes - c.args.count) = rw (c.self.invariant.full, ← c.capacity.ensures.capacity, ← c.len.ensures.value) c.place-start.ensures.value in
+    let at : c.place-start.result ≡ behind (length items) c.self.inside.first (length bytes - c.args.count) = rw (← c.len.ensures.len, ← c.len-2.ensures.value) c.place-start.ensures.value in
     let read = newest_piece items c.as_slices.result.0.now c.as_slices.result.1.now bytes c.self.inside.first c.self.inside.len c.args.count c.place-start.result
-    (ap (λ (j : Content). j.bytes) c.self.view_is) at (omega (arith, c.self.invariant.full, c.self.invariant.within)) (omega (arith, c.self.invariant.full, c.self.invariant.fits)) c.requires.held c.as_slices.ensures c.if-start-count.true in
+    (ap (λ (j : Content). j.bytes) c.self.view_is) at c.self.invariant.within c.self.invariant.fits c.requires.held c.as_slices.ensures c.if-start-count.true in
     subst (HasComeBy c.args.cpu.now) (sym read) c.requires.come
 
 pub returns-then-start-count : goal.returns-then-start-count
 returns-then-start-count c = λ x m mark leads fits h.
     let items = c.self.inside.buffer.items in
     let bytes = c.args.self.now.bytes in
-    let at : c.place-start.result ≡ behind (length items) c.self.inside.first (length bytes - c.args.count) = rw (c.self.invariant.full, ← c.capacity.ensures.capacity, ← c.len.ensures.value) c.place-start.ensures.value in
+    let at : c.place-start.result ≡ behind (length items) c.self.inside.first (length bytes - c.args.count) = rw (← c.len.ensures.len, ← c.len-2.ensures.value) c.place-start.ensures.value in
     let read = newest_piece items c.as_slices.result.0.now c.as_slices.result.1.now bytes c.self.inside.first c.self.inside.len c.args.count c.place-start.result
-    (ap (λ (j : Content). j.bytes) c.self.view_is) at (omega (arith, c.self.invariant.full, c.self.invariant.within)) (omega (arith, c.self.invariant.full, c.self.invariant.fits)) c.requires.held c.as_slices.ensures c.if-start-count.true in
+    (ap (λ (j : Content). j.bytes) c.self.view_is) at c.self.invariant.within c.self.invariant.fits c.requires.held c.as_slices.ensures c.if-start-count.true in
     c.revert_text.ensures x m mark leads fits (read ∙ h)
