@@ -3,12 +3,11 @@ use Rattle.std.specs.Prelude.{if◌then◌else◌, ◌==◌, option_map}
 use Rattle.std.proofs.Common.{◌≡◌, ◌+◌, ◌-◌, ◌<◌, ◌≤◌, ℕ, zero, suc, Bool, true, false, List, [], ◌∷◌, Option, Some, None, length, take, drop, map, refl, sym, ap, subst, ◌∙◌, arith, add-one}
 use Rattle.std.proofs.lemmas.Bool.Decides.{nat_tests}
 use Rattle.bpf_machine.specs.ByAddress.{byte}
-use Rattle.bpf_entries.specs.declared.entry.Entry.{Entry}
 use Rattle.bpf_machine.specs.Moves.{overwritten}
 use Rattle.bpf_machine.specs.State.{State, depth}
 use Rattle.bpf_entries.specs.Keeping.{Kept}
 use Rattle.bpf_journal.specs.Histories.{Record, IsRun, kept_of}
-use Rattle.bpf_journal.specs.Keepers.{IsPlace, WalksBack, walked}
+use Rattle.bpf_journal.specs.Keepers.{IsPlace, TellsByteBefore, told_before}
 use Rattle.bpf_journal.specs.Lookups.{Test, latest, state_before, changes_byte, byte_change, last_change, IsLatestChange, LastChangeIsLatest, NoChangeNoDifference}
 use Rattle.bpf_journal.specs.Replaced.{byte_before, depth_before}
 use Rattle.bpf_journal.specs.Changes.{further, change_in}
@@ -54,32 +53,36 @@ module _ {K : Type 0} (holds : K → List Kept → Type 0) (place : K → List K
     here = w.here;
   }
 
-  -- what a walk from there answers
-  looked_on : (es : List Kept) (a value at k : ℕ) (result : Option (Entry × Bool × ℕ)) → holds keeper es → k < length es → Looking es a value at k → WalksBack holds place keeper at result → (x : At es k) → result ≡ Some (x.found.0, x.found.1, place keeper (drop (suc k) es))
-  looked_on es a value at k result held lt w walk x =
-      walk (take k es) (drop k es) (subst (holds keeper) (sym (split_at es k)) held) w.here ∙ ap (walked (place keeper)) x.front
+  -- what is told there
+  looked_on : (es : List Kept) (a value at k : ℕ) (result : Option (ℕ × ℕ)) → holds keeper es → k < length es → Looking es a value at k → TellsByteBefore holds place keeper at a value result → (x : At es k) (d : ℕ) → result ≡ Some (byte_before d x.found.0 a value, place keeper (drop (suc k) es))
+  looked_on es a value at k result held lt w tells x d =
+      tells (take k es) (drop k es) (subst (holds keeper) (sym (split_at es k)) held) w.here d ∙ ap (told_before (place keeper) d a value) x.front
 
-  module _ (es : List Kept) (a value at k : ℕ) (entry : Entry) (mark : Bool) (before old : ℕ) (held : holds keeper es) (lt : k < length es) (w : Looking es a value at k) (walk : WalksBack holds place keeper at (Some (entry, mark, before))) (told : (d : ℕ) → old ≡ byte_before d entry a value) where
+  module _ (es : List Kept) (a value at k before old : ℕ) (held : holds keeper es) (lt : k < length es) (w : Looking es a value at k) (tells : TellsByteBefore holds place keeper at a value (Some (old, before))) where
     record Here : Type 0 where
       pub x : At es k
-      pub is : x.found.0 ≡ entry
+      pub told : (d : ℕ) → old ≡ byte_before d x.found.0 a value
       pub place_is : place keeper (drop (suc k) es) ≡ before
 
     here_at : Here
     here_at =
         let x = entry_at es k lt in
-        let same = looked_on es a value at k _ held lt w walk x in
-        let answer : Entry × Bool × ℕ = (entry, mark, before) in
-        let newest : Entry × Bool × ℕ = (x.found.0, x.found.1, place keeper (drop (suc k) es)) in
-        let found : answer ≡ newest = cc in
         record {
           x = x;
-          is = sym (ap (λ (t : Entry × Bool × ℕ). t.0) found);
-          place_is = sym (ap (λ (t : Entry × Bool × ℕ). t.2) found);
+          told = λ d. ap (λ (t : ℕ × ℕ). t.0) (found x d);
+          place_is = sym (ap (λ (t : ℕ × ℕ). t.1) (found x 0));
         }
+      where
+        answer : ℕ × ℕ
+        answer = (old, before)
 
-    told_here : (h : Here) (d : ℕ) → old ≡ byte_before d h.x.found.0 a value
-    told_here h d = told d ∙ ap (λ (e : Entry). byte_before d e a value) (sym h.is)
+        newest : At es k → ℕ → ℕ × ℕ
+        newest x d = (byte_before d x.found.0 a value, place keeper (drop (suc k) es))
+
+        found : (x : At es k) (d : ℕ) → answer ≡ newest x d
+        found x d =
+            let same = looked_on es a value at k _ held lt w tells x d in
+            cc
 
     -- a turn
     pub looking_step : old ≡ value → Looking es a value before (k + 1)
@@ -92,7 +95,7 @@ module _ {K : Type 0} (holds : K → List Kept → Type 0) (place : K → List K
                 depth_before q.0 h.x.found.0,
                 q.1
                     ∙ ap (λ (ks : List Kept). option_map (further k) (change_in a q.0 value ks)) h.x.front
-                    ∙ ap (option_map (further k)) (same_byte a q.0 value old h.x.found (drop (suc k) es) (told_here h q.0) same)
+                    ∙ ap (option_map (further k)) (same_byte a q.0 value old h.x.found (drop (suc k) es) (h.told q.0) same)
                     ∙ further_more k (change_in a (depth_before q.0 h.x.found.0) value (drop (suc k) es))
                     ∙ ap (λ (n : ℕ). option_map (further n) (change_in a (depth_before q.0 h.x.found.0) value (drop (suc k) es))) (let n : k + 1 ≡ suc k = omega arith in n),
               );
@@ -106,13 +109,13 @@ module _ {K : Type 0} (holds : K → List Kept → Type 0) (place : K → List K
         sym (
         q.1
         ∙ ap (λ (ks : List Kept). option_map (further k) (change_in a q.0 value ks)) h.x.front
-        ∙ ap (option_map (further k)) (other_byte a q.0 value old h.x.found (drop (suc k) es) (told_here h q.0) differ)
+        ∙ ap (option_map (further k)) (other_byte a q.0 value old h.x.found (drop (suc k) es) (h.told q.0) differ)
         )
 
   -- there is an entry where not all is walked
-  pub looking_on : (es : List Kept) (a value at k : ℕ) → holds keeper es → k < length es → Looking es a value at k → WalksBack holds place keeper at None → ⊥
-  looking_on es a value at k held lt w walk =
-      let same = looked_on es a value at k _ held lt w walk (entry_at es k lt) in
+  pub looking_on : (es : List Kept) (a value at k : ℕ) → holds keeper es → k < length es → Looking es a value at k → TellsByteBefore holds place keeper at a value None → ⊥
+  looking_on es a value at k held lt w tells =
+      let same = looked_on es a value at k _ held lt w tells (entry_at es k lt) 0 in
       cc
 
   -- all is walked

@@ -2,13 +2,11 @@
 use Rattle.std.proofs.Common.{◌≡◌, ◌≤◌, sym, ap, ◌∙◌, arith}
 use Rattle.bpf_machine.specs.declared.edit.Edit.{Edit}
 use Rattle.bpf_machine.specs.declared.edit.Edit.TheVariants as edit
-use Rattle.bpf_machine.specs.declared.edit.EditFault.{EditFault}
-use Rattle.bpf_machine.specs.declared.edit.EditFault.TheVariants.{AddressNotPresent, RegisterNotWritable, NoStart, NoCell}
 use Rattle.bpf_entries.specs.declared.entry.Entry.{Entry}
 use Rattle.bpf_entries.specs.declared.entry.Entry.TheVariants as entry
 use Rattle.bpf_machine.specs.declared.moves.Move.{Move}
 use Rattle.bpf_machine.specs.declared.moves.Move.TheVariants as move
-use Rattle.bpf_machine.specs.Edits.{IsEditable, RefusesEdit}
+use Rattle.bpf_machine.specs.Edits.{IsEditable}
 use Rattle.bpf_entries.specs.Weights.{weight}
 use Rattle.bpf_machine.specs.Moves.{IsMovable, moved}
 use Rattle.bpf_machine.specs.State.{State}
@@ -33,29 +31,11 @@ replay x y z w m n l k e again =
     let same : x ≡ z = one_before x z y m n l k e in
     (sym same, again.after ∙ ap (λ s. moved s m) (sym same) ∙ sym l.after)
 
-edit_refused : (x : State) (e : Edit) (f : EditFault) → RefusesEdit x e f → ¬ IsEditable x e
-edit_refused x (edit.Register r value) RegisterNotWritable why able = omega arith
-edit_refused x (edit.Bytes a bytes) AddressNotPresent why able = cc
-edit_refused x (edit.Cell map index bytes) NoCell why able = why able
-edit_refused x (edit.Pc slot) NoStart why able = why able
-edit_refused x (edit.Register r value) AddressNotPresent why able = why
-edit_refused x (edit.Register r value) NoStart why able = why
-edit_refused x (edit.Bytes a bytes) RegisterNotWritable why able = why
-edit_refused x (edit.Bytes a bytes) NoStart why able = why
-edit_refused x (edit.Cell map index bytes) AddressNotPresent why able = why
-edit_refused x (edit.Cell map index bytes) RegisterNotWritable why able = why
-edit_refused x (edit.Cell map index bytes) NoStart why able = why
-edit_refused x (edit.Register r value) NoCell why able = why
-edit_refused x (edit.Bytes a bytes) NoCell why able = why
-edit_refused x (edit.Pc slot) NoCell why able = why
-edit_refused x (edit.Pc slot) AddressNotPresent why able = why
-edit_refused x (edit.Pc slot) RegisterNotWritable why able = why
-
 move_refused : (x : State) (m : Move) (f : MoveFault) → RefusesMove x m f → ¬ IsMovable x m
 move_refused x move.Step fault.Ended why able = cc
 move_refused x move.Step (fault.Edit f) why able = why
 move_refused x (move.Edit e) fault.Ended why able = why
-move_refused x (move.Edit e) (fault.Edit f) why able = edit_refused x e f why able
+move_refused x (move.Edit e) (fault.Edit f) why able = cc
 
 pub nowhere : RefusedLeadsNowhere
 nowhere x y m f why leads = move_refused x m f why leads.movable

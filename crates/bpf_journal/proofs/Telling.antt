@@ -23,6 +23,7 @@ use Rattle.bpf_machine.specs.Entries.{entry_of}
 use Rattle.bpf_machine.specs.Moves.{Leads, IsMovable, moved, overwritten}
 use Rattle.bpf_machine.specs.StepLaws.{KeepsOtherBytes, MovesFrames}
 use Rattle.bpf_entries.specs.Past.{past, replaced, stood}
+use Rattle.bpf_machine.proofs.Editable.{able_bytes, able_cell}
 use Rattle.bpf_machine.proofs.ByAddress.{byte_within, run_reads, length-run, fits_within}
 use Rattle.bpf_machine.proofs.Cells.{cell_present}
 use Rattle.bpf_machine.proofs.Fitting.{change_fits}
@@ -119,10 +120,10 @@ edit_tells : (x : State) (e : Edit) → IsState x → IsEditable x e → (d b : 
 unfolding edited edit_entry
 edit_tells x (edit.Register r value) is able d b = refl
 edit_tells x (edit.Bytes a bytes) is able d b =
-    tells_byte x.memory (with_run x a bytes).memory a (replaced_run x a bytes) b (run_edited x a bytes is able)
+    tells_byte x.memory (with_run x a bytes).memory a (replaced_run x a bytes) b (run_edited x a bytes is (able_bytes x a bytes able))
 edit_tells x (edit.Cell map index bytes) is able d b =
     let a = cell_address map index (length bytes) in
-    tells_byte x.memory (with_run x a bytes).memory a (replaced_run x a bytes) b (run_edited x a bytes is (cell_present x map index (length bytes) is able))
+    tells_byte x.memory (with_run x a bytes).memory a (replaced_run x a bytes) b (run_edited x a bytes is (cell_present x map index (length bytes) is (able_cell x map index bytes able)))
 edit_tells x (edit.Pc slot) is able d b = refl
 
 edit_depths : (x : State) (e : Edit) → depth x ≡ depth_before (depth (edited x e)) (edit_entry x e)

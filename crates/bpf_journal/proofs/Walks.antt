@@ -1,11 +1,12 @@
 -- A walk back over what a keeper holds stays at places of fronts.
-use Rattle.std.specs.Prelude.{if◌then◌else◌, count_by, min}
+use Rattle.std.specs.Prelude.{if◌then◌else◌, count_by}
 use Rattle.std.proofs.Common.{◌≡◌, ◌+◌, ◌<◌, ◌≤◌, ℕ, zero, suc, Bool, true, false, List, [], ◌∷◌, ◌++◌, Option, Some, None, length, take, drop, refl, sym, ap, subst, ◌∙◌, arith, add-one, append_assoc}
 use Rattle.std.proofs.lemmas.List.Sums.{sum_by-cons}
 use Rattle.bpf_entries.specs.declared.entry.Entry.{Entry}
 use Rattle.bpf_journal.specs.EditEntries.{is_of_step}
 use Rattle.bpf_entries.specs.Keeping.{Kept}
-use Rattle.bpf_journal.specs.Keepers.{IsPlace, WalksBack, walked}
+use Rattle.bpf_journal.specs.Keepers.{IsPlace, WalksBack, told_before, walked}
+use Rattle.bpf_journal.specs.Replaced.{byte_before}
 
 module _ {K : Type 0} (holds : K → List Kept → Type 0) (place : K → List Kept → ℕ) where
   -- the end is the place of the whole list
@@ -51,16 +52,10 @@ split_at [] (suc k) = refl
 split_at (e ∷ es) zero = refl
 split_at (e ∷ es) (suc k) = ap (λ xs. e ∷ xs) (split_at es k)
 
--- as many as are asked for are there
-pub enough : (most n more : ℕ) → most + more ≡ n → most ≡ min most n
-enough most n more is = omega (arith, is)
-
-pub one_more_fits : (steps most : ℕ) (b : Bool) → steps ≤ most → (steps ≡ most → ⊥) → steps + (if b then 1 else 0) ≤ most
-one_more_fits steps most true le differ = omega (arith, le, differ)
-one_more_fits steps most false le differ = omega (arith, le)
-
-pub few : (steps most n : ℕ) → steps ≡ n → steps ≤ most → steps ≡ min most n
-few steps most n is le = omega (arith, is, le)
+-- no more are counted than were walked
+pub counted_on : (steps k : ℕ) (b : Bool) → steps ≤ k → steps + (if b then 1 else 0) ≤ k + 1
+counted_on steps k true le = omega (arith, le)
+counted_on steps k false le = omega (arith, le)
 
 module _ {K : Type 0} (holds : K → List Kept → Type 0) (place : K → List Kept → ℕ) (keeper : K) where
   -- after k turns a walk is at the place of the front without its k newest, and has counted the steps among these
@@ -110,3 +105,16 @@ module _ {K : Type 0} (holds : K → List Kept → Type 0) (place : K → List K
       let none : steps_in (drop k es) ≡ 0 = ap (λ (n : ℕ). steps_in (drop n es)) all ∙ ap steps_in (drop_all es) in
       let counted = w.counted in
       omega (arith, none, counted)
+
+-- what a walk answers tells a byte
+pub told_by_walk : {K : Type 0} (place : K → List Kept → ℕ) (keeper : K) (front : List Kept) (entry : Entry) (mark : Bool) (before old a after depth : ℕ)
+    → Some (entry, mark, before) ≡ walked (place keeper) front → ((d : ℕ) → old ≡ byte_before d entry a after)
+    → Some (old, before) ≡ told_before (place keeper) depth a after front
+told_by_walk place keeper [] entry mark before old a after depth is told = absurd cc
+told_by_walk place keeper (e ∷ rest) entry mark before old a after depth is told =
+    let answer : Entry × Bool × ℕ = (entry, mark, before) in
+    let newest : Entry × Bool × ℕ = (e.0, e.1, place keeper rest) in
+    let found : answer ≡ newest = cc in
+    let byte : old ≡ byte_before depth e.0 a after = told depth ∙ ap (λ (t : Entry × Bool × ℕ). byte_before depth t.0 a after) found in
+    let there : before ≡ place keeper rest = ap (λ (t : Entry × Bool × ℕ). t.2) found in
+    cc

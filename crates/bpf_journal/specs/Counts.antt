@@ -1,6 +1,6 @@
 -- Counts that stay at their last value.
 use Rattle.std.specs.Prelude.{ℕ, ◌+◌, ◌-◌, ◌^◌, min}
 
--- A count after one more: it stays once at 2^64 - 1.
-abbrev pub once_more : ℕ → ℕ
-once_more n = min (n + 1) (2 ^ 64 - 1)
+-- One more, where the count isn't at its last value, 2^64 - 1.
+abbrev pub one_more : ℕ → ℕ
+one_more n = min (n + 1) (2 ^ 64 - 1)

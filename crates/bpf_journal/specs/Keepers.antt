@@ -1,20 +1,26 @@
 -- What a keeper's calls say of the lists that it holds.
 use Rattle.std.specs.Prelude.{◌≡◌, ◌≤◌, ℕ, Bool, List, [], ◌∷◌, ◌++◌, Option, Some, None, Result, Ok, Err, sum_by}
 use Rattle.bpf_entries.specs.declared.entry.Entry.{Entry}
-use Rattle.bpf_journal.specs.Counts.{once_more}
+use Rattle.bpf_journal.specs.Counts.{one_more}
 use Rattle.bpf_entries.specs.Keeping.{Kept, kept_weight}
 use Rattle.bpf_journal.specs.Histories.{newest, older}
+use Rattle.bpf_journal.specs.Replaced.{byte_before}
 use Rattle.bpf_entries.specs.Keeping.{IsSize}
 
 -- How often a keeper has refused, after one more push.
 abbrev pub refusals_after : {E : Type 0} → Result (Unit {0}) E → ℕ → ℕ
 refusals_after (Ok u) n = n
-refusals_after (Err e) n = once_more n
+refusals_after (Err e) n = one_more n
 
 -- A front's newest, its mark, and the place of the front without it.
 abbrev pub walked : (List Kept → ℕ) → List Kept → Option (Entry × Bool × ℕ)
 walked place [] = None
 walked place (e ∷ es) = Some (e.0, e.1, place es)
+
+-- The byte at an address before the move of a front's newest, which is `after` behind it, and the place of the front without it.
+abbrev pub told_before : (List Kept → ℕ) → ℕ → ℕ → ℕ → List Kept → Option (ℕ × ℕ)
+told_before place depth address after [] = None
+told_before place depth address after (e ∷ es) = Some (byte_before depth e.0 address after, place es)
 
 module _ {K : Type 0} (holds : K → List Kept → Type 0) where
   -- The newest is taken off; nothing changes where nothing is held.
@@ -32,6 +38,12 @@ module _ {K : Type 0} (holds : K → List Kept → Type 0) where
   abbrev pub WalksBack : (K → List Kept → ℕ) → K → ℕ → Option (Entry × Bool × ℕ) → Type 0
   WalksBack place keeper at result =
       (newer front : List Kept) → holds keeper (newer ++ front) → place keeper front ≡ at → result ≡ walked (place keeper) front
+
+  -- A byte is told of each front at the place.
+  abbrev pub TellsByteBefore : (K → List Kept → ℕ) → K → ℕ → ℕ → ℕ → Option (ℕ × ℕ) → Type 0
+  TellsByteBefore place keeper at address after result =
+      (newer front : List Kept) → holds keeper (newer ++ front) → place keeper front ≡ at → (depth : ℕ) →
+      result ≡ told_before (place keeper) depth address after front
 
   -- No two fronts of a held list have one place.
   abbrev pub PlacesDiffer : (K → List Kept → ℕ) → Type 0

@@ -1,9 +1,10 @@
 -- The bytes of memory that a move replaced, as its entry tells them, so that what a byte was is read off the kept entries, and no state
 -- is needed for it.
-use Rattle.std.specs.Prelude.{◌≡◌, ◌+◌, ◌-◌, ℕ, Bool, ◌&&◌, nat_le, nat_lt, if◌then◌else◌, length, slice_index, Option, Some, None, is_some}
+use Rattle.std.specs.Prelude.{◌≡◌, ◌+◌, ◌-◌, ℕ, Bool, is_some}
 use Rattle.bpf_machine.specs.ByAddress.{byte}
 use Rattle.bpf_entries.specs.declared.entry.Entry.{Entry}
-use Rattle.bpf_entries.specs.Past.{Run, Frames, Same, Fewer, More, past, replaced}
+pub use Rattle.bpf_entries.specs.Before.{byte_in, byte_before}
+use Rattle.bpf_entries.specs.Past.{Frames, Same, Fewer, More, past, replaced}
 use Rattle.bpf_machine.specs.declared.moves.Move.{Move}
 use Rattle.bpf_machine.specs.Moves.{Leads, overwritten}
 use Rattle.bpf_machine.specs.State.{State, depth}
@@ -11,16 +12,6 @@ use Rattle.bpf_machine.specs.State.{State, depth}
 -- Whether a move replaced a run.
 abbrev pub replaces_bytes : Entry → Bool
 replaces_bytes e = is_some (replaced 0 e)
-
--- The byte at an address in a run, and another outside of it.
-abbrev pub byte_in : Option Run → ℕ → ℕ → ℕ
-byte_in None a other = other
-byte_in (Some run) a other =
-    if nat_le run.address a && nat_lt a (run.address + length run.bytes) then slice_index run.bytes (a - run.address) else other
-
--- The byte at an address before a move, by the depth and the byte behind it.
-abbrev pub byte_before : ℕ → Entry → ℕ → ℕ → ℕ
-byte_before d e a after = byte_in (replaced d e) a after
 
 -- The depth before a move, by the frames before it.
 abbrev pub depth_by : Frames → ℕ → ℕ

@@ -5,7 +5,7 @@ use Rattle.bpf_machine.specs.Moves.{IsMovable, Leads}
 use Rattle.bpf_machine.specs.State.{State}
 use Rattle.bpf_journal.specs.declared.fault.TimelineFault.{TimelineFault}
 use Rattle.bpf_journal.specs.declared.fault.TimelineFault.TheVariants as fault
-use Rattle.bpf_journal.specs.Counts.{once_more}
+use Rattle.bpf_journal.specs.Counts.{one_more}
 use Rattle.bpf_journal.specs.declared.taken.Taken.{Taken}
 use Rattle.bpf_entries.specs.Keeping.{Kept, keep}
 use Rattle.bpf_journal.specs.Histories.{Record, record_weight, StandsFor}
@@ -47,5 +47,5 @@ module _ {K : Type 0} (holds : K → List Kept → Type 0) where
 
 -- What a move that was tried does to the number of refusals: one more where the keeper refused it.
 abbrev pub refusals_by : {A : Type 0} → Result A TimelineFault → ℕ → ℕ
-refusals_by (Err fault.OutOfMemory) n = once_more n
+refusals_by (Err fault.OutOfMemory) n = one_more n
 refusals_by _ n = n

@@ -39,7 +39,7 @@ pub fn is_of_step(entry: &Entry) -> bool
 }
 
 /// How many steps an entry is of: one or none.
-pub fn step_count(entry: &Entry) -> u64
+pub fn step_count(entry: &Entry) -> usize
     ensures { result ≡ (if is_of_step_of entry.now then 1 else 0) }
 {
     if is_of_step(entry) { 1 } else { 0 }

@@ -5,10 +5,12 @@ ghost use Rattle.bpf_entries.specs.Keeping.{Kept, kept_weight, keep};
 ghost use Rattle.bpf_entries.specs.Status.{has_ended};
 ghost use Rattle.bpf_machine.specs.Entries.{step_entry};
 ghost use Rattle.bpf_machine.specs.Next.{change as change_of, next};
+ghost use Rattle.bpf_journal.specs.EditEntries.{HoldsSome, is_of_step};
 ghost use Rattle.bpf_journal.specs.Histories.{HasHistory, Record, StandsFor, newest};
 ghost use Rattle.bpf_journal.specs.TakingBack.{TakesBack};
-ghost use Rattle.bpf_journal.specs.Keepers.{IsPlace, IsWithin, PlacesDiffer, TakesNewest, WalksBack, refusals_after};
+ghost use Rattle.bpf_journal.specs.Keepers.{IsPlace, IsWithin, PlacesDiffer, TakesNewest, TellsByteBefore, WalksBack, refusals_after};
 
+use crate::fields::step_count;
 use crate::taken::Taken;
 use bpf_machine::laws::entries_fit;
 use bpf_machine::{Change, Cpu, Entry};
@@ -101,6 +103,23 @@ pub trait Keeper {
     fn marked(&self) -> usize
         ensures { (es : List Kept) → holds self.now es → result ≡ count_by (λ k. k.1) es };
 
+    /// How many of them are of steps, and not of edits. By itself a keeper walks over all that it holds.
+    fn steps(&self) -> usize
+        requires { HoldsSome holds self.now }
+        ensures { (es : List Kept) → holds self.now es → result ≡ count_by (λ k. is_of_step k.0) es }
+    {
+        let mut at = self.end();
+        let mut steps = 0;
+        for _ in 0..self.len() {
+            let Some((entry, _, older)) = self.walk_back(at) else {
+                return steps;
+            };
+            steps += step_count(&entry);
+            at = older;
+        }
+        steps
+    }
+
     /// The sum of their weights.
     fn weight(&self) -> usize
         ensures { (es : List Kept) → holds self.now es → result ≡ sum_by kept_weight es };
@@ -117,6 +136,19 @@ pub trait Keeper {
     fn walk_back(&self, at: usize) -> Option<(Entry, bool, usize)>
         requires { IsPlace holds place self.now at }
         ensures { WalksBack holds place self.now at result };
+
+    /// What the byte at an address was before the newest entry's move of the front at a place, where it is `after` behind that move, and
+    /// the place of the front without that entry; None for the front without entries. A keeper that reads an entry where it is kept writes
+    /// this anew; by itself it reads the entry whole.
+    fn byte_before(&self, at: usize, address: u64, after: u8) -> Option<(u8, usize)>
+        requires { IsPlace holds place self.now at }
+        ensures { TellsByteBefore holds place self.now at address after result }
+    {
+        match self.walk_back(at) {
+            Some((entry, _, older)) => Some((entry.byte_before(address, after), older)),
+            None => None,
+        }
+    }
 
     /// The count of refusals is a number of 64 bits.
     ghost counted: { (keeper : Self) → refused keeper < 2 ^ 64 };

@@ -129,6 +129,10 @@ impl Keeper for RingKeeper {
         self.entries.marked()
     }
 
+    fn steps(&self) -> usize {
+        self.entries.steps()
+    }
+
     fn weight(&self) -> usize {
         self.entries.weight()
     }
@@ -143,5 +147,9 @@ impl Keeper for RingKeeper {
 
     fn walk_back(&self, at: usize) -> Option<(Entry, bool, usize)> {
         self.entries.walk_back(at)
+    }
+
+    fn byte_before(&self, at: usize, address: u64, after: u8) -> Option<(u8, usize)> {
+        self.entries.byte_before(at, address, after)
     }
 }

@@ -4,7 +4,7 @@ ghost use Rattle.bpf_machine.specs.declared.moves.Move.TheVariants as move_of;
 ghost use Rattle.bpf_machine.specs.Entries.{step_entry};
 ghost use Rattle.bpf_machine.specs.Next.{change as change_of};
 ghost use Rattle.bpf_entries.specs.Status.{has_ended};
-ghost use Rattle.bpf_journal.specs.EditEntries.{HoldsSome, is_of_step as is_of_step_entry};
+ghost use Rattle.bpf_journal.specs.EditEntries.{HoldsSome};
 ghost use Rattle.bpf_entries.specs.Keeping.{Kept, keep, kept_weight};
 ghost use Rattle.bpf_journal.specs.Histories.{Record, StandsFor, HasHistory, is_step, record_weight};
 ghost use Rattle.bpf_journal.specs.Keepers.{refusals_after};
@@ -15,9 +15,9 @@ ghost use Rattle.bpf_machine.specs.ByAddress.{byte};
 ghost use Rattle.bpf_journal.specs.Timelines.{Moment, Makes, Fails, GoesBack, refusals_by};
 
 use crate::fault::{MoveFault, TimelineFault};
-use crate::fields::{edit_fits, step_count};
+use crate::fields::edit_fits;
 use crate::keeper::Keeper;
-use crate::replaced::{byte_before, change_replaces_bytes};
+use crate::replaced::change_replaces_bytes;
 use crate::taken::Taken;
 use bpf_machine::{Cpu, Edit, Ended, Move};
 use std::marker::Model;
@@ -121,11 +121,12 @@ impl<K: Keeper> Timeline<K> {
         self.keeper.weight()
     }
 
-    /// How many of them are steps, counted up to `most`. Looks at the newest entries, as many as it needs.
+    /// How many of them are steps, counted up to `most`.
     pub fn steps_up_to(&self, most: u64) -> u64
         ensures { (h : List Record) → StandsFor K.holds self.now.keeper self.now.state h → result ≡ min most (count_by (λ r. is_step r.move) h) }
     {
-        steps_in(&self.keeper, most)
+        let steps = self.keeper.steps() as u64;
+        if steps < most { steps } else { most }
     }
 
     /// The latest kept move, a step or an edit, that changed the value of the byte at an address, which is `value` now. The machine isn't
@@ -206,26 +207,6 @@ impl<K: Keeper> Timeline<K> {
     }
 }
 
-/// How many entries that a keeper holds are of steps, counted up to `most`, the newest first.
-fn steps_in<K: Keeper>(keeper: &K, most: u64) -> u64
-    requires { HoldsSome K.holds keeper.now }
-    ensures { (es : List Kept) → K.holds keeper.now es → result ≡ min most (count_by (λ k. is_of_step_entry k.0) es) }
-{
-    let mut at = keeper.end();
-    let mut steps = 0;
-    for _ in 0..keeper.len() {
-        if steps == most {
-            return most;
-        }
-        let Some((entry, _, older)) = keeper.walk_back(at) else {
-            return steps;
-        };
-        steps += step_count(&entry);
-        at = older;
-    }
-    steps
-}
-
 /// The latest change of a byte among the entries that a keeper holds, which lead to this value.
 fn change_among<K: Keeper>(keeper: &K, address: u64, value: u8) -> Option<ByteChange>
     requires { HoldsSome K.holds keeper.now }
@@ -233,10 +214,9 @@ fn change_among<K: Keeper>(keeper: &K, address: u64, value: u8) -> Option<ByteCh
 {
     let mut at = keeper.end();
     for k in 0..keeper.len() {
-        let Some((entry, _, older)) = keeper.walk_back(at) else {
+        let Some((old, older)) = keeper.byte_before(at, address, value) else {
             return None;
         };
-        let old = byte_before(&entry, address, value);
         if old != value {
             return Some(ByteChange {
                 moves: k as u64 + 1,

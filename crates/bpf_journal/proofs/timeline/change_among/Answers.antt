@@ -5,8 +5,8 @@ use Rattle.bpf_journal.proofs.timeline.change_among.Goals as goal
 pub loop-k-init : goal.loop-k-init
 loop-k-init g c = λ es held. looking_start _ _ _ es _ _ _ (c.end-at.ensures es held)
 
-pub walk_back-requires : goal.walk_back-requires
-walk_back-requires g c =
+pub byte_before-requires : goal.byte_before-requires
+byte_before-requires g c =
     let r = c.requires in
     looking_place _ _ _ r.es _ _ _ _ r.held (c.loop-k.invariant r.es r.held)
 
@@ -14,19 +14,19 @@ pub returns-in_default : goal.returns-in_default
 returns-in_default g c = λ es held depth.
     let n = c.len-k-end.ensures es held in
     let here = c.loop-k-test.true in
-    absurd (looking_on _ _ _ es _ _ _ _ held (omega arith) (c.loop-k.invariant es held) (rw c.in_default.is at c.walk_back.ensures))
+    absurd (looking_on _ _ _ es _ _ _ _ held (omega arith) (c.loop-k.invariant es held) (rw c.in_default.is at c.byte_before.ensures))
 
 pub returns-then-old-value : goal.returns-then-old-value
 returns-then-old-value g c = λ es held depth.
     let n = c.len-k-end.ensures es held in
     let here = c.loop-k-test.true in
-    looking_found _ _ _ es _ _ _ _ _ _ _ _ held (omega arith) (c.loop-k.invariant es held) (rw c.in-Some.is at c.walk_back.ensures) c.byte_before-old.ensures c.if-old-value.true depth
+    looking_found _ _ _ es _ _ _ _ _ _ held (omega arith) (c.loop-k.invariant es held) (rw c.in-Some.is at c.byte_before.ensures) c.if-old-value.true depth
 
 pub loop-k-preserved : goal.loop-k-preserved
 loop-k-preserved g c = λ es held.
     let n = c.len-k-end.ensures es held in
     let here = c.loop-k-test.true in
-    looking_step _ _ _ es _ _ _ _ _ _ _ _ held (omega arith) (c.loop-k.invariant es held) (rw c.in-Some.is at c.walk_back.ensures) c.byte_before-old.ensures c.if-old-value.false
+    looking_step _ _ _ es _ _ _ _ _ _ held (omega arith) (c.loop-k.invariant es held) (rw c.in-Some.is at c.byte_before.ensures) c.if-old-value.false
 
 pub returns : goal.returns
 returns g c = λ es held depth.

@@ -1,6 +1,6 @@
 use Rattle.std.proofs.Common.{arith}
-use Rattle.bpf_journal.proofs.Walks.{walking_place, walking_step, walking_on, one_more_fits}
-use Rattle.bpf_journal.proofs.timeline.steps_in.Goals as goal
+use Rattle.bpf_journal.proofs.Walks.{counted_on, walking_place, walking_step, walking_on}
+use Rattle.bpf_journal.proofs.keeper.Keeper.steps.Goals as goal
 
 pub walk_back-requires : goal.walk_back-requires
 walk_back-requires g c =
@@ -15,7 +15,7 @@ returns-in_default g c = λ es held.
 
 pub loop-preserved : goal.loop-preserved
 loop-preserved g c = (
-  rw c.step_count-steps.ensures (one_more_fits _ _ _ c.loop.invariant.0 c.if-steps-most.false),
+  rw c.step_count-steps.ensures (counted_on _ _ _ c.loop.invariant.0),
   λ es held.
       let n = c.len-end.ensures es held in
       let here = c.loop-test.true in
