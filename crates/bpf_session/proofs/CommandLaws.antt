@@ -17,7 +17,9 @@ use Rattle.bpf_journal.specs.Lookups.{Test, latest, state_before}
 use Rattle.bpf_session.specs.Backward.{back, before_last, back_by, found, to_stop, marks, kept_steps}
 use Rattle.bpf_session.specs.Limits.{most_breaks, most_watches}
 use Rattle.bpfdb_commands.specs.Refusals.{number_of}
-use Rattle.bpf_session.specs.Refused.{when, present, starts, has_cell, refusals_of}
+use Rattle.bpf_session.specs.Refused.{when, present, starts, fault_refusals, refusals_of}
+use Rattle.bpf_machine.specs.declared.edit.EditFault.{EditFault}
+use Rattle.bpf_machine.specs.Edits.{edit_fault}
 use Rattle.bpf_session.specs.Meaning.{accepted, does}
 use Rattle.bpf_session.specs.Sessions.{refusals_after_all}
 use Rattle.bpfdb_commands.specs.Commands.{command_of}
@@ -100,6 +102,10 @@ one-alone : (test : Bool) (r : Refusal) → Ascends (map number_of (when test r)
 one-alone true r = tt
 one-alone false r = tt
 
+one-fault : (fault : Option EditFault) → Ascends (map number_of (fault_refusals fault))
+one-fault None = tt
+one-fault (Some fault) = tt
+
 two-order : (a b : Bool) (r q : Refusal) → number_of r < number_of q → Ascends (map number_of (when a r ++ when b q))
 two-order true true r q less = (less, tt)
 two-order true false r q less = tt
@@ -126,10 +132,7 @@ refusals-are-in-order (command.Back (targets.Steps count)) p = one-alone (kept_s
 refusals-are-in-order (command.Back targets.Next) p = one-alone (kept_steps p == 0) NoKeptStep
 refusals-are-in-order (command.Back targets.Continue) p = one-alone (kept_steps p == 0) NoKeptStep
 refusals-are-in-order (command.Back targets.Finish) p = two-order (kept_steps p == 0) (depth p.state == 0) NoKeptStep OutermostFrame (omega arith)
-refusals-are-in-order (command.Edit (edit.Bytes a bytes)) p = one-alone (not (present p a (length bytes))) AddressNotPresent
-refusals-are-in-order (command.Edit (edit.Register r value)) p = one-alone (r == 10) RegisterNotWritable
-refusals-are-in-order (command.Edit (edit.Cell map index bytes)) p = one-alone (not (has_cell (slice_get p.state.program.maps map) index (length bytes))) NoCell
-refusals-are-in-order (command.Edit (edit.Pc slot)) p = one-alone (not (starts p slot)) NoStart
+refusals-are-in-order (command.Edit e) p = one-fault (edit_fault p.state e)
 refusals-are-in-order (command.Add (stops.Breakpoint slot)) p = three-order (not (starts p slot)) (nat_le most_breaks (length p.breaks)) (has p.breaks slot) NoStart TableFull ThereOrNot (omega arith) (omega arith)
 refusals-are-in-order (command.Add (stops.Watch address)) p = three-order (not (present p address 1)) (nat_le most_watches (length p.watches)) (has p.watches address) AddressNotPresent TableFull ThereOrNot (omega arith) (omega arith)
 refusals-are-in-order (command.Remove (stops.Breakpoint slot)) p = one-alone (not (has p.breaks slot)) ThereOrNot

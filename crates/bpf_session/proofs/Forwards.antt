@@ -9,7 +9,7 @@ use Rattle.bpf_machine.specs.Entries.{step_entry}
 use Rattle.bpf_machine.specs.Moves.{Leads}
 use Rattle.bpf_entries.specs.Status.{has_ended}
 use Rattle.bpf_machine.specs.declared.moves.Move.TheVariants.{Step}
-use Rattle.bpf_journal.specs.Counts.{once_more}
+use Rattle.bpf_journal.specs.Counts.{one_more}
 use Rattle.bpf_entries.specs.Keeping.{Kept, keep}
 use Rattle.bpf_journal.specs.Histories.{Record, record_weight}
 use Rattle.bpf_journal.specs.Replaced.{replaces_bytes}
@@ -222,7 +222,7 @@ module _ {K : Type 0} (holds : K → List Kept → Type 0) (refusals room : K �
       }
 
   -- a step that the keeper refused
-  pub going_cut : Going holds refusals room old now goal seen k → Stays holds now.moment new.moment → OnlyMoment now new → refusals new.moment.keeper ≡ once_more (refusals now.moment.keeper) → room new.moment.keeper ≡ room now.moment.keeper → Obeys holds refusals room old new Meaning (if k == 0 then Err OutOfMemory else Ok (replies.Forward k Memory))
+  pub going_cut : Going holds refusals room old now goal seen k → Stays holds now.moment new.moment → OnlyMoment now new → refusals new.moment.keeper ≡ one_more (refusals now.moment.keeper) → room new.moment.keeper ≡ room now.moment.keeper → Obeys holds refusals room old new Meaning (if k == 0 then Err OutOfMemory else Ok (replies.Forward k Memory))
   going_cut i s only more room_same =
       let fresh = i.fresh in
       let all = only_more i only in
@@ -236,7 +236,7 @@ module _ {K : Type 0} (holds : K → List Kept → Type 0) (refusals room : K �
       record {
         answered = λ h st. (comes h st).answered;
         stands = λ h st. (comes h st).stands;
-        counted = rw tells (more ∙ ap once_more i.same);
+        counted = rw tells (more ∙ ap one_more i.same);
         bounds = same-bounds room old new all.limit (room_same ∙ i.room_same);
         there = cut_there (k == 0) k new.moment.state;
       }

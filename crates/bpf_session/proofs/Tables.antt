@@ -6,17 +6,17 @@ use Rattle.bpf_machine.specs.declared.edit.Edit.{Edit}
 use Rattle.bpf_machine.specs.declared.edit.Edit.TheVariants as edit_of
 use Rattle.bpf_machine.specs.declared.edit.EditFault.{EditFault}
 use Rattle.bpf_machine.specs.declared.edit.EditFault.TheVariants as fault
-use Rattle.bpf_machine.specs.Edits.{IsEditable, RefusesEdit, HasCell}
+use Rattle.bpf_machine.specs.Edits.{edit_fault}
 use Rattle.bpf_isa.specs.declared.maps.MapShape.{MapShape}
 use Rattle.bpf_machine.specs.Regions.{index_of}
 use Rattle.bpf_session.specs.Points.{Point}
-use Rattle.bpf_session.specs.Refused.{when, edit_refusals, refusals_of, has_cell}
+use Rattle.bpf_session.specs.Refused.{edit_refusals, fault_refusals, refusal_for, refusals_of}
 use Rattle.bpf_session.specs.Stops.{has}
 use Rattle.bpfdb_commands.specs.declared.command.Command.TheVariants.{Remove}
 use Rattle.bpfdb_commands.specs.declared.command.Stop.TheVariants.{Breakpoint}
 use Rattle.bpf_session.specs.declared.reply.Reply.TheVariants.{Ok as ok}
 use Rattle.bpfdb_commands.specs.declared.refusal.Refusal.TheVariants.{ThereOrNot, NoCell}
-use Rattle.bpf_session.specs.EditRefusals.{refusal_for, answer_to}
+use Rattle.bpf_session.specs.EditRefusals.{answer_to}
 use Rattle.std.specs.Prelude.{Result, OnOk, IfErr, IfOk, ◌&&◌, nat_lt, slice_get}
 use Rattle.bpf_machine.specs.State.{State}
 use Rattle.bpf_machine.specs.Edits.{edited}
@@ -34,60 +34,6 @@ use Rattle.bpf_session.specs.Tables.{with_edit, edit, without_stop}
 use Rattle.bpf_session.proofs.Answering.{Comes, comes_as, same-bounds}
 use Rattle.bpf_session.proofs.Forwards.{OnlyMoment}
 use Rattle.bpfdb_commands.specs.declared.refusal.Refusal.{Refusal}
-
-some_is : {A : Type 0} (o : Option A) (refusal : Refusal) → IsSome o → when (not (is_some o)) refusal ≡ []
-some_is None refusal h = cc
-some_is (Some x) refusal h = refl
-
-none_is : {A : Type 0} (o : Option A) (refusal : Refusal) → IsNone o → when (not (is_some o)) refusal ≡ refusal ∷ []
-none_is None refusal h = refl
-none_is (Some x) refusal h = cc
-
-not_some : {A : Type 0} (o : Option A) → (IsSome o → ⊥) → IsNone o
-not_some None h = refl
-not_some (Some x) h = absurd (h refl)
-
-cell_there : (o : Option MapShape) (index n : ℕ) → HasCell o index n → when (not (has_cell o index n)) NoCell ≡ []
-cell_there None index n h = absurd h
-cell_there (Some shape) index n h =
-    let low : nat_lt index shape.entries ≡ true = let lt = h.0 in grind (arith, nat_tests) in
-    let whole : (n == shape.value_size) ≡ true = let is = h.1 in grind (arith, nat_tests) in
-    rw (low, whole) refl
-
-cell_missing : (o : Option MapShape) (index n : ℕ) → ¬ HasCell o index n → when (not (has_cell o index n)) NoCell ≡ NoCell ∷ []
-cell_missing None index n h = refl
-cell_missing (Some shape) index n h = at (nat_lt index shape.entries) (n == shape.value_size) refl refl
-  where
-    at : (low whole : Bool) → nat_lt index shape.entries ≡ low → (n == shape.value_size) ≡ whole → when (not (low && whole)) NoCell ≡ NoCell ∷ []
-    at true true l w = absurd (h (let lt : index < shape.entries = grind (arith, nat_tests) in lt, let is : n ≡ shape.value_size = grind (arith, nat_tests) in is))
-    at true false l w = refl
-    at false whole l w = refl
-
--- an edit that can be made is not refused
-pub edit_made : (p : Point) (e : Edit) → IsEditable p.state e → edit_refusals e p ≡ []
-edit_made p (edit_of.Register r value) able = let off : (r == 10) ≡ false = grind (arith, nat_tests) in rw off refl
-edit_made p (edit_of.Bytes a bytes) able = some_is (index_of p.state.memory a (length bytes)) _ able
-edit_made p (edit_of.Cell map index bytes) able = cell_there (slice_get p.state.program.maps map) index (length bytes) able
-edit_made p (edit_of.Pc slot) able = some_is (insn_at p.state.program slot) _ able
-
--- one that can't is, for the reason that is given
-pub edit_refused : (p : Point) (e : Edit) (f : EditFault) → RefusesEdit p.state e f → edit_refusals e p ≡ refusal_for f ∷ []
-edit_refused p (edit_of.Register r value) fault.RegisterNotWritable why = let on : (r == 10) ≡ true = grind (arith, nat_tests) in rw on refl
-edit_refused p (edit_of.Bytes a bytes) fault.AddressNotPresent why = none_is (index_of p.state.memory a (length bytes)) _ why
-edit_refused p (edit_of.Cell map index bytes) fault.NoCell why = cell_missing (slice_get p.state.program.maps map) index (length bytes) why
-edit_refused p (edit_of.Pc slot) fault.NoStart why = none_is (insn_at p.state.program slot) _ (not_some _ why)
-edit_refused p (edit_of.Register r value) fault.AddressNotPresent why = absurd why
-edit_refused p (edit_of.Register r value) fault.NoStart why = absurd why
-edit_refused p (edit_of.Bytes a bytes) fault.RegisterNotWritable why = absurd why
-edit_refused p (edit_of.Bytes a bytes) fault.NoStart why = absurd why
-edit_refused p (edit_of.Pc slot) fault.AddressNotPresent why = absurd why
-edit_refused p (edit_of.Pc slot) fault.RegisterNotWritable why = absurd why
-edit_refused p (edit_of.Register r value) fault.NoCell why = absurd why
-edit_refused p (edit_of.Bytes a bytes) fault.NoCell why = absurd why
-edit_refused p (edit_of.Cell map index bytes) fault.AddressNotPresent why = absurd why
-edit_refused p (edit_of.Cell map index bytes) fault.RegisterNotWritable why = absurd why
-edit_refused p (edit_of.Cell map index bytes) fault.NoStart why = absurd why
-edit_refused p (edit_of.Pc slot) fault.NoCell why = absurd why
 
 module _ {K : Type 0} (holds : K → List Kept → Type 0) (refusals room : K → ℕ) (old new : SessionValue K) (e : Edit) where
   -- where it stands after an edit
@@ -121,13 +67,13 @@ module _ {K : Type 0} (holds : K → List Kept → Type 0) (refusals room : K �
   -- an edit that was tried
   comes_to : (tried : Result (Unit {0}) TimelineFault) → OnlyMoment old new → OnOk tried (Makes holds (room old.moment.keeper) (move.Edit e) true old.moment new.moment) → IfErr tried (Fails holds (move.Edit e) old.moment new.moment) → (h : List Record) → HasPast holds old h → Comes holds new EditMeaning (answer_to tried) (point_of old h)
   comes_to (Ok u) only m f h past =
-      let none = edit_made (point_of old h) e m.leads.movable in
+      let none : edit_refusals e (point_of old h) ≡ [] = ap fault_refusals m.leads.movable in
       comes_as holds new EditMeaning _ (point_of old h) None _ refl (ap (λ (rs : List Refusal). unless_refused rs (point_of old h) (edit None (room old.moment.keeper) e (point_of old h))) none) refl (stands_made only m h past)
   comes_to (Err timeline_fault.OutOfMemory) only m f h past =
-      let none = edit_made (point_of old h) e f.0 in
+      let none : edit_refusals e (point_of old h) ≡ [] = ap fault_refusals f.0 in
       comes_as holds new EditMeaning _ (point_of old h) (Some 0) _ refl (ap (λ (rs : List Refusal). unless_refused rs (point_of old h) (edit (Some 0) (room old.moment.keeper) e (point_of old h))) none) refl (stands_same only f.1 h past)
   comes_to (Err (timeline_fault.Move (move_fault.Edit fault))) only m f h past =
-      let some = edit_refused (point_of old h) e fault f.0 in
+      let some : edit_refusals e (point_of old h) ≡ refusal_for fault ∷ [] = ap fault_refusals f.0 in
       let same : Stays holds old.moment new.moment = record { state = ap (λ (t : Moment K). t.state) f.1; stands = λ g st. subst (λ (t : Moment K). StandsFor holds t.keeper t.state g) (sym f.1) st } in
       comes_as holds new EditMeaning _ (point_of old h) None _ (fault_told fault) (ap (λ (rs : List Refusal). unless_refused rs (point_of old h) (edit None (room old.moment.keeper) e (point_of old h))) some) refl (stands_same only same h past)
   comes_to (Err (timeline_fault.Move move_fault.Ended)) only m f h past = absurd f.0

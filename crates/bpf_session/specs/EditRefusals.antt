@@ -5,16 +5,9 @@ use Rattle.bpf_journal.specs.declared.fault.TimelineFault.{TimelineFault}
 use Rattle.bpf_journal.specs.declared.fault.TimelineFault.TheVariants as timeline_fault
 use Rattle.bpf_session.specs.declared.reply.Reply.{Reply}
 use Rattle.bpf_session.specs.declared.reply.Reply.TheVariants as reply
-use Rattle.bpf_machine.specs.declared.edit.EditFault.{EditFault}
-use Rattle.bpf_machine.specs.declared.edit.EditFault.TheVariants as fault
 use Rattle.bpfdb_commands.specs.declared.refusal.Refusal.{Refusal}
-use Rattle.bpfdb_commands.specs.declared.refusal.Refusal.TheVariants.{AddressNotPresent, RegisterNotWritable, NoStart, NoCell, MachineEnded, OutOfMemory}
-
-abbrev pub refusal_for : EditFault → Refusal
-refusal_for fault.AddressNotPresent = AddressNotPresent
-refusal_for fault.RegisterNotWritable = RegisterNotWritable
-refusal_for fault.NoStart = NoStart
-refusal_for fault.NoCell = NoCell
+use Rattle.bpfdb_commands.specs.declared.refusal.Refusal.TheVariants.{MachineEnded, OutOfMemory}
+use Rattle.bpf_session.specs.Refused.{refusal_for}
 
 abbrev pub answer_to : Result (Unit {0}) TimelineFault → Result Reply Refusal
 answer_to (Ok u) = Ok reply.Ok

@@ -1,12 +1,13 @@
 -- Which refusals of a command hold at a point, in the order of their numbers: the first is answered.
-use Rattle.std.specs.Prelude.{ℕ, Bool, true, false, not, ◌&&◌, Option, Some, None, List, [], ◌∷◌, ◌++◌, length, slice_get, is_some, ◌==◌, nat_le, nat_lt}
-use Rattle.bpf_isa.specs.declared.maps.MapShape.{MapShape}
+use Rattle.std.specs.Prelude.{ℕ, Bool, true, false, not, Option, Some, None, List, [], ◌∷◌, ◌++◌, length, is_some, ◌==◌, nat_le, nat_lt}
 use Rattle.bpf_isa.specs.Programs.{insn_at}
 use Rattle.bpf_machine.specs.Regions.{index_of}
 use Rattle.bpf_machine.specs.State.{depth}
 use Rattle.bpf_entries.specs.Status.{has_ended}
 use Rattle.bpf_machine.specs.declared.edit.Edit.{Edit}
-use Rattle.bpf_machine.specs.declared.edit.Edit.TheVariants as edit
+use Rattle.bpf_machine.specs.declared.edit.EditFault.{EditFault}
+use Rattle.bpf_machine.specs.declared.edit.EditFault.TheVariants as fault
+use Rattle.bpf_machine.specs.Edits.{edit_fault}
 use Rattle.bpf_session.specs.Limits.{most_breaks, most_watches}
 use Rattle.bpf_session.specs.Points.{Point}
 use Rattle.bpf_session.specs.Stops.{has}
@@ -32,17 +33,19 @@ present p a n = is_some (index_of p.state.memory a n)
 abbrev pub starts : Point → ℕ → Bool
 starts p slot = is_some (insn_at p.state.program slot)
 
--- There is a map with this number, whose cells go past this index and have so many bytes.
-abbrev pub has_cell : Option MapShape → ℕ → ℕ → Bool
-has_cell None index n = false
-has_cell (Some shape) index n = nat_lt index shape.entries && (n == shape.value_size)
+-- An edit's: its fault, if it has one.
+abbrev pub refusal_for : EditFault → Refusal
+refusal_for fault.AddressNotPresent = AddressNotPresent
+refusal_for fault.RegisterNotWritable = RegisterNotWritable
+refusal_for fault.NoStart = NoStart
+refusal_for fault.NoCell = NoCell
 
--- An edit's.
+abbrev pub fault_refusals : Option EditFault → List Refusal
+fault_refusals None = []
+fault_refusals (Some fault) = refusal_for fault ∷ []
+
 abbrev pub edit_refusals : Edit → Point → List Refusal
-edit_refusals (edit.Bytes a bytes) p = when (not (present p a (length bytes))) AddressNotPresent
-edit_refusals (edit.Register r value) p = when (r == 10) RegisterNotWritable
-edit_refusals (edit.Cell map index bytes) p = when (not (has_cell (slice_get p.state.program.maps map) index (length bytes))) NoCell
-edit_refusals (edit.Pc slot) p = when (not (starts p slot)) NoStart
+edit_refusals e p = fault_refusals (edit_fault p.state e)
 
 -- A command's.
 abbrev pub refusals_of : Command → Point → List Refusal

@@ -1,6 +1,6 @@
 -- A session, as contracts see it.
 use Rattle.std.specs.Prelude.{◌≡◌, ℕ, List, [], ◌∷◌, Option, Some, None, Result, Ok, Err, IfOk}
-use Rattle.bpf_journal.specs.Counts.{once_more}
+use Rattle.bpf_journal.specs.Counts.{one_more}
 use Rattle.bpf_entries.specs.Keeping.{Kept}
 use Rattle.bpf_journal.specs.Histories.{Record, StandsFor}
 use Rattle.bpf_journal.specs.Timelines.{Moment}
@@ -40,7 +40,7 @@ StandsAt holds s p = (point_of s p.history ≡ p) × HasPast holds s p.history
 -- How often a keeper has refused, after a command with this gap.
 abbrev pub refusals_with : Option ℕ → ℕ → ℕ
 refusals_with None n = n
-refusals_with (Some kept) n = once_more n
+refusals_with (Some kept) n = one_more n
 
 -- The same after commands with these gaps, one after another.
 abbrev pub refusals_after_all : List (Option ℕ) → ℕ → ℕ

@@ -10,9 +10,9 @@ use std::io::{Error, ErrorKind, Write};
 use std::process::Abort;
 
 /// mov r0, 42; exit.
-const ANSWER: &str = "b70000002a0000009500000000000000";
+pub const ANSWER: &str = "b70000002a0000009500000000000000";
 
-const SCRIPT: &str = "stepi\nreverse-stepi\nfrob\nstepi 2\n";
+pub const SCRIPT: &str = "stepi\nreverse-stepi\nfrob\nstepi 2\n";
 
 const PRINTED: &str = "1 forward; done; at 1: exit\n\
      1 back; done; at 0: mov r0, 42\n\
@@ -20,7 +20,7 @@ const PRINTED: &str = "1 forward; done; at 1: exit\n\
      2 forward; end; exited at 1: r0 0x2a\n";
 
 // How many bytes the first replies have, by the bytes of the script that are read before a read fails.
-fn told_before(good: usize) -> usize {
+pub fn told_before(good: usize) -> usize {
     match good {
         0..6 => 0,
         6..20 => 28,
@@ -31,7 +31,7 @@ fn told_before(good: usize) -> usize {
 }
 
 // The first so many bytes of what is printed.
-fn first(rt: &impl Abort, count: usize) -> &'static [u8] {
+pub fn first(rt: &impl Abort, count: usize) -> &'static [u8] {
     PRINTED.as_bytes().get(..count).expect(rt, "fewer bytes")
 }
 
@@ -99,7 +99,7 @@ fn new_narrow(alloc: Global, step: usize, room: usize) -> Narrow {
 }
 
 /// The fault with which a run ends.
-fn fault_of(answer: Result<(), RunFault>) -> &'static str {
+pub fn fault_of(answer: Result<(), RunFault>) -> &'static str {
     match answer {
         Ok(()) => "none",
         Err(RunFault::Read) => "read",
@@ -114,7 +114,7 @@ fn check_fault(rt: &impl Abort, answer: Result<(), RunFault>, failures: u64, fau
 }
 
 /// A session of the program above.
-fn answering(rt: &impl Abort, alloc: Global) -> Session<ListKeeper> {
+pub fn answering(rt: &impl Abort, alloc: Global) -> Session<ListKeeper> {
     session(rt, alloc, ANSWER, &[], 65_536, 1_000_000)
 }
 

@@ -10,6 +10,8 @@ mod keepers;
 #[cfg(test)]
 mod maps;
 #[cfg(test)]
+mod pieces;
+#[cfg(test)]
 mod plain;
 #[cfg(test)]
 mod play;

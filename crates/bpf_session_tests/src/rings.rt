@@ -36,6 +36,18 @@ info regs|r0=0x31 r1=0x0 r2=0x0 r3=0x0 r4=0x0 r5=0x0 r6=0x0 r7=0x0 r8=0x0 r9=0x0
 |at 0: add r0, 1
 ";
 
+/// How a ring of 16,384 bytes grows, is full and goes around its end. Of 2,000 steps the newest 1,424 and the jump before them are kept,
+/// 712 rounds of 23 bytes and 7 bytes; before that jump 288 sums were made.
+const GROWS: &str = "\
+stepi 1000|1000 forward; done; at 0: add r0, 1
+info history|1000 moves, 1 commands, 11500 of 16384 bytes
+stepi 1000|1000 forward; done; at 0: add r0, 1
+info history|1425 moves, 1 commands, 16383 of 16384 bytes
+reverse-stepi 1425|1425 back; done; at 1: ja L0
+info regs|r0=0x120 r1=0x0 r2=0x0 r3=0x0 r4=0x0 r5=0x0 r6=0x0 r7=0x0 r8=0x0 r9=0x0 r10=0x200000200
+|at 1: ja L0
+";
+
 /// The oldest bytes of a ring, at most so many.
 fn oldest(rt: &impl Abort, alloc: Global, keeper: &RingKeeper, most: usize) -> Vec<u8> {
     let mut bytes = Vec::new(alloc);
@@ -120,6 +132,13 @@ fn a_ring_goes_on(rt: HostRuntime) {
     let keeper = put_back(&cpu, keeper);
     let mut session = Session::open(cpu, keeper, 1_000_000);
     plays(&rt, alloc, &mut session, GOES_ON, 7);
+}
+
+#[test]
+fn a_ring_grows_and_goes_around(rt: HostRuntime) {
+    let alloc = rt.alloc();
+    let mut session = ring_session(&rt, alloc, ENDLESS, &[], 16_384, 1_000_000);
+    plays(&rt, alloc, &mut session, GROWS, 7);
 }
 
 #[test]

@@ -1,8 +1,8 @@
 //! Edits of the machine.
 ghost use Rattle.std.specs.Prelude.{◌≡◌};
-ghost use Rattle.bpf_session.specs.EditRefusals.{answer_to as answer_of, refusal_for};
+ghost use Rattle.bpf_session.specs.EditRefusals.{answer_to as answer_of};
 ghost use Rattle.bpf_session.specs.Outcomes.{unless_refused};
-ghost use Rattle.bpf_session.specs.Refused.{edit_refusals};
+ghost use Rattle.bpf_session.specs.Refused.{edit_refusals, refusal_for};
 ghost use Rattle.bpf_session.specs.Sessions.{Obeys};
 ghost use Rattle.bpf_session.specs.Tables.{edit as edit_of};
 
