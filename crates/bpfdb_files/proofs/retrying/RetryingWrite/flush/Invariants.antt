@@ -1,0 +1,6 @@
+-- An interrupted flush takes nothing.
+use Rattle.std.specs.Io.KnownBytes.{Keeps}
+use Rattle.bpfdb_files.proofs.retrying.RetryingWrite.flush.Given as goal
+
+abbrev pub invariant-loop : goal.invariant-loop
+invariant-loop g l = Keeps (g.T.Write.contents l.initial.self.inner) (g.T.Write.contents l.self.inner)
