@@ -1,2 +1,6 @@
+pub mod Endings
+pub mod Faults
 pub mod Jobs
+pub mod Openings
 pub mod Refusals
+pub mod Unread

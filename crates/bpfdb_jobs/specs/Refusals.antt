@@ -1,5 +1,5 @@
--- Scaffolding: why a job is refused, in this order: its maps, its listing, its program, its context, its journal.
-use Rattle.std.specs.Prelude.{◌≡◌, ℕ, List, Some, true}
+-- Why a job is refused, in this order: its maps, its listing, its program, its context, its journal.
+use Rattle.std.specs.Prelude.{◌≡◌, List, ℕ, Some, true}
 use Rattle.std.specs.Borrow.{Bor}
 use Rattle.bpf_isa.specs.Checker.{IsRefused}
 use Rattle.bpf_isa.specs.Maps.{IsListFault}
@@ -7,13 +7,11 @@ use Rattle.bpf_isa.specs.Programs.{Checked}
 use Rattle.bpf_isa.specs.declared.maps.MapShape.{MapShape}
 use Rattle.bpf_text.specs.Listing.{IsFaultOf}
 use Rattle.bpf_machine.specs.Opening.{Refused}
-use Rattle.bpf_entries.specs.Keeping.{IsSize}
-use Rattle.bpf_entries.specs.Keeping.{Kept}
 use Rattle.bpf_journal.specs.Opening.{RefusesSize}
-use Rattle.bpf_session.specs.Runs.{HasStanding}
-use Rattle.bpf_session.specs.Sessions.{SessionValue}
-use Rattle.bpfdb_jobs.specs.Jobs.{HasMaps, HasWords, IsProgramOf, Opens, start_of}
+use Rattle.bpfdb_jobs.specs.Jobs.{HasMaps, HasWords, IsProgramOf, Opens}
 use Rattle.bpfdb_jobs.specs.declared.job.Job.{Job}
+use Rattle.bpfdb_jobs.specs.declared.job.JobKind.{JobKind}
+use Rattle.bpfdb_jobs.specs.declared.job.JobKind.TheVariants.{Run, Debug, Asm, Disasm, Check}
 use Rattle.bpfdb_jobs.specs.declared.refusal.JobRefusal.{JobRefusal}
 use Rattle.bpfdb_jobs.specs.declared.refusal.JobRefusal.TheVariants.{Maps, Listing, Load, Open, Journal}
 
@@ -27,9 +25,23 @@ Refuses job (Load fault) = (shapes : List MapShape) × HasMaps job.maps shapes
 Refuses job (Open fault) = (code : Checked) × IsProgramOf job code × Refused job.context.now fault
 Refuses job (Journal fault) = (code : Checked) × Opens job code × RefusesSize job.journal fault
 
--- A session that was just opened for a job.
-pub record IsOpening {K : Type 0} (holds : K → List Kept → Type 0) (refused room : K → ℕ) (job : Job) (session : SessionValue K) : Type 0 where
-  pub code : Checked
-  pub opens : Opens job code
-  pub sized : IsSize job.journal
-  pub stands : HasStanding holds refused room session (start_of job code)
+-- Those that a kind of job looks at: `asm` its listing alone, a program has no context, a run no journal.
+abbrev pub RefusesProgram : Job → JobRefusal → Type 0
+RefusesProgram job (Open fault) = ⊥
+RefusesProgram job (Journal fault) = ⊥
+RefusesProgram job refusal = Refuses job refusal
+
+abbrev pub RefusesMachine : Job → JobRefusal → Type 0
+RefusesMachine job (Journal fault) = ⊥
+RefusesMachine job refusal = Refuses job refusal
+
+abbrev pub RefusesListing : Job → JobRefusal → Type 0
+RefusesListing job (Listing fault) = IsFaultOf job.file.now fault
+RefusesListing job refusal = ⊥
+
+abbrev pub RefusesAs : JobKind → Job → JobRefusal → Type 0
+RefusesAs Run job refusal = RefusesMachine job refusal
+RefusesAs Debug job refusal = Refuses job refusal
+RefusesAs Asm job refusal = RefusesListing job refusal
+RefusesAs Disasm job refusal = RefusesProgram job refusal
+RefusesAs Check job refusal = RefusesProgram job refusal

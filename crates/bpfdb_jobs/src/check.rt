@@ -2,6 +2,7 @@
 ghost use Rattle.std.specs.Prelude.{◌≡◌, ◌≢◌, List, ℕ, Some, count_by, is_some};
 ghost use Rattle.counted_io.specs.Writing.{Writes, WritesAfter};
 ghost use Rattle.bpfdb_jobs.specs.Jobs.{StopsShort, Completes, Needs, Spared, check_line};
+ghost use Rattle.bpfdb_jobs.specs.Unread.{TellsUnread};
 ghost use Rattle.bpfdb_jobs.specs.declared.job.JobKind.TheVariants.{Check};
 
 use crate::fault::JobFault;
@@ -26,13 +27,16 @@ pub fn check_job<W: Write, E: Write>(
         StopsShort Check job.now (record { script = script; told = told; after = W.contents writer.new.inner; left = Some script }) }
     ensures refused { (Needs Check job.now → ⊥) → (result ≡ 2) × (writer.new ≡ writer.old) }
     ensures spared { result ≢ 2 → Spared writer.old writer.new × Spared errors.old errors.new }
+    ensures quiet { result ≡ 0 → errors.new ≡ errors.old }
+    ensures never { result ≢ 1 }
+    ensures told { result ≡ 2 → TellsUnread E.contents Check job.now writer.old writer.new errors.old errors.new }
 {
     match program_of(alloc, job) {
         Ok(program) => {
             let written = write_size(&program, writer);
             ended(written, errors)
         }
-        Err(refusal) => give_up(errors, JobFault::refused(refusal)),
+        Err(refusal) => give_up(errors, &JobFault::Refused(refusal)),
     }
 }
 

@@ -1,5 +1,6 @@
 //! What a job of `debug` does.
 ghost use Rattle.std.specs.Prelude.{◌≡◌, ◌≢◌, List, ℕ, Some};
+ghost use Rattle.bpfdb_jobs.specs.Endings.{TellsFault};
 ghost use Rattle.bpfdb_jobs.specs.Jobs.{StopsShort, Completes, Needs, Spared};
 ghost use Rattle.bpfdb_jobs.specs.declared.job.JobKind.TheVariants.{Debug};
 ghost use Rattle.bpfdb_limits.specs.Limits.{IsLimit};
@@ -30,15 +31,18 @@ pub fn debug_job<R: Read, W: Write, E: Write>(
         StopsShort Debug job.now (record { script = script; told = told; after = W.contents writer.new.inner; left = R.remaining reader.new.inner }) }
     ensures refused { (Needs Debug job.now → ⊥) → (result ≡ 2) × (reader.new ≡ reader.old) × (writer.new ≡ writer.old) }
     ensures spared { result ≢ 2 → Spared reader.old reader.new × Spared writer.old writer.new × Spared errors.old errors.new }
+    ensures quiet { result ≡ 0 → errors.new ≡ errors.old }
+    ensures never { result ≢ 1 }
+    ensures told { result ≡ 2 → TellsFault E.contents Debug job.now reader.old reader.new writer.old writer.new errors.old errors.new }
 {
     let mut session = match session_of(alloc, job) {
         Ok(session) => session,
-        Err(refusal) => return give_up(errors, JobFault::refused(refusal)),
+        Err(refusal) => return give_up(errors, &JobFault::Refused(refusal)),
     };
     nothing_refused_nothing_missing();
     match run(&mut session, reader, writer) {
         Ok(()) => 0,
-        Err(RunFault::Read) => give_up(errors, JobFault::Input),
-        Err(RunFault::Write) => give_up(errors, JobFault::Output),
+        Err(RunFault::Read) => give_up(errors, &JobFault::Input),
+        Err(RunFault::Write) => give_up(errors, &JobFault::Output),
     }
 }

@@ -1,6 +1,7 @@
 //! What the jobs of `asm` and `disasm` do.
 ghost use Rattle.std.specs.Prelude.{◌≡◌, ◌≢◌, List, ℕ, Some};
 ghost use Rattle.bpfdb_jobs.specs.Jobs.{StopsShort, Completes, Needs, Spared};
+ghost use Rattle.bpfdb_jobs.specs.Unread.{TellsUnread};
 ghost use Rattle.bpfdb_jobs.specs.declared.job.JobKind.TheVariants.{Asm, Disasm};
 
 use crate::fault::JobFault;
@@ -26,13 +27,16 @@ pub fn asm_job<W: Write, E: Write>(
         StopsShort Asm job.now (record { script = script; told = told; after = W.contents writer.new.inner; left = Some script }) }
     ensures refused { (Needs Asm job.now → ⊥) → (result ≡ 2) × (writer.new ≡ writer.old) }
     ensures spared { result ≢ 2 → Spared writer.old writer.new × Spared errors.old errors.new }
+    ensures quiet { result ≡ 0 → errors.new ≡ errors.old }
+    ensures never { result ≢ 1 }
+    ensures told { result ≡ 2 → TellsUnread E.contents Asm job.now writer.old writer.new errors.old errors.new }
 {
     match assemble(alloc, job.file) {
         Ok(words) => {
             let written = write_out(writer, words.as_slice());
             ended(written, errors)
         }
-        Err(fault) => give_up(errors, JobFault::refused(JobRefusal::Listing(fault))),
+        Err(fault) => give_up(errors, &JobFault::Refused(JobRefusal::Listing(fault))),
     }
 }
 
@@ -49,16 +53,19 @@ pub fn disasm_job<W: Write, E: Write>(
         StopsShort Disasm job.now (record { script = script; told = told; after = W.contents writer.new.inner; left = Some script }) }
     ensures refused { (Needs Disasm job.now → ⊥) → (result ≡ 2) × (writer.new ≡ writer.old) }
     ensures spared { result ≢ 2 → Spared writer.old writer.new × Spared errors.old errors.new }
+    ensures quiet { result ≡ 0 → errors.new ≡ errors.old }
+    ensures never { result ≢ 1 }
+    ensures told { result ≡ 2 → TellsUnread E.contents Disasm job.now writer.old writer.new errors.old errors.new }
 {
     let program = match program_of(alloc, job) {
         Ok(program) => program,
-        Err(refusal) => return give_up(errors, JobFault::refused(refusal)),
+        Err(refusal) => return give_up(errors, &JobFault::Refused(refusal)),
     };
     match disassemble(alloc, &program) {
         Ok(listing) => {
             let written = write_out(writer, listing.as_slice());
             ended(written, errors)
         }
-        Err(_) => give_up(errors, JobFault::Memory),
+        Err(_) => give_up(errors, &JobFault::Memory),
     }
 }

@@ -3,7 +3,8 @@ ghost use Rattle.std.specs.Prelude.{◌≡◌, IfErr, IfOk, true};
 ghost use Rattle.bpf_isa.specs.Programs.{Checked};
 ghost use Rattle.bpf_machine.specs.State.{initial};
 ghost use Rattle.bpfdb_jobs.specs.Jobs.{HasMaps, HasWords, IsProgramOf, Opens};
-ghost use Rattle.bpfdb_jobs.specs.Refusals.{IsOpening, Refuses};
+ghost use Rattle.bpfdb_jobs.specs.Openings.{IsOpening};
+ghost use Rattle.bpfdb_jobs.specs.Refusals.{Refuses, RefusesMachine, RefusesProgram};
 ghost use Rattle.bpfdb_limits.specs.Limits.{IsLimit};
 
 use crate::job::Job;
@@ -18,7 +19,7 @@ use std::alloc::Global;
 /// The map table.
 fn maps_of(job: &Job<'_>) -> Result<MapTable, JobRefusal>
     ensures ok { IfOk result (HasMaps job.now.maps) }
-    ensures err { IfErr result (Refuses job.now) }
+    ensures err { IfErr result (RefusesProgram job.now) }
 {
     match job.maps {
         None => Ok(MapTable::empty()),
@@ -32,7 +33,7 @@ fn maps_of(job: &Job<'_>) -> Result<MapTable, JobRefusal>
 /// The program: first its maps are read, then the listing, if FILE is one, is assembled, then the checker looks at the words.
 pub fn program_of(alloc: Global, job: &Job<'_>) -> Result<Program, JobRefusal>
     ensures ok { IfOk result (IsProgramOf job.now) }
-    ensures err { IfErr result (Refuses job.now) }
+    ensures err { IfErr result (RefusesProgram job.now) }
 {
     let maps = match maps_of(job) {
         Ok(maps) => maps,
@@ -50,7 +51,7 @@ fn assembled(alloc: Global, job: &Job<'_>, maps: &MapTable) -> Result<Program, J
     requires maps { HasMaps job.now.maps maps.now }
     requires listing { job.now.is_listing ≡ true }
     ensures ok { IfOk result (IsProgramOf job.now) }
-    ensures err { IfErr result (Refuses job.now) }
+    ensures err { IfErr result (RefusesProgram job.now) }
 {
     match assemble(alloc, job.file) {
         Ok(words) => checked(alloc, job, words.as_slice(), maps),
@@ -68,7 +69,7 @@ fn checked(
     requires maps { HasMaps job.now.maps maps.now }
     requires words { HasWords job.now.is_listing job.now.file.now words.now }
     ensures ok { IfOk result (IsProgramOf job.now) }
-    ensures err { IfErr result (Refuses job.now) }
+    ensures err { IfErr result (RefusesProgram job.now) }
 {
     match check(alloc, words, maps) {
         Ok(program) => {
@@ -82,7 +83,7 @@ fn checked(
 /// A machine before its first step.
 pub fn machine_of(alloc: Global, job: &Job<'_>) -> Result<Cpu, JobRefusal>
     ensures ok { IfOk result (λ cpu. (code : Checked) × Opens job.now code × (cpu ≡ initial code job.now.context.now)) }
-    ensures err { IfErr result (Refuses job.now) }
+    ensures err { IfErr result (RefusesMachine job.now) }
 {
     let program = match program_of(alloc, job) {
         Ok(program) => program,

@@ -1,15 +1,17 @@
 //! What goes to standard output at once, and what goes to standard error.
-ghost use Rattle.std.specs.Prelude.{◌≡◌, ◌++◌, IfSome, OnErr, OnOk, codes};
-ghost use Rattle.std.specs.Fmt.{with_newline};
-ghost use Rattle.std.specs.Io.KnownBytes.{Appends};
+ghost use Rattle.std.specs.Prelude.{◌≡◌, ◌≢◌, ◌++◌, OnErr, OnOk, codes};
 ghost use Rattle.counted_io.specs.Writing.{Writes};
 ghost use Rattle.bpfdb_replies.specs.Texts.{place};
+ghost use Rattle.bpfdb_jobs.specs.Endings.{Told};
+ghost use Rattle.bpfdb_jobs.specs.Faults.{line_of, shown_text};
+ghost use Rattle.bpfdb_jobs.specs.declared.fault.JobFault.TheVariants.{Output};
 
 use crate::fault::JobFault;
+use crate::line::write_line;
+use crate::name::put_text;
 use bpf_machine::Cpu;
 use bpfdb_replies::write_place;
 use counted_io::{Counted, WriteFault, put, write_text};
-use std::fmt::Display;
 use std::io::Write;
 
 /// Writes a whole output, and flushes.
@@ -27,27 +29,16 @@ pub fn write_out<W: Write>(writer: &mut Counted<W>, text: &[u8]) -> Result<(), W
 }
 
 /// Writes the line of a fault to standard error, and flushes.
-pub fn tell<E: Write, F: Display + Drop>(
-    errors: &mut Counted<E>,
-    fault: F,
-) -> Result<(), WriteFault>
-    ensures ok { OnOk result (IfSome (with_newline (F.output fault))
-        (Appends (E.contents errors.old.inner) (E.contents errors.new.inner))) }
-    ensures spared { OnOk result (errors.new.failures ≡ errors.old.failures) }
+pub fn tell<E: Write>(errors: &mut Counted<E>, fault: &JobFault<'_>) -> Result<(), WriteFault>
+    ensures { Writes E.contents errors.old errors.new result (line_of fault.now) }
 {
-    let before = errors.failures();
-    match writeln!(errors, "{fault}") {
+    match write_line(errors, fault) {
         Ok(()) => {}
-        Err(_) => return Err(WriteFault),
+        Err(fault) => return Err(fault),
     }
     match errors.flush() {
-        Ok(()) => {}
-        Err(_) => return Err(WriteFault),
-    }
-    if errors.failures() == before {
-        Ok(())
-    } else {
-        Err(WriteFault)
+        Ok(()) => Ok(()),
+        Err(_) => Err(WriteFault),
     }
 }
 
@@ -73,12 +64,49 @@ fn put_place_line<W: Write>(writer: &mut Counted<W>, cpu: &Cpu) -> Result<(), Wr
     put(writer, placed, b"\n")
 }
 
-/// Writes the line of a fault that ends a job. Answers the exit status.
-pub fn give_up<E: Write, F: Display + Drop>(errors: &mut Counted<E>, fault: F) -> u8
-    ensures { result ≡ 2 }
+/// Writes the line of a fault that ends a job to standard error, and flushes. Answers the exit status, 2, whether the line could be
+/// written or not.
+pub fn give_up<E: Write>(errors: &mut Counted<E>, fault: &JobFault<'_>) -> u8
+    ensures value { result ≡ 2 }
+    ensures told { Told E.contents errors.old errors.new (line_of fault.now) }
 {
-    let _told = tell(errors, fault);
-    2
+    match tell(errors, fault) {
+        Ok(()) => 2,
+        Err(WriteFault) => 2,
+    }
+}
+
+/// Writes what is wrong with a command line to standard error, and flushes. The text has lines of its own; control bytes of words in it
+/// are shown as those of names are. Answers the exit status, 2, whether the text could be written or not.
+pub fn tell_usage<E: Write>(errors: &mut Counted<E>, text: &str) -> u8
+    ensures value { result ≡ 2 }
+    ensures told { Told E.contents errors.old errors.new (shown_text text.now) }
+{
+    match tell_text(errors, text) {
+        Ok(()) => 2,
+        Err(WriteFault) => 2,
+    }
+}
+
+/// Writes a text of several lines to standard error, and flushes.
+fn tell_text<E: Write>(errors: &mut Counted<E>, text: &str) -> Result<(), WriteFault>
+    ensures { Writes E.contents errors.old errors.new result (shown_text text.now) }
+{
+    match write_shown(errors, text) {
+        Ok(()) => {}
+        Err(fault) => return Err(fault),
+    }
+    match errors.flush() {
+        Ok(()) => Ok(()),
+        Err(_) => Err(WriteFault),
+    }
+}
+
+/// Writes a text of several lines.
+fn write_shown<E: Write>(errors: &mut Counted<E>, text: &str) -> Result<(), WriteFault>
+    ensures { Writes E.contents errors.old errors.new result (shown_text text.now) }
+{
+    put_text(errors, Ok(()), text.as_bytes())
 }
 
 /// The exit status after an output that was written, or not.
@@ -86,9 +114,11 @@ pub fn ended<E: Write>(written: Result<(), WriteFault>, errors: &mut Counted<E>)
     ensures ok { OnOk written (result ≡ 0) }
     ensures same { OnOk written (errors.new ≡ errors.old) }
     ensures err { OnErr written (result ≡ 2) }
+    ensures told { OnErr written (Told E.contents errors.old errors.new (line_of Output)) }
+    ensures never { result ≢ 1 }
 {
     match written {
         Ok(()) => 0,
-        Err(WriteFault) => give_up(errors, JobFault::Output),
+        Err(WriteFault) => give_up(errors, &JobFault::Output),
     }
 }

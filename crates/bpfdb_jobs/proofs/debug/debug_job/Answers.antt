@@ -1,6 +1,7 @@
 use Rattle.std.proofs.Common.{inr, refl, sym, arith}
 use Rattle.bpf_session.specs.Runs.{Exchange, whole_walk}
 use Rattle.bpfdb_jobs.specs.Jobs.{debug_yield, start_of}
+use Rattle.bpfdb_jobs.specs.declared.fault.JobFault.TheVariants.{Input, Output}
 use Rattle.bpfdb_jobs.proofs.debug.debug_job.Goals as goal
 
 pub returns-in-Ok-run-clause-value : goal.returns-in-Ok-run-clause-value
@@ -28,3 +29,11 @@ returns-clause-broken g c = λ script told left held two.
     let o = c.in-Ok.ensures.ok in
     let r = c.in-Err-Write.ensures.broken (start_of c.args.job.now o.code) script told o.stands left held in
     inr (o.code, o.opens, o.sized, c.in-Err-Write.field-0, r.0, sym r.1.refusals, r.2)
+
+pub returns-in-Err-Read-clause-told : goal.returns-in-Err-Read-clause-told
+returns-in-Err-Read-clause-told g c = λ two.
+    (Input, rw c.in-Err-Read.field-0-is at c.in-Err-Read.ensures.err, c.give_up-in-Err-Read.ensures.told)
+
+pub returns-clause-told : goal.returns-clause-told
+returns-clause-told g c = λ two.
+    (Output, rw c.in-Err-Write.field-0-is at c.in-Err-Write.ensures.err, c.give_up-in-Err-Write.ensures.told)

@@ -1,3 +1,5 @@
+use Rattle.std.proofs.Common.{inl}
+use Rattle.bpfdb_jobs.proofs.Ending.{debug-told, run-told, unread-told}
 use Rattle.bpfdb_jobs.proofs.Yielding.{completes-debug, completes-too, stops-short, stops-short-debug}
 use Rattle.bpfdb_jobs.specs.declared.job.JobKind.TheVariants.{Run, Debug, Asm, Disasm, Check}
 use Rattle.bpfdb_jobs.proofs.dispatch.tool.Goals as goal
@@ -53,3 +55,28 @@ returns-in-Debug-clause-value g c = λ script told left held not.
     completes-debug c.args.job.now.kind Debug c.args.job.now
     (record { script = script; told = told; after = g.W.Write.contents c.debug_job.new.writer.inner; left = g.R.Read.remaining c.debug_job.new.reader.inner })
     c.debug_job.result c.in-Debug.is (c.debug_job.ensures.value script told left held not)
+
+pub returns-in-Run-clause-told : goal.returns-in-Run-clause-told
+returns-in-Run-clause-told g c = λ two.
+    run-told g.E.Write.contents c.args.job.now.kind Run c.args.job.now c.args.reader.now c.args.writer.now c.run_job.new.writer c.args.errors.now
+    c.run_job.new.errors c.in-Run.is (c.run_job.ensures.told two)
+
+pub returns-in-Debug-clause-told : goal.returns-in-Debug-clause-told
+returns-in-Debug-clause-told g c = λ two. inl
+    (debug-told g.E.Write.contents c.args.job.now.kind Debug c.args.job.now c.args.reader.now c.debug_job.new.reader c.args.writer.now c.debug_job.new.writer
+    c.args.errors.now c.debug_job.new.errors c.in-Debug.is (c.debug_job.ensures.told two))
+
+pub returns-in-Asm-clause-told : goal.returns-in-Asm-clause-told
+returns-in-Asm-clause-told g c = λ two. inl
+    (unread-told g.E.Write.contents c.args.job.now.kind Asm c.args.job.now c.args.reader.now c.args.writer.now c.asm_job.new.writer c.args.errors.now
+    c.asm_job.new.errors c.in-Asm.is (c.asm_job.ensures.told two))
+
+pub returns-in-Disasm-clause-told : goal.returns-in-Disasm-clause-told
+returns-in-Disasm-clause-told g c = λ two. inl
+    (unread-told g.E.Write.contents c.args.job.now.kind Disasm c.args.job.now c.args.reader.now c.args.writer.now c.disasm_job.new.writer c.args.errors.now
+    c.disasm_job.new.errors c.in-Disasm.is (c.disasm_job.ensures.told two))
+
+pub returns-in-Check-clause-told : goal.returns-in-Check-clause-told
+returns-in-Check-clause-told g c = λ two. inl
+    (unread-told g.E.Write.contents c.args.job.now.kind Check c.args.job.now c.args.reader.now c.args.writer.now c.check_job.new.writer c.args.errors.now
+    c.check_job.new.errors c.in-Check.is (c.check_job.ensures.told two))

@@ -2,6 +2,7 @@ use Rattle.std.proofs.Common.{refl, inr}
 use Rattle.bpfdb_jobs.specs.Jobs.{unread_with}
 use Rattle.bpfdb_jobs.specs.declared.job.JobKind.TheVariants.{Asm}
 use Rattle.bpfdb_jobs.proofs.Yielding.{begins, completes}
+use Rattle.bpfdb_jobs.proofs.Ending.{output-lost}
 use Rattle.bpfdb_jobs.proofs.listing.asm_job.Goals as goal
 
 pub returns-in-Ok-clause-value : goal.returns-in-Ok-clause-value
@@ -17,3 +18,8 @@ returns-in-Ok-clause-broken g c = λ script told held two.
     inr (begins g.W.Write.contents Asm c.args.job.now (unread_with 0 script words) script told c.args.writer.now c.write_out-written.new.writer
     c.write_out-written.result (words, c.in-Ok.ensures.ok, refl) held
     (rw c.as_slice.ensures.value at c.write_out-written.ensures))
+
+pub returns-in-Ok-clause-told : goal.returns-in-Ok-clause-told
+returns-in-Ok-clause-told g c =
+    output-lost g.E.Write.contents Asm c.args.job.now c.args.writer.now c.write_out-written.new.writer c.args.errors.now c.ended.new.errors
+    c.write_out-written.result c.ended.result c.ended.ensures.ok c.write_out-written.ensures.fault c.ended.ensures.told

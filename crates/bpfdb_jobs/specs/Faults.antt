@@ -1,0 +1,83 @@
+-- Why a job isn't done, as a line on standard error. bpfdb's own choice.
+use Rattle.std.specs.Prelude.{ℕ, ◌/◌, ◌%◌, ◌==◌, ◌||◌, nat_lt, if◌then◌else◌, false, List, [], ◌∷◌, ◌++◌, Option, Some, None, flat_map, codes, decimal}
+use Rattle.std.specs.Fmt.{digit_glyph}
+use Rattle.bpf_isa.specs.Faults.{load_fault_number, load_fault_text, map_fault_number, map_fault_text}
+use Rattle.bpf_isa.specs.declared.fault.LoadFault.{LoadFault}
+use Rattle.bpf_isa.specs.declared.fault.LoadFault.TheVariants as load
+use Rattle.bpf_text.specs.Faults.{fault_line, fault_number, fault_text}
+use Rattle.bpf_machine.specs.Opening as opening
+use Rattle.bpf_machine.specs.State.{State}
+use Rattle.bpf_journal.specs.Opening as journal
+use Rattle.bpf_session.specs.Plain.{ending_of}
+use Rattle.bpf_session.specs.declared.plain.Ending.{Ending}
+use Rattle.bpf_session.specs.declared.plain.Ending.TheVariants as ending
+use Rattle.bpfdb_replies.specs.Texts.{place}
+use Rattle.bpfdb_jobs.specs.declared.fault.JobFault.{JobFault}
+use Rattle.bpfdb_jobs.specs.declared.fault.JobFault.TheVariants.{Unreadable, NotText, Refused, Input, Output, Memory, StepLimit}
+use Rattle.bpfdb_jobs.specs.declared.refusal.JobRefusal.{JobRefusal}
+use Rattle.bpfdb_jobs.specs.declared.refusal.JobRefusal.TheVariants.{Maps, Listing, Load, Open, Journal}
+
+-- A name as it is shown: each control byte as `\x` and two hexadecimal digits.
+abbrev pub shown_byte : ℕ → List ℕ
+shown_byte b = if nat_lt b 32 || b == 127
+    then 92 ∷ 120 ∷ digit_glyph false (b / 16) ∷ digit_glyph false (b % 16) ∷ []
+    else b ∷ []
+
+abbrev pub shown : List ℕ → List ℕ
+shown name = flat_map shown_byte name
+
+-- A text of several lines as it is shown: its line feeds as they are.
+abbrev pub shown_text_byte : ℕ → List ℕ
+shown_text_byte b = if b == 10 then b ∷ [] else shown_byte b
+
+abbrev pub shown_text : List ℕ → List ℕ
+shown_text text = flat_map shown_text_byte text
+
+-- A refusal: a letter and a number, where it is if that is known, and a text.
+abbrev pub placed : List ℕ → Option ℕ → List ℕ
+placed unit (Some n) = unit ++ decimal n
+placed unit None = []
+
+abbrev pub refusal_text : List ℕ → ℕ → List ℕ → List ℕ → List ℕ
+refusal_text family number at text = family ++ decimal number ++ at ++ codes ": " ++ text ++ codes "\n"
+
+-- The slot of a program's fault, where it has one.
+abbrev pub slot_of : LoadFault → Option ℕ
+slot_of (load.At slot fault) = Some slot
+slot_of load.Empty = None
+slot_of load.TooLong = None
+slot_of load.Ragged = None
+slot_of load.Memory = None
+
+abbrev pub refusal_line : JobRefusal → List ℕ
+refusal_line (Maps fault) = refusal_text (codes "refused M") (map_fault_number fault) [] (map_fault_text fault)
+refusal_line (Listing fault) = refusal_text (codes "refused A") (fault_number fault) (placed (codes " at line ") (fault_line fault)) (fault_text fault)
+refusal_line (Load fault) = refusal_text (codes "refused C") (load_fault_number fault) (placed (codes " at slot ") (slot_of fault)) (load_fault_text fault)
+refusal_line (Open fault) = refusal_text (codes "refused O") (opening.number_of fault) [] (opening.text_of fault)
+refusal_line (Journal fault) = refusal_text (codes "refused J") (journal.number_of fault) [] (journal.text_of fault)
+
+-- A file that can't be read, and a run that took as many steps as it may.
+abbrev pub unreadable_line : List ℕ → List ℕ
+unreadable_line name = codes "cannot read " ++ shown name ++ codes "\n"
+
+abbrev pub limit_line : ℕ → ℕ → List ℕ
+limit_line limit slot = codes "step limit " ++ decimal limit ++ codes " reached at " ++ decimal slot ++ codes "\n"
+
+-- The line of each fault.
+abbrev pub line_of : JobFault → List ℕ
+line_of (Unreadable name) = unreadable_line name.now
+line_of NotText = codes "the command line is not UTF-8 text\n"
+line_of (Refused refusal) = refusal_line refusal
+line_of Input = codes "cannot read input\n"
+line_of Output = codes "cannot write output\n"
+line_of Memory = codes "out of memory\n"
+line_of (StepLimit limit slot) = limit_line limit slot
+
+-- The line of a run that stops before its program exits: where the machine stands, or the limit.
+abbrev pub line_of_stop : Ending → ℕ → State → List ℕ
+line_of_stop ending.Exited limit x = []
+line_of_stop ending.Faulted limit x = place x ++ codes "\n"
+line_of_stop ending.Limit limit x = limit_line limit x.pc
+
+abbrev pub stop_line : ℕ → State → List ℕ
+stop_line limit x = line_of_stop (ending_of x.status) limit x

@@ -1,0 +1,184 @@
+//! The line of a fault.
+ghost use Rattle.std.specs.Prelude.{◌≡◌};
+ghost use Rattle.counted_io.specs.Writing.{Writes, WritesAfter};
+ghost use Rattle.bpfdb_jobs.specs.Faults.{limit_line, line_of, placed, refusal_line, refusal_text, slot_of, unreadable_line};
+
+use crate::fault::JobFault;
+use crate::name::put_name;
+use crate::refusal::JobRefusal;
+use bpf_isa::LoadFault;
+use counted_io::{Counted, WriteFault, put, put_decimal};
+use std::io::Write;
+
+/// Writes the line of a fault.
+pub fn write_line<E: Write>(errors: &mut Counted<E>, fault: &JobFault<'_>) -> Result<(), WriteFault>
+    ensures { Writes E.contents errors.old errors.new result (line_of fault.now) }
+{
+    put_line(errors, Ok(()), fault)
+}
+
+/// Writes the line of a fault, after what was written so far, unless that failed.
+fn put_line<E: Write>(
+    errors: &mut Counted<E>,
+    so_far: Result<(), WriteFault>,
+    fault: &JobFault<'_>,
+) -> Result<(), WriteFault>
+    ensures { WritesAfter E.contents errors.old so_far errors.new result (line_of fault.now) }
+{
+    match fault {
+        JobFault::Unreadable(name) => put_unreadable(errors, so_far, name),
+        JobFault::NotText => put(errors, so_far, b"the command line is not UTF-8 text\n"),
+        JobFault::Refused(refusal) => put_refusal(errors, so_far, refusal),
+        JobFault::Input => put(errors, so_far, b"cannot read input\n"),
+        JobFault::Output => put(errors, so_far, b"cannot write output\n"),
+        JobFault::Memory => put(errors, so_far, b"out of memory\n"),
+        JobFault::StepLimit(limit, slot) => put_limit(errors, so_far, *limit, *slot),
+    }
+}
+
+/// Writes that a file can't be read.
+fn put_unreadable<E: Write>(
+    errors: &mut Counted<E>,
+    so_far: Result<(), WriteFault>,
+    name: &str,
+) -> Result<(), WriteFault>
+    ensures { WritesAfter E.contents errors.old so_far errors.new result (unreadable_line name.now) }
+{
+    let begun = put(errors, so_far, b"cannot read ");
+    let named = put_name(errors, begun, name.as_bytes());
+    put(errors, named, b"\n")
+}
+
+/// Writes that a run took as many steps as it may.
+fn put_limit<E: Write>(
+    errors: &mut Counted<E>,
+    so_far: Result<(), WriteFault>,
+    limit: u64,
+    slot: u16,
+) -> Result<(), WriteFault>
+    ensures { WritesAfter E.contents errors.old so_far errors.new result (limit_line limit slot) }
+{
+    let begun = put(errors, so_far, b"step limit ");
+    let counted = put_decimal(errors, begun, limit);
+    let parted = put(errors, counted, b" reached at ");
+    let placed = put_decimal(errors, parted, u64::from(slot));
+    put(errors, placed, b"\n")
+}
+
+/// Writes the line of a refusal.
+fn put_refusal<E: Write>(
+    errors: &mut Counted<E>,
+    so_far: Result<(), WriteFault>,
+    refusal: &JobRefusal,
+) -> Result<(), WriteFault>
+    ensures { WritesAfter E.contents errors.old so_far errors.new result (refusal_line refusal.now) }
+{
+    match refusal {
+        JobRefusal::Maps(fault) => {
+            put_numbered(
+                errors,
+                so_far,
+                b"refused M",
+                fault.number(),
+                b"",
+                None,
+                fault.text(),
+            )
+        }
+        JobRefusal::Listing(fault) => {
+            put_numbered(
+                errors,
+                so_far,
+                b"refused A",
+                fault.number(),
+                b" at line ",
+                fault.line(),
+                fault.text(),
+            )
+        }
+        JobRefusal::Load(fault) => {
+            put_numbered(
+                errors,
+                so_far,
+                b"refused C",
+                fault.number(),
+                b" at slot ",
+                slot_of(fault),
+                fault.text(),
+            )
+        }
+        JobRefusal::Open(fault) => {
+            put_numbered(
+                errors,
+                so_far,
+                b"refused O",
+                fault.number(),
+                b"",
+                None,
+                fault.text(),
+            )
+        }
+        JobRefusal::Journal(fault) => {
+            put_numbered(
+                errors,
+                so_far,
+                b"refused J",
+                fault.number(),
+                b"",
+                None,
+                fault.text(),
+            )
+        }
+    }
+}
+
+/// The slot of a program's fault, where it has one.
+fn slot_of(fault: &LoadFault) -> Option<usize>
+    ensures { result ≡ slot_of fault.now }
+{
+    match fault {
+        LoadFault::At { slot, .. } => Some(*slot),
+        LoadFault::Empty => None,
+        LoadFault::TooLong => None,
+        LoadFault::Ragged => None,
+        LoadFault::Memory => None,
+    }
+}
+
+/// Writes a refusal: how it begins, its number, where it is in this unit, and its text.
+fn put_numbered<E: Write>(
+    errors: &mut Counted<E>,
+    so_far: Result<(), WriteFault>,
+    family: &[u8],
+    number: u8,
+    unit: &[u8],
+    at: Option<usize>,
+    text: &str,
+) -> Result<(), WriteFault>
+    ensures { WritesAfter E.contents errors.old so_far errors.new result (refusal_text family.now number (placed unit.now at) text.now) }
+{
+    let begun = put(errors, so_far, family);
+    let numbered = put_decimal(errors, begun, u64::from(number));
+    let placed = put_place(errors, numbered, unit, at);
+    let parted = put(errors, placed, b": ");
+    let said = put(errors, parted, text.as_bytes());
+    put(errors, said, b"\n")
+}
+
+/// Writes a place, where there is one.
+fn put_place<E: Write>(
+    errors: &mut Counted<E>,
+    so_far: Result<(), WriteFault>,
+    unit: &[u8],
+    at: Option<usize>,
+) -> Result<(), WriteFault>
+    ensures { WritesAfter E.contents errors.old so_far errors.new result (placed unit.now at) }
+{
+    match at {
+        Some(at) => {
+            let begun = put(errors, so_far, unit);
+            put_decimal(errors, begun, at as u64)
+        }
+        None => put(errors, so_far, b""),
+    }
+}
