@@ -1,10 +1,16 @@
 -- What a fault of a file tells.
-use Rattle.std.specs.Prelude.{ℕ, ◌≡◌, List, ⊤}
-use Rattle.bpfdb.specs.declared.fault.FileFault.{FileFault}
-use Rattle.bpfdb.specs.declared.fault.FileFault.TheVariants.{Unreadable, TooLong, Memory}
+use Rattle.std.specs.Prelude.{ℕ, ◌≡◌, List, Option, Some, None, ⊤}
+use Rattle.std.specs.Borrow.{Bor}
+use Rattle.bpfdb_jobs.specs.declared.fault.JobFault.{JobFault}
+use Rattle.bpfdb_jobs.specs.declared.fault.JobFault.TheVariants.{Unreadable, Memory}
 
--- A fault names the path of the file, unless memory ran out.
-abbrev pub Names : List ℕ → FileFault → Type 0
+-- It names the path of the file, unless memory ran out.
+abbrev pub Names : List ℕ → JobFault → Type 0
 Names path (Unreadable named) = named.now ≡ path
-Names path (TooLong named most) = named.now ≡ path
 Names path Memory = ⊤
+Names path fault = ⊥
+
+-- The same of a path that may not be there.
+abbrev pub NamesGiven : Option (Bor (List ℕ)) → JobFault → Type 0
+NamesGiven (Some path) fault = Names path.now fault
+NamesGiven None fault = ⊥

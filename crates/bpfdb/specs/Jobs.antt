@@ -1,0 +1,31 @@
+-- The job of a plan.
+use Rattle.std.specs.Prelude.{ℕ, ◌≡◌, List, Option, option_map}
+use Rattle.std.specs.Borrow.{Bor}
+use Rattle.bpfdb_cli.specs.declared.plans.Plan.{Plan}
+use Rattle.bpfdb_cli.specs.declared.plans.Subcommand.{Subcommand}
+use Rattle.bpfdb_cli.specs.declared.plans.Subcommand.TheVariants as subcommand
+use Rattle.bpfdb_jobs.specs.declared.job.Job.{Job}
+use Rattle.bpfdb_jobs.specs.declared.job.JobKind.{JobKind}
+use Rattle.bpfdb_jobs.specs.declared.job.JobKind.TheVariants as kind
+
+-- The kind of a subcommand's job.
+abbrev pub kind_of : Subcommand → JobKind
+kind_of subcommand.Run = kind.Run
+kind_of subcommand.Debug = kind.Debug
+kind_of subcommand.Asm = kind.Asm
+kind_of subcommand.Disasm = kind.Disasm
+kind_of subcommand.Check = kind.Check
+
+-- The bytes of a text that may be there.
+abbrev pub bytes_of : Option (Bor (List ℕ)) → Option (List ℕ)
+bytes_of text = option_map (λ t. t.now) text
+
+-- It has what the plan says, the bytes of FILE and those of PATH.
+pub record IsJobOf (plan : Plan) (of_file of_path : List ℕ) (job : Job) : Type 0 where
+  pub kind : job.kind ≡ kind_of plan.subcommand
+  pub file : job.file.now ≡ of_file
+  pub context : job.context.now ≡ of_path
+  pub maps : bytes_of job.maps ≡ bytes_of plan.maps
+  pub journal : job.journal ≡ plan.journal
+  pub limit : job.limit ≡ plan.limit
+  pub listing : job.is_listing ≡ plan.is_listing

@@ -1,0 +1,71 @@
+//! The job of a plan, done over any reader and writer.
+ghost use Rattle.std.specs.Prelude.{◌≡◌, ◌≢◌, ◌⊎◌, List, ℕ, Some};
+ghost use Rattle.bpfdb.specs.Jobs.{IsJobOf, kind_of};
+ghost use Rattle.bpfdb_jobs.specs.Endings.{LosesStop, TellsFault, TellsStop};
+ghost use Rattle.bpfdb_jobs.specs.Jobs.{Completes, Needs, Spared, StopsShort};
+ghost use Rattle.bpfdb_limits.specs.Limits.{IsLimit};
+
+use bpfdb_cli::{Plan, Subcommand};
+use bpfdb_jobs::{Job, JobKind, tool};
+use counted_io::Counted;
+use std::alloc::Global;
+use std::io::{Read, Write};
+
+/// Does the job of a plan with the bytes of FILE and of PATH, and answers the exit status: what `tool` promises of that job.
+pub fn do_plan<R: Read, W: Write, E: Write>(
+    alloc: Global,
+    plan: &Plan<'_>,
+    file: &[u8],
+    context: &[u8],
+    reader: &mut Counted<R>,
+    writer: &mut Counted<W>,
+    errors: &mut Counted<E>,
+) -> u8
+    requires limit { IsLimit plan.now.limit }
+    ensures value { (job : Job) × IsJobOf plan.now file.now context.now job
+        × ((script told : List ℕ) → R.remaining reader.old.inner ≡ Some script → W.contents writer.old.inner ≡ Some told → result ≢ 2 →
+        Completes job.kind job (record { script = script; told = told; after = W.contents writer.new.inner; left = R.remaining reader.new.inner }) result) }
+    ensures broken { (job : Job) × IsJobOf plan.now file.now context.now job
+        × ((script told : List ℕ) → R.remaining reader.old.inner ≡ Some script → W.contents writer.old.inner ≡ Some told → result ≡ 2 →
+        StopsShort job.kind job (record { script = script; told = told; after = W.contents writer.new.inner; left = R.remaining reader.new.inner })) }
+    ensures refused { (job : Job) × IsJobOf plan.now file.now context.now job
+        × ((Needs job.kind job → ⊥) → (result ≡ 2) × (reader.new ≡ reader.old) × (writer.new ≡ writer.old)) }
+    ensures spared { result ≢ 2 → Spared reader.old reader.new × Spared writer.old writer.new × Spared errors.old errors.new }
+    ensures quiet { result ≡ 0 → errors.new ≡ errors.old }
+    ensures stopped { (job : Job) × IsJobOf plan.now file.now context.now job
+        × (result ≡ 1 → TellsStop E.contents job errors.old errors.new × (reader.new ≡ reader.old) × (writer.new ≡ writer.old)) }
+    ensures told { (job : Job) × IsJobOf plan.now file.now context.now job
+        × (result ≡ 2 → TellsFault E.contents job.kind job reader.old reader.new writer.old writer.new errors.old errors.new
+        ⊎ (LosesStop E.contents job errors.old errors.new × (reader.new ≡ reader.old) × (writer.new ≡ writer.old))) }
+{
+    let job = job_of(plan, file, context);
+    tool(alloc, &job, reader, writer, errors)
+}
+
+/// The job of a plan.
+fn job_of<'a>(plan: &Plan<'a>, file: &'a [u8], context: &'a [u8]) -> Job<'a>
+    ensures { IsJobOf plan.now file.now context.now result }
+{
+    Job {
+        kind: kind_of(plan.subcommand),
+        file,
+        context,
+        maps: plan.maps.map(|text| text.as_bytes()),
+        journal: plan.journal,
+        limit: plan.limit,
+        is_listing: plan.is_listing,
+    }
+}
+
+/// The kind of a subcommand's job.
+fn kind_of(subcommand: Subcommand) -> JobKind
+    ensures { result ≡ kind_of subcommand }
+{
+    match subcommand {
+        Subcommand::Run => JobKind::Run,
+        Subcommand::Debug => JobKind::Debug,
+        Subcommand::Asm => JobKind::Asm,
+        Subcommand::Disasm => JobKind::Disasm,
+        Subcommand::Check => JobKind::Check,
+    }
+}
