@@ -1,0 +1,86 @@
+-- What a value tells of the tests on the way to it.
+use Rattle.std.proofs.Common.{◌≡◌, ◌<◌, ◌*◌, ◌+◌, ◌/◌, ◌%◌, ◌-◌, ◌==◌, nat_lt, ℕ, List, Bool, true, false, Result, Ok, Err, refl, sym, ap, arith}
+use Rattle.std.specs.Prelude.{if◌then◌else◌, not, slice_index}
+use Rattle.std.proofs.lemmas.Grind.{common_steps}
+use Rattle.bpf_isa.specs.Words.{u32_at}
+use Rattle.bpf_link.specs.declared.fault.LinkFault.{LinkFault}
+use Rattle.bpf_link.specs.declared.fault.LinkFault.TheVariants.{Place, Symbol, Extern, CallTarget, NoCall, Data, RelocationKind, NoLoad}
+use Rattle.bpf_link.specs.declared.layout.RelocationEntry.{RelocationEntry}
+use Rattle.bpf_link.specs.declared.layout.SymbolEntry.{SymbolEntry}
+use Rattle.bpf_link.specs.declared.plan.Part.{Part}
+use Rattle.bpf_link.specs.declared.plan.Plan.{Plan}
+use Rattle.bpf_link.specs.declared.patch.Patch.{Patch}
+use Rattle.bpf_link.specs.Header.{provided}
+use Rattle.bpf_link.specs.Plans.{after, relocation_at, symbol_at}
+use Rattle.bpf_link.specs.Patches.{is_call, is_map, is_empty_load, map_number, is_next, part_with, call_to, call_patch, map_patch, patch_with, patch_of}
+
+clash : {A : Type 0} (fault : LinkFault) (v : A) → ◌≡◌ {A = Result A LinkFault} (Err fault) (Ok v) → ⊥
+clash fault v e = cc
+
+pub ok_same : {A : Type 0} (a b : A) → ◌≡◌ {A = Result A LinkFault} (Ok a) (Ok b) → a ≡ b
+ok_same a b e = cc
+
+pub provided_ok : {A : Type 0} (b : Bool) (fault : LinkFault) (next : Result A LinkFault) (v : A) → provided b fault next ≡ Ok v → (b ≡ true) × (next ≡ Ok v)
+provided_ok true fault next v e = (refl, e)
+provided_ok false fault next v e = absurd (clash fault v e)
+
+pub after_ok : {A B : Type 0} (r : Result A LinkFault) (next : A → Result B LinkFault) (v : B) → after r next ≡ Ok v → (a : A) × (r ≡ Ok a) × (next a ≡ Ok v)
+after_ok (Ok a) next v e = (a, refl, e)
+after_ok (Err fault) next v e = absurd (clash fault v e)
+
+call_to_at : (target : Part) (value imm slot : ℕ) (patch : Patch) → call_to target value imm slot ≡ Ok patch → patch.at ≡ 8 * slot
+call_to_at target value imm slot patch e =
+    let a = provided_ok (value % 8 == 0) CallTarget _ _ e in
+    let b = provided_ok (nat_lt (value / 8) target.slots.count) CallTarget _ _ a.1 in
+    let c = provided_ok (nat_lt ((value / 8 + imm + 1) % 4294967296) target.slots.count) CallTarget _ _ b.1 in
+    sym (ap (λ (p : Patch). p.at) (ok_same (record { at = 8 * slot; registers = 0x10; imm = (4294967296 + (target.first + (value / 8 + imm + 1) % 4294967296) - (slot + 1)) % 4294967296 }) patch c.1))
+
+call_at : (object : List ℕ) (plan : Plan) (symbol : SymbolEntry) (at slot : ℕ) (patch : Patch) → call_patch object plan symbol at slot ≡ Ok patch → patch.at ≡ 8 * slot
+call_at object plan symbol at slot patch e =
+    let a = provided_ok (is_call object at) NoCall _ _ e in
+    let b = after_ok (part_with plan symbol.section) (λ target. call_to target symbol.value (u32_at object (at + 4)) slot) patch a.1 in
+    call_to_at b.0 symbol.value (u32_at object (at + 4)) slot patch b.2
+
+map_at : (object : List ℕ) (plan : Plan) (maps : List ℕ) (symbol : SymbolEntry) (at slot : ℕ) (patch : Patch) → map_patch object plan maps symbol at slot ≡ Ok patch → patch.at ≡ 8 * slot
+map_at object plan maps symbol at slot patch e =
+    let a = provided_ok (is_map plan.maps symbol) Data _ _ e in
+    let b = provided_ok (is_empty_load object at) NoLoad _ _ a.1 in
+    sym (ap (λ (p : Patch). p.at) (ok_same (record { at = 8 * slot; registers = slice_index object (at + 1) + 0x50; imm = map_number maps symbol.value }) patch b.1))
+
+kind_at : (object : List ℕ) (plan : Plan) (maps : List ℕ) (symbol : SymbolEntry) (at slot : ℕ) (patch : Patch) (call map room : Bool)
+    → (if call then call_patch object plan symbol at slot else (if map then provided room NoLoad (map_patch object plan maps symbol at slot) else Err RelocationKind)) ≡ Ok patch → patch.at ≡ 8 * slot
+kind_at object plan maps symbol at slot patch true map room e = call_at object plan symbol at slot patch e
+kind_at object plan maps symbol at slot patch false true room e = map_at object plan maps symbol at slot patch (provided_ok room NoLoad (map_patch object plan maps symbol at slot) patch e).1
+kind_at object plan maps symbol at slot patch false false room e = absurd (clash RelocationKind patch e)
+
+with_at : (object : List ℕ) (plan : Plan) (maps : List ℕ) (part : Part) (relocation : RelocationEntry) (symbol : SymbolEntry) (patch : Patch)
+    → patch_with object plan maps part relocation symbol ≡ Ok patch → patch.at ≡ 8 * (part.first + relocation.offset / 8)
+with_at object plan maps part relocation symbol patch e =
+    let a = provided_ok (not (symbol.section == 0)) Extern _ _ e in
+    kind_at object plan maps symbol (part.slots.at + relocation.offset) (part.first + relocation.offset / 8) patch
+    (relocation.kind == 10) (relocation.kind == 1) (nat_lt (relocation.offset / 8 + 1) part.slots.count) a.1
+
+is_zero : (n : ℕ) → (n == 0) ≡ true → n ≡ 0
+is_zero n e = grind (arith, common_steps)
+
+is_below : (n m : ℕ) → nat_lt n m ≡ true → n < m
+is_below n m e = grind (arith, common_steps)
+
+-- a relocation that comes to a patch names a slot of its part, and that is the patch's
+pub record NamesSlot (object : List ℕ) (part : Part) (i : ℕ) (patch : Patch) : Type 0 where
+  pub at : patch.at ≡ 8 * (part.first + (relocation_at object part.relocations i).offset / 8)
+  pub whole : (relocation_at object part.relocations i).offset % 8 ≡ 0
+  pub inside : (relocation_at object part.relocations i).offset / 8 < part.slots.count
+
+pub names_slot : (object : List ℕ) (plan : Plan) (maps : List ℕ) (part : Part) (i : ℕ) (patch : Patch) → patch_of object plan maps part i ≡ Ok patch → NamesSlot object part i patch
+names_slot object plan maps part i patch e =
+    let relocation = relocation_at object part.relocations i in
+    let a = provided_ok (is_next object part.relocations i) Place _ _ e in
+    let b = provided_ok (relocation.offset % 8 == 0) Place _ _ a.1 in
+    let c = provided_ok (nat_lt (relocation.offset / 8) part.slots.count) Place _ _ b.1 in
+    let d = provided_ok (nat_lt relocation.symbol plan.symbols.count) Symbol _ _ c.1 in
+    record {
+      at = with_at object plan maps part relocation (symbol_at object plan.symbols relocation.symbol) patch d.1;
+      whole = is_zero (relocation.offset % 8) b.0;
+      inside = is_below (relocation.offset / 8) part.slots.count c.0;
+    }

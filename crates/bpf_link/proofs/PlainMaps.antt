@@ -1,0 +1,21 @@
+-- Up to 16 maps of one byte each fit in a table.
+use Rattle.std.proofs.Common.{◌≡◌, ◌<◌, ℕ, zero, suc, List, ◌∷◌, [], length, ap, ◌∙◌, arith, length-append}
+use Rattle.bpf_isa.specs.declared.maps.MapShape.{MapShape}
+use Rattle.bpf_isa.specs.declared.fault.MapFault.{MapFault}
+use Rattle.bpf_isa.specs.declared.fault.MapFault.TheVariants.{ValueSize, Entries, Total, Full, Malformed}
+use Rattle.bpf_isa.specs.Maps.{HasMapFault}
+use Rattle.bpf_link.specs.Links.{plain_maps}
+
+plain_length : (n : ℕ) → length (plain_maps n) ≡ n
+plain_length zero = omega arith
+plain_length (suc n) = omega (arith, plain_length n, length-append (plain_maps n) (record { value_size = 1; entries = 1 } ∷ []))
+
+fits : (maps : List MapShape) (fault : MapFault) → length maps < 16 → HasMapFault maps 1 1 fault → ⊥
+fits maps ValueSize room has = omega arith
+fits maps Entries room has = omega arith
+fits maps Total room has = omega arith
+fits maps Full room has = omega arith
+fits maps Malformed room has = has
+
+pub never_full : (n : ℕ) (maps : List MapShape) (fault : MapFault) → maps ≡ plain_maps n → n < 16 → HasMapFault maps 1 1 fault → ⊥
+never_full n maps fault e room has = let size : length maps ≡ n = ap length e ∙ plain_length n in fits maps fault (omega arith) has

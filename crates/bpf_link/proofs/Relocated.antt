@@ -1,0 +1,164 @@
+-- What the relocations leave in the slots that they name.
+use Rattle.std.proofs.Common.{◌≡◌, ◌≢◌, ◌<◌, ◌≤◌, ◌⊎◌, inl, inr, ◌+◌, ◌-◌, ◌*◌, ◌/◌, ◌==◌, nat_lt, Bool, true, ℕ, zero, suc, List, ◌++◌, Ok, length, take, drop, get_or, refl, sym, ap, ◌∙◌, subst, arith, add-zero, add-suc, zero-add, get_or-set_other, get_or-set_same}
+use Rattle.std.specs.Prelude.{slice_set, ◌||◌}
+use Rattle.std.proofs.lemmas.List.{get_or-append_right, get_or_append_left}
+use Rattle.std.proofs.lemmas.Grind.{common_steps}
+use Rattle.byteorder.specs.Endian.{little_bytes}
+use Rattle.byteorder.specs.Numbers.{length-bytes_low_first}
+use Rattle.bpf_link.specs.declared.fault.LinkFault.TheVariants.{Place}
+use Rattle.bpf_link.specs.declared.plan.Part.{Part}
+use Rattle.bpf_link.specs.declared.plan.Plan.{Plan}
+use Rattle.bpf_link.specs.declared.patch.Patch.{Patch}
+use Rattle.bpf_link.specs.Plans.{relocation_at}
+use Rattle.bpf_link.specs.Patches.{is_next, patch_of}
+use Rattle.bpf_link.specs.Links.{with_u32, with_patch, with_relocation, relocated}
+use Rattle.bpf_link.specs.Laid.{patched_slot, IsDone}
+use Rattle.bpf_link.proofs.Slots.{set_length, patched_apart, u32_low}
+use Rattle.bpf_link.proofs.Inversions.{ok_same, after_ok, provided_ok, names_slot}
+use Rattle.bpf_link.proofs.LaidOut.{size_kept, beside}
+
+-- a number in its four bytes
+u32_inside : (bytes : List ℕ) (at n k : ℕ) → at + 4 ≤ length bytes → k < 4 → get_or (with_u32 bytes at n) (at + k) 0 ≡ get_or (little_bytes 4 n) k 0
+u32_inside bytes at n k fits small =
+    let size : length (take at bytes) ≡ at = grind (arith, common_steps) in
+    let four : length (little_bytes 4 n) ≡ 4 = length-bytes_low_first 0 4 n in
+    let rest : at + k - at ≡ k = omega arith in
+    get_or-append_right (take at bytes) (little_bytes 4 n ++ drop (at + 4) bytes) at (at + k) 0 size (omega arith)
+    ∙ ap (λ i. get_or (little_bytes 4 n ++ drop (at + 4) bytes) i 0) rest
+    ∙ get_or_append_left (little_bytes 4 n) (drop (at + 4) bytes) 0 k (omega arith)
+
+-- the bytes of a patched slot: those before imm, and imm
+patched_head : (bytes : List ℕ) (patch : Patch) (k : ℕ) → patch.at + 8 ≤ length bytes → k < 4 → k ≢ 1 → get_or (with_patch bytes patch) (patch.at + k) 0 ≡ get_or bytes (patch.at + k) 0
+patched_head bytes patch k fits small other =
+    let size = set_length bytes (patch.at + 1) patch.registers in
+    let apart : patch.at + k ≢ patch.at + 1 = omega arith in
+    u32_low (slice_set bytes (patch.at + 1) patch.registers) (patch.at + 4) patch.imm (patch.at + k) (omega arith) (omega arith)
+    ∙ get_or-set_other bytes (patch.at + 1) (patch.at + k) patch.registers 0 apart
+
+patched_registers : (bytes : List ℕ) (patch : Patch) → patch.at + 8 ≤ length bytes → get_or (with_patch bytes patch) (patch.at + 1) 0 ≡ patch.registers
+patched_registers bytes patch fits =
+    let size = set_length bytes (patch.at + 1) patch.registers in
+    u32_low (slice_set bytes (patch.at + 1) patch.registers) (patch.at + 4) patch.imm (patch.at + 1) (omega arith) (omega arith)
+    ∙ get_or-set_same bytes (patch.at + 1) patch.registers 0 (omega arith)
+
+patched_imm : (bytes : List ℕ) (patch : Patch) (k : ℕ) → patch.at + 8 ≤ length bytes → k < 4 → get_or (with_patch bytes patch) (patch.at + (4 + k)) 0 ≡ get_or (little_bytes 4 patch.imm) k 0
+patched_imm bytes patch k fits small =
+    let size = set_length bytes (patch.at + 1) patch.registers in
+    ap (λ i. get_or (with_patch bytes patch) i 0) (omega arith)
+    ∙ u32_inside (slice_set bytes (patch.at + 1) patch.registers) (patch.at + 4) patch.imm k (omega arith) small
+
+-- relocations that come to patches ascend
+first_or_after : (i x y : ℕ) (b : Bool) → nat_lt x y ≡ b → ((i == 0) || b) ≡ true → 0 < i → x < y
+first_or_after i x y b e h above = grind (arith, common_steps)
+
+cases : (i n : ℕ) → i < suc n → (i < n) ⊎ (i ≡ n)
+cases i n h = grind arith
+
+before_last : (i n : ℕ) → i < n → (i < n - 1) ⊎ (i ≡ n - 1)
+before_last i n h = grind arith
+
+abbrev offset_at : List ℕ → Part → ℕ → ℕ
+offset_at object part i = (relocation_at object part.relocations i).offset
+
+next_above : (object : List ℕ) (plan : Plan) (maps : List ℕ) (part : Part) (n : ℕ) (patch : Patch) → patch_of object plan maps part n ≡ Ok patch → 0 < n
+    → offset_at object part (n - 1) < offset_at object part n
+next_above object plan maps part n patch e above =
+    first_or_after n (offset_at object part (n - 1)) (offset_at object part n) (nat_lt (offset_at object part (n - 1)) (offset_at object part n)) refl
+    (provided_ok (is_next object part.relocations n) Place _ _ e).0 above
+
+ascends : (object : List ℕ) (plan : Plan) (maps : List ℕ) (part : Part) (words : List ℕ) (n : ℕ) (new : List ℕ) → relocated object plan maps part words n ≡ Ok new
+    → (i m : ℕ) → i < m → m < n → offset_at object part i < offset_at object part m
+ascends object plan maps part words zero new e i m low high = absurd (omega arith)
+ascends object plan maps part words (suc n) new e i m low high =
+    let a = after_ok (relocated object plan maps part words n) (with_relocation object plan maps part n) new e in
+    let b = after_ok (patch_of object plan maps part n) (λ patch. Ok (with_patch a.0 patch)) new a.2 in
+    let rest : (i m : ℕ) → i < m → m < n → offset_at object part i < offset_at object part m = ascends object plan maps part words n a.0 a.1 in
+    by_case (cases m n high) rest (next_above object plan maps part n b.0 b.1)
+  where
+    to_last : (i < n - 1) ⊎ (i ≡ n - 1) → i < n → ((i m : ℕ) → i < m → m < n → offset_at object part i < offset_at object part m)
+        → (0 < n → offset_at object part (n - 1) < offset_at object part n) → offset_at object part i < offset_at object part n
+    to_last (inl lower) inside rest next = let last = next (omega arith) in let first = rest i (n - 1) lower (omega arith) in omega (arith, first, last)
+    to_last (inr same) inside rest next = let last = next (omega arith) in subst (λ k. offset_at object part k < offset_at object part n) (sym same) last
+
+    by_case : (m < n) ⊎ (m ≡ n) → ((i m : ℕ) → i < m → m < n → offset_at object part i < offset_at object part m)
+        → (0 < n → offset_at object part (n - 1) < offset_at object part n) → offset_at object part i < offset_at object part m
+    by_case (inl h) rest next = rest i m low h
+    by_case (inr same) rest next = subst (λ k. offset_at object part i < offset_at object part k) (sym same) (to_last (before_last i n (omega arith)) (omega arith) rest next)
+
+kept_later : (object : List ℕ) (plan : Plan) (maps : List ℕ) (part : Part) (words : List ℕ) (m d : ℕ) (a b : List ℕ) (j : ℕ)
+    → relocated object plan maps part words m ≡ Ok a → relocated object plan maps part words (m + d) ≡ Ok b → 8 * (part.first + part.slots.count) ≤ length words
+    → ((i q : ℕ) → m ≤ i → i < m + d → q < part.slots.count → offset_at object part i ≡ 8 * q → (j < 8 * (part.first + q)) ⊎ (8 * (part.first + q) + 8 ≤ j))
+    → get_or b j 0 ≡ get_or a j 0
+kept_later object plan maps part words m zero a b j ra rb fits apart =
+    ap (λ w. get_or w j 0) (sym (ok_same a b (sym ra ∙ sym (ap (relocated object plan maps part words) (add-zero m)) ∙ rb)))
+kept_later object plan maps part words m (suc d) a b j ra rb fits apart =
+    let e : relocated object plan maps part words (suc (m + d)) ≡ Ok b = sym (ap (relocated object plan maps part words) (add-suc m d)) ∙ rb in
+    let f = after_ok (relocated object plan maps part words (m + d)) (with_relocation object plan maps part (m + d)) b e in
+    let g = after_ok (patch_of object plan maps part (m + d)) (λ patch. Ok (with_patch f.0 patch)) b f.2 in
+    let rest : get_or f.0 j 0 ≡ get_or a j 0 = kept_later object plan maps part words m d a f.0 j ra f.1 fits (λ i q low high. apart i q low (omega arith)) in
+    let size : length f.0 ≡ length words = size_kept object plan maps part words (m + d) f.0 f.1 fits in
+    let slot = names_slot object plan maps part (m + d) g.0 g.1 in
+    let inside : g.0.at + 8 ≤ length f.0 = omega (arith, slot.at, slot.inside) in
+    let q : ℕ = offset_at object part (m + d) / 8 in
+    let whole : offset_at object part (m + d) ≡ 8 * q = omega (arith, slot.whole) in
+    let side : (j < 8 * (part.first + q)) ⊎ (8 * (part.first + q) + 8 ≤ j) = apart (m + d) q (omega arith) (omega arith) slot.inside whole in
+    ap (λ w. get_or w j 0) (sym (ok_same (with_patch f.0 g.0) b g.2))
+    ∙ patched_apart f.0 g.0 j inside (beside (8 * (part.first + q)) g.0.at j slot.at side)
+    ∙ rest
+
+state_at : (object : List ℕ) (plan : Plan) (maps : List ℕ) (part : Part) (words : List ℕ) (m d : ℕ) (new : List ℕ) → relocated object plan maps part words (m + d) ≡ Ok new
+    → (w : List ℕ) × (relocated object plan maps part words m ≡ Ok w)
+state_at object plan maps part words m zero new e = (new, sym (ap (relocated object plan maps part words) (add-zero m)) ∙ e)
+state_at object plan maps part words m (suc d) new e =
+    let step : relocated object plan maps part words (suc (m + d)) ≡ Ok new = sym (ap (relocated object plan maps part words) (add-suc m d)) ∙ e in
+    let f = after_ok (relocated object plan maps part words (m + d)) (with_relocation object plan maps part (m + d)) new step in
+    state_at object plan maps part words m d f.0 f.1
+
+slot_byte : (object w : List ℕ) (patch : Patch) (at k : ℕ) → patch.at + 8 ≤ length w → ((k : ℕ) → k < 8 → get_or w (patch.at + k) 0 ≡ get_or object (at + k) 0) → k < 8
+    → get_or (with_patch w patch) (patch.at + k) 0 ≡ get_or (patched_slot object at patch) k 0
+slot_byte object w patch at zero fits same small = patched_head w patch 0 fits (omega arith) (omega arith) ∙ same 0 (omega arith) ∙ ap (λ i. get_or object i 0) (add-zero at)
+slot_byte object w patch at (suc zero) fits same small = patched_registers w patch fits
+slot_byte object w patch at (suc (suc zero)) fits same small = patched_head w patch 2 fits (omega arith) (omega arith) ∙ same 2 (omega arith)
+slot_byte object w patch at (suc (suc (suc zero))) fits same small = patched_head w patch 3 fits (omega arith) (omega arith) ∙ same 3 (omega arith)
+slot_byte object w patch at (suc (suc (suc (suc k)))) fits same small =
+    ap (λ i. get_or (with_patch w patch) i 0) (omega arith) ∙ patched_imm w patch k fits (omega arith)
+
+-- what a part's slots hold before its relocations
+pub record IsFresh (object : List ℕ) (part : Part) (words : List ℕ) : Type 0 where
+  pub fits : 8 * (part.first + part.slots.count) ≤ length words
+  pub bytes : (q k : ℕ) → q < part.slots.count → k < 8 → get_or words (8 * (part.first + q) + k) 0 ≡ get_or object (part.slots.at + (8 * q + k)) 0
+
+done_at : (object : List ℕ) (plan : Plan) (maps : List ℕ) (part : Part) (words : List ℕ) (i d : ℕ) (new : List ℕ) → relocated object plan maps part words (suc i + d) ≡ Ok new
+    → IsFresh object part words → IsDone object plan maps part new i
+done_at object plan maps part words i d new e fresh =
+    let s = state_at object plan maps part words (suc i) d new e in
+    let a = after_ok (relocated object plan maps part words i) (with_relocation object plan maps part i) s.0 s.1 in
+    let b = after_ok (patch_of object plan maps part i) (λ patch. Ok (with_patch a.0 patch)) s.0 a.2 in
+    let slot = names_slot object plan maps part i b.0 b.1 in
+    let size : length a.0 ≡ length words = size_kept object plan maps part words i a.0 a.1 fresh.fits in
+    let inside : b.0.at + 8 ≤ length a.0 = omega (arith, slot.at, slot.inside, fresh.fits) in
+    let q : ℕ = offset_at object part i / 8 in
+    let whole : offset_at object part i ≡ 8 * q = omega (arith, slot.whole) in
+    let up = ascends object plan maps part words (suc i + d) new e in
+    let start : relocated object plan maps part words (0 + i) ≡ Ok a.0 = ap (relocated object plan maps part words) (zero-add i) ∙ a.1 in
+    let before : (k : ℕ) → k < 8 → get_or a.0 (b.0.at + k) 0 ≡ get_or object (part.slots.at + offset_at object part i + k) 0 = λ k small.
+    kept_later object plan maps part words 0 i words a.0 (b.0.at + k) refl start fresh.fits
+    (λ m r low high inside at. let rising : offset_at object part m < offset_at object part i = up m i (omega arith) (omega arith) in inr (omega (arith, slot.at, whole)))
+    ∙ ap (λ n. get_or words n 0) (omega (arith, slot.at))
+    ∙ fresh.bytes q k slot.inside small
+    ∙ ap (λ n. get_or object n 0) (omega (arith, whole)) in
+    record {
+      patch = b.0;
+      told = b.1;
+      bytes = λ k small.
+          kept_later object plan maps part words (suc i) d s.0 new (b.0.at + k) s.1 e fresh.fits
+          (λ m r low high inside at. let rising : offset_at object part i < offset_at object part m = up i m (omega arith) (omega arith) in inl (omega (arith, slot.at, whole)))
+          ∙ ap (λ w. get_or w (b.0.at + k) 0) (sym (ok_same (with_patch a.0 b.0) s.0 b.2))
+          ∙ slot_byte object a.0 b.0 (part.slots.at + offset_at object part i) k inside before small;
+    }
+
+pub all_done : (object : List ℕ) (plan : Plan) (maps : List ℕ) (part : Part) (words new : List ℕ) (n i : ℕ) → relocated object plan maps part words n ≡ Ok new
+    → IsFresh object part words → i < n → IsDone object plan maps part new i
+all_done object plan maps part words new n i e fresh inside =
+    let rest : n ≡ suc i + (n - suc i) = omega arith in
+    done_at object plan maps part words i (n - suc i) new (subst (λ m. relocated object plan maps part words m ≡ Ok new) rest e) fresh

@@ -1,0 +1,61 @@
+-- Faults: their numbers, which are printed after E, and their texts. bpfdb's own choice.
+use Rattle.std.specs.Prelude.{ℕ, List, codes}
+use Rattle.bpf_isa.specs.Faults.{load_fault_text}
+use Rattle.bpf_link.specs.declared.fault.LinkFault.{LinkFault}
+use Rattle.bpf_link.specs.declared.fault.LinkFault.TheVariants.{NotElf, Class, Order, Kind, Machine, SectionTable, LongName, NoSection, ManySections, Section, TooLong, RunsOff, SymbolTable, ManyMapSections, TooManyMaps, RelocationTable, Place, Symbol, Extern, RelocationKind, CallTarget, NoCall, Data, NoLoad, Program, Memory}
+
+abbrev pub link_fault_number : LinkFault → ℕ
+link_fault_number NotElf = 1
+link_fault_number Class = 2
+link_fault_number Order = 3
+link_fault_number Kind = 4
+link_fault_number Machine = 5
+link_fault_number SectionTable = 6
+link_fault_number LongName = 7
+link_fault_number NoSection = 8
+link_fault_number ManySections = 9
+link_fault_number Section = 10
+link_fault_number TooLong = 11
+link_fault_number RunsOff = 12
+link_fault_number SymbolTable = 13
+link_fault_number ManyMapSections = 14
+link_fault_number TooManyMaps = 15
+link_fault_number RelocationTable = 16
+link_fault_number Place = 17
+link_fault_number Symbol = 18
+link_fault_number Extern = 19
+link_fault_number RelocationKind = 20
+link_fault_number CallTarget = 21
+link_fault_number NoCall = 22
+link_fault_number Data = 23
+link_fault_number NoLoad = 24
+link_fault_number (Program fault) = 25
+link_fault_number Memory = 26
+
+abbrev pub link_fault_text : LinkFault → List ℕ
+link_fault_text NotElf = codes "no ELF file"
+link_fault_text Class = codes "not of 64 bits"
+link_fault_text Order = codes "not little-endian"
+link_fault_text Kind = codes "no relocatable object"
+link_fault_text Machine = codes "not for BPF"
+link_fault_text SectionTable = codes "malformed section table"
+link_fault_text LongName = codes "section name longer than 255 bytes"
+link_fault_text NoSection = codes "no such code section"
+link_fault_text ManySections = codes "more than one code section"
+link_fault_text Section = codes "malformed code section"
+link_fault_text TooLong = codes "program too long"
+link_fault_text RunsOff = codes "code section runs off its end"
+link_fault_text SymbolTable = codes "malformed symbol table"
+link_fault_text ManyMapSections = codes "more than one section of maps"
+link_fault_text TooManyMaps = codes "more than 16 maps"
+link_fault_text RelocationTable = codes "malformed relocation table"
+link_fault_text Place = codes "relocation at no slot, or out of order"
+link_fault_text Symbol = codes "relocation against no symbol"
+link_fault_text Extern = codes "symbol is not defined in the object"
+link_fault_text RelocationKind = codes "unknown relocation"
+link_fault_text CallTarget = codes "call of no function of the program"
+link_fault_text NoCall = codes "relocation of a call at no call"
+link_fault_text Data = codes "reference to data that is no map"
+link_fault_text NoLoad = codes "relocation of a map at no empty wide load"
+link_fault_text (Program fault) = load_fault_text fault
+link_fault_text Memory = codes "out of memory"

@@ -1,0 +1,37 @@
+-- What stands in the slots of a program, whatever the order in which relocations are done.
+use Rattle.std.specs.Prelude.{◌≡◌, ◌<◌, ℕ, ◌+◌, ◌*◌, List, ◌∷◌, Ok, length, slice_index}
+use Rattle.byteorder.specs.Endian.{little_bytes}
+use Rattle.bpf_link.specs.declared.plan.Part.{Part}
+use Rattle.bpf_link.specs.declared.plan.Plan.{Plan}
+use Rattle.bpf_link.specs.declared.patch.Patch.{Patch}
+use Rattle.bpf_link.specs.Plans.{relocation_at}
+use Rattle.bpf_link.specs.Patches.{patch_of}
+use Rattle.bpf_link.specs.Links.{maps_of}
+
+-- No relocation of a part names a slot of it.
+abbrev pub IsPlain : List ℕ → Part → ℕ → Type 0
+IsPlain object part p = (i : ℕ) → i < part.relocations.count → (relocation_at object part.relocations i).offset ≡ 8 * p → ⊥
+
+-- The bytes of a slot at a place in the object, with the registers and the imm of a patch.
+abbrev pub patched_slot : List ℕ → ℕ → Patch → List ℕ
+patched_slot object at patch =
+    slice_index object at ∷ (patch.registers ∷ (slice_index object (at + 2) ∷ (slice_index object (at + 3) ∷ little_bytes 4 patch.imm)))
+
+-- A relocation of a part is done in the words: the slot that it names is as the relocation says, and else as in the object.
+pub record IsDone (object : List ℕ) (plan : Plan) (maps : List ℕ) (part : Part) (words : List ℕ) (i : ℕ) : Type 0 where
+  pub patch : Patch
+  pub told : patch_of object plan maps part i ≡ Ok patch
+  pub bytes : (k : ℕ) → k < 8 → slice_index words (patch.at + k) ≡ slice_index (patched_slot object (part.slots.at + (relocation_at object part.relocations i).offset) patch) k
+
+-- A program has the slots of its section and then those of `.text`. A slot that no relocation names holds the bytes that it has in the object,
+-- and each relocation is done.
+pub record IsLaid (object : List ℕ) (plan : Plan) (words : List ℕ) : Type 0 where
+  pub maps : List ℕ
+  pub numbered : maps_of object plan ≡ Ok maps
+  pub size : length words ≡ 8 * (plan.code.slots.count + plan.text.slots.count)
+  pub code : (p k : ℕ) → p < plan.code.slots.count → k < 8 → IsPlain object plan.code p
+      → slice_index words (8 * p + k) ≡ slice_index object (plan.code.slots.at + (8 * p + k))
+  pub text : (p k : ℕ) → p < plan.text.slots.count → k < 8 → IsPlain object plan.text p
+      → slice_index words (8 * (plan.code.slots.count + p) + k) ≡ slice_index object (plan.text.slots.at + (8 * p + k))
+  pub code_done : (i : ℕ) → i < plan.code.relocations.count → IsDone object plan maps plan.code words i
+  pub text_done : (i : ℕ) → i < plan.text.relocations.count → IsDone object plan maps plan.text words i

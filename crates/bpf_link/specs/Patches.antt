@@ -1,0 +1,82 @@
+-- What relocations make of the words: calls and map references (RFC 9669, sections 4.3 and 5.4; the relocations R_BPF_64_32 and R_BPF_64_64).
+use Rattle.std.specs.Prelude.{ℕ, ◌+◌, ◌*◌, ◌/◌, ◌%◌, ◌-◌, ◌==◌, nat_lt, Bool, not, ◌&&◌, ◌||◌, if◌then◌else◌, List, Result, Ok, Err, count_by, slice_index}
+use Rattle.bpf_isa.specs.Words.{u32_at}
+use Rattle.bpf_link.specs.declared.fault.LinkFault.{LinkFault}
+use Rattle.bpf_link.specs.declared.fault.LinkFault.TheVariants.{Place, Symbol, Extern, RelocationKind, CallTarget, NoCall, Data, NoLoad}
+use Rattle.bpf_link.specs.declared.layout.RelocationEntry.{RelocationEntry}
+use Rattle.bpf_link.specs.declared.layout.SymbolEntry.{SymbolEntry}
+use Rattle.bpf_link.specs.declared.plan.Entries.{Entries}
+use Rattle.bpf_link.specs.declared.plan.Part.{Part}
+use Rattle.bpf_link.specs.declared.plan.Plan.{Plan}
+use Rattle.bpf_link.specs.declared.patch.Patch.{Patch}
+use Rattle.bpf_link.specs.Header.{provided}
+use Rattle.bpf_link.specs.Plans.{after, relocation_at, symbol_at}
+
+-- The slot of a call: opcode 0x85, and 1 for src, which tells a local call. The functions of the kernel have 2, its helpers 0.
+abbrev pub is_call : List ℕ → ℕ → Bool
+is_call object at = (slice_index object at == 0x85) && (slice_index object (at + 1) == 0x10)
+
+-- The part of the program in which a symbol's section lies.
+abbrev pub part_with : Plan → ℕ → Result Part LinkFault
+part_with plan section =
+    if section == plan.code.section then Ok plan.code
+    else (if section == plan.text.section then Ok plan.text else Err CallTarget)
+
+-- A call in a slot of the program of what lies at a value in a part, with what stood in imm: the slot of the function is value / 8 + imm + 1,
+-- and imm becomes its distance from the slot after the call. Both numbers are of 32 bits in two's complement.
+abbrev pub call_to : Part → ℕ → ℕ → ℕ → Result Patch LinkFault
+call_to target value imm slot =
+    provided (value % 8 == 0) CallTarget
+    (provided (nat_lt (value / 8) target.slots.count) CallTarget
+    (provided (nat_lt ((value / 8 + imm + 1) % 4294967296) target.slots.count) CallTarget
+    (Ok (record { at = 8 * slot; registers = 0x10; imm = (4294967296 + (target.first + (value / 8 + imm + 1) % 4294967296) - (slot + 1)) % 4294967296 }))))
+
+abbrev pub call_patch : List ℕ → Plan → SymbolEntry → ℕ → ℕ → Result Patch LinkFault
+call_patch object plan symbol at slot =
+    provided (is_call object at) NoCall
+    (after (part_with plan symbol.section) (λ target. call_to target symbol.value (u32_at object (at + 4)) slot))
+
+-- A symbol names a map: an object, STT_OBJECT, in the section of maps.
+abbrev pub is_map : ℕ → SymbolEntry → Bool
+is_map maps symbol = (symbol.kind == 1) && (nat_lt 0 symbol.section && (symbol.section == maps))
+
+-- Two slots hold a wide load of the number 0: opcode 0x18, 0 for src, 0 in both imm.
+abbrev pub is_empty_load : List ℕ → ℕ → Bool
+is_empty_load object at =
+    (slice_index object at == 0x18) && ((slice_index object (at + 1) / 16 == 0) && ((u32_at object (at + 4) == 0) && (u32_at object (at + 12) == 0)))
+
+-- The number of a map: how many maps stand before it in their section.
+abbrev pub map_number : List ℕ → ℕ → ℕ
+map_number maps value = count_by (λ other. nat_lt other value) maps
+
+-- A wide load of a map by its number (RFC 9669, section 5.4): 5 for src, and the number in imm.
+abbrev pub map_patch : List ℕ → Plan → List ℕ → SymbolEntry → ℕ → ℕ → Result Patch LinkFault
+map_patch object plan maps symbol at slot =
+    provided (is_map plan.maps symbol) Data
+    (provided (is_empty_load object at) NoLoad
+    (Ok (record { at = 8 * slot; registers = slice_index object (at + 1) + 0x50; imm = map_number maps symbol.value })))
+
+-- What a relocation against a symbol makes of the slot that it names. One of a wide load names the first of two slots.
+abbrev pub patch_with : List ℕ → Plan → List ℕ → Part → RelocationEntry → SymbolEntry → Result Patch LinkFault
+patch_with object plan maps part relocation symbol =
+    provided (not (symbol.section == 0)) Extern
+    (if relocation.kind == 10 then call_patch object plan symbol (part.slots.at + relocation.offset) (part.first + relocation.offset / 8)
+    else (if relocation.kind == 1
+    then provided (nat_lt (relocation.offset / 8 + 1) part.slots.count) NoLoad (map_patch object plan maps symbol (part.slots.at + relocation.offset) (part.first + relocation.offset / 8))
+    else Err RelocationKind))
+
+-- A relocation is the first of its table, or its slot follows that of the one before.
+abbrev pub is_next : List ℕ → Entries → ℕ → Bool
+is_next object relocations i = (i == 0) || nat_lt (relocation_at object relocations (i - 1)).offset (relocation_at object relocations i).offset
+
+abbrev pub patch_at : List ℕ → Plan → List ℕ → Part → RelocationEntry → Result Patch LinkFault
+patch_at object plan maps part relocation =
+    provided (relocation.offset % 8 == 0) Place
+    (provided (nat_lt (relocation.offset / 8) part.slots.count) Place
+    (provided (nat_lt relocation.symbol plan.symbols.count) Symbol
+    (patch_with object plan maps part relocation (symbol_at object plan.symbols relocation.symbol))))
+
+-- What a relocation of a part makes of its slot.
+abbrev pub patch_of : List ℕ → Plan → List ℕ → Part → ℕ → Result Patch LinkFault
+patch_of object plan maps part i =
+    provided (is_next object part.relocations i) Place (patch_at object plan maps part (relocation_at object part.relocations i))

@@ -1,0 +1,134 @@
+//! Faults: why no program is made of an object.
+ghost use Rattle.std.specs.Prelude.{◌≡◌};
+ghost use Rattle.bpf_isa.specs.declared.fault.LoadFault.{LoadFault};
+
+use bpf_isa::LoadFault;
+
+/// Why no program is made of an object.
+#[derive(Clone, Copy)]
+pub enum LinkFault {
+    /// The bytes aren't an ELF file.
+    NotElf,
+    /// The file isn't of 64 bits.
+    Class,
+    /// The file isn't little-endian.
+    Order,
+    /// The object isn't relocatable.
+    Kind,
+    /// The object isn't for BPF.
+    Machine,
+    /// The table of sections doesn't lie in the file, or isn't of this layout.
+    SectionTable,
+    /// A name of more than 255 bytes is asked for.
+    LongName,
+    /// There is no code section of the name that is asked for, or none at all.
+    NoSection,
+    /// More than one code section may be meant.
+    ManySections,
+    /// A code section doesn't lie in the file, or isn't of whole slots.
+    Section,
+    /// There are more than 65,535 slots.
+    TooLong,
+    /// The code section doesn't end with an exit or a jump that is always taken.
+    RunsOff,
+    /// There is more than one table of symbols, or it doesn't lie in the file.
+    SymbolTable,
+    /// There is more than one section of maps.
+    ManyMapSections,
+    /// There are more than 16 maps.
+    TooManyMaps,
+    /// A table of relocations isn't of this layout, doesn't lie in the file, or stands beside another one of its section.
+    RelocationTable,
+    /// A relocation names no slot of its section, or not one after the slot of the relocation before.
+    Place,
+    /// A relocation names no symbol of the table.
+    Symbol,
+    /// A symbol that isn't defined in the object: a function or a variable of the kernel, or a missing one.
+    Extern,
+    /// Neither a call nor a wide load.
+    RelocationKind,
+    /// A call of what is no function of the section or of `.text`.
+    CallTarget,
+    /// The relocation of a call is at another instruction.
+    NoCall,
+    /// A wide load of the address of data, or of what is no map.
+    Data,
+    /// The relocation of a map is at another instruction, or at one that has a number.
+    NoLoad,
+    /// The words are no program.
+    Program(LoadFault),
+    /// Memory ran out.
+    Memory,
+}
+
+impl LinkFault {
+    ghost use Rattle.bpf_link.specs.Faults.{link_fault_number, link_fault_text};
+
+    /// The number that is printed after E, 1 to 26; that of a program's fault is 25.
+    pub fn number(self) -> u8
+        ensures { result ≡ link_fault_number self }
+    {
+        match self {
+            LinkFault::NotElf => 1,
+            LinkFault::Class => 2,
+            LinkFault::Order => 3,
+            LinkFault::Kind => 4,
+            LinkFault::Machine => 5,
+            LinkFault::SectionTable => 6,
+            LinkFault::LongName => 7,
+            LinkFault::NoSection => 8,
+            LinkFault::ManySections => 9,
+            LinkFault::Section => 10,
+            LinkFault::TooLong => 11,
+            LinkFault::RunsOff => 12,
+            LinkFault::SymbolTable => 13,
+            LinkFault::ManyMapSections => 14,
+            LinkFault::TooManyMaps => 15,
+            LinkFault::RelocationTable => 16,
+            LinkFault::Place => 17,
+            LinkFault::Symbol => 18,
+            LinkFault::Extern => 19,
+            LinkFault::RelocationKind => 20,
+            LinkFault::CallTarget => 21,
+            LinkFault::NoCall => 22,
+            LinkFault::Data => 23,
+            LinkFault::NoLoad => 24,
+            LinkFault::Program(_) => 25,
+            LinkFault::Memory => 26,
+        }
+    }
+
+    /// The text that is printed after the number. That of a program's fault is the fault's own.
+    pub fn text(self) -> &'static str
+        ensures { result.now ≡ link_fault_text self }
+    {
+        match self {
+            LinkFault::NotElf => "no ELF file",
+            LinkFault::Class => "not of 64 bits",
+            LinkFault::Order => "not little-endian",
+            LinkFault::Kind => "no relocatable object",
+            LinkFault::Machine => "not for BPF",
+            LinkFault::SectionTable => "malformed section table",
+            LinkFault::LongName => "section name longer than 255 bytes",
+            LinkFault::NoSection => "no such code section",
+            LinkFault::ManySections => "more than one code section",
+            LinkFault::Section => "malformed code section",
+            LinkFault::TooLong => "program too long",
+            LinkFault::RunsOff => "code section runs off its end",
+            LinkFault::SymbolTable => "malformed symbol table",
+            LinkFault::ManyMapSections => "more than one section of maps",
+            LinkFault::TooManyMaps => "more than 16 maps",
+            LinkFault::RelocationTable => "malformed relocation table",
+            LinkFault::Place => "relocation at no slot, or out of order",
+            LinkFault::Symbol => "relocation against no symbol",
+            LinkFault::Extern => "symbol is not defined in the object",
+            LinkFault::RelocationKind => "unknown relocation",
+            LinkFault::CallTarget => "call of no function of the program",
+            LinkFault::NoCall => "relocation of a call at no call",
+            LinkFault::Data => "reference to data that is no map",
+            LinkFault::NoLoad => "relocation of a map at no empty wide load",
+            LinkFault::Program(fault) => fault.text(),
+            LinkFault::Memory => "out of memory",
+        }
+    }
+}

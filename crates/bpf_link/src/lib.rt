@@ -1,0 +1,15 @@
+//! Words of a program from a relocatable ELF object.
+#![tactic(auto)]
+
+mod fault;
+mod fields;
+mod header;
+mod layout;
+mod linker;
+mod patch;
+mod plan;
+mod sections;
+mod words;
+
+pub use fault::LinkFault;
+pub use linker::{Linked, link};

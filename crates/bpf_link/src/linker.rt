@@ -1,0 +1,104 @@
+//! The linker: from an object to the words of a program.
+ghost use Rattle.std.specs.Prelude.{◌≡◌, ◌≤◌, length, IfOk, IfErr, Ok, Err};
+ghost use Rattle.bpf_isa.specs.Checker.{IsAccepted};
+ghost use Rattle.bpf_link.specs.Laid.{IsLaid};
+ghost use Rattle.bpf_link.specs.Links.{IsLinkFault, MemoryOr, linked, planned, program_of, plain_maps};
+ghost use Rattle.bpf_link.specs.Plans.{LiesPlan};
+ghost use Rattle.bpf_link.specs.declared.plan.Plan.{Plan};
+
+use crate::fault::LinkFault;
+use crate::header::open;
+use crate::plan::{Plan, plan_of};
+use crate::sections::roles_of;
+use crate::words::{maps_of, words_of};
+use bpf_isa::{LoadFault, MapTable, check};
+use std::alloc::Global;
+
+/// A program that was made of an object.
+#[derive(Drop)]
+pub struct Linked {
+    /// Its words.
+    pub words: Vec<u8>,
+    /// How many maps the object has, at most 16. Their numbers follow their places in the section of maps.
+    pub maps: usize,
+}
+
+/// The most bytes of a section's name.
+const LONGEST_NAME: usize = 255;
+
+/// A table of so many maps of one byte each.
+fn plain_maps(count: usize) -> MapTable
+    requires { count ≤ 16 }
+    ensures { result ≡ plain_maps count }
+{
+    let mut maps = MapTable::empty();
+    for _ in 0..count {
+        match maps.add(1, 1) {
+            Ok(()) => {}
+            Err(_) => return maps,
+        }
+    }
+    maps
+}
+
+/// What the program of a section is put together from.
+fn planned(object: &[u8], name: &[u8]) -> Result<Plan, LinkFault>
+    ensures value { result ≡ planned object.now name.now }
+    ensures fits { IfOk result (LiesPlan object.now) }
+{
+    if name.len() > LONGEST_NAME {
+        return Err(LinkFault::LongName);
+    }
+    let sections = open(object)?;
+    let roles = roles_of(object, &sections, name);
+    plan_of(object, &sections, &roles, name.is_empty())
+}
+
+/// The words of a plan, and how many maps there are.
+fn program_of(alloc: Global, object: &[u8], plan: &Plan) -> Result<Linked, LinkFault>
+    requires { LiesPlan object.now plan.now }
+    ensures ok { IfOk result (λ program. program_of object.now plan.now ≡ Ok (program.words.items, program.maps)) }
+    ensures err { IfErr result (MemoryOr (program_of object.now plan.now)) }
+    ensures laid { IfOk result (λ program. IsLaid object.now plan.now program.words.items) }
+    ensures few { IfOk result (λ program. program.maps ≤ 16) }
+{
+    let maps = match maps_of(object, plan) {
+        Ok(maps) => maps,
+        Err(fault) => return Err(fault),
+    };
+    match words_of(alloc, object, plan, maps.as_slice()) {
+        Ok(words) => Ok(Linked {
+            words,
+            maps: maps.len(),
+        }),
+        Err(fault) => Err(fault),
+    }
+}
+
+/// The program of a code section of a relocatable ELF object for BPF (64 bits, little-endian).
+///
+/// `section` is the section's name, at most 255 bytes; where it is empty, the section is the only one with code besides `.text`, or else `.text`.
+/// The words are those of the section, whose first slot is the entry, and after them those of `.text`, if the section calls it. Calls get
+/// their distances, and wide loads of maps the maps' numbers: 0 for the one that stands first in the section `maps` or `.maps`. The words
+/// pass the checker, for maps that have at least one byte. Takes time in proportion to the length of the object.
+pub fn link(alloc: Global, object: &[u8], section: &[u8]) -> Result<Linked, LinkFault>
+    ensures ok { IfOk result (λ program. linked object.now section.now ≡ Ok (program.words.items, program.maps)) }
+    ensures laid { IfOk result (λ program. (plan : Plan)
+        × (planned object.now section.now ≡ Ok plan) × IsLaid object.now plan program.words.items) }
+    ensures accepted { IfOk result (λ program. IsAccepted program.words.items (plain_maps program.maps)) }
+    ensures err { IfErr result (IsLinkFault object.now section.now) }
+{
+    let plan = match planned(object, section) {
+        Ok(plan) => plan,
+        Err(fault) => return Err(fault),
+    };
+    let program = match program_of(alloc, object, &plan) {
+        Ok(program) => program,
+        Err(fault) => return Err(fault),
+    };
+    match check(alloc, &program.words, &plain_maps(program.maps)) {
+        Ok(_) => Ok(program),
+        Err(LoadFault::Memory) => Err(LinkFault::Memory),
+        Err(fault) => Err(LinkFault::Program(fault)),
+    }
+}

@@ -1,0 +1,246 @@
+//! What relocations make of the words.
+ghost use Rattle.std.specs.Prelude.{◌≡◌, ◌≤◌, ◌<◌, ◌+◌, ◌*◌, ◌/◌, ◌%◌, length, IfOk, OnOk, IfErr, Ok, Err};
+ghost use Rattle.bpf_isa.specs.Words.{u32_at};
+ghost use Rattle.bpf_link.specs.Patches.{is_call, part_with, call_to, call_patch, is_map, is_empty_load, map_number, map_patch, patch_with, is_next, patch_at, patch_of};
+ghost use Rattle.bpf_link.specs.Plans.{Lies, LiesPart, LiesPlan};
+
+use crate::fault::LinkFault;
+use crate::fields::u32_at;
+use crate::layout::{RelocationEntry, SymbolEntry};
+use crate::plan::{Entries, Part, Plan, relocation_at, symbol_at};
+
+/// What becomes of a slot: the byte of its registers, and its imm.
+#[derive(Clone, Copy)]
+pub struct Patch {
+    /// Where the slot lies in the bytes of the program.
+    pub at: usize,
+    pub registers: u8,
+    pub imm: u32,
+}
+
+/// Whether the slot at a place is a local call.
+fn is_call(object: &[u8], at: usize) -> bool
+    requires { at + 8 ≤ length object.now }
+    ensures { result ≡ is_call object.now at }
+{
+    object[at] == 0x85 && object[at + 1] == 0x10
+}
+
+/// The part of the program that a section is.
+fn part_with(plan: &Plan, section: usize) -> Result<Part, LinkFault>
+    ensures { result ≡ part_with plan.now section }
+{
+    if section == plan.code.section {
+        return Ok(plan.code);
+    }
+    if section == plan.text.section {
+        return Ok(plan.text);
+    }
+    Err(LinkFault::CallTarget)
+}
+
+/// A call in a slot of what lies at a value in a part, with what stood in imm.
+fn call_to(target: &Part, value: u64, imm: u32, slot: usize) -> Result<Patch, LinkFault>
+    requires short { target.now.first + target.now.slots.count ≤ 65535 }
+    requires slot { slot < 65535 }
+    ensures value { result ≡ call_to target.now value imm slot }
+    ensures at { IfOk result (λ patch. patch.at ≡ 8 * slot) }
+{
+    if value % 8 != 0 {
+        return Err(LinkFault::CallTarget);
+    }
+    let from = value / 8;
+    let count = target.slots.count as u64;
+    if from >= count {
+        return Err(LinkFault::CallTarget);
+    }
+    let index = (from + u64::from(imm) + 1) % 4_294_967_296;
+    if index >= count {
+        return Err(LinkFault::CallTarget);
+    }
+    let distance = (4_294_967_296 + (target.first as u64 + index) - (slot as u64 + 1))
+        % 4_294_967_296;
+    Ok(Patch {
+        at: 8 * slot,
+        registers: 0x10,
+        imm: distance as u32,
+    })
+}
+
+/// The call of a symbol, in the slot at a place in the file.
+fn call_patch(
+    object: &[u8],
+    plan: &Plan,
+    symbol: &SymbolEntry,
+    at: usize,
+    slot: usize,
+) -> Result<Patch, LinkFault>
+    requires plan { LiesPlan object.now plan.now }
+    requires at { at + 8 ≤ length object.now }
+    requires slot { slot < 65535 }
+    ensures value { result ≡ call_patch object.now plan.now symbol.now at slot }
+    ensures at { IfOk result (λ patch. patch.at ≡ 8 * slot) }
+{
+    if !is_call(object, at) {
+        return Err(LinkFault::NoCall);
+    }
+    let target = part_with(plan, usize::from(symbol.section))?;
+    call_to(&target, symbol.value, u32_at(object, at + 4), slot)
+}
+
+/// Whether a symbol names a map.
+pub fn is_map(maps: usize, symbol: &SymbolEntry) -> bool
+    ensures { result ≡ is_map maps symbol.now }
+{
+    symbol.kind == 1 && (symbol.section > 0 && usize::from(symbol.section) == maps)
+}
+
+/// Whether two slots hold a wide load of the number 0.
+fn is_empty_load(object: &[u8], at: usize) -> bool
+    requires { at + 16 ≤ length object.now }
+    ensures { result ≡ is_empty_load object.now at }
+{
+    object[at] == 0x18
+        && (object[at + 1] / 16 == 0
+            && (u32_at(object, at + 4) == 0 && u32_at(object, at + 12) == 0))
+}
+
+/// How many maps stand before a value.
+fn map_number(maps: &[u64], value: u64) -> u32
+    requires { length maps.now ≤ 16 }
+    ensures { result ≡ map_number maps.now value }
+{
+    let mut number = 0;
+    for other in maps {
+        if *other < value {
+            number += 1;
+        }
+    }
+    number
+}
+
+/// The wide load of a map, in the two slots at a place in the file.
+fn map_patch(
+    object: &[u8],
+    plan: &Plan,
+    maps: &[u64],
+    symbol: &SymbolEntry,
+    at: usize,
+    slot: usize,
+) -> Result<Patch, LinkFault>
+    requires at { at + 16 ≤ length object.now }
+    requires slot { slot < 65535 }
+    requires maps { length maps.now ≤ 16 }
+    ensures value { result ≡ map_patch object.now plan.now maps.now symbol.now at slot }
+    ensures at { IfOk result (λ patch. patch.at ≡ 8 * slot) }
+{
+    if !is_map(plan.maps, symbol) {
+        return Err(LinkFault::Data);
+    }
+    if !is_empty_load(object, at) {
+        return Err(LinkFault::NoLoad);
+    }
+    Ok(Patch {
+        at: 8 * slot,
+        registers: object[at + 1] + 0x50,
+        imm: map_number(maps, symbol.value),
+    })
+}
+
+fn patch_with(
+    object: &[u8],
+    plan: &Plan,
+    maps: &[u64],
+    part: &Part,
+    relocation: &RelocationEntry,
+    symbol: &SymbolEntry,
+) -> Result<Patch, LinkFault>
+    requires plan { LiesPlan object.now plan.now }
+    requires part { LiesPart object.now part.now }
+    requires short { part.now.first + part.now.slots.count ≤ 65535 }
+    requires maps { length maps.now ≤ 16 }
+    requires whole { relocation.now.offset % 8 ≡ 0 }
+    requires inside { relocation.now.offset / 8 < part.now.slots.count }
+    ensures value { result ≡ patch_with object.now plan.now maps.now part.now relocation.now symbol.now }
+    ensures at { IfOk result (λ patch. patch.at ≡ 8 * (part.now.first + relocation.now.offset / 8)) }
+{
+    if symbol.section == 0 {
+        return Err(LinkFault::Extern);
+    }
+    let offset = relocation.offset as usize;
+    let at = part.slots.at + offset;
+    let slot = part.first + offset / 8;
+    if relocation.kind == 10 {
+        return call_patch(object, plan, symbol, at, slot);
+    }
+    if relocation.kind == 1 {
+        if offset / 8 + 1 >= part.slots.count {
+            return Err(LinkFault::NoLoad);
+        }
+        return map_patch(object, plan, maps, symbol, at, slot);
+    }
+    Err(LinkFault::RelocationKind)
+}
+
+/// Whether the slot of a relocation follows that of the one before.
+fn is_next(object: &[u8], relocations: &Entries, i: usize) -> bool
+    requires lies { Lies object.now 16 relocations.now }
+    requires index { i < relocations.now.count }
+    ensures { result ≡ is_next object.now relocations.now i }
+{
+    if i == 0 {
+        return true;
+    }
+    relocation_at(object, relocations, i - 1).offset < relocation_at(object, relocations, i).offset
+}
+
+fn patch_at(
+    object: &[u8],
+    plan: &Plan,
+    maps: &[u64],
+    part: &Part,
+    relocation: &RelocationEntry,
+) -> Result<Patch, LinkFault>
+    requires plan { LiesPlan object.now plan.now }
+    requires part { LiesPart object.now part.now }
+    requires short { part.now.first + part.now.slots.count ≤ 65535 }
+    requires maps { length maps.now ≤ 16 }
+    ensures value { result ≡ patch_at object.now plan.now maps.now part.now relocation.now }
+    ensures at { IfOk result (λ patch. patch.at + 8 ≤ 8 * (part.now.first + part.now.slots.count)) }
+{
+    if relocation.offset % 8 != 0 {
+        return Err(LinkFault::Place);
+    }
+    if relocation.offset / 8 >= part.slots.count as u64 {
+        return Err(LinkFault::Place);
+    }
+    let symbol = relocation.symbol as usize;
+    if symbol >= plan.symbols.count {
+        return Err(LinkFault::Symbol);
+    }
+    let symbol = symbol_at(object, &plan.symbols, symbol);
+    patch_with(object, plan, maps, part, relocation, &symbol)
+}
+
+/// What a relocation of a part makes of its slot.
+pub fn patch_of(
+    object: &[u8],
+    plan: &Plan,
+    maps: &[u64],
+    part: &Part,
+    i: usize,
+) -> Result<Patch, LinkFault>
+    requires plan { LiesPlan object.now plan.now }
+    requires part { LiesPart object.now part.now }
+    requires short { part.now.first + part.now.slots.count ≤ 65535 }
+    requires index { i < part.now.relocations.count }
+    requires maps { length maps.now ≤ 16 }
+    ensures value { result ≡ patch_of object.now plan.now maps.now part.now i }
+    ensures at { IfOk result (λ patch. patch.at + 8 ≤ 8 * (part.now.first + part.now.slots.count)) }
+{
+    if !is_next(object, &part.relocations, i) {
+        return Err(LinkFault::Place);
+    }
+    let relocation = relocation_at(object, &part.relocations, i);
+    patch_at(object, plan, maps, part, &relocation)
+}
