@@ -1,0 +1,51 @@
+-- What answers a packet answers its item.
+use Rattle.std.proofs.Common.{◌≡◌, ℕ, Bool, List, Option, Some, None, Result, sym, ap, subst, ◌∙◌}
+use lib.Chars.{codes}
+use Rattle.std.specs.Option.{option_map}
+use Rattle.counted_io.specs.Counted.{Tally}
+use Rattle.counted_io.specs.Writing.{Writes}
+use Rattle.bpf_entries.specs.Keeping.{Kept}
+use Rattle.bpf_remote.specs.Connections.{Does, DoesBody, DoesLine, DoesRequest}
+use Rattle.bpf_remote.specs.Numbers.{behind}
+use Rattle.bpf_remote.specs.Requests.{request_of}
+use Rattle.bpf_remote.specs.Turning.{Sides, Tells, place}
+use Rattle.bpf_remote.specs.declared.stream.Item.{Item}
+use Rattle.bpf_remote.specs.declared.stream.Item.TheVariants as item
+
+pub mapped-some : {A B : Type 0} (f : A → B) (r : Option A) (b : Option B) (a : A) → option_map f r ≡ b → r ≡ Some a → b ≡ Some (f a)
+mapped-some f r b a e i = sym e ∙ ap (option_map f) i
+
+pub mapped-none : {A B : Type 0} (f : A → B) (r : Option A) (b : Option B) → option_map f r ≡ b → r ≡ None → b ≡ None
+mapped-none f r b e i = sym e ∙ ap (option_map f) i
+
+module _ {K W : Type 0} (holds : K → List Kept → Type 0) (refusals room : K → ℕ) (contents : W → Option (List ℕ)) where
+  pub by-line : {A E : Type 0} (old new : Sides K W) (result : Result A E) (on : Bool) (before body : List ℕ) (found : Option (List ℕ)) (digits : List ℕ) → found ≡ Some digits
+      → Tells contents old new result (λ last told on. DoesLine holds refusals room (place old before) (place new last) digits told on) on
+      → Tells contents old new result (λ last told on. DoesBody holds refusals room (place old before) (place new last) body found told on) on
+  by-line old new result on before body found digits e t =
+      subst (λ (v : Option (List ℕ)). Tells contents old new result (λ last told on. DoesBody holds refusals room (place old before) (place new last) body v told on) on) (sym e) t
+
+  pub by-request : {A E : Type 0} (old new : Sides K W) (result : Result A E) (on : Bool) (before body : List ℕ) (found : Option (List ℕ)) → found ≡ None
+      → Tells contents old new result (λ last told on. DoesRequest holds refusals room (place old before) (place new last) (request_of body) told on) on
+      → Tells contents old new result (λ last told on. DoesBody holds refusals room (place old before) (place new last) body found told on) on
+  by-request old new result on before body found e t =
+      subst (λ (v : Option (List ℕ)). Tells contents old new result (λ last told on. DoesBody holds refusals room (place old before) (place new last) body v told on) on) (sym e) t
+
+  pub by-body : {A E : Type 0} (old new : Sides K W) (result : Result A E) (on : Bool) (before bytes body : List ℕ) (said : Item) → said ≡ item.Packet → bytes ≡ body
+      → Tells contents old new result (λ last told on. DoesBody holds refusals room (place old before) (place new last) bytes (behind (codes "qRcmd,") bytes) told on) on
+      → Tells contents old new result (λ last told on. Does holds refusals room (place old before) (place new last) said body told on) on
+  by-body old new result on before bytes body said e f t =
+      subst (λ (v : Item). Tells contents old new result (λ last told on. Does holds refusals room (place old before) (place new last) v body told on) on) (sym e)
+      (subst (λ (v : List ℕ). Tells contents old new result (λ last told on. Does holds refusals room (place old before) (place new last) item.Packet v told on) on) f t)
+
+  pub by-item : {A E : Type 0} (old new : Sides K W) (result : Result A E) (on : Bool) (before body : List ℕ) (said other : Item) → said ≡ other
+      → Tells contents old new result (λ last told on. Does holds refusals room (place old before) (place new last) other body told on) on
+      → Tells contents old new result (λ last told on. Does holds refusals room (place old before) (place new last) said body told on) on
+  by-item old new result on before body said other e t =
+      subst (λ (v : Item). Tells contents old new result (λ last told on. Does holds refusals room (place old before) (place new last) v body told on) on) (sym e) t
+
+  -- the same, behind a flush
+  pub flushed : {A B E : Type 0} (old new : Sides K W) (middle : Tally W) (answer : Result A E) (result : Result B E) (does : List ℕ → List ℕ → Bool → Type 0) (on : Bool)
+      → Tells contents old (record new { writer = middle }) answer does on → ((text : List ℕ) → Writes contents old.writer middle answer text → Writes contents old.writer new.writer result text)
+      → Tells contents old new result does on
+  flushed old new middle answer result does on t f = record { last = t.last; told = t.told; done = t.done; held = t.held; written = f t.told t.written }

@@ -1,0 +1,9 @@
+pub mod Sums
+pub mod Reading
+pub mod Cutting
+pub mod HexText
+pub mod Containing
+pub mod Telling
+pub mod LineTexts
+pub mod Turns
+pub mod Bodies

@@ -1,0 +1,251 @@
+-- Turns of a connection, one after another.
+use Rattle.std.proofs.Common.{◌≡◌, ◌≤◌, inl, inr, ℕ, Bool, true, false, List, [], ◌∷◌, Option, Some, None, Result, Ok, Err, IfOk, length, refl, sym, ap, subst, ◌∙◌, arith}
+use Rattle.std.specs.Prelude.{MatchOption}
+use Rattle.std.proofs.lemmas.Bool.{le-ltb}
+use Rattle.std.specs.Io.KnownBytes.{Appends}
+use Rattle.counted_io.specs.Counted.{Tally, one_more}
+use Rattle.counted_io.specs.Writing.{Writes}
+use Rattle.counted_io.proofs.Appending.{Appends-Appends, Appends-nil}
+use Rattle.bpf_entries.specs.Keeping.{Kept}
+use Rattle.bpf_session.specs.Sessions.{SessionValue}
+use Rattle.bpf_session.specs.declared.fault.RunFault.TheVariants.{Read, Write}
+use Rattle.bpf_remote.specs.Answers.{sent}
+use Rattle.bpf_remote.specs.Connections.{Place, Turn, AreTurns, GoOn, end_of, read_in, told_in, Does}
+use Rattle.bpf_remote.specs.Packets.{Buffer, Holds, IsItem, longest_body, is_end}
+use Rattle.bpf_remote.specs.Serving.{Ends, Serves, Breaks, opening}
+use Rattle.bpf_remote.specs.Streams.{Reads, ReadsItem}
+use Rattle.bpf_remote.specs.Turning.{Sides, TakesTurn}
+use Rattle.bpf_remote.specs.declared.manners.Manners.{Manners}
+use Rattle.bpf_remote.specs.declared.stream.Item.{Item}
+use Rattle.bpf_remote.specs.declared.stream.Item.TheVariants as item
+use Rattle.bpf_remote.proofs.Reading.{Reads-none, Reads-trans, Reads-Fails, IsAll-trans}
+
+pub sent-short : (text : List ℕ) → length text ≤ longest_body → text ≡ sent text
+sent-short text h = rw (le-ltb longest_body (length text) h) refl
+
+pub of-some : {A : Type 0} (r : Option A) (a : A) (P : Type 0) (Q : A → Type 0) → r ≡ Some a → MatchOption r P Q → Q a
+of-some {A = A} r a P Q e m = subst (λ (v : Option A). MatchOption v P Q) e m
+
+pub of-none : {A : Type 0} (r : Option A) (P : Type 0) (Q : A → Type 0) → r ≡ None → MatchOption r P Q → P
+of-none {A = A} r P Q e m = subst (λ (v : Option A). MatchOption v P Q) e m
+
+-- an item that was read has its body in the buffer
+as-turn : (said : Item) (bytes : List ℕ) (buffer : Buffer) → IsItem said bytes buffer → IsItem said bytes (record { bytes = buffer.bytes; is_long = false })
+as-turn item.Packet bytes buffer (noise, tail, quiet, parts, (body, high, low, frame, sum, short, has, whole)) = (noise, tail, quiet, parts, (body, high, low, frame, sum, short, has, refl))
+as-turn item.Damaged bytes buffer i = i
+as-turn item.Again bytes buffer i = i
+as-turn item.End bytes buffer i = i
+
+held-whole : (bytes : List ℕ) (long : Bool) → long ≡ false → Holds (record { bytes = bytes; is_long = long }) bytes
+held-whole bytes true e = absurd cc
+held-whole bytes false e = refl
+
+body-held : (said : Item) (bytes : List ℕ) (buffer : Buffer) → IsItem said bytes buffer → said ≡ item.Packet → Holds buffer buffer.bytes × (length buffer.bytes ≤ longest_body)
+body-held item.Packet bytes buffer (noise, tail, quiet, parts, (body, high, low, frame, sum, short, has, whole)) e =
+    (held-whole buffer.bytes buffer.is_long whole, subst (λ (v : List ℕ). length v ≤ longest_body) (sym has) short)
+body-held item.Damaged bytes buffer i e = absurd cc
+body-held item.Again bytes buffer i e = absurd cc
+body-held item.End bytes buffer i e = absurd cc
+
+pub is-end : (said : Item) → is_end said ≡ true → said ≡ item.End
+is-end item.Packet e = absurd cc
+is-end item.Damaged e = absurd cc
+is-end item.Again e = absurd cc
+is-end item.End e = refl
+
+pub no-end : (said : Item) → is_end said ≡ false → said ≡ item.End → ⊥
+no-end item.Packet e f = cc
+no-end item.Damaged e f = cc
+no-end item.Again e f = cc
+no-end item.End e f = cc
+
+module _ {K R W : Type 0} (holds : K → List Kept → Type 0) (refusals room : K → ℕ) (remaining : R → Option (List ℕ)) (contents : W → Option (List ℕ)) where
+  -- what holds between two turns
+  pub record Serving (from now : SessionValue K) (manners : Manners) (answer : Buffer) (reader reader' : Tally R) (writer writer' : Tally W) : Type 0 where
+    pub nearer : reader.reads ≤ reader'.reads
+    pub turns : List (Turn holds refusals room)
+    pub are : AreTurns holds refusals room (opening from) turns
+    pub on : GoOn holds refusals room turns
+    pub session : (end_of holds refusals room (opening from) turns).session ≡ now
+    pub polite : (end_of holds refusals room (opening from) turns).manners ≡ manners
+    pub held : Holds answer (end_of holds refusals room (opening from) turns).last
+    pub read : Reads remaining reader reader' (read_in holds refusals room turns)
+    pub told : Appends (contents writer.inner) (contents writer'.inner) (told_in holds refusals room turns)
+    pub same : writer'.failures ≡ writer.failures
+
+  pub Serving-start : (from : SessionValue K) (manners : Manners) (answer : Buffer) (reader : Tally R) (writer : Tally W) → (record { acknowledges = true; swbreak = false }) ≡ manners → Holds answer []
+      → Serving from from manners answer reader reader writer writer
+  Serving-start from manners answer reader writer e h = record {
+    nearer = omega arith;
+    turns = [];
+    are = tt;
+    on = tt;
+    session = refl;
+    polite = e;
+    held = h;
+    read = Reads-none remaining reader;
+    told = Appends-nil (contents writer.inner);
+    same = refl;
+  }
+
+  -- the sides of a turn
+  abbrev sides : SessionValue K → Manners → Buffer → Tally W → Sides K W
+  sides session manners answer writer = record { session = session; manners = manners; answer = answer; writer = writer }
+
+  -- a turn that was taken behind some
+  pub record Taken (from : SessionValue K) (reader reader' : Tally R) (writer : Tally W) (session : SessionValue K) (manners : Manners) (answer : Buffer) (on : Bool) : Type 0 where
+    pub turn : Turn holds refusals room
+    pub turns : List (Turn holds refusals room)
+    pub are : AreTurns holds refusals room (opening from) (turn ∷ turns)
+    pub on_is : turn.on ≡ on
+    pub session_is : turn.after.session ≡ session
+    pub manners_is : turn.after.manners ≡ manners
+    pub held : Holds answer turn.after.last
+    pub nearer : reader.reads ≤ reader'.reads
+    pub read : Reads remaining reader reader' (read_in holds refusals room (turn ∷ turns))
+
+  -- what was told of it
+  pub record Wrote {A E : Type 0} (writer now writer' : Tally W) (before told : List ℕ) (result : Result A E) : Type 0 where
+    pub first : Appends (contents writer.inner) (contents now.inner) before
+    pub same : now.failures ≡ writer.failures
+    pub then : Writes contents now writer' result told
+
+  take : {A E F : Type 0} (from session session' : SessionValue K) (manners manners' : Manners) (answer answer' request : Buffer) (reader reader' reader'' : Tally R) (writer writer' writer'' : Tally W)
+      (said : Item) (result : Result A E) (on : Bool)
+      → Serving from session manners answer reader reader' writer writer'
+      → ReadsItem {E = F} remaining reader' reader'' request (Ok said) → is_end said ≡ false
+      → TakesTurn holds refusals room contents (sides session manners answer writer') (sides session' manners' answer' writer'') result on said request
+      → (t : Taken from reader reader'' writer session' manners' answer' on) × Wrote writer writer' writer'' (told_in holds refusals room t.turns) t.turn.told result
+  take from session session' manners manners' answer answer' request reader reader' reader'' writer writer' writer'' said result on s r more takes =
+      let i = r.item in
+      let last = (end_of holds refusals room (opening from) s.turns).last in
+      let done = takes last request.bytes s.held (body-held said i.0 request i.2) (no-end said more) in
+      let here : end_of holds refusals room (opening from) s.turns ≡ record { session = session; manners = manners; last = last } =
+      ap (λ (v : SessionValue K). record { session = v; manners = (end_of holds refusals room (opening from) s.turns).manners; last = last }) s.session
+      ∙ ap (λ (v : Manners). record { session = session; manners = v; last = last }) s.polite in
+      let t : Turn holds refusals room = record {
+        read = i.0;
+        said = said;
+        body = request.bytes;
+        told = done.told;
+        on = on;
+        after = record { session = session'; manners = manners'; last = done.last };
+      } in
+      let n = r.nearer in
+      let m = s.nearer in (
+        record {
+          turn = t;
+          turns = s.turns;
+          are = ((as-turn said i.0 request i.2, subst (λ (v : Place K). Does holds refusals room v t.after said request.bytes done.told on) (sym here) done.done), s.on, s.are);
+          on_is = refl;
+          session_is = refl;
+          manners_is = refl;
+          held = done.held;
+          nearer = omega arith;
+          read = Reads-trans remaining reader reader' reader'' (read_in holds refusals room s.turns) i.0 s.read i.1;
+        },
+        record { first = s.told; same = s.same; then = done.written },
+      )
+
+  -- the next turn follows
+  Serving-more : {E : Type 0} (from session : SessionValue K) (manners : Manners) (answer : Buffer) (reader reader' : Tally R) (writer now writer' : Tally W) (on value : Bool)
+      → (t : Taken from reader reader' writer session manners answer on) → Wrote {E = E} writer now writer' (told_in holds refusals room t.turns) t.turn.told (Ok value) → on ≡ true
+      → Serving from session manners answer reader reader' writer writer'
+  Serving-more from session manners answer reader reader' writer now writer' on value t w e = record {
+    nearer = t.nearer;
+    turns = t.turn ∷ t.turns;
+    are = t.are;
+    on = t.on_is ∙ e;
+    session = t.session_is;
+    polite = t.manners_is;
+    held = t.held;
+    read = t.read;
+    told = Appends-Appends _ _ _ (told_in holds refusals room t.turns) t.turn.told w.first w.then.ok;
+    same = w.then.same ∙ w.same;
+  }
+
+  abbrev ends : SessionValue K → SessionValue K → Tally R → Tally R → Tally W → Tally W → Ends K R W
+  ends from to reader reader' writer writer' = record { from = from; to = to; reader = reader; reader' = reader'; writer = writer; writer' = writer' }
+
+  -- gdb leaves
+  Serves-left : {E : Type 0} (from session : SessionValue K) (manners : Manners) (answer : Buffer) (reader reader' : Tally R) (writer now writer' : Tally W) (on value : Bool)
+      → (t : Taken from reader reader' writer session manners answer on) → Wrote {E = E} writer now writer' (told_in holds refusals room t.turns) t.turn.told (Ok value) → on ≡ false
+      → Serves holds refusals room remaining contents (ends from session reader reader' writer writer')
+  Serves-left from session manners answer reader reader' writer now writer' on value t w e = (
+    t.turn ∷ t.turns,
+    t.are,
+    t.session_is,
+    (Appends-Appends _ _ _ (told_in holds refusals room t.turns) t.turn.told w.first w.then.ok, w.then.same ∙ w.same),
+    inl ((λ f. (let u = t.on_is in cc)), t.read),
+  )
+
+  -- the stream ends
+  pub Serves-ended : {F : Type 0} (from session : SessionValue K) (manners : Manners) (answer request : Buffer) (reader reader' reader'' : Tally R) (writer writer' : Tally W) (said : Item)
+      → Serving from session manners answer reader reader' writer writer' → ReadsItem {E = F} remaining reader' reader'' request (Ok said) → is_end said ≡ true
+      → Serves holds refusals room remaining contents (ends from session reader reader'' writer writer')
+  Serves-ended from session manners answer request reader reader' reader'' writer writer' said s r e =
+      let i = r.item in
+      let f = is-end said e in (
+        s.turns,
+        s.are,
+        s.session,
+        (s.told, s.same),
+        inr (
+          i.0,
+          s.on,
+          subst (λ (v : Item). IsItem v i.0 request) f i.2,
+          Reads-trans remaining reader reader' reader'' (read_in holds refusals room s.turns) i.0 s.read i.1,
+          IsAll-trans remaining reader reader' (read_in holds refusals room s.turns) i.0 s.read (i.3 f),
+        ),
+      )
+
+  -- a read fails
+  pub Breaks-read : {E : Type 0} (from session : SessionValue K) (manners : Manners) (answer request : Buffer) (reader reader' reader'' : Tally R) (writer writer' : Tally W) (fault : E)
+      → Serving from session manners answer reader reader' writer writer' → ReadsItem remaining reader' reader'' request (Err fault)
+      → Breaks holds refusals room remaining contents Read (ends from session reader reader'' writer writer')
+  Breaks-read from session manners answer request reader reader' reader'' writer writer' fault s r =
+      let p = r.part in
+      (s.turns, s.are, s.session, (s.told, s.same), s.on, p.0, p.2, Reads-Fails remaining reader reader' reader'' (read_in holds refusals room s.turns) p.0 s.read p.1)
+
+  -- a write fails
+  Breaks-write : {A E : Type 0} (from session : SessionValue K) (manners : Manners) (answer : Buffer) (reader reader' : Tally R) (writer now writer' : Tally W) (on : Bool) (fault : E)
+      → (t : Taken from reader reader' writer session manners answer on) → Wrote {A = A} writer now writer' (told_in holds refusals room t.turns) t.turn.told (Err fault)
+      → Breaks holds refusals room remaining contents Write (ends from session reader reader' writer writer')
+  Breaks-write from session manners answer reader reader' writer now writer' on fault t w =
+      let e = w.then.err in
+      (t.turn, t.turns, t.are, t.session_is, t.read, e.0, e.1, e.2, Appends-Appends _ _ _ (told_in holds refusals room t.turns) e.0 w.first e.3, w.then.fault ∙ ap one_more w.same)
+
+  -- what a turn was taken with
+  abbrev Turned : {E : Type 0} → SessionValue K → SessionValue K → Manners → Manners → Buffer → Buffer → Buffer → Tally W → Tally W → Item → Result Bool E → Type 0
+  Turned session session' manners manners' answer answer' request writer writer' said result = (on : Bool) × IfOk result (λ more. more ≡ on)
+      × TakesTurn holds refusals room contents (sides session manners answer writer) (sides session' manners' answer' writer') result on said request
+
+  -- behind a turn: the next one, the end, a failure
+  pub after-more : {E F : Type 0} (from session session' : SessionValue K) (manners manners' : Manners) (answer answer' request : Buffer) (reader reader' reader'' : Tally R) (writer writer' writer'' : Tally W)
+      (said : Item) (result : Result Bool E) (value : Bool)
+      → Serving from session manners answer reader reader' writer writer' → ReadsItem {E = F} remaining reader' reader'' request (Ok said) → is_end said ≡ false
+      → Turned session session' manners manners' answer answer' request writer' writer'' said result → result ≡ Ok value → value ≡ true → Serving from session' manners' answer' reader reader'' writer writer''
+  after-more from session session' manners manners' answer answer' request reader reader' reader'' writer writer' writer'' said (Err x) value s r more t e on = absurd cc
+  after-more from session session' manners manners' answer answer' request reader reader' reader'' writer writer' writer'' said (Ok y) value s r more t e on =
+      let k = take from session session' manners manners' answer answer' request reader reader' reader'' writer writer' writer'' said (Ok y) t.0 s r more t.2 in
+      let u : t.0 ≡ true = sym t.1 ∙ cc in
+      Serving-more from session' manners' answer' reader reader'' writer writer' writer'' t.0 y k.0 k.1 u
+
+  pub after-left : {E F : Type 0} (from session session' : SessionValue K) (manners manners' : Manners) (answer answer' request : Buffer) (reader reader' reader'' : Tally R) (writer writer' writer'' : Tally W)
+      (said : Item) (result : Result Bool E) (value : Bool)
+      → Serving from session manners answer reader reader' writer writer' → ReadsItem {E = F} remaining reader' reader'' request (Ok said) → is_end said ≡ false
+      → Turned session session' manners manners' answer answer' request writer' writer'' said result → result ≡ Ok value → value ≡ false → Serves holds refusals room remaining contents (ends from session' reader reader'' writer writer'')
+  after-left from session session' manners manners' answer answer' request reader reader' reader'' writer writer' writer'' said (Err x) value s r more t e on = absurd cc
+  after-left from session session' manners manners' answer answer' request reader reader' reader'' writer writer' writer'' said (Ok y) value s r more t e on =
+      let k = take from session session' manners manners' answer answer' request reader reader' reader'' writer writer' writer'' said (Ok y) t.0 s r more t.2 in
+      let u : t.0 ≡ false = sym t.1 ∙ cc in
+      Serves-left from session' manners' answer' reader reader'' writer writer' writer'' t.0 y k.0 k.1 u
+
+  pub after-failure : {E F : Type 0} (from session session' : SessionValue K) (manners manners' : Manners) (answer answer' request : Buffer) (reader reader' reader'' : Tally R) (writer writer' writer'' : Tally W)
+      (said : Item) (result : Result Bool E) (fault : E)
+      → Serving from session manners answer reader reader' writer writer' → ReadsItem {E = F} remaining reader' reader'' request (Ok said) → is_end said ≡ false
+      → Turned session session' manners manners' answer answer' request writer' writer'' said result → result ≡ Err fault → Breaks holds refusals room remaining contents Write (ends from session' reader reader'' writer writer'')
+  after-failure from session session' manners manners' answer answer' request reader reader' reader'' writer writer' writer'' said (Ok y) fault s r more t e = absurd cc
+  after-failure from session session' manners manners' answer answer' request reader reader' reader'' writer writer' writer'' said (Err x) fault s r more t e =
+      let k = take from session session' manners manners' answer answer' request reader reader' reader'' writer writer' writer'' said (Err x) t.0 s r more t.2 in
+      Breaks-write from session' manners' answer' reader reader'' writer writer' writer'' t.0 x k.0 k.1

@@ -1,0 +1,7 @@
+use Rattle.std.proofs.Common.{refl}
+use Rattle.bpf_remote.proofs.serving.answer_line.Goals as goal
+
+pub returns : goal.returns
+returns g c = λ before.
+    let o = c.obey_line.ensures in
+    record { last = o.0; told = _; done = (o.2, refl, refl, refl); held = o.1; written = c.put_sent.ensures o.0 o.1 _ _ c.acknowledge-begun.ensures }

@@ -1,0 +1,9 @@
+pub mod Packets
+pub mod Streams
+pub mod Cuts
+pub mod Numbers
+pub mod Requests
+pub mod Answers
+pub mod Connections
+pub mod Turning
+pub mod Serving

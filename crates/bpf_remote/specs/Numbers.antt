@@ -1,0 +1,38 @@
+-- Numbers and bytes, as bodies write them.
+use Rattle.std.specs.Prelude.{ℕ, ◌+◌, List, [], ◌∷◌, ◌++◌, length, take, drop, position, ◌==◌, if◌then◌else◌, Option, Some, None}
+use Rattle.std.specs.Option.{option_map, option_and_then}
+use Rattle.std.specs.Result.{result_ok}
+use Rattle.std.specs.Str.{bytes_eq}
+use Rattle.byteorder.specs.Endian.{little_bytes, little_number}
+use Rattle.hex.specs.Hex.{decode_sized}
+use Rattle.counted_io.specs.Numerals.{as_u64, numeral}
+use Rattle.bpf_remote.specs.Packets.{two_digits}
+
+-- Bytes as two lower-case digits each.
+unfoldable pub hex_text : List ℕ → List ℕ
+hex_text [] = []
+hex_text (byte ∷ bytes) = two_digits byte ++ hex_text bytes
+
+-- The eight bytes of a number, the lowest first.
+unfoldable pub word_text : ℕ → List ℕ
+word_text value = hex_text (little_bytes 8 value)
+
+-- The number that hexadecimal digits of either case are, if it is below 2^64.
+abbrev pub number : List ℕ → Option ℕ
+number s = option_and_then as_u64 (numeral 16 s)
+
+-- The number whose eight bytes a text spells, the lowest first.
+abbrev pub word : List ℕ → Option ℕ
+word s = option_map (λ bytes. little_number 8 bytes) (result_ok (decode_sized s 8))
+
+-- What is behind a name, None where the text doesn't begin with it.
+abbrev pub behind : List ℕ → List ℕ → Option (List ℕ)
+behind name s = if bytes_eq (take (length name) s) name then Some (drop (length name) s) else None
+
+-- What stands before the first of these bytes, and what behind it.
+abbrev pub cut : ℕ → List ℕ → Option (List ℕ × List ℕ)
+cut mark s = option_map (λ at. (take at s, drop (at + 1) s)) (position (λ byte. byte == mark) s)
+
+-- Two numbers with a byte between them.
+abbrev pub pair : ℕ → List ℕ → Option (ℕ × ℕ)
+pair mark s = option_and_then (λ parts. option_and_then (λ m. option_map (λ n. (m, n)) (number parts.1)) (number parts.0)) (cut mark s)

@@ -1,0 +1,124 @@
+-- What the body of a packet asks for.
+use Rattle.std.specs.Prelude.{ℕ, ◌/◌, ◌%◌, ◌==◌, ◌&&◌, ◌||◌, if◌then◌else◌, nat_le, List, [], ◌∷◌, length, is_some, Option, Some, None, Bool, false}
+use lib.Chars.{codes}
+use Rattle.std.specs.Option.{option_map, option_and_then, unwrap_or}
+use Rattle.std.specs.Str.{bytes_eq}
+use Rattle.bpf_machine.specs.declared.edit.Edit.TheVariants as edit
+use Rattle.bpfdb_commands.specs.Commands.{bytes_of}
+use Rattle.bpfdb_commands.specs.declared.command.Command.{Command}
+use Rattle.bpfdb_commands.specs.declared.command.Command.TheVariants as command
+use Rattle.bpfdb_commands.specs.declared.command.Goal.TheVariants as goal
+use Rattle.bpfdb_commands.specs.declared.command.Stop.{Stop}
+use Rattle.bpfdb_commands.specs.declared.command.Stop.TheVariants as stop
+use Rattle.bpfdb_commands.specs.declared.command.Target.TheVariants as target
+use Rattle.bpf_remote.specs.Numbers.{behind, cut, number, pair, word}
+use Rattle.bpf_remote.specs.declared.request.Request.{Request}
+use Rattle.bpf_remote.specs.declared.request.Request.TheVariants as request
+
+-- What is asked, by what stands behind a name.
+abbrev pub Arguments : Type 0
+Arguments = List ℕ → Request
+
+-- Anything may stand there.
+abbrev pub any : Request → Arguments
+any r rest = r
+
+-- What was read, else the arguments are wrong.
+abbrev pub or_wrong : Option Request → Request
+or_wrong r = unwrap_or r request.Wrong
+
+-- The number of a register.
+abbrev pub register : Arguments
+register rest = or_wrong (option_map request.Register (number rest))
+
+-- The registers that can be set: r0 to r10, and pc, which counts bytes, eight a slot.
+abbrev pub edit_of : ℕ → ℕ → Option Command
+edit_of n value =
+    if nat_le n 10 then Some (command.Edit (edit.Register n value))
+    else if n == 11 && value % 8 == 0 then Some (command.Edit (edit.Pc (value / 8)))
+    else None
+
+-- The number of a register, `=`, and its eight bytes.
+abbrev pub set_register : Arguments
+set_register rest = or_wrong (option_and_then (λ parts. option_and_then (λ n. option_and_then (λ value. option_map request.Set (edit_of n value)) (word parts.1)) (number parts.0)) (cut 61 rest))
+
+-- An address, a comma and how many bytes.
+abbrev pub memory : Arguments
+memory rest = or_wrong (option_map (λ p. request.Memory p.0 p.1) (pair 44 rest))
+
+-- An address, a comma, how many bytes, a colon and the bytes, 1 to 256 of them.
+abbrev pub bytes_at : ℕ → ℕ → List ℕ → Option Request
+bytes_at address count bytes = if length bytes == count then Some (request.Set (command.Edit (edit.Bytes address bytes))) else None
+
+abbrev pub set_memory : Arguments
+set_memory rest = or_wrong (option_and_then (λ parts. option_and_then (λ p. option_and_then (λ bytes. bytes_at p.0 p.1 bytes) (bytes_of parts.1)) (pair 44 parts.0)) (cut 58 rest))
+
+-- The address of an instruction, which is eight times its slot, and its kind, which says nothing.
+abbrev pub slot_of : ℕ → Option ℕ
+slot_of address = if address % 8 == 0 then Some (address / 8) else None
+
+abbrev pub breakpoint : (Stop → Command) → Arguments
+breakpoint does rest = or_wrong (option_and_then (λ p. option_map (λ slot. request.Set (does (stop.Breakpoint slot))) (slot_of p.0)) (pair 44 rest))
+
+-- An address, and how many bytes are watched: one.
+abbrev pub watch : (Stop → Command) → Arguments
+watch does rest = or_wrong (option_and_then (λ p. if p.1 == 1 then Some (request.Set (does (stop.Watch p.0))) else None) (pair 44 rest))
+
+-- Whether a text stands in another.
+abbrev pub contains : List ℕ → List ℕ → Bool
+contains name [] = false
+contains name (byte ∷ rest) = is_some (behind name (byte ∷ rest)) || contains name rest
+
+abbrev pub supported : Arguments
+supported rest = request.Supported (contains (codes "swbreak+") rest)
+
+-- The requests that are whole words.
+abbrev pub words : List (List ℕ × Request)
+words =
+    (codes "?", request.Stop)
+    ∷ (codes "g", request.Registers)
+    ∷ (codes "s", request.Move (command.Forward (goal.Steps 1)))
+    ∷ (codes "c", request.Move (command.Forward goal.Continue))
+    ∷ (codes "bs", request.Move (command.Back (target.Steps 1)))
+    ∷ (codes "bc", request.Move (command.Back target.Continue))
+    ∷ (codes "QStartNoAckMode", request.Silence)
+    ∷ []
+
+-- The requests that begin with a name.
+abbrev pub names : List (List ℕ × Arguments)
+names =
+    (codes "p", register)
+    ∷ (codes "P", set_register)
+    ∷ (codes "m", memory)
+    ∷ (codes "M", set_memory)
+    ∷ (codes "Z0,", breakpoint command.Add)
+    ∷ (codes "z0,", breakpoint command.Remove)
+    ∷ (codes "Z2,", watch command.Add)
+    ∷ (codes "z2,", watch command.Remove)
+    ∷ (codes "H", any request.Thread)
+    ∷ (codes "D", any request.Leave)
+    ∷ (codes "vKill", any request.Leave)
+    ∷ (codes "k", any request.Kill)
+    ∷ (codes "qSupported", supported)
+    ∷ (codes "qAttached", any request.Attached)
+    ∷ []
+
+-- The request of a whole word, None where the table doesn't have it.
+abbrev pub word_of : List (List ℕ × Request) → List ℕ → Option Request
+word_of [] body = None
+word_of (row ∷ rows) body = if bytes_eq body row.0 then Some row.1 else word_of rows body
+
+-- The request of the first name that the body begins with.
+abbrev pub begun : List (List ℕ × Arguments) → List ℕ → Option Request
+begun [] body = None
+begun (row ∷ rows) body = elim (behind row.0 body) [ None ↦ begun rows body | Some rest ↦ Some (row.1 rest) ]
+
+-- What a body asks for.
+unfoldable pub word_request : List ℕ → Option Request
+word_request body = word_of words body
+
+unfoldable pub begun_request : List ℕ → Option Request
+begun_request body = begun names body
+
+abbrev pub request_of : List ℕ → Request
+request_of body = unwrap_or (word_request body) (unwrap_or (begun_request body) request.Unknown)

@@ -1,0 +1,50 @@
+-- Scaffolding: what answering one item leaves.
+use Rattle.std.specs.Prelude.{◌≡◌, ◌≤◌, ℕ, Bool, true, List, length, Option, Result}
+use lib.Chars.{codes}
+use Rattle.counted_io.specs.Counted.{Tally}
+use Rattle.counted_io.specs.Writing.{Writes}
+use Rattle.bpf_entries.specs.Keeping.{Kept}
+use Rattle.bpf_session.specs.Sessions.{SessionValue}
+use Rattle.bpf_remote.specs.Numbers.{behind}
+use Rattle.bpf_remote.specs.Packets.{Buffer, Holds, longest_body}
+use Rattle.bpf_remote.specs.Requests.{request_of}
+use Rattle.bpf_remote.specs.Connections.{Place, Does, DoesBody, DoesLine, DoesRequest}
+use Rattle.bpf_remote.specs.declared.manners.Manners.{Manners}
+use Rattle.bpf_remote.specs.declared.stream.Item.{Item}
+use Rattle.bpf_remote.specs.declared.stream.Item.TheVariants.{Packet, End}
+
+-- The ends of a turn.
+pub record Sides (K W : Type 0) : Type 0 where
+  pub session : SessionValue K
+  pub manners : Manners
+  pub answer : Buffer
+  pub writer : Tally W
+
+abbrev pub place : {K W : Type 0} → Sides K W → List ℕ → Place K
+place s last = record { session = s.session; manners = s.manners; last = last }
+
+-- Something was done and told: this is where the connection then is, what was told, and whether it goes on.
+pub record Tells {K W A E : Type 0} (contents : W → Option (List ℕ)) (before after : Sides K W) (result : Result A E)
+    (does : List ℕ → List ℕ → Bool → Type 0) (on : Bool) : Type 0 where
+  pub last : List ℕ
+  pub told : List ℕ
+  pub done : does last told on
+  pub held : Holds after.answer last
+  pub written : Writes contents before.writer after.writer result told
+
+module _ {K W : Type 0} (holds : K → List Kept → Type 0) (refusals room : K → ℕ) (contents : W → Option (List ℕ)) where
+  abbrev pub AnswersLine : {A E : Type 0} → Sides K W → Sides K W → Result A E → List ℕ → Type 0
+  AnswersLine old new result digits = (before : List ℕ)
+      → Tells contents old new result (λ last told on. DoesLine holds refusals room (place old before) (place new last) digits told on) true
+
+  abbrev pub AnswersRequest : {A E : Type 0} → Sides K W → Sides K W → Result A E → Bool → List ℕ → Type 0
+  AnswersRequest old new result on body = (before : List ℕ)
+      → Tells contents old new result (λ last told on. DoesRequest holds refusals room (place old before) (place new last) (request_of body) told on) on
+
+  abbrev pub AnswersBody : {A E : Type 0} → Sides K W → Sides K W → Result A E → Bool → List ℕ → Type 0
+  AnswersBody old new result on body = (before : List ℕ)
+      → Tells contents old new result (λ last told on. DoesBody holds refusals room (place old before) (place new last) body (behind (codes "qRcmd,") body) told on) on
+
+  abbrev pub TakesTurn : {A E : Type 0} → Sides K W → Sides K W → Result A E → Bool → Item → Buffer → Type 0
+  TakesTurn old new result on item request = (before body : List ℕ) → Holds old.answer before → (item ≡ Packet → Holds request body × (length body ≤ longest_body)) → (item ≡ End → ⊥)
+      → Tells contents old new result (λ last told on. Does holds refusals room (place old before) (place new last) item body told on) on

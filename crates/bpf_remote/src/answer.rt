@@ -1,0 +1,219 @@
+//! Answers: what the bodies of packets tell gdb.
+ghost use Rattle.std.specs.Prelude.{◌≡◌, ◌≤◌, ◌<◌, ◌+◌, ◌^◌, ◌++◌, List, true, ℕ};
+ghost use Rattle.bpf_remote.specs.Answers.{answer_of_move, answer_of_set, error_text, halt_of, halt_of_status, has_memory, memory_text, present, register_text, registers_text, text_of, text_of_halt, value_of};
+ghost use Rattle.bpf_remote.specs.Numbers.{hex_text};
+ghost use Rattle.bpf_remote.specs.Packets.{Holds};
+
+use crate::body::Body;
+use bpf_isa::Reg;
+use bpf_machine::{Cpu, Fault, Status};
+use bpf_session::{Refusal, Reply, Why};
+
+/// Why the machine stands still, as gdb is told.
+#[derive(Clone, Copy)]
+pub enum Halt {
+    /// After what was asked for.
+    Step,
+    /// At a breakpoint.
+    Break,
+    /// At the beginning of what is kept.
+    Begin,
+    /// The program has returned.
+    End,
+    /// The limit of steps is reached, or there was no memory for a further one.
+    Limit,
+    /// The access of a step failed.
+    Access,
+    /// A step could not be taken for another reason.
+    Fault,
+}
+
+/// What a request is answered by.
+#[derive(Clone, Copy)]
+pub enum Answer {
+    /// `OK`.
+    Done,
+    /// `E` and a number of two digits: that of a refusal, or 16 where an answer is too long for a packet.
+    Error(u8),
+    /// `T` and why the machine stands still.
+    Halted(Halt),
+    /// The values of r0 to r10 and pc.
+    Registers,
+    /// The value of one of them.
+    Register(u64),
+    /// Bytes from an address on, up to the first that isn't present.
+    Memory { address: u64, count: u64 },
+    /// What is understood.
+    Supported,
+    /// The machine was there before.
+    Attached,
+    /// Nothing: the request isn't known.
+    Empty,
+}
+
+/// The number of an answer that is too long for a packet.
+pub const TOO_LONG: u8 = 16;
+
+/// The most bytes of memory that are shown at once.
+const MOST_BYTES: u64 = 8192;
+
+/// How a machine stands still that is in this status.
+pub(crate) fn halt_of_status(status: Status) -> Halt
+    ensures { result ≡ halt_of_status status }
+{
+    match status {
+        Status::Running => Halt::Step,
+        Status::Exited => Halt::End,
+        Status::Faulted(Fault::Access { .. }) => Halt::Access,
+        Status::Faulted(_) => Halt::Fault,
+    }
+}
+
+/// How a machine stands still behind a command that moved it.
+fn halt_of(why: Why, status: Status) -> Halt
+    ensures { result ≡ halt_of why status }
+{
+    match why {
+        Why::End => halt_of_status(status),
+        Why::Break => Halt::Break,
+        Why::Watch | Why::Done => Halt::Step,
+        Why::Limit | Why::Memory => Halt::Limit,
+        Why::Start => Halt::Begin,
+    }
+}
+
+/// The answer to a request that moves.
+pub(crate) fn answer_of_move(answer: &Result<Reply, Refusal>, status: Status) -> Answer
+    ensures { result ≡ answer_of_move answer.now status }
+{
+    match answer {
+        Ok(Reply::Forward { why, .. }) => Answer::Halted(halt_of(*why, status)),
+        Ok(Reply::Back { why, .. }) => Answer::Halted(halt_of(*why, status)),
+        Ok(_) => Answer::Done,
+        Err(Refusal::MachineEnded) => Answer::Halted(Halt::End),
+        Err(Refusal::NoKeptStep) => Answer::Halted(Halt::Begin),
+        Err(refusal) => Answer::Error(refusal.number()),
+    }
+}
+
+/// The answer to a request that sets something.
+pub(crate) fn answer_of_set(answer: &Result<Reply, Refusal>) -> Answer
+    ensures { result ≡ answer_of_set answer.now }
+{
+    match answer {
+        Ok(_) => Answer::Done,
+        Err(refusal) => Answer::Error(refusal.number()),
+    }
+}
+
+/// Writes an answer behind a body.
+pub(crate) fn append_answer(answer: Answer, cpu: &Cpu, swbreak: bool, body: &mut Body)
+    ensures { (text : List ℕ) → Holds body.old text → Holds body.new (text ++ text_of swbreak cpu.now answer) }
+{
+    match answer {
+        Answer::Done => body.append(b"OK"),
+        Answer::Error(number) => append_error(number, body),
+        Answer::Halted(halt) => body.append(text_of_halt(halt, swbreak).as_bytes()),
+        Answer::Registers => append_registers(cpu, body),
+        Answer::Register(n) => append_register(cpu, n, body),
+        Answer::Memory { address, count } => append_memory(cpu, address, count, body),
+        Answer::Supported => body.append(
+            b"PacketSize=4000;ReverseStep+;ReverseContinue+;swbreak+;QStartNoAckMode+",
+        ),
+        Answer::Attached => body.append(b"1"),
+        Answer::Empty => {}
+    }
+}
+
+/// The text of how a machine stands still. `swbreak` says whether gdb understands that word.
+fn text_of_halt(halt: Halt, swbreak: bool) -> &'static str
+    ensures { result.now ≡ text_of_halt swbreak halt }
+{
+    match halt {
+        Halt::Step => "T05",
+        Halt::Break => { if swbreak { "T05swbreak:;" } else { "T05" } }
+        Halt::Begin => "T05replaylog:begin;",
+        Halt::End => "T05replaylog:end;",
+        Halt::Limit => "T02",
+        Halt::Access => "T0b",
+        Halt::Fault => "T04",
+    }
+}
+
+/// Writes an error's number behind a body.
+pub(crate) fn append_error(number: u8, body: &mut Body)
+    ensures { (text : List ℕ) → Holds body.old text → Holds body.new (text ++ error_text number) }
+{
+    body.append(b"E");
+    body.append_hex(&[number]);
+}
+
+/// Writes the values of r0 to r10 and pc behind a body.
+fn append_registers(cpu: &Cpu, body: &mut Body)
+    ensures { (text : List ℕ) → Holds body.old text → Holds body.new (text ++ registers_text cpu.now) }
+{
+    for n in 0..12 {
+        body.append_word(value_of(cpu, n));
+    }
+}
+
+/// The value of a register by gdb's number, 0 to 11.
+fn value_of(cpu: &Cpu, n: u8) -> u64
+    requires { n ≤ 11 }
+    ensures { result ≡ value_of cpu.now n }
+{
+    match Reg::new(n) {
+        Some(register) => cpu.reg(register),
+        None => 8 * u64::from(cpu.pc()),
+    }
+}
+
+/// Writes the value of a register behind a body.
+fn append_register(cpu: &Cpu, n: u64, body: &mut Body)
+    ensures { (text : List ℕ) → Holds body.old text → Holds body.new (text ++ register_text cpu.now n) }
+{
+    if n <= 11 {
+        body.append_word(value_of(cpu, n as u8));
+    } else {
+        append_error(2, body);
+    }
+}
+
+/// Writes bytes from an address on behind a body, up to the first that isn't present.
+fn append_memory(cpu: &Cpu, address: u64, count: u64, body: &mut Body)
+    ensures { (text : List ℕ) → Holds body.old text → Holds body.new (text ++ memory_text cpu.now.memory address count) }
+{
+    let n = count.min(MOST_BYTES);
+    if has_memory(cpu, address, n) {
+        append_present(cpu, address, n, body);
+    } else {
+        append_error(6, body);
+    }
+}
+
+/// Whether the first of so many bytes is present, and the last address isn't passed.
+fn has_memory(cpu: &Cpu, address: u64, n: u64) -> bool
+    ensures value { result ≡ has_memory cpu.now.memory address n }
+    ensures fits { result ≡ true → address + n < 2 ^ 64 }
+{
+    if n == 0 {
+        return false;
+    }
+    match address.checked_add(n) {
+        Some(_) => cpu.peek(address, 1).is_some(),
+        None => false,
+    }
+}
+
+/// Writes the bytes that are present behind a body.
+fn append_present(cpu: &Cpu, address: u64, count: u64, body: &mut Body)
+    requires { address + count < 2 ^ 64 }
+    ensures { (text : List ℕ) → Holds body.old text → Holds body.new (text ++ hex_text (present cpu.now.memory address count)) }
+{
+    for k in 0..count {
+        match cpu.peek(address + k, 1) {
+            Some(byte) => body.append_hex(byte),
+            None => return,
+        }
+    }
+}

@@ -1,0 +1,23 @@
+//! The remote protocol of gdb, over a session: packets, requests and their answers.
+#![tactic(auto)]
+
+mod answer;
+mod body;
+mod digits;
+mod manners;
+mod number;
+mod obeying;
+mod packet;
+mod parser;
+mod request;
+mod serving;
+mod stream;
+
+pub use answer::{Answer, Halt, TOO_LONG};
+pub use body::Body;
+pub use manners::Manners;
+pub use packet::put_packet;
+pub use parser::request_of;
+pub use request::Request;
+pub use serving::serve;
+pub use stream::{Item, next_item};

@@ -1,0 +1,10 @@
+//! How gdb is talked to.
+
+/// How gdb is talked to.
+#[derive(Clone, Copy)]
+pub struct Manners {
+    /// Packets are acknowledged, which they are at first.
+    pub acknowledges: bool,
+    /// gdb understands `swbreak` in an answer.
+    pub swbreak: bool,
+}

@@ -1,0 +1,191 @@
+//! Requests and lines, obeyed by a session.
+ghost use Rattle.std.specs.Prelude.{◌≡◌, ◌≤◌, ◌⊎◌, [], List, IfOk, MatchResult, length, ℕ};
+ghost use Rattle.bpf_journal.specs.Histories.{Record};
+ghost use Rattle.bpfdb_commands.specs.Refusals.{refusal_text};
+ghost use Rattle.bpf_session.specs.Output.{is_quit};
+ghost use Rattle.bpf_session.specs.Replies.{IsThere, text_of_answer};
+ghost use Rattle.bpf_session.specs.Sessions.{HasPast, bounds_of, point_of};
+ghost use Rattle.bpf_remote.specs.Answers.{error_text};
+ghost use Rattle.bpf_remote.specs.Numbers.{hex_text};
+ghost use Rattle.bpf_remote.specs.Connections.{Answers, ObeysCommand, ObeysLine, Tells, goes_on, is_answered, line_of, manners_after};
+ghost use Rattle.bpf_remote.specs.Packets.{Holds, longest_body};
+
+use crate::answer::{
+    Answer, TOO_LONG, answer_of_move, answer_of_set, append_error, halt_of_status,
+};
+use crate::body::{Body, LONGEST_BODY};
+use crate::manners::Manners;
+use crate::request::Request;
+use arrayvec::ArrayVec;
+use bpf_journal::Keeper;
+use bpf_session::{Command, Refusal, Reply, Session, parse_command};
+use bpfdb_replies::put_refusal;
+use counted_io::{Counted, WriteFault};
+
+/// The longest text of a reply that fits a packet, in bytes, and the longest line that a packet spells.
+const LONGEST_TEXT: usize = LONGEST_BODY / 2;
+
+/// Obeys a request, and says how it is answered.
+pub(crate) fn obey<K: Keeper>(session: &mut Session<K>, request: &Request) -> Answer
+    ensures { Answers K.holds K.refused K.room session.old session.new request.now result }
+{
+    match request {
+        Request::Move(command) => {
+            let said = session.apply(command);
+            answer_of_move(&said, session.cpu().status())
+        }
+        Request::Set(command) => answer_of_set(&session.apply(command)),
+        Request::Stop => Answer::Halted(halt_of_status(session.cpu().status())),
+        Request::Registers => Answer::Registers,
+        Request::Register(n) => Answer::Register(*n),
+        Request::Memory { address, count } => Answer::Memory {
+            address: *address,
+            count: *count,
+        },
+        Request::Supported { .. } => Answer::Supported,
+        Request::Attached => Answer::Attached,
+        Request::Wrong => Answer::Error(2),
+        Request::Unknown => Answer::Empty,
+        Request::Silence | Request::Thread | Request::Leave | Request::Kill => Answer::Done,
+    }
+}
+
+/// How gdb is talked to behind a request.
+pub(crate) fn manners_after(request: &Request, manners: Manners) -> Manners
+    ensures { result ≡ manners_after request.now manners }
+{
+    match request {
+        Request::Silence => Manners {
+            acknowledges: false,
+            swbreak: manners.swbreak,
+        },
+        Request::Supported { swbreak } => Manners {
+            acknowledges: manners.acknowledges,
+            swbreak: *swbreak,
+        },
+        _ => manners,
+    }
+}
+
+/// Whether the connection goes on behind a request.
+pub(crate) fn goes_on(request: &Request) -> bool
+    ensures { result ≡ goes_on request.now }
+{
+    match request {
+        Request::Leave | Request::Kill => false,
+        _ => true,
+    }
+}
+
+/// Whether a request is answered.
+pub(crate) fn is_answered(request: &Request) -> bool
+    ensures { result ≡ is_answered request.now }
+{
+    match request {
+        Request::Kill => false,
+        _ => true,
+    }
+}
+
+/// What the line says that hexadecimal digits spell, None where they spell none.
+fn line_of(digits: &[u8]) -> Option<Result<Option<Command>, Refusal>>
+    requires { length digits.now ≤ longest_body }
+    ensures { result ≡ line_of digits.now }
+{
+    let len = digits.len() / 2;
+    let mut buffer = [0; LONGEST_TEXT];
+    match hex::decode_to_slice(digits, &mut buffer[..len]) {
+        Ok(()) => Some(parse_command(&buffer[..len])),
+        Err(_) => None,
+    }
+}
+
+/// Obeys the line that hexadecimal digits spell, and writes what it prints into an empty body.
+pub(crate) fn obey_line<K: Keeper>(session: &mut Session<K>, digits: &[u8], body: &mut Body)
+    requires short { length digits.now ≤ longest_body }
+    requires empty { Holds body.old [] }
+    ensures { (text : List ℕ) × Holds body.new text × ObeysLine K.holds K.refused K.room session.old session.new (line_of digits.now) text }
+{
+    match line_of(digits) {
+        None => append_error(2, body),
+        Some(Ok(None)) => body.append(b"OK"),
+        Some(Ok(Some(command))) => obey_command(session, &command, body),
+        Some(Err(refusal)) => tell_refusal(refusal, body),
+    }
+}
+
+/// Obeys a command, and writes what it prints into an empty body.
+fn obey_command<K: Keeper>(session: &mut Session<K>, command: &Command, body: &mut Body)
+    requires { Holds body.old [] }
+    ensures { (text : List ℕ) × Holds body.new text × ObeysCommand K.holds K.refused K.room session.old session.new command.now (is_quit command.now) text }
+{
+    if is_quit(command) {
+        body.append(b"OK");
+        return;
+    }
+    let said = session.apply(command);
+    append_text(answer_text(session, &said), body);
+}
+
+/// Whether a command ends the session.
+fn is_quit(command: &Command) -> bool
+    ensures { result ≡ is_quit command.now }
+{
+    match command {
+        Command::Quit => true,
+        _ => false,
+    }
+}
+
+/// Writes a refusal into an empty body.
+fn tell_refusal(refusal: Refusal, body: &mut Body)
+    requires { Holds body.old [] }
+    ensures { (text : List ℕ) × Holds body.new text × Tells (refusal_text refusal) text }
+{
+    append_text(refusal_text(refusal), body);
+}
+
+/// A text that fits a packet.
+type Text = ArrayVec<u8, LONGEST_TEXT>;
+
+/// What is printed for a refusal.
+fn refusal_text(refusal: Refusal) -> Result<Text, WriteFault>
+    ensures { IfOk result (λ text. text.items ≡ refusal_text refusal) }
+{
+    let mut writer = Counted::new(ArrayVec::new());
+    match put_refusal(&mut writer, Ok(()), refusal) {
+        Ok(()) => Ok(writer.into_inner()),
+        Err(fault) => Err(fault),
+    }
+}
+
+/// What is printed for an answer, from the session's present state.
+fn answer_text<K: Keeper>(
+    session: &Session<K>,
+    said: &Result<Reply, Refusal>,
+) -> Result<Text, WriteFault>
+    requires there { IfOk said.now (λ reply. IsThere reply session.now.moment.state) }
+    ensures { IfOk result (λ text. (h : List Record) → HasPast K.holds session.now h →
+        text.items ≡ text_of_answer (bounds_of K.room session.now) said.now (point_of session.now h)) }
+{
+    let reply = match said {
+        Ok(reply) => reply,
+        Err(refusal) => return refusal_text(*refusal),
+    };
+    let mut writer = Counted::new(ArrayVec::new());
+    match session.write_reply(reply, &mut writer) {
+        Ok(()) => Ok(writer.into_inner()),
+        Err(fault) => Err(fault),
+    }
+}
+
+/// Writes a text into an empty body, in hexadecimal; an error where it is too long.
+fn append_text(text: Result<Text, WriteFault>, body: &mut Body)
+    requires { Holds body.old [] }
+    ensures { MatchResult text (λ text. Holds body.new (hex_text text.items)) (λ _. Holds body.new (error_text 16)) }
+{
+    match text {
+        Ok(text) => body.append_hex(text.as_slice()),
+        Err(_) => append_error(TOO_LONG, body),
+    }
+}

@@ -1,0 +1,268 @@
+//! The parser of requests.
+ghost use Rattle.std.specs.Prelude.{◌≡◌, is_some};
+ghost use Rattle.std.specs.Option.{option_and_then};
+ghost use Rattle.bpf_remote.specs.Numbers.{behind, pair};
+ghost use Rattle.std.specs.Str.{bytes_eq};
+ghost use Rattle.bpfdb_commands.specs.Commands.{bytes_of};
+ghost use Rattle.bpf_remote.specs.Requests.{begun_request, breakpoint, contains, edit_of, memory, register, request_of, set_memory, set_register, slot_of, supported, watch, word_request};
+
+use crate::number::{behind, cut, number, pair, word};
+use crate::request::Request;
+use bpf_isa::Reg;
+use bpf_machine::{ByteString, Edit};
+use bpf_session::{Command, Count, Goal, Stop, Target};
+
+/// The most bytes that an edit writes.
+const LONGEST_BYTES: usize = 256;
+
+/// What the body of a packet asks for.
+pub fn request_of(body: &[u8]) -> Request
+    ensures { result ≡ request_of body.now }
+{
+    match word_request(body) {
+        Some(request) => request,
+        None => match begun_request(body) {
+            Some(request) => request,
+            None => Request::Unknown,
+        },
+    }
+}
+
+/// The request that is a whole word.
+#[tactic(auto, unfolding(crate::specs::Requests::word_request))]
+fn word_request(body: &[u8]) -> Option<Request>
+    ensures { result ≡ word_request body.now }
+{
+    if is(body, "?") {
+        Some(Request::Stop)
+    } else if is(body, "g") {
+        Some(Request::Registers)
+    } else if is(body, "s") {
+        Some(Request::Move(Command::Forward(Goal::Steps(Count::ONE))))
+    } else if is(body, "c") {
+        Some(Request::Move(Command::Forward(Goal::Continue)))
+    } else if is(body, "bs") {
+        Some(Request::Move(Command::Back(Target::Steps(Count::ONE))))
+    } else if is(body, "bc") {
+        Some(Request::Move(Command::Back(Target::Continue)))
+    } else if is(body, "QStartNoAckMode") {
+        Some(Request::Silence)
+    } else {
+        None
+    }
+}
+
+/// The request that begins with a name.
+#[tactic(auto, unfolding(crate::specs::Requests::begun_request))]
+fn begun_request(body: &[u8]) -> Option<Request>
+    ensures { result ≡ begun_request body.now }
+{
+    if let Some(rest) = behind("p", body) {
+        Some(register(rest))
+    } else if let Some(rest) = behind("P", body) {
+        Some(set_register(rest))
+    } else if let Some(rest) = behind("m", body) {
+        Some(memory(rest))
+    } else if let Some(rest) = behind("M", body) {
+        Some(set_memory(rest))
+    } else if let Some(rest) = behind("Z0,", body) {
+        Some(set_break(rest))
+    } else if let Some(rest) = behind("z0,", body) {
+        Some(delete(rest))
+    } else if let Some(rest) = behind("Z2,", body) {
+        Some(watch(rest))
+    } else if let Some(rest) = behind("z2,", body) {
+        Some(unwatch(rest))
+    } else if begins("H", body) {
+        Some(Request::Thread)
+    } else if begins("D", body) {
+        Some(Request::Leave)
+    } else if begins("vKill", body) {
+        Some(Request::Leave)
+    } else if begins("k", body) {
+        Some(Request::Kill)
+    } else if let Some(rest) = behind("qSupported", body) {
+        Some(supported(rest))
+    } else if begins("qAttached", body) {
+        Some(Request::Attached)
+    } else {
+        None
+    }
+}
+
+/// The number of a register.
+fn register(rest: &[u8]) -> Request
+    ensures { result ≡ register rest.now }
+{
+    match number(rest) {
+        Some(n) => Request::Register(n),
+        None => Request::Wrong,
+    }
+}
+
+/// The number of a register, `=`, and its eight bytes.
+fn set_register(rest: &[u8]) -> Request
+    ensures { result ≡ set_register rest.now }
+{
+    let Some((left, right)) = cut(b'=', rest) else {
+        return Request::Wrong;
+    };
+    let (Some(n), Some(value)) = (number(left), word(right)) else {
+        return Request::Wrong;
+    };
+    match edit_of(n, value) {
+        Some(command) => Request::Set(command),
+        None => Request::Wrong,
+    }
+}
+
+/// The edit that sets the register of a number.
+fn edit_of(n: u64, value: u64) -> Option<Command>
+    ensures { result ≡ edit_of n value }
+{
+    if n <= 10 {
+        let register = Reg::new(n as u8)?;
+        return Some(Command::Edit(Edit::Register { register, value }));
+    }
+    if n == 11 && value % 8 == 0 {
+        return Some(Command::Edit(Edit::Pc { slot: value / 8 }));
+    }
+    None
+}
+
+/// An address, a comma and how many bytes.
+fn memory(rest: &[u8]) -> Request
+    ensures { result ≡ memory rest.now }
+{
+    match pair(b',', rest) {
+        Some((address, count)) => Request::Memory { address, count },
+        None => Request::Wrong,
+    }
+}
+
+/// An address, a comma, how many bytes, a colon and the bytes.
+fn set_memory(rest: &[u8]) -> Request
+    ensures { result ≡ set_memory rest.now }
+{
+    let Some((left, right)) = cut(b':', rest) else {
+        return Request::Wrong;
+    };
+    let (Some((address, count)), Some(bytes)) = (pair(b',', left), bytes_of(right)) else {
+        return Request::Wrong;
+    };
+    if bytes.as_slice().len() as u64 == count {
+        Request::Set(Command::Edit(Edit::Bytes { address, bytes }))
+    } else {
+        Request::Wrong
+    }
+}
+
+/// Bytes as hexadecimal digits of either case, two a byte: 1 to 256 bytes.
+#[tactic(auto, using(bpfdb_commands::proofs::Bytes::too_many_bytes))]
+fn bytes_of(digits: &[u8]) -> Option<ByteString>
+    ensures { result ≡ bytes_of digits.now }
+{
+    let len = digits.len() / 2;
+    if len > LONGEST_BYTES {
+        return None;
+    }
+    let mut buffer = [0; LONGEST_BYTES];
+    hex::decode_to_slice(digits, &mut buffer[..len]).ok()?;
+    ByteString::new(&buffer[..len])
+}
+
+/// The slot of an address that is eight times a slot.
+fn slot_of(address: u64) -> Option<u64>
+    ensures { result ≡ slot_of address }
+{
+    if address % 8 == 0 {
+        Some(address / 8)
+    } else {
+        None
+    }
+}
+
+/// The slot of an address, a comma, and a number that says nothing.
+fn slot_at(rest: &[u8]) -> Option<u64>
+    ensures { result ≡ option_and_then (λ p. slot_of p.0) (pair 44 rest.now) }
+{
+    match pair(b',', rest) {
+        Some((address, _)) => slot_of(address),
+        None => None,
+    }
+}
+
+/// Sets a breakpoint.
+fn set_break(rest: &[u8]) -> Request
+    ensures { result ≡ breakpoint Command.Add rest.now }
+{
+    match slot_at(rest) {
+        Some(slot) => Request::Set(Command::Add(Stop::Breakpoint(slot))),
+        None => Request::Wrong,
+    }
+}
+
+/// Removes a breakpoint.
+fn delete(rest: &[u8]) -> Request
+    ensures { result ≡ breakpoint Command.Remove rest.now }
+{
+    match slot_at(rest) {
+        Some(slot) => Request::Set(Command::Remove(Stop::Breakpoint(slot))),
+        None => Request::Wrong,
+    }
+}
+
+/// Sets a watch of one byte.
+fn watch(rest: &[u8]) -> Request
+    ensures { result ≡ watch Command.Add rest.now }
+{
+    match pair(b',', rest) {
+        Some((address, 1)) => Request::Set(Command::Add(Stop::Watch(address))),
+        _ => Request::Wrong,
+    }
+}
+
+/// Removes a watch of one byte.
+fn unwatch(rest: &[u8]) -> Request
+    ensures { result ≡ watch Command.Remove rest.now }
+{
+    match pair(b',', rest) {
+        Some((address, 1)) => Request::Set(Command::Remove(Stop::Watch(address))),
+        _ => Request::Wrong,
+    }
+}
+
+/// Words that gdb understands.
+fn supported(rest: &[u8]) -> Request
+    ensures { result ≡ supported rest.now }
+{
+    Request::Supported {
+        swbreak: contains("swbreak+", rest),
+    }
+}
+
+/// Whether a text stands in another.
+fn contains(name: &str, text: &[u8]) -> bool
+    ensures { result ≡ contains name.now text.now }
+{
+    for i in 0..text.len() {
+        if begins(name, &text[i..]) {
+            return true;
+        }
+    }
+    false
+}
+
+/// Whether a text begins with a name.
+fn begins(name: &str, text: &[u8]) -> bool
+    ensures { result ≡ is_some (behind name.now text.now) }
+{
+    behind(name, text).is_some()
+}
+
+/// Whether a body is this text; case matters.
+fn is(body: &[u8], text: &str) -> bool
+    ensures { result ≡ bytes_eq body.now text.now }
+{
+    body == text.as_bytes()
+}

@@ -1,0 +1,36 @@
+//! Requests: what the body of a packet asks for.
+
+use bpf_session::Command;
+
+/// What a packet asks for.
+#[derive(Drop)]
+pub enum Request {
+    /// `s`, `c`, `bs`, `bc`: a command that moves. It is answered by where it stopped.
+    Move(Command),
+    /// `P`, `M`, `Z`, `z`: a command that changes something. It is answered by `OK`.
+    Set(Command),
+    /// `?`: where the machine stands.
+    Stop,
+    /// `g`: all registers.
+    Registers,
+    /// `p`: the register of a number.
+    Register(u64),
+    /// `m`: so many bytes from an address on.
+    Memory { address: u64, count: u64 },
+    /// `qSupported`: what is understood. The word `swbreak+` may stand in it.
+    Supported { swbreak: bool },
+    /// `QStartNoAckMode`: packets aren't acknowledged any more.
+    Silence,
+    /// `qAttached`: whether the machine was there before.
+    Attached,
+    /// `H`: the thread that other requests are about; there is one.
+    Thread,
+    /// `D`, `vKill`: gdb leaves.
+    Leave,
+    /// `k`: gdb leaves without an answer.
+    Kill,
+    /// A request of these, whose arguments are wrong.
+    Wrong,
+    /// Any other.
+    Unknown,
+}

@@ -1,0 +1,219 @@
+//! Connections: the items of a stream, answered one after another.
+ghost use Rattle.std.specs.Prelude.{◌≡◌, ◌≤◌, Bool, IfErr, IfOk, List, OnOk, length, ℕ};
+ghost use Rattle.counted_io.specs.Counted.{Tally};
+ghost use Rattle.counted_io.specs.Writing.{Writes, WritesAfter};
+ghost use Rattle.bpf_remote.specs.Answers.{sent};
+ghost use Rattle.bpf_remote.specs.Connections.{acknowledgement, packet};
+ghost use Rattle.bpf_remote.specs.Packets.{Holds, framed, longest_body};
+ghost use Rattle.bpf_remote.specs.Serving.{Breaks, Serves};
+ghost use Rattle.bpf_remote.specs.Turning.{AnswersBody, AnswersLine, AnswersRequest, TakesTurn};
+
+use crate::answer::append_answer;
+use crate::body::Body;
+use crate::manners::Manners;
+use crate::number::behind;
+use crate::obeying::{goes_on, is_answered, manners_after, obey, obey_line};
+use crate::packet::put_packet;
+use crate::parser::request_of;
+use crate::stream::{Item, next_item};
+use bpf_journal::Keeper;
+use bpf_session::{RunFault, Session};
+use counted_io::{Counted, WriteFault, write_text};
+use std::io::{Read, Write};
+
+/// Serves a connection: answers each packet of a stream, up to its end or until gdb leaves. The writer is flushed after each
+/// answer. It takes no memory.
+pub fn serve<K: Keeper, R: Read, W: Write>(
+    session: &mut Session<K>,
+    reader: &mut Counted<R>,
+    writer: &mut Counted<W>,
+) -> Result<(), RunFault>
+    ensures ok { OnOk result (Serves K.holds K.refused K.room R.remaining W.contents
+        (record { from = session.old; to = session.new; reader = reader.old; reader' = reader.new; writer = writer.old; writer' = writer.new })) }
+    ensures err { IfErr result (λ why. Breaks K.holds K.refused K.room R.remaining W.contents why
+        (record { from = session.old; to = session.new; reader = reader.old; reader' = reader.new; writer = writer.old; writer' = writer.new })) }
+{
+    let mut manners = Manners {
+        acknowledges: true,
+        swbreak: false,
+    };
+    let mut request = Body::new();
+    let mut answer = Body::new();
+    'items: loop {
+        let item = match next_item(reader, &mut request) {
+            Err(_) => return Err(RunFault::Read),
+            Ok(item) => item,
+        };
+        if item.is_end() {
+            return Ok(());
+        }
+        let on = match take_turn(session, &mut manners, item, &request, &mut answer, writer) {
+            Err(_) => return Err(RunFault::Write),
+            Ok(on) => on,
+        };
+        if !on {
+            return Ok(());
+        }
+    }
+}
+
+/// Answers an item, and flushes the writer. Answers whether the connection goes on.
+fn take_turn<K: Keeper, W: Write>(
+    session: &mut Session<K>,
+    manners: &mut Manners,
+    item: Item,
+    request: &Body,
+    answer: &mut Body,
+    writer: &mut Counted<W>,
+) -> Result<bool, WriteFault>
+    ensures { (on : Bool) × IfOk result (λ more. more ≡ on) × TakesTurn K.holds K.refused K.room W.contents
+        (record { session = session.old; manners = manners.old; answer = answer.old; writer = writer.old })
+        (record { session = session.new; manners = manners.new; answer = answer.new; writer = writer.new }) result on item request.now }
+{
+    let (told, on) = answer_item(session, manners, item, request, answer, writer);
+    flush(writer, told, on)
+}
+
+/// Flushes the writer where nothing failed before. Answers what it is given.
+fn flush<W: Write>(
+    writer: &mut Counted<W>,
+    told: Result<(), WriteFault>,
+    on: bool,
+) -> Result<bool, WriteFault>
+    ensures written { (first : Tally W) (text : List ℕ) → Writes W.contents first writer.old told text → Writes W.contents first writer.new result text }
+    ensures ok { IfOk result (λ more. more ≡ on) }
+{
+    match told {
+        Err(fault) => return Err(fault),
+        Ok(()) => {}
+    }
+    match writer.flush() {
+        Ok(()) => Ok(on),
+        Err(_) => Err(WriteFault),
+    }
+}
+
+/// Answers an item.
+fn answer_item<K: Keeper, W: Write>(
+    session: &mut Session<K>,
+    manners: &mut Manners,
+    item: Item,
+    request: &Body,
+    answer: &mut Body,
+    writer: &mut Counted<W>,
+) -> (Result<(), WriteFault>, bool)
+    ensures { TakesTurn K.holds K.refused K.room W.contents
+        (record { session = session.old; manners = manners.old; answer = answer.old; writer = writer.old })
+        (record { session = session.new; manners = manners.new; answer = answer.new; writer = writer.new }) result.0 result.1 item request.now }
+{
+    match item {
+        Item::Packet => match request.bytes() {
+            Some(body) => answer_body(session, manners, body, answer, writer),
+            None => (Ok(()), true),
+        },
+        Item::Damaged => (write_text(writer, b"-"), true),
+        Item::Again => (put_sent(writer, Ok(()), answer), true),
+        Item::End => (Ok(()), true),
+    }
+}
+
+/// Answers a packet with this body.
+fn answer_body<K: Keeper, W: Write>(
+    session: &mut Session<K>,
+    manners: &mut Manners,
+    body: &[u8],
+    answer: &mut Body,
+    writer: &mut Counted<W>,
+) -> (Result<(), WriteFault>, bool)
+    requires { length body.now ≤ longest_body }
+    ensures { AnswersBody K.holds K.refused K.room W.contents
+        (record { session = session.old; manners = manners.old; answer = answer.old; writer = writer.old })
+        (record { session = session.new; manners = manners.new; answer = answer.new; writer = writer.new }) result.0 result.1 body.now }
+{
+    match behind("qRcmd,", body) {
+        Some(digits) => (answer_line(session, *manners, digits, answer, writer), true),
+        None => answer_request(session, manners, body, answer, writer),
+    }
+}
+
+/// Answers a line of a script, which hexadecimal digits spell.
+fn answer_line<K: Keeper, W: Write>(
+    session: &mut Session<K>,
+    manners: Manners,
+    digits: &[u8],
+    answer: &mut Body,
+    writer: &mut Counted<W>,
+) -> Result<(), WriteFault>
+    requires { length digits.now ≤ longest_body }
+    ensures { AnswersLine K.holds K.refused K.room W.contents
+        (record { session = session.old; manners = manners; answer = answer.old; writer = writer.old })
+        (record { session = session.new; manners = manners; answer = answer.new; writer = writer.new }) result digits.now }
+{
+    let begun = acknowledge(manners, writer);
+    answer.clear();
+    obey_line(session, digits, answer);
+    put_sent(writer, begun, answer)
+}
+
+/// Answers a request.
+fn answer_request<K: Keeper, W: Write>(
+    session: &mut Session<K>,
+    manners: &mut Manners,
+    body: &[u8],
+    answer: &mut Body,
+    writer: &mut Counted<W>,
+) -> (Result<(), WriteFault>, bool)
+    ensures { AnswersRequest K.holds K.refused K.room W.contents
+        (record { session = session.old; manners = manners.old; answer = answer.old; writer = writer.old })
+        (record { session = session.new; manners = manners.new; answer = answer.new; writer = writer.new }) result.0 result.1 body.now }
+{
+    let begun = acknowledge(*manners, writer);
+    let request = request_of(body);
+    let told = obey(session, &request);
+    answer.clear();
+    append_answer(told, session.cpu(), manners.swbreak, answer);
+    *manners = manners_after(&request, *manners);
+    let wrote = put_answer(writer, begun, answer, is_answered(&request));
+    (wrote, goes_on(&request))
+}
+
+/// Acknowledges a packet, where that is wanted.
+fn acknowledge<W: Write>(manners: Manners, writer: &mut Counted<W>) -> Result<(), WriteFault>
+    ensures { Writes W.contents writer.old writer.new result (acknowledgement manners) }
+{
+    if manners.acknowledges {
+        write_text(writer, b"+")
+    } else {
+        Ok(())
+    }
+}
+
+/// Writes the packet of an answer, where there is to be one.
+fn put_answer<W: Write>(
+    writer: &mut Counted<W>,
+    so_far: Result<(), WriteFault>,
+    answer: &Body,
+    is_answered: bool,
+) -> Result<(), WriteFault>
+    ensures { (text : List ℕ) → Holds answer.now text → WritesAfter W.contents writer.old so_far writer.new result (packet is_answered text) }
+{
+    if is_answered {
+        put_sent(writer, so_far, answer)
+    } else {
+        so_far
+    }
+}
+
+/// Writes the packet of an answer, or of an error where it is too long.
+fn put_sent<W: Write>(
+    writer: &mut Counted<W>,
+    so_far: Result<(), WriteFault>,
+    answer: &Body,
+) -> Result<(), WriteFault>
+    ensures { (text : List ℕ) → Holds answer.now text → WritesAfter W.contents writer.old so_far writer.new result (framed (sent text)) }
+{
+    match answer.bytes() {
+        Some(bytes) => put_packet(writer, so_far, bytes),
+        None => put_packet(writer, so_far, b"E10"),
+    }
+}

@@ -1,0 +1,9 @@
+//! Tests of the remote protocol: packets that are played to a session, and what it tells.
+#![tactic(auto)]
+
+#[cfg(test)]
+mod play;
+#[cfg(test)]
+mod requests;
+#[cfg(test)]
+mod streams;

@@ -1,0 +1,130 @@
+//! Connections that are played. Each row of a table is the body of a packet and that of its answer, with a bar between; a row that
+//! begins with `> ` is a line of a script and its reply.
+use bpf_isa::{MapTable, check};
+use bpf_journal::RingKeeper;
+use bpf_machine::Cpu;
+use bpf_remote::serve;
+use bpf_session::{Count, Counted, Session};
+use std::alloc::Global;
+use std::process::Abort;
+
+/// The machine of a program in hexadecimal digits, without a context.
+fn machine(rt: &impl Abort, alloc: Global, program: &str) -> Cpu {
+    let bytes = hex::decode(alloc, program).ok().expect(rt, "no digits");
+    let program = check(alloc, &bytes, &MapTable::empty())
+        .ok()
+        .expect(rt, "refused");
+    Cpu::open(alloc, program, &[]).ok().expect(rt, "not opened")
+}
+
+/// A session over a machine, with an empty journal and a limit of steps.
+fn session_over(rt: &impl Abort, alloc: Global, cpu: Cpu, limit: u64) -> Session<RingKeeper> {
+    let limit = Count::new(limit).expect(rt, "no limit");
+    match RingKeeper::open(alloc, 4096) {
+        Ok(keeper) => Session::open(cpu, keeper, limit.get()),
+        Err(_) => panic!(rt; "no journal"),
+    }
+}
+
+/// The session of a program in hexadecimal digits, with a limit of steps.
+pub fn session(rt: &impl Abort, alloc: Global, program: &str, limit: u64) -> Session<RingKeeper> {
+    session_over(rt, alloc, machine(rt, alloc, program), limit)
+}
+
+/// What is told to a stream.
+pub fn told(
+    rt: &impl Abort,
+    alloc: Global,
+    session: &mut Session<RingKeeper>,
+    stream: &[u8],
+) -> Vec<u8> {
+    let mut told = Vec::new(alloc);
+    let mut reader = Counted::new(stream);
+    let mut writer = Counted::new(&mut told);
+    assert!(rt; serve(session, &mut reader, &mut writer).is_ok());
+    told
+}
+
+/// Puts a text behind others.
+pub fn append(rt: &impl Abort, text: &mut Vec<u8>, more: &[u8]) {
+    text.extend_from_slice(more).expect(rt, "no memory");
+}
+
+/// Puts the packet of a body behind others.
+fn append_packet(rt: &impl Abort, packets: &mut Vec<u8>, body: &[u8]) {
+    append(rt, packets, b"$");
+    append(rt, packets, body);
+    append(rt, packets, b"#");
+    let mut sum = 0u8;
+    for byte in body {
+        sum = sum.wrapping_add(*byte);
+    }
+    append_hex(rt, packets, &[sum]);
+}
+
+/// Puts hexadecimal digits behind others.
+fn append_hex(rt: &impl Abort, text: &mut Vec<u8>, bytes: &[u8]) {
+    for byte in bytes {
+        append(rt, text, &[digit(byte / 16), digit(byte % 16)]);
+    }
+}
+
+fn digit(value: u8) -> u8 {
+    *b"0123456789abcdef".get(usize::from(value)).unwrap_or(&b'?')
+}
+
+/// The body of a row's packet.
+fn append_request(rt: &impl Abort, body: &mut Vec<u8>, row: &str) {
+    match row.strip_prefix("> ") {
+        Some(line) => {
+            append(rt, body, b"qRcmd,");
+            append_hex(rt, body, line.as_bytes());
+        }
+        None => append(rt, body, row.as_bytes()),
+    }
+}
+
+/// The body of its answer. A reply is one line.
+fn append_answer(rt: &impl Abort, body: &mut Vec<u8>, row: &str, answer: &str) {
+    if row.starts_with("> ") && answer != "OK" {
+        append_hex(rt, body, answer.as_bytes());
+        append_hex(rt, body, b"\n");
+    } else {
+        append(rt, body, answer.as_bytes());
+    }
+}
+
+/// Plays a table's rows to a session, a connection a row.
+pub fn plays(rt: &impl Abort, alloc: Global, session: &mut Session<RingKeeper>, table: &str) {
+    for row in table.lines() {
+        if let Some((request, answer)) = row.split_once('|') {
+            play_row(rt, alloc, session, request, answer);
+        }
+    }
+}
+
+/// Plays a row.
+fn play_row(
+    rt: &impl Abort,
+    alloc: Global,
+    session: &mut Session<RingKeeper>,
+    request: &str,
+    answer: &str,
+) {
+    let mut body = Vec::new(alloc);
+    append_request(rt, &mut body, request);
+    let mut stream = Vec::new(alloc);
+    append_packet(rt, &mut stream, &body);
+    let mut wanted = Vec::new(alloc);
+    append(rt, &mut wanted, b"+");
+    let mut text = Vec::new(alloc);
+    append_answer(rt, &mut text, request, answer);
+    append_packet(rt, &mut wanted, &text);
+    let found = told(rt, alloc, session, &stream);
+    check_bytes(rt, &found, &wanted, request);
+}
+
+/// Stops unless bytes are those that are wanted.
+pub fn check_bytes(rt: &impl Abort, found: &[u8], wanted: &[u8], what: &str) {
+    assert_eq!(rt; found, wanted, "{what}");
+}
