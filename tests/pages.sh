@@ -151,7 +151,7 @@ refusals() {
         BEGIN {
             letter["LoadFault"] = letter["PieceFault"] = letter["WordFault"] = "C"
             letter["LineFault"] = letter["AsmFault"] = "A"
-            letter["MapFault"] = "M"; letter["OpenFault"] = "O"; letter["JournalFault"] = "J"; letter["Refusal"] = "Q"
+            letter["MapFault"] = "M"; letter["LinkFault"] = "E"; letter["OpenFault"] = "O"; letter["JournalFault"] = "J"; letter["Refusal"] = "Q"
         }
         { gsub(/\(_\)/, ""); gsub(/ \| [A-Za-z]+::[A-Za-z]+/, "") }
         match($0, /[A-Za-z]+::[A-Za-z]+ => ([0-9]+|"[^"]*"),$/) {
@@ -161,7 +161,7 @@ refusals() {
             else number[parts[1]] = parts[2]
         }
     ' | sort -u > "$work/numbers"
-    sed -n 's/^| \([CAMOJQ][0-9]*\) | \([^|]*\) |.*/\1 \2/p' docs/COMMANDS.md | sort > "$work/rows"
+    sed -n 's/^| \([CAMEOJQ][0-9]*\) | \([^|]*\) |.*/\1 \2/p' docs/COMMANDS.md | sort > "$work/rows"
     diff "$work/numbers" "$work/rows" > "$work/diff" && [ -s "$work/numbers" ] && return
     fault "docs/COMMANDS.md has other refusals ('>') than the crates ('<'):"
     cat "$work/diff"

@@ -35,6 +35,26 @@ chmod 000 secret
 # (who is root may read it)
 [ -r secret ] || unreadable secret
 
+# Control bytes in a name are shown as `\xNN`, so that it ends no line and steers no terminal; all others as they are.
+while IFS='|' read -r shown name; do
+    name=$(printf '%b' "$name")
+    for subcommand in run debug asm disasm check; do
+        printf 'stepi\n' > script
+        run $subcommand -- "$name"
+        printf 'cannot read %s\n' "$shown" > line
+        check_line "$subcommand of a file named $shown"
+    done
+    run debug -m "$name" program
+    check_line "debug -m with a file named $shown"
+done <<'ROWS'
+two\x0alines|two\nlines
+\x1b[31mred|\033[31mred
+a\x01b\x1fc\x7fd|a\001b\037c\0177d
+\x09\x0d.|\t\r.
+\\x0a|\\\\x0a
+é~ \x0b|é~ \v
+ROWS
+
 # Names that are odd, and can be read.
 for odd in 'two words' -m --listing run 'a=b' ';' é '*' "$(printf 'two\nlines')"; do
     cp program "./$odd"
@@ -64,10 +84,10 @@ refused 'refused A6 at line 1: byte outside ASCII text' run --listing -m program
 for subcommand in run debug disasm check; do
     refused 'refused C1: empty program' $subcommand /dev/null
     refused 'refused C2: program too long' $subcommand /dev/zero
-    refused 'cannot read /dev/zero: longer than 67108864 bytes' $subcommand --listing /dev/zero
+    refused 'cannot read /dev/zero' $subcommand --listing /dev/zero
 done
 result '' asm /dev/null
-refused 'cannot read /dev/zero: longer than 67108864 bytes' asm /dev/zero
+refused 'cannot read /dev/zero' asm /dev/zero
 result '0x2a\n' run -m /dev/null program
 refused 'refused O1: context too long' run -m /dev/zero program
 refused 'refused O1: context too long' debug -m /dev/zero program
@@ -76,7 +96,7 @@ refused 'refused A6 at line 1: byte outside ASCII text' run --listing -m /dev/ze
 head -c 67108864 /dev/zero | tr '\0' ';' > longest.s
 result '' asm longest.s
 printf ';' >> longest.s
-refused 'cannot read longest.s: longer than 67108864 bytes' asm longest.s
+refused 'cannot read longest.s' asm longest.s
 rm longest.s
 
 # refused_in_60_mb LINE ARGUMENT..: refused so, where the program may have no more memory than that.

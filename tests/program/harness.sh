@@ -29,6 +29,14 @@ check() {
     compare "$1"
 }
 
+# check_line NAME: the last run wrote nothing but the line of the file `line`, to standard error, and its status is 2.
+check_line() {
+    echo 2 > wanted/status
+    : > wanted/out
+    cp line wanted/err
+    compare "$1"
+}
+
 # agree FILE: what was found in it is what was wanted. (Where both are empty no other program is called.)
 agree() {
     if [ -s "wanted/$1" ] || [ -s "found/$1" ]; then
@@ -135,4 +143,34 @@ same() {
     echo "  bytes ('<' of $2, '>' of $3):"
     diff wanted/bytes found/bytes | head -n 10
     return 1
+}
+
+# compile NAME: a program of tests/trials, by the clang of the kit, with the kit's own files of the C library.
+compile() {
+    kit=$(dirname "$(rt doc)")
+    library=$kit/toolchain/lib
+    "$kit/toolchain/bin/clang" -fuse-ld=lld -O1 -nostdlib -ffreestanding -fno-stack-protector -o "$1" "$top/tests/trials/$1.c" \
+        "$library/Scrt1.o" "$library/crti.o" "$library/libc.so.6" "$library/crtn.o" -Wl,-dynamic-linker,/lib64/ld-linux-x86-64.so.2 ||
+        complain "tests/trials/$1.c can't be compiled by the clang of the kit, $kit"
+}
+
+# spread NAME WORD..: a program of trials in as many processes as there are processors, each in a folder of its own, with these words: the
+# program to try, the number of the process from 0 on, how many processes there are, and what else it takes. What fails is told,
+# and counted.
+spread() {
+    trial=$PWD/$1 processes=$(nproc)
+    shift
+    for process in $(seq 0 $((processes - 1))); do
+        mkdir "$process" || exit 1
+        (cd "$process" && exec "$trial" "$program" "$process" "$processes" "$@" > told 2>&1) &
+        started="$started $!"
+    done
+    for process in $started; do
+        wait "$process"
+        [ $? -le 1 ] || complain "$trial ended with status $?"
+    done
+    started=''
+    cat [0-9]*/told | grep -a -v '^[0-9]* trials'
+    count=$((count + $(cat [0-9]*/told | awk '/^[0-9]+ trials/ { sum += $1 } END { print sum + 0 }')))
+    failures=$((failures + $(cat [0-9]*/told | grep -a -c '^FAILED: ')))
 }

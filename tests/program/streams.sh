@@ -4,6 +4,7 @@ unread='cannot read input\n'
 unwritten='cannot write output\n'
 bytes program b7 00 00 00 2a 00 00 00 EXIT
 bytes endless 05 00 ff ff 00 00 00 00
+bytes faulting 71 10 00 00 00 00 00 00 EXIT
 printf 'mov r0, 42\nexit\n' > program.s
 : > empty
 cp "$top/crates/bpfdb/stdin" script
@@ -29,6 +30,22 @@ found 'debug: closed input' 0 '' ''
 found 'debug: closed input, a refused program' 2 '' 'refused C3: length is no multiple of 8\n'
 "$program" run -m program program <&- > found/out 2> found/err
 found 'run: closed input' 0 '0x2a\n' ''
+
+# An input that is open, but not for reading, is no closed one: it can't be read.
+for other in other /dev/null; do
+    "$program" 0> $other > found/out 2> found/err
+    found "input that is open for writing alone, $other" 2 '' "$unread"
+    "$program" debug program 0> $other > found/out 2> found/err
+    found "debug: input that is open for writing alone, $other" 2 '' "$unread"
+    "$program" run program 0> $other > found/out 2> found/err
+    found "run: input that is open for writing alone, $other" 0 '0x2a\n' ''
+    "$program" debug --journal 1023 program 0> $other > found/out 2> found/err
+    found "debug: input that is open for writing alone, $other, and a refused journal" 2 '' 'refused J1: journal size out of range\n'
+done
+"$program" debug program 0>> other > found/out 2> found/err
+found 'debug: input that is open for appending alone' 2 '' "$unread"
+"$program" debug program 0<> other > found/out 2> found/err
+found 'debug: input that is open for reading and writing' 0 '' ''
 
 # each WAY: what each command line that writes comes to with an output that fails, with WAY to run it.
 each() {
@@ -115,6 +132,7 @@ run missing
 run -m missing program
 run empty
 run --steps 7 endless
+run faulting
 run --maps 0x1 program
 debug empty
 debug --journal 1023 program

@@ -86,6 +86,8 @@ usage "unrecognized subcommand 'frob'" help frob
 usage "unrecognized subcommand 'RUN'" RUN first
 usage "unrecognized subcommand ''" ''
 usage "unexpected argument '--frob' found" --frob
+usage "unexpected argument '\\\\x1b[31mred' found" run first "$(printf '\033[31mred')"
+usage "unrecognized subcommand 'b\\\\x07'" "$(printf 'b\007')"
 usage "unexpected argument '--steps' found" --steps 7 run first
 usage "unexpected argument '-x' found" run -x first
 usage "unexpected argument '--step' found" run --step 7 first

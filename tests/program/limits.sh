@@ -1,0 +1,169 @@
+# As much as the limits allow: the longest programs, contexts, listings, scripts and journals, sixteen full maps, and little stack.
+
+sixteen=256x256,256x256,256x256,256x256,256x256,256x256,256x256,256x256
+sixteen=$sixteen,$sixteen
+yes 'add r0, 1' | head -n 65534 > longest.s
+echo exit >> longest.s
+yes "$(printf '\7\1\1\1\2\1\1')" | tr '\1\2\n' '\0\1\0' | head -c 524272 > longest
+printf '\225\0\0\0\0\0\0\0' >> longest
+yes "$(printf '\377')" | tr '\n' '\252' | head -c 65536 > context
+
+# output NAME FILE ARGUMENT..: the program's output is that of the file, nothing is on standard error, and the status is 0.
+output() {
+    name=$1
+    cp "$2" wanted/out
+    shift 2
+    : > wanted/err
+    echo 0 > wanted/status
+    run "$@"
+    compare "$name"
+}
+
+# The longest program of instructions of one slot, with all maps and the longest context, through each subcommand.
+: > script
+result '0xfffe\n' run -m context --maps $sixteen longest
+result '0xfffe\n' run -m context --maps $sixteen --listing longest.s
+result 'ok 65535 instructions in 65535 slots\n' check --maps $sixteen longest
+result 'ok 65535 instructions in 65535 slots\n' check --maps $sixteen --listing longest.s
+output 'asm of the longest program' longest asm longest.s
+output 'disasm of the longest program' longest.s disasm --maps $sixteen longest
+output 'disasm of the longest listing' longest.s disasm --maps $sixteen --listing longest.s
+value=$(printf '%0512d' 1)
+# full NAME ARGUMENT..: a session in the largest machine: to its end, edits of its last bytes, and all of that taken back.
+full() {
+    session "$1" "stepi 65534\ninfo history\nset mem 0x10000ffff 77\nset cell 15 255 $value\nx 0x10000fffe 2\nx 0x300f0ff00 256\n\
+watch 0x300f0ffff\nbreak 65534\ndisas 65534 256\nlast-write 0x300f0ffff\nundo 3\nx 0x10000fffe 2\nx 0x300f0fffe 2\nrc\ncontinue\n" \
+        "65534 forward; done; at 65534: exit\n65534 moves, 1 commands, 1048544 of 16777216 bytes\nok\nok\n0x10000fffe: ff77\n\
+0x300f0ff00: $value\nok\nok\n65534: exit\nchanged 1 moves back: 0x0 to 0x1\n65536 back; done; at 0: add r0, 1\n0x10000fffe: ffaa\n\
+0x300f0fffe: 0000\nrefused Q4: no kept step\n65534 forward; break; at 65534: exit\n" \
+        debug -m context --maps $sixteen --journal 16777216 longest
+}
+full 'the largest machine'
+
+# A program that reaches the last byte of each map, and of the context.
+{
+    for map in 0 1 2 3 4 5 6 7 8 9 10 11 12 13 14 15; do
+        printf 'ldmapval r3, %s, 65535\nldxb r4, [r3+0]\nadd r0, r4\nstb [r3+0], 1\nldxb r4, [r3+0]\nadd r0, r4\n' $map
+    done
+    printf 'add r1, r2\nldxb r4, [r1-1]\nadd r0, r4\nexit\n'
+} > reach.s
+result '0xba\n' run -m context --maps $sixteen --listing reach.s
+
+# The longest program of wide loads.
+yes 'lddw r0, 0x1122334455667788' | head -n 32767 > wide.s
+echo exit >> wide.s
+result 'ok 32768 instructions in 65535 slots\n' check --listing wide.s
+result '0x1122334455667788\n' run --listing wide.s
+output 'disasm of the longest program of wide loads' wide.s disasm --listing wide.s
+
+# As many labels as there are slots: each jump goes to the next slot.
+awk 'BEGIN { for (i = 0; i < 65534; i++) printf "slot_%d: ja slot_%d\n", i, i + 1; print "slot_65534: exit" }' > labels.s
+awk 'BEGIN { for (i = 0; i < 65534; i++) printf "%sja L%d\n", i ? "L" i ":\n" : "", i + 1; print "L65534:\nexit" }' > canonical.s
+yes "$(printf '\5\1\1\1\1\1\1')" | tr '\1\n' '\0\0' | head -c 524272 > jumps
+printf '\225\0\0\0\0\0\0\0' >> jumps
+output 'asm of 65,535 labels' jumps asm labels.s
+output 'asm of the same labels, as they are written back' jumps asm canonical.s
+output 'disasm of 65,535 labels' canonical.s disasm jumps
+result '0x0\n' run jumps
+
+# Listings of two megabytes: of 65,535 lines, of one line, and of lines without an instruction.
+yes 'add r0, 1 ; 0123456789012345678' | head -n 65534 > two.s
+printf 'exit' >> two.s
+result 'ok 65535 instructions in 65535 slots\n' check --listing two.s
+result '0xfffe\n' run --listing two.s
+output 'asm of a listing of 2 MB' longest asm two.s
+output 'disasm of a listing of 2 MB' longest.s disasm --listing two.s
+{
+    head -c 1000000 /dev/zero | tr '\0' 'n'
+    printf ': mov r0, '
+    head -c 1000000 /dev/zero | tr '\0' '0'
+    printf '7\nexit ;'
+    head -c 1000000 /dev/zero
+} > line.s
+result 'ok 2 instructions in 2 slots\n' check --listing line.s
+result '0x7\n' run --listing line.s
+{
+    head -c 2000000 /dev/zero | tr '\0' '\n'
+    printf 'frob'
+} > lines.s
+refused 'refused A1 at line 2000001: unknown mnemonic' asm lines.s
+
+# Scripts of a megabyte and more: of short lines, of one line, and of blank lines.
+yes 'info trace' | head -n 100000 > script
+yes 'trace 0' | head -n 100000 > stated
+output 'a script of 100,000 commands' stated debug longest
+head -c 2000000 /dev/zero | tr '\0' 'x' > script
+printf 'refused Q12: line too long\n' > stated
+output 'a script of one line of 2,000,000 bytes' stated debug longest
+head -c 2000000 /dev/zero | tr '\0' '\n' > script
+echo quit >> script
+yes stepi | head -n 200000 >> script
+: > stated
+output 'a script of 2,000,000 blank lines' stated debug longest
+awk 'BEGIN { for (i = 0; i < 20000; i++) print "stepi 3\nset reg r1 0x" i "\nundo\nreverse-stepi 3\nfrob" }' > script
+awk 'BEGIN { for (i = 0; i < 20000; i++) print "3 forward; done; at 3: add r0, 1\nok\n1 back; done; at 3: add r0, 1\n" \
+    "3 back; done; at 0: add r0, 1\nrefused Q1: unknown command" }' > stated
+output 'a script of 100,000 commands there and back' stated debug longest
+
+# The largest journal: a command of 100,000 steps, then as many steps as it holds, to the last byte, which are all taken back. A step
+# more drops the oldest, which began the command. (Four steps of 16 bytes, and 2,396,736 of 7: 16,777,216.)
+bytes endless 05 00 ff ff 00 00 00 00
+session 'the largest journal' 'stepi 100000\ninfo history\nundo\ninfo history\n' \
+    "100000 forward; done; at 0: ja L0\n100000 moves, 1 commands, 700000 of 16777216 bytes\n100000 back; done; at 0: ja L0\n\
+0 moves, 0 commands, 0 of 16777216 bytes\n" debug --journal 16777216 endless
+printf 'mov r0, 1\nmov r0, 2\nmov r0, 3\nmov r0, 4\nend: ja end\n' > five.s
+session 'the largest journal, full' "stepi 2396740\ninfo history\nreverse-stepi 2396740\ninfo history\nstepi 2396740\nstepi\ninfo history\n\
+undo\ninfo history\nundo\nreverse-stepi 1000000000\ninfo history\n" \
+    "2396740 forward; done; at 4: ja L4\n2396740 moves, 1 commands, 16777216 of 16777216 bytes\n2396740 back; done; at 0: mov r0, 1\n\
+0 moves, 0 commands, 0 of 16777216 bytes\n2396740 forward; done; at 4: ja L4\n1 forward; done; at 4: ja L4\n\
+2396740 moves, 1 commands, 16777207 of 16777216 bytes\n1 back; done; at 4: ja L4\n2396739 moves, 0 commands, 16777200 of 16777216 bytes\n\
+refused Q5: fewer kept commands\n2396739 back; start; at 1: mov r0, 2\n0 moves, 0 commands, 0 of 16777216 bytes\n" \
+    debug --journal 16777216 --steps 1000000000 --listing five.s
+session 'the smallest journal, full' 'stepi 100000\ninfo history\nreverse-stepi 146\nreverse-stepi\n' \
+    "100000 forward; done; at 4: ja L4\n146 moves, 0 commands, 1022 of 1024 bytes\n146 back; done; at 4: ja L4\n\
+refused Q4: no kept step\n" debug --journal 1024 --listing five.s
+
+# Little stack: 256 kB are enough for all of this, and for help and a command line that is none.
+(
+    ulimit -s 256
+    failures=0
+    result '0xfffe\n' run -m context --maps $sixteen longest
+    result '0xfffe\n' run -m context --maps $sixteen --listing two.s
+    result 'ok 65535 instructions in 65535 slots\n' check --maps $sixteen --listing two.s
+    result '0x7\n' run --listing line.s
+    output 'asm with 256 kB of stack' jumps asm labels.s
+    output 'disasm with 256 kB of stack' canonical.s disasm --maps $sixteen jumps
+    full 'the largest machine with 256 kB of stack'
+    usage "unrecognized subcommand 'rum'" rum longest
+    output 'help with 256 kB of stack' "$parts/help/bpfdb.txt" --help
+    exit "$failures"
+)
+failures=$((failures + $?))
+count=$((count + 9))
+
+# Little memory of all kinds: the work is done, or one line says that memory ran out. 40,000 kB are enough for each of these.
+for room in 6000 8000 10000 12000 14000 16000 18000 20000 25000 30000 40000; do
+    while read -r arguments; do
+        count=$((count + 1))
+        # (the words of a row are without blanks)
+        (
+            ulimit -v "$room"
+            exec "$program" $arguments
+        ) < /dev/null > found/out 2> found/err
+        found=$?
+        line=$(cat found/err)
+        case $found,$room,$line in
+            0,*,) continue ;;
+            2,40000,*) ;;
+            2,*,'out of memory' | 2,*,'refused '[ACOJ]*': out of memory') [ -s found/out ] || continue ;;
+        esac
+        complain "bpfdb $arguments in $room kB: status $found, $(wc -c < found/out) bytes of output, on standard error '$line'"
+    done <<ROWS
+run -m context --maps $sixteen longest
+debug -m context --maps $sixteen --journal 16777216 longest
+disasm --maps $sixteen longest
+check --listing two.s
+asm labels.s
+run --listing line.s
+ROWS
+done
