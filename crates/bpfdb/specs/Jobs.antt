@@ -1,5 +1,5 @@
 -- The job of a plan.
-use Rattle.std.specs.Prelude.{ℕ, ◌≡◌, List, Option, option_map}
+use Rattle.std.specs.Prelude.{ℕ, ◌≡◌, List, [], Option, Some, None, option_map}
 use Rattle.std.specs.Borrow.{Bor}
 use Rattle.bpfdb_cli.specs.declared.plans.Plan.{Plan}
 use Rattle.bpfdb_cli.specs.declared.plans.Subcommand.{Subcommand}
@@ -15,10 +15,16 @@ kind_of subcommand.Debug = kind.Debug
 kind_of subcommand.Asm = kind.Asm
 kind_of subcommand.Disasm = kind.Disasm
 kind_of subcommand.Check = kind.Check
+kind_of subcommand.Link = kind.Link
 
 -- The bytes of a text that may be there.
 abbrev pub bytes_of : Option (Bor (List ℕ)) → Option (List ℕ)
 bytes_of text = option_map (λ t. t.now) text
+
+-- The name of the section that is linked: empty where none is named.
+abbrev pub section_of : Option (Bor (List ℕ)) → List ℕ
+section_of (Some name) = name.now
+section_of None = []
 
 -- It has what the plan says, the bytes of FILE and those of PATH.
 pub record IsJobOf (plan : Plan) (of_file of_path : List ℕ) (job : Job) : Type 0 where
@@ -29,3 +35,4 @@ pub record IsJobOf (plan : Plan) (of_file of_path : List ℕ) (job : Job) : Type
   pub journal : job.journal ≡ plan.journal
   pub limit : job.limit ≡ plan.limit
   pub listing : job.is_listing ≡ plan.is_listing
+  pub section : job.section.now ≡ section_of plan.section

@@ -2,7 +2,7 @@
 ghost use Rattle.std.specs.Prelude.{IfErr};
 ghost use Rattle.bpfdb.specs.Files.{Names};
 
-use bpfdb_files::{FirstFault, Retrying, read_context, read_listing, read_program};
+use bpfdb_files::{FirstFault, Retrying, read_context, read_program, read_source};
 use bpfdb_jobs::JobFault;
 use counted_io::Counted;
 use std::fs;
@@ -36,15 +36,15 @@ pub fn context_at<'a>(rt: &HostRuntime, path: &'a str) -> Result<Vec<u8>, JobFau
     }
 }
 
-/// The bytes of a listing. A file that is longer than any listing can't be read.
-pub fn listing_at<'a>(rt: &HostRuntime, path: &'a str) -> Result<Vec<u8>, JobFault<'a>>
+/// The bytes of a listing or of an object. A file that is longer than any of them can't be read.
+pub fn source_at<'a>(rt: &HostRuntime, path: &'a str) -> Result<Vec<u8>, JobFault<'a>>
     ensures err { IfErr result (Names path.now) }
 {
     let mut file = match open(rt, path) {
         Ok(file) => file,
         Err(fault) => return Err(fault),
     };
-    match read_listing(rt.alloc(), &mut file) {
+    match read_source(rt.alloc(), &mut file) {
         Ok(Some(bytes)) => Ok(bytes),
         Ok(None) => Err(JobFault::Unreadable(path)),
         Err(fault) => Err(fault_of(fault, path)),

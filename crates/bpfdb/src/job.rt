@@ -1,6 +1,6 @@
 //! The job of a plan, done over any reader and writer.
 ghost use Rattle.std.specs.Prelude.{◌≡◌, ◌≢◌, ◌⊎◌, List, ℕ, Some};
-ghost use Rattle.bpfdb.specs.Jobs.{IsJobOf, kind_of};
+ghost use Rattle.bpfdb.specs.Jobs.{IsJobOf, kind_of, section_of};
 ghost use Rattle.bpfdb_jobs.specs.Endings.{LosesStop, TellsFault, TellsStop};
 ghost use Rattle.bpfdb_jobs.specs.Jobs.{Completes, Needs, Spared, StopsShort};
 ghost use Rattle.bpfdb_limits.specs.Limits.{IsLimit};
@@ -54,6 +54,7 @@ fn job_of<'a>(plan: &Plan<'a>, file: &'a [u8], context: &'a [u8]) -> Job<'a>
         journal: plan.journal,
         limit: plan.limit,
         is_listing: plan.is_listing,
+        section: section_of(plan.section),
     }
 }
 
@@ -67,5 +68,16 @@ fn kind_of(subcommand: Subcommand) -> JobKind
         Subcommand::Asm => JobKind::Asm,
         Subcommand::Disasm => JobKind::Disasm,
         Subcommand::Check => JobKind::Check,
+        Subcommand::Link => JobKind::Link,
+    }
+}
+
+/// The name of the section that is linked: empty where none is named.
+fn section_of<'a>(name: Option<&'a str>) -> &'a [u8]
+    ensures { result.now ≡ section_of name.entry }
+{
+    match name {
+        Some(name) => name.as_bytes(),
+        None => b"",
     }
 }

@@ -15,7 +15,7 @@ use bpfdb_jobs::{JobFault, give_up, tell_usage};
 use bpfdb_limits::{DEFAULT_JOURNAL, DEFAULT_LIMIT};
 use clap::Error;
 use counted_io::Counted;
-use files::{context_at, listing_at, program_at};
+use files::{context_at, program_at, source_at};
 use input::is_closed;
 use job::do_plan;
 use std::io::{BufReader, BufWriter, ErrorKind, Stderr, Write};
@@ -40,6 +40,7 @@ const FIRST_PLAN: Plan<'static> = Plan {
     journal: DEFAULT_JOURNAL,
     limit: DEFAULT_LIMIT,
     is_listing: false,
+    section: None,
 };
 
 fn main(rt: HostRuntime) -> ExitCode {
@@ -142,15 +143,16 @@ fn do_with_files(rt: &HostRuntime, plan: &Plan<'_>, errors: &mut Errors) -> u8
     do_over_streams(rt, plan, file.as_slice(), context.as_slice(), errors)
 }
 
-/// The bytes of FILE, which is a listing for `asm` and where the plan says so.
+/// The bytes of FILE, which is a listing for `asm` and where the plan says so, and an object for `link`.
 fn file_of<'a>(rt: &HostRuntime, plan: &Plan<'a>) -> Result<Vec<u8>, JobFault<'a>>
     ensures err { IfErr result (Names plan.now.file.now) }
 {
     match plan.subcommand {
-        Subcommand::Asm => listing_at(rt, plan.file),
+        Subcommand::Asm => source_at(rt, plan.file),
+        Subcommand::Link => source_at(rt, plan.file),
         _ => {
             if plan.is_listing {
-                listing_at(rt, plan.file)
+                source_at(rt, plan.file)
             } else {
                 program_at(rt, plan.file)
             }

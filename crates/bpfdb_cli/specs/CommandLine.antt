@@ -1,4 +1,4 @@
--- The command line as `clap` is told of it: five subcommands, the options of each, and FILE.
+-- The command line as `clap` is told of it: six subcommands, the options of each, and FILE.
 use Rattle.std.specs.Prelude.{[], ◌∷◌, Some, true, codes}
 use Rattle.clap.specs.Words.{App, Rule, new_app, new_rule, with_rule, with_subcommand}
 use Rattle.clap.specs.declared.builder.action.ArgAction.TheVariants.{SetTrue}
@@ -35,6 +35,10 @@ steps_rule = record (new_rule (codes "steps")) {
 abbrev pub listing_rule : Rule
 listing_rule = record (new_rule (codes "listing")) { long = Some (codes "listing"); action = Some SetTrue }
 
+-- `--section NAME`: the code section that is linked.
+abbrev pub section_rule : Rule
+section_rule = record (new_rule (codes "section")) { long = Some (codes "section"); value_names = 1 }
+
 -- FILE, which each subcommand needs.
 abbrev pub file_rule : Rule
 file_rule = record (new_rule (codes "file")) { required = true; value_names = 1 }
@@ -57,10 +61,13 @@ disasm_app = with_rule (with_rule (with_rule (new_app (codes "disasm")) maps_rul
 abbrev pub check_app : App
 check_app = with_rule (with_rule (with_rule (new_app (codes "check")) maps_rule) listing_rule) file_rule
 
+abbrev pub link_app : App
+link_app = with_rule (with_rule (new_app (codes "link")) section_rule) file_rule
+
 -- The command without its subcommands: it can't stand without one.
 abbrev pub bare_app : App
 bare_app = record (new_app (codes "bpfdb")) { top = record (new_app (codes "bpfdb")).top { subcommand_required = true } }
 
 abbrev pub command_app : App
-command_app = with_subcommand (with_subcommand (with_subcommand (with_subcommand (with_subcommand bare_app
-    run_app.top) debug_app.top) asm_app.top) disasm_app.top) check_app.top
+command_app = with_subcommand (with_subcommand (with_subcommand (with_subcommand (with_subcommand (with_subcommand bare_app
+    run_app.top) debug_app.top) asm_app.top) disasm_app.top) check_app.top) link_app.top

@@ -21,6 +21,7 @@ subcommand_name subcommand.Debug = codes "debug"
 subcommand_name subcommand.Asm = codes "asm"
 subcommand_name subcommand.Disasm = codes "disasm"
 subcommand_name subcommand.Check = codes "check"
+subcommand_name subcommand.Link = codes "link"
 
 -- The number of an option, the default where the option has no text.
 abbrev pub number_or : ℕ → Option Text → ℕ
@@ -40,6 +41,7 @@ pub record Says (name : Text) (rows : List Row) (plan : Plan) : Type 0 where
   pub journal : plan.journal ≡ number_or default_journal (first_of (codes "journal") rows)
   pub limit : plan.limit ≡ number_or default_limit (first_of (codes "steps") rows)
   pub listing : plan.is_listing ≡ is_given (first_of (codes "listing") rows)
+  pub section : option_map (λ s. s.now) plan.section ≡ first_of (codes "section") rows
 
 -- A number that is given is one below 2^64.
 abbrev pub IsNumber : Option Text → Type 0

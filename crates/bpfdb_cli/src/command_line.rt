@@ -1,7 +1,7 @@
 //! The command line, as `clap` is told of it.
 ghost use Rattle.std.specs.Prelude.{◌≡◌, IfOk, false};
 ghost use Rattle.clap.specs.Words.{app_of, rule_of, with_subcommand};
-ghost use Rattle.bpfdb_cli.specs.CommandLine.{asm_app, bare_app, check_app, command_app, debug_app, disasm_app, file_rule, journal_rule, listing_rule, maps_rule, mem_rule, run_app, steps_rule};
+ghost use Rattle.bpfdb_cli.specs.CommandLine.{asm_app, bare_app, check_app, command_app, debug_app, disasm_app, file_rule, journal_rule, link_app, listing_rule, maps_rule, mem_rule, run_app, section_rule, steps_rule};
 
 use crate::help;
 use bpfdb_limits::GREATEST_COUNT;
@@ -70,6 +70,18 @@ fn listing_option<'a>(alloc: Global) -> Arg<'a>
         .long("listing")
         .action(ArgAction::SetTrue)
         .help(help::LISTING)
+}
+
+/// `--section NAME`.
+fn section_option<'a>(alloc: Global) -> Arg<'a>
+    ensures value { rule_of result ≡ section_rule }
+    ensures local { result.global ≡ false }
+{
+    Arg::new(alloc, "section")
+        .long("section")
+        .value_name("NAME")
+        .help(help::SECTION)
+        .long_help(help::SECTION_LONG)
 }
 
 /// FILE.
@@ -156,6 +168,19 @@ fn with_check<'a>(alloc: Global, above: Command<'a>) -> Result<Command<'a>, Allo
     above.subcommand(command)
 }
 
+/// A command and its subcommand `link`.
+fn with_link<'a>(alloc: Global, above: Command<'a>) -> Result<Command<'a>, AllocError>
+    ensures { IfOk result (λ command. app_of command ≡ with_subcommand (app_of above.entry) link_app.top) }
+{
+    let command = Command::new(alloc, "link")
+        .about(help::LINK)
+        .long_about(help::LINK_LONG)
+        .after_help(help::LINK_EXAMPLE)
+        .arg(section_option(alloc))?
+        .arg(file_argument(alloc, help::OBJECT_FILE))?;
+    above.subcommand(command)
+}
+
 /// The command without its subcommands.
 fn bare_command<'a>(alloc: Global) -> Result<Command<'a>, AllocError>
     ensures { IfOk result (λ command. app_of command ≡ bare_app) }
@@ -177,5 +202,6 @@ pub fn command_line<'a>(alloc: Global) -> Result<Command<'a>, AllocError>
     let command = with_debug(alloc, command)?;
     let command = with_asm(alloc, command)?;
     let command = with_disasm(alloc, command)?;
-    with_check(alloc, command)
+    let command = with_check(alloc, command)?;
+    with_link(alloc, command)
 }

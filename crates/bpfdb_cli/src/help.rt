@@ -96,6 +96,20 @@ pub const CHECK_EXAMPLE: &str = "Example:
   $ bpfdb check --listing count.s
   ok 3 instructions in 3 slots";
 
+pub const LINK: &str = "Makes the words of a program from an ELF object";
+
+pub const LINK_LONG: &str = "Makes the words of a program from an ELF object.
+
+Reads the relocatable object FILE, as `clang -target bpf -c` writes it. Writes the words
+of one code section to standard output, 8 bytes a slot, and behind them those of .text
+where the section calls it: calls have their distances, and loads of maps the maps'
+numbers, 0 for the one that stands first in its section. The first thing that is wrong is
+one line on standard error, with its number; then the exit status is 2.";
+
+pub const LINK_EXAMPLE: &str = "Example:
+  $ clang -O2 -target bpf -c count.c
+  $ bpfdb link count.o > count.bin";
+
 /// `-m`, `--mem`.
 pub const MEM: &str = "File with the context, 0 to 65536 bytes at r1; none without it";
 
@@ -130,7 +144,16 @@ with exit status 1, and a command with the word limit. Example: --steps 5000";
 /// `--listing`.
 pub const LISTING: &str = "FILE is a listing (docs/LISTING.md), and is assembled first";
 
+/// `--section`.
+pub const SECTION: &str = "Code section to be linked; without it the only one";
+
+pub const SECTION_LONG: &str =
+    "Name of the code section to be linked, at most 255 bytes. Without it that is the only
+one besides .text, or else .text. Example: --section xdp";
+
 /// FILE.
 pub const PROGRAM: &str = "Program: its raw words, or with --listing its listing";
 
 pub const LISTING_FILE: &str = "Listing to be assembled";
+
+pub const OBJECT_FILE: &str = "Relocatable ELF object for BPF";

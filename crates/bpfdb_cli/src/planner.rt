@@ -97,6 +97,7 @@ fn plan_in<'a>(name: &'a str, found: &ArgMatches<'a>) -> Option<Plan<'a>>
         journal,
         limit,
         is_listing: is_given(text_of(found, "listing")),
+        section: text_of(found, "section"),
     })
 }
 
@@ -111,6 +112,7 @@ fn subcommand_named(name: &str) -> Option<Subcommand>
         "asm" => Some(Subcommand::Asm),
         "disasm" => Some(Subcommand::Disasm),
         "check" => Some(Subcommand::Check),
+        "link" => Some(Subcommand::Link),
         _ => None,
     }
 }

@@ -18,13 +18,15 @@ pub enum Subcommand {
     Disasm,
     /// A program is checked.
     Check,
+    /// An object is linked.
+    Link,
 }
 
 /// What a command line asks for. What the subcommand has no option for stands as when the option is absent.
 #[derive(Clone, Copy)]
 pub struct Plan<'a> {
     pub subcommand: Subcommand,
-    /// FILE, the path of the program or listing.
+    /// FILE, the path of the program, of the listing or of the object.
     pub file: &'a str,
     /// The path of the file whose bytes are the context; without one the context is empty.
     pub memory: Option<&'a str>,
@@ -36,6 +38,8 @@ pub struct Plan<'a> {
     pub limit: u64,
     /// FILE is a listing, assembled first.
     pub is_listing: bool,
+    /// The name of the code section that is linked; without one it is the only one.
+    pub section: Option<&'a str>,
 }
 
 /// Why a command line is no plan.

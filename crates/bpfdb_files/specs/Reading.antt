@@ -12,15 +12,15 @@ abbrev pub Counts : FirstFault → ℕ → ℕ → Type 0
 Counts Unread old new = new ≡ one_more old
 Counts Memory old new = new ≡ old
 
--- Of a program and of a context a byte more than any has, so that a longer one is refused; of a listing no more than this.
+-- Of a program and of a context a byte more than any has, so that a longer one is refused; of a listing and of an object no more than this.
 abbrev pub program_bytes : ℕ
 program_bytes = 8 * most_slots + 1
 
 abbrev pub context_bytes : ℕ
 context_bytes = context_limit + 1
 
-abbrev pub listing_bytes : ℕ
-listing_bytes = 67108864
+abbrev pub source_bytes : ℕ
+source_bytes = 67108864
 
 -- More bytes than that were read.
 abbrev pub TakesMore : ℕ → Option (List ℕ) → Option (List ℕ) → Type 0

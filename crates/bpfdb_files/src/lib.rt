@@ -5,6 +5,6 @@ mod kinds;
 mod reading;
 mod retrying;
 
-pub use kinds::{read_context, read_listing, read_program};
+pub use kinds::{read_context, read_program, read_source};
 pub use reading::{FirstFault, read_first};
 pub use retrying::Retrying;

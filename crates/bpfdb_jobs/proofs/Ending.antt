@@ -21,7 +21,7 @@ use Rattle.bpfdb_jobs.specs.declared.fault.JobFault.TheVariants.{Unreadable, Not
 use Rattle.bpfdb_jobs.specs.declared.job.Job.{Job}
 use Rattle.bpfdb_jobs.specs.declared.job.JobKind.{JobKind}
 use Rattle.bpfdb_jobs.specs.declared.refusal.JobRefusal.{JobRefusal}
-use Rattle.bpfdb_jobs.specs.declared.refusal.JobRefusal.TheVariants.{Maps, Listing, Load, Open, Journal}
+use Rattle.bpfdb_jobs.specs.declared.refusal.JobRefusal.TheVariants.{Maps, Listing, Load, Open, Journal, Object}
 
 -- a refusal of a program is one of a machine on it, and that one of a session over it
 pub program-machine : (job : Job) (refusal : JobRefusal) → RefusesProgram job refusal → RefusesMachine job refusal
@@ -30,6 +30,7 @@ program-machine job (Listing fault) p = p
 program-machine job (Load fault) p = p
 program-machine job (Open fault) p = absurd p
 program-machine job (Journal fault) p = absurd p
+program-machine job (Object fault) p = absurd p
 
 pub machine-session : (job : Job) (refusal : JobRefusal) → RefusesMachine job refusal → Refuses job refusal
 machine-session job (Maps fault) p = p
@@ -37,6 +38,7 @@ machine-session job (Listing fault) p = p
 machine-session job (Load fault) p = p
 machine-session job (Open fault) p = p
 machine-session job (Journal fault) p = absurd p
+machine-session job (Object fault) p = absurd p
 
 -- a reader that the job hasn't is as it was
 pub ends-unread : {R W : Type 0} (kind : JobKind) (job : Job) (reader : Tally R) (writer writer' : Tally W) (fault : JobFault)

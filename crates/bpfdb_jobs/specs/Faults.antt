@@ -4,6 +4,9 @@ use Rattle.std.specs.Fmt.{digit_glyph}
 use Rattle.bpf_isa.specs.Faults.{load_fault_number, load_fault_text, map_fault_number, map_fault_text}
 use Rattle.bpf_isa.specs.declared.fault.LoadFault.{LoadFault}
 use Rattle.bpf_isa.specs.declared.fault.LoadFault.TheVariants as load
+use Rattle.bpf_link.specs.Faults.{link_fault_number, link_fault_text}
+use Rattle.bpf_link.specs.declared.fault.LinkFault.{LinkFault}
+use Rattle.bpf_link.specs.declared.fault.LinkFault.TheVariants as linking
 use Rattle.bpf_text.specs.Faults.{fault_line, fault_number, fault_text}
 use Rattle.bpf_machine.specs.Opening as opening
 use Rattle.bpf_machine.specs.State.{State}
@@ -15,7 +18,7 @@ use Rattle.bpfdb_replies.specs.Texts.{place}
 use Rattle.bpfdb_jobs.specs.declared.fault.JobFault.{JobFault}
 use Rattle.bpfdb_jobs.specs.declared.fault.JobFault.TheVariants.{Unreadable, NotText, Refused, Input, Output, Memory, StepLimit}
 use Rattle.bpfdb_jobs.specs.declared.refusal.JobRefusal.{JobRefusal}
-use Rattle.bpfdb_jobs.specs.declared.refusal.JobRefusal.TheVariants.{Maps, Listing, Load, Open, Journal}
+use Rattle.bpfdb_jobs.specs.declared.refusal.JobRefusal.TheVariants.{Maps, Listing, Load, Open, Journal, Object}
 
 -- A name as it is shown: each control byte as `\x` and two hexadecimal digits.
 abbrev pub shown_byte : ℕ → List ℕ
@@ -49,12 +52,18 @@ slot_of load.TooLong = None
 slot_of load.Ragged = None
 slot_of load.Memory = None
 
+-- The slot of an object's fault, where the words that are linked have one.
+abbrev pub slot_of_words : LinkFault → Option ℕ
+slot_of_words (linking.Program fault) = slot_of fault
+slot_of_words fault = None
+
 abbrev pub refusal_line : JobRefusal → List ℕ
 refusal_line (Maps fault) = refusal_text (codes "refused M") (map_fault_number fault) [] (map_fault_text fault)
 refusal_line (Listing fault) = refusal_text (codes "refused A") (fault_number fault) (placed (codes " at line ") (fault_line fault)) (fault_text fault)
 refusal_line (Load fault) = refusal_text (codes "refused C") (load_fault_number fault) (placed (codes " at slot ") (slot_of fault)) (load_fault_text fault)
 refusal_line (Open fault) = refusal_text (codes "refused O") (opening.number_of fault) [] (opening.text_of fault)
 refusal_line (Journal fault) = refusal_text (codes "refused J") (journal.number_of fault) [] (journal.text_of fault)
+refusal_line (Object fault) = refusal_text (codes "refused E") (link_fault_number fault) (placed (codes " at slot ") (slot_of_words fault)) (link_fault_text fault)
 
 -- A file that can't be read, and a run that took as many steps as it may.
 abbrev pub unreadable_line : List ℕ → List ℕ

@@ -1,9 +1,11 @@
 -- What a job comes to: the program, what each kind of job answers, and what a call of `tool` leaves.
-use Rattle.std.specs.Prelude.{◌≡◌, ◌≤◌, ◌⊎◌, ℕ, Bool, true, false, List, [], ◌++◌, Option, Some, None, is_some, length, map, count_by, codes, decimal}
+use Rattle.std.specs.Prelude.{◌≡◌, ◌≤◌, ◌⊎◌, ℕ, Bool, true, false, List, [], ◌++◌, Option, Some, None, Ok, is_some, length, map, count_by, codes, decimal}
 use Rattle.std.specs.Borrow.{Bor}
+use Rattle.bpf_isa.specs.Checker.{IsAccepted}
 use Rattle.bpf_isa.specs.Maps.{IsMapList, items_of, shape_of}
 use Rattle.bpf_isa.specs.Programs.{Checked, IsProgram}
 use Rattle.bpf_isa.specs.declared.maps.MapShape.{MapShape}
+use Rattle.bpf_link.specs.Links.{linked, plain_maps}
 use Rattle.bpf_text.specs.Canonical.{canon}
 use Rattle.counted_io.specs.Counted.{Tally}
 use Rattle.bpf_text.specs.Listing.{IsListing}
@@ -20,7 +22,7 @@ use Rattle.bpf_session.specs.declared.plain.Ending.{Ending}
 use Rattle.bpf_session.specs.declared.plain.Ending.TheVariants.{Exited, Faulted, Limit}
 use Rattle.bpfdb_jobs.specs.declared.job.Job.{Job}
 use Rattle.bpfdb_jobs.specs.declared.job.JobKind.{JobKind}
-use Rattle.bpfdb_jobs.specs.declared.job.JobKind.TheVariants.{Run, Debug, Asm, Disasm, Check}
+use Rattle.bpfdb_jobs.specs.declared.job.JobKind.TheVariants.{Run, Debug, Asm, Disasm, Check, Link}
 
 -- The map table that a text names; no map where there is no text.
 abbrev pub HasMaps : Option (Bor (List ℕ)) → List MapShape → Type 0
@@ -43,6 +45,10 @@ pub record Opens (job : Job) (code : Checked) : Type 0 where
   pub program : IsProgramOf job code
   pub short : length job.context.now ≤ context_limit
 
+-- The words that the object is linked to. The checker accepts them, with maps of at least one byte.
+abbrev pub AreLinked : Job → List ℕ → Type 0
+AreLinked job words = (maps : ℕ) × (linked job.file.now job.section.now ≡ Ok (words, maps)) × IsAccepted words (plain_maps maps)
+
 -- What a kind of job needs. A job without it is refused.
 abbrev pub Needs : JobKind → Job → Type 0
 Needs Run job = (code : Checked) × Opens job code
@@ -50,6 +56,7 @@ Needs Debug job = (code : Checked) × Opens job code × IsSize job.journal
 Needs Asm job = (words : List ℕ) × IsListing job.file.now words
 Needs Disasm job = (code : Checked) × IsProgramOf job code
 Needs Check job = (code : Checked) × IsProgramOf job code
+Needs Link job = (words : List ℕ) × AreLinked job words
 
 -- An answer: the bytes on standard output, the exit status, and the lines of the script that are left unread.
 pub record Yield : Type 0 where
@@ -97,6 +104,7 @@ Yields Debug job script a = (code : Checked) × Opens job code × IsSize job.jou
 Yields Asm job script a = (words : List ℕ) × IsListing job.file.now words × (a ≡ unread_with 0 script words)
 Yields Disasm job script a = (code : Checked) × IsProgramOf job code × (a ≡ unread_with 0 script (canon code))
 Yields Check job script a = (code : Checked) × IsProgramOf job code × (a ≡ unread_with 0 script (check_line code))
+Yields Link job script a = (words : List ℕ) × AreLinked job words × (a ≡ unread_with 0 script words)
 
 -- The whole answer was written, and its lines are left to the reader.
 abbrev pub Completes : JobKind → Job → Exchange → ℕ → Type 0

@@ -1,4 +1,4 @@
--- Why a job is refused, in this order: its maps, its listing, its program, its context, its journal.
+-- Why a job is refused, in this order: its maps, its listing, its program, its context, its journal; or its object.
 use Rattle.std.specs.Prelude.{◌≡◌, List, ℕ, Some, true}
 use Rattle.std.specs.Borrow.{Bor}
 use Rattle.bpf_isa.specs.Checker.{IsRefused}
@@ -6,14 +6,15 @@ use Rattle.bpf_isa.specs.Maps.{IsListFault}
 use Rattle.bpf_isa.specs.Programs.{Checked}
 use Rattle.bpf_isa.specs.declared.maps.MapShape.{MapShape}
 use Rattle.bpf_text.specs.Listing.{IsFaultOf}
+use Rattle.bpf_link.specs.Links.{IsLinkFault}
 use Rattle.bpf_machine.specs.Opening.{Refused}
 use Rattle.bpf_journal.specs.Opening.{RefusesSize}
 use Rattle.bpfdb_jobs.specs.Jobs.{HasMaps, HasWords, IsProgramOf, Opens}
 use Rattle.bpfdb_jobs.specs.declared.job.Job.{Job}
 use Rattle.bpfdb_jobs.specs.declared.job.JobKind.{JobKind}
-use Rattle.bpfdb_jobs.specs.declared.job.JobKind.TheVariants.{Run, Debug, Asm, Disasm, Check}
+use Rattle.bpfdb_jobs.specs.declared.job.JobKind.TheVariants.{Run, Debug, Asm, Disasm, Check, Link}
 use Rattle.bpfdb_jobs.specs.declared.refusal.JobRefusal.{JobRefusal}
-use Rattle.bpfdb_jobs.specs.declared.refusal.JobRefusal.TheVariants.{Maps, Listing, Load, Open, Journal}
+use Rattle.bpfdb_jobs.specs.declared.refusal.JobRefusal.TheVariants.{Maps, Listing, Load, Open, Journal, Object}
 
 -- Each refusal comes where those before don't.
 abbrev pub Refuses : Job → JobRefusal → Type 0
@@ -24,8 +25,9 @@ Refuses job (Load fault) = (shapes : List MapShape) × HasMaps job.maps shapes
     × (words : List ℕ) × HasWords job.is_listing job.file.now words × IsRefused words shapes fault
 Refuses job (Open fault) = (code : Checked) × IsProgramOf job code × Refused job.context.now fault
 Refuses job (Journal fault) = (code : Checked) × Opens job code × RefusesSize job.journal fault
+Refuses job (Object fault) = ⊥
 
--- Those that a kind of job looks at: `asm` its listing alone, a program has no context, a run no journal.
+-- Those that a kind of job looks at: `asm` its listing alone and `link` its object, a program has no context, a run no journal.
 abbrev pub RefusesProgram : Job → JobRefusal → Type 0
 RefusesProgram job (Open fault) = ⊥
 RefusesProgram job (Journal fault) = ⊥
@@ -39,9 +41,14 @@ abbrev pub RefusesListing : Job → JobRefusal → Type 0
 RefusesListing job (Listing fault) = IsFaultOf job.file.now fault
 RefusesListing job refusal = ⊥
 
+abbrev pub RefusesObject : Job → JobRefusal → Type 0
+RefusesObject job (Object fault) = IsLinkFault job.file.now job.section.now fault
+RefusesObject job refusal = ⊥
+
 abbrev pub RefusesAs : JobKind → Job → JobRefusal → Type 0
 RefusesAs Run job refusal = RefusesMachine job refusal
 RefusesAs Debug job refusal = Refuses job refusal
 RefusesAs Asm job refusal = RefusesListing job refusal
 RefusesAs Disasm job refusal = RefusesProgram job refusal
 RefusesAs Check job refusal = RefusesProgram job refusal
+RefusesAs Link job refusal = RefusesObject job refusal

@@ -8,6 +8,7 @@ use crate::check::check_job;
 use crate::debug::debug_job;
 use crate::job::{Job, JobKind};
 use crate::listing::{asm_job, disasm_job};
+use crate::object::link_job;
 use crate::run::run_job;
 use counted_io::Counted;
 use std::alloc::Global;
@@ -48,5 +49,6 @@ pub fn tool<R: Read, W: Write, E: Write>(
         JobKind::Asm => asm_job(alloc, job, writer, errors),
         JobKind::Disasm => disasm_job(alloc, job, writer, errors),
         JobKind::Check => check_job(alloc, job, writer, errors),
+        JobKind::Link => link_job(alloc, job, writer, errors),
     }
 }

@@ -9,6 +9,7 @@ mod job;
 mod line;
 mod listing;
 mod name;
+mod object;
 mod opening;
 mod refusal;
 mod report;

@@ -1,12 +1,13 @@
 //! The line of a fault.
 ghost use Rattle.std.specs.Prelude.{◌≡◌};
 ghost use Rattle.counted_io.specs.Writing.{Writes, WritesAfter};
-ghost use Rattle.bpfdb_jobs.specs.Faults.{limit_line, line_of, placed, refusal_line, refusal_text, slot_of, unreadable_line};
+ghost use Rattle.bpfdb_jobs.specs.Faults.{limit_line, line_of, placed, refusal_line, refusal_text, slot_of, slot_of_words, unreadable_line};
 
 use crate::fault::JobFault;
 use crate::name::put_name;
 use crate::refusal::JobRefusal;
 use bpf_isa::LoadFault;
+use bpf_link::LinkFault;
 use counted_io::{Counted, WriteFault, put, put_decimal};
 use std::io::Write;
 
@@ -129,6 +130,17 @@ fn put_refusal<E: Write>(
                 fault.text(),
             )
         }
+        JobRefusal::Object(fault) => {
+            put_numbered(
+                errors,
+                so_far,
+                b"refused E",
+                fault.number(),
+                b" at slot ",
+                slot_of_words(fault),
+                fault.text(),
+            )
+        }
     }
 }
 
@@ -142,6 +154,16 @@ fn slot_of(fault: &LoadFault) -> Option<usize>
         LoadFault::TooLong => None,
         LoadFault::Ragged => None,
         LoadFault::Memory => None,
+    }
+}
+
+/// The slot of an object's fault, where the words that are linked have one.
+fn slot_of_words(fault: &LinkFault) -> Option<usize>
+    ensures { result ≡ slot_of_words fault.now }
+{
+    match fault {
+        LinkFault::Program(fault) => slot_of(fault),
+        _ => None,
     }
 }
 

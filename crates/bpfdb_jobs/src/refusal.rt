@@ -1,6 +1,7 @@
 //! Why a job is refused.
 use bpf_isa::{LoadFault, MapFault};
 use bpf_journal::JournalFault;
+use bpf_link::LinkFault;
 use bpf_machine::OpenFault;
 use bpf_text::AsmFault;
 
@@ -17,4 +18,6 @@ pub enum JobRefusal {
     Open(OpenFault),
     /// The journal can't be opened.
     Journal(JournalFault),
+    /// No program is made of the object.
+    Object(LinkFault),
 }

@@ -1,7 +1,7 @@
 use Rattle.std.proofs.Common.{inl}
 use Rattle.bpfdb_jobs.proofs.Ending.{debug-told, run-told, unread-told}
 use Rattle.bpfdb_jobs.proofs.Yielding.{completes-debug, completes-too, stops-short, stops-short-debug}
-use Rattle.bpfdb_jobs.specs.declared.job.JobKind.TheVariants.{Run, Debug, Asm, Disasm, Check}
+use Rattle.bpfdb_jobs.specs.declared.job.JobKind.TheVariants.{Run, Debug, Asm, Disasm, Check, Link}
 use Rattle.bpfdb_jobs.proofs.dispatch.tool.Goals as goal
 
 pub returns-in-Run-clause-broken : goal.returns-in-Run-clause-broken
@@ -30,6 +30,11 @@ returns-in-Check-clause-broken g c = λ script told left held two.
     stops-short c.args.job.now.kind Check c.args.job.now script told (g.W.Write.contents c.check_job.new.writer.inner)
     (g.R.Read.remaining c.args.reader.now.inner) c.in-Check.is left (c.check_job.ensures.broken script told held two)
 
+pub returns-in-Link-clause-broken : goal.returns-in-Link-clause-broken
+returns-in-Link-clause-broken g c = λ script told left held two.
+    stops-short c.args.job.now.kind Link c.args.job.now script told (g.W.Write.contents c.link_job.new.writer.inner)
+    (g.R.Read.remaining c.args.reader.now.inner) c.in-Link.is left (c.link_job.ensures.broken script told held two)
+
 pub returns-in-Run-clause-value : goal.returns-in-Run-clause-value
 returns-in-Run-clause-value g c = λ script told left held not.
     completes-too c.args.job.now.kind Run c.args.job.now script told (g.W.Write.contents c.run_job.new.writer.inner)
@@ -49,6 +54,11 @@ pub returns-in-Check-clause-value : goal.returns-in-Check-clause-value
 returns-in-Check-clause-value g c = λ script told left held not.
     completes-too c.args.job.now.kind Check c.args.job.now script told (g.W.Write.contents c.check_job.new.writer.inner)
     (g.R.Read.remaining c.args.reader.now.inner) c.check_job.result c.in-Check.is left (c.check_job.ensures.value script told held not)
+
+pub returns-in-Link-clause-value : goal.returns-in-Link-clause-value
+returns-in-Link-clause-value g c = λ script told left held not.
+    completes-too c.args.job.now.kind Link c.args.job.now script told (g.W.Write.contents c.link_job.new.writer.inner)
+    (g.R.Read.remaining c.args.reader.now.inner) c.link_job.result c.in-Link.is left (c.link_job.ensures.value script told held not)
 
 pub returns-in-Debug-clause-value : goal.returns-in-Debug-clause-value
 returns-in-Debug-clause-value g c = λ script told left held not.
@@ -80,3 +90,8 @@ pub returns-in-Check-clause-told : goal.returns-in-Check-clause-told
 returns-in-Check-clause-told g c = λ two. inl
     (unread-told g.E.Write.contents c.args.job.now.kind Check c.args.job.now c.args.reader.now c.args.writer.now c.check_job.new.writer c.args.errors.now
     c.check_job.new.errors c.in-Check.is (c.check_job.ensures.told two))
+
+pub returns-in-Link-clause-told : goal.returns-in-Link-clause-told
+returns-in-Link-clause-told g c = λ two. inl
+    (unread-told g.E.Write.contents c.args.job.now.kind Link c.args.job.now c.args.reader.now c.args.writer.now c.link_job.new.writer c.args.errors.now
+    c.link_job.new.errors c.in-Link.is (c.link_job.ensures.told two))
