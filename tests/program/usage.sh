@@ -67,7 +67,8 @@ compare 'bpfdb asm first.s'
 # Options that the subcommand doesn't have.
 for absent in 'run --journal=65536' 'debug -j=65536' 'asm -m=context' 'asm --mem=context' 'asm --maps=8x2' 'asm --journal=65536' \
     'asm --steps=7' 'asm --listing' 'disasm -m=context' 'disasm --mem=context' 'disasm --journal=65536' 'disasm --steps=7' \
-    'check -m=context' 'check --mem=context' 'check --journal=65536' 'check --steps=7'
+    'check -m=context' 'check --mem=context' 'check --journal=65536' 'check --steps=7' 'run --section=a' 'debug --section=a' 'asm --section=a' \
+    'disasm --section=a' 'check --section=a' 'link -m=context' 'link --mem=context' 'link --maps=8x2' 'link --journal=65536' 'link --steps=7' 'link --listing'
 do
     subcommand=${absent%% *} option=${absent#* }
     name=${option%%=*}
@@ -93,7 +94,7 @@ usage "unexpected argument '-x' found" run -x first
 usage "unexpected argument '--step' found" run --step 7 first
 usage "unexpected argument '--Steps' found" run --Steps 7 first
 usage "unexpected argument 'second' found" run first second
-for subcommand in run debug asm disasm check; do
+for subcommand in run debug asm disasm check link; do
     usage 'the following required arguments were not provided:' $subcommand
     usage "unexpected argument 'second' found" $subcommand first second
     usage "unexpected argument '--frob' found" $subcommand --frob first
@@ -121,6 +122,8 @@ for subcommand in run debug disasm check; do
     usage "the argument '--listing' cannot be used multiple times" $subcommand --listing --listing first.s
     usage "unexpected value 'yes' for '--listing' found; no more were expected" $subcommand --listing=yes first.s
 done
+usage "a value is required for '--section <NAME>' but none was supplied" link first --section
+usage "the argument '--section <NAME>' cannot be used multiple times" link --section a --section a first
 for number in 0x400 1k 1024.0; do
     usage "invalid value '$number' for '--journal <J>': invalid digit found in string" debug --journal $number first
 done
@@ -145,7 +148,7 @@ help() {
 help bpfdb --help
 help bpfdb help
 help bpfdb-short -h
-for subcommand in run debug asm disasm check; do
+for subcommand in run debug asm disasm check link; do
     help $subcommand $subcommand --help
     help $subcommand help $subcommand
     help $subcommand-short $subcommand -h

@@ -10,7 +10,7 @@ use std::io::{ErrorKind, Write};
 use std::process::Abort;
 
 // A row: the command line, what comes of it, and FILE (a listing as it stands, else in hexadecimal); an empty line between rows. What comes
-// of it: status, standard output (of `asm` in hexadecimal) and standard error, each line ended by `;`.
+// of it: status, standard output (of `asm` and `link` in hexadecimal) and standard error, each line ended by `;`.
 const JOBS: &str = "\
 run p|0 0x2a; |b70000002a0000009500000000000000
 
@@ -68,6 +68,8 @@ disasm --maps 8x2 p|0 ldmap r1, 0;mov r2, r10;add r2, -8;ldmapval r3, 0, 4;call 
 
 check p|2  refused C12 at slot 0: no such map or offset;|18510000000000000000000000000000bfa200000000000007020000f8ffffff1863000000000000000000000400000085000000020000009500000000000000
 
+link p|2  refused E1: no ELF file;|7f454c46
+
 debug --journal 1023 p|2  refused J1: journal size out of range;|b70000002a0000009500000000000000";
 
 /// The bytes of FILE.
@@ -89,6 +91,7 @@ fn kind_of(subcommand: Subcommand) -> JobKind {
         Subcommand::Asm => JobKind::Asm,
         Subcommand::Disasm => JobKind::Disasm,
         Subcommand::Check => JobKind::Check,
+        Subcommand::Link => JobKind::Link,
     }
 }
 
@@ -103,12 +106,13 @@ fn answered(rt: &impl Abort, alloc: Global, plan: &Plan<'_>, file: &str) -> Vec<
         journal: plan.journal,
         limit: plan.limit,
         is_listing: plan.is_listing,
+        section: plan.section.unwrap_or("").as_bytes(),
     };
     let mut errors = Counted::new(Vec::new(alloc));
     let outcome = done(rt, alloc, &job, b"stepi\n", &mut errors);
     assert_eq!(rt; outcome.left, 6);
     let errors = errors.into_inner();
-    if matches!(plan.subcommand, Subcommand::Asm) {
+    if matches!(plan.subcommand, Subcommand::Asm) || matches!(plan.subcommand, Subcommand::Link) {
         let digits = digits_of(rt, alloc, &outcome.output);
         told(rt, alloc, outcome.status, &digits, &errors)
     } else {
@@ -156,7 +160,7 @@ fn do_each(rt: &impl Abort, alloc: Global, table: &str) -> usize {
 
 #[test]
 fn jobs_come_to_their_answers(rt: HostRuntime) {
-    assert_eq!(rt; do_each(&rt, rt.alloc(), JOBS), 24);
+    assert_eq!(rt; do_each(&rt, rt.alloc(), JOBS), 25);
 }
 
 #[test]

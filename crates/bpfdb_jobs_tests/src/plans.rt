@@ -4,13 +4,16 @@ use bpfdb_cli::{Plan, Subcommand, plan};
 use std::alloc::Global;
 use std::process::Abort;
 
-// A row: a command line, and its plan: subcommand, FILE, PATH, map text, journal, limit, whether FILE is a listing; or the status.
+// A row: a command line, and its plan: subcommand, FILE, PATH, map text, journal, limit, whether FILE is a listing, section; or the status.
 const PLANS: &str = "\
-run --steps 7 -m c p|run p c - 65536 7 false
-debug p --mem c --maps 8x2,1x1 --journal 2048 --listing|debug p c 8x2,1x1 2048 1000000 true
-asm p|asm p - - 65536 1000000 false
-disasm --maps 8x2 -- -p|disasm -p - 8x2 65536 1000000 false
-check --listing p|check p - - 65536 1000000 true
+run --steps 7 -m c p|run p c - 65536 7 false -
+debug p --mem c --maps 8x2,1x1 --journal 2048 --listing|debug p c 8x2,1x1 2048 1000000 true -
+asm p|asm p - - 65536 1000000 false -
+disasm --maps 8x2 -- -p|disasm -p - 8x2 65536 1000000 false -
+check --listing p|check p - - 65536 1000000 true -
+link p|link p - - 65536 1000000 false -
+link --section xdp p|link p - - 65536 1000000 false xdp
+asm --section xdp p|2
 run --steps 0 p|2
 run --steps 1000000001 p|2
 debug --journal 18446744073709551616 p|2
@@ -29,20 +32,22 @@ fn name(subcommand: Subcommand) -> &'static str {
         Subcommand::Asm => "asm",
         Subcommand::Disasm => "disasm",
         Subcommand::Check => "check",
+        Subcommand::Link => "link",
     }
 }
 
 /// A plan as a row has it.
 fn shown(rt: &impl Abort, alloc: Global, plan: &Plan<'_>) -> String {
     format!(in alloc;
-        "{} {} {} {} {} {} {}",
+        "{} {} {} {} {} {} {} {}",
         name(plan.subcommand),
         plan.file,
         plan.memory.unwrap_or("-"),
         plan.maps.unwrap_or("-"),
         plan.journal,
         plan.limit,
-        plan.is_listing
+        plan.is_listing,
+        plan.section.unwrap_or("-")
     )
     .ok()
     .expect(rt, "no memory")
@@ -71,5 +76,5 @@ fn plan_each(rt: &impl Abort, alloc: Global, table: &str) -> usize {
 
 #[test]
 fn command_lines_are_planned(rt: HostRuntime) {
-    assert_eq!(rt; plan_each(&rt, rt.alloc(), PLANS), 13);
+    assert_eq!(rt; plan_each(&rt, rt.alloc(), PLANS), 16);
 }

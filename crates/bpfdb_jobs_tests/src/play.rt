@@ -43,6 +43,7 @@ pub fn debugging<'a>(file: &'a [u8], context: &'a [u8]) -> Job<'a> {
         journal: 65_536,
         limit: 1_000_000,
         is_listing: false,
+        section: &[],
     }
 }
 
