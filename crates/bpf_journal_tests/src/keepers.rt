@@ -3,6 +3,7 @@ use crate::machines::{check_found, count, cut, machine, machine_after, parts, ti
 use crate::moves::answer;
 use crate::play::played;
 use crate::seen::{add, kept, state_text};
+use crate::walks::entries;
 use bpf_journal::{JournalFault, Keeper, ListKeeper, Timeline, laws};
 use bpf_machine::Cpu;
 use std::alloc::Global;
@@ -120,18 +121,9 @@ fn steps_to(rt: &impl Abort, alloc: Global, cpu: &mut Cpu, next: &str) -> bool {
 
 /// The weights of what is kept, from the newest to the oldest, by walking back.
 fn weights<K: Keeper>(rt: &impl Abort, alloc: Global, timeline: &Timeline<K>) -> String {
-    timeline.invariant();
-    let keeper = timeline.keeper();
     let mut text = String::new(alloc);
-    let mut at = keeper.end();
-    for _ in 0..keeper.len() {
-        match keeper.walk_back(at) {
-            Some((entry, _, before)) => {
-                add_number(rt, alloc, &mut text, entry.weight());
-                at = before;
-            }
-            None => return text,
-        }
+    for kept in entries(rt, alloc, timeline).iter() {
+        add_number(rt, alloc, &mut text, kept.0.weight());
     }
     text
 }

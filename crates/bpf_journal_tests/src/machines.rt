@@ -1,6 +1,6 @@
 //! Machines with journals that the tests' rows are about.
 use bpf_isa::{MapTable, check};
-use bpf_journal::{ListKeeper, Timeline};
+use bpf_journal::{ListKeeper, RingKeeper, Timeline};
 use bpf_machine::Cpu;
 use std::alloc::Global;
 use std::process::Abort;
@@ -44,9 +44,14 @@ pub fn check_found(rt: &impl Abort, found: &str, wanted: &str, row: &str) {
 
 /// A machine with a program and a context, both in hexadecimal digits, and a map of two values of 8 bytes.
 pub fn machine(rt: &impl Abort, alloc: Global, program: &str, context: &str) -> Cpu {
+    machine_on(rt, alloc, program, "8x2", context)
+}
+
+/// The same with the maps of a text.
+pub fn machine_on(rt: &impl Abort, alloc: Global, program: &str, maps: &str, context: &str) -> Cpu {
     let program = bytes_of(rt, alloc, program);
     let context = bytes_of(rt, alloc, context);
-    let maps = MapTable::parse(b"8x2").ok().expect(rt, "no maps");
+    let maps = MapTable::parse(maps.as_bytes()).ok().expect(rt, "no maps");
     let program = check(alloc, &program, &maps).ok().expect(rt, "refused");
     Cpu::open(alloc, program, &context)
         .ok()
@@ -73,5 +78,18 @@ pub fn timeline(rt: &impl Abort, alloc: Global, cpu: Cpu, size: usize) -> Timeli
     match ListKeeper::open(alloc, size) {
         Ok(keeper) => Timeline::start(cpu, keeper),
         Err(_) => panic!(rt; "no journal"),
+    }
+}
+
+/// The same with a ring of so many bytes.
+pub fn ring_timeline(
+    rt: &impl Abort,
+    alloc: Global,
+    cpu: Cpu,
+    size: usize,
+) -> Timeline<RingKeeper> {
+    match RingKeeper::open(alloc, size) {
+        Ok(keeper) => Timeline::start(cpu, keeper),
+        Err(_) => panic!(rt; "no ring"),
     }
 }

@@ -2,16 +2,16 @@
 use crate::machines::count;
 use crate::moves::move_of;
 use crate::seen::{add, entry_text, kept, place_text, refusal};
-use bpf_journal::{Keeper, ListKeeper, MoveFault, Taken, Timeline, TimelineFault};
+use bpf_journal::{Keeper, MoveFault, Taken, Timeline, TimelineFault};
 use std::alloc::Global;
 use std::process::Abort;
 
 /// What some moves and shows answer, which are parted by commas. `step` and the edits are made and marked, `steps 8` takes so many unmarked
 /// steps, `back` goes back by one and `all back` as far as it can; `place`, `counts` and `last` show where the machine stands and what is kept.
-pub fn played(
+pub fn played<K: Keeper>(
     rt: &impl Abort,
     alloc: Global,
-    timeline: &mut Timeline<ListKeeper>,
+    timeline: &mut Timeline<K>,
     moves: &str,
 ) -> String {
     let mut text = String::new(alloc);
@@ -25,10 +25,10 @@ pub fn played(
 }
 
 /// What a move or a show answers.
-fn answer(
+fn answer<K: Keeper>(
     rt: &impl Abort,
     alloc: Global,
-    timeline: &mut Timeline<ListKeeper>,
+    timeline: &mut Timeline<K>,
     words: &str,
 ) -> String {
     match words {
@@ -42,10 +42,10 @@ fn answer(
 }
 
 /// What a move answers that is made.
-fn made_text(
+fn made_text<K: Keeper>(
     rt: &impl Abort,
     alloc: Global,
-    timeline: &mut Timeline<ListKeeper>,
+    timeline: &mut Timeline<K>,
     words: &str,
 ) -> String {
     match words.strip_prefix("steps ") {
@@ -61,7 +61,7 @@ fn made_text(
 }
 
 /// The newest entry that is kept.
-fn last(rt: &impl Abort, alloc: Global, timeline: &Timeline<ListKeeper>) -> String {
+fn last<K: Keeper>(rt: &impl Abort, alloc: Global, timeline: &Timeline<K>) -> String {
     match timeline.keeper().last() {
         Some((entry, mark)) => {
             let mut text = entry_text(rt, alloc, &entry);
@@ -73,7 +73,7 @@ fn last(rt: &impl Abort, alloc: Global, timeline: &Timeline<ListKeeper>) -> Stri
 }
 
 /// Takes so many unmarked steps, and answers how many were made.
-fn steps(timeline: &mut Timeline<ListKeeper>, count: usize) -> usize {
+fn steps<K: Keeper>(timeline: &mut Timeline<K>, count: usize) -> usize {
     for k in 0..count {
         if timeline.step(false).is_err() {
             return k;
@@ -83,7 +83,7 @@ fn steps(timeline: &mut Timeline<ListKeeper>, count: usize) -> usize {
 }
 
 /// Goes back as far as it can, and answers by how many moves.
-fn all_back(timeline: &mut Timeline<ListKeeper>) -> u64 {
+fn all_back<K: Keeper>(timeline: &mut Timeline<K>) -> u64 {
     for k in 0..1_000 {
         if timeline.back().is_none() {
             return k;
@@ -116,7 +116,7 @@ fn taken(answer: Option<Taken>) -> &'static str {
 }
 
 /// How much is kept.
-fn counts(rt: &impl Abort, alloc: Global, timeline: &Timeline<ListKeeper>) -> String {
+fn counts<K: Keeper>(rt: &impl Abort, alloc: Global, timeline: &Timeline<K>) -> String {
     let keeper = timeline.keeper();
     let (len, marked, weight) = (keeper.len(), keeper.marked(), keeper.weight());
     let (capacity, refusals) = (keeper.capacity(), keeper.refusals());

@@ -1,7 +1,7 @@
 use Rattle.std.proofs.Common.{sym, subst, map}
 use Rattle.bpf_journal.specs.Histories.{kept_of}
 use Rattle.bpf_journal.proofs.Walks.{place_of_all, place_before}
-use Rattle.bpf_journal_tests.proofs.keepers.weights.Goals as goal
+use Rattle.bpf_journal_tests.proofs.walks.entries.Goals as goal
 
 pub loop-init : goal.loop-init
 loop-init g c =

@@ -1,0 +1,105 @@
+//! Random numbers by splitmix64, and random moves. A seed determines them.
+use crate::machines::check_found;
+use crate::seen::{add, kept};
+use std::alloc::Global;
+use std::process::Abort;
+
+/// A source of numbers.
+#[derive(Drop)]
+pub struct Random {
+    state: u64,
+}
+
+impl Random {
+    /// The source of a seed.
+    pub fn new(seed: u64) -> Random {
+        Random { state: seed }
+    }
+
+    /// The next number.
+    pub fn next(&mut self) -> u64 {
+        self.state = self.state.wrapping_add(0x9e37_79b9_7f4a_7c15);
+        let mixed = self.state;
+        let mixed = (mixed ^ (mixed >> 30)).wrapping_mul(0xbf58_476d_1ce4_e5b9);
+        let mixed = (mixed ^ (mixed >> 27)).wrapping_mul(0x94d0_49bb_1331_11eb);
+        mixed ^ (mixed >> 31)
+    }
+
+    /// A number from 0 to one below another.
+    pub fn below(&mut self, most: u64) -> u64 {
+        self.next().checked_rem(most).unwrap_or(0)
+    }
+
+    /// A number from 1 to another.
+    pub fn up_to(&mut self, most: u64) -> u64 {
+        self.below(most).saturating_add(1)
+    }
+}
+
+/// The words of a random move of a machine: steps, edits, and moves back.
+pub fn random_words(rt: &impl Abort, alloc: Global, random: &mut Random) -> String {
+    let words = match random.below(16) {
+        0 => register_words(alloc, random),
+        1 | 2 => bytes_words(alloc, random),
+        3 => cell_words(alloc, random),
+        4 | 5 => format!(in alloc; "pc {:x}", random.below(30)),
+        6 | 7 => format!(in alloc; "back"),
+        8 | 9 => format!(in alloc; "steps {}", random.up_to(5)),
+        _ => format!(in alloc; "step"),
+    };
+    kept(rt, words)
+}
+
+/// An edit of a register, now and then of r10: to a number that the program asks for, an address, or any number.
+fn register_words(alloc: Global, random: &mut Random) -> Result<String, std::alloc::AllocError> {
+    let register = random.below(11);
+    let value = match random.below(4) {
+        0 => 5,
+        1 => 0x1_0000_0000,
+        2 => 0x2_0000_0000,
+        _ => random.next(),
+    };
+    format!(in alloc; "reg {register:x} {value:x}")
+}
+
+/// An edit of bytes in a region or over its end, often of few bytes.
+fn bytes_words(alloc: Global, random: &mut Random) -> Result<String, std::alloc::AllocError> {
+    let region = match random.below(4) {
+        0 => 0x1_0000_0000u64,
+        1 => 0x2_0000_0000,
+        2 => 0x2_0000_0500,
+        _ => 0x3_0000_0000,
+    };
+    let address = region.saturating_add(random.below(64));
+    let byte = random.up_to(239).saturating_add(15);
+    let most = if random.below(2) == 0 { 8 } else { 256 };
+    let count = random.up_to(most);
+    format!(in alloc; "bytes {address:x} {byte:x}*{count}")
+}
+
+/// An edit of a cell, now and then of one that is not there.
+fn cell_words(alloc: Global, random: &mut Random) -> Result<String, std::alloc::AllocError> {
+    let (cell, byte) = (random.below(3), random.up_to(239).saturating_add(15));
+    format!(in alloc; "cell 0 {cell:x} {byte:x}*256")
+}
+
+/// The first numbers of a seed.
+fn first_numbers(rt: &impl Abort, alloc: Global, seed: u64) -> String {
+    let mut random = Random::new(seed);
+    let mut text = String::new(alloc);
+    for _ in 0..5 {
+        let number = random.next();
+        add(rt, &mut text, &kept(rt, format!(in alloc; "{number} ")));
+    }
+    text
+}
+
+// The numbers that the generator's description has for the seed 1234567.
+const NUMBERS: &str = "\
+6457827717110365317 3203168211198807973 9817491932198370423 4593380528125082431 16408922859458223821 ";
+
+#[test]
+fn numbers_of_a_seed(rt: HostRuntime) {
+    let found = first_numbers(&rt, rt.alloc(), 1_234_567);
+    check_found(&rt, found.as_str(), NUMBERS, "1234567");
+}

@@ -1,0 +1,244 @@
+//! A ring and a list that keep the same moves: what the ring holds is what the list holds, and the ring's bytes are the texts of that.
+ghost use Rattle.bpf_journal.specs.Histories.{HasHistory};
+
+use crate::machines::{check_found, count, cut, machine_on, ring_timeline, timeline};
+use crate::play::played;
+use crate::random::{Random, random_words};
+use crate::seen::kept;
+use crate::texts::{cuts_from_back, cuts_from_front, journal_of};
+use crate::walks::entries;
+use bpf_journal::{Keeper, ListKeeper, RingKeeper, Timeline};
+use bpf_machine::Cpu;
+use std::alloc::Global;
+use std::process::Abort;
+
+/// A machine with its moves in a list, and the same with its moves in a ring.
+#[derive(Drop)]
+struct Pair {
+    list: Timeline<ListKeeper>,
+    ring: Timeline<RingKeeper>,
+}
+
+/// Two machines with a program, a map of two values of 256 bytes, a context of 8 bytes, and empty journals of so many bytes.
+fn opened(rt: &impl Abort, alloc: Global, program: &str, size: usize) -> Pair {
+    let context = "0102030405060708";
+    let list = machine_on(rt, alloc, program, "256x2", context);
+    let ring = machine_on(rt, alloc, program, "256x2", context);
+    Pair {
+        list: timeline(rt, alloc, list, size),
+        ring: ring_timeline(rt, alloc, ring, size),
+    }
+}
+
+/// The bytes of a ring, the oldest first.
+fn ring_bytes(rt: &impl Abort, alloc: Global, keeper: &RingKeeper) -> Vec<u8> {
+    let mut bytes = Vec::new(alloc);
+    for index in 0..keeper.capacity().saturating_add(1) {
+        match keeper.byte(index) {
+            Some(byte) => bytes.push(byte).ok().expect(rt, "no memory"),
+            None => return bytes,
+        }
+    }
+    bytes
+}
+
+/// What the ring holds otherwise than the list, nothing where all is the same.
+fn difference(rt: &impl Abort, alloc: Global, pair: &Pair) -> &'static str {
+    let kept = entries(rt, alloc, &pair.list);
+    let journal = journal_of(rt, alloc, &kept);
+    let walked = journal_of(rt, alloc, &entries(rt, alloc, &pair.ring));
+    if walked.as_slice() != journal.as_slice() {
+        return "other entries";
+    }
+    let bytes = ring_bytes(rt, alloc, pair.ring.keeper());
+    if bytes.as_slice() != journal.as_slice() {
+        return "other bytes";
+    }
+    if pair.list.steps_up_to(u64::MAX) != pair.ring.steps_up_to(u64::MAX) {
+        return "another number of steps";
+    }
+    cut_otherwise(&bytes, kept.len())
+}
+
+/// Tells where bytes are not cut into so many entries.
+fn cut_otherwise(bytes: &[u8], entries: usize) -> &'static str {
+    if cuts_from_front(bytes) != Some(entries) {
+        return "other cuts from the front";
+    }
+    if cuts_from_back(bytes) != Some(entries) {
+        return "other cuts from the back";
+    }
+    ""
+}
+
+/// Makes moves with both. Stops unless the ring answers as the list does, and then holds the same.
+fn both(rt: &impl Abort, alloc: Global, pair: &mut Pair, moves: &str, row: &str) {
+    let moves = kept(rt, format!(in alloc; "{moves}, place, counts, last"));
+    let wanted = played(rt, alloc, &mut pair.list, &moves);
+    let found = played(rt, alloc, &mut pair.ring, &moves);
+    check_found(rt, found.as_str(), wanted.as_str(), row);
+    check_found(rt, difference(rt, alloc, pair), "", row);
+}
+
+// A name; a program without its last `exit`; moves that come first; the move whose entry goes around the end; the entry's weight.
+const ENTRIES: &str = "\
+register; 0700000001000000; place; step; 16
+jump; 0500000000000000; place; step; 7
+call; 85100000010000009500000000000000b706000005000000; place; step; 7
+return; 85100000010000009500000000000000b706000005000000; steps 2; step; 39
+a store of 8 bytes; 7b11000000000000; place; step; 24
+a store of 4 bytes; 6201040001000000; place; step; 20
+a store of 2 bytes; 6a01060001000000; place; step; 18
+a store of a byte; 7201030007000000; place; step; 17
+an addition of 8 bytes; db11000000000000; place; step; 24
+a fetch of 8 bytes; db11000001000000; place; step; 33
+a fetch of 4 bytes; c3210000e1000000; place; step; 29
+trace; 8500000040000000; place; step; 15
+exit; ; place; step; 5
+a fault; 7a0a000007000000; place; step; 5
+an edit of a register; ; place; reg 3 7; 14
+an edit of a byte; ; place; bytes 100000000 ee*1; 14
+an edit of pc; ; place; pc 0; 16
+an edit of pc after a fault; 7a0a000007000000; step; pc 0; 16
+an edit of a cell; ; place; cell 0 1 ee*256; 269
+an update; 8500000002000000; reg 1 400000000, reg 2 2000001f8, reg 3 2000000f0; step; 279
+";
+
+/// How many bytes the next entry of those has that fill so many, each of 14 to 269.
+fn next_weight(left: usize) -> usize {
+    if left >= 283 {
+        269
+    } else if left > 269 {
+        left.saturating_sub(14)
+    } else {
+        left
+    }
+}
+
+/// Fills the journals up to so many bytes, by edits of bytes that change none.
+fn fill(rt: &impl Abort, alloc: Global, pair: &mut Pair, most: usize, row: &str) {
+    for _ in 0..10 {
+        let left = most.saturating_sub(pair.list.weight());
+        if left >= 14 {
+            let bytes = next_weight(left).saturating_sub(13);
+            let moves = kept(rt, format!(in alloc; "bytes 200000000 00*{bytes}"));
+            let _list = played(rt, alloc, &mut pair.list, &moves);
+            let _ring = played(rt, alloc, &mut pair.ring, &moves);
+        }
+    }
+    let found = kept(rt, format!(in alloc; "{} bytes", pair.ring.weight()));
+    let wanted = kept(rt, format!(in alloc; "{most} bytes"));
+    check_found(rt, found.as_str(), wanted.as_str(), row);
+}
+
+/// Makes the move of a row where so many bytes are left before the end of the block, and takes it back.
+fn goes_around(rt: &impl Abort, alloc: Global, row: &str, size: usize, gap: usize) {
+    let (_, rest) = cut(rt, row);
+    let (program, rest) = cut(rt, rest);
+    let (first, rest) = cut(rt, rest);
+    let (moved, _) = cut(rt, rest);
+    let program = kept(rt, format!(in alloc; "{program}9500000000000000"));
+    let mut pair = opened(rt, alloc, &program, size);
+    let _list = played(rt, alloc, &mut pair.list, first);
+    let _ring = played(rt, alloc, &mut pair.ring, first);
+    fill(rt, alloc, &mut pair, size.saturating_sub(gap), row);
+    both(rt, alloc, &mut pair, moved, row);
+    check_newest(rt, alloc, &pair, row);
+    both(rt, alloc, &mut pair, "back", row);
+}
+
+/// The weight of the newest entry of a ring.
+fn newest_weight(keeper: &RingKeeper) -> usize {
+    match keeper.last() {
+        Some((entry, _)) => entry.weight(),
+        None => 0,
+    }
+}
+
+/// Stops unless the newest entry of the ring has the weight of a row.
+fn check_newest(rt: &impl Abort, alloc: Global, pair: &Pair, row: &str) {
+    let found = newest_weight(pair.ring.keeper());
+    let found = kept(rt, format!(in alloc; "weight {found}"));
+    let wanted = kept(rt, format!(in alloc; "weight {}", weight_of(rt, row)));
+    check_found(rt, found.as_str(), wanted.as_str(), row);
+}
+
+/// The weight of the entry of a row.
+fn weight_of(rt: &impl Abort, row: &str) -> usize {
+    let (_, weight) = row.rsplit_once("; ").expect(rt, "no weight");
+    count(rt, weight)
+}
+
+/// The same of each row, and of each place at which its entry can be cut by the end, and of both its edges.
+fn check_entries(rt: &impl Abort, alloc: Global, table: &str, size: usize) {
+    for row in table.lines() {
+        for gap in 0..weight_of(rt, row).saturating_add(1) {
+            goes_around(rt, alloc, row, size, gap);
+        }
+    }
+}
+
+#[test]
+fn each_entry_goes_around_the_end(rt: HostRuntime) {
+    check_entries(&rt, rt.alloc(), ENTRIES, 1_024);
+}
+
+/// A keeper of the ring that another one gives up.
+fn put_back(cpu: &Cpu, keeper: RingKeeper) -> RingKeeper
+    requires { HasHistory ⟦<RingKeeper as Keeper>⟧.holds keeper cpu.now }
+    ensures { HasHistory ⟦<RingKeeper as Keeper>⟧.holds result cpu.now }
+{
+    let _cpu = cpu;
+    RingKeeper::from_ring(keeper.into_ring())
+}
+
+/// The same machines, with the ring taken out and put back.
+fn passed_on(pair: Pair) -> Pair {
+    let Pair { list, ring } = pair;
+    let (cpu, keeper) = ring.close();
+    let keeper = put_back(&cpu, keeper);
+    Pair {
+        list,
+        ring: Timeline::open(cpu, keeper),
+    }
+}
+
+// A loop whose steps make each kind of entry: sums, stores of each width, a fetch and a sum in memory, a call and a return, an update of a
+// cell, a trace and a jump. A store to where r8 is goes wrong at first; at slot 24 it exits, once r9 is 5.
+const LOOP: &str = "\
+0700000001000000bf060000000000007b0af8ff00000000636af4ff000000006b0af2ff00000000730af1ff00000000\
+7a0af8fe07000000db6af8ff01000000c36af4ff00000000851000000f00000045000100070000006308000000000000\
+bfa200000000000007020000e8ffffff620ae8ff0100000018510000000000000000000000000000bfa3000000000000\
+07030000e8feffffb7040000000000008500000002000000bf0100000000000085000000400000005509e8ff05000000\
+9500000000000000b707000003000000737affff000000009500000000000000";
+
+/// Makes random moves in journals of so many bytes, and now and then takes the ring out and puts it back.
+fn check_moves(rt: &impl Abort, alloc: Global, size: usize, seed: u64, moves: usize) {
+    let mut random = Random::new(seed);
+    let mut pair = opened(rt, alloc, LOOP, size);
+    for _ in 0..moves {
+        let words = random_words(rt, alloc, &mut random);
+        both(rt, alloc, &mut pair, &words, &words);
+        if random.below(16) == 0 {
+            pair = passed_on(pair);
+            both(rt, alloc, &mut pair, "place", "put back");
+        }
+    }
+    both(rt, alloc, &mut pair, "all back", "all back");
+}
+
+const SEEDS: [u64; 2] = [1, 2];
+
+/// The same of each size and each seed.
+fn check_sizes(rt: &impl Abort, alloc: Global, moves: usize) {
+    for size in 1_024usize..1_041 {
+        for seed in SEEDS {
+            check_moves(rt, alloc, size, seed, moves);
+        }
+    }
+}
+
+#[test]
+fn random_moves_in_a_ring_and_in_a_list(rt: HostRuntime) {
+    check_sizes(&rt, rt.alloc(), 60);
+}
