@@ -16,6 +16,8 @@ mod plain;
 #[cfg(test)]
 mod play;
 #[cfg(test)]
+mod random;
+#[cfg(test)]
 mod refusals;
 #[cfg(test)]
 mod rings;

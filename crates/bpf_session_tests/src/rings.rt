@@ -70,7 +70,7 @@ fn put_back(cpu: &Cpu, keeper: RingKeeper) -> RingKeeper
 }
 
 /// A session over the machine and the ring of another one.
-fn passed_on(rt: &impl Abort, session: Session<RingKeeper>, limit: u64) -> Session<RingKeeper> {
+pub fn passed_on(rt: &impl Abort, session: Session<RingKeeper>, limit: u64) -> Session<RingKeeper> {
     let limit = Count::new(limit).expect(rt, "no limit");
     let (cpu, keeper) = session.close();
     let keeper = put_back(&cpu, keeper);
