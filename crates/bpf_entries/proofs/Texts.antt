@@ -13,7 +13,8 @@ use Rattle.bpf_entries.specs.declared.status.Status.TheVariants.{Running, Exited
 use Rattle.bpf_entries.specs.Status.{FitsStatus}
 use Rattle.bpf_entries.specs.Fields.{FitsFields}
 use Rattle.bpf_entries.specs.Past.{is_of_step}
-use Rattle.bpf_entries.specs.Weights.{weight}
+use Rattle.bpf_entries.specs.Frames.{frame_len}
+use Rattle.bpf_entries.specs.Weights.{weight, greatest_weight}
 use Rattle.bpf_entries.specs.Reading.{slot_at, number_at, run_at, status_of, entry_of, ReadsAs}
 use Rattle.bpf_entries.specs.Texts.{text, tag, kind, status_text}
 
@@ -40,7 +41,11 @@ read_entry (entry.Register pc r x) m a =
     ap (λ p. entry.Register p r (number_at 6 (text (entry.Register pc r x) m))) (read2 pc (drop 5 (text (entry.Register pc r x) m)) a.0)
     ∙ ap (λ n. entry.Register pc r n) (read8 x (drop 14 (text (entry.Register pc r x) m)) a.2)
 read_entry (entry.Jump pc) m a = ap entry.Jump (read2 pc (drop 5 (text (entry.Jump pc) m)) a)
-read_entry (entry.Call pc) m a = ap entry.Call (read2 pc (drop 5 (text (entry.Call pc) m)) a)
+read_entry (entry.Call pc old) m a =
+    let b = text (entry.Call pc old) m in
+    let at : slot_at 3 b ≡ pc = read2 pc (drop 5 b) a.0 in
+    let bytes : run_at 5 frame_len b ≡ old = run_back frame_len old _ (sym a.1.0) in
+    cc
 read_entry (entry.Return pc []) m a = absurd (omega (arith, a.1))
 read_entry (entry.Return pc (p ∷ [])) m a = absurd (omega (arith, a.1))
 read_entry (entry.Return pc (p ∷ q ∷ [])) m a = absurd (omega (arith, a.1))
@@ -100,7 +105,7 @@ number_of n x y s t a b e = sym (little_number-reads_back n x s a) ∙ ap (littl
 pub length-text : (e : Entry) (m : Bool) → FitsFields e → length (text e m) ≡ weight e
 length-text (entry.Register pc r x) m a = refl
 length-text (entry.Jump pc) m a = refl
-length-text (entry.Call pc) m a = refl
+length-text (entry.Call pc old) m a = grind (arith, length-append)
 length-text (entry.Return pc []) m a = absurd (omega (arith, a.1))
 length-text (entry.Return pc (p ∷ [])) m a = absurd (omega (arith, a.1))
 length-text (entry.Return pc (p ∷ q ∷ [])) m a = absurd (omega (arith, a.1))
@@ -120,11 +125,11 @@ length-text (entry.EditPc pc (Faulted (Access n))) m a = refl
 length-text (entry.EditPc pc (Faulted (Token n))) m a = refl
 length-text (entry.EditPc pc (Faulted Depth)) m a = refl
 
--- A weight is 5 to 280.
-pub weight_low : (e : Entry) → FitsFields e → weight e ≤ 280
+-- A weight is 5 to 519.
+pub weight_low : (e : Entry) → FitsFields e → weight e ≤ greatest_weight
 weight_low (entry.Register pc r x) a = omega arith
 weight_low (entry.Jump pc) a = omega arith
-weight_low (entry.Call pc) a = omega arith
+weight_low (entry.Call pc old) a = omega (arith, a.1.0)
 weight_low (entry.Return pc saved) a = omega arith
 weight_low (entry.Store pc c old) a = omega (arith, a.2.1)
 weight_low (entry.Fetch pc r x c old) a = omega (arith, a.4.1)
@@ -138,7 +143,7 @@ weight_low (entry.EditPc pc st) a = omega arith
 pub weight_high : (e : Entry) → 5 ≤ weight e
 weight_high (entry.Register pc r x) = omega arith
 weight_high (entry.Jump pc) = omega arith
-weight_high (entry.Call pc) = omega arith
+weight_high (entry.Call pc old) = omega arith
 weight_high (entry.Return pc saved) = omega arith
 weight_high (entry.Store pc c old) = omega arith
 weight_high (entry.Fetch pc r x c old) = omega arith
@@ -155,7 +160,7 @@ weight_small e a = let low = weight_low e a in omega arith
 pub kind_low : (e : Entry) → kind e < 128
 kind_low (entry.Register pc r x) = omega arith
 kind_low (entry.Jump pc) = omega arith
-kind_low (entry.Call pc) = omega arith
+kind_low (entry.Call pc old) = omega arith
 kind_low (entry.Return pc saved) = omega arith
 kind_low (entry.Store pc c old) = omega arith
 kind_low (entry.Fetch pc r x c old) = omega arith
@@ -208,7 +213,7 @@ mark_back e false rest bytes h =
 pub kind_step : (e : Entry) → nat_le (kind e) 9 ≡ is_of_step e
 kind_step (entry.Register pc r x) = refl
 kind_step (entry.Jump pc) = refl
-kind_step (entry.Call pc) = refl
+kind_step (entry.Call pc old) = refl
 kind_step (entry.Return pc saved) = refl
 kind_step (entry.Store pc c old) = refl
 kind_step (entry.Fetch pc r x c old) = refl
@@ -223,7 +228,7 @@ kind_step (entry.EditPc pc st) = refl
 pub kind_high : (e : Entry) → (1 ≤ kind e) × (kind e ≤ 12)
 kind_high (entry.Register pc r x) = (omega arith, omega arith)
 kind_high (entry.Jump pc) = (omega arith, omega arith)
-kind_high (entry.Call pc) = (omega arith, omega arith)
+kind_high (entry.Call pc old) = (omega arith, omega arith)
 kind_high (entry.Return pc saved) = (omega arith, omega arith)
 kind_high (entry.Store pc c old) = (omega arith, omega arith)
 kind_high (entry.Fetch pc r x c old) = (omega arith, omega arith)

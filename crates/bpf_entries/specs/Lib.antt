@@ -1,4 +1,5 @@
 pub mod Status
+pub mod Frames
 pub mod Past
 pub mod Before
 pub mod Fields

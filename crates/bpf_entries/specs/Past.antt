@@ -2,6 +2,7 @@
 use Rattle.std.specs.Prelude.{ℕ, Bool, true, false, List, Option, Some, None}
 use Rattle.bpf_entries.specs.declared.entry.Entry.{Entry}
 use Rattle.bpf_entries.specs.declared.entry.Entry.TheVariants as entry
+use Rattle.bpf_entries.specs.Frames.{frame_base}
 use Rattle.bpf_entries.specs.declared.status.Status.{Status}
 use Rattle.bpf_entries.specs.declared.status.Status.TheVariants.{Running}
 
@@ -35,23 +36,24 @@ at_slot pc = record nothing { pc = Some pc }
 abbrev pub stood : ℕ → List ℕ → Option Run
 stood a bytes = Some (record { address = a; bytes = bytes })
 
-abbrev pub past : Entry → Past
-past (entry.Register pc r value) = record (at_slot pc) { register = Some (r, value) }
-past (entry.Jump pc) = at_slot pc
-past (entry.Call pc) = record (at_slot pc) { frames = Fewer }
-past (entry.Return pc saved) = record (at_slot pc) { frames = More saved }
-past (entry.Store pc a old) = record (at_slot pc) { run = stood a old }
-past (entry.Fetch pc r value a old) = record (at_slot pc) { register = Some (r, value); run = stood a old }
-past (entry.Cell pc r0 a old) = record (at_slot pc) { register = Some (0, r0); run = stood a old }
-past (entry.Trace pc r0) = record (at_slot pc) { register = Some (0, r0); traces = true }
-past entry.End = record nothing { status = Some Running }
-past (entry.EditRegister r value) = record nothing { register = Some (r, value) }
-past (entry.EditBytes a old) = record nothing { run = stood a old }
-past (entry.EditPc pc status) = record (at_slot pc) { status = Some status }
+-- What an entry keeps, by the depth of calls after its move: a call entered the frame of that depth.
+abbrev pub past : ℕ → Entry → Past
+past d (entry.Register pc r value) = record (at_slot pc) { register = Some (r, value) }
+past d (entry.Jump pc) = at_slot pc
+past d (entry.Call pc old) = record (at_slot pc) { run = stood (frame_base d) old; frames = Fewer }
+past d (entry.Return pc saved) = record (at_slot pc) { frames = More saved }
+past d (entry.Store pc a old) = record (at_slot pc) { run = stood a old }
+past d (entry.Fetch pc r value a old) = record (at_slot pc) { register = Some (r, value); run = stood a old }
+past d (entry.Cell pc r0 a old) = record (at_slot pc) { register = Some (0, r0); run = stood a old }
+past d (entry.Trace pc r0) = record (at_slot pc) { register = Some (0, r0); traces = true }
+past d entry.End = record nothing { status = Some Running }
+past d (entry.EditRegister r value) = record nothing { register = Some (r, value) }
+past d (entry.EditBytes a old) = record nothing { run = stood a old }
+past d (entry.EditPc pc status) = record (at_slot pc) { status = Some status }
 
--- The run that a move replaced, by the depth of calls after it; None where memory stays. (No entry needs the depth yet.)
+-- The run that a move replaced, by the depth of calls after it; None where memory stays.
 abbrev pub replaced : ℕ → Entry → Option Run
-replaced depth e = (past e).run
+replaced d e = (past d e).run
 
 -- Whether an entry is a step's, and not an edit's.
 abbrev pub is_of_step : Entry → Bool

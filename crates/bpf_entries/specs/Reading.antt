@@ -7,6 +7,7 @@ use Rattle.bpf_entries.specs.declared.status.Fault.TheVariants.{Access, Token, D
 use Rattle.bpf_entries.specs.declared.status.Status.{Status}
 use Rattle.bpf_entries.specs.declared.status.Status.TheVariants.{Running, Exited, Faulted}
 use Rattle.bpf_entries.specs.Fields.{FitsFields}
+use Rattle.bpf_entries.specs.Frames.{frame_len}
 use Rattle.bpf_entries.specs.Weights.{weight}
 
 -- A slot, a number, a run of so many bytes at a place.
@@ -33,7 +34,7 @@ abbrev pub entry_of : ℕ → ℕ → List ℕ → Entry
 entry_of kind n b =
     if nat_eq kind 1 then entry.Register (slot_at 3 b) (slice_index b 5) (number_at 6 b)
     else if nat_eq kind 2 then entry.Jump (slot_at 3 b)
-    else if nat_eq kind 3 then entry.Call (slot_at 3 b)
+    else if nat_eq kind 3 then entry.Call (slot_at 3 b) (run_at 5 frame_len b)
     else if nat_eq kind 4 then entry.Return (slot_at 3 b) (number_at 5 b ∷ number_at 13 b ∷ number_at 21 b ∷ number_at 29 b ∷ [])
     else if nat_eq kind 5 then entry.Store (slot_at 3 b) (number_at 5 b) (run_at 14 (slice_index b 13) b)
     else if nat_eq kind 6 then entry.Fetch (slot_at 3 b) (slice_index b 5) (number_at 6 b) (number_at 14 b) (run_at 23 (slice_index b 22) b)

@@ -32,7 +32,7 @@ status_text (Faulted Depth) = 4 ∷ number 0
 abbrev pub kind : Entry → ℕ
 kind (entry.Register pc r value) = 1
 kind (entry.Jump pc) = 2
-kind (entry.Call pc) = 3
+kind (entry.Call pc old) = 3
 kind (entry.Return pc saved) = 4
 kind (entry.Store pc a old) = 5
 kind (entry.Fetch pc r value a old) = 6
@@ -51,7 +51,7 @@ tag kind mark = if mark then kind + 128 else kind
 abbrev pub body : Entry → List ℕ
 body (entry.Register pc r value) = slot pc ++ (r ∷ number value)
 body (entry.Jump pc) = slot pc
-body (entry.Call pc) = slot pc
+body (entry.Call pc old) = slot pc ++ old
 body (entry.Return pc saved) = slot pc ++ numbers saved
 body (entry.Store pc a old) = slot pc ++ (number a ++ (length old ∷ old))
 body (entry.Fetch pc r value a old) = slot pc ++ (r ∷ (number value ++ (number a ++ (length old ∷ old))))

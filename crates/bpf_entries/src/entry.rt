@@ -1,7 +1,8 @@
 //! Entries: what a move replaced. Put back, an entry gives the state before its move.
-ghost use Rattle.std.specs.Prelude.{◌≡◌, ℕ, option_map};
+ghost use Rattle.std.specs.Prelude.{◌≡◌, ◌<◌, ◌+◌, ◌^◌, option_map};
 
 use crate::byte_string::ByteString;
+use crate::frames::{FrameBytes, frame_base};
 use crate::read::runs::byte_in;
 use crate::status::Status;
 use crate::weights;
@@ -20,9 +21,10 @@ pub enum Entry {
     Jump {
         pc: u16,
     },
-    /// A local call.
+    /// A local call, with the bytes of the frame that it entered.
     Call {
         pc: u16,
+        old: FrameBytes,
     },
     /// A return from a local call, with r6 to r9 as the called function left them.
     Return {
@@ -75,18 +77,18 @@ pub enum Entry {
 }
 
 impl Entry {
-    ghost use Rattle.bpf_entries.specs.Before.{byte_before as byte_before_by};
+    ghost use Rattle.bpf_entries.specs.Before.{byte_before as byte_before_by, depth_before as depth_before_by};
     ghost use Rattle.bpf_entries.specs.Past.{replaced as replaced_by};
     ghost use Rattle.bpf_entries.specs.Weights.{weight as weight_of};
 
-    /// How many bytes it has in a journal: 5 to 280.
+    /// How many bytes it has in a journal: 5 to 519.
     pub fn weight(&self) -> usize
         ensures { result ≡ weight_of self.now }
     {
         match self {
             Entry::Register { .. } => weights::REGISTER,
             Entry::Jump { .. } => weights::JUMP,
-            Entry::Call { .. } => weights::CALL,
+            Entry::Call { old, .. } => weights::CALL + old.len(),
             Entry::Return { .. } => weights::RETURN,
             Entry::Store { old, .. } => weights::STORE + old.len(),
             Entry::Fetch { old, .. } => weights::FETCH + old.len(),
@@ -99,11 +101,13 @@ impl Entry {
         }
     }
 
-    /// The address and the old bytes of the run that its move replaced, None where the move left memory as it was.
-    pub fn replaced(&self) -> Option<(u64, &[u8])>
-        ensures { (depth : ℕ) → option_map (λ run. record { address = run.0; bytes = run.1.now }) result ≡ replaced_by depth self.now }
+    /// The address and the old bytes of the run that its move replaced, by the depth of calls after the move; None where the move left memory
+    /// as it was.
+    pub fn replaced(&self, depth: u32) -> Option<(u64, &[u8])>
+        ensures { option_map (λ run. record { address = run.0; bytes = run.1.now }) result ≡ replaced_by depth self.now }
     {
         match self {
+            Entry::Call { old, .. } => Some((frame_base(depth), old.as_slice())),
             Entry::Store { address, old, .. }
             | Entry::Fetch { address, old, .. }
             | Entry::Cell { address, old, .. }
@@ -112,13 +116,25 @@ impl Entry {
         }
     }
 
-    /// The byte at an address before its move, where it is `after` behind the move.
-    pub fn byte_before(&self, address: u64, after: u8) -> u8
-        ensures { (depth : ℕ) → result ≡ byte_before_by depth self.now address after }
+    /// The byte at an address before its move, where it is `after` behind the move, at the depth of calls there.
+    pub fn byte_before(&self, depth: u32, address: u64, after: u8) -> u8
+        ensures { result ≡ byte_before_by depth self.now address after }
     {
-        match self.replaced() {
+        match self.replaced(depth) {
             Some((start, old)) => byte_in(start, old, address, after),
             None => after,
+        }
+    }
+
+    /// The depth of calls before its move, by the depth after it.
+    pub fn depth_before(&self, depth: u32) -> u32
+        requires { depth + 1 < 2 ^ 32 }
+        ensures { result ≡ depth_before_by depth self.now }
+    {
+        match self {
+            Entry::Call { .. } => depth.saturating_sub(1),
+            Entry::Return { .. } => depth + 1,
+            _ => depth,
         }
     }
 
@@ -137,7 +153,10 @@ impl Entry {
                 value: *value,
             },
             Entry::Jump { pc } => Entry::Jump { pc: *pc },
-            Entry::Call { pc } => Entry::Call { pc: *pc },
+            Entry::Call { pc, old } => Entry::Call {
+                pc: *pc,
+                old: old.copied(),
+            },
             Entry::Return { pc, saved } => Entry::Return {
                 pc: *pc,
                 saved: *saved,

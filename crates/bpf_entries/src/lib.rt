@@ -3,6 +3,7 @@
 
 mod byte_string;
 mod entry;
+mod frames;
 mod laws;
 mod read;
 mod status;
@@ -11,12 +12,13 @@ mod write;
 
 pub use byte_string::ByteString;
 pub use entry::Entry;
+pub use frames::{FRAME_BASE, FRAME_LEN, FRAME_STRIDE, FrameBytes, frame_base};
 pub use laws::{
     a_ring_is_cut_from_the_back, a_ring_is_of_one_list, a_text_is_of_one_entry, worked_texts,
 };
 pub use read::{
-    byte_before, first_len, is_marked, is_of_step, kind_of, last_len, replaced_in, saved_in,
-    slot_in, status_by,
+    byte_before, depth_before, first_len, is_marked, is_of_step, kind_of, last_len, replaced_in,
+    saved_in, slot_in, status_by,
 };
 pub use status::{Fault, Status};
 pub use write::{

@@ -6,8 +6,7 @@ mod sized;
 mod tags;
 
 pub use fixed::{
-    put_call, put_edit_pc, put_edit_register, put_end, put_jump, put_register, put_return,
-    put_trace,
+    put_edit_pc, put_edit_register, put_end, put_jump, put_register, put_return, put_trace,
 };
-pub use runs::{put_cell, put_edit_bytes, put_fetch, put_store};
+pub use runs::{put_call, put_cell, put_edit_bytes, put_fetch, put_store};
 pub use sized::{put_fetch_number, put_store_number};

@@ -7,6 +7,7 @@ ghost use Rattle.bpf_entries.specs.Texts.{text};
 
 use crate::byte_string::ByteString;
 use crate::entry::Entry;
+use crate::frames::FrameBytes;
 use crate::read::runs::piece;
 use crate::read::tags::{is_marked, kind_of};
 use crate::status::{Fault, Status};
@@ -190,11 +191,12 @@ fn jump_entry(bytes: &[u8]) -> Option<Entry>
 fn call_entry(bytes: &[u8]) -> Option<Entry>
     ensures { ReadsAs 3 bytes.now result }
 {
-    if bytes.len() < 7 {
+    if bytes.len() < 519 {
         return None;
     }
     Some(Entry::Call {
         pc: LittleEndian::read_u16(&bytes[3..5]),
+        old: FrameBytes::of(&bytes[5..517]),
     })
 }
 

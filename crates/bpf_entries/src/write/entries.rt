@@ -6,13 +6,12 @@ ghost use Rattle.bpf_entries.specs.Weights.{weight as weight_of};
 
 use crate::entry::Entry;
 use crate::write::fixed::{
-    put_call, put_edit_pc, put_edit_register, put_end, put_jump, put_register, put_return,
-    put_trace,
+    put_edit_pc, put_edit_register, put_end, put_jump, put_register, put_return, put_trace,
 };
-use crate::write::runs::{put_cell, put_edit_bytes, put_fetch, put_store};
+use crate::write::runs::{put_call, put_cell, put_edit_bytes, put_fetch, put_store};
 
 impl Entry {
-    /// Writes its text into the beginning of a slice, and answers how many bytes that are: 5 to 280.
+    /// Writes its text into the beginning of a slice, and answers how many bytes that are: 5 to 519.
     pub fn write(&self, room: &mut [u8], mark: bool) -> usize
         requires fits { FitsFields self.now }
         requires room { weight_of self.now ≤ length room.old }
@@ -26,7 +25,7 @@ impl Entry {
                 value,
             } => put_register(room, *pc, *register, *value, mark),
             Entry::Jump { pc } => put_jump(room, *pc, mark),
-            Entry::Call { pc } => put_call(room, *pc, mark),
+            Entry::Call { pc, old } => put_call(room, *pc, old.as_slice(), mark),
             Entry::Return { pc, saved } => put_return(room, *pc, saved, mark),
             Entry::Store { pc, address, old } => put_store(
                 room,

@@ -35,18 +35,6 @@ pub fn put_jump(room: &mut [u8], pc: u16, mark: bool)
     LittleEndian::write_u16(&mut room[5..7], 7);
 }
 
-/// Writes the entry of a local call: 7 bytes.
-#[inline(always)]
-pub fn put_call(room: &mut [u8], pc: u16, mark: bool)
-    requires { 7 ≤ length room.old }
-    ensures { room.new ≡ text (entry.Call pc) mark ++ drop 7 room.old }
-{
-    LittleEndian::write_u16(&mut room[0..2], 7);
-    room[2] = tag(3, mark);
-    LittleEndian::write_u16(&mut room[3..5], pc);
-    LittleEndian::write_u16(&mut room[5..7], 7);
-}
-
 /// Writes the entry of a word appended to the trace list: 15 bytes.
 #[inline(always)]
 pub fn put_trace(room: &mut [u8], pc: u16, r0: u64, mark: bool)

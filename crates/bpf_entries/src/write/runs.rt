@@ -2,6 +2,7 @@
 ghost use Rattle.std.specs.Prelude.{◌≡◌, ◌≤◌, ◌+◌, ◌++◌, ◌∷◌, [], length, drop};
 ghost use Rattle.byteorder.specs.Endian.{little_bytes};
 ghost use Rattle.bpf_entries.specs.declared.entry.Entry.TheVariants as entry;
+ghost use Rattle.bpf_entries.specs.Frames.{frame_len};
 ghost use Rattle.bpf_entries.specs.Texts.{number, slot, tag as tag_of, text};
 
 use crate::write::tags::tag;
@@ -159,4 +160,27 @@ pub fn put_edit_bytes(room: &mut [u8], address: u64, old: &[u8], mark: bool)
     let count = old.len();
     put_edit_head(room, 13 + count as u16, address, mark);
     put_tail(&mut room[11..], old, 13 + count as u16);
+}
+
+/// Writes a local call's entry but for its old bytes and its end: 7 bytes less 2.
+#[inline(always)]
+fn put_call_head(room: &mut [u8], len: u16, pc: u16, mark: bool)
+    requires { 5 ≤ length room.old }
+    ensures { room.new ≡ (little_bytes 2 len ++ tag_of 3 mark ∷ slot pc) ++ drop 5 room.old }
+{
+    LittleEndian::write_u16(&mut room[0..2], len);
+    room[2] = tag(3, mark);
+    LittleEndian::write_u16(&mut room[3..5], pc);
+}
+
+/// Writes the entry of a local call: 7 bytes and the old ones, those of a frame.
+#[inline(always)]
+pub fn put_call(room: &mut [u8], pc: u16, old: &[u8], mark: bool)
+    requires frame { length old.now ≡ frame_len }
+    requires room { 7 + length old.now ≤ length room.old }
+    ensures { room.new ≡ text (entry.Call pc old.now) mark ++ drop (7 + length old.now) room.old }
+{
+    let count = old.len();
+    put_call_head(room, 7 + count as u16, pc, mark);
+    put_tail(&mut room[5..], old, 7 + count as u16);
 }

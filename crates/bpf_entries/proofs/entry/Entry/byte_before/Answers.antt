@@ -4,8 +4,8 @@ use Rattle.bpf_entries.specs.Before.{byte_in}
 use Rattle.bpf_entries.proofs.entry.Entry.byte_before.Goals as goal
 
 pub returns-in-Some : goal.returns-in-Some
-returns-in-Some c = λ d.
-    c.byte_in.ensures ∙ ap (λ (run : Option Run). byte_in run c.args.address c.args.after) (c.in-Some.ensures d)
+returns-in-Some c =
+    c.byte_in.ensures ∙ ap (λ (run : Option Run). byte_in run c.args.address c.args.after) c.in-Some.ensures
 
 pub returns-in-None : goal.returns-in-None
-returns-in-None c = λ d. ap (λ (run : Option Run). byte_in run c.args.address c.args.after) (c.in-None.ensures d)
+returns-in-None c = ap (λ (run : Option Run). byte_in run c.args.address c.args.after) c.in-None.ensures

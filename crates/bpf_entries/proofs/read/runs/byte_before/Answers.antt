@@ -4,8 +4,8 @@ use Rattle.bpf_entries.specs.Before.{byte_in}
 use Rattle.bpf_entries.proofs.read.runs.byte_before.Goals as goal
 
 pub returns-in-Some : goal.returns-in-Some
-returns-in-Some c = λ e mark depth fits h.
-    c.byte_in.ensures ∙ ap (λ (run : Option Run). byte_in run c.args.address c.args.after) (c.in-Some.ensures e mark depth fits h)
+returns-in-Some c = λ e mark fits h.
+    c.byte_in.ensures ∙ ap (λ (run : Option Run). byte_in run c.args.address c.args.after) (c.in-Some.ensures e mark fits h)
 
 pub returns-in-None : goal.returns-in-None
-returns-in-None c = λ e mark depth fits h. ap (λ (run : Option Run). byte_in run c.args.address c.args.after) (c.in-None.ensures e mark depth fits h)
+returns-in-None c = λ e mark fits h. ap (λ (run : Option Run). byte_in run c.args.address c.args.after) (c.in-None.ensures e mark fits h)
