@@ -14,15 +14,16 @@ use Rattle.bpf_machine.specs.declared.edit.Edit.{Edit}
 use Rattle.bpf_machine.specs.declared.edit.Edit.TheVariants as edit
 use Rattle.bpf_machine.specs.declared.moves.Move.{Move}
 use Rattle.bpf_machine.specs.declared.moves.Move.TheVariants as move
-use Rattle.bpf_machine.specs.Platform.{cell_address}
+use Rattle.bpf_machine.specs.Calls.{entered}
+use Rattle.bpf_machine.specs.Platform.{cell_address, frame_base, frame_len}
 use Rattle.bpf_machine.specs.Regions.{index_of, run, run_at}
-use Rattle.bpf_machine.specs.State.{State, IsState}
+use Rattle.bpf_machine.specs.State.{State, IsState, depth}
 use Rattle.bpf_machine.specs.Fetched.{Fits}
 use Rattle.bpf_machine.specs.Next.{change}
 use Rattle.bpf_machine.specs.Entries.{entry_of}
 use Rattle.bpf_machine.specs.Edits.{IsEditable, edit_entry}
 use Rattle.bpf_machine.specs.Moves.{IsMovable, overwritten}
-use Rattle.bpf_entries.specs.Fields.{FitsSlot, FitsBytes, FitsFields}
+use Rattle.bpf_entries.specs.Fields.{FitsSlot, FitsBytes, FitsFrame, FitsFields}
 use Rattle.bpf_machine.specs.Fields.{FitsEdit, FitsMove, EntriesFit}
 use Rattle.bpf_entries.specs.Status.{FitsNumber, FitsStatus}
 use Rattle.bpf_machine.proofs.Editable.{able_bytes, able_cell}
@@ -65,6 +66,14 @@ bytes_fit x a n other (Some at) is e some low high =
     let was : unwrap_or (run_at x.memory a n) other ≡ run x.memory at n = ap (λ o. unwrap_or (option_map (λ at. run x.memory at n) o) other) e in
     subst (FitsBytes 256) (sym was) (run_fits x 256 a n at is e low high)
 
+-- The bytes of the frame that a call enters.
+frame_fits : (x : State) (found : Option ℕ) → IsState x → index_of x.memory (frame_base (depth x + 1)) frame_len ≡ found → IsSome found → FitsFrame (entered x)
+frame_fits x None is e some = cc
+frame_fits x (Some at) is e some =
+    let was : entered x ≡ run x.memory at frame_len = ap (λ o. unwrap_or (option_map (λ at. run x.memory at frame_len) o) []) e in
+    let fits = run_fits x frame_len (frame_base (depth x + 1)) frame_len at is e (omega arith) (omega arith) in
+    subst FitsFrame (sym was) (omega (arith, length-run x.memory.bytes at frame_len (fits_within x.memory is.image (frame_base (depth x + 1)) frame_len at e)), fits.2)
+
 -- The entry of a step.
 step_fits : (x : State) (c : Change) → IsState x → Fits x c → FitsFields (entry_of x c)
 unfolding entry_of
@@ -76,7 +85,7 @@ step_fits x (Store a at size value after) is fits =
 step_fits x (Fetch a at size value r after) is fits =
     let few = size_fits size in
     (slot_fits x is, omega (arith, fits.0), number_fits x r is, fits.1.number, run_fits x 255 a (size_len size) at is fits.1.found few.0 few.1)
-step_fits x (Call to) is fits = slot_fits x is
+step_fits x (Call to) is fits = (slot_fits x is, frame_fits x (index_of x.memory (frame_base (depth x + 1)) frame_len) is refl fits.3)
 step_fits x Return is fits =
     (slot_fits x is, refl, four_fit FitsNumber _ _ _ _ (number_fits x 6 is) (number_fits x 7 is) (number_fits x 8 is) (number_fits x 9 is))
 step_fits x (Cell a from n after) is fits =

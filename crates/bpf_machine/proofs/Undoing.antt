@@ -5,7 +5,7 @@ use Rattle.std.specs.Option.{option_map_or}
 use Rattle.std.proofs.lemmas.Grind.{elements}
 use Rattle.std.proofs.lemmas.Bool.{cases_lt}
 use Rattle.std.proofs.lemmas.Bool.Decides.{nat_tests}
-use Rattle.std.proofs.lemmas.List.{set-set, set-get_or, set_past, take_more, take_all}
+use Rattle.std.proofs.lemmas.List.{length-replicate, set-set, set-get_or, set_past, take_more, take_all}
 use Rattle.std.proofs.lemmas.List.Elements.{All-get_or}
 use Rattle.std.proofs.lemmas.Option.{slice_get_cases}
 use Rattle.std.proofs.Math.Seq.{take-append_seam}
@@ -15,7 +15,7 @@ use Rattle.bpf_isa.specs.Sizes.{size_len}
 use Rattle.bpf_isa.specs.Programs.{Checked}
 use Rattle.bpf_entries.specs.declared.entry.Entry.TheVariants as entry
 use Rattle.bpf_machine.specs.declared.frame.Frame.{Frame}
-use Rattle.bpf_machine.specs.Calls.{saved, with_saved, frame_of, popped, innermost}
+use Rattle.bpf_machine.specs.Calls.{saved, with_saved, frame_of, pushed, popped, innermost, entered, cleared}
 use Rattle.bpf_machine.specs.Fetched.{Fits}
 use Rattle.bpf_machine.specs.declared.change.Change.{Change}
 use Rattle.bpf_machine.specs.declared.change.Change.TheVariants.{Set, Go, Store, Fetch, Call, Return, Cell, Trace, Stop}
@@ -26,8 +26,8 @@ use Rattle.bpf_machine.specs.declared.moves.Move.TheVariants as move
 use Rattle.bpf_entries.specs.declared.status.Status.{Status}
 use Rattle.bpf_entries.specs.declared.status.Status.TheVariants.{Running, Exited, Faulted}
 use Rattle.bpf_entries.specs.Status.{has_ended}
-use Rattle.bpf_machine.specs.Platform.{cell_address}
-use Rattle.bpf_machine.specs.Regions.{Image, IsImage, index_of, run, run_at, number_at, paste, with_bytes, put}
+use Rattle.bpf_machine.specs.Platform.{cell_address, frame_base, frame_len}
+use Rattle.bpf_machine.specs.Regions.{Image, IsImage, index_of, run, run_at, number_at, paste, with_bytes, put, zeros}
 use Rattle.bpf_machine.specs.State.{State, IsState, IsFrame, register, depth}
 use Rattle.bpf_machine.specs.Next.{change, changed, returned}
 use Rattle.bpf_machine.specs.Entries.{entry_of}
@@ -72,6 +72,15 @@ pub runs : (status : Status) → has_ended status ≡ false → status ≡ Runni
 runs Running e = refl
 runs Exited e = cc
 runs (Faulted fault) e = cc
+
+-- So many zeros are as many bytes.
+pub length-zeros : (n : ℕ) → length (zeros n) ≡ n
+unfolding zeros
+length-zeros n = length-replicate n 0
+
+-- A call makes the depth one more.
+pub pushed_depth : (x : State) (to : ℕ) → length (pushed x to) ≡ depth x + 1
+pushed_depth x to = omega (arith, length-append x.frames (frame_of x to ∷ []))
 
 -- What a push adds to a list, a pop takes off; and what a pop took off, a push adds.
 pub pop_push : {X : Type 0} (xs : List X) (x : X) → take (length (xs ++ x ∷ []) - 1) (xs ++ x ∷ []) ≡ xs
@@ -130,6 +139,9 @@ return_back x (Some f) is some e =
 stored_back : (x : State) (rs : List ℕ) (m : Image) → rs ≡ x.registers → m ≡ x.memory → record x { registers = rs; memory = m } ≡ x
 stored_back x rs m e f = ap (λ (qs : List ℕ). record x { registers = qs; memory = m }) e ∙ ap (λ (k : Image). record x { memory = k }) f
 
+called_back : (x : State) (fs : List Frame) (m : Image) → fs ≡ x.frames → m ≡ x.memory → record x { frames = fs; memory = m } ≡ x
+called_back x fs m e f = ap (λ (gs : List Frame). record x { frames = gs; memory = m }) e ∙ ap (λ (k : Image). record x { memory = k }) f
+
 traced_back : (x : State) (rs ws : List ℕ) → rs ≡ x.registers → ws ≡ x.trace → record x { registers = rs; trace = ws } ≡ x
 traced_back x rs ws e f = ap (λ (qs : List ℕ). record x { registers = qs; trace = ws }) e ∙ ap (λ (ks : List ℕ). record x { trace = ks }) f
 
@@ -155,7 +167,9 @@ change_back x (Store a at size value after) is fits e =
 change_back x (Fetch a at size value r after) is fits e =
     stored_back x _ _ (register_back x r (number_at x.memory at (size_len size)) is.ten) (memory_back x.memory a (size_len size) at (little_bytes (size_len size) value) is.image (length-bytes_low_first 0 (size_len size) value) fits.1.found)
 change_back x (Call to) is fits e =
-    ap (λ (fs : List Frame). record x { frames = fs }) (pop_push x.frames (frame_of x (x.pc + 1)))
+    called_back x _ _ (pop_push x.frames (frame_of x (x.pc + 1)))
+    (ap (λ (d : ℕ). put (cleared x) (frame_base d) (length (entered x)) (entered x)) (pushed_depth x (x.pc + 1))
+    ∙ bytes_back x (frame_base (depth x + 1)) frame_len (zeros frame_len) [] (index_of x.memory (frame_base (depth x + 1)) frame_len) is (length-zeros frame_len) refl fits.3)
 change_back x Return is fits e = return_back x (innermost x) is fits refl
 change_back x (Cell a from n after) is fits e =
     stored_back x _ _ (register_back x 0 0 is.ten) (bytes_back x a n (run x.memory from n) [] (index_of x.memory a n) is (length-run x.memory.bytes from n fits.2) refl fits.3.found)

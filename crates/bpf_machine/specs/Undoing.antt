@@ -26,12 +26,12 @@ saved_before _ registers = registers
 -- The state with what an entry keeps put back.
 unfoldable pub undone : Entry → State → State
 undone e y = record y {
-  pc = unwrap_or (past e).pc y.pc;
-  registers = option_map_or (λ (r : ℕ × ℕ). slice_set y.registers r.0 r.1) (past e).register (saved_before (past e).frames y.registers);
-  frames = frames_before (past e).frames y;
+  pc = unwrap_or (past (depth y) e).pc y.pc;
+  registers = option_map_or (λ (r : ℕ × ℕ). slice_set y.registers r.0 r.1) (past (depth y) e).register (saved_before (past (depth y) e).frames y.registers);
+  frames = frames_before (past (depth y) e).frames y;
   memory = option_map_or (λ run. put y.memory run.address (length run.bytes) run.bytes) (replaced (depth y) e) y.memory;
-  trace = if (past e).traces then take (length y.trace - 1) y.trace else y.trace;
-  status = unwrap_or (past e).status y.status;
+  trace = if (past (depth y) e).traces then take (length y.trace - 1) y.trace else y.trace;
+  status = unwrap_or (past (depth y) e).status y.status;
 }
 
 -- An entry that can be put back: its slot starts an instruction, its register is not r10, and there is room for its frame.
@@ -40,7 +40,7 @@ HasRoom (More saved) y = depth y + 1 < frame_count
 HasRoom _ y = Unit {0}
 
 abbrev pub Restores : State → Entry → Type 0
-Restores y e = IfSome (past e).pc (IsStart y.program) × IfSome (past e).register (λ (r : ℕ × ℕ). r.0 < 10) × HasRoom (past e).frames y
+Restores y e = IfSome (past (depth y) e).pc (IsStart y.program) × IfSome (past (depth y) e).register (λ (r : ℕ × ℕ). r.0 < 10) × HasRoom (past (depth y) e).frames y
 
 -- The entry of a kind that bytes are read as: it fits its fields, it weighs as many bytes as there are, and it can be put back.
 abbrev pub read_as : ℕ → List ℕ → Entry

@@ -2,7 +2,7 @@
 ghost use Rattle.std.specs.Prelude.{◌≡◌};
 ghost use Rattle.bpf_machine.specs.Codes.{change_weight};
 
-use bpf_entries::{Status, weights};
+use bpf_entries::{FRAME_LEN, Status, weights};
 use bpf_isa::{Reg, Size};
 
 /// What a step does. There is a variant for each kind of entry that a step makes.
@@ -35,7 +35,7 @@ pub enum Change {
         register: Reg,
         next: u16,
     },
-    /// A frame is pushed, and the instruction at `target` is the next to run.
+    /// A frame is pushed and its bytes become zero, and the instruction at `target` is the next to run.
     Call {
         target: u16,
     },
@@ -70,7 +70,7 @@ impl Change {
             Change::Go { .. } => weights::JUMP,
             Change::Store { size, .. } => weights::STORE + size.len(),
             Change::Fetch { size, .. } => weights::FETCH + size.len(),
-            Change::Call { .. } => weights::CALL,
+            Change::Call { .. } => weights::CALL + FRAME_LEN,
             Change::Return => weights::RETURN,
             Change::Cell { length, .. } => weights::CELL + usize::from(length),
             Change::Trace { .. } => weights::TRACE,

@@ -1,6 +1,6 @@
 //! Laws of the definitions, each proved as the contract of a function that does nothing.
 ghost use Rattle.bpf_machine.specs.ByAddress.{RegionsAreApart, RunsAreTheirAddresses, NumbersAreSums, StoresAreLocal, AccessibleIsBelow, CellsAreAccessible, OpenedByAddress};
-ghost use Rattle.bpf_machine.specs.CallLaws.{PointerFollowsDepth, CallsGoDeeper, ReturnsGiveBack};
+ghost use Rattle.bpf_machine.specs.CallLaws.{PointerFollowsDepth, CallsGoDeeper, CallsFindZeros, CallsForgetTheFrame, LastFrameCallsNone, ReturnsGiveBack};
 ghost use Rattle.bpf_machine.specs.Fields.{EntriesFit};
 ghost use Rattle.bpf_machine.specs.StepLaws.{StepsKeepRegisters, StepsKeepBytes, StepsKeepTheRest, EndsKeepAllElse};
 
@@ -24,6 +24,15 @@ pub fn steps_are_local()
     ensures bytes { StepsKeepBytes }
     ensures rest { StepsKeepTheRest }
     ensures ends { EndsKeepAllElse }
+{}
+
+/// A function begins with a frame of zeros, whatever stood there: two states that differ in that frame alone lead to one state. In the last
+/// frame a call changes the status alone.
+#[tactic(none)]
+pub fn calls_clear_their_frame()
+    ensures zeros { CallsFindZeros }
+    ensures forget { CallsForgetTheFrame }
+    ensures last { LastFrameCallsNone }
 {}
 
 /// Local calls: r10 follows the depth, a call goes one deeper, and the return to its frame gives r6 to r9 and the depth back.

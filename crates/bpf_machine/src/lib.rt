@@ -15,7 +15,7 @@ mod memory;
 mod moves;
 mod platform;
 
-pub use bpf_entries::{ByteString, Entry, Fault, Status};
+pub use bpf_entries::{ByteString, Entry, Fault, FrameBytes, Status};
 pub use change::Change;
 pub use cpu::Cpu;
 pub use edit::{Edit, EditFault};

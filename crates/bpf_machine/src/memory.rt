@@ -1,6 +1,6 @@
 //! Memory: the bytes of all regions, one region after another.
 ghost use Rattle.std.specs.Prelude.{◌≡◌, All, ◌+◌, ◌-◌, ◌*◌, ◌^◌, ◌≤◌, ◌<◌, ◌⊎◌, length, IfSome, IfNone, IfOk, IfErr, IsTrue, IsSome, ◌↔◌, option_map, Some, None, if◌then◌else◌, ◌==◌, ◌++◌, replicate};
-ghost use Rattle.bpf_machine.specs.Regions.{index_in, frames_from, is_from_frame};
+ghost use Rattle.bpf_machine.specs.Regions.{index_in, frames_from, is_from_frame, zeros};
 ghost use Rattle.bpf_machine.specs.Platform.{context_limit, frame_count, frame_len};
 
 use crate::alu::{low8, low16, low32};
@@ -138,6 +138,17 @@ impl Memory {
         }
     }
 
+    /// Makes the n bytes at this address zero where all of them are present; else nothing changes.
+    pub(crate) fn clear(&mut self, address: u64, n: usize)
+        requires { 1 ≤ n }
+        ensures next { self.new ≡ put self.old address n (zeros n) }
+        ensures maps { self.new.maps ≡ self.old.maps }
+    {
+        if let Some(at) = self.index(address, n, FRAME_COUNT) {
+            clear(self.run_mut(at, n), n);
+        }
+    }
+
     /// The n bytes at this address, or no bytes where some of them aren't present.
     fn run_or_none(&mut self, address: u64, n: usize) -> &mut [u8]
         requires { 1 ≤ n }
@@ -186,6 +197,15 @@ fn copy(run: &mut [u8], bytes: &[u8])
     ensures { run.new ≡ bytes.now }
 {
     run.copy_from_slice(bytes);
+}
+
+/// Makes the n bytes of a run zero.
+#[tactic(auto, unfolding(crate::specs::Regions::zeros))]
+fn clear(run: &mut [u8], n: usize)
+    requires { length run.old ≡ n }
+    ensures { run.new ≡ zeros n }
+{
+    run.fill(0);
 }
 
 /// An index that is counted from another on.

@@ -79,6 +79,7 @@ pub fn nested_call_holds(rt: &impl Abort, alloc: Global, row: &str) -> bool {
 fn nested_calls(rt: HostRuntime) {
     check(&rt, rt.alloc(), Table::NestedCalls, DEPTHS, 6);
     laws::returns_give_back();
+    laws::calls_clear_their_frame();
 }
 
 // The program that calls itself without end, and the places and entries of its steps: seven calls, and the eighth faults.
@@ -106,6 +107,37 @@ fn the_eighth_call(rt: HostRuntime) {
     check_step(&rt, rt.alloc(), &mut cpu, "end");
     let place = place_of(&rt, rt.alloc(), &cpu);
     check_text(&rt, place.as_str(), "pc 0 depth 7 traced 0 depth");
+}
+
+// callf L3; callf L3; exit; L3: ldxb r0, [r10-1]; stb [r10-1], 7; exit. The entry of each step: the second call's holds the byte that the
+// first left at the end of its frame.
+const TWICE: &str =
+    "8510000002000000 8510000001000000 9500000000000000 71a0ffff00000000 720affff07000000 9500000000000000";
+
+const ENTERED: &str = "\
+call at 0
+register at 3 r0 0x0
+store at 4 0x2000005ff 00
+return at 5 0x0 0x0 0x0 0x0
+call at 1 511:7
+register at 3 r0 0x0
+store at 4 0x2000005ff 00
+return at 5 0x0 0x0 0x0 0x0
+end
+";
+
+/// Takes a step for each line, and stops unless its entry is that.
+fn check_lines(rt: &impl Abort, alloc: Global, cpu: &mut Cpu, lines: &str) {
+    for line in lines.lines() {
+        check_step(rt, alloc, cpu, line);
+    }
+}
+
+#[test]
+fn a_frame_is_cleared(rt: HostRuntime) {
+    let mut cpu = machine(&rt, rt.alloc(), TWICE);
+    check_lines(&rt, rt.alloc(), &mut cpu, ENTERED);
+    check_number(&rt, register(&rt, &cpu, 0), 0);
 }
 
 // Numbers into r6 to r9; a function that changes r0 to r9; and the entry of each step, with r6 to r9 before the return.
@@ -149,13 +181,13 @@ fn saved_registers(rt: HostRuntime) {
     check_view(&rt, &view, &GIVEN_BACK, "pc 5 depth 0 traced 0 exited");
 }
 
-// A program and r0 at its end, or the fault: a function reads its caller's frame by r1, and its own; a frame keeps its bytes
-// when it is left and entered again; a caller does not reach the frame of the function that it called.
+// A program and r0 at its end, or the fault: a function reads its caller's frame by r1, and its own; a frame that is entered again is
+// zero; a caller does not reach the frame of the function that it called.
 const FRAMES: &str = "\
 its caller's frame; 7a0af8ff2a000000 bfa1000000000000 8510000001000000 9500000000000000 7910f8ff00000000 9500000000000000; exited 0x2a
 its own frame is another; 7a0af8ff2a000000 8510000001000000 9500000000000000 79a0f8ff00000000 9500000000000000; exited 0x0
 its caller's frame, written; bfa1000000000000 8510000002000000 79a0f8ff00000000 9500000000000000 7a01f8ff2a000000 9500000000000000; exited 0x2a
-a frame that is entered again; 8510000002000000 8510000003000000 9500000000000000 7a0af8ff2a000000 9500000000000000 79a0f8ff00000000 9500000000000000; exited 0x2a
+a frame that is entered again; 8510000002000000 8510000003000000 9500000000000000 7a0af8ff2a000000 9500000000000000 79a0f8ff00000000 9500000000000000; exited 0x0
 the frame of a function that returned; 8510000002000000 79a0f80300000000 9500000000000000 7a0af8ff2a000000 9500000000000000; access 0x2000005f8 0x0
 the frame below its own, by r10; 7a0af8ff2a000000 8510000001000000 9500000000000000 79a0f8fb00000000 9500000000000000; exited 0x2a
 ";

@@ -2,14 +2,14 @@
 use crate::rows::{parts, two};
 use crate::tables::{Table, check};
 use bpf_isa::Reg;
-use bpf_machine::{ByteString, Entry, Status};
+use bpf_machine::{ByteString, Entry, FrameBytes, Status};
 use std::process::Abort;
 
-// A kind of entry, how many bytes it replaced, and its weight.
+// A kind of entry, how many bytes it replaced where that varies, and its weight.
 const WEIGHTS: &str = "\
 register; 0 16
 jump; 0 7
-call; 0 7
+call; 0 519
 return; 0 39
 store; 1 17
 store; 2 18
@@ -47,7 +47,7 @@ fn weights_of(rt: &impl Abort, kind: &str, n: u64) -> (u64, u64) {
     (entry.weight() as u64, entry.copied().weight() as u64)
 }
 
-/// An entry of a kind that replaced no bytes.
+/// An entry of a kind that replaced no bytes, or those of a frame.
 fn entry(kind: &str) -> Option<Entry> {
     let register = Reg::new(3)?;
     match kind {
@@ -57,7 +57,10 @@ fn entry(kind: &str) -> Option<Entry> {
             value: 2,
         }),
         "jump" => Some(Entry::Jump { pc: 1 }),
-        "call" => Some(Entry::Call { pc: 1 }),
+        "call" => Some(Entry::Call {
+            pc: 1,
+            old: FrameBytes::of(&[0x5a; 512]),
+        }),
         "return" => Some(Entry::Return {
             pc: 1,
             saved: [6, 7, 8, 9],
@@ -73,7 +76,7 @@ fn entry(kind: &str) -> Option<Entry> {
     }
 }
 
-/// An entry of a kind that replaced bytes.
+/// An entry of a kind that replaced bytes, of which there may be some or many.
 fn entry_over(kind: &str, old: ByteString) -> Option<Entry> {
     let address = 0x1_0000_0000;
     let register = Reg::new(3)?;

@@ -231,7 +231,7 @@ fn called_text(rt: &impl Abort, alloc: Global, entry: &Entry) -> String {
             let start = with_register(rt, alloc, start, *register, *value);
             with_bytes(rt, alloc, start, *address, old)
         }
-        Entry::Call { pc } => at(rt, alloc, "call", *pc),
+        Entry::Call { pc, old } => call_text(rt, alloc, *pc, old.as_slice()),
         Entry::Return { pc, saved } => with_saved(rt, alloc, at(rt, alloc, "return", *pc), saved),
         Entry::Cell {
             pc,
@@ -245,6 +245,24 @@ fn called_text(rt: &impl Abort, alloc: Global, entry: &Entry) -> String {
         Entry::Trace { pc, r0 } => with_hex(rt, alloc, at(rt, alloc, "trace", *pc), *r0),
         _ => text(rt, alloc, "another"),
     }
+}
+
+/// A local call's slot, and each byte of the frame that wasn't zero, with its place there.
+fn call_text(rt: &impl Abort, alloc: Global, pc: u16, old: &[u8]) -> String {
+    let mut text = at(rt, alloc, "call", pc);
+    for (place, byte) in old.iter().enumerate() {
+        if *byte != 0 {
+            text = with_byte(rt, alloc, text, place, *byte);
+        }
+    }
+    text
+}
+
+/// A text, and a byte with its place behind it.
+fn with_byte(rt: &impl Abort, alloc: Global, text: String, place: usize, byte: u8) -> String {
+    format!(in alloc; "{text} {place}:{byte}")
+        .ok()
+        .expect(rt, "no memory")
 }
 
 /// A text of its own.

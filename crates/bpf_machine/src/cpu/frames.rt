@@ -4,16 +4,16 @@ ghost use Rattle.bpf_isa.specs.Programs.{IsStart};
 ghost use Rattle.bpf_machine.specs.Calls.{saved, with_saved, frame_of, pushed, popped, innermost};
 ghost use Rattle.bpf_machine.specs.Fetched.{Fits};
 ghost use Rattle.bpf_machine.specs.Next.{changed};
-ghost use Rattle.bpf_machine.specs.Platform.{frame_count};
+ghost use Rattle.bpf_machine.specs.Platform.{frame_base as frame_base_of, frame_count};
 ghost use Rattle.bpf_machine.specs.State.{IsFrame, depth};
 
 use super::Cpu;
 use crate::change::Change;
 use crate::frame::Frame;
-use crate::platform::frame_pointer;
+use crate::platform::{FRAME_LEN, frame_base, frame_pointer};
 
 impl Cpu {
-    /// Does a local call: pushes a frame and goes to the function at a slot.
+    /// Does a local call: makes the bytes of the frame that it enters zero, pushes the frame and goes to the function at a slot.
     #[inline(never)]
     #[tactic(auto, unfolding(crate::specs::Next::changed))]
     pub(super) fn enter(&mut self, target: u16)
@@ -21,8 +21,25 @@ impl Cpu {
         ensures { self.new ≡ changed self.old (Change.Call target) }
     {
         self.program.invariant();
+        let frame = self.entered();
+        self.memory.clear(frame, FRAME_LEN);
         self.push(self.pc + 1);
         self.pc = target;
+    }
+
+    /// The address of the frame that a call enters.
+    pub(super) fn entered(&self) -> u64
+        requires { depth self.now + 1 < frame_count }
+        ensures { result ≡ frame_base_of (depth self.now + 1) }
+    {
+        frame_base(self.frames.len() as u32 + 1)
+    }
+
+    /// The address of the innermost frame.
+    pub(super) fn innermost_frame(&self) -> u64
+        ensures { result ≡ frame_base_of (depth self.now) }
+    {
+        frame_base(self.frames.len() as u32)
     }
 
     /// Does a return: pops the innermost frame and does what it says.

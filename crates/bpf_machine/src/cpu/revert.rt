@@ -2,6 +2,7 @@
 ghost use Rattle.std.specs.Prelude.{◌≡◌, ◌≤◌, length};
 ghost use Rattle.bpf_isa.specs.Programs.{IsStart};
 ghost use Rattle.bpf_machine.specs.Moves.{Leads, HasCome, overwritten};
+ghost use Rattle.bpf_machine.specs.Platform.{frame_len};
 ghost use Rattle.bpf_machine.specs.State.{State};
 ghost use Rattle.bpf_machine.specs.Undoing.{undone, Restores};
 ghost use Rattle.bpf_machine.specs.declared.moves.Move.{Move};
@@ -31,7 +32,7 @@ impl Cpu {
                 value,
             } => self.undo_register(*pc, *register, *value),
             Entry::Jump { pc } => self.undo_jump(*pc),
-            Entry::Call { pc } => self.undo_call(*pc),
+            Entry::Call { pc, old } => self.undo_call(*pc, old.as_slice()),
             Entry::Return { pc, saved } => self.undo_return(*pc, saved),
             Entry::Store { pc, address, old } => self.undo_store(*pc, *address, old.as_slice()),
             Entry::Fetch {
@@ -76,12 +77,15 @@ impl Cpu {
         self.pc = pc;
     }
 
-    /// Takes a local call back: its frame goes.
+    /// Takes a local call back: the bytes of its frame stand again, and the frame goes.
     #[tactic(auto, unfolding(crate::specs::Undoing::undone))]
-    pub(super) fn undo_call(&mut self, pc: u16)
-        requires { Restores self.old (Entry.Call pc) }
-        ensures { self.new ≡ undone (Entry.Call pc) self.old }
+    pub(super) fn undo_call(&mut self, pc: u16, old: &[u8])
+        requires frame { length old.now ≡ frame_len }
+        requires restores { Restores self.old (Entry.Call pc old.now) }
+        ensures { self.new ≡ undone (Entry.Call pc old.now) self.old }
     {
+        let frame = self.innermost_frame();
+        self.memory.put(frame, old);
         let _frame = self.pop();
         self.pc = pc;
     }

@@ -70,7 +70,7 @@ impl Cpu {
         requires { RestoresText self.old 3 bytes.now }
         ensures { self.new ≡ undone (read_as 3 bytes.now) self.old }
     {
-        self.undo_call(slot_in(bytes));
+        self.undo_call(slot_in(bytes), &bytes[5..517]);
     }
 
     /// The same of a return from a local call.
