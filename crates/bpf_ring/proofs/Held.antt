@@ -15,7 +15,7 @@ use Rattle.bpf_machine.specs.Next.{change as change_of}
 use Rattle.bpf_machine.specs.State.{State}
 use Rattle.bpf_entries.specs.Fields.{FitsFields}
 use Rattle.bpf_entries.specs.Keeping.{Kept, kept_weight, fit, keep}
-use Rattle.bpf_entries.specs.Weights.{weight}
+use Rattle.bpf_entries.specs.Weights.{greatest_weight, weight}
 use Rattle.bpf_entries.specs.Texts.{text, body, tag, kind}
 use Rattle.bpf_entries.specs.Rings.{AllFit, ring}
 use Rattle.bpf_entries.proofs.Texts.{length-text, weight_low, weight_high}
@@ -203,7 +203,7 @@ newest_tag content counts n count t ks k held len same tags =
 
 -- The newest led to a state, by its text.
 pub record CameBy (content : Content) (count : ℕ) (y : State) : Type 0 where
-  pub light : count ≤ 280
+  pub light : count ≤ greatest_weight
   pub come : HasComeBy y (drop (length content.bytes - count) content.bytes)
 
 pub came_by : (content : Content) (counts : Counts) (n count : ℕ) (y : State) → HoldsWay content counts y → 5 ≤ length content.bytes

@@ -3,7 +3,7 @@ ghost use Rattle.std.specs.Prelude.{◌≡◌, ◌≤◌, ◌<◌, ◌+◌, ◌^
 ghost use Rattle.bpf_entries.specs.Fields.{FitsFields};
 ghost use Rattle.bpf_entries.specs.Status.{has_ended};
 ghost use Rattle.bpf_entries.specs.Texts.{text};
-ghost use Rattle.bpf_entries.specs.Weights.{weight as weight_of};
+ghost use Rattle.bpf_entries.specs.Weights.{greatest_weight, weight as weight_of};
 ghost use Rattle.bpf_machine.specs.Entries.{step_entry};
 ghost use Rattle.bpf_machine.specs.Next.{change as change_of, next};
 ghost use Rattle.bpf_ring.specs.Blocks.{around, behind};
@@ -87,7 +87,7 @@ pub(crate) fn record_in_place(
     requires looked { change.now ≡ change_of cpu.old }
     requires entry { FitsFields (step_entry cpu.old) }
     requires weight { weight ≡ weight_of (step_entry cpu.old) }
-    requires light { weight ≤ 280 }
+    requires light { weight ≤ greatest_weight }
     requires short { length block.old < 2 ^ 63 }
     requires first { first < length block.old }
     requires len { len ≤ length block.old }

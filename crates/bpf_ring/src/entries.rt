@@ -1,12 +1,12 @@
 //! The entries in a ring of bytes.
 ghost use Rattle.std.specs.Prelude.{◌≡◌, ◌≤◌, ◌<◌, ◌+◌, ◌-◌, ◌^◌, if◌then◌else◌, ◌∷◌, ◌++◌, [], List, length, sum_by, count_by, IfOk, None, Some, slice_get, ℕ, false};
-ghost use Rattle.bpf_entries.specs.Before.{byte_before as byte_before_by};
+ghost use Rattle.bpf_entries.specs.Before.{byte_before as byte_before_by, depth_before as depth_before_by};
 ghost use Rattle.bpf_entries.specs.Fields.{FitsFields};
 ghost use Rattle.bpf_entries.specs.Keeping.{Kept, kept_weight, fit, keep};
 ghost use Rattle.bpf_entries.specs.Past.{is_of_step as of_step};
 ghost use Rattle.bpf_entries.specs.Rings.{AllFit, ring as ring_of};
 ghost use Rattle.bpf_entries.specs.Texts.{kind, tag as tag_of, text as text_of};
-ghost use Rattle.bpf_entries.specs.Weights.{weight as weight_of};
+ghost use Rattle.bpf_entries.specs.Weights.{greatest_weight, weight as weight_of};
 ghost use Rattle.bpf_entries.specs.Keeping.{IsSize};
 ghost use Rattle.bpf_entries.specs.Status.{has_ended};
 ghost use Rattle.bpf_machine.specs.Entries.{step_entry};
@@ -19,6 +19,7 @@ ghost use Rattle.bpf_ring.specs.Held.{HoldsWay, IsHeld};
 
 use crate::counts::{Counts, within};
 use crate::ring::Ring;
+use bpf_entries::weights::GREATEST;
 use bpf_entries::{Entry, is_of_step};
 use bpf_machine::laws::entries_fit;
 use bpf_machine::{Change, Cpu};
@@ -130,10 +131,10 @@ impl EntryRing {
         }
         let len = self.ring.len();
         let count = within(self.ring.newest_len(), len);
-        if count > 280 {
+        if count > GREATEST {
             return None;
         }
-        let mut text = [0u8; 280];
+        let mut text = [0u8; GREATEST];
         self.ring.copy_newest(count, &mut text);
         Entry::read(&text[..count])
     }
@@ -156,10 +157,10 @@ impl EntryRing {
             return None;
         }
         let count = within(self.ring.len_before(place), place);
-        if count > 280 {
+        if count > GREATEST {
             return None;
         }
-        let mut text = [0u8; 280];
+        let mut text = [0u8; GREATEST];
         self.ring.copy_part(place - count, count, &mut text);
         match Entry::read(&text[..count]) {
             Some((entry, mark)) => Some((entry, mark, place - count)),
@@ -167,22 +168,32 @@ impl EntryRing {
         }
     }
 
-    /// What the byte at an address was before the move of the newest entry of the front at a place, where it is `after` behind that move, and
-    /// the place of the front without that entry; None at the place of the front without entries, which is 0. The entry is read where it lies.
-    pub fn byte_before(&self, place: usize, address: u64, after: u8) -> Option<(u8, usize)>
+    /// What the byte at an address and the depth of calls were before the move of the newest entry of the front at a place, where they are
+    /// `after` and `depth` behind that move, and the place of the front without that entry; None at the place of the front without entries,
+    /// which is 0. The entry is read where it lies.
+    pub fn byte_before(
+        &self,
+        place: usize,
+        depth: u32,
+        address: u64,
+        after: u8,
+    ) -> Option<(u8, u32, usize)>
+        requires { depth + 1 < 2 ^ 32 }
         ensures none { place ≡ 0 → result ≡ None }
-        ensures some { (newer front : List Kept) (k : Kept) (depth : ℕ) → IsHeld self.now.ring self.now.counts (newer ++ k ∷ front) → place ≡ sum_by kept_weight (k ∷ front) →
-            result ≡ Some (byte_before_by depth k.0 address after, sum_by kept_weight front) }
+        ensures some { (newer front : List Kept) (k : Kept) → IsHeld self.now.ring self.now.counts (newer ++ k ∷ front) → place ≡ sum_by kept_weight (k ∷ front) →
+            result ≡ Some (byte_before_by depth k.0 address after, depth_before_by depth k.0, sum_by kept_weight front) }
     {
         if place < 5 || place > self.ring.len() {
             return None;
         }
         let count = within(self.ring.len_before(place), place);
-        if count > 280 {
+        if count > GREATEST {
             return None;
         }
-        let old = self.ring.byte_before(place - count, count, address, after);
-        Some((old, place - count))
+        let (old, deep) = self
+            .ring
+            .byte_before(place - count, count, depth, address, after);
+        Some((old, deep, place - count))
     }
 
     /// Takes the newest entry off, None where none is held.
@@ -255,7 +266,7 @@ impl EntryRing {
     /// Drops the fewest oldest entries that leave room for so many bytes.
     #[inline(always)]
     fn make_room(&mut self, room: usize)
-        requires { room ≤ 280 }
+        requires { room ≤ greatest_weight }
         ensures size { self.new.ring.size ≡ self.old.ring.size }
         ensures sized { IsSize self.new.ring.size }
         ensures within { length self.new.ring.bytes + room ≤ self.new.ring.size }
@@ -276,7 +287,7 @@ impl EntryRing {
     {
         let weight = weight_in(entry);
         self.make_room(weight);
-        let mut text = [0u8; 280];
+        let mut text = [0u8; GREATEST];
         entry.write(&mut text, mark);
         let is_step = is_of_step(&text);
         self.append(&text[..weight], mark, is_step);
@@ -353,7 +364,7 @@ fn counted(ring: &Ring) -> Counts
 fn weight_in(entry: &Entry) -> usize
     requires { FitsFields entry.now }
     ensures value { result ≡ weight_of entry.now }
-    ensures within { result ≤ 280 }
+    ensures within { result ≤ greatest_weight }
 {
     entry.weight()
 }

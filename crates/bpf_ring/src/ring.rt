@@ -2,11 +2,11 @@
 ghost use Rattle.std.specs.Prelude.{◌≡◌, ◌≤◌, ◌<◌, ◌+◌, ◌-◌, ◌^◌, ◌++◌, ◌∷◌, [], length, take, drop, slice_get, ℕ, Bool, List, IfOk, false};
 ghost use Rattle.byteorder.specs.Endian.{little_bytes};
 ghost use Rattle.bpf_entries.specs.declared.entry.Entry.{Entry};
-ghost use Rattle.bpf_entries.specs.Before.{byte_before as byte_before_by};
+ghost use Rattle.bpf_entries.specs.Before.{byte_before as byte_before_by, depth_before as depth_before_by};
 ghost use Rattle.bpf_entries.specs.Fields.{FitsFields};
 ghost use Rattle.bpf_entries.specs.Status.{has_ended};
 ghost use Rattle.bpf_entries.specs.Texts.{kind, tag, text};
-ghost use Rattle.bpf_entries.specs.Weights.{weight as weight_of};
+ghost use Rattle.bpf_entries.specs.Weights.{greatest_weight, weight as weight_of};
 ghost use Rattle.bpf_machine.specs.Entries.{step_entry};
 ghost use Rattle.bpf_machine.specs.Moves.{HasComeBy, Leads, overwritten};
 ghost use Rattle.bpf_machine.specs.Next.{change as change_of, next};
@@ -15,7 +15,8 @@ ghost use Rattle.bpf_machine.specs.declared.moves.Move.{Move};
 ghost use Rattle.bpf_entries.specs.Keeping.{IsSize};
 
 use crate::block::{fill, place, record_in_place, write_around};
-use bpf_entries::byte_before;
+use bpf_entries::weights::GREATEST;
+use bpf_entries::{byte_before, depth_before};
 use bpf_machine::{Change, Cpu};
 use byteorder::{ByteOrder, LittleEndian};
 use circular_buffer::HeapCircularBuffer;
@@ -127,7 +128,7 @@ impl Ring {
         requires looked { change.now ≡ change_of cpu.old }
         requires entry { FitsFields (step_entry cpu.old) }
         requires weight { weight ≡ weight_of (step_entry cpu.old) }
-        requires light { weight ≤ 280 }
+        requires light { weight ≤ greatest_weight }
         requires room { length self.old.bytes + weight ≤ self.old.size }
         ensures next { cpu.new ≡ next cpu.old }
         ensures size { self.new.size ≡ self.old.size }
@@ -148,13 +149,13 @@ impl Ring {
         requires looked { change ≡ change_of cpu.old }
         requires entry { FitsFields (step_entry cpu.old) }
         requires weight { weight ≡ weight_of (step_entry cpu.old) }
-        requires light { weight ≤ 280 }
+        requires light { weight ≤ greatest_weight }
         requires room { length self.old.bytes + weight ≤ self.old.size }
         ensures next { cpu.new ≡ next cpu.old }
         ensures size { self.new.size ≡ self.old.size }
         ensures bytes { self.new.bytes ≡ self.old.bytes ++ text (step_entry cpu.old) mark }
     {
-        let mut scratch = [0u8; 280];
+        let mut scratch = [0u8; GREATEST];
         cpu.record(&change, &mut scratch, mark);
         self.push(&scratch[..weight]);
     }
@@ -164,7 +165,7 @@ impl Ring {
     #[inline(always)]
     pub fn revert_newest(&self, cpu: &mut Cpu, count: usize)
         requires held { count ≤ length self.now.bytes }
-        requires light { count ≤ 280 }
+        requires light { count ≤ greatest_weight }
         requires come { HasComeBy cpu.old (drop (length self.now.bytes - count) self.now.bytes) }
         ensures { (x : State) (m : Move) (mark : Bool) → Leads x m cpu.old → FitsFields (overwritten x m) → drop (length self.now.bytes - count) self.now.bytes ≡ text (overwritten x m) mark → cpu.new ≡ x }
     {
@@ -181,42 +182,58 @@ impl Ring {
     #[inline(never)]
     fn revert_apart(&self, cpu: &mut Cpu, count: usize)
         requires held { count ≤ length self.now.bytes }
-        requires light { count ≤ 280 }
+        requires light { count ≤ greatest_weight }
         requires come { HasComeBy cpu.old (drop (length self.now.bytes - count) self.now.bytes) }
         ensures { (x : State) (m : Move) (mark : Bool) → Leads x m cpu.old → FitsFields (overwritten x m) → drop (length self.now.bytes - count) self.now.bytes ≡ text (overwritten x m) mark → cpu.new ≡ x }
     {
-        let mut scratch = [0u8; 280];
+        let mut scratch = [0u8; GREATEST];
         self.copy_newest(count, &mut scratch);
         cpu.revert_text(&scratch[..count]);
     }
 
-    /// The byte at an address before the move whose entry's text are so many bytes from an index on, where it is `after` behind the move: they
-    /// are read where they lie, or from a copy where they go around the block's end.
+    /// The byte at an address and the depth of calls before the move whose entry's text are so many bytes from an index on, where they are
+    /// `after` and `depth` behind the move: the bytes are read where they lie, or from a copy where they go around the block's end.
     #[inline(always)]
-    pub fn byte_before(&self, from: usize, count: usize, address: u64, after: u8) -> u8
+    pub fn byte_before(
+        &self,
+        from: usize,
+        count: usize,
+        depth: u32,
+        address: u64,
+        after: u8,
+    ) -> (u8, u32)
         requires held { from + count ≤ length self.now.bytes }
-        requires light { count ≤ 280 }
-        ensures { (e : Entry) (mark : Bool) (depth : ℕ) → FitsFields e → take count (drop from self.now.bytes) ≡ text e mark → result ≡ byte_before_by depth e address after }
+        requires light { count ≤ greatest_weight }
+        requires shallow { depth + 1 < 2 ^ 32 }
+        ensures { (e : Entry) (mark : Bool) → FitsFields e → take count (drop from self.now.bytes) ≡ text e mark → result ≡ (byte_before_by depth e address after, depth_before_by depth e) }
     {
         let start = place(self.buffer.len(), self.first, from);
         let (block, _) = self.buffer.as_slices();
         if start + count <= block.len() {
-            byte_before(&block[start..start + count], address, after)
+            told_in(&block[start..start + count], depth, address, after)
         } else {
-            self.byte_before_apart(from, count, address, after)
+            self.byte_before_apart(from, count, depth, address, after)
         }
     }
 
     /// The same, by way of a copy of the bytes.
     #[inline(never)]
-    fn byte_before_apart(&self, from: usize, count: usize, address: u64, after: u8) -> u8
+    fn byte_before_apart(
+        &self,
+        from: usize,
+        count: usize,
+        depth: u32,
+        address: u64,
+        after: u8,
+    ) -> (u8, u32)
         requires held { from + count ≤ length self.now.bytes }
-        requires light { count ≤ 280 }
-        ensures { (e : Entry) (mark : Bool) (depth : ℕ) → FitsFields e → take count (drop from self.now.bytes) ≡ text e mark → result ≡ byte_before_by depth e address after }
+        requires light { count ≤ greatest_weight }
+        requires shallow { depth + 1 < 2 ^ 32 }
+        ensures { (e : Entry) (mark : Bool) → FitsFields e → take count (drop from self.now.bytes) ≡ text e mark → result ≡ (byte_before_by depth e address after, depth_before_by depth e) }
     {
-        let mut scratch = [0u8; 280];
+        let mut scratch = [0u8; GREATEST];
         self.copy_part(from, count, &mut scratch);
-        byte_before(&scratch[..count], address, after)
+        told_in(&scratch[..count], depth, address, after)
     }
 
     /// Drops the oldest bytes.
@@ -355,4 +372,16 @@ fn head(bytes: &[u8]) -> (usize, u8)
     ensures tag { (low high third : ℕ) → bytes.now ≡ low ∷ high ∷ third ∷ [] → result.1 ≡ third }
 {
     (usize::from(LittleEndian::read_u16(&bytes[..2])), bytes[2])
+}
+
+/// What the text of an entry tells of the byte at an address and of the depth before its move.
+#[inline(always)]
+fn told_in(bytes: &[u8], depth: u32, address: u64, after: u8) -> (u8, u32)
+    requires { depth + 1 < 2 ^ 32 }
+    ensures { (e : Entry) (mark : Bool) → FitsFields e → bytes.now ≡ text e mark → result ≡ (byte_before_by depth e address after, depth_before_by depth e) }
+{
+    (
+        byte_before(bytes, depth, address, after),
+        depth_before(bytes, depth),
+    )
 }

@@ -16,13 +16,13 @@ returns-then-place-lt5-clause-some c = λ newer front k held at.
       | then-place-lt5-via-else-place-lt5+then-place-len w ↦ absurd (omega (arith, here.1, w.if-place-len, w.len.ensures.value))
     ]
 
-pub returns-then-count-gt280-clause-some : goal.returns-then-count-gt280-clause-some
-returns-then-count-gt280-clause-some c = λ newer front k held at.
+pub returns-then-count-gt-GREATEST-clause-some : goal.returns-then-count-gt-GREATEST-clause-some
+returns-then-count-gt-GREATEST-clause-some c = λ newer front k held at.
     let now = c.args.self.now in
     let s = stands_at now.ring now.counts c.args.place newer front k held at in
     let f = found_at now.ring c.args.place c.len_before.result c.within-count.result newer front k _ s c.len_before.ensures c.within-count.ensures.same refl in
     let low = weight_low k.0 s.fits in
-    absurd (omega (arith, f.weighs, low, c.if-count-gt280.true))
+    absurd (omega (arith, f.weighs, low, c.if-count-gt-GREATEST.true))
 
 pub returns-in-Some-clause-some : goal.returns-in-Some-clause-some
 returns-in-Some-clause-some c = λ newer front k held at.

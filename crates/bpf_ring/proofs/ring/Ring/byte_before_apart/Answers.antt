@@ -2,4 +2,4 @@ use Rattle.std.proofs.Common.{◌∙◌}
 use Rattle.bpf_ring.proofs.ring.Ring.byte_before_apart.Goals as goal
 
 pub returns : goal.returns
-returns c = λ e mark depth fits h. c.byte_before.ensures e mark depth fits (c.copy_part.ensures ∙ h)
+returns c = λ e mark fits h. c.told_in.ensures e mark fits (c.copy_part.ensures ∙ h)
