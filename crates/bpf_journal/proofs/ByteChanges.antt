@@ -1,15 +1,18 @@
 -- The latest change of a byte, as a walk over kept entries finds it, is that of the history.
 use Rattle.std.specs.Prelude.{if◌then◌else◌, ◌==◌, option_map}
-use Rattle.std.proofs.Common.{◌≡◌, ◌+◌, ◌-◌, ◌<◌, ◌≤◌, ℕ, zero, suc, Bool, true, false, List, [], ◌∷◌, Option, Some, None, length, take, drop, map, refl, sym, ap, subst, ◌∙◌, arith, add-one}
+use Rattle.std.proofs.Common.{◌≡◌, ◌+◌, ◌-◌, ◌<◌, ◌≤◌, ◌^◌, ℕ, zero, suc, Bool, true, false, List, [], ◌∷◌, Option, Some, None, length, take, drop, map, refl, sym, ap, subst, ◌∙◌, arith, add-one}
 use Rattle.std.proofs.lemmas.Bool.Decides.{nat_tests}
 use Rattle.bpf_machine.specs.ByAddress.{byte}
+use Rattle.bpf_entries.specs.declared.entry.Entry.{Entry}
+use Rattle.bpf_entries.specs.Past.{Frames, Same, Fewer, More, past}
 use Rattle.bpf_machine.specs.Moves.{overwritten}
 use Rattle.bpf_machine.specs.State.{State, depth}
 use Rattle.bpf_entries.specs.Keeping.{Kept}
 use Rattle.bpf_journal.specs.Histories.{Record, IsRun, kept_of}
-use Rattle.bpf_journal.specs.Keepers.{IsPlace, TellsByteBefore, told_before}
+use Rattle.bpf_journal.specs.Keepers.{IsPlace, IsWithin, TellsByteBefore, told_before}
 use Rattle.bpf_journal.specs.Lookups.{Test, latest, state_before, changes_byte, byte_change, last_change, IsLatestChange, LastChangeIsLatest, NoChangeNoDifference}
-use Rattle.bpf_journal.specs.Replaced.{byte_before, depth_before}
+use Rattle.bpf_journal.specs.Replaced.{byte_before, depth_before, depth_by}
+use Rattle.bpf_journal.proofs.Items.{few_entries}
 use Rattle.bpf_journal.specs.Changes.{further, change_in}
 use Rattle.bpf_journal.specs.declared.timeline.ByteChange.{ByteChange}
 use Rattle.bpf_journal.proofs.Telling.{tells_before}
@@ -36,96 +39,107 @@ other_byte a d value old k ks is differ =
     let miss : (byte_before d k.0 a value == value) ≡ false = let e : byte_before d k.0 a value ≡ value → ⊥ = λ e. differ (is ∙ e) in grind (arith, nat_tests) in
     rw miss (ap (λ (n : ℕ). Some (record { moves = 1; old = n; new = value })) (sym is))
 
+-- A move is at most one frame deep.
+one_by : (f : Frames) (d : ℕ) → depth_by f d ≤ d + 1
+one_by Same d = omega arith
+one_by Fewer d = omega arith
+one_by (More saved) d = omega arith
+
+one_deeper : (d : ℕ) (e : Entry) → depth_before d e ≤ d + 1
+one_deeper d e = one_by (past d e).frames d
+
 module _ {K : Type 0} (holds : K → List Kept → Type 0) (place : K → List Kept → ℕ) (keeper : K) where
-  -- after k turns a walk is at the place of the front without its k newest, which left the byte as it was
-  pub record Looking (es : List Kept) (a value at k : ℕ) : Type 0 where
+  -- after k turns a walk is at the place of the front without its k newest, at the depth there; these left the byte as it was
+  pub record Looking (es : List Kept) (a value d at e k : ℕ) : Type 0 where
     pub here : place keeper (drop k es) ≡ at
-    pub rest : (d : ℕ) → (e : ℕ) × (change_in a d value es ≡ option_map (further k) (change_in a e value (drop k es)))
+    pub rest : change_in a d value es ≡ option_map (further k) (change_in a e value (drop k es))
+    pub low : e ≤ d + k
 
-  pub looking_start : (es : List Kept) (a value at : ℕ) → at ≡ place keeper es → Looking es a value at 0
-  looking_start es a value at here = record { here = sym here; rest = λ d. (d, further_none (change_in a d value es)) }
+  pub looking_start : (es : List Kept) (a value d at : ℕ) → at ≡ place keeper es → Looking es a value d at d 0
+  looking_start es a value d at here = record { here = sym here; rest = further_none (change_in a d value es); low = omega arith }
 
-  pub looking_place : (es : List Kept) (a value at k : ℕ) → holds keeper es → Looking es a value at k → IsPlace holds place keeper at
-  looking_place es a value at k held w = record {
+  pub looking_place : (es : List Kept) (a value d at e k : ℕ) → holds keeper es → Looking es a value d at e k → IsPlace holds place keeper at
+  looking_place es a value d at e k held w = record {
     newer = take k es;
     front = drop k es;
     held = subst (holds keeper) (sym (split_at es k)) held;
     here = w.here;
   }
 
-  -- what is told there
-  looked_on : (es : List Kept) (a value at k : ℕ) (result : Option (ℕ × ℕ)) → holds keeper es → k < length es → Looking es a value at k → TellsByteBefore holds place keeper at a value result → (x : At es k) (d : ℕ) → result ≡ Some (byte_before d x.found.0 a value, place keeper (drop (suc k) es))
-  looked_on es a value at k result held lt w tells x d =
-      tells (take k es) (drop k es) (subst (holds keeper) (sym (split_at es k)) held) w.here d ∙ ap (told_before (place keeper) d a value) x.front
+  -- the depth is far from its greatest number, since there are few entries
+  pub looking_shallow : (es : List Kept) (a value d at e k room : ℕ) → d < 8 → IsWithin room es → k < length es → Looking es a value d at e k → e + 1 < 2 ^ 32
+  looking_shallow es a value d at e k room shallow within lt w =
+      let most = within.size.1 in
+      let weighs = within.weighs in
+      let low = w.low in
+      omega (arith, few_entries es, weighs, most, low, lt, shallow)
 
-  module _ (es : List Kept) (a value at k before old : ℕ) (held : holds keeper es) (lt : k < length es) (w : Looking es a value at k) (tells : TellsByteBefore holds place keeper at a value (Some (old, before))) where
+  -- what is told there
+  looked_on : (es : List Kept) (a value d at e k : ℕ) (result : Option (ℕ × ℕ × ℕ)) → holds keeper es → k < length es → Looking es a value d at e k → TellsByteBefore holds place keeper at e a value result → (x : At es k) → result ≡ Some (byte_before e x.found.0 a value, depth_before e x.found.0, place keeper (drop (suc k) es))
+  looked_on es a value d at e k result held lt w tells x =
+      tells (take k es) (drop k es) (subst (holds keeper) (sym (split_at es k)) held) w.here ∙ ap (told_before (place keeper) e a value) x.front
+
+  module _ (es : List Kept) (a value d at e k before deep old : ℕ) (held : holds keeper es) (lt : k < length es) (w : Looking es a value d at e k) (tells : TellsByteBefore holds place keeper at e a value (Some (old, deep, before))) where
     record Here : Type 0 where
       pub x : At es k
-      pub told : (d : ℕ) → old ≡ byte_before d x.found.0 a value
+      pub told : old ≡ byte_before e x.found.0 a value
+      pub deep_is : deep ≡ depth_before e x.found.0
       pub place_is : place keeper (drop (suc k) es) ≡ before
 
     here_at : Here
     here_at =
         let x = entry_at es k lt in
+        let same = looked_on es a value d at e k _ held lt w tells x in
+        let answer : ℕ × ℕ × ℕ = (old, deep, before) in
+        let newest : ℕ × ℕ × ℕ = (byte_before e x.found.0 a value, depth_before e x.found.0, place keeper (drop (suc k) es)) in
+        let found : answer ≡ newest = cc in
         record {
           x = x;
-          told = λ d. ap (λ (t : ℕ × ℕ). t.0) (found x d);
-          place_is = sym (ap (λ (t : ℕ × ℕ). t.1) (found x 0));
+          told = ap (λ (t : ℕ × ℕ × ℕ). t.0) found;
+          deep_is = ap (λ (t : ℕ × ℕ × ℕ). t.1) found;
+          place_is = sym (ap (λ (t : ℕ × ℕ × ℕ). t.2) found);
         }
-      where
-        answer : ℕ × ℕ
-        answer = (old, before)
-
-        newest : At es k → ℕ → ℕ × ℕ
-        newest x d = (byte_before d x.found.0 a value, place keeper (drop (suc k) es))
-
-        found : (x : At es k) (d : ℕ) → answer ≡ newest x d
-        found x d =
-            let same = looked_on es a value at k _ held lt w tells x d in
-            cc
 
     -- a turn
-    pub looking_step : old ≡ value → Looking es a value before (k + 1)
+    pub looking_step : old ≡ value → Looking es a value d before deep (k + 1)
     looking_step same =
         let h = here_at in
+        let low = w.low in
         rw add-one (record {
           here = h.place_is;
-          rest = λ d.
-              let q = w.rest d in (
-                depth_before q.0 h.x.found.0,
-                q.1
-                    ∙ ap (λ (ks : List Kept). option_map (further k) (change_in a q.0 value ks)) h.x.front
-                    ∙ ap (option_map (further k)) (same_byte a q.0 value old h.x.found (drop (suc k) es) (h.told q.0) same)
-                    ∙ further_more k (change_in a (depth_before q.0 h.x.found.0) value (drop (suc k) es))
-                    ∙ ap (λ (n : ℕ). option_map (further n) (change_in a (depth_before q.0 h.x.found.0) value (drop (suc k) es))) (let n : k + 1 ≡ suc k = omega arith in n),
-              );
+          rest =
+              w.rest
+              ∙ ap (λ (ks : List Kept). option_map (further k) (change_in a e value ks)) h.x.front
+              ∙ ap (option_map (further k)) (same_byte a e value old h.x.found (drop (suc k) es) h.told same)
+              ∙ further_more k (change_in a (depth_before e h.x.found.0) value (drop (suc k) es))
+              ∙ ap (λ (n : ℕ). option_map (further n) (change_in a (depth_before e h.x.found.0) value (drop (suc k) es))) (let n : k + 1 ≡ suc k = omega arith in n)
+              ∙ ap (λ (f : ℕ). option_map (further (suc k)) (change_in a f value (drop (suc k) es))) (sym h.deep_is);
+          low = let one = one_deeper e h.x.found.0 in omega (arith, h.deep_is, one, low);
         })
 
     -- the change
-    pub looking_found : (old ≡ value → ⊥) → (d : ℕ) → Some (record { moves = k + 1; old = old; new = value }) ≡ change_in a d value es
-    looking_found differ d =
+    pub looking_found : (old ≡ value → ⊥) → Some (record { moves = k + 1; old = old; new = value }) ≡ change_in a d value es
+    looking_found differ =
         let h = here_at in
-        let q = w.rest d in
         sym (
-        q.1
-        ∙ ap (λ (ks : List Kept). option_map (further k) (change_in a q.0 value ks)) h.x.front
-        ∙ ap (option_map (further k)) (other_byte a q.0 value old h.x.found (drop (suc k) es) (h.told q.0) differ)
+        w.rest
+        ∙ ap (λ (ks : List Kept). option_map (further k) (change_in a e value ks)) h.x.front
+        ∙ ap (option_map (further k)) (other_byte a e value old h.x.found (drop (suc k) es) h.told differ)
         )
 
   -- there is an entry where not all is walked
-  pub looking_on : (es : List Kept) (a value at k : ℕ) → holds keeper es → k < length es → Looking es a value at k → TellsByteBefore holds place keeper at a value None → ⊥
-  looking_on es a value at k held lt w tells =
-      let same = looked_on es a value at k _ held lt w tells (entry_at es k lt) 0 in
+  pub looking_on : (es : List Kept) (a value d at e k : ℕ) → holds keeper es → k < length es → Looking es a value d at e k → TellsByteBefore holds place keeper at e a value None → ⊥
+  looking_on es a value d at e k held lt w tells =
+      let same = looked_on es a value d at e k _ held lt w tells (entry_at es k lt) in
       cc
 
   -- all is walked
-  pub looking_end : (es : List Kept) (a value at k : ℕ) → k ≡ length es → Looking es a value at k → (d : ℕ) → None ≡ change_in a d value es
-  looking_end es a value at k all w d =
-      let q = w.rest d in
+  pub looking_end : (es : List Kept) (a value d at e k : ℕ) → k ≡ length es → Looking es a value d at e k → None ≡ change_in a d value es
+  looking_end es a value d at e k all w =
       sym (
-      q.1
-      ∙ ap (λ (n : ℕ). option_map (further k) (change_in a q.0 value (drop n es))) all
-      ∙ ap (λ (ks : List Kept). option_map (further k) (change_in a q.0 value ks)) (drop_all es)
+      w.rest
+      ∙ ap (λ (n : ℕ). option_map (further k) (change_in a e value (drop n es))) all
+      ∙ ap (λ (ks : List Kept). option_map (further k) (change_in a e value ks)) (drop_all es)
       )
 
 -- The record that is looked up lies at least one move back.

@@ -49,7 +49,7 @@ marks_push es k = sum_by_push (λ k. cond k.1 1 0) es k
 weighs_some : (e : Entry) → 1 ≤ weight e
 weighs_some (entry.Register pc register value) = omega arith
 weighs_some (entry.Jump pc) = omega arith
-weighs_some (entry.Call pc) = omega arith
+weighs_some (entry.Call pc old) = omega arith
 weighs_some (entry.Return pc saved) = omega arith
 weighs_some (entry.Store pc address old) = omega arith
 weighs_some (entry.Fetch pc register value address old) = omega arith
@@ -71,6 +71,14 @@ few_marks (k ∷ es) =
     let one = one_mark k.1 in
     let rest = few_marks es in
     omega (arith, marks-cons k es, sum_by-cons kept_weight k es)
+
+-- So there are no more of them than they weigh.
+pub few_entries : (es : List Kept) → length es ≤ sum_by kept_weight es
+few_entries [] = omega arith
+few_entries (k ∷ es) =
+    let here : 1 ≤ kept_weight k = weighs_some k.0 in
+    let rest = few_entries es in
+    omega (arith, here, rest, sum_by-cons kept_weight k es)
 
 -- One more at the newest end.
 pub counted_push : (old new : List Item) (x : Item) (w m a b : ℕ) → new ≡ old ++ x ∷ [] → a ≡ kept_weight (kept_item x) → b ≡ mark_count x → IsCounted (held old) w m → IsCounted (held new) (w + a) (m + b)

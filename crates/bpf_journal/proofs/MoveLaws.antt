@@ -1,13 +1,10 @@
 -- Laws of moves: one state after, one before, none after a refused one; and how much an entry weighs.
 use Rattle.std.proofs.Common.{◌≡◌, ◌≤◌, sym, ap, ◌∙◌, arith}
-use Rattle.bpf_machine.specs.declared.edit.Edit.{Edit}
-use Rattle.bpf_machine.specs.declared.edit.Edit.TheVariants as edit
 use Rattle.bpf_entries.specs.declared.entry.Entry.{Entry}
 use Rattle.bpf_entries.specs.declared.entry.Entry.TheVariants as entry
 use Rattle.bpf_machine.specs.declared.moves.Move.{Move}
 use Rattle.bpf_machine.specs.declared.moves.Move.TheVariants as move
-use Rattle.bpf_machine.specs.Edits.{IsEditable}
-use Rattle.bpf_entries.specs.Weights.{weight}
+use Rattle.bpf_entries.specs.Weights.{greatest_weight, weight}
 use Rattle.bpf_machine.specs.Moves.{IsMovable, moved}
 use Rattle.bpf_machine.specs.State.{State}
 use Rattle.bpf_machine.specs.Undoing.{undone}
@@ -40,11 +37,11 @@ move_refused x (move.Edit e) (fault.Edit f) why able = cc
 pub nowhere : RefusedLeadsNowhere
 nowhere x y m f why leads = move_refused x m f why leads.movable
 
--- An entry that fits its fields weighs at most 280 bytes: a fetch of 255 bytes.
-pub weighs_at_most : (e : Entry) → FitsFields e → weight e ≤ 280
+-- An entry that fits its fields weighs at most 519 bytes: a call.
+pub weighs_at_most : (e : Entry) → FitsFields e → weight e ≤ greatest_weight
 weighs_at_most (entry.Register pc register value) h = omega arith
 weighs_at_most (entry.Jump pc) h = omega arith
-weighs_at_most (entry.Call pc) h = omega arith
+weighs_at_most (entry.Call pc old) h = omega (arith, h.1.0)
 weighs_at_most (entry.Return pc saved) h = omega arith
 weighs_at_most (entry.Store pc address old) h = omega (arith, h.2.1)
 weighs_at_most (entry.Fetch pc register value address old) h = omega (arith, h.4.1)
@@ -58,5 +55,5 @@ weighs_at_most (entry.EditPc pc status) h = omega arith
 pub every_kept : EveryEntryIsKept
 every_kept room es e mark size fits =
     let least : 1024 ≤ room = size.0 in
-    let at_most : weight e ≤ 280 = weighs_at_most e fits in
+    let at_most : weight e ≤ greatest_weight = weighs_at_most e fits in
     fit_in kept_weight room (e, mark) es (omega arith)

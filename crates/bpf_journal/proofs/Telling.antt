@@ -11,12 +11,12 @@ use Rattle.bpf_entries.specs.declared.entry.Entry.{Entry}
 use Rattle.bpf_entries.specs.declared.entry.Entry.TheVariants as entry
 use Rattle.bpf_machine.specs.declared.moves.Move.{Move}
 use Rattle.bpf_machine.specs.declared.moves.Move.TheVariants as move
-use Rattle.bpf_machine.specs.Platform.{cell_address}
+use Rattle.bpf_machine.specs.Platform.{cell_address, frame_base, frame_len}
 use Rattle.bpf_machine.specs.Regions.{Image, IsImage, index_of, run, run_at}
 use Rattle.bpf_machine.specs.ByAddress.{byte_at, byte}
 use Rattle.bpf_machine.specs.Fetched.{Fits}
 use Rattle.bpf_machine.specs.State.{State, IsState, depth}
-use Rattle.bpf_machine.specs.Calls.{saved}
+use Rattle.bpf_machine.specs.Calls.{entered, saved}
 use Rattle.bpf_machine.specs.Next.{change, changed, next}
 use Rattle.bpf_machine.specs.Edits.{IsEditable, edited, edit_entry, with_run, replaced_run}
 use Rattle.bpf_machine.specs.Entries.{entry_of}
@@ -28,6 +28,7 @@ use Rattle.bpf_machine.proofs.ByAddress.{byte_within, run_reads, length-run, fit
 use Rattle.bpf_machine.proofs.Cells.{cell_present}
 use Rattle.bpf_machine.proofs.Fitting.{change_fits}
 use Rattle.bpf_machine.proofs.StepLaws.{keeps_cell, law_bytes, law_rest}
+use Rattle.bpf_machine.proofs.Undoing.{pushed_depth}
 use Rattle.bpf_journal.specs.Replaced.{replaces_bytes, byte_in, byte_before, depth_before, TellsBefore, EntriesTellBefore}
 
 -- What stood in a run of an image, and what is as it was in another.
@@ -70,23 +71,29 @@ found_tells m image a n other (Some at) e some j low =
     run_tells m image a n at e j within ∙ ap (λ (xs : List ℕ). Some (slice_index xs j)) (sym was)
 
 -- Steps.
-step_tells : (x : State) (c : Change) → IsState x → Fits x c → KeepsOtherBytes x.memory (replaced (depth (changed x c)) (entry_of x c)) (changed x c).memory → (d b : ℕ) → byte x b ≡ byte_before d (entry_of x c) b (byte (changed x c) b)
-unfolding entry_of
-step_tells x (Set r value after) is fits keeps d b = ap (λ (m : Image). unwrap_or (byte_at m b) 0) (sym keeps)
-step_tells x (Go after) is fits keeps d b = ap (λ (m : Image). unwrap_or (byte_at m b) 0) (sym keeps)
-step_tells x (Store a at size value after) is fits keeps d b =
+step_tells : (x : State) (c : Change) → IsState x → Fits x c → KeepsOtherBytes x.memory (replaced (depth (changed x c)) (entry_of x c)) (changed x c).memory → (b : ℕ) → byte x b ≡ byte_before (depth (changed x c)) (entry_of x c) b (byte (changed x c) b)
+unfolding entry_of changed
+step_tells x (Set r value after) is fits keeps b = ap (λ (m : Image). unwrap_or (byte_at m b) 0) (sym keeps)
+step_tells x (Go after) is fits keeps b = ap (λ (m : Image). unwrap_or (byte_at m b) 0) (sym keeps)
+step_tells x (Store a at size value after) is fits keeps b =
     told_run x.memory (changed x (Store a at size value after)).memory is.image a _ at b fits.0.found keeps
-step_tells x (Fetch a at size value r after) is fits keeps d b =
+step_tells x (Fetch a at size value r after) is fits keeps b =
     told_run x.memory (changed x (Fetch a at size value r after)).memory is.image a _ at b fits.1.found keeps
-step_tells x (Call to) is fits keeps d b = ap (λ (m : Image). unwrap_or (byte_at m b) 0) (sym keeps)
-step_tells x Return is fits keeps d b = ap (λ (m : Image). unwrap_or (byte_at m b) 0) (sym keeps)
-step_tells x (Cell a from n after) is fits keeps d b =
+step_tells x (Call to) is fits keeps b =
+    tells_byte x.memory (changed x (Call to)).memory (frame_base (depth (changed x (Call to)))) (entered x) b
+    (record {
+      inside = subst (λ (d : ℕ). (j : ℕ) → j < length (entered x) → byte_at x.memory (frame_base d + j) ≡ Some (slice_index (entered x) j)) (sym (pushed_depth x (x.pc + 1)))
+          (found_tells x.memory is.image (frame_base (depth x + 1)) frame_len [] (index_of x.memory (frame_base (depth x + 1)) frame_len) refl fits.3);
+      outside = keeps;
+    })
+step_tells x Return is fits keeps b = ap (λ (m : Image). unwrap_or (byte_at m b) 0) (sym keeps)
+step_tells x (Cell a from n after) is fits keeps b =
     tells_byte x.memory (changed x (Cell a from n after)).memory a (unwrap_or (run_at x.memory a n) []) b
     (record { inside = found_tells x.memory is.image a n [] (index_of x.memory a n) refl fits.3.found; outside = keeps })
-step_tells x (Trace word after) is fits keeps d b = ap (λ (m : Image). unwrap_or (byte_at m b) 0) (sym keeps)
-step_tells x (Stop status) is fits keeps d b = ap (λ (m : Image). unwrap_or (byte_at m b) 0) (sym keeps)
+step_tells x (Trace word after) is fits keeps b = ap (λ (m : Image). unwrap_or (byte_at m b) 0) (sym keeps)
+step_tells x (Stop status) is fits keeps b = ap (λ (m : Image). unwrap_or (byte_at m b) 0) (sym keeps)
 
-step_depths : (x y : State) (c : Change) → MovesFrames x (past (entry_of x c)).frames y → depth x ≡ depth_before (depth y) (entry_of x c)
+step_depths : (x y : State) (c : Change) → MovesFrames x (past (depth y) (entry_of x c)).frames y → depth x ≡ depth_before (depth y) (entry_of x c)
 unfolding entry_of
 step_depths x y (Call to) moves =
     let more : depth y ≡ depth x + 1 = ap length moves ∙ length-append x.frames _ in
@@ -136,7 +143,7 @@ edit_depths x (edit.Pc slot) = refl
 move_tells : (x : State) (m : Move) → IsState x → IsMovable x m → TellsBefore x (moved x m) (overwritten x m)
 move_tells x move.Step is runs = record {
   depths = step_depths x (next x) (change x) (law_rest x is runs).1;
-  bytes = λ a. step_tells x (change x) is (change_fits x is) (law_bytes x is runs) (depth (next x)) a;
+  bytes = λ a. step_tells x (change x) is (change_fits x is) (law_bytes x is runs) a;
 }
 move_tells x (move.Edit e) is able = record {
   depths = edit_depths x e;
@@ -151,7 +158,7 @@ tells_before x y m leads =
 no_run : (e : Entry) → replaces_bytes e ≡ false → (d a after : ℕ) → byte_before d e a after ≡ after
 no_run (entry.Register pc r value) none d a after = refl
 no_run (entry.Jump pc) none d a after = refl
-no_run (entry.Call pc) none d a after = refl
+no_run (entry.Call pc old) none d a after = cc
 no_run (entry.Return pc saved) none d a after = refl
 no_run (entry.Store pc address old) none d a after = cc
 no_run (entry.Fetch pc r value address old) none d a after = cc

@@ -6,7 +6,7 @@ use Rattle.bpf_entries.specs.declared.entry.Entry.{Entry}
 use Rattle.bpf_journal.specs.EditEntries.{is_of_step}
 use Rattle.bpf_entries.specs.Keeping.{Kept}
 use Rattle.bpf_journal.specs.Keepers.{IsPlace, WalksBack, told_before, walked}
-use Rattle.bpf_journal.specs.Replaced.{byte_before}
+use Rattle.bpf_journal.specs.Replaced.{byte_before, depth_before}
 
 module _ {K : Type 0} (holds : K → List Kept → Type 0) (place : K → List Kept → ℕ) where
   -- the end is the place of the whole list
@@ -106,15 +106,16 @@ module _ {K : Type 0} (holds : K → List Kept → Type 0) (place : K → List K
       let counted = w.counted in
       omega (arith, none, counted)
 
--- what a walk answers tells a byte
-pub told_by_walk : {K : Type 0} (place : K → List Kept → ℕ) (keeper : K) (front : List Kept) (entry : Entry) (mark : Bool) (before old a after depth : ℕ)
-    → Some (entry, mark, before) ≡ walked (place keeper) front → ((d : ℕ) → old ≡ byte_before d entry a after)
-    → Some (old, before) ≡ told_before (place keeper) depth a after front
-told_by_walk place keeper [] entry mark before old a after depth is told = absurd cc
-told_by_walk place keeper (e ∷ rest) entry mark before old a after depth is told =
+-- what a walk answers tells a byte and the depth
+pub told_by_walk : {K : Type 0} (place : K → List Kept → ℕ) (keeper : K) (front : List Kept) (entry : Entry) (mark : Bool) (before old deep a after depth : ℕ)
+    → Some (entry, mark, before) ≡ walked (place keeper) front → old ≡ byte_before depth entry a after → deep ≡ depth_before depth entry
+    → Some (old, deep, before) ≡ told_before (place keeper) depth a after front
+told_by_walk place keeper [] entry mark before old deep a after depth is told shallower = absurd cc
+told_by_walk place keeper (e ∷ rest) entry mark before old deep a after depth is told shallower =
     let answer : Entry × Bool × ℕ = (entry, mark, before) in
     let newest : Entry × Bool × ℕ = (e.0, e.1, place keeper rest) in
     let found : answer ≡ newest = cc in
-    let byte : old ≡ byte_before depth e.0 a after = told depth ∙ ap (λ (t : Entry × Bool × ℕ). byte_before depth t.0 a after) found in
+    let byte : old ≡ byte_before depth e.0 a after = told ∙ ap (λ (t : Entry × Bool × ℕ). byte_before depth t.0 a after) found in
+    let deeper : deep ≡ depth_before depth e.0 = shallower ∙ ap (λ (t : Entry × Bool × ℕ). depth_before depth t.0) found in
     let there : before ≡ place keeper rest = ap (λ (t : Entry × Bool × ℕ). t.2) found in
     cc

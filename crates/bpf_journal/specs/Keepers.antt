@@ -4,7 +4,7 @@ use Rattle.bpf_entries.specs.declared.entry.Entry.{Entry}
 use Rattle.bpf_journal.specs.Counts.{one_more}
 use Rattle.bpf_entries.specs.Keeping.{Kept, kept_weight}
 use Rattle.bpf_journal.specs.Histories.{newest, older}
-use Rattle.bpf_journal.specs.Replaced.{byte_before}
+use Rattle.bpf_journal.specs.Replaced.{byte_before, depth_before}
 use Rattle.bpf_entries.specs.Keeping.{IsSize}
 
 -- How often a keeper has refused, after one more push.
@@ -17,10 +17,10 @@ abbrev pub walked : (List Kept → ℕ) → List Kept → Option (Entry × Bool 
 walked place [] = None
 walked place (e ∷ es) = Some (e.0, e.1, place es)
 
--- The byte at an address before the move of a front's newest, which is `after` behind it, and the place of the front without it.
-abbrev pub told_before : (List Kept → ℕ) → ℕ → ℕ → ℕ → List Kept → Option (ℕ × ℕ)
+-- The byte at an address and the depth before the move of a front's newest, by those behind it, and the place of the front without it.
+abbrev pub told_before : (List Kept → ℕ) → ℕ → ℕ → ℕ → List Kept → Option (ℕ × ℕ × ℕ)
 told_before place depth address after [] = None
-told_before place depth address after (e ∷ es) = Some (byte_before depth e.0 address after, place es)
+told_before place depth address after (e ∷ es) = Some (byte_before depth e.0 address after, depth_before depth e.0, place es)
 
 module _ {K : Type 0} (holds : K → List Kept → Type 0) where
   -- The newest is taken off; nothing changes where nothing is held.
@@ -39,10 +39,10 @@ module _ {K : Type 0} (holds : K → List Kept → Type 0) where
   WalksBack place keeper at result =
       (newer front : List Kept) → holds keeper (newer ++ front) → place keeper front ≡ at → result ≡ walked (place keeper) front
 
-  -- A byte is told of each front at the place.
-  abbrev pub TellsByteBefore : (K → List Kept → ℕ) → K → ℕ → ℕ → ℕ → Option (ℕ × ℕ) → Type 0
-  TellsByteBefore place keeper at address after result =
-      (newer front : List Kept) → holds keeper (newer ++ front) → place keeper front ≡ at → (depth : ℕ) →
+  -- A byte and the depth are told of each front at the place.
+  abbrev pub TellsByteBefore : (K → List Kept → ℕ) → K → ℕ → ℕ → ℕ → ℕ → Option (ℕ × ℕ × ℕ) → Type 0
+  TellsByteBefore place keeper at depth address after result =
+      (newer front : List Kept) → holds keeper (newer ++ front) → place keeper front ≡ at →
       result ≡ told_before (place keeper) depth address after front
 
   -- No two fronts of a held list have one place.

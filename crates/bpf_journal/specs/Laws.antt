@@ -30,7 +30,7 @@ module _ {A : Type 0} (weigh : A → ℕ) where
   abbrev pub DroppedIsForgotten : Type 0
   DroppedIsForgotten = (room : ℕ) (es : List A) (e : A) → keep weigh room (fit weigh room es) e ≡ keep weigh room es e
 
--- An entry that fits its fields weighs at most 280 bytes, so a journal of any size keeps it when it is new.
+-- An entry that fits its fields weighs at most 519 bytes, so a journal of any size keeps it when it is new.
 abbrev pub EveryEntryIsKept : Type 0
 EveryEntryIsKept =
     (room : ℕ) (es : List Kept) (entry : Entry) (mark : Bool) → IsSize room → FitsFields entry →

@@ -1,10 +1,10 @@
 -- The bytes of memory that a move replaced, as its entry tells them, so that what a byte was is read off the kept entries, and no state
 -- is needed for it.
-use Rattle.std.specs.Prelude.{◌≡◌, ◌+◌, ◌-◌, ℕ, Bool, is_some}
+use Rattle.std.specs.Prelude.{◌≡◌, ℕ, Bool, is_some}
 use Rattle.bpf_machine.specs.ByAddress.{byte}
 use Rattle.bpf_entries.specs.declared.entry.Entry.{Entry}
-pub use Rattle.bpf_entries.specs.Before.{byte_in, byte_before}
-use Rattle.bpf_entries.specs.Past.{Frames, Same, Fewer, More, past, replaced}
+pub use Rattle.bpf_entries.specs.Before.{byte_in, byte_before, depth_by, depth_before}
+use Rattle.bpf_entries.specs.Past.{replaced}
 use Rattle.bpf_machine.specs.declared.moves.Move.{Move}
 use Rattle.bpf_machine.specs.Moves.{Leads, overwritten}
 use Rattle.bpf_machine.specs.State.{State, depth}
@@ -12,15 +12,6 @@ use Rattle.bpf_machine.specs.State.{State, depth}
 -- Whether a move replaced a run.
 abbrev pub replaces_bytes : Entry → Bool
 replaces_bytes e = is_some (replaced 0 e)
-
--- The depth before a move, by the frames before it.
-abbrev pub depth_by : Frames → ℕ → ℕ
-depth_by Same d = d
-depth_by Fewer d = d - 1
-depth_by (More saved) d = d + 1
-
-abbrev pub depth_before : ℕ → Entry → ℕ
-depth_before d e = depth_by (past e).frames d
 
 -- An entry tells each byte before its move, and the depth.
 pub record TellsBefore (x y : State) (e : Entry) : Type 0 where

@@ -1,5 +1,5 @@
 //! Keepers hold the entries and marks of moves, the newest ones that fit a journal's size.
-ghost use Rattle.std.specs.Prelude.{◌≡◌, ◌<◌, ◌^◌, ◌++◌, ℕ, List, length, sum_by, count_by, OnOk, OnErr, false};
+ghost use Rattle.std.specs.Prelude.{◌≡◌, ◌<◌, ◌+◌, ◌^◌, ◌++◌, ℕ, List, length, sum_by, count_by, OnOk, OnErr, false};
 ghost use Rattle.bpf_entries.specs.Fields.{FitsFields};
 ghost use Rattle.bpf_entries.specs.Keeping.{Kept, kept_weight, keep};
 ghost use Rattle.bpf_entries.specs.Status.{has_ended};
@@ -137,15 +137,26 @@ pub trait Keeper {
         requires { IsPlace holds place self.now at }
         ensures { WalksBack holds place self.now at result };
 
-    /// What the byte at an address was before the newest entry's move of the front at a place, where it is `after` behind that move, and
-    /// the place of the front without that entry; None for the front without entries. A keeper that reads an entry where it is kept writes
-    /// this anew; by itself it reads the entry whole.
-    fn byte_before(&self, at: usize, address: u64, after: u8) -> Option<(u8, usize)>
-        requires { IsPlace holds place self.now at }
-        ensures { TellsByteBefore holds place self.now at address after result }
+    /// What the byte at an address and the depth of calls were before the newest entry's move of the front at a place, where they are `after`
+    /// and `depth` behind that move, and the place of the front without that entry; None for the front without entries. A keeper that reads
+    /// an entry where it is kept writes this anew; by itself it reads the entry whole.
+    fn byte_before(
+        &self,
+        at: usize,
+        depth: u32,
+        address: u64,
+        after: u8,
+    ) -> Option<(u8, u32, usize)>
+        requires place { IsPlace holds place self.now at }
+        requires shallow { depth + 1 < 2 ^ 32 }
+        ensures { TellsByteBefore holds place self.now at depth address after result }
     {
         match self.walk_back(at) {
-            Some((entry, _, older)) => Some((entry.byte_before(address, after), older)),
+            Some((entry, _, older)) => Some((
+                entry.byte_before(depth, address, after),
+                entry.depth_before(depth),
+                older,
+            )),
             None => None,
         }
     }

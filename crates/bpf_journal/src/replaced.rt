@@ -10,7 +10,7 @@ use bpf_machine::{Change, Entry};
 pub fn replaces_bytes(entry: &Entry) -> bool
     ensures { result ≡ replaces_bytes_of entry.now }
 {
-    match entry.replaced() {
+    match entry.replaced(0) {
         Some(_) => true,
         None => false,
     }
@@ -22,7 +22,8 @@ pub fn change_replaces_bytes(change: &Change) -> bool
     ensures { (x : State) → result ≡ replaces_bytes_of (entry_of x change.now) }
 {
     match change {
-        Change::Store { .. } | Change::Fetch { .. } | Change::Cell { .. } => true,
+        Change::Call { .. } | Change::Store { .. } | Change::Fetch { .. } | Change::Cell { .. } =>
+            true,
         _ => false,
     }
 }

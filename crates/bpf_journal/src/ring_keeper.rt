@@ -149,7 +149,13 @@ impl Keeper for RingKeeper {
         self.entries.walk_back(at)
     }
 
-    fn byte_before(&self, at: usize, address: u64, after: u8) -> Option<(u8, usize)> {
-        self.entries.byte_before(at, address, after)
+    fn byte_before(
+        &self,
+        at: usize,
+        depth: u32,
+        address: u64,
+        after: u8,
+    ) -> Option<(u8, u32, usize)> {
+        self.entries.byte_before(at, depth, address, after)
     }
 }

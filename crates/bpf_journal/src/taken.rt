@@ -40,7 +40,7 @@ impl Taken {
         Taken {
             is_step: kind <= 9,
             mark: tag >= 128,
-            replaced_bytes: matches!(kind, 5 | 6 | 7 | 11),
+            replaced_bytes: matches!(kind, 3 | 5 | 6 | 7 | 11),
         }
     }
 }

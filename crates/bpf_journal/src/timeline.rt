@@ -1,5 +1,5 @@
 //! A machine with the keeper of the moves that led to its state.
-ghost use Rattle.std.specs.Prelude.{◌≡◌, ℕ, List, [], length, min, count_by, sum_by, OnOk, OnErr, IfOk, IfErr, false};
+ghost use Rattle.std.specs.Prelude.{◌≡◌, ◌<◌, List, [], length, min, count_by, sum_by, OnOk, OnErr, IfOk, IfErr, false};
 ghost use Rattle.bpf_machine.specs.declared.moves.Move.TheVariants as move_of;
 ghost use Rattle.bpf_machine.specs.Entries.{step_entry};
 ghost use Rattle.bpf_machine.specs.Next.{change as change_of};
@@ -12,6 +12,7 @@ ghost use Rattle.bpf_journal.specs.Changes.{change_in};
 ghost use Rattle.bpf_journal.specs.Lookups.{last_change};
 ghost use Rattle.bpf_journal.specs.Replaced.{replaces_bytes};
 ghost use Rattle.bpf_machine.specs.ByAddress.{byte};
+ghost use Rattle.bpf_machine.specs.Platform.{frame_count};
 ghost use Rattle.bpf_journal.specs.Timelines.{Moment, Makes, Fails, GoesBack, refusals_by};
 
 use crate::fault::{MoveFault, TimelineFault};
@@ -135,7 +136,8 @@ impl<K: Keeper> Timeline<K> {
         requires { value ≡ byte self.now.state address }
         ensures { (h : List Record) → StandsFor K.holds self.now.keeper self.now.state h → result ≡ last_change address h self.now.state }
     {
-        change_among(&self.keeper, address, value)
+        self.cpu.invariant();
+        change_among(&self.keeper, self.cpu.depth() as u32, address, value)
     }
 
     /// Takes a step and keeps it. Answers whether it replaced bytes of memory. Nothing changes where the machine has ended, or where the
@@ -207,14 +209,16 @@ impl<K: Keeper> Timeline<K> {
     }
 }
 
-/// The latest change of a byte among the entries that a keeper holds, which lead to this value.
-fn change_among<K: Keeper>(keeper: &K, address: u64, value: u8) -> Option<ByteChange>
-    requires { HoldsSome K.holds keeper.now }
-    ensures { (es : List Kept) → K.holds keeper.now es → (depth : ℕ) → result ≡ change_in address depth value es }
+/// The latest change of a byte among the entries that a keeper holds, which lead to this depth of calls and this value.
+fn change_among<K: Keeper>(keeper: &K, depth: u32, address: u64, value: u8) -> Option<ByteChange>
+    requires some { HoldsSome K.holds keeper.now }
+    requires shallow { depth < frame_count }
+    ensures { (es : List Kept) → K.holds keeper.now es → result ≡ change_in address depth value es }
 {
+    let mut deep = depth;
     let mut at = keeper.end();
     for k in 0..keeper.len() {
-        let Some((old, older)) = keeper.byte_before(at, address, value) else {
+        let Some((old, outer, older)) = keeper.byte_before(at, deep, address, value) else {
             return None;
         };
         if old != value {
@@ -224,6 +228,7 @@ fn change_among<K: Keeper>(keeper: &K, address: u64, value: u8) -> Option<ByteCh
                 new: value,
             });
         }
+        deep = outer;
         at = older;
     }
     None

@@ -165,7 +165,7 @@ fn step_text(rt: &impl Abort, alloc: Global, entry: &Entry) -> String {
             value,
         } => format!(in alloc; "register {pc} r{} {value:x}", register.number()),
         Entry::Jump { pc } => format!(in alloc; "jump {pc}"),
-        Entry::Call { pc } => format!(in alloc; "call {pc}"),
+        Entry::Call { pc, old: _ } => format!(in alloc; "call {pc}"),
         Entry::Return { pc, saved } => {
             let [r6, r7, r8, r9] = *saved;
             format!(in alloc; "return {pc} {r6:x} {r7:x} {r8:x} {r9:x}")

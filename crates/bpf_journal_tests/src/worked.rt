@@ -13,9 +13,9 @@ const ROWS: &str = "\
 a store; 7b11000000000000; 0102030405060708; 1; steps 1 -> 1 steps; pc 1 running 0: 0 100000000 0 200000200, 0000000001000000, 24
 a fetch that replaces its base; db11000001000000; 0100000000000000; 1; steps 1 -> 1 steps; pc 1 running 0: 0 1 0 200000200, 0100000001000000, 33
 no match; c3210000f1000000; ffffffff; 1; steps 1 -> 1 steps; pc 1 running 0: ffffffff 100000000 0 200000200, ffffffff, 16
-a function, entered; 85100000010000009500000000000000b706000005000000; ; 2; steps 2 -> 2 steps; pc 3 running 1: 0 0 5 200000600, , 23
-a function, and back; 85100000010000009500000000000000b706000005000000; ; 3; steps 3 -> 3 steps; pc 1 running 0: 0 0 0 200000200, , 62
-a function without end; 85100000ffffffff; ; 8; steps 8 -> 8 steps; pc 0 depth 7: 0 0 0 200001e00, , 54
+a function, entered; 85100000010000009500000000000000b706000005000000; ; 2; steps 2 -> 2 steps; pc 3 running 1: 0 0 5 200000600, , 535
+a function, and back; 85100000010000009500000000000000b706000005000000; ; 3; steps 3 -> 3 steps; pc 1 running 0: 0 0 0 200000200, , 574
+a function without end; 85100000ffffffff; ; 8; steps 8 -> 8 steps; pc 0 depth 7: 0 0 0 200001e00, , 3638
 an exchange of 32 bits; c3010000e1000000; ffffffff; 2; reg 0 100000002, steps 1 -> ok, 1 steps; pc 1 running 0: ffffffff 100000000 0 200000200, 02000000, 43
 a match on 32 bits; c3210000f1000000; 01000000; 3; reg 0 500000001, reg 2 9, steps 1 -> ok, ok, 1 steps; pc 1 running 0: 1 100000000 0 200000200, 09000000, 57
 a lookup; 8500000001000000; ; 3; reg 1 400000000, reg 2 2000001f8, steps 1 -> ok, ok, 1 steps; pc 1 running 0: 300000000 400000000 0 200000200, , 44

@@ -3,7 +3,7 @@ use Rattle.std.specs.Prelude.{is_some}
 use Rattle.bpf_journal.proofs.replaced.replaces_bytes.Goals as goal
 
 pub returns-in-Some : goal.returns-in-Some
-returns-in-Some c = ap is_some (c.in-Some.ensures 0)
+returns-in-Some c = ap is_some c.in-Some.ensures
 
 pub returns-in-None : goal.returns-in-None
-returns-in-None c = ap is_some (c.in-None.ensures 0)
+returns-in-None c = ap is_some c.in-None.ensures

@@ -5,4 +5,4 @@ use Rattle.bpf_journal.proofs.timeline.change_among.Given as goal
 
 abbrev pub invariant-loop-k : goal.invariant-loop-k
 invariant-loop-k g l =
-    (es : List Kept) → g.K.Keeper.holds l.keeper es → Looking g.K.Keeper.holds g.K.Keeper.place l.keeper es l.address l.value l.at l.k
+    (es : List Kept) → g.K.Keeper.holds l.keeper es → Looking g.K.Keeper.holds g.K.Keeper.place l.keeper es l.address l.value l.depth l.at l.deep l.k
