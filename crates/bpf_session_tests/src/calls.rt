@@ -16,7 +16,7 @@ const CALLED: Row = (
     65_536,
     "\
 nexti|3 forward; done; at 1: exit
-info history|3 moves, 1 commands, 62 of 65536 bytes
+info history|3 moves, 1 commands, 574 of 65536 bytes
 reverse-nexti|3 back; done; at 0: callf L2
 stepi 2|2 forward; done; at 3: exit
 info frames|depth 1
@@ -115,7 +115,7 @@ finish|1 forward; end; fault depth at 0
 reverse-finish|2 back; done; at 0: callf L0
 reverse-finish|1 back; done; at 0: callf L0
 undo 2|refused Q5: fewer kept commands
-info history|5 moves, 1 commands, 35 of 65536 bytes
+info history|5 moves, 1 commands, 2595 of 65536 bytes
 reverse-finish|1 back; done; at 0: callf L0
 reverse-nexti|1 back; done; at 0: callf L0
 reverse-finish|1 back; done; at 0: callf L0
@@ -259,9 +259,132 @@ last-write 0x100000000|not changed in 89 kept moves
 ",
 );
 
-const ROWS: [Row; 14] = [
-    CALLED, SAVED, TRACED, TOKEN, REFUSED, INSIDE, RECURSION, WATCHED, EDITED, BOTH, TABLE, FRAME,
-    ATOMIC, DROPPED,
+/// callf 2; callf 1; exit; ldxb r0, [r10-1]; stb [r10-1], 7; exit: a function that leaves a byte in its frame is called twice.
+const TWICE: &str = "851000000200000085100000010000009500000000000000\
+                     71a0ffff00000000720affff070000009500000000000000";
+
+// The second call finds zero, and its entry holds what stood there.
+const CLEARED: Row = (
+    TWICE,
+    &[],
+    65_536,
+    "\
+continue|9 forward; end; exited at 2: r0 0x0
+info history|9 moves, 1 commands, 1187 of 65536 bytes
+last-write 0x2000005ff|changed 3 moves back: 0x0 to 0x7
+",
+);
+
+// A watch on a byte that a call clears, forward and back. The first call changes no byte, since all are zero.
+const CLEARED_BYTE: Row = (
+    TWICE,
+    &[],
+    65_536,
+    "\
+watch 0x2000005ff|ok
+continue|3 forward; watch; at 5: exit
+continue|2 forward; watch; at 3: ldxb r0, [r10-1]
+reverse-stepi|1 back; done; at 1: callf L3
+x 0x2000005ff 1|0x2000005ff: 07
+rc|2 back; watch; at 4: stb [r10-1], 7
+continue|1 forward; watch; at 5: exit
+continue|2 forward; watch; at 3: ldxb r0, [r10-1]
+last-write 0x2000005ff|changed 1 moves back: 0x7 to 0x0
+rc|1 back; watch; at 1: callf L3
+last-write 0x2000005ff|changed 2 moves back: 0x0 to 0x7
+",
+);
+
+// A journal of the least size has room for one call and the end: of the seven calls one is kept.
+const FULL_OF_CALLS: Row = (
+    "85100000ffffffff9500000000000000",
+    &[],
+    1_024,
+    "\
+continue|8 forward; end; fault depth at 0
+info history|2 moves, 0 commands, 524 of 1024 bytes
+undo|refused Q5: fewer kept commands
+reverse-stepi 8|2 back; start; at 0: callf L0
+info frames|depth 6
+|returns to 1 r6=0x0 r7=0x0 r8=0x0 r9=0x0
+|returns to 1 r6=0x0 r7=0x0 r8=0x0 r9=0x0
+|returns to 1 r6=0x0 r7=0x0 r8=0x0 r9=0x0
+|returns to 1 r6=0x0 r7=0x0 r8=0x0 r9=0x0
+|returns to 1 r6=0x0 r7=0x0 r8=0x0 r9=0x0
+|returns to 1 r6=0x0 r7=0x0 r8=0x0 r9=0x0
+",
+);
+
+// callf 1; exit; add r0, 1; jge r0, 7, 1; callf -3; exit: seven calls, one in another.
+const DEEP: Row = (
+    "8510000001000000950000000000000007000000010000003500010007000000\
+     85100000fdffffff9500000000000000",
+    &[],
+    65_536,
+    "\
+continue|29 forward; end; exited at 1: r0 0x7
+info history|29 moves, 1 commands, 4072 of 65536 bytes
+undo|29 back; done; at 0: callf L2
+",
+);
+
+// mov r4, 2; mov r3, 0; callf 3; add r4, -1; jne r4, 0, -4; exit; ldxb r2, [r10-512]; add r0, r2; ldxb r2, [r10-1]; add r0, r2;
+// stb [r10-512], 9; stb [r10-1], 7; add r3, 1; jeq r3, 7, 1; callf -9; exit: twice it goes down to depth 7, adds up the first and the
+// last byte of each frame, and then writes them. A call and what it runs down to depth 7 are 9 moves a depth; the whole is 148.
+const EACH_DEPTH: Row = (
+    "b704000002000000b703000000000000851000000300000007040000ffffffff\
+     5504fcff00000000950000000000000071a200fe000000000f20000000000000\
+     71a2ffff000000000f20000000000000720a00fe09000000720affff07000000\
+     0703000001000000150301000700000085100000f7ffffff9500000000000000",
+    &[],
+    65_536,
+    "\
+continue|148 forward; end; exited at 5: r0 0x0
+last-write 0x200001dff|changed 13 moves back: 0x0 to 0x7
+last-write 0x2000019ff|changed 22 moves back: 0x0 to 0x7
+last-write 0x2000015ff|changed 31 moves back: 0x0 to 0x7
+last-write 0x2000011ff|changed 40 moves back: 0x0 to 0x7
+last-write 0x200000dff|changed 49 moves back: 0x0 to 0x7
+last-write 0x2000009ff|changed 58 moves back: 0x0 to 0x7
+last-write 0x2000005ff|changed 67 moves back: 0x0 to 0x7
+reverse-stepi 14|14 back; done; at 10: stb [r10-512], 9
+last-write 0x200001dff|changed 5 moves back: 0x7 to 0x0
+last-write 0x200001c00|changed 5 moves back: 0x9 to 0x0
+last-write 0x2000019ff|changed 8 moves back: 0x0 to 0x7
+last-write 0x2000005ff|changed 53 moves back: 0x0 to 0x7
+reverse-stepi 54|54 back; done; at 10: stb [r10-512], 9
+last-write 0x2000005ff|changed 5 moves back: 0x7 to 0x0
+last-write 0x200000400|changed 5 moves back: 0x9 to 0x0
+last-write 0x2000011ff|changed 45 moves back: 0x0 to 0x7
+last-write 0x200001dff|changed 18 moves back: 0x0 to 0x7
+x 0x200001dff 1|0x200001dff: 07
+continue|68 forward; end; exited at 5: r0 0x0
+undo|68 back; done; at 10: stb [r10-512], 9
+x 0x200001dff 1|0x200001dff: 07
+x 0x200001c00 1|0x200001c00: 09
+",
+);
+
+const ROWS: [Row; 19] = [
+    CALLED,
+    SAVED,
+    TRACED,
+    TOKEN,
+    REFUSED,
+    INSIDE,
+    RECURSION,
+    WATCHED,
+    EDITED,
+    BOTH,
+    TABLE,
+    FRAME,
+    ATOMIC,
+    DROPPED,
+    CLEARED,
+    CLEARED_BYTE,
+    FULL_OF_CALLS,
+    DEEP,
+    EACH_DEPTH,
 ];
 
 /// Plays the transcript of a row over either keeper.

@@ -42,7 +42,7 @@ ok;\
 1 back/done/fault access 0x200000200 at 0;
 85100000ffffffff9500000000000000||continue;info history;reverse-stepi;undo;undo|\
 8 forward/end/fault depth at 0;\
-8 moves, 1 commands, 54 of 65536 bytes;\
+8 moves, 1 commands, 3638 of 65536 bytes;\
 1 back/done/at 0: callf L0;\
 7 back/done/at 0: callf L0;\
 refused Q5: fewer kept commands;
