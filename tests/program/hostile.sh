@@ -101,8 +101,15 @@ awk -v listing=accesses.s '
             ask("set mem " address(start[r]) " " (sizes[r] < 8 ? "11" : "1122334455667788"), "ok")
         }
         for (depth = 0; depth <= 7; depth++) {
-            if (depth) ask("stepi", "1 forward; done; at 1: callf L1")
-            else ask("set pc 1", "ok")
+            if (depth) {
+                ask("stepi", "1 forward; done; at 1: callf L1")
+                # (the call has made its frame zero)
+                r = depth + 2
+                ask("x " address(start[r]) " 1", address(start[r]) ": 00")
+                ask("x " address(start[r] + sizes[r] - 8) " 8", address(start[r] + sizes[r] - 8) ": 0000000000000000")
+                ask("set mem " address(start[r] + sizes[r] - 8) " 8192a3b4c5d6e7f8", "ok")
+                ask("set mem " address(start[r]) " 1122334455667788", "ok")
+            } else ask("set pc 1", "ok")
             for (r = 1; r <= regions; r++) {
                 ask("x " address(start[r]) " 1", address(start[r]) ": 11")
                 for (i = 3; i < lines - 1; i++) {
@@ -128,7 +135,7 @@ awk -v listing=accesses.s '
             }
         }
         ask("stepi", "1 forward; end; fault depth at 1")
-        ask("undo 9", "9 back; done; at 0: callf L1")
+        ask("undo 23", "23 back; done; at 0: callf L1")
     }
 '
 obeyed 'accesses at the edges of each region' debug -m context --maps $maps --listing accesses.s
@@ -295,7 +302,7 @@ obeyed 'a trace of 258 words' debug --journal 1048576 --listing trace.s
 # Calls that return at the greatest depth, calls one deeper, and calls without end.
 printf 'callf f\nexit\nf: add r0, 1\njge r0, 7, out\ncallf f\nout: exit\n' > seven.s
 sed 's/7/8/' seven.s > eight.s
-session 'seven calls' 'continue\ninfo history\nundo\ninfo frames\n' "29 forward; end; exited at 1: r0 0x7\n29 moves, 1 commands, 488 of 65536 bytes\n\
+session 'seven calls' 'continue\ninfo history\nundo\ninfo frames\n' "29 forward; end; exited at 1: r0 0x7\n29 moves, 1 commands, 4072 of 65536 bytes\n\
 29 back; done; at 0: callf L2\ndepth 0\n" debug --listing seven.s
 session 'eight calls' 'continue\nundo\ninfo frames\n' '22 forward; end; fault depth at 4\n22 back; done; at 0: callf L2\ndepth 0\n' \
     debug --listing eight.s
@@ -303,9 +310,14 @@ stopped 'fault depth at 4' run --listing eight.s
 printf 'callf f\nexit\nf: callf g\ncallf g\nexit\ng: exit\n' > many.s
 printf 'loop: callf f\nja loop\nf: exit\n' > forever.s
 result '0x0\n' run --listing many.s
+printf 'callf f\ncallf g\nexit\nf: stb [r10-8], 7\nexit\ng: ldxdw r0, [r10-8]\nexit\n' > left.s
+result '0x0\n' run --listing left.s
+session 'what a function left' 'stepi 4\nx 0x2000005f8 8\nlast-write 0x2000005f8\nreverse-stepi\nx 0x2000005f8 8\nlast-write 0x2000005f8\n' \
+    "4 forward; done; at 5: ldxdw r0, [r10-8]\n0x2000005f8: 0000000000000000\nchanged 1 moves back: 0x7 to 0x0\n\
+1 back; done; at 1: callf L5\n0x2000005f8: 0700000000000000\nchanged 2 moves back: 0x0 to 0x7\n" debug --listing left.s
 stopped 'step limit 1000000 reached at 2' run --listing forever.s
 session 'calls that return without end' 'stepi 65000\ninfo history\nreverse-stepi 1000000000\ninfo frames\n' \
-    '65000 forward; done; at 1: ja L0\n3708 moves, 0 commands, 65508 of 65536 bytes\n3708 back; start; at 1: ja L0\ndepth 0\n' \
+    '65000 forward; done; at 1: ja L0\n347 moves, 0 commands, 65533 of 65536 bytes\n347 back; start; at 0: callf L2\ndepth 0\n' \
     debug --listing forever.s
 
 # Each opcode with each number in one of its register fields, and no other byte: what `check` says of it is what the second machine
