@@ -74,7 +74,11 @@ fn put_step(rt: &impl Abort, parts: &mut Vec<u8>, entry: &Entry) {
             put(rt, parts, &[register.number()]);
             put(rt, parts, &value.to_le_bytes());
         }
-        Entry::Jump { pc } | Entry::Call { pc } => put(rt, parts, &pc.to_le_bytes()),
+        Entry::Jump { pc } => put(rt, parts, &pc.to_le_bytes()),
+        Entry::Call { pc, old } => {
+            put(rt, parts, &pc.to_le_bytes());
+            put(rt, parts, old.as_slice());
+        }
         Entry::Return { pc, saved } => {
             put(rt, parts, &pc.to_le_bytes());
             put_numbers(rt, parts, *saved);
