@@ -130,6 +130,7 @@ commands =
     ∷ (codes "reverse-continue", bare (command.Back target.Continue))
     ∷ (codes "rc", bare (command.Back target.Continue))
     ∷ (codes "reverse-finish", bare (command.Back target.Finish))
+    ∷ (codes "redo", counted (λ count. command.Redo count))
     ∷ (codes "set", one_of settings)
     ∷ (codes "break", numbered (λ slot. command.Add (stop.Breakpoint slot)))
     ∷ (codes "delete", numbered (λ slot. command.Remove (stop.Breakpoint slot)))

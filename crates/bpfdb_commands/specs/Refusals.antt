@@ -3,7 +3,7 @@ use Rattle.std.specs.Prelude.{ℕ, List, ◌++◌}
 use lib.Chars.{codes}
 use Rattle.std.specs.Fmt.{decimal}
 use Rattle.bpfdb_commands.specs.declared.refusal.Refusal.{Refusal}
-use Rattle.bpfdb_commands.specs.declared.refusal.Refusal.TheVariants.{UnknownCommand, WrongArgument, MachineEnded, NoKeptStep, FewerCommands, AddressNotPresent, RegisterNotWritable, NoStart, OutermostFrame, TableFull, ThereOrNot, LineTooLong, NoCell, OutOfMemory}
+use Rattle.bpfdb_commands.specs.declared.refusal.Refusal.TheVariants.{UnknownCommand, WrongArgument, MachineEnded, NoKeptStep, FewerCommands, AddressNotPresent, RegisterNotWritable, NoStart, OutermostFrame, TableFull, ThereOrNot, LineTooLong, NothingToRedo, NoCell, OutOfMemory}
 
 -- The number that stands after Q.
 abbrev pub number_of : Refusal → ℕ
@@ -19,6 +19,7 @@ number_of OutermostFrame = 9
 number_of TableFull = 10
 number_of ThereOrNot = 11
 number_of LineTooLong = 12
+number_of NothingToRedo = 13
 number_of NoCell = 14
 number_of OutOfMemory = 15
 
@@ -36,6 +37,7 @@ text_of OutermostFrame = codes "outermost frame"
 text_of TableFull = codes "table is full"
 text_of ThereOrNot = codes "not there or already there"
 text_of LineTooLong = codes "line too long"
+text_of NothingToRedo = codes "nothing to redo"
 text_of NoCell = codes "no such cell or wrong length"
 text_of OutOfMemory = codes "out of memory"
 

@@ -10,6 +10,8 @@ pub enum Command {
     Forward(Goal),
     /// Goes back to the state before the latest moves that are looked for.
     Back(Target),
+    /// `redo`: makes so many moves again that were taken back.
+    Redo(Count),
     /// `set`: changes a register, bytes of memory, a cell of a map or pc.
     Edit(Edit),
     /// `break`, `watch`: sets a breakpoint or a watch.

@@ -63,6 +63,8 @@ fn command_named(name: &[u8], tokens: Tokens) -> Result<Command, Refusal>
         bare(tokens, Command::Back(Target::Continue))
     } else if is(name, "reverse-finish") {
         bare(tokens, Command::Back(Target::Finish))
+    } else if is(name, "redo") {
+        redo(tokens)
     } else if is(name, "set") {
         set(tokens)
     } else if is(name, "break") {
@@ -110,6 +112,14 @@ fn reverse_step(tokens: Tokens) -> Result<Command, Refusal>
 {
     let count = optional_count(tokens)?;
     Ok(Command::Back(Target::Steps(count)))
+}
+
+/// `redo` and a count.
+fn redo(tokens: Tokens) -> Result<Command, Refusal>
+    ensures value { result ≡ ok_or (counted (λ count. Command.Redo count) tokens.entry) Refusal.WrongArgument }
+{
+    let count = optional_count(tokens)?;
+    Ok(Command::Redo(count))
 }
 
 /// `break` and a slot.

@@ -29,6 +29,8 @@ pub enum Refusal {
     ThereOrNot,
     /// Q12: the line is longer than 1,024 bytes.
     LineTooLong,
+    /// Q13: no move was taken back since the latest new one.
+    NothingToRedo,
     /// Q14: there is no such map, its cells end before the index, or its values have another length.
     NoCell,
     /// Q15: the first move of the command couldn't be kept.
@@ -53,6 +55,7 @@ impl Refusal {
             Refusal::TableFull => 10,
             Refusal::ThereOrNot => 11,
             Refusal::LineTooLong => 12,
+            Refusal::NothingToRedo => 13,
             Refusal::NoCell => 14,
             Refusal::OutOfMemory => 15,
         }
@@ -75,6 +78,7 @@ impl Refusal {
             Refusal::TableFull => "table is full",
             Refusal::ThereOrNot => "not there or already there",
             Refusal::LineTooLong => "line too long",
+            Refusal::NothingToRedo => "nothing to redo",
             Refusal::NoCell => "no such cell or wrong length",
             Refusal::OutOfMemory => "out of memory",
         }

@@ -24,6 +24,8 @@ reverse-continue|reverse-continue|0 0
 rc|reverse-continue|0 0
 reverse-nexti|reverse-nexti|0 0
 reverse-finish|reverse-finish|0 0
+redo|redo|1 0
+redo 0x5|redo|5 0
 set reg r4 1|set reg|4 1
 set mem 0x100000004 0102030405060708|set mem|4294967300 8
 set pc 0x100000000|set pc|4294967296 0
@@ -215,6 +217,7 @@ fn said_by(command: &Command) -> Said<'static> {
     match command {
         Command::Forward(goal) => said_by_goal(*goal),
         Command::Back(target) => said_by_target(*target),
+        Command::Redo(count) => ("redo", count.get(), 0),
         Command::Edit(edit) => said_by_edit(edit),
         Command::Add(Stop::Breakpoint(slot)) => ("break", *slot, 0),
         Command::Add(Stop::Watch(address)) => ("watch", *address, 0),
@@ -280,7 +283,7 @@ fn try_rows(rt: &impl Abort, table: &str) {
 #[test]
 fn lines_say_commands(rt: HostRuntime) {
     try_rows(&rt, COMMANDS);
-    assert_eq!(rt; COMMANDS.lines().count(), 34);
+    assert_eq!(rt; COMMANDS.lines().count(), 36);
 }
 
 #[test]
