@@ -14,7 +14,7 @@ use Rattle.bpf_entries.specs.declared.status.Fault.TheVariants.{Access, Token, D
 use Rattle.bpf_entries.specs.declared.status.Status.{Status}
 use Rattle.bpf_entries.specs.declared.status.Status.TheVariants.{Running, Exited, Faulted}
 use Rattle.bpfdb_replies.specs.declared.why.Why.{Why}
-use Rattle.bpfdb_replies.specs.declared.why.Why.TheVariants.{End, Break, Watch, Done, Limit, Memory, Start}
+use Rattle.bpfdb_replies.specs.declared.why.Why.TheVariants.{End, Break, Watch, Done, Limit, Memory, Start, All}
 
 -- Why a command stopped.
 abbrev pub text_of_why : Why → List ℕ
@@ -25,6 +25,7 @@ text_of_why Done = codes "done"
 text_of_why Limit = codes "limit"
 text_of_why Memory = codes "memory"
 text_of_why Start = codes "start"
+text_of_why All = codes "all"
 
 -- A slot and the text of the instruction that starts there.
 abbrev pub text_at : Checked → ℕ → List ℕ

@@ -22,11 +22,12 @@ impl Why {
             Why::Limit => "limit",
             Why::Memory => "memory",
             Why::Start => "start",
+            Why::All => "all",
         }
     }
 }
 
-/// Writes how many moves a command made or took back, why it stopped, and where.
+/// Writes how many moves a command made, took back or made again, why it stopped, and where.
 pub fn put_move<W: Write>(
     writer: &mut Counted<W>,
     so_far: Result<(), WriteFault>,

@@ -17,4 +17,6 @@ pub enum Why {
     Memory,
     /// Nothing is kept from before.
     Start,
+    /// All that was taken back is made again.
+    All,
 }
