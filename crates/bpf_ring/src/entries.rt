@@ -86,6 +86,15 @@ impl EntryRing {
         self.ring.byte(index)
     }
 
+    /// Lets all entries go. It takes no memory.
+    pub fn clear(&mut self)
+        ensures size { self.new.ring.size ≡ self.old.ring.size }
+        ensures empty { IsHeld self.new.ring self.new.counts [] }
+    {
+        self.ring.clear();
+        self.counts = Counts::none();
+    }
+
     /// How many entries it holds.
     pub fn len(&self) -> usize
         ensures { (ks : List Kept) → IsHeld self.now.ring self.now.counts ks → result ≡ length ks }
@@ -137,6 +146,20 @@ impl EntryRing {
         let mut text = [0u8; GREATEST];
         self.ring.copy_newest(count, &mut text);
         Entry::read(&text[..count])
+    }
+
+    /// The tag of the newest entry: its kind, and whether it is marked. None where none is held.
+    #[inline(always)]
+    pub fn newest_tag(&self) -> Option<u8>
+        ensures none { IsHeld self.now.ring self.now.counts [] → result ≡ None }
+        ensures some { (ks : List Kept) (k : Kept) → IsHeld self.now.ring self.now.counts (k ∷ ks) → result ≡ Some (tag_of (kind k.0) k.1) }
+    {
+        let len = self.ring.len();
+        if len < 5 {
+            return None;
+        }
+        let weight = within(self.ring.newest_len(), len);
+        Some(self.ring.tag_at(len - weight))
     }
 
     /// The place of the whole list: how many bytes it has.
@@ -234,11 +257,14 @@ impl EntryRing {
     }
 
     /// Drops the newest entry, whole, where there is one.
+    #[inline(always)]
     pub fn drop_last(&mut self)
         ensures size { self.new.ring.size ≡ self.old.ring.size }
+        ensures fits { length self.new.ring.bytes ≤ self.new.ring.size }
         ensures none { IsHeld self.old.ring self.old.counts [] → IsHeld self.new.ring self.new.counts [] }
         ensures some { (ks : List Kept) (k : Kept) → IsHeld self.old.ring self.old.counts (k ∷ ks) → IsHeld self.new.ring self.new.counts ks }
     {
+        self.invariant();
         let len = self.ring.len();
         if len < 5 {
             return;
@@ -247,6 +273,7 @@ impl EntryRing {
         let tag = self.ring.tag_at(len - count);
         self.ring.drop_newest(count);
         self.counts.subtract(tag);
+        self.invariant();
     }
 
     /// Drops the oldest entry, whole.
@@ -291,6 +318,32 @@ impl EntryRing {
         entry.write(&mut text, mark);
         let is_step = is_of_step(&text);
         self.append(&text[..weight], mark, is_step);
+        self.invariant();
+    }
+
+    /// Keeps the newest entry of another ring as well, with its mark: its bytes are copied as they lie, and no entry is made on the way. The
+    /// fewest oldest ones that make room for it are dropped. Nothing changes where the other holds none. It takes no memory.
+    #[inline(always)]
+    pub fn push_newest_of(&mut self, other: &EntryRing)
+        ensures size { self.new.ring.size ≡ self.old.ring.size }
+        ensures fits { length self.new.ring.bytes ≤ self.new.ring.size }
+        ensures none { (ls : List Kept) → IsHeld other.now.ring other.now.counts [] → IsHeld self.old.ring self.old.counts ls → IsHeld self.new.ring self.new.counts ls }
+        ensures some { (ks ls : List Kept) (k : Kept) → IsHeld other.now.ring other.now.counts (k ∷ ks) → IsHeld self.old.ring self.old.counts ls →
+            IsHeld self.new.ring self.new.counts (keep kept_weight self.old.ring.size ls k) }
+    {
+        self.invariant();
+        let len = other.ring.len();
+        if len < 5 {
+            return;
+        }
+        let weight = within(other.ring.newest_len(), len);
+        if weight > GREATEST {
+            return;
+        }
+        let tag = other.ring.tag_at(len - weight);
+        self.make_room(weight);
+        self.ring.push_newest_of(&other.ring, weight);
+        self.counts.add_by_tag(tag);
         self.invariant();
     }
 

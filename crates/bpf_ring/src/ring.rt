@@ -108,6 +108,15 @@ impl Ring {
         self.len
     }
 
+    /// Lets all bytes go. It takes no memory.
+    pub fn clear(&mut self)
+        ensures size { self.new.size ≡ self.old.size }
+        ensures bytes { self.new.bytes ≡ [] }
+    {
+        self.first = 0;
+        self.len = 0;
+    }
+
     /// Appends bytes, for which there must be room. It takes no memory.
     pub fn push(&mut self, bytes: &[u8])
         requires { length self.old.bytes + length bytes.now ≤ self.old.size }
@@ -189,6 +198,39 @@ impl Ring {
         let mut scratch = [0u8; GREATEST];
         self.copy_newest(count, &mut scratch);
         cpu.revert_text(&scratch[..count]);
+    }
+
+    /// Appends so many of the newest bytes of another ring, for which there must be room: they are read where they lie, or from a copy where
+    /// they go around the block's end. They stay there.
+    #[inline(always)]
+    pub fn push_newest_of(&mut self, other: &Ring, count: usize)
+        requires held { count ≤ length other.now.bytes }
+        requires light { count ≤ greatest_weight }
+        requires room { length self.old.bytes + count ≤ self.old.size }
+        ensures size { self.new.size ≡ self.old.size }
+        ensures bytes { self.new.bytes ≡ self.old.bytes ++ drop (length other.now.bytes - count) other.now.bytes }
+    {
+        let start = place(other.buffer.len(), other.first, other.len() - count);
+        let (block, _) = other.buffer.as_slices();
+        if start + count <= block.len() {
+            self.push(&block[start..start + count]);
+        } else {
+            self.push_apart(other, count);
+        }
+    }
+
+    /// The same, by way of a copy of the bytes.
+    #[inline(never)]
+    fn push_apart(&mut self, other: &Ring, count: usize)
+        requires held { count ≤ length other.now.bytes }
+        requires light { count ≤ greatest_weight }
+        requires room { length self.old.bytes + count ≤ self.old.size }
+        ensures size { self.new.size ≡ self.old.size }
+        ensures bytes { self.new.bytes ≡ self.old.bytes ++ drop (length other.now.bytes - count) other.now.bytes }
+    {
+        let mut scratch = [0u8; GREATEST];
+        other.copy_newest(count, &mut scratch);
+        self.push(&scratch[..count]);
     }
 
     /// The byte at an address and the depth of calls before the move whose entry's text are so many bytes from an index on, where they are
