@@ -6,3 +6,5 @@ pub mod Walks
 pub mod Telling
 pub mod ByteChanges
 pub mod RingKeeping
+pub mod MadeAgain
+pub mod Courses

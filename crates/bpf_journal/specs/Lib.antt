@@ -2,6 +2,7 @@ pub mod Counts
 pub mod Opening
 pub mod Histories
 pub mod EditEntries
+pub mod Handing
 pub mod Keepers
 pub mod Places
 pub mod Rings
@@ -9,6 +10,9 @@ pub mod Items
 pub mod Reverting
 pub mod TakingBack
 pub mod Timelines
+pub mod Again
+pub mod Tracks
+pub mod Courses
 pub mod Laws
 pub mod Replaced
 pub mod Lookups

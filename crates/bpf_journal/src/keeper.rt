@@ -1,19 +1,22 @@
 //! Keepers hold the entries and marks of moves, the newest ones that fit a journal's size.
-ghost use Rattle.std.specs.Prelude.{◌≡◌, ◌<◌, ◌+◌, ◌^◌, ◌++◌, ℕ, List, length, sum_by, count_by, OnOk, OnErr, false};
+ghost use Rattle.std.specs.Prelude.{◌≡◌, ◌≤◌, ◌<◌, ◌+◌, ◌^◌, ◌++◌, ℕ, List, length, sum_by, count_by, OnOk, OnErr, false};
 ghost use Rattle.bpf_entries.specs.Fields.{FitsFields};
 ghost use Rattle.bpf_entries.specs.Keeping.{Kept, kept_weight, keep};
 ghost use Rattle.bpf_entries.specs.Status.{has_ended};
 ghost use Rattle.bpf_machine.specs.Entries.{step_entry};
 ghost use Rattle.bpf_machine.specs.Next.{change as change_of, next};
+ghost use Rattle.bpf_ring.specs.Held.{IsHeld};
 ghost use Rattle.bpf_journal.specs.EditEntries.{HoldsSome, is_of_step};
+ghost use Rattle.bpf_journal.specs.Handing.{Hands, HoldsStep};
 ghost use Rattle.bpf_journal.specs.Histories.{HasHistory, Record, StandsFor, newest};
 ghost use Rattle.bpf_journal.specs.TakingBack.{TakesBack};
 ghost use Rattle.bpf_journal.specs.Keepers.{IsPlace, IsWithin, PlacesDiffer, TakesNewest, TellsByteBefore, WalksBack, refusals_after};
 
-use crate::fields::step_count;
+use crate::fields::{is_of_step, step_count};
 use crate::taken::Taken;
 use bpf_machine::laws::entries_fit;
 use bpf_machine::{Change, Cpu, Entry};
+use bpf_ring::EntryRing;
 use std::alloc::AllocError;
 
 /// Keeps the newest entries of moves, in a journal of some size. Its content is a list of entries and marks, the newest first, and it
@@ -92,6 +95,27 @@ pub trait Keeper {
                 Some(Taken::of(&entry, mark))
             }
             None => None,
+        }
+    }
+
+    /// Hands the newest entry over where it is of a step: a ring keeps it as well, with its mark. Answers whether it is; else the ring stays. A
+    /// keeper of bytes copies them as they lie; by itself it reads the entry whole.
+    fn hand_step(&self, ring: &mut EntryRing) -> bool
+        requires step { HoldsStep holds self.now }
+        ensures hands { (es ls : List Kept) → holds self.now es → IsHeld ring.old.ring ring.old.counts ls → Hands result es ls ring.old.ring.size (IsHeld ring.new.ring ring.new.counts) }
+        ensures stays { result ≡ false → ring.new ≡ ring.old }
+        ensures size { ring.new.ring.size ≡ ring.old.ring.size }
+        ensures fits { length ring.old.ring.bytes ≤ ring.old.ring.size → length ring.new.ring.bytes ≤ ring.new.ring.size }
+    {
+        match self.last() {
+            Some((entry, mark)) => {
+                if !is_of_step(&entry) {
+                    return false;
+                }
+                ring.push(&entry, mark);
+                true
+            }
+            None => false,
         }
     }
 

@@ -1,6 +1,8 @@
 //! The journal: the entries of moves, kept so that each move can be taken back.
 #![tactic(auto)]
 
+mod again;
+mod course;
 mod entries;
 mod fault;
 mod fields;
@@ -16,6 +18,7 @@ mod taken;
 mod timeline;
 
 pub use bpf_machine::Move;
+pub use course::Course;
 pub use fault::{JournalFault, MoveFault, TimelineFault};
 pub use keeper::Keeper;
 pub use list_keeper::ListKeeper;

@@ -1,8 +1,13 @@
 //! The keeper that keeps entries as their bytes, in one ring of the journal's size.
-ghost use Rattle.std.specs.Prelude.{◌≡◌, ◌≤◌, [], List, length, sum_by, IfOk, IfErr, OnOk, slice_get};
-ghost use Rattle.bpf_entries.specs.Keeping.{IsSize, Kept, kept_weight};
+ghost use Rattle.std.specs.Option.{option_map};
+ghost use Rattle.std.specs.Prelude.{◌≡◌, ◌≤◌, [], List, length, sum_by, IfOk, IfErr, OnOk, slice_get, false};
+ghost use Rattle.bpf_entries.specs.Fields.{FitsFields};
+ghost use Rattle.bpf_entries.specs.Keeping.{IsSize, Kept, keep, kept_weight};
 ghost use Rattle.bpf_entries.specs.Rings.{AllFit, ring as ring_of};
+ghost use Rattle.bpf_journal.specs.Handing.{Hands, HoldsStep};
+ghost use Rattle.bpf_journal.specs.Histories.{newest, older};
 ghost use Rattle.bpf_journal.specs.Opening.{RefusesSize};
+ghost use Rattle.bpf_journal.specs.TakingBack.{taken_by};
 
 use crate::fault::JournalFault;
 use crate::keeper::Keeper;
@@ -53,6 +58,55 @@ impl RingKeeper {
         RingKeeper { entries }
     }
 
+    /// Keeps one more entry, and drops the fewest oldest ones that make room for it. It takes no memory.
+    pub fn add(&mut self, entry: &Entry, mark: bool)
+        requires { FitsFields entry.now }
+        ensures room { ⟦<RingKeeper as Keeper>⟧.room self.new ≡ ⟦<RingKeeper as Keeper>⟧.room self.old }
+        ensures held { (es : List Kept) → ⟦<RingKeeper as Keeper>⟧.holds self.old es → ⟦<RingKeeper as Keeper>⟧.holds self.new (keep kept_weight (⟦<RingKeeper as Keeper>⟧.room self.old) es (entry.now, mark)) }
+    {
+        self.entries.push(entry, mark);
+    }
+
+    /// Keeps the newest entry of another keeper as well, with its mark, where it is of a step. Answers whether it is; else nothing changes. It
+    /// takes no memory.
+    #[inline(always)]
+    pub fn add_step_of<K: Keeper>(&mut self, other: &K) -> bool
+        requires step { HoldsStep K.holds other.now }
+        ensures hands { (es ls : List Kept) → K.holds other.now es → ⟦<RingKeeper as Keeper>⟧.holds self.old ls →
+            Hands result es ls (⟦<RingKeeper as Keeper>⟧.room self.old) (⟦<RingKeeper as Keeper>⟧.holds self.new) }
+        ensures stays { result ≡ false → self.new ≡ self.old }
+        ensures room { ⟦<RingKeeper as Keeper>⟧.room self.new ≡ ⟦<RingKeeper as Keeper>⟧.room self.old }
+    {
+        other.hand_step(&mut self.entries)
+    }
+
+    /// What move the newest entry is of, and whether it is marked. None where none is held.
+    #[inline(always)]
+    pub fn newest(&self) -> Option<Taken>
+        ensures { (es : List Kept) → ⟦<RingKeeper as Keeper>⟧.holds self.now es → result ≡ option_map taken_by (newest es) }
+    {
+        let tag = self.entries.newest_tag()?;
+        Some(Taken::of_tag(tag))
+    }
+
+    /// Lets the newest entry go, where one is held.
+    #[inline(always)]
+    pub fn drop_newest(&mut self)
+        ensures room { ⟦<RingKeeper as Keeper>⟧.room self.new ≡ ⟦<RingKeeper as Keeper>⟧.room self.old }
+        ensures held { (es : List Kept) → ⟦<RingKeeper as Keeper>⟧.holds self.old es → ⟦<RingKeeper as Keeper>⟧.holds self.new (older es) }
+    {
+        self.entries.drop_last();
+    }
+
+    /// Lets all that it holds go. It takes no memory.
+    pub fn clear(&mut self)
+        ensures room { ⟦<RingKeeper as Keeper>⟧.room self.new ≡ ⟦<RingKeeper as Keeper>⟧.room self.old }
+        ensures empty { ⟦<RingKeeper as Keeper>⟧.holds self.new [] }
+    {
+        self.entries.clear();
+        self.entries.invariant();
+    }
+
     /// The byte at an index, the oldest first; None at and after the end.
     pub fn byte(&self, index: usize) -> Option<u8>
         ensures { (es : List Kept) → ⟦<RingKeeper as Keeper>⟧.holds self.now es → result ≡ slice_get (ring_of es) index }
@@ -91,7 +145,7 @@ impl Keeper for RingKeeper {
     ghost apart = { λ k n m a b held same weigh. fronts_apart n m a b same weigh };
 
     fn push(&mut self, entry: &Entry, mark: bool) -> Result<(), AllocError> {
-        self.entries.push(entry, mark);
+        self.add(entry, mark);
         Ok(())
     }
 
@@ -110,6 +164,20 @@ impl Keeper for RingKeeper {
         match self.entries.take_back(cpu) {
             Some(tag) => Some(Taken::of_tag(tag)),
             None => None,
+        }
+    }
+
+    #[inline(always)]
+    fn hand_step(&self, ring: &mut EntryRing) -> bool {
+        match self.newest() {
+            Some(taken) => {
+                if !taken.is_step {
+                    return false;
+                }
+                ring.push_newest_of(&self.entries);
+                true
+            }
+            None => false,
         }
     }
 

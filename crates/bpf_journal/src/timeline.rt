@@ -1,12 +1,12 @@
 //! A machine with the keeper of the moves that led to its state.
-ghost use Rattle.std.specs.Prelude.{◌≡◌, ◌<◌, List, [], length, min, count_by, sum_by, OnOk, OnErr, IfOk, IfErr, false};
+ghost use Rattle.std.specs.Prelude.{◌≡◌, ◌<◌, ℕ, List, [], length, map, min, count_by, sum_by, OnOk, OnErr, IfOk, IfErr, false};
 ghost use Rattle.bpf_machine.specs.declared.moves.Move.TheVariants as move_of;
 ghost use Rattle.bpf_machine.specs.Entries.{step_entry};
 ghost use Rattle.bpf_machine.specs.Next.{change as change_of};
 ghost use Rattle.bpf_entries.specs.Status.{has_ended};
 ghost use Rattle.bpf_journal.specs.EditEntries.{HoldsSome};
 ghost use Rattle.bpf_entries.specs.Keeping.{Kept, keep, kept_weight};
-ghost use Rattle.bpf_journal.specs.Histories.{Record, StandsFor, HasHistory, is_step, record_weight};
+ghost use Rattle.bpf_journal.specs.Histories.{Record, StandsFor, HasHistory, is_step, kept_of, newest, record_weight};
 ghost use Rattle.bpf_journal.specs.Keepers.{refusals_after};
 ghost use Rattle.bpf_journal.specs.Changes.{change_in};
 ghost use Rattle.bpf_journal.specs.Lookups.{last_change};
@@ -20,7 +20,7 @@ use crate::fields::edit_fits;
 use crate::keeper::Keeper;
 use crate::replaced::change_replaces_bytes;
 use crate::taken::Taken;
-use bpf_machine::{Cpu, Edit, Ended, Move};
+use bpf_machine::{Cpu, Edit, Ended, Entry, Move};
 use std::marker::Model;
 
 /// A move that changed the value of a byte.
@@ -138,6 +138,13 @@ impl<K: Keeper> Timeline<K> {
     {
         self.cpu.invariant();
         change_among(&self.keeper, self.cpu.depth() as u32, address, value)
+    }
+
+    /// The entry of the newest move that is kept, and its mark; None where none is kept. It stays.
+    pub fn last(&self) -> Option<(Entry, bool)>
+        ensures { (h : List Record) → StandsFor K.holds self.now.keeper self.now.state h → result ≡ newest (map kept_of h) }
+    {
+        self.keeper.last()
     }
 
     /// Takes a step and keeps it. Answers whether it replaced bytes of memory. Nothing changes where the machine has ended, or where the

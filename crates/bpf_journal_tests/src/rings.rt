@@ -84,7 +84,7 @@ fn both(rt: &impl Abort, alloc: Global, pair: &mut Pair, moves: &str, row: &str)
 const ENTRIES: &str = "\
 register; 0700000001000000; place; step; 16
 jump; 0500000000000000; place; step; 7
-call; 85100000010000009500000000000000b706000005000000; place; step; 7
+call; 85100000010000009500000000000000b706000005000000; place; step; 519
 return; 85100000010000009500000000000000b706000005000000; steps 2; step; 39
 a store of 8 bytes; 7b11000000000000; place; step; 24
 a store of 4 bytes; 6201040001000000; place; step; 20

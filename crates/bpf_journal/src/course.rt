@@ -1,0 +1,245 @@
+//! A machine with the keeper of the moves that led to its state, and with those that were taken back.
+ghost use Rattle.std.specs.Prelude.{◌≡◌, List, [], length, min, count_by, sum_by, OnOk, IfOk, IfErr};
+ghost use Rattle.bpf_machine.specs.declared.moves.Move.TheVariants as move_of;
+ghost use Rattle.bpf_machine.specs.ByAddress.{byte};
+ghost use Rattle.bpf_machine.specs.Entries.{step_entry};
+ghost use Rattle.bpf_journal.specs.Courses.{FailsThere, GoesBackOne, MakesAgain, MakesNew, StaysThere};
+ghost use Rattle.bpf_journal.specs.Histories.{HasHistory, Record, StandsFor, is_step, record_weight};
+ghost use Rattle.bpf_journal.specs.Lookups.{last_change};
+ghost use Rattle.bpf_journal.specs.Replaced.{replaces_bytes};
+ghost use Rattle.bpf_journal.specs.Timelines.{refusals_by};
+ghost use Rattle.bpf_journal.specs.Tracks.{Follows, IsCourse, RingHolds, Track, ring_room, track_of};
+
+use crate::again::{entry_again, move_again};
+use crate::fault::TimelineFault;
+use crate::keeper::Keeper;
+use crate::ring_keeper::RingKeeper;
+use crate::taken::Taken;
+use crate::timeline::{ByteChange, Timeline};
+use bpf_machine::laws::entries_fit;
+use bpf_machine::{Cpu, Edit};
+use std::marker::Model;
+
+/// A machine and a keeper, and the moves that were taken back since the latest new one. What is kept of these lies in a ring of the
+/// journal's size, so that to make them again takes no memory of its own.
+#[derive(Drop)]
+pub struct Course<K: Keeper> {
+    timeline: Timeline<K>,
+    redo: RingKeeper,
+}
+
+impl<K: Keeper> Model for Course<K> {
+    ghost use Rattle.bpf_journal.specs.Tracks.{CourseValue, IsCourse};
+
+    ghost Value = { CourseValue K };
+
+    ghost view = { λ c. record { state = c.timeline.state; keeper = c.timeline.keeper; redo = c.redo } };
+
+    ghost invariant = { λ c. IsCourse K.holds K.room (record { state = c.timeline.state; keeper = c.timeline.keeper; redo = c.redo }) };
+}
+
+impl<K: Keeper> Course<K> {
+    /// A machine with a keeper that holds the entries of some history that leads to the machine's state, and an empty ring of the keeper's
+    /// capacity.
+    pub fn open(cpu: Cpu, keeper: K, redo: RingKeeper) -> Course<K>
+        requires past { HasHistory K.holds keeper cpu }
+        requires empty { RingHolds redo [] }
+        requires size { ring_room redo ≡ K.room keeper }
+        ensures value { result ≡ record { state = cpu; keeper = keeper; redo = redo } }
+        ensures stands { (h : List Record) → StandsFor K.holds keeper cpu h → Follows K.holds result (track_of h) }
+    {
+        Course {
+            timeline: Timeline::open(cpu, keeper),
+            redo,
+        }
+    }
+
+    /// Gives the machine and the keeper back as they stand. What was taken back is dropped.
+    pub fn close(self) -> (Cpu, K)
+        ensures same { result ≡ (self.state, self.keeper) }
+        ensures history { HasHistory K.holds result.1 result.0 }
+    {
+        let Course { timeline, redo: _ } = self;
+        timeline.close()
+    }
+
+    /// Brings into a proof that there is a track.
+    pub fn invariant(&self)
+        ensures { IsCourse K.holds K.room self.now }
+    {
+        let _redo = &self.redo;
+    }
+
+    /// The machine.
+    pub fn cpu(&self) -> &Cpu
+        ensures { result.now ≡ self.now.state }
+    {
+        self.timeline.cpu()
+    }
+
+    /// The keeper.
+    pub fn keeper(&self) -> &K
+        ensures { result.now ≡ self.now.keeper }
+    {
+        self.timeline.keeper()
+    }
+
+    /// How many moves are kept.
+    pub fn len(&self) -> usize
+        ensures { (t : Track) → Follows K.holds self.now t → result ≡ length t.history }
+    {
+        self.timeline.len()
+    }
+
+    /// How many of them are marked.
+    pub fn marked(&self) -> usize
+        ensures { (t : Track) → Follows K.holds self.now t → result ≡ count_by (λ r. r.mark) t.history }
+    {
+        self.timeline.marked()
+    }
+
+    /// The sum of their weights in bytes, at most the journal's size.
+    pub fn weight(&self) -> usize
+        ensures { (t : Track) → Follows K.holds self.now t → result ≡ sum_by record_weight t.history }
+    {
+        self.timeline.weight()
+    }
+
+    /// How many of them are steps, counted up to `most`.
+    pub fn steps_up_to(&self, most: u64) -> u64
+        ensures { (t : Track) → Follows K.holds self.now t → result ≡ min most (count_by (λ r. is_step r.move) t.history) }
+    {
+        self.timeline.steps_up_to(most)
+    }
+
+    /// How many moves can be made again.
+    pub fn ahead(&self) -> usize
+        ensures { (t : Track) → Follows K.holds self.now t → result ≡ length t.ahead }
+    {
+        self.redo.len()
+    }
+
+    /// The latest kept move, a step or an edit, that changed the value of the byte at an address, which is `value` now. None where no
+    /// kept move changed it.
+    pub fn last_change(&self, address: u64, value: u8) -> Option<ByteChange>
+        requires { value ≡ byte self.now.state address }
+        ensures { (t : Track) → Follows K.holds self.now t → result ≡ last_change address t.history self.now.state }
+    {
+        self.timeline.last_change(address, value)
+    }
+
+    /// Takes a step, a new move, and keeps it. Answers whether it replaced bytes of memory. Nothing changes where the machine has ended, or
+    /// where the keeper refuses.
+    pub fn step(&mut self, mark: bool) -> Result<bool, TimelineFault>
+        ensures ok { OnOk result (MakesNew K.holds (K.room self.old.keeper) move_of.Step mark self.old self.new) }
+        ensures err { IfErr result (FailsThere K.holds move_of.Step self.old self.new) }
+        ensures bytes { IfOk result (λ replaced. replaced ≡ replaces_bytes (step_entry self.old.state)) }
+        ensures refused { K.refused self.new.keeper ≡ refusals_by result (K.refused self.old.keeper) }
+        ensures room { K.room self.new.keeper ≡ K.room self.old.keeper }
+    {
+        match self.timeline.step(mark) {
+            Ok(replaced) => {
+                self.redo.clear();
+                Ok(replaced)
+            }
+            Err(fault) => Err(fault),
+        }
+    }
+
+    /// Makes an edit, a new move, and keeps it. Nothing changes where the edit is refused, or where the keeper refuses.
+    pub fn edit(&mut self, edit: &Edit, mark: bool) -> Result<(), TimelineFault>
+        ensures ok { OnOk result (MakesNew K.holds (K.room self.old.keeper) (move_of.Edit edit.now) mark self.old self.new) }
+        ensures err { IfErr result (FailsThere K.holds (move_of.Edit edit.now) self.old self.new) }
+        ensures refused { K.refused self.new.keeper ≡ refusals_by result (K.refused self.old.keeper) }
+        ensures room { K.room self.new.keeper ≡ K.room self.old.keeper }
+    {
+        match self.timeline.edit(edit, mark) {
+            Ok(()) => {
+                self.redo.clear();
+                Ok(())
+            }
+            Err(fault) => Err(fault),
+        }
+    }
+
+    /// Goes back by one move, to the state before it: the move can be made again. Answers what move it was, None where none is kept. Of a step
+    /// its entry is handed over as it is kept.
+    #[inline(always)]
+    pub fn back(&mut self) -> Option<Taken>
+        ensures back { (t : Track) → Follows K.holds self.old t → GoesBackOne K.holds result t.history t.ahead self.old self.new }
+        ensures refused { K.refused self.new.keeper ≡ K.refused self.old.keeper }
+        ensures room { K.room self.new.keeper ≡ K.room self.old.keeper }
+    {
+        entries_fit();
+        if self.redo.add_step_of(self.timeline.keeper()) {
+            self.timeline.back()
+        } else {
+            self.back_by_entry()
+        }
+    }
+
+    /// The same, by way of the entry.
+    #[inline(never)]
+    fn back_by_entry(&mut self) -> Option<Taken>
+        ensures back { (t : Track) → Follows K.holds self.old t → GoesBackOne K.holds result t.history t.ahead self.old self.new }
+        ensures refused { K.refused self.new.keeper ≡ K.refused self.old.keeper }
+        ensures room { K.room self.new.keeper ≡ K.room self.old.keeper }
+    {
+        match self.timeline.last() {
+            Some((entry, mark)) => {
+                self.timeline.cpu().invariant();
+                entries_fit();
+                let again = entry_again(self.timeline.cpu(), &entry);
+                self.redo.add(&again, mark);
+                self.timeline.back()
+            }
+            None => None,
+        }
+    }
+
+    /// Makes the next one of the moves again that were taken back. Answers whether there was one. A refusal, for want of memory for its
+    /// entry, changes nothing.
+    #[inline(always)]
+    pub fn redo(&mut self) -> Result<bool, TimelineFault>
+        ensures ok { IfOk result (λ made. (t : Track) → Follows K.holds self.old t → MakesAgain K.holds made t.history t.ahead self.old self.new) }
+        ensures err { IfErr result (λ fault. (fault ≡ TimelineFault.OutOfMemory) × StaysThere K.holds self.old self.new) }
+        ensures refused { K.refused self.new.keeper ≡ refusals_by result (K.refused self.old.keeper) }
+        ensures room { K.room self.new.keeper ≡ K.room self.old.keeper }
+    {
+        let Some(next) = self.redo.newest() else {
+            return Ok(false);
+        };
+        if !next.is_step {
+            return self.redo_by_entry();
+        }
+        match self.timeline.step(next.mark) {
+            Ok(_) => {
+                self.redo.drop_newest();
+                Ok(true)
+            }
+            Err(TimelineFault::Move(_)) => unreachable!(),
+            Err(TimelineFault::OutOfMemory) => Err(TimelineFault::OutOfMemory),
+        }
+    }
+
+    /// The same, by way of the entry that is kept of it.
+    #[inline(never)]
+    fn redo_by_entry(&mut self) -> Result<bool, TimelineFault>
+        ensures ok { IfOk result (λ made. (t : Track) → Follows K.holds self.old t → MakesAgain K.holds made t.history t.ahead self.old self.new) }
+        ensures err { IfErr result (λ fault. (fault ≡ TimelineFault.OutOfMemory) × StaysThere K.holds self.old self.new) }
+        ensures refused { K.refused self.new.keeper ≡ refusals_by result (K.refused self.old.keeper) }
+        ensures room { K.room self.new.keeper ≡ K.room self.old.keeper }
+    {
+        let Some((entry, mark)) = self.redo.last() else {
+            return Ok(false);
+        };
+        match self.timeline.make(&move_again(&entry), mark) {
+            Ok(()) => {
+                self.redo.drop_newest();
+                Ok(true)
+            }
+            Err(TimelineFault::Move(_)) => unreachable!(),
+            Err(TimelineFault::OutOfMemory) => Err(TimelineFault::OutOfMemory),
+        }
+    }
+}
