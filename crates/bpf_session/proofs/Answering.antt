@@ -1,7 +1,7 @@
 -- How a command is shown to obey its meaning.
 use Rattle.std.proofs.Common.{◌≡◌, ℕ, List, [], Option, Result, sym, ap, subst, ◌∙◌}
 use Rattle.bpf_entries.specs.Keeping.{Kept}
-use Rattle.bpf_journal.specs.Histories.{Record}
+use Rattle.bpf_journal.specs.Tracks.{Track}
 use Rattle.bpf_session.specs.Outcomes.{Outcome, unless_refused}
 use Rattle.bpf_session.specs.Points.{Point}
 use Rattle.bpf_session.specs.Sessions.{SessionValue, HasPast, StandsAt, Obeys, gap_of, bounds_of, point_of}
@@ -28,7 +28,7 @@ module _ {K : Type 0} (holds : K → List Kept → Type 0) (new : SessionValue K
 
 module _ {K : Type 0} (holds : K → List Kept → Type 0) (refusals room : K → ℕ) where
   -- A command that is not refused.
-  pub unrefused : (old new : SessionValue K) (rs : Point → List Refusal) (meaning : Option ℕ → Point → Outcome) (answer : Result Reply Refusal) → ((h : List Record) → HasPast holds old h → rs (point_of old h) ≡ []) → Obeys holds refusals room old new meaning answer → Obeys holds refusals room old new (λ gap p. unless_refused (rs p) p (meaning gap p)) answer
+  pub unrefused : (old new : SessionValue K) (rs : Point → List Refusal) (meaning : Option ℕ → Point → Outcome) (answer : Result Reply Refusal) → ((h : Track) → HasPast holds old h → rs (point_of old h) ≡ []) → Obeys holds refusals room old new meaning answer → Obeys holds refusals room old new (λ gap p. unless_refused (rs p) p (meaning gap p)) answer
   unrefused old new rs meaning answer none o = record {
     answered = λ h past. o.answered h past ∙ ap (λ (v : List Refusal). (unless_refused v (point_of old h) (meaning (gap_of answer) (point_of old h))).answer) (sym (none h past));
     stands = λ h past. subst (λ (v : List Refusal). StandsAt holds new (unless_refused v (point_of old h) (meaning (gap_of answer) (point_of old h))).point) (sym (none h past)) (o.stands h past);

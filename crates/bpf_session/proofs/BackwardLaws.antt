@@ -1,5 +1,5 @@
 -- The laws of commands that go back: how many moves are taken back, and which one is found.
-use Rattle.std.proofs.Common.{◌≡◌, ◌+◌, ◌-◌, ◌<◌, ◌≤◌, ℕ, zero, suc, Bool, true, false, List, [], ◌∷◌, ◌++◌, Option, Some, None, Ok, length, is_some, unwrap_or, refl, sym, ap, subst, ◌∙◌, arith, inl, inr}
+use Rattle.std.proofs.Common.{◌≡◌, ◌+◌, ◌-◌, ◌<◌, ◌≤◌, ℕ, zero, suc, Bool, true, false, List, [], ◌∷◌, ◌++◌, reverse, Option, Some, None, Ok, length, is_some, unwrap_or, refl, sym, ap, subst, ◌∙◌, arith, inl, inr}
 use Rattle.std.specs.Prelude.{if◌then◌else◌, nat_lt, nat_le, ◌==◌, ◌&&◌, ◌||◌, ◌⊎◌, ◌↔◌, min, count_by, cond, option_map, take, drop, slice_get}
 use Rattle.std.proofs.lemmas.Bool.Decides.{nat_tests}
 use Rattle.std.proofs.lemmas.List.Sums.{sum_by-cons}
@@ -262,7 +262,7 @@ moves-are-taken-back gap b t p k why counts e =
       there = r.1;
       back =
           ap (λ (o : Outcome). o.point) a.1 ∙ g.there
-          ∙ ap (λ (x : State). record p { history = drop k p.history; state = x }) (ap (λ n. state_before n p.history p.state) (sym one) ∙ r.2);
+          ∙ ap (λ (x : State). record p { history = drop k p.history; ahead = reverse (take k p.history) ++ p.ahead; state = x }) (ap (λ n. state_before n p.history p.state) (sym one) ∙ r.2);
     }
 
 -- ---- counts
@@ -438,6 +438,6 @@ undo-goes-to-the-mark gap b n p some enough =
       last = m.last;
       back =
           rw e (ap (λ (o : Option ℕ). back_by (unwrap_or o (length p.history)) p) m.far
-          ∙ ap (λ (x : State). record p { history = drop (suc m.newer) p.history; state = x }) m.back
-          ∙ ap (λ (j : ℕ). record p { history = drop j p.history; state = m.found.before }) one);
+          ∙ ap (λ (x : State). record p { history = drop (suc m.newer) p.history; ahead = reverse (take (suc m.newer) p.history) ++ p.ahead; state = x }) m.back
+          ∙ ap (λ (j : ℕ). record p { history = drop j p.history; ahead = reverse (take j p.history) ++ p.ahead; state = m.found.before }) one);
     }

@@ -1,18 +1,19 @@
 -- The laws of refusals, of going back and forward again, and of scripts.
-use Rattle.std.proofs.Common.{◌≡◌, ◌+◌, ◌-◌, ◌^◌, ◌<◌, ◌≤◌, ℕ, zero, suc, Bool, true, false, List, [], ◌∷◌, ◌++◌, Option, Some, None, Ok, Err, unwrap_or, length, refl, sym, ap, ◌∙◌, arith}
+use Rattle.std.proofs.Common.{◌≡◌, ◌+◌, ◌-◌, ◌^◌, ◌<◌, ◌≤◌, ℕ, zero, suc, Bool, true, false, List, [], ◌∷◌, ◌++◌, Option, Some, None, Ok, Err, is_some, unwrap_or, length, refl, sym, ap, ◌∙◌, arith}
 use Rattle.std.specs.Prelude.{if◌then◌else◌, nat_lt, nat_le, not, ◌==◌, min, map, count_by, cond, option_map, drop, slice_get}
 use Rattle.std.proofs.lemmas.Bool.Decides.{nat_tests}
 use Rattle.bpf_machine.specs.State.{State, depth}
 use Rattle.bpf_entries.specs.Status.{has_ended}
 use Rattle.bpf_machine.specs.declared.edit.Edit.TheVariants as edit
 use Rattle.bpf_machine.specs.declared.moves.Move.TheVariants.{Step}
-use Rattle.bpf_entries.specs.Keeping.{fit}
+use Rattle.bpf_entries.specs.Keeping.{fit, keep}
 use Rattle.bpf_journal.specs.Histories.{Record, is_step, record_weight}
 use Rattle.bpf_journal.specs.Timelines.{record_of}
-use Rattle.bpf_session.specs.Points.{Point, Bounds}
-use Rattle.bpf_session.specs.Outcomes.{Outcome, refused, unless_refused}
+use Rattle.bpf_session.specs.Points.{Point, Bounds, without_ahead}
+use Rattle.bpf_session.specs.Outcomes.{Outcome, refused, replied, unless_refused}
 use Rattle.bpf_session.specs.Stops.{has}
-use Rattle.bpf_session.specs.Forward.{state_after, kept, gone, stop, steps, reason, taken, cut}
+use Rattle.bpf_session.specs.Forward.{state_after, kept, gone, still_ahead, stop, steps, least, reason, taken, cut, forward}
+use Rattle.bpf_session.specs.Redo.{again, cut_again, redone, why_again}
 use Rattle.bpf_journal.specs.Lookups.{Test, latest, state_before}
 use Rattle.bpf_session.specs.Backward.{back, before_last, back_by, found, to_stop, marks, kept_steps}
 use Rattle.bpf_session.specs.Limits.{most_breaks, most_watches}
@@ -26,19 +27,20 @@ use Rattle.bpfdb_commands.specs.Commands.{command_of}
 use Rattle.bpf_session.specs.Output.{effect, after_effect}
 use Rattle.bpf_session.specs.Laws.{RefusedChangesNothing, ShowsChangeNothing, Ascends, RefusalsAreInOrder, ReplayIsTheSame, GoingBackGivesBack, NothingRefusedNothingMissing}
 use Rattle.bpf_session.proofs.BackwardLaws.{count-more}
-use Rattle.bpf_session.proofs.ForwardLaws.{does-forward, least-from}
+use Rattle.bpf_session.proofs.ForwardLaws.{does-forward, goal-told, least-from}
 use Rattle.bpfdb_commands.specs.declared.command.Command.{Command}
 use Rattle.bpfdb_commands.specs.declared.command.Command.TheVariants as command
 use Rattle.bpfdb_commands.specs.declared.command.Goal.TheVariants as goals
+use Rattle.bpfdb_commands.specs.declared.command.Goal.{Goal}
 use Rattle.bpfdb_commands.specs.declared.command.Stop.TheVariants as stops
 use Rattle.bpfdb_commands.specs.declared.command.Target.{Target}
 use Rattle.bpfdb_commands.specs.declared.command.Target.TheVariants as targets
 use Rattle.bpfdb_commands.specs.declared.command.View.TheVariants as views
 use Rattle.bpf_session.specs.declared.reply.Reply.TheVariants.{Forward}
 use Rattle.bpfdb_replies.specs.declared.why.Why.{Why}
-use Rattle.bpfdb_replies.specs.declared.why.Why.TheVariants.{Memory}
+use Rattle.bpfdb_replies.specs.declared.why.Why.TheVariants.{Limit, Memory}
 use Rattle.bpfdb_commands.specs.declared.refusal.Refusal.{Refusal}
-use Rattle.bpfdb_commands.specs.declared.refusal.Refusal.TheVariants.{MachineEnded, NoKeptStep, FewerCommands, AddressNotPresent, RegisterNotWritable, NoStart, OutermostFrame, TableFull, ThereOrNot, NoCell, OutOfMemory}
+use Rattle.bpfdb_commands.specs.declared.refusal.Refusal.TheVariants.{MachineEnded, NoKeptStep, FewerCommands, AddressNotPresent, RegisterNotWritable, NoStart, OutermostFrame, TableFull, ThereOrNot, NothingToRedo, NoCell, OutOfMemory}
 
 -- ---- a refused command
 
@@ -47,6 +49,15 @@ cut-refused None room k why p r e = absurd cc
 cut-refused (Some m) room k why p r e = test (nat_lt m k) (m == 0) e
   where
     test : (less first : Bool) → (if less then (if first then refused OutOfMemory p else taken room m Memory p) else taken room k why p).answer ≡ Err r → (if less then (if first then refused OutOfMemory p else taken room m Memory p) else taken room k why p).point ≡ p
+    test true true e = refl
+    test true false e = absurd cc
+    test false first e = absurd cc
+
+again-refused : (gap : Option ℕ) (k : ℕ) (why : Why) (p : Point) (r : Refusal) → (cut_again gap k why p).answer ≡ Err r → (cut_again gap k why p).point ≡ p
+again-refused None k why p r e = absurd cc
+again-refused (Some m) k why p r e = test (nat_lt m k) (m == 0) e
+  where
+    test : (less first : Bool) → (if less then (if first then refused OutOfMemory p else redone m Memory p) else redone k why p).answer ≡ Err r → (if less then (if first then refused OutOfMemory p else redone m Memory p) else redone k why p).point ≡ p
     test true true e = refl
     test true false e = absurd cc
     test false first e = absurd cc
@@ -66,6 +77,7 @@ accepted-refused : (gap : Option ℕ) (b : Bounds) (c : Command) (p : Point) (r 
 unfolding accepted
 accepted-refused gap b (command.Forward goal) p r e = cut-refused gap b.room _ _ p r e
 accepted-refused gap b (command.Back target) p r e = back-refused target p r e
+accepted-refused gap b (command.Redo count) p r e = again-refused gap (again count p) (why_again count p) p r e
 accepted-refused None b (command.Edit change) p r e = absurd cc
 accepted-refused (Some m) b (command.Edit change) p r e = refl
 accepted-refused gap b (command.Add stop) p r e = absurd cc
@@ -90,6 +102,7 @@ pub shows-change-nothing : ShowsChangeNothing
 unfolding accepted
 shows-change-nothing gap b (command.Forward goal) p show = absurd cc
 shows-change-nothing gap b (command.Back target) p show = absurd cc
+shows-change-nothing gap b (command.Redo count) p show = absurd cc
 shows-change-nothing gap b (command.Edit change) p show = absurd cc
 shows-change-nothing gap b (command.Add stop) p show = absurd cc
 shows-change-nothing gap b (command.Remove stop) p show = absurd cc
@@ -132,6 +145,7 @@ refusals-are-in-order (command.Back (targets.Steps count)) p = one-alone (kept_s
 refusals-are-in-order (command.Back targets.Next) p = one-alone (kept_steps p == 0) NoKeptStep
 refusals-are-in-order (command.Back targets.Continue) p = one-alone (kept_steps p == 0) NoKeptStep
 refusals-are-in-order (command.Back targets.Finish) p = two-order (kept_steps p == 0) (depth p.state == 0) NoKeptStep OutermostFrame (omega arith)
+refusals-are-in-order (command.Redo count) p = one-alone (length p.ahead == 0) NothingToRedo
 refusals-are-in-order (command.Edit e) p = one-fault (edit_fault p.state e)
 refusals-are-in-order (command.Add (stops.Breakpoint slot)) p = three-order (not (starts p slot)) (nat_le most_breaks (length p.breaks)) (has p.breaks slot) NoStart TableFull ThereOrNot (omega arith) (omega arith)
 refusals-are-in-order (command.Add (stops.Watch address)) p = three-order (not (present p address 1)) (nat_le most_watches (length p.watches)) (has p.watches address) AddressNotPresent TableFull ThereOrNot (omega arith) (omega arith)
@@ -221,13 +235,13 @@ oldest-told (suc k) p y = oldest-told k p (state_after (suc k) p.state)
 
 -- k steps from a point
 abbrev gone-told : ℕ → Point → Point
-gone-told k p = record p { history = told k p; state = state_after k p.state }
+gone-told k p = record p { history = told k p; ahead = still_ahead k p.ahead; state = state_after k p.state }
 
-back-told : (k : ℕ) (p : Point) → 1 ≤ k → back_by k (gone-told k p) ≡ p
+back-told : (k : ℕ) (p : Point) → 1 ≤ k → without_ahead (back_by k (gone-told k p)) ≡ without_ahead p
 back-told zero p some = absurd (omega arith)
 back-told (suc k) p some =
-    ap (λ (h : List Record). record p { history = h; state = before_last (suc k) (gone-told (suc k) p) }) (drop-told k p)
-    ∙ ap (λ (x : State). record p { state = x }) (oldest-told k p (state_after (suc k) p.state))
+    ap (λ (h : List Record). record p { history = h; ahead = []; state = before_last (suc k) (gone-told (suc k) p) }) (drop-told k p)
+    ∙ ap (λ (x : State). record p { ahead = []; state = x }) (oldest-told k p (state_after (suc k) p.state))
 
 marked-told : (k : ℕ) (p : Point) (y : State) → latest marked 1 (told (suc k) p) y ≡ Some (suc k)
 marked-told zero p y = refl
@@ -255,23 +269,23 @@ steps-told (suc k) p =
     let one : cond {A = ℕ} true 1 0 ≡ 1 = refl in
     omega (arith, e, one, i)
 
-undo-told : (b : Bounds) (later : Option ℕ) (k : ℕ) (p : Point) → 1 ≤ k → (does later b (command.Back (targets.Commands 1)) (gone-told k p)).point ≡ p
+undo-told : (b : Bounds) (later : Option ℕ) (k : ℕ) (p : Point) → 1 ≤ k → without_ahead (does later b (command.Back (targets.Commands 1)) (gone-told k p)).point ≡ without_ahead p
 unfolding accepted
 undo-told b later zero p some = absurd (omega arith)
 undo-told b later (suc k) p some =
     let m = marks-told k p in
     let e : nat_lt (marks (gone-told (suc k) p)) 1 ≡ false = grind (arith, nat_tests) in
-    rw e (ap (λ (o : Option ℕ). back_by (unwrap_or o (length (told (suc k) p))) (gone-told (suc k) p)) (marked-told k p (state_after (suc k) p.state)) ∙ back-told (suc k) p some)
+    rw e (ap (λ (o : Option ℕ). without_ahead (back_by (unwrap_or o (length (told (suc k) p))) (gone-told (suc k) p))) (marked-told k p (state_after (suc k) p.state)) ∙ back-told (suc k) p some)
 
-reverse-told : (b : Bounds) (later : Option ℕ) (k : ℕ) (p : Point) → 1 ≤ k → (does later b (command.Back (targets.Steps k)) (gone-told k p)).point ≡ p
+reverse-told : (b : Bounds) (later : Option ℕ) (k : ℕ) (p : Point) → 1 ≤ k → without_ahead (does later b (command.Back (targets.Steps k)) (gone-told k p)).point ≡ without_ahead p
 unfolding accepted
 reverse-told b later zero p some = absurd (omega arith)
 reverse-told b later (suc k) p some =
     let m = steps-told (suc k) p in
     let e : (kept_steps (gone-told (suc k) p) == 0) ≡ false = grind (arith, nat_tests) in
     let l : min (suc k) (kept_steps (gone-told (suc k) p)) ≡ suc k = omega arith in
-    rw e (ap (λ n. back_by (unwrap_or (latest stepped n (told (suc k) p) (state_after (suc k) p.state)) (length (told (suc k) p))) (gone-told (suc k) p)) l
-    ∙ ap (λ (o : Option ℕ). back_by (unwrap_or o (length (told (suc k) p))) (gone-told (suc k) p)) (stepped-told k p (state_after (suc k) p.state)) ∙ back-told (suc k) p some)
+    rw e (ap (λ n. without_ahead (back_by (unwrap_or (latest stepped n (told (suc k) p) (state_after (suc k) p.state)) (length (told (suc k) p))) (gone-told (suc k) p))) l
+    ∙ ap (λ (o : Option ℕ). without_ahead (back_by (unwrap_or o (length (told (suc k) p))) (gone-told (suc k) p))) (stepped-told k p (state_after (suc k) p.state)) ∙ back-told (suc k) p some)
 
 -- what a forward command leaves that says how many steps it took
 cut-point : (gap : Option ℕ) (room n k : ℕ) (because why : Why) (p : Point) → 1 ≤ n → (cut gap room n because p).answer ≡ Ok (Forward k why) → ((cut gap room n because p).point ≡ gone room k p) × (1 ≤ k)
@@ -289,12 +303,76 @@ going-back-gives-back gap later b c p k why e all =
     let g = cut-point gap b.room (steps b.limit w.0 p) k (reason b.limit w.0 p) why p (least-from _ 1 b.limit) (ap (λ (o : Outcome). o.answer) (sym w.1) ∙ e) in
     let there : (does gap b c p).point ≡ gone b.room k p = ap (λ (o : Outcome). o.point) w.1 ∙ g.0 in
     let whole : length (kept b.room k p) ≡ k + length p.history = ap (λ (q : Point). length q.history) (sym there) ∙ all in
-    let here : (does gap b c p).point ≡ gone-told k p = there ∙ ap (λ (h : List Record). record p { history = h; state = state_after k p.state }) (kept-told b.room k p whole) in
+    let here : (does gap b c p).point ≡ gone-told k p = there ∙ ap (λ (h : List Record). record p { history = h; ahead = still_ahead k p.ahead; state = state_after k p.state }) (kept-told b.room k p whole) in
     record {
-      reverse = ap (λ (q : Point). (does later b (command.Back (targets.Steps k)) q).point) here ∙ reverse-told b later k p g.1;
-      undo = ap (λ (q : Point). (does later b (command.Back (targets.Commands 1)) q).point) here ∙ undo-told b later k p g.1;
+      reverse = ap (λ (q : Point). without_ahead (does later b (command.Back (targets.Steps k)) q).point) here ∙ reverse-told b later k p g.1;
+      undo = ap (λ (q : Point). without_ahead (does later b (command.Back (targets.Commands 1)) q).point) here ∙ undo-told b later k p g.1;
     }
+
+-- what was taken back makes no difference to a command that goes forward
+kept-alike : (room k : ℕ) (p : Point) (f : List Record) → kept room k (record p { ahead = f }) ≡ kept room k p
+kept-alike room zero p f = refl
+kept-alike room (suc k) p f = ap (λ (h : List Record). keep record_weight room h (record_of (state_after k p.state) Step (k == 0))) (kept-alike room k p f)
+
+gone-alike : (room k : ℕ) (p : Point) (f : List Record) → 1 ≤ k → gone room k (record p { ahead = f }) ≡ gone room k p
+gone-alike room zero p f some = absurd (omega arith)
+gone-alike room (suc k) p f some = ap (λ (h : List Record). record p { history = h; ahead = []; state = state_after (suc k) p.state }) (kept-alike room (suc k) p f)
+
+stop-alike : (limit : ℕ) (goal : Goal) (p : Point) (f : List Record) (k : ℕ) → stop limit goal (record p { ahead = f }) k ≡ stop limit goal p k
+stop-alike limit goal p f zero = refl
+stop-alike limit goal p f (suc k) = refl
+
+least-alike : (test other : ℕ → Bool) → ((k : ℕ) → test k ≡ other k) → (k n : ℕ) → least test k n ≡ least other k n
+least-alike test other same k zero = refl
+least-alike test other same k (suc n) = ap (λ (b : Bool). if b then k else least test (k + 1) n) (same k) ∙ ap (λ (m : ℕ). if other k then k else m) (least-alike test other same (k + 1) n)
+
+steps-alike : (limit : ℕ) (goal : Goal) (p : Point) (f : List Record) → steps limit goal (record p { ahead = f }) ≡ steps limit goal p
+steps-alike limit goal p f = least-alike _ _ (λ k. ap is_some (stop-alike limit goal p f k)) 1 limit
+
+reason-alike : (limit : ℕ) (goal : Goal) (p : Point) (f : List Record) → reason limit goal (record p { ahead = f }) ≡ reason limit goal p
+reason-alike limit goal p f =
+    ap (λ (o : Option Why). unwrap_or o Limit) (stop-alike limit goal p f (steps limit goal (record p { ahead = f })) ∙ ap (stop limit goal p) (steps-alike limit goal p f))
+
+cut-alike : (gap : Option ℕ) (room n : ℕ) (because : Why) (p : Point) (f : List Record) (k : ℕ) (why : Why) → 1 ≤ n → (cut gap room n because p).answer ≡ Ok (Forward k why) → cut gap room n because (record p { ahead = f }) ≡ cut gap room n because p
+cut-alike None room n because p f k why some e = ap (replied (Forward n because)) (gone-alike room n p f some)
+cut-alike (Some m) room n because p f k why some e = test (nat_lt m n) (m == 0) refl e
+  where
+    test : (less first : Bool) → (m == 0) ≡ first → (if less then (if first then refused OutOfMemory p else taken room m Memory p) else taken room n because p).answer ≡ Ok (Forward k why) → (if less then (if first then refused OutOfMemory (record p { ahead = f }) else taken room m Memory (record p { ahead = f })) else taken room n because (record p { ahead = f })) ≡ (if less then (if first then refused OutOfMemory p else taken room m Memory p) else taken room n because p)
+    test true true z e = absurd cc
+    test true false z e = let t : 1 ≤ m = grind (arith, nat_tests) in ap (replied (Forward m Memory)) (gone-alike room m p f t)
+    test false first z e = ap (replied (Forward n because)) (gone-alike room n p f some)
+
+refusals-alike : (goal : Goal) (p : Point) (f : List Record) → refusals_of (command.Forward goal) (record p { ahead = f }) ≡ refusals_of (command.Forward goal) p
+refusals-alike (goals.Steps count) p f = refl
+refusals-alike goals.Next p f = refl
+refusals-alike goals.Continue p f = refl
+refusals-alike goals.Finish p f = refl
+
+forward-alike : (gap : Option ℕ) (b : Bounds) (goal : Goal) (p : Point) (f : List Record) (k : ℕ) (why : Why) → (unless_refused (refusals_of (command.Forward goal) p) p (forward gap b goal p)).answer ≡ Ok (Forward k why) → unless_refused (refusals_of (command.Forward goal) (record p { ahead = f })) (record p { ahead = f }) (forward gap b goal (record p { ahead = f })) ≡ unless_refused (refusals_of (command.Forward goal) p) p (forward gap b goal p)
+forward-alike gap b goal p f k why e =
+    ap (λ (rs : List Refusal). unless_refused rs (record p { ahead = f }) (forward gap b goal (record p { ahead = f }))) (refusals-alike goal p f)
+    ∙ by (refusals_of (command.Forward goal) p) e
+  where
+    same : (cut gap b.room (steps b.limit goal p) (reason b.limit goal p) p).answer ≡ Ok (Forward k why) → forward gap b goal (record p { ahead = f }) ≡ forward gap b goal p
+    same e =
+        ap (λ (n : ℕ). cut gap b.room n (reason b.limit goal (record p { ahead = f })) (record p { ahead = f })) (steps-alike b.limit goal p f)
+        ∙ ap (λ (w : Why). cut gap b.room (steps b.limit goal p) w (record p { ahead = f })) (reason-alike b.limit goal p f)
+        ∙ cut-alike gap b.room (steps b.limit goal p) (reason b.limit goal p) p f k why (least-from _ 1 b.limit) e
+
+    by : (rs : List Refusal) → (unless_refused rs p (forward gap b goal p)).answer ≡ Ok (Forward k why) → unless_refused rs (record p { ahead = f }) (forward gap b goal (record p { ahead = f })) ≡ unless_refused rs p (forward gap b goal p)
+    by [] e = same e
+    by (r ∷ rs) e = absurd cc
+
+does-alike : (gap : Option ℕ) (b : Bounds) (c : Command) (p : Point) (f : List Record) (k : ℕ) (why : Why) → (does gap b c p).answer ≡ Ok (Forward k why) → does gap b c (record p { ahead = f }) ≡ does gap b c p
+unfolding accepted
+does-alike gap b c p f k why e =
+    let g = goal-told gap b c p k why e in
+    ap (λ (d : Command). does gap b d (record p { ahead = f })) g.1
+    ∙ forward-alike gap b g.0 p f k why (ap (λ (d : Command). (does gap b d p).answer) (sym g.1) ∙ e)
+    ∙ ap (λ (d : Command). does gap b d p) (sym g.1)
 
 pub replay-is-the-same : ReplayIsTheSame
 replay-is-the-same gap later b c p k why e all =
-    ap (does gap b c) (going-back-gives-back gap later b c p k why e all).reverse
+    let q = (does later b (command.Back (targets.Steps k)) (does gap b c p).point).point in
+    let same : q ≡ record p { ahead = q.ahead } = ap (λ (z : Point). record z { ahead = q.ahead }) (going-back-gives-back gap later b c p k why e all).reverse in
+    ap (does gap b c) same ∙ does-alike gap b c p q.ahead k why e

@@ -8,6 +8,7 @@ use Rattle.bpf_session.specs.Points.{Point, Bounds}
 use Rattle.bpf_session.specs.Outcomes.{Outcome, refused, unless_refused}
 use Rattle.bpf_session.specs.Stops.{breaks_at, watch_differs}
 use Rattle.bpf_session.specs.Forward.{state_after, is_done, stop, least, steps, reason, taken, cut, forward}
+use Rattle.bpf_session.specs.Redo.{again, cut_again, redone, why_again}
 use Rattle.bpf_session.specs.Refused.{refusals_of}
 use Rattle.bpf_session.specs.Meaning.{accepted, does}
 use Rattle.bpf_session.specs.Laws.{IsDone, IsReason, rank, StopsFirst, TheFirstReasonStops, BreakpointsStop, WatchesStop, CallsRunAsOne}
@@ -21,7 +22,7 @@ use Rattle.bpfdb_commands.specs.declared.command.Goal.TheVariants as goal
 use Rattle.bpf_session.specs.declared.reply.Reply.{Reply}
 use Rattle.bpf_session.specs.declared.reply.Reply.TheVariants.{Forward}
 use Rattle.bpfdb_replies.specs.declared.why.Why.{Why}
-use Rattle.bpfdb_replies.specs.declared.why.Why.TheVariants.{End, Break, Watch, Done, Limit, Memory, Start}
+use Rattle.bpfdb_replies.specs.declared.why.Why.TheVariants.{End, Break, Watch, Done, Limit, Memory, Start, All}
 use Rattle.bpfdb_commands.specs.declared.refusal.Refusal.{Refusal}
 use Rattle.bpfdb_commands.specs.declared.refusal.Refusal.TheVariants.{OutOfMemory}
 
@@ -75,6 +76,7 @@ pick-first Limit false false false false true h = omega arith
 pick-first Limit false false false false false h = absurd cc
 pick-first Memory e b w d m h = absurd cc
 pick-first Start e b w d m h = absurd cc
+pick-first All e b w d m h = absurd cc
 
 rank-most : (why : Why) → rank why ≤ 6
 rank-most End = omega arith
@@ -82,6 +84,7 @@ rank-most Break = omega arith
 rank-most Watch = omega arith
 rank-most Done = omega arith
 rank-most Limit = omega arith
+rank-most All = omega arith
 rank-most Memory = omega arith
 rank-most Start = omega arith
 
@@ -135,6 +138,7 @@ module _ (limit : ℕ) (goal : Goal) (p : Point) where
   tested-stops Limit k h = same (suc k) limit h
   tested-stops Memory k h = absurd cc
   tested-stops Start k h = absurd cc
+  tested-stops All k h = absurd cc
 
   stops-tested : (why : Why) (k : ℕ) → IsReason why limit goal p (suc k) → tested why k ≡ true
   stops-tested End k h = h
@@ -144,6 +148,7 @@ module _ (limit : ℕ) (goal : Goal) (p : Point) where
   stops-tested Limit k h = is-same (suc k) limit h
   stops-tested Memory k h = absurd h
   stops-tested Start k h = absurd h
+  stops-tested All k h = absurd h
 
   -- where a command goes on, nothing stops it; and where it stops, nothing before its reason does
   goes-on : (k : ℕ) → 1 ≤ k → stop limit goal p k ≡ None → (why : Why) → IsReason why limit goal p k → ⊥
@@ -296,10 +301,20 @@ back-only target.Continue p k why e = at (found target.Continue 1 p) e
     at (Some n) e = cc
 back-only target.Finish p k why e = cc
 
+redo-only : (gap : Option ℕ) (n : ℕ) (because : Why) (p : Point) (k : ℕ) (why : Why) → (cut_again gap n because p).answer ≡ Ok (Forward k why) → ⊥
+redo-only None n because p k why e = cc
+redo-only (Some m) n because p k why e = at (nat_lt m n) (m == 0) e
+  where
+    at : (less first : Bool) → (if less then (if first then refused OutOfMemory p else redone m Memory p) else redone n because p).answer ≡ Ok (Forward k why) → ⊥
+    at true true e = cc
+    at true false e = cc
+    at false first e = cc
+
 goal-of : (gap : Option ℕ) (b : Bounds) (c : Command) (p : Point) (k : ℕ) (why : Why) → (accepted gap b c p).answer ≡ Ok (Forward k why) → (goal : Goal) × (c ≡ command.Forward goal)
 unfolding accepted
 goal-of gap b (command.Forward goal) p k why e = (goal, refl)
 goal-of gap b (command.Back t) p k why e = absurd (back-only t p k why e)
+goal-of gap b (command.Redo count) p k why e = absurd (redo-only gap (again count p) (why_again count p) p k why e)
 goal-of None b (command.Edit change) p k why e = absurd cc
 goal-of (Some m) b (command.Edit change) p k why e = absurd cc
 goal-of gap b (command.Add stop) p k why e = absurd cc

@@ -11,18 +11,20 @@ use Rattle.bpf_entries.specs.Status.{has_ended}
 use Rattle.bpf_machine.specs.declared.moves.Move.TheVariants.{Step}
 use Rattle.bpf_journal.specs.Counts.{one_more}
 use Rattle.bpf_entries.specs.Keeping.{Kept, keep}
-use Rattle.bpf_journal.specs.Histories.{Record, record_weight}
+use Rattle.bpf_journal.specs.Histories.{record_weight}
+use Rattle.bpf_journal.specs.Tracks.{Track, track_of}
 use Rattle.bpf_journal.specs.Replaced.{replaces_bytes}
 use Rattle.bpf_journal.proofs.Telling.{kept_bytes}
-use Rattle.bpf_journal.specs.Timelines.{Makes, Stays, record_of}
+use Rattle.bpf_journal.specs.Timelines.{record_of}
+use Rattle.bpf_journal.specs.Courses.{MakesNew, StaysThere}
 use Rattle.bpf_session.specs.Points.{Point}
 use Rattle.bpf_session.specs.Outcomes.{Outcome, refused, unless_refused}
 use Rattle.bpf_session.specs.Refused.{refusals_of, when}
 use Rattle.bpf_session.specs.Stops.{breaks_at, some_differs, watch_differs}
-use Rattle.bpf_session.specs.Forward.{state_after, kept, gone, is_done, stop, stop_in, least, steps, taken, forward}
+use Rattle.bpf_session.specs.Forward.{state_after, kept, gone, still_ahead, is_done, stop, stop_in, least, steps, taken, forward}
 use Rattle.bpf_session.specs.Watched.{Compares, bytes_at}
 use Rattle.bpf_session.specs.Replies.{IsThere}
-use Rattle.bpf_session.specs.Sessions.{SessionValue, HasPast, StandsAt, Obeys, gap_of, point_of, bounds_of}
+use Rattle.bpf_session.specs.Sessions.{SessionValue, HasPast, StandsAt, Obeys, gap_of, point_of, bounds_of, track_at}
 use Rattle.bpf_session.proofs.Answering.{Comes, comes_as, same-bounds}
 use Rattle.bpfdb_commands.specs.declared.command.Command.TheVariants as command
 use Rattle.bpfdb_commands.specs.declared.command.Goal.{Goal}
@@ -108,11 +110,11 @@ pub record OnlyMoment {K : Type 0} (old now : SessionValue K) : Type 0 where
 
 module _ {K : Type 0} (holds : K → List Kept → Type 0) where
   -- where it stands after so many steps
-  pub stands_gone : (room k : ℕ) (old now : SessionValue K) (h : List Record) → OnlyMoment old now → now.moment.state ≡ state_after k old.moment.state → HasPast holds now (kept room k (point_of old h)) → StandsAt holds now (gone room k (point_of old h))
+  pub stands_gone : (room k : ℕ) (old now : SessionValue K) (h : Track) → OnlyMoment old now → now.moment.state ≡ state_after k old.moment.state → HasPast holds now (track_at (gone room k (point_of old h))) → StandsAt holds now (gone room k (point_of old h))
   stands_gone room k old now h only state past = (
-    ap (λ (x : State). record { history = kept room k (point_of old h); state = x; breaks = now.breaks; watches = now.watches }) state
-        ∙ ap (λ (bs : List ℕ). record { history = kept room k (point_of old h); state = state_after k old.moment.state; breaks = bs; watches = now.watches }) only.breaks
-        ∙ ap (λ (ws : List ℕ). record { history = kept room k (point_of old h); state = state_after k old.moment.state; breaks = old.breaks; watches = ws }) only.watches,
+    ap (λ (x : State). record { history = kept room k (point_of old h); ahead = still_ahead k h.ahead; state = x; breaks = now.breaks; watches = now.watches }) state
+        ∙ ap (λ (bs : List ℕ). record { history = kept room k (point_of old h); ahead = still_ahead k h.ahead; state = state_after k old.moment.state; breaks = bs; watches = now.watches }) only.breaks
+        ∙ ap (λ (ws : List ℕ). record { history = kept room k (point_of old h); ahead = still_ahead k h.ahead; state = state_after k old.moment.state; breaks = old.breaks; watches = ws }) only.watches,
     past,
   )
 
@@ -124,21 +126,21 @@ pub record Going {K : Type 0} (holds : K → List Kept → Type 0) (refusals roo
   pub only : OnlyMoment old now
   pub saw : seen ≡ bytes_at now.watches now.moment.state
   pub state : now.moment.state ≡ state_after k old.moment.state
-  pub past : (h : List Record) → HasPast holds old h → HasPast holds now (kept (room old.moment.keeper) k (point_of old h))
+  pub past : (h : Track) → HasPast holds old h → HasPast holds now (track_at (gone (room old.moment.keeper) k (point_of old h)))
   pub same : refusals now.moment.keeper ≡ refusals old.moment.keeper
   pub room_same : room now.moment.keeper ≡ room old.moment.keeper
   pub below : k < old.limit
-  pub none : (h : List Record) → steps old.limit goal (point_of old h) ≡ least (λ j. is_some (stop old.limit goal (point_of old h) j)) (k + 1) (old.limit - k)
+  pub none : (h : Track) → steps old.limit goal (point_of old h) ≡ least (λ j. is_some (stop old.limit goal (point_of old h) j)) (k + 1) (old.limit - k)
 
 module _ {K : Type 0} (holds : K → List Kept → Type 0) (refusals room : K → ℕ) (old now new : SessionValue K) (goal : Goal) (seen : List ℕ) (k : ℕ) where
   -- the state and the history after one more step
   state_more : Going holds refusals room old now goal seen k → Leads now.moment.state Step new.moment.state → new.moment.state ≡ state_after (k + 1) old.moment.state
   state_more i leads = rw add-one (leads.after ∙ ap next i.state)
 
-  past_more : Going holds refusals room old now goal seen k → Makes holds (room now.moment.keeper) Step (k == 0) now.moment new.moment → (h : List Record) → HasPast holds old h → HasPast holds new (kept (room old.moment.keeper) (k + 1) (point_of old h))
+  past_more : Going holds refusals room old now goal seen k → MakesNew holds (room now.moment.keeper) Step (k == 0) now.moment new.moment → (h : Track) → HasPast holds old h → HasPast holds new (track_at (gone (room old.moment.keeper) (k + 1) (point_of old h)))
   past_more i m h st =
       let t = m.kept _ (i.past h st) in
-      rw add-one (subst (λ (x : State). HasPast holds new (keep record_weight (room old.moment.keeper) (kept (room old.moment.keeper) k (point_of old h)) (record_of x Step (k == 0)))) i.state (subst (λ (r : ℕ). HasPast holds new (keep record_weight r (kept (room old.moment.keeper) k (point_of old h)) (record_of now.moment.state Step (k == 0)))) i.room_same t))
+      rw add-one (subst (λ (x : State). HasPast holds new (track_of (keep record_weight (room old.moment.keeper) (kept (room old.moment.keeper) k (point_of old h)) (record_of x Step (k == 0))))) i.state (subst (λ (r : ℕ). HasPast holds new (track_of (keep record_weight r (kept (room old.moment.keeper) k (point_of old h)) (record_of now.moment.state Step (k == 0))))) i.room_same t))
 
   only_more : Going holds refusals room old now goal seen k → OnlyMoment now new → OnlyMoment old new
   only_more i only = record { breaks = only.breaks ∙ i.only.breaks; watches = only.watches ∙ i.only.watches; limit = only.limit ∙ i.only.limit }
@@ -148,7 +150,7 @@ module _ {K : Type 0} (holds : K → List Kept → Type 0) (refusals room : K �
   CompareSeen replaced differs = (x : State) → seen ≡ bytes_at new.watches x → (replaced ≡ false → (a : ℕ) → byte x a ≡ byte new.moment.state a) → Compares new.watches seen x new.moment.state differs
 
   abbrev pub Stopping : Bool → Option Why → Type 0
-  Stopping differs why = (x : State) (h : List Record) → differs ≡ some_differs new.watches x new.moment.state → why ≡ stop_in new.limit goal (record (point_of new h) { state = old.moment.state }) (k + 1) x new.moment.state
+  Stopping differs why = (x : State) (h : Track) → differs ≡ some_differs new.watches x new.moment.state → why ≡ stop_in new.limit goal (record (point_of new h) { state = old.moment.state }) (k + 1) x new.moment.state
 
   compared_now : Going holds refusals room old now goal seen k → Leads now.moment.state Step new.moment.state → OnlyMoment now new → (replaced differs : Bool) → replaced ≡ replaces_bytes (step_entry now.moment.state) → CompareSeen replaced differs → Compares new.watches seen now.moment.state new.moment.state differs
   compared_now i leads only replaced differs told compare =
@@ -156,24 +158,24 @@ module _ {K : Type 0} (holds : K → List Kept → Type 0) (refusals room : K �
       (λ off a. kept_bytes now.moment.state new.moment.state Step leads (sym told ∙ off) a)
 
   -- why it stops or not after one more step, from where the command began
-  stop_more : Going holds refusals room old now goal seen k → OnlyMoment now new → new.moment.state ≡ state_after (k + 1) old.moment.state → (why : Option Why) → ((h : List Record) → why ≡ stop_in new.limit goal (record (point_of new h) { state = old.moment.state }) (k + 1) now.moment.state new.moment.state) → (h : List Record) → stop old.limit goal (point_of old h) (k + 1) ≡ why
+  stop_more : Going holds refusals room old now goal seen k → OnlyMoment now new → new.moment.state ≡ state_after (k + 1) old.moment.state → (why : Option Why) → ((h : Track) → why ≡ stop_in new.limit goal (record (point_of new h) { state = old.moment.state }) (k + 1) now.moment.state new.moment.state) → (h : Track) → stop old.limit goal (point_of old h) (k + 1) ≡ why
   stop_more i only e why found h =
       let all = only_more i only in
       let f = found h in
       let from : stop_in old.limit goal (point_of old h) (k + 1) (state_after k old.moment.state) (state_after (k + 1) old.moment.state) ≡ why = sym (f ∙ at_old new.limit new.breaks new.watches now.moment.state new.moment.state all.limit all.breaks all.watches i.state e) in
       rw add-one (rw add-one at from)
     where
-      at_old : (limit : ℕ) (breaks watches : List ℕ) (x y : State) → limit ≡ old.limit → breaks ≡ old.breaks → watches ≡ old.watches → x ≡ state_after k old.moment.state → y ≡ state_after (k + 1) old.moment.state → stop_in limit goal (record { history = h; state = old.moment.state; breaks = breaks; watches = watches }) (k + 1) x y ≡ stop_in old.limit goal (point_of old h) (k + 1) (state_after k old.moment.state) (state_after (k + 1) old.moment.state)
+      at_old : (limit : ℕ) (breaks watches : List ℕ) (x y : State) → limit ≡ old.limit → breaks ≡ old.breaks → watches ≡ old.watches → x ≡ state_after k old.moment.state → y ≡ state_after (k + 1) old.moment.state → stop_in limit goal (record { history = h.history; ahead = h.ahead; state = old.moment.state; breaks = breaks; watches = watches }) (k + 1) x y ≡ stop_in old.limit goal (point_of old h) (k + 1) (state_after k old.moment.state) (state_after (k + 1) old.moment.state)
       at_old limit breaks watches x y l b w q s = rw (l, b, w, q, s) refl
 
   -- one more step that stops nothing
-  pub going_step : Going holds refusals room old now goal seen k → Makes holds (room now.moment.keeper) Step (k == 0) now.moment new.moment → OnlyMoment now new → refusals new.moment.keeper ≡ refusals now.moment.keeper → room new.moment.keeper ≡ room now.moment.keeper → (replaced differs : Bool) → replaced ≡ replaces_bytes (step_entry now.moment.state) → CompareSeen replaced differs → Stopping differs None → Going holds refusals room old new goal seen (k + 1)
+  pub going_step : Going holds refusals room old now goal seen k → MakesNew holds (room now.moment.keeper) Step (k == 0) now.moment new.moment → OnlyMoment now new → refusals new.moment.keeper ≡ refusals now.moment.keeper → room new.moment.keeper ≡ room now.moment.keeper → (replaced differs : Bool) → replaced ≡ replaces_bytes (step_entry now.moment.state) → CompareSeen replaced differs → Stopping differs None → Going holds refusals room old new goal seen (k + 1)
   going_step i m only same room_same replaced differs told compare stops =
       let compared = compared_now i m.leads only replaced differs told compare in
-      let quiet = λ (h : List Record). stops now.moment.state h compared.since in
+      let quiet = λ (h : Track). stops now.moment.state h compared.since in
       let e = state_more i m.leads in
       let all = only_more i only in
-      let o = goes_on new.limit goal (record (point_of new []) { state = old.moment.state }) (k + 1) now.moment.state new.moment.state (sym (quiet [])) in
+      let o = goes_on new.limit goal (record (point_of new (track_of [])) { state = old.moment.state }) (k + 1) now.moment.state new.moment.state (sym (quiet (track_of []))) in
       let differ = o.2 in
       let here = i.below in
       let limit = all.limit in
@@ -198,17 +200,17 @@ module _ {K : Type 0} (holds : K → List Kept → Type 0) (refusals room : K �
   Meaning gap p = unless_refused (when (has_ended p.state.status) MachineEnded) p (forward gap (bounds_of room old) goal p)
 
   -- a step that stops the command
-  pub going_stop : Going holds refusals room old now goal seen k → Makes holds (room now.moment.keeper) Step (k == 0) now.moment new.moment → OnlyMoment now new → refusals new.moment.keeper ≡ refusals now.moment.keeper → room new.moment.keeper ≡ room now.moment.keeper → (replaced differs : Bool) → replaced ≡ replaces_bytes (step_entry now.moment.state) → CompareSeen replaced differs → (why : Why) → Stopping differs (Some why) → Obeys holds refusals room old new Meaning (Ok (replies.Forward (k + 1) why))
+  pub going_stop : Going holds refusals room old now goal seen k → MakesNew holds (room now.moment.keeper) Step (k == 0) now.moment new.moment → OnlyMoment now new → refusals new.moment.keeper ≡ refusals now.moment.keeper → room new.moment.keeper ≡ room now.moment.keeper → (replaced differs : Bool) → replaced ≡ replaces_bytes (step_entry now.moment.state) → CompareSeen replaced differs → (why : Why) → Stopping differs (Some why) → Obeys holds refusals room old new Meaning (Ok (replies.Forward (k + 1) why))
   going_stop i m only same room_same replaced differs told compare why stops =
       let compared = compared_now i m.leads only replaced differs told compare in
-      let found = λ (g : List Record). stops now.moment.state g compared.since in
+      let found = λ (g : Track). stops now.moment.state g compared.since in
       let fresh = i.fresh in
       let here = i.below in
       let e = state_more i m.leads in
       let all = only_more i only in
-      let p : Point = record (point_of new []) { state = old.moment.state } in
-      let tells = none_told (k + 1) why (has_ended new.moment.state.status) (breaks_at p new.moment.state) (watch_differs p now.moment.state new.moment.state) (is_done goal (depth p.state) (k + 1) new.moment.state) (k + 1 == new.limit) (found []) in
-      let comes : (h : List Record) → HasPast holds old h → Comes holds new Meaning (Ok (replies.Forward (k + 1) why)) (point_of old h) = λ h st.
+      let p : Point = record (point_of new (track_of [])) { state = old.moment.state } in
+      let tells = none_told (k + 1) why (has_ended new.moment.state.status) (breaks_at p new.moment.state) (watch_differs p now.moment.state new.moment.state) (is_done goal (depth p.state) (k + 1) new.moment.state) (k + 1 == new.limit) (found (track_of [])) in
+      let comes : (h : Track) → HasPast holds old h → Comes holds new Meaning (Ok (replies.Forward (k + 1) why)) (point_of old h) = λ h st.
       let there = stop_more i only e (Some why) found h in
       let n : steps old.limit goal (point_of old h) ≡ k + 1 = i.none h ∙ least_here (λ j. is_some (stop old.limit goal (point_of old h) j)) (k + 1) (old.limit - k) (omega arith) (ap is_some there) in
       let is : Meaning None (point_of old h) ≡ taken (room old.moment.keeper) (k + 1) why (point_of old h) = rw (fresh, n, there) refl in
@@ -222,12 +224,12 @@ module _ {K : Type 0} (holds : K → List Kept → Type 0) (refusals room : K �
       }
 
   -- a step that the keeper refused
-  pub going_cut : Going holds refusals room old now goal seen k → Stays holds now.moment new.moment → OnlyMoment now new → refusals new.moment.keeper ≡ one_more (refusals now.moment.keeper) → room new.moment.keeper ≡ room now.moment.keeper → Obeys holds refusals room old new Meaning (if k == 0 then Err OutOfMemory else Ok (replies.Forward k Memory))
+  pub going_cut : Going holds refusals room old now goal seen k → StaysThere holds now.moment new.moment → OnlyMoment now new → refusals new.moment.keeper ≡ one_more (refusals now.moment.keeper) → room new.moment.keeper ≡ room now.moment.keeper → Obeys holds refusals room old new Meaning (if k == 0 then Err OutOfMemory else Ok (replies.Forward k Memory))
   going_cut i s only more room_same =
       let fresh = i.fresh in
       let all = only_more i only in
       let tells = cut_told (k == 0) k (is_first k) in
-      let comes : (h : List Record) → HasPast holds old h → Comes holds new Meaning (if k == 0 then Err OutOfMemory else Ok (replies.Forward k Memory)) (point_of old h) = λ h st.
+      let comes : (h : Track) → HasPast holds old h → Comes holds new Meaning (if k == 0 then Err OutOfMemory else Ok (replies.Forward k Memory)) (point_of old h) = λ h st.
       let far : k < steps old.limit goal (point_of old h) = rw (i.none h) (omega (arith, least_from (λ j. is_some (stop old.limit goal (point_of old h) j)) (k + 1) (old.limit - k))) in
       let lt : nat_lt k (steps old.limit goal (point_of old h)) ≡ true = lt_true _ _ far in
       let is : Meaning (Some k) (point_of old h) ≡ cut_of (k == 0) (room old.moment.keeper) k (point_of old h) = rw (fresh, lt) refl in

@@ -7,6 +7,8 @@ pub mod Flushing
 pub mod ForwardLaws
 pub mod Forwards
 pub mod Obeying
+pub mod RedoLaws
+pub mod Redoing
 pub mod Running
 pub mod Tables
 pub mod Watching

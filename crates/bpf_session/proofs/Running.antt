@@ -8,9 +8,9 @@ use Rattle.std.specs.Io.KnownBytes.{Appends}
 use Rattle.counted_io.specs.Counted.{Tally}
 use Rattle.counted_io.specs.Writing.{Writes}
 use Rattle.bpf_entries.specs.Keeping.{Kept}
-use Rattle.bpf_journal.specs.Histories.{Record}
+use Rattle.bpf_journal.specs.Tracks.{Track}
 use Rattle.bpf_session.specs.Points.{Point, Bounds}
-use Rattle.bpf_session.specs.Sessions.{SessionValue, HasPast, StandsAt, bounds_of, point_of, refusals_with, refusals_after_all}
+use Rattle.bpf_session.specs.Sessions.{SessionValue, HasPast, StandsAt, bounds_of, point_of, refusals_with, refusals_after_all, track_at}
 use Rattle.counted_io.specs.Lines.{lines}
 use Rattle.bpfdb_commands.specs.Commands.{command_of}
 use Rattle.bpf_session.specs.Output.{Effect, effect, Walk, walk}
@@ -73,7 +73,7 @@ length-push xs x = length-append xs (x ∷ [])
 
 module _ {K : Type 0} (holds : K → List Kept → Type 0) (refusals room : K → ℕ) where
   -- the lines behind us, none of them `quit`: their gaps, what they print and the point after them
-  pub record Behind (old now : SessionValue K) (h : List Record) (script : List ℕ) (ahead : List (List ℕ)) : Type 0 where
+  pub record Behind (old now : SessionValue K) (h : Track) (script : List ℕ) (ahead : List (List ℕ)) : Type 0 where
     pub done : List (List ℕ)
     pub gaps : List (Option ℕ)
     pub printed : List ℕ
@@ -94,7 +94,7 @@ module _ {K : Type 0} (holds : K → List Kept → Type 0) (refusals room : K �
     pub counted : refusals new.moment.keeper ≡ refusals_with gap (refusals now.moment.keeper)
     pub stands : StandsAt holds new e.point
 
-  Behind-step : (old now new : SessionValue K) (h : List Record) (script line : List ℕ) (all ahead : List (List ℕ)) (b : Behind old now h script all) → all ≡ line ∷ ahead → (t : Turn old now new b.point line) → t.e.goes_on ≡ true → Behind old new h script ahead
+  Behind-step : (old now new : SessionValue K) (h : Track) (script line : List ℕ) (all ahead : List (List ℕ)) (b : Behind old now h script all) → all ≡ line ∷ ahead → (t : Turn old now new b.point line) → t.e.goes_on ≡ true → Behind old new h script ahead
   Behind-step old now new h script line all ahead b cut t on = record {
     done = b.done ++ line ∷ [];
     gaps = b.gaps ++ t.gap ∷ [];
@@ -118,7 +118,7 @@ module _ {K : Type 0} (holds : K → List Kept → Type 0) (refusals room : K �
   ended text gaps p = record { out = text; gaps = gaps; final = p; unread = [] }
 
   -- also with more gaps
-  done-walk : (old now : SessionValue K) (h : List Record) (script : List ℕ) (ahead : List (List ℕ)) (b : Behind old now h script ahead) (later : List (Option ℕ)) → walk (b.gaps ++ later) (bounds_of room old) b.done (point_of old h) ≡ ended b.printed b.gaps b.point
+  done-walk : (old now : SessionValue K) (h : Track) (script : List ℕ) (ahead : List (List ℕ)) (b : Behind old now h script ahead) (later : List (Option ℕ)) → walk (b.gaps ++ later) (bounds_of room old) b.done (point_of old h) ≡ ended b.printed b.gaps b.point
   done-walk old now h script ahead b later =
       ap (λ (ls : List (List ℕ)). walk (b.gaps ++ later) (bounds_of room old) ls (point_of old h)) (sym (append-nil b.done))
       ∙ b.walked later []
@@ -127,10 +127,10 @@ module _ {K : Type 0} (holds : K → List Kept → Type 0) (refusals room : K �
       nothing : (later : List (Option ℕ)) → ahead_of b.printed b.gaps (walk later (bounds_of room old) [] b.point) ≡ ended b.printed b.gaps b.point
       nothing later = ap (λ (v : List ℕ). ended v (b.gaps ++ []) b.point) (append-nil b.printed) ∙ ap (λ (g : List (Option ℕ)). ended b.printed g b.point) (append-nil b.gaps)
 
-  end-walk : (old now : SessionValue K) (h : List Record) (script : List ℕ) (ahead : List (List ℕ)) (b : Behind old now h script ahead) → walk b.gaps (bounds_of room old) b.done (point_of old h) ≡ ended b.printed b.gaps b.point
+  end-walk : (old now : SessionValue K) (h : Track) (script : List ℕ) (ahead : List (List ℕ)) (b : Behind old now h script ahead) → walk b.gaps (bounds_of room old) b.done (point_of old h) ≡ ended b.printed b.gaps b.point
   end-walk old now h script ahead b = ap (λ (g : List (Option ℕ)). walk g (bounds_of room old) b.done (point_of old h)) (sym (append-nil b.gaps)) ∙ done-walk old now h script ahead b []
 
-  all-lines : (old now : SessionValue K) (h : List Record) (script : List ℕ) (ahead : List (List ℕ)) (b : Behind old now h script ahead) → length (lines script) ≡ length b.done + length ahead
+  all-lines : (old now : SessionValue K) (h : Track) (script : List ℕ) (ahead : List (List ℕ)) (b : Behind old now h script ahead) → length (lines script) ≡ length b.done + length ahead
   all-lines old now h script ahead b = ap length b.split ∙ length-append b.done ahead
 
   -- where a session stands at a point, and what holds of some standing that it has
@@ -141,16 +141,16 @@ module _ {K : Type 0} (holds : K → List Kept → Type 0) (refusals room : K �
   Somewhere s P = (to : Standing) × HasStanding holds refusals room s to × P to
 
   -- what holds from where the session stands with each history holds from each standing that it has
-  pub from-there : (P : Standing → Type 0) (old : SessionValue K) → ((h : List Record) → HasPast holds old h → P (standing_at old (point_of old h))) → (from : Standing) → HasStanding holds refusals room old from → P from
+  pub from-there : (P : Standing → Type 0) (old : SessionValue K) → ((h : Track) → HasPast holds old h → P (standing_at old (point_of old h))) → (from : Standing) → HasStanding holds refusals room old from → P from
   from-there P old each from s =
       subst P
       (ap (standing_at old) s.point.0
       ∙ ap (λ (b : Bounds). record { point = from.point; bounds = b; refusals = refusals old.moment.keeper }) s.bounds
       ∙ ap (λ (n : ℕ). record { point = from.point; bounds = from.bounds; refusals = n }) s.refusals)
-      (each from.point.history s.point.1)
+      (each (track_at from.point) s.point.1)
 
   -- what lines come to that were obeyed
-  reached : (old now : SessionValue K) (h : List Record) (gaps : List (Option ℕ)) (ls : List (List ℕ)) (w : Walk) → w ≡ walk gaps (bounds_of room old) ls (point_of old h) → w.gaps ≡ gaps → length gaps + length w.unread ≡ length ls → refusals now.moment.keeper ≡ refusals_after_all gaps (refusals old.moment.keeper) → Reaches (standing_at old (point_of old h)) (standing_at now w.final) gaps ls
+  reached : (old now : SessionValue K) (h : Track) (gaps : List (Option ℕ)) (ls : List (List ℕ)) (w : Walk) → w ≡ walk gaps (bounds_of room old) ls (point_of old h) → w.gaps ≡ gaps → length gaps + length w.unread ≡ length ls → refusals now.moment.keeper ≡ refusals_after_all gaps (refusals old.moment.keeper) → Reaches (standing_at old (point_of old h)) (standing_at now w.final) gaps ls
   reached old now h gaps ls w e told each counted = record {
     point = ap (λ (v : Walk). v.final) e;
     refusals = counted;
@@ -158,7 +158,7 @@ module _ {K : Type 0} (holds : K → List Kept → Type 0) (refusals room : K �
     each = ap (λ (v : Walk). length gaps + length v.unread) (sym e) ∙ each;
   }
 
-  printed : (old now : SessionValue K) (h : List Record) (x : Exchange) (gaps : List (Option ℕ)) (w : Walk) → w ≡ walk gaps (bounds_of room old) (lines x.script) (point_of old h) → w.gaps ≡ gaps → length gaps + length w.unread ≡ length (lines x.script) → refusals now.moment.keeper ≡ refusals_after_all gaps (refusals old.moment.keeper) → StandsAt holds now w.final → Wrote x w.out → Leaves x w.unread → Somewhere now (λ to. Prints (standing_at old (point_of old h)) to x)
+  printed : (old now : SessionValue K) (h : Track) (x : Exchange) (gaps : List (Option ℕ)) (w : Walk) → w ≡ walk gaps (bounds_of room old) (lines x.script) (point_of old h) → w.gaps ≡ gaps → length gaps + length w.unread ≡ length (lines x.script) → refusals now.moment.keeper ≡ refusals_after_all gaps (refusals old.moment.keeper) → StandsAt holds now w.final → Wrote x w.out → Leaves x w.unread → Somewhere now (λ to. Prints (standing_at old (point_of old h)) to x)
   printed old now h x gaps w e told each counted stands wrote left = (
     standing_at now w.final,
     record { point = stands; bounds = refl; refusals = refl },
@@ -171,7 +171,7 @@ module _ {K : Type 0} (holds : K → List Kept → Type 0) (refusals room : K �
   )
 
   -- no line is left
-  Behind-end : (old now : SessionValue K) (h : List Record) (x : Exchange) (all : List (List ℕ)) (b : Behind old now h x.script all) → all ≡ [] → Wrote x b.printed → Leaves x [] → Somewhere now (λ to. Prints (standing_at old (point_of old h)) to x)
+  Behind-end : (old now : SessionValue K) (h : Track) (x : Exchange) (all : List (List ℕ)) (b : Behind old now h x.script all) → all ≡ [] → Wrote x b.printed → Leaves x [] → Somewhere now (λ to. Prints (standing_at old (point_of old h)) to x)
   Behind-end old now h x all b none wrote left =
       printed old now h x b.gaps (ended b.printed b.gaps b.point)
       (sym (ap (λ (ls : List (List ℕ)). walk b.gaps (bounds_of room old) ls (point_of old h)) (b.split ∙ ap (λ (ls : List (List ℕ)). b.done ++ ls) none ∙ append-nil b.done) ∙ end-walk old now h x.script all b))
@@ -180,7 +180,7 @@ module _ {K : Type 0} (holds : K → List Kept → Type 0) (refusals room : K �
       b.counted b.stands wrote left
 
   -- `quit` is the next line
-  Behind-quit : (old now new : SessionValue K) (h : List Record) (x : Exchange) (line : List ℕ) (all ahead : List (List ℕ)) (b : Behind old now h x.script all) → all ≡ line ∷ ahead → (t : Turn old now new b.point line) → t.e.goes_on ≡ false → Wrote x (b.printed ++ t.e.text) → Leaves x ahead → Somewhere new (λ to. Prints (standing_at old (point_of old h)) to x)
+  Behind-quit : (old now new : SessionValue K) (h : Track) (x : Exchange) (line : List ℕ) (all ahead : List (List ℕ)) (b : Behind old now h x.script all) → all ≡ line ∷ ahead → (t : Turn old now new b.point line) → t.e.goes_on ≡ false → Wrote x (b.printed ++ t.e.text) → Leaves x ahead → Somewhere new (λ to. Prints (standing_at old (point_of old h)) to x)
   Behind-quit old now new h x line all ahead b cut t off wrote left =
       printed old new h x (b.gaps ++ t.gap ∷ []) (record { out = b.printed ++ t.e.text; gaps = b.gaps ++ t.gap ∷ []; final = t.e.point; unread = ahead })
       (sym (
@@ -195,7 +195,7 @@ module _ {K : Type 0} (holds : K → List Kept → Type 0) (refusals room : K �
       t.stands wrote left
 
   -- the lines behind us were obeyed, and what broke them off
-  broken : (why : RunFault) (old now : SessionValue K) (h : List Record) (x : Exchange) (ahead : List (List ℕ)) (b : Behind old now h x.script ahead) → Interrupts why x (λ ls. (walk b.gaps (bounds_of room old) ls (point_of old h)).out) b.done ahead → Somewhere now (λ to. BreaksOff why (standing_at old (point_of old h)) to x)
+  broken : (why : RunFault) (old now : SessionValue K) (h : Track) (x : Exchange) (ahead : List (List ℕ)) (b : Behind old now h x.script ahead) → Interrupts why x (λ ls. (walk b.gaps (bounds_of room old) ls (point_of old h)).out) b.done ahead → Somewhere now (λ to. BreaksOff why (standing_at old (point_of old h)) to x)
   broken why old now h x ahead b part = (
     standing_at now b.point,
     record { point = b.stands; bounds = refl; refusals = refl },
@@ -211,12 +211,12 @@ module _ {K : Type 0} (holds : K → List Kept → Type 0) (refusals room : K �
   )
 
   -- a read failed
-  Behind-unread : (old now : SessionValue K) (h : List Record) (x : Exchange) (taken rest : List ℕ) (ahead : List (List ℕ)) (b : Behind old now h x.script ahead) → x.script ≡ taken ++ rest → line_feeds taken ≡ length b.done → x.left ≡ Some rest → Wrote x b.printed → Somewhere now (λ to. BreaksOff Read (standing_at old (point_of old h)) to x)
+  Behind-unread : (old now : SessionValue K) (h : Track) (x : Exchange) (taken rest : List ℕ) (ahead : List (List ℕ)) (b : Behind old now h x.script ahead) → x.script ≡ taken ++ rest → line_feeds taken ≡ length b.done → x.left ≡ Some rest → Wrote x b.printed → Somewhere now (λ to. BreaksOff Read (standing_at old (point_of old h)) to x)
   Behind-unread old now h x taken rest ahead b cut feeds left wrote =
       broken Read old now h x ahead b (taken, rest, cut, feeds, left, wrote ∙ ap (λ (w : Walk). Some (x.told ++ w.out)) (sym (end-walk old now h x.script ahead b)))
 
   -- a write failed
-  Behind-unwritten : (old now new : SessionValue K) (h : List Record) (x : Exchange) (line front end : List ℕ) (all ahead : List (List ℕ)) (b : Behind old now h x.script all) → all ≡ line ∷ ahead → (t : Turn old now new b.point line) → t.e.goes_on ≡ true → t.e.text ≡ front ++ end → Wrote x (b.printed ++ front) → Leaves x ahead → Somewhere new (λ to. BreaksOff Write (standing_at old (point_of old h)) to x)
+  Behind-unwritten : (old now new : SessionValue K) (h : Track) (x : Exchange) (line front end : List ℕ) (all ahead : List (List ℕ)) (b : Behind old now h x.script all) → all ≡ line ∷ ahead → (t : Turn old now new b.point line) → t.e.goes_on ≡ true → t.e.text ≡ front ++ end → Wrote x (b.printed ++ front) → Leaves x ahead → Somewhere new (λ to. BreaksOff Write (standing_at old (point_of old h)) to x)
   unfolding Behind-step
   Behind-unwritten old now new h x line front end all ahead b cut t on begins wrote left =
       let c = Behind-step old now new h x.script line all ahead b cut t on in
@@ -240,7 +240,7 @@ module _ {K : Type 0} (holds : K → List Kept → Type 0) (refusals room : K �
 
 module _ {K R W : Type 0} (holds : K → List Kept → Type 0) (refusals room : K → ℕ) (remaining : R → Option (List ℕ)) (contents : W → Option (List ℕ)) where
   -- what was read, written and left in front of a line
-  pub record Here (old now : SessionValue K) (reader : Tally R) (writer : Tally W) (h : List Record) (script told : List ℕ) : Type 0 where
+  pub record Here (old now : SessionValue K) (reader : Tally R) (writer : Tally W) (h : Track) (script told : List ℕ) : Type 0 where
     pub taken : List ℕ
     pub rest : List ℕ
     pub left : remaining reader.inner ≡ Some rest
@@ -254,7 +254,7 @@ module _ {K R W : Type 0} (holds : K → List Kept → Type 0) (refusals room : 
     pub read : reader.failures ≡ reader0.failures
     pub wrote : writer.failures ≡ writer0.failures
     pub bounds : bounds_of room now ≡ bounds_of room old
-    pub here : (h : List Record) (script told : List ℕ) → HasPast holds old h → remaining reader0.inner ≡ Some script → contents writer0.inner ≡ Some told → Here old now reader writer h script told
+    pub here : (h : Track) (script told : List ℕ) → HasPast holds old h → remaining reader0.inner ≡ Some script → contents writer0.inner ≡ Some told → Here old now reader writer h script told
 
   -- before the first line
   pub Running-start : (old : SessionValue K) (reader : Tally R) (writer : Tally W) → Running old old reader reader writer writer
@@ -292,7 +292,7 @@ module _ {K R W : Type 0} (holds : K → List Kept → Type 0) (refusals room : 
   abbrev pub Tells : (Standing → Standing → Exchange → Type 0) → SessionValue K → SessionValue K → Tally R → Tally R → Tally W → Tally W → Type 0
   Tells P old new reader reader' writer writer' = (from : Standing) (script told : List ℕ) → HasStanding holds refusals room old from → remaining reader.inner ≡ Some script → contents writer.inner ≡ Some told → Somewhere holds refusals room new (λ to. P from to (exchange script told reader' writer'))
 
-  by-history : (P : Standing → Standing → Exchange → Type 0) (old new : SessionValue K) (reader reader' : Tally R) (writer writer' : Tally W) → ((h : List Record) (script told : List ℕ) → HasPast holds old h → remaining reader.inner ≡ Some script → contents writer.inner ≡ Some told → Somewhere holds refusals room new (λ to. P (standing_at holds refusals room old (point_of old h)) to (exchange script told reader' writer'))) → Tells P old new reader reader' writer writer'
+  by-history : (P : Standing → Standing → Exchange → Type 0) (old new : SessionValue K) (reader reader' : Tally R) (writer writer' : Tally W) → ((h : Track) (script told : List ℕ) → HasPast holds old h → remaining reader.inner ≡ Some script → contents writer.inner ≡ Some told → Somewhere holds refusals room new (λ to. P (standing_at holds refusals room old (point_of old h)) to (exchange script told reader' writer'))) → Tells P old new reader reader' writer writer'
   by-history P old new reader reader' writer writer' each from script told s left held =
       from-there holds refusals room (λ (f : Standing). Somewhere holds refusals room new (λ to. P f to (exchange script told reader' writer'))) old (λ h past. each h script told past left held) from s
 
@@ -304,15 +304,15 @@ module _ {K R W : Type 0} (holds : K → List Kept → Type 0) (refusals room : 
       pub stays : OnErr result (turn.e.goes_on ≡ true)
       pub writes : Writes contents writer writer' result turn.e.text
 
-    deed-of : {F : Type 0} (p : Point) (line : List ℕ) (result : Result Bool F) → StandsAt holds now p → Holds buffer line → ((h : List Record) (text : List ℕ) → HasPast holds now h → Holds buffer text → ObeysLine holds refusals room contents now new writer writer' h text result) → Deed p line result
+    deed-of : {F : Type 0} (p : Point) (line : List ℕ) (result : Result Bool F) → StandsAt holds now p → Holds buffer line → ((h : Track) (text : List ℕ) → HasPast holds now h → Holds buffer text → ObeysLine holds refusals room contents now new writer writer' h text result) → Deed p line result
     deed-of p line result st held obey =
-        let o = obey p.history line st.1 held in
-        let e = effect o.gap (bounds_of room now) (command_of line) (point_of now p.history) in
+        let o = obey (track_at p) line st.1 held in
+        let e = effect o.gap (bounds_of room now) (command_of line) (point_of now (track_at p)) in
         record {
           turn = record {
             gap = o.gap;
             e = e;
-            is = sym (ap (λ (b : Bounds). effect o.gap b (command_of line) (point_of now p.history)) i.bounds ∙ ap (effect o.gap (bounds_of room old) (command_of line)) st.0);
+            is = sym (ap (λ (b : Bounds). effect o.gap b (command_of line) (point_of now (track_at p))) i.bounds ∙ ap (effect o.gap (bounds_of room old) (command_of line)) st.0);
             told = o.told;
             counted = o.counted;
             stands = o.stands;
@@ -346,7 +346,7 @@ module _ {K R W : Type 0} (holds : K → List Kept → Type 0) (refusals room : 
         Behind-end holds refusals room old now h (exchange script told reader' writer) (lines x.rest) x.behind (ap lines c.2.0) x.written (c.0, c.1, ap lines c.2.1))
 
     -- a line that ends the session
-    pub Running-quit : {E F : Type 0} (next : NextLine) → ReadsLine {E = E} remaining reader reader' buffer (Ok next) → is_missing next ≡ false → ((h : List Record) (text : List ℕ) → HasPast holds now h → Holds buffer text → ObeysLine {E = F} holds refusals room contents now new writer writer' h text (Ok false)) → Tells Prints old new reader0 reader' writer0 writer'
+    pub Running-quit : {E F : Type 0} (next : NextLine) → ReadsLine {E = E} remaining reader reader' buffer (Ok next) → is_missing next ≡ false → ((h : Track) (text : List ℕ) → HasPast holds now h → Holds buffer text → ObeysLine {E = F} holds refusals room contents now new writer writer' h text (Ok false)) → Tells Prints old new reader0 reader' writer0 writer'
     Running-quit Missing r is obey = absurd cc
     Running-quit Ended r is obey = by-history Prints old new reader0 reader' writer0 writer' (λ h script told past left held.
         let x = i.here h script told past left held in
@@ -360,7 +360,7 @@ module _ {K R W : Type 0} (holds : K → List Kept → Type 0) (refusals room : 
         Behind-quit holds refusals room old now new h (exchange script told reader' writer') x.rest (lines x.rest) [] x.behind c.2.0 d.turn (sym d.goes_on) (wrote-on told x.behind.printed d.turn.e.text x.written d.writes.ok) (c.0, c.1, ap lines c.2.1))
 
     -- the last line
-    pub Running-last : {E F : Type 0} (next : NextLine) → ReadsLine {E = E} remaining reader reader' buffer (Ok next) → is_last next ≡ true → ((h : List Record) (text : List ℕ) → HasPast holds now h → Holds buffer text → ObeysLine {E = F} holds refusals room contents now new writer writer' h text (Ok true)) → Tells Prints old new reader0 reader' writer0 writer'
+    pub Running-last : {E F : Type 0} (next : NextLine) → ReadsLine {E = E} remaining reader reader' buffer (Ok next) → is_last next ≡ true → ((h : Track) (text : List ℕ) → HasPast holds now h → Holds buffer text → ObeysLine {E = F} holds refusals room contents now new writer writer' h text (Ok true)) → Tells Prints old new reader0 reader' writer0 writer'
     unfolding Behind-step
     Running-last Missing r is obey = absurd cc
     Running-last Ended r is obey = absurd cc
@@ -377,7 +377,7 @@ module _ {K R W : Type 0} (holds : K → List Kept → Type 0) (refusals room : 
     step-of Last a b = absurd cc
     step-of Ended a b = refl
 
-    here-on : {E F : Type 0} → ReadsLine {E = E} remaining reader reader' buffer (Ok Ended) → ((h : List Record) (text : List ℕ) → HasPast holds now h → Holds buffer text → ObeysLine {E = F} holds refusals room contents now new writer writer' h text (Ok true)) → (h : List Record) (script told : List ℕ) → HasPast holds old h → remaining reader0.inner ≡ Some script → contents writer0.inner ≡ Some told → Here old new reader' writer' h script told
+    here-on : {E F : Type 0} → ReadsLine {E = E} remaining reader reader' buffer (Ok Ended) → ((h : Track) (text : List ℕ) → HasPast holds now h → Holds buffer text → ObeysLine {E = F} holds refusals room contents now new writer writer' h text (Ok true)) → (h : Track) (script told : List ℕ) → HasPast holds old h → remaining reader0.inner ≡ Some script → contents writer0.inner ≡ Some told → Here old new reader' writer' h script told
     unfolding Behind-step
     here-on r obey h script told past left held =
         let x = i.here h script told past left held in
@@ -395,7 +395,7 @@ module _ {K R W : Type 0} (holds : K → List Kept → Type 0) (refusals room : 
           written = wrote-on told x.behind.printed d.turn.e.text x.written d.writes.ok;
         }
 
-    pub Running-step : {E F : Type 0} (next : NextLine) → ReadsLine {E = E} remaining reader reader' buffer (Ok next) → is_missing next ≡ false → is_last next ≡ false → ((h : List Record) (text : List ℕ) → HasPast holds now h → Holds buffer text → ObeysLine {E = F} holds refusals room contents now new writer writer' h text (Ok true)) → writer'.failures ≡ writer.failures → bounds_of room new ≡ bounds_of room now → Running old new reader0 reader' writer0 writer'
+    pub Running-step : {E F : Type 0} (next : NextLine) → ReadsLine {E = E} remaining reader reader' buffer (Ok next) → is_missing next ≡ false → is_last next ≡ false → ((h : Track) (text : List ℕ) → HasPast holds now h → Holds buffer text → ObeysLine {E = F} holds refusals room contents now new writer writer' h text (Ok true)) → writer'.failures ≡ writer.failures → bounds_of room new ≡ bounds_of room now → Running old new reader0 reader' writer0 writer'
     Running-step {E = E} next r some more obey wrote bounds = record {
       read = r.same ∙ i.read;
       wrote = wrote ∙ i.wrote;
@@ -404,7 +404,7 @@ module _ {K R W : Type 0} (holds : K → List Kept → Type 0) (refusals room : 
     }
 
     -- a write failed
-    pub Running-unwritten : {E F : Type 0} (next : NextLine) (fault : F) → ReadsLine {E = E} remaining reader reader' buffer (Ok next) → is_missing next ≡ false → ((h : List Record) (text : List ℕ) → HasPast holds now h → Holds buffer text → ObeysLine holds refusals room contents now new writer writer' h text (Err fault)) → Tells (BreaksOff Write) old new reader0 reader' writer0 writer'
+    pub Running-unwritten : {E F : Type 0} (next : NextLine) (fault : F) → ReadsLine {E = E} remaining reader reader' buffer (Ok next) → is_missing next ≡ false → ((h : Track) (text : List ℕ) → HasPast holds now h → Holds buffer text → ObeysLine holds refusals room contents now new writer writer' h text (Err fault)) → Tells (BreaksOff Write) old new reader0 reader' writer0 writer'
     Running-unwritten Missing fault r is obey = absurd cc
     Running-unwritten Ended fault r is obey = by-history (BreaksOff Write) old new reader0 reader' writer0 writer' (λ h script told past left held.
         let x = i.here h script told past left held in

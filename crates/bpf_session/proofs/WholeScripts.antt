@@ -8,7 +8,7 @@ use Rattle.bpf_session.specs.Runs.{Leaves, Wrote, come_to, whole_walk}
 use Rattle.bpf_session.specs.Sessions.{StandsAt, gap_of, point_of, refusals_with}
 use Rattle.bpf_session.proofs.CommandLaws.{nothing-refused-nothing-missing}
 use Rattle.bpf_session.specs.declared.reply.Reply.{Reply}
-use Rattle.bpf_session.specs.declared.reply.Reply.TheVariants.{Forward}
+use Rattle.bpf_session.specs.declared.reply.Reply.TheVariants.{Forward, Redone}
 use Rattle.bpfdb_commands.specs.declared.refusal.Refusal.{Refusal}
 use Rattle.bpfdb_commands.specs.declared.refusal.Refusal.TheVariants.{OutOfMemory}
 use Rattle.bpfdb_replies.specs.declared.why.Why.TheVariants.{Memory}
@@ -30,8 +30,8 @@ uncounted None e = refl
 uncounted (Some m) e = absurd (omega (arith, e))
 
 -- an answer that tells no gap
-gapless : (answer : Result Reply Refusal) → gap_of answer ≡ None → (answer ≢ Err OutOfMemory) × ((k : ℕ) → answer ≢ Ok (Forward k Memory))
-gapless answer none = (λ is. let e : Some 0 ≡ None = sym (ap gap_of is) ∙ none in absurd cc, λ k is. let e : Some k ≡ None = sym (ap gap_of is) ∙ none in absurd cc)
+gapless : (answer : Result Reply Refusal) → gap_of answer ≡ None → (answer ≢ Err OutOfMemory) × ((k : ℕ) → (answer ≢ Ok (Forward k Memory)) × (answer ≢ Ok (Redone k Memory)))
+gapless answer none = (λ is. let e : Some 0 ≡ None = sym (ap gap_of is) ∙ none in absurd cc, λ k. (λ is. let e : Some k ≡ None = sym (ap gap_of is) ∙ none in absurd cc, λ is. let e : Some k ≡ None = sym (ap gap_of is) ∙ none in absurd cc))
 
 module _ {K : Type 0} (holds : K → List Kept → Type 0) (refused room : K → ℕ) where
   pub no-answer-is-of-memory : NoAnswerIsOfMemory holds refused room

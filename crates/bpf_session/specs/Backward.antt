@@ -1,5 +1,5 @@
 -- A backward command looks a recorded state up.
-use Rattle.std.specs.Prelude.{ℕ, ◌&&◌, ◌||◌, min, Option, Some, None, is_some, unwrap_or, length, drop, count_by, nat_le, nat_lt, if◌then◌else◌}
+use Rattle.std.specs.Prelude.{ℕ, ◌&&◌, ◌||◌, min, Option, Some, None, is_some, unwrap_or, length, drop, take, reverse, ◌++◌, count_by, nat_le, nat_lt, if◌then◌else◌}
 use Rattle.bpf_machine.specs.State.{State, depth}
 use Rattle.bpf_journal.specs.Histories.{is_step}
 use Rattle.bpf_journal.specs.Lookups.{Test, latest, state_before}
@@ -16,9 +16,10 @@ use Rattle.bpfdb_commands.specs.declared.command.Target.TheVariants.{Commands, S
 abbrev pub before_last : ℕ → Point → State
 before_last k p = state_before k p.history p.state
 
--- That state comes back, and the moves from it on are no longer kept.
+-- That state comes back. The records from it on are taken off the history, and put in their order in front of those that were taken back
+-- before.
 abbrev pub back_by : ℕ → Point → Point
-back_by k p = record p { history = drop k p.history; state = before_last k p }
+back_by k p = record p { history = drop k p.history; ahead = reverse (take k p.history) ++ p.ahead; state = before_last k p }
 
 abbrev pub gone_back : ℕ → Why → Point → Outcome
 gone_back k why p = replied (Back k why) (back_by k p)

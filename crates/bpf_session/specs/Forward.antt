@@ -1,5 +1,5 @@
 -- A forward command takes the least number of steps, at least one, after which a stop holds.
-use Rattle.std.specs.Prelude.{◌+◌, ℕ, zero, suc, Bool, false, List, Option, Some, None, is_some, unwrap_or, if◌then◌else◌, ◌==◌, nat_le, nat_lt}
+use Rattle.std.specs.Prelude.{◌+◌, ℕ, zero, suc, Bool, false, List, [], Option, Some, None, is_some, unwrap_or, if◌then◌else◌, ◌==◌, nat_le, nat_lt}
 use Rattle.bpf_machine.specs.Next.{next}
 use Rattle.bpf_machine.specs.State.{State, depth}
 use Rattle.bpf_entries.specs.Status.{has_ended}
@@ -27,9 +27,14 @@ abbrev pub kept : ℕ → ℕ → Point → List Record
 kept room zero p = p.history
 kept room (suc k) p = keep record_weight room (kept room k p) (record_of (state_after k p.state) Step (k == 0))
 
+-- What was taken back before can't be made again after the first step.
+abbrev pub still_ahead : ℕ → List Record → List Record
+still_ahead zero ahead = ahead
+still_ahead (suc k) ahead = []
+
 -- The point after so many steps.
 abbrev pub gone : ℕ → ℕ → Point → Point
-gone room k p = record p { history = kept room k p; state = state_after k p.state }
+gone room k p = record p { history = kept room k p; ahead = still_ahead k p.ahead; state = state_after k p.state }
 
 -- Whether a command that began at this depth has done what it was asked for, after k steps that led to x: `nexti` has come back to the
 -- depth or a smaller one, so that a called function runs as one step, and `finish` to a smaller one.

@@ -1,11 +1,13 @@
 -- Facts about the meaning of commands and of scripts, in the words of those who use them.
-use Rattle.std.specs.Prelude.{◌≡◌, ◌≢◌, ◌<◌, ◌≤◌, ◌-◌, ◌^◌, ◌+◌, ◌⊎◌, ◌↔◌, if◌then◌else◌, ℕ, suc, Bool, true, false, List, [], ◌∷◌, length, map, min, take, drop, count_by, slice_get, Option, Some, None, Result, Ok, Err, IsTrue, option_map}
-use Rattle.bpf_session.specs.Points.{Point, Bounds}
+use Rattle.std.specs.Prelude.{◌≡◌, ◌≢◌, ◌<◌, ◌≤◌, ◌-◌, ◌^◌, ◌+◌, ◌⊎◌, ◌↔◌, if◌then◌else◌, ℕ, suc, Bool, true, false, List, [], ◌∷◌, length, map, min, take, drop, reverse, ◌++◌, count_by, slice_get, Option, Some, None, Result, Ok, Err, IsTrue, option_map}
+use Rattle.bpf_session.specs.Points.{Point, Bounds, without_ahead}
 use Rattle.bpf_session.specs.Forward.{state_after}
 use Rattle.bpf_machine.specs.State.{State, depth}
 use Rattle.bpf_entries.specs.Status.{has_ended}
-use Rattle.bpf_journal.specs.Histories.{Record, is_step}
+use Rattle.bpf_journal.specs.Histories.{Record, IsRun, is_step}
+use Rattle.bpf_journal.specs.Tracks.{IsAhead, Track}
 use Rattle.bpf_session.specs.Backward.{before_last, marks}
+use Rattle.bpf_session.specs.Redo.{state_ahead}
 use Rattle.bpf_session.specs.Stops.{breaks_at, watch_differs}
 use Rattle.bpf_session.specs.Refused.{refusals_of}
 use Rattle.bpfdb_commands.specs.Refusals.{number_of}
@@ -25,7 +27,7 @@ use Rattle.bpfdb_commands.specs.declared.refusal.Refusal.{Refusal}
 use Rattle.bpfdb_commands.specs.declared.refusal.Refusal.TheVariants.{OutOfMemory}
 use Rattle.bpf_session.specs.declared.reply.Reply.{Reply}
 use Rattle.bpfdb_replies.specs.declared.why.Why.{Why}
-use Rattle.bpf_session.specs.declared.reply.Reply.TheVariants.{Forward, Back}
+use Rattle.bpf_session.specs.declared.reply.Reply.TheVariants.{Forward, Back, Redone}
 use Rattle.bpfdb_replies.specs.declared.why.Why.TheVariants.{End, Break, Watch, Done, Limit, Memory, Start}
 
 -- A refused command changes nothing: neither history nor state, breakpoints or watches.
@@ -114,13 +116,13 @@ CallsRunAsOne = (gap : Option ℕ) (b : Bounds) (p : Point) (k : ℕ) (why : Why
     × ((j : ℕ) → j < k → depth p.state ≤ depth (state_after j p.state)))
 
 -- A command that goes back takes back as many moves as it says, of those that are kept, and nothing else: the state before the last of
--- them comes back, and the moves in front of it are still kept.
+-- them comes back, the moves in front of it are still kept, and those that are taken back can be made again, before those that could be.
 pub record TakesBack (k : ℕ) (p q : Point) : Type 0 where
   pub some : 1 ≤ k
   pub within : k ≤ length p.history
   pub last : Record
   pub there : slice_get p.history (k - 1) ≡ Some last
-  pub back : q ≡ record p { history = drop k p.history; state = last.before }
+  pub back : q ≡ record p { history = drop k p.history; ahead = reverse (take k p.history) ++ p.ahead; state = last.before }
 
 -- A count is 1 at least.
 abbrev pub HasCount : Target → Type 0
@@ -173,11 +175,11 @@ TheLatestIsFound = (gap : Option ℕ) (b : Bounds) (p : Point) (k : ℕ) (why : 
     × ((does gap b (command.Back target.Continue) p).answer ≡ Ok (Back k why)
     → FindsLatest (IsSought target.Continue p) (if breaks_at p (before_last k p) then Break else Watch) p k why)
 
--- Going back over the steps that a command took, or undoing it, gives back the point in front of it in every component, where none of
--- the history was dropped for them.
+-- Going back over the steps that a command took, or undoing it, gives back the point in front of it, its history, state, breakpoints and
+-- watches, where none of the history was dropped for them. (What was taken back before the command is forgotten.)
 pub record GivesBack (later : Option ℕ) (b : Bounds) (k : ℕ) (p q : Point) : Type 0 where
-  pub reverse : (does later b (command.Back (target.Steps k)) q).point ≡ p
-  pub undo : (does later b (command.Back (target.Commands 1)) q).point ≡ p
+  pub reverse : without_ahead (does later b (command.Back (target.Steps k)) q).point ≡ without_ahead p
+  pub undo : without_ahead (does later b (command.Back (target.Commands 1)) q).point ≡ without_ahead p
 
 abbrev pub GoingBackGivesBack : Type 0
 GoingBackGivesBack = (gap later : Option ℕ) (b : Bounds) (c : Command) (p : Point) (k : ℕ) (why : Why)
@@ -197,10 +199,39 @@ pub record GoesToTheMark (n : ℕ) (p q : Point) : Type 0 where
   pub there : slice_get p.history newer ≡ Some found
   pub marked : found.mark ≡ true
   pub last : count_by (λ r. r.mark) (take newer p.history) + 1 ≡ n
-  pub back : q ≡ record p { history = drop (newer + 1) p.history; state = found.before }
+  pub back : q ≡ record p { history = drop (newer + 1) p.history; ahead = reverse (take (newer + 1) p.history) ++ p.ahead; state = found.before }
 
 abbrev pub UndoGoesToTheMark : Type 0
 UndoGoesToTheMark = (gap : Option ℕ) (b : Bounds) (n : ℕ) (p : Point) → 1 ≤ n → n ≤ marks p → GoesToTheMark n p (does gap b (command.Back (target.Commands n)) p).point
+
+-- All moves from the latest new one on, the newest first: those that were taken back, and those that are kept.
+abbrev pub all_moves : Point → List Record
+all_moves p = reverse p.ahead ++ p.history
+
+-- The state after the last one of them.
+abbrev pub last_state : Point → State
+last_state p = state_ahead (length p.ahead) p.ahead p.state
+
+-- The history leads to the present state, and what was taken back leads on from there.
+abbrev pub IsPlaced : Point → Type 0
+IsPlaced p = IsRun p.history p.state × IsAhead p.state p.ahead
+
+-- Commands that take moves back or make them again.
+abbrev pub walks : Command → Bool
+walks (command.Back t) = true
+walks (command.Redo count) = true
+walks _ = false
+
+-- They lose no move: the history followed by what was taken back stays, and so does the state that it leads to.
+abbrev pub WalksLoseNothing : Type 0
+WalksLoseNothing = (gap : Option ℕ) (b : Bounds) (c : Command) (p : Point) → IsTrue (walks c) → IsPlaced p
+    → (all_moves (does gap b c p).point ≡ all_moves p) × (last_state (does gap b c p).point ≡ last_state p) × IsPlaced (does gap b c p).point
+
+-- `redo` of as many moves as were taken back, or of more, gives the history and the state back as they stood after the latest new move:
+-- nothing is left to be made again, and breakpoints and watches stay.
+abbrev pub RedoGivesAllBack : Type 0
+RedoGivesAllBack = (b : Bounds) (count : ℕ) (p : Point) → 1 ≤ length p.ahead → length p.ahead ≤ count
+    → (does None b (command.Redo count) p).point ≡ record p { history = all_moves p; ahead = []; state = last_state p }
 
 -- Where the gaps of a script made no refusal more, and the count of refusals isn't at its last value, no gap did anything.
 abbrev pub NothingRefusedNothingMissing : Type 0
@@ -222,12 +253,12 @@ module _ {K : Type 0} (holds : K → List Kept → Type 0) (refused room : K →
   NoAnswerIsOfMemory = RefusesNone refused
       → (old new : SessionValue K) (meaning : Option ℕ → Point → Outcome) (answer : Result Reply Refusal)
       → Obeys holds refused room old new meaning answer
-      → (answer ≢ Err OutOfMemory) × ((k : ℕ) → answer ≢ Ok (Forward k Memory))
+      → (answer ≢ Err OutOfMemory) × ((k : ℕ) → (answer ≢ Ok (Forward k Memory)) × (answer ≢ Ok (Redone k Memory)))
 
   -- What a command answers, and where it leaves the session, is then what it means where each of its moves is kept.
   abbrev pub EachMoveIsKept : Type 0
   EachMoveIsKept = RefusesNone refused
       → (old new : SessionValue K) (meaning : Option ℕ → Point → Outcome) (answer : Result Reply Refusal)
       → Obeys holds refused room old new meaning answer
-      → (h : List Record) → HasPast holds old h
+      → (h : Track) → HasPast holds old h
       → (answer ≡ (meaning None (point_of old h)).answer) × StandsAt holds new (meaning None (point_of old h)).point

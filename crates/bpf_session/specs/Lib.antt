@@ -4,6 +4,7 @@ pub mod Outcomes
 pub mod Stops
 pub mod Forward
 pub mod Backward
+pub mod Redo
 pub mod Tables
 pub mod Refused
 pub mod Meaning

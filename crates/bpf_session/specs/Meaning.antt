@@ -5,6 +5,7 @@ use Rattle.bpf_session.specs.Outcomes.{Outcome, replied, unless_refused}
 use Rattle.bpf_session.specs.Refused.{refusals_of}
 use Rattle.bpf_session.specs.Forward.{forward}
 use Rattle.bpf_session.specs.Backward.{back}
+use Rattle.bpf_session.specs.Redo.{redo}
 use Rattle.bpf_session.specs.Tables.{edit, with_stop, without_stop}
 use Rattle.bpfdb_commands.specs.declared.command.Command.{Command}
 use Rattle.bpfdb_commands.specs.declared.command.Command.TheVariants as command
@@ -15,6 +16,7 @@ use Rattle.bpf_session.specs.declared.reply.Reply.TheVariants as reply
 unfoldable pub accepted : Option ℕ → Bounds → Command → Point → Outcome
 accepted gap b (command.Forward goal) p = forward gap b goal p
 accepted gap b (command.Back target) p = back target p
+accepted gap b (command.Redo count) p = redo gap count p
 accepted gap b (command.Edit e) p = edit gap b.room e p
 accepted gap b (command.Add stop) p = replied reply.Ok (with_stop stop p)
 accepted gap b (command.Remove stop) p = replied reply.Ok (without_stop stop p)

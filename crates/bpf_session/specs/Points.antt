@@ -3,19 +3,24 @@ use Rattle.std.specs.Prelude.{ℕ, List, []}
 use Rattle.bpf_machine.specs.State.{State}
 use Rattle.bpf_journal.specs.Histories.{Record}
 
--- The kept history, the newest record first; the present state; the slots of breakpoints and the addresses of watches, each in order
--- of setting.
+-- The kept history, the newest record first; the records that were taken back since the latest new move, the next one to be made again
+-- first; the present state; the slots of breakpoints and the addresses of watches, each in order of setting.
 pub record Point : Type 0 where
   pub history : List Record
+  pub ahead : List Record
   pub state : State
   pub breaks : List ℕ
   pub watches : List ℕ
+
+-- The point without what was taken back.
+abbrev pub without_ahead : Point → Point
+without_ahead p = record p { ahead = [] }
 
 -- The most steps of a command, and the journal's size in bytes.
 pub record Bounds : Type 0 where
   pub limit : ℕ
   pub room : ℕ
 
--- A session that was just opened over a machine: no history, no breakpoints, no watches.
+-- A session that was just opened over a machine: no history, nothing to be made again, no breakpoints, no watches.
 abbrev pub opening : State → Point
-opening x = record { history = []; state = x; breaks = []; watches = [] }
+opening x = record { history = []; ahead = []; state = x; breaks = []; watches = [] }

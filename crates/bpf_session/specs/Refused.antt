@@ -19,7 +19,7 @@ use Rattle.bpfdb_commands.specs.declared.command.Stop.TheVariants as stop
 use Rattle.bpfdb_commands.specs.declared.command.Target.TheVariants as target
 use Rattle.bpfdb_commands.specs.declared.command.View.TheVariants as view
 use Rattle.bpfdb_commands.specs.declared.refusal.Refusal.{Refusal}
-use Rattle.bpfdb_commands.specs.declared.refusal.Refusal.TheVariants.{MachineEnded, NoKeptStep, FewerCommands, AddressNotPresent, RegisterNotWritable, NoStart, OutermostFrame, TableFull, ThereOrNot, NoCell}
+use Rattle.bpfdb_commands.specs.declared.refusal.Refusal.TheVariants.{MachineEnded, NoKeptStep, FewerCommands, AddressNotPresent, RegisterNotWritable, NoStart, OutermostFrame, TableFull, ThereOrNot, NothingToRedo, NoCell}
 
 -- A refusal where a test holds.
 abbrev pub when : Bool → Refusal → List Refusal
@@ -54,6 +54,7 @@ refusals_of (command.Forward _) p = when (has_ended p.state.status) MachineEnded
 refusals_of (command.Back (target.Commands count)) p = when (nat_lt (marks p) count) FewerCommands
 refusals_of (command.Back target.Finish) p = when (kept_steps p == 0) NoKeptStep ++ when (depth p.state == 0) OutermostFrame
 refusals_of (command.Back _) p = when (kept_steps p == 0) NoKeptStep
+refusals_of (command.Redo count) p = when (length p.ahead == 0) NothingToRedo
 refusals_of (command.Edit e) p = edit_refusals e p
 refusals_of (command.Add (stop.Breakpoint slot)) p =
     when (not (starts p slot)) NoStart

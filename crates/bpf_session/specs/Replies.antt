@@ -37,6 +37,7 @@ text_of_view b (view.LastWrite address) p = text_of_last (last_change address p.
 unfoldable pub text_of_reply : Bounds → Reply → Point → List ℕ
 text_of_reply b (reply.Forward k why) p = text_of_move k (codes " forward; ") why p.state
 text_of_reply b (reply.Back k why) p = text_of_move k (codes " back; ") why p.state
+text_of_reply b (reply.Redone k why) p = text_of_move k (codes " redone; ") why p.state
 text_of_reply b reply.Ok p = codes "ok\n"
 text_of_reply b (reply.Shown what) p = text_of_view b what p
 text_of_reply b reply.Nothing p = []

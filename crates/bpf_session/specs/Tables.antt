@@ -13,10 +13,11 @@ use Rattle.bpfdb_commands.specs.declared.command.Stop.{Stop}
 use Rattle.bpfdb_commands.specs.declared.command.Stop.TheVariants.{Breakpoint, Watch}
 use Rattle.bpfdb_commands.specs.declared.refusal.Refusal.TheVariants.{OutOfMemory}
 
--- An edit is a marked move.
+-- An edit is a marked move, and what was taken back before can't be made again.
 abbrev pub with_edit : ℕ → Edit → Point → Point
 with_edit room e p = record p {
   history = keep record_weight room p.history (record_of p.state (move.Edit e) true);
+  ahead = [];
   state = edited p.state e;
 }
 

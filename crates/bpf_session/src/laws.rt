@@ -1,5 +1,5 @@
 //! Laws of the meaning of commands and of scripts. Each stands on a function without code, since it speaks of the definitions alone.
-ghost use Rattle.bpf_session.specs.Laws.{BreakpointsStop, CallsRunAsOne, CountsAreGoneBack, EachMoveIsKept, GoingBackGivesBack, NoAnswerIsOfMemory, NothingRefusedAllPrinted, NothingRefusedNothingMissing, RefusalsAreInOrder, RefusedChangesNothing, ReplayIsTheSame, ShowsChangeNothing, TakesBackItsMoves, TheFirstReasonStops, TheLatestIsFound, UndoGoesToTheMark, WatchesStop};
+ghost use Rattle.bpf_session.specs.Laws.{BreakpointsStop, CallsRunAsOne, CountsAreGoneBack, EachMoveIsKept, GoingBackGivesBack, NoAnswerIsOfMemory, NothingRefusedAllPrinted, NothingRefusedNothingMissing, RedoGivesAllBack, RefusalsAreInOrder, RefusedChangesNothing, ReplayIsTheSame, ShowsChangeNothing, TakesBackItsMoves, TheFirstReasonStops, TheLatestIsFound, UndoGoesToTheMark, WalksLoseNothing, WatchesStop};
 
 use bpf_journal::Keeper;
 
@@ -66,7 +66,8 @@ pub fn the_latest_is_found()
     ensures { TheLatestIsFound }
 {}
 
-/// Going back over the steps that a command took, or undoing it, gives back the point in front of it, where nothing was dropped for them.
+/// Going back over the steps that a command took, or undoing it, gives back the history, the state, the breakpoints and the watches in
+/// front of it, where nothing was dropped for them.
 #[tactic(none)]
 pub fn going_back_gives_back()
     ensures { GoingBackGivesBack }
@@ -76,6 +77,19 @@ pub fn going_back_gives_back()
 #[tactic(none)]
 pub fn replay_is_the_same()
     ensures { ReplayIsTheSame }
+{}
+
+/// Commands that take moves back or make them again lose none: the history followed by what was taken back stays as it stood after the
+/// latest new move, and leads to the state as it stood then.
+#[tactic(none)]
+pub fn walks_lose_nothing()
+    ensures { WalksLoseNothing }
+{}
+
+/// `redo` of all that was taken back gives the history and the state back as they stood after the latest new move.
+#[tactic(none)]
+pub fn redo_gives_all_back()
+    ensures { RedoGivesAllBack }
 {}
 
 /// `undo` gives back the state in front of the marked move that it counts to, whatever commands came between.

@@ -10,6 +10,8 @@ pub enum Reply {
     Forward { steps: u64, why: Why },
     /// So many moves were taken back.
     Back { moves: u64, why: Why },
+    /// So many moves were made again.
+    Redone { moves: u64, why: Why },
     /// It is done.
     Ok,
     /// What was asked for is shown: its bytes are present, and an instruction starts at its slot.

@@ -1,7 +1,7 @@
 //! Scripts: lines from a reader, obeyed one after another, and their replies to a writer.
 ghost use Rattle.std.specs.Prelude.{◌≡◌, List, ℕ, IfErr, IfOk, OnOk, Some, true};
 ghost use Rattle.counted_io.specs.Writing.{Writes};
-ghost use Rattle.bpf_journal.specs.Histories.{Record};
+ghost use Rattle.bpf_journal.specs.Tracks.{Track};
 ghost use Rattle.bpfdb_commands.specs.Commands.{command_of};
 ghost use Rattle.bpfdb_commands.specs.ReadLines.{Holds};
 ghost use Rattle.bpf_session.specs.LineSteps.{FailsOnce, ObeysLine};
@@ -46,7 +46,7 @@ fn put_answer<K: Keeper, W: Write>(
     writer: &mut Counted<W>,
 ) -> Result<(), WriteFault>
     requires there { IfOk answer.now (λ reply. IsThere reply session.now.moment.state) }
-    ensures { (h : List Record) → HasPast K.holds session.now h →
+    ensures { (h : Track) → HasPast K.holds session.now h →
         Writes W.contents writer.old writer.new result (text_of_answer (bounds_of K.room session.now) answer.now (point_of session.now h)) }
 {
     match answer {
@@ -62,7 +62,7 @@ fn write_answer<K: Keeper, W: Write>(
     writer: &mut Counted<W>,
 ) -> Result<bool, WriteFault>
     requires there { IfOk answer.now (λ reply. IsThere reply session.now.moment.state) }
-    ensures value { (h : List Record) → HasPast K.holds session.now h →
+    ensures value { (h : Track) → HasPast K.holds session.now h →
         Writes W.contents writer.old writer.new result (text_of_answer (bounds_of K.room session.now) answer.now (point_of session.now h)) }
     ensures ok { IfOk result (λ more. more ≡ true) }
 {
@@ -82,7 +82,7 @@ fn obey<K: Keeper, W: Write>(
     line: &LineBuffer,
     writer: &mut Counted<W>,
 ) -> Result<bool, WriteFault>
-    ensures value { (h : List Record) (text : List ℕ) → HasPast K.holds session.old h → Holds line.now text →
+    ensures value { (h : Track) (text : List ℕ) → HasPast K.holds session.old h → Holds line.now text →
         ObeysLine K.holds K.refused K.room W.contents session.old session.new writer.old writer.new h text result }
     ensures fault { FailsOnce result writer.old writer.new }
     ensures bounds { bounds_of K.room session.new ≡ bounds_of K.room session.old }

@@ -1,13 +1,15 @@
 //! Sessions: commands over a machine and the keeper of its moves.
-ghost use Rattle.std.specs.Prelude.{◌≡◌, ◌≤◌, []};
-ghost use Rattle.bpf_journal.specs.Histories.{HasHistory};
+ghost use Rattle.std.specs.Prelude.{◌≡◌, ◌≤◌, List, []};
+ghost use Rattle.bpf_journal.specs.Histories.{HasHistory, Record, StandsFor};
+ghost use Rattle.bpf_journal.specs.Tracks.{IsCourse, RingHolds, ring_room, track_of};
 ghost use Rattle.bpfdb_commands.specs.Limits.{greatest_count};
 ghost use Rattle.bpf_session.specs.Meaning.{does};
-ghost use Rattle.bpf_session.specs.Sessions.{Obeys, bounds_of};
+ghost use Rattle.bpf_session.specs.Sessions.{HasPast, Obeys, bounds_of};
 
 mod backward;
 mod edits;
 mod forward;
+mod redo;
 mod replies;
 mod shows;
 mod stops;
@@ -15,7 +17,7 @@ mod stops;
 use crate::breakpoints::Breakpoints;
 use crate::reply::Reply;
 use crate::watches::Watches;
-use bpf_journal::{Keeper, Timeline};
+use bpf_journal::{Course, Keeper, RingKeeper};
 use bpf_machine::Cpu;
 use bpfdb_commands::{Command, Refusal};
 use std::marker::Model;
@@ -23,7 +25,7 @@ use std::marker::Model;
 /// A session of commands.
 #[derive(Drop)]
 pub struct Session<K: Keeper> {
-    timeline: Timeline<K>,
+    timeline: Course<K>,
     breaks: Breakpoints,
     watches: Watches,
     limit: u64,
@@ -41,23 +43,26 @@ impl<K: Keeper> Model for Session<K> {
 }
 
 impl<K: Keeper> Session<K> {
-    /// A session over a machine and a keeper that holds the entries of some history that led to the machine's state.
-    /// `limit` is the most steps of a command, 1 to 1,000,000,000. There are no breakpoints
-    /// and no watches.
-    pub fn open(cpu: Cpu, keeper: K, limit: u64) -> Session<K>
+    /// A session over a machine and a keeper that holds the entries of some history that led to the machine's state, with an empty ring of
+    /// the keeper's capacity for the moves that will be taken back. `limit` is the most steps of a command, 1 to 1,000,000,000. There are no
+    /// breakpoints and no watches.
+    pub fn open(cpu: Cpu, keeper: K, redo: RingKeeper, limit: u64) -> Session<K>
         requires past { HasHistory K.holds keeper cpu }
+        requires empty { RingHolds redo [] }
+        requires size { ring_room redo ≡ K.room keeper }
         requires limit { (1 ≤ limit) × (limit ≤ greatest_count) }
-        ensures { result ≡ record { moment = record { state = cpu; keeper = keeper }; breaks = []; watches = []; limit = limit } }
+        ensures value { result ≡ record { moment = record { state = cpu; keeper = keeper; redo = redo }; breaks = []; watches = []; limit = limit } }
+        ensures stands { (h : List Record) → StandsFor K.holds keeper cpu h → HasPast K.holds result (track_of h) }
     {
         Session {
-            timeline: Timeline::open(cpu, keeper),
+            timeline: Course::open(cpu, keeper, redo),
             breaks: Breakpoints::new(),
             watches: Watches::new(),
             limit,
         }
     }
 
-    /// Gives the machine and the keeper back as they stand: `open` takes them again.
+    /// Gives the machine and the keeper back as they stand: `open` takes them again. What was taken back is dropped.
     pub fn close(self) -> (Cpu, K)
         ensures same { result ≡ (self.moment.state, self.moment.keeper) }
         ensures past { HasHistory K.holds result.1 result.0 }
@@ -85,9 +90,9 @@ impl<K: Keeper> Session<K> {
         self.timeline.keeper()
     }
 
-    /// Brings into a proof that there is a history.
+    /// Brings into a proof that there is a history, and what was taken back from it.
     pub fn invariant(&self)
-        ensures { HasHistory K.holds self.now.moment.keeper self.now.moment.state }
+        ensures { IsCourse K.holds K.room self.now.moment }
     {
         self.timeline.invariant();
     }
@@ -100,6 +105,7 @@ impl<K: Keeper> Session<K> {
         match command {
             Command::Forward(goal) => self.forward(*goal),
             Command::Back(target) => self.back(*target),
+            Command::Redo(count) => self.redo(*count),
             Command::Edit(edit) => self.edit(edit),
             Command::Add(stop) => self.add(*stop),
             Command::Remove(stop) => self.remove(*stop),

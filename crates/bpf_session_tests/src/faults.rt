@@ -1,9 +1,10 @@
-//! Readers and writers that fail, or take little at a time.
-use crate::play::{Slow, check_bytes, session, stop_unless};
+//! Faults of readers and writers: which one is told, how often it is counted, and where the session stands.
+use crate::play::{check_bytes, session, stop_unless};
 use bpf_isa::Reg;
 use bpf_journal::ListKeeper;
 use bpf_session::{RunFault, Session, run};
 use counted_io::Counted;
+use paced_io::Paced;
 use std::alloc::Global;
 use std::io;
 use std::io::{Error, ErrorKind, Write};
@@ -33,27 +34,6 @@ pub fn told_before(good: usize) -> usize {
 // The first so many bytes of what is printed.
 pub fn first(rt: &impl Abort, count: usize) -> &'static [u8] {
     PRINTED.as_bytes().get(..count).expect(rt, "fewer bytes")
-}
-
-// A writer that takes `step` bytes a write, and no more than `room` in all.
-#[derive(Drop)]
-struct Narrow {
-    taken: Vec<u8>,
-    step: usize,
-    room: usize,
-}
-
-impl Write for Narrow {
-    fn write(&mut self, piece: &[u8]) -> io::Result<usize> {
-        let count = piece.len().min(self.step).min(self.room);
-        self.taken.extend_from_slice(&piece[..count])?;
-        self.room -= count;
-        Ok(count)
-    }
-
-    fn flush(&mut self) -> io::Result<()> {
-        Ok(())
-    }
 }
 
 // A writer that takes all, and counts its flushes, of which those from the `good`-th on fail. It notes how much it held at the last one.
@@ -90,14 +70,6 @@ fn new_noting(alloc: Global, good: u64) -> Noting {
     }
 }
 
-fn new_narrow(alloc: Global, step: usize, room: usize) -> Narrow {
-    Narrow {
-        taken: Vec::new(alloc),
-        step,
-        room,
-    }
-}
-
 /// The fault with which a run ends.
 pub fn fault_of(answer: Result<(), RunFault>) -> &'static str {
     match answer {
@@ -118,78 +90,17 @@ pub fn answering(rt: &impl Abort, alloc: Global) -> Session<ListKeeper> {
     session(rt, alloc, ANSWER, &[], 65_536, 1_000_000)
 }
 
-// Reads a script whose reader fails after so many bytes; answers what was written then. The fault is that of a read.
-fn told_by_reads(rt: &impl Abort, alloc: Global, script: &str, good: usize) -> Vec<u8> {
-    let mut session = answering(rt, alloc);
-    let mut printed = Vec::new(alloc);
-    let mut reader = Counted::new(Slow {
-        left: script.as_bytes(),
-        step: 1,
-        good,
-    });
+// A reader fails before the second line is whole: the reply to the first one stands, and no other byte.
+#[test]
+fn a_read_fails_in_a_line(rt: HostRuntime) {
+    let mut session = answering(&rt, rt.alloc());
+    let mut printed = Vec::new(rt.alloc());
+    let script = b"stepi\ninfo regs\n".as_slice();
+    let mut reader = Counted::new(Paced::failing(script, 1, 11));
     let mut writer = Counted::new(&mut printed);
     let answer = run(&mut session, &mut reader, &mut writer);
-    check_fault(rt, answer, reader.failures(), "read");
-    printed
-}
-
-// Reads a script whose reader fails after so many bytes; what was written then is this, and the fault is that of a read.
-fn fails_to_read(rt: &impl Abort, alloc: Global, script: &str, good: usize, wanted: &[u8]) {
-    check_bytes(rt, &told_by_reads(rt, alloc, script, good), wanted, script);
-}
-
-// The same for each number of bytes of the script above.
-fn fails_at_each_byte(rt: &impl Abort, alloc: Global, script: &str) {
-    for good in 0..script.len() {
-        fails_to_read(rt, alloc, script, good, first(rt, told_before(good)));
-    }
-}
-
-// After a reader fails the replies to the whole lines before stand, and no other byte.
-#[test]
-fn reads_fail_at_each_byte(rt: HostRuntime) {
-    fails_at_each_byte(&rt, rt.alloc(), SCRIPT);
-    let wanted = b"1 forward; done; at 1: exit\n";
-    fails_to_read(&rt, rt.alloc(), "stepi\ninfo regs\n", 10, wanted);
-}
-
-/// Runs a script over a writer that takes `step` bytes a write and no more than `room` in all, and answers what it took. The fault is that of
-/// a write.
-fn taken_by_writes(
-    rt: &impl Abort,
-    alloc: Global,
-    session: &mut Session<ListKeeper>,
-    script: &str,
-    (step, room): (usize, usize),
-) -> Vec<u8> {
-    let mut reader = Counted::new(script.as_bytes());
-    let mut narrow = new_narrow(alloc, step, room);
-    let mut writer = Counted::new(&mut narrow);
-    let answer = run(session, &mut reader, &mut writer);
-    check_fault(rt, answer, writer.failures(), "write");
-    narrow.taken
-}
-
-/// The same in a session of its own: what the writer took is a beginning of the replies.
-fn fails_to_write(rt: &impl Abort, alloc: Global, step: usize, room: usize) {
-    let mut session = answering(rt, alloc);
-    let taken = taken_by_writes(rt, alloc, &mut session, SCRIPT, (step, room));
-    check_bytes(rt, &taken, first(rt, room), "writes that fail");
-}
-
-/// The same for each number of bytes.
-fn fails_in_each_room(rt: &impl Abort, alloc: Global, step: usize, len: usize) {
-    for room in 0..len {
-        fails_to_write(rt, alloc, step, room);
-    }
-}
-
-// After a writer fails it holds a beginning of the replies, and no byte twice.
-#[test]
-fn writes_fail_at_each_byte(rt: HostRuntime) {
-    fails_in_each_room(&rt, rt.alloc(), 1, PRINTED.len());
-    fails_in_each_room(&rt, rt.alloc(), 7, PRINTED.len());
-    fails_in_each_room(&rt, rt.alloc(), 1_000, PRINTED.len());
+    check_fault(&rt, answer, reader.failures(), "read");
+    check_bytes(&rt, &printed, first(&rt, 28), "a read that fails");
 }
 
 /// Stops unless the machine of a session is at slot 1 with 42 in r0.
@@ -199,13 +110,16 @@ fn check_state(rt: &impl Abort, session: &Session<ListKeeper>) {
     stop_unless(rt, session.cpu().reg(r0) == 42, "another r0");
 }
 
-// A writer that fails after 10 bytes: the session stands behind the line whose reply wasn't written.
+// A writer that takes 10 bytes and no more: the session stands behind the line whose reply wasn't written.
 #[test]
 fn a_session_stands_behind_the_last_line(rt: HostRuntime) {
     let mut session = answering(&rt, rt.alloc());
-    let script = "stepi\ninfo regs\nreverse-stepi\n";
-    let taken = taken_by_writes(&rt, rt.alloc(), &mut session, script, (1_000, 10));
-    check_bytes(&rt, &taken, b"1 forward;", script);
+    let mut printed = Vec::new(rt.alloc());
+    let mut reader = Counted::new(b"stepi\ninfo regs\nreverse-stepi\n".as_slice());
+    let mut writer = Counted::new(Paced::refusing(&mut printed, 1, 11));
+    let answer = run(&mut session, &mut reader, &mut writer);
+    check_fault(&rt, answer, writer.failures(), "write");
+    check_bytes(&rt, &printed, b"1 forward;", "a writer that takes 10 bytes");
     check_state(&rt, &session);
 }
 

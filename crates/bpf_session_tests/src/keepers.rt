@@ -2,18 +2,19 @@
 ghost use Rattle.std.specs.Prelude.{◌≡◌, ◌<◌, ◌^◌, OnOk};
 ghost use Rattle.bpf_journal.specs.Keepers.{refusals_after};
 
-use crate::play::{machine, plays, stop_unless};
+use crate::play::{machine, plays, ring_for, stop_unless};
 use bpf_journal::{Keeper, ListKeeper};
 use bpf_machine::Entry;
 use bpf_session::Session;
 use std::alloc::{AllocError, Global};
 use std::process::Abort;
 
-/// A keeper that keeps so many entries at most, and counts the refused ones.
+/// A keeper that keeps so many entries at most, takes so many pushes in all, and counts the refused ones.
 #[derive(Drop)]
 struct Narrow<K: Keeper> {
     kept: K,
     most: usize,
+    left: usize,
     refusals: u64,
     ghost counts: { refusals < 2 ^ 64 },
 }
@@ -46,9 +47,12 @@ impl<K: Keeper> Keeper for Narrow<K> {
     ghost apart = { λ k n m a b held same place. K.apart k.kept n m a b held same place };
 
     fn push(&mut self, entry: &Entry, mark: bool) -> Result<(), AllocError> {
-        if self.kept.len() < self.most {
+        if self.left > 0 && self.kept.len() < self.most {
             match self.kept.push(entry, mark) {
-                Ok(()) => return Ok(()),
+                Ok(()) => {
+                    self.left -= 1;
+                    return Ok(());
+                }
                 Err(AllocError) => {}
             }
         }
@@ -95,12 +99,13 @@ impl<K: Keeper> Keeper for Narrow<K> {
 /// add r0, 1; ja -2.
 const ENDLESS: &str = "07000000010000000500feff00000000";
 
-/// A row: how many entries there is room for, how many refusals are counted, and the transcript.
-type Row = (usize, u64, &'static str);
+/// A row: how many entries there is room for, how many pushes are taken, how many refusals are counted, and the transcript.
+type Row = (usize, usize, u64, &'static str);
 
-const ROWS: [Row; 3] = [
+const ROWS: [Row; 5] = [
     (
         0,
+        100,
         3,
         "\
 stepi 8|refused Q15: out of memory
@@ -117,6 +122,7 @@ set cell 0 0 00|refused Q14: no such cell or wrong length
     ),
     (
         1,
+        100,
         3,
         "\
 stepi 8|1 forward; memory; at 1: ja L0
@@ -129,6 +135,7 @@ undo|1 back; done; at 0: add r0, 1
     ),
     (
         5,
+        100,
         3,
         "\
 stepi 8|5 forward; memory; at 1: ja L0
@@ -140,25 +147,69 @@ continue|refused Q15: out of memory
 undo 2|5 back; done; at 0: add r0, 1
 ",
     ),
+    // Moves that are made again are kept again, and that may be refused. What is refused stays, also behind a new move that is refused.
+    (
+        100,
+        5,
+        7,
+        "\
+stepi 3|3 forward; done; at 1: ja L0
+undo|3 back; done; at 0: add r0, 1
+redo 3|2 redone; memory; at 0: add r0, 1
+info history|2 moves, 1 commands, 23 of 65536 bytes
+redo|refused Q15: out of memory
+info regs|r0=0x1 r1=0x0 r2=0x0 r3=0x0 r4=0x0 r5=0x0 r6=0x0 r7=0x0 r8=0x0 r9=0x0 r10=0x200000200
+|at 0: add r0, 1
+redo 0|refused Q2: wrong argument
+undo|2 back; done; at 0: add r0, 1
+redo 9|refused Q15: out of memory
+stepi|refused Q15: out of memory
+redo|refused Q15: out of memory
+set reg r0 1|refused Q15: out of memory
+redo 2|refused Q15: out of memory
+info history|0 moves, 0 commands, 0 of 65536 bytes
+",
+    ),
+    (
+        100,
+        6,
+        1,
+        "\
+stepi 2|2 forward; done; at 0: add r0, 1
+set reg r0 7|ok
+undo 2|3 back; done; at 0: add r0, 1
+redo 2|2 redone; done; at 0: add r0, 1
+reverse-stepi|1 back; done; at 1: ja L0
+redo 9|1 redone; memory; at 0: add r0, 1
+info history|2 moves, 1 commands, 23 of 65536 bytes
+",
+    ),
 ];
 
-/// A session whose keeper keeps so many entries at most.
-fn narrow_session(rt: &impl Abort, alloc: Global, most: usize) -> Session<Narrow<ListKeeper>> {
+/// A session whose keeper keeps so many entries at most, and takes so many pushes.
+fn narrow_session(
+    rt: &impl Abort,
+    alloc: Global,
+    most: usize,
+    left: usize,
+) -> Session<Narrow<ListKeeper>> {
     let keeper = match ListKeeper::open(alloc, 65_536) {
         Ok(kept) => Narrow {
             kept,
             most,
+            left,
             refusals: 0,
         },
         Err(_) => panic!(rt; "no journal"),
     };
-    Session::open(machine(rt, alloc, ENDLESS, &[]), keeper, 1_000_000)
+    let redo = ring_for(rt, alloc, &keeper);
+    Session::open(machine(rt, alloc, ENDLESS, &[]), keeper, redo, 1_000_000)
 }
 
 /// Plays the transcript of a row, and stops unless so many refusals are counted.
 fn play_row(rt: &impl Abort, alloc: Global, row: Row) {
-    let (most, refusals, transcript) = row;
-    let mut session = narrow_session(rt, alloc, most);
+    let (most, left, refusals, transcript) = row;
+    let mut session = narrow_session(rt, alloc, most, left);
     plays(rt, alloc, &mut session, transcript, 10_000);
     stop_unless(rt, session.keeper().refusals() == refusals, transcript);
 }

@@ -18,6 +18,8 @@ mod play;
 #[cfg(test)]
 mod random;
 #[cfg(test)]
+mod redo;
+#[cfg(test)]
 mod refusals;
 #[cfg(test)]
 mod rings;
@@ -27,5 +29,7 @@ mod scripts;
 mod shown;
 #[cfg(test)]
 mod stops;
+#[cfg(test)]
+mod walks;
 #[cfg(test)]
 mod ways;

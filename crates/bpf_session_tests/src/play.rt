@@ -1,36 +1,17 @@
 //! Transcripts, and sessions that they are played in. Each row of a transcript is a command and its reply, with a bar between; a further
 //! line of a reply stands behind a bar alone, and a command without a reply has no bar.
+ghost use Rattle.std.specs.Prelude.{◌≡◌, []};
+ghost use Rattle.bpf_journal.specs.Tracks.{RingHolds, ring_room};
+
 use bpf_isa::{MapTable, check};
 use bpf_journal::{Keeper, ListKeeper, RingKeeper};
 use bpf_machine::Cpu;
 use bpf_session::{Session, run};
 use bpfdb_commands::Count;
 use counted_io::Counted;
+use paced_io::Paced;
 use std::alloc::Global;
-use std::io;
-use std::io::{Error, ErrorKind, Read};
 use std::process::Abort;
-
-/// A reader that gives at most `step` bytes a read, and fails after so many bytes.
-#[derive(Drop)]
-pub struct Slow<'a> {
-    pub left: &'a [u8],
-    pub step: usize,
-    pub good: usize,
-}
-
-impl Read for Slow<'_> {
-    fn read(&mut self, buf: &mut [u8]) -> io::Result<usize> {
-        if self.good == 0 && !self.left.is_empty() {
-            return Err(Error::from(ErrorKind::Other));
-        }
-        let count = buf.len().min(self.step).min(self.good).min(self.left.len());
-        buf[..count].copy_from_slice(&self.left[..count]);
-        self.left = &self.left[count..];
-        self.good -= count;
-        Ok(count)
-    }
-}
 
 /// The machine of a program in hexadecimal digits and a context, without maps.
 pub fn machine(rt: &impl Abort, alloc: Global, program: &str, context: &[u8]) -> Cpu {
@@ -86,7 +67,10 @@ pub fn session_over(
 ) -> Session<ListKeeper> {
     let limit = Count::new(limit).expect(rt, "no limit");
     match ListKeeper::open(alloc, size) {
-        Ok(keeper) => Session::open(cpu, keeper, limit.get()),
+        Ok(keeper) => {
+            let redo = ring_for(rt, alloc, &keeper);
+            Session::open(cpu, keeper, redo, limit.get())
+        }
         Err(_) => panic!(rt; "no journal"),
     }
 }
@@ -113,16 +97,36 @@ pub fn ring_session_over(
 ) -> Session<RingKeeper> {
     let limit = Count::new(limit).expect(rt, "no limit");
     match RingKeeper::open(alloc, size) {
-        Ok(keeper) => Session::open(cpu, keeper, limit.get()),
+        Ok(keeper) => {
+            let redo = ring_for(rt, alloc, &keeper);
+            Session::open(cpu, keeper, redo, limit.get())
+        }
         Err(_) => panic!(rt; "no journal"),
     }
 }
 
 /// The session that closing one and opening another over what it gave makes.
-pub fn reopened<K: Keeper>(rt: &impl Abort, session: Session<K>, limit: u64) -> Session<K> {
+pub fn reopened<K: Keeper>(
+    rt: &impl Abort,
+    alloc: Global,
+    session: Session<K>,
+    limit: u64,
+) -> Session<K> {
     let limit = Count::new(limit).expect(rt, "no limit");
     let (cpu, keeper) = session.close();
-    Session::open(cpu, keeper, limit.get())
+    let redo = ring_for(rt, alloc, &keeper);
+    Session::open(cpu, keeper, redo, limit.get())
+}
+
+/// An empty ring for the moves that will be taken back from a keeper.
+pub fn ring_for<K: Keeper>(rt: &impl Abort, alloc: Global, keeper: &K) -> RingKeeper
+    ensures empty { RingHolds result [] }
+    ensures size { ring_room result ≡ K.room keeper.now }
+{
+    match RingKeeper::open(alloc, keeper.capacity()) {
+        Ok(ring) => ring,
+        Err(_) => panic!(rt; "no ring"),
+    }
 }
 
 /// What a script prints that comes in pieces of `step` bytes.
@@ -134,11 +138,7 @@ pub fn printed<K: Keeper>(
     step: usize,
 ) -> Vec<u8> {
     let mut printed = Vec::new(alloc);
-    let mut reader = Counted::new(Slow {
-        left: script,
-        step,
-        good: script.len(),
-    });
+    let mut reader = Counted::new(Paced::new(script, step));
     let mut writer = Counted::new(&mut printed);
     assert!(rt; run(session, &mut reader, &mut writer).is_ok());
     printed

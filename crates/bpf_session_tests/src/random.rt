@@ -33,10 +33,11 @@ impl Random {
 
 /// A command.
 fn command(alloc: Global, random: &mut Random) -> Result<String, AllocError> {
-    match random.below(4) {
+    match random.below(7) {
         0 => edit(alloc, random),
-        1 => back(alloc, random),
-        2 => shown(alloc, random),
+        1 | 2 => back(alloc, random),
+        3 => format!(in alloc; "redo {}", random.up_to(12)),
+        4 => shown(alloc, random),
         _ => forward(alloc, random),
     }
 }
@@ -119,7 +120,7 @@ fn script(rt: &impl Abort, alloc: Global, random: &mut Random, commands: usize) 
 }
 
 /// A loop whose steps make each kind of entry. A store to where r8 is goes wrong at first; at slot 24 it exits, once r9 is 5.
-const LOOP: &str = "\
+pub const LOOP: &str = "\
 0700000001000000bf060000000000007b0af8ff00000000636af4ff000000006b0af2ff00000000730af1ff00000000\
 7a0af8fe07000000db6af8ff01000000c36af4ff00000000851000000f00000045000100070000006308000000000000\
 bfa200000000000007020000e8ffffff620ae8ff0100000018510000000000000000000000000000bfa3000000000000\
@@ -127,7 +128,7 @@ bfa200000000000007020000e8ffffff620ae8ff0100000018510000000000000000000000000000
 9500000000000000b707000003000000737affff000000009500000000000000";
 
 /// The context.
-const CONTEXT: [u8; 8] = [1, 2, 3, 4, 5, 6, 7, 8];
+pub const CONTEXT: [u8; 8] = [1, 2, 3, 4, 5, 6, 7, 8];
 
 /// The most steps of a command.
 const LIMIT: u64 = 100;
@@ -152,8 +153,8 @@ fn check_scripts(
         let wanted = printed(rt, alloc, &mut list, lines.as_bytes(), 1_024);
         let found = printed(rt, alloc, &mut ring, lines.as_bytes(), 1_024);
         check_bytes(rt, &found, &wanted, &lines);
-        list = reopened(rt, list, LIMIT);
-        ring = passed_on(rt, ring, LIMIT);
+        list = reopened(rt, alloc, list, LIMIT);
+        ring = passed_on(rt, alloc, ring, LIMIT);
     }
 }
 

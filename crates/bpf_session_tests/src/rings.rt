@@ -1,7 +1,9 @@
 //! The bytes of rings, and rings that are taken out of a session and put back.
 ghost use Rattle.bpf_journal.specs.Histories.{HasHistory};
 
-use crate::play::{check_bytes, command_of, commands_of, plays, printed, replies_of, ring_session};
+use crate::play::{
+    check_bytes, command_of, commands_of, plays, printed, replies_of, ring_for, ring_session,
+};
 use crate::scripts::{Row, WITHOUT_BREAKPOINTS};
 use bpf_journal::{Keeper, RingKeeper};
 use bpf_machine::Cpu;
@@ -70,11 +72,17 @@ fn put_back(cpu: &Cpu, keeper: RingKeeper) -> RingKeeper
 }
 
 /// A session over the machine and the ring of another one.
-pub fn passed_on(rt: &impl Abort, session: Session<RingKeeper>, limit: u64) -> Session<RingKeeper> {
+pub fn passed_on(
+    rt: &impl Abort,
+    alloc: Global,
+    session: Session<RingKeeper>,
+    limit: u64,
+) -> Session<RingKeeper> {
     let limit = Count::new(limit).expect(rt, "no limit");
     let (cpu, keeper) = session.close();
     let keeper = put_back(&cpu, keeper);
-    Session::open(cpu, keeper, limit.get())
+    let redo = ring_for(rt, alloc, &keeper);
+    Session::open(cpu, keeper, redo, limit.get())
 }
 
 /// Plays a row, and passes the ring on after each command.
@@ -88,7 +96,7 @@ fn plays_in_turns(rt: &impl Abort, alloc: Global, row: &Row) {
             let script = commands_of(rt, alloc, line);
             let reply = printed(rt, alloc, &mut session, &script, 1_024);
             told.extend_from_slice(&reply).expect(rt, "no memory");
-            session = passed_on(rt, session, limit);
+            session = passed_on(rt, alloc, session, limit);
         }
     }
     check_bytes(rt, &told, &replies_of(rt, alloc, transcript), transcript);
@@ -130,7 +138,8 @@ fn a_ring_goes_on(rt: HostRuntime) {
     let (cpu, keeper) = session.close();
     check_bytes(&rt, &oldest(&rt, alloc, &keeper, 7), &DROPPED, ENDLESS);
     let keeper = put_back(&cpu, keeper);
-    let mut session = Session::open(cpu, keeper, 1_000_000);
+    let redo = ring_for(&rt, alloc, &keeper);
+    let mut session = Session::open(cpu, keeper, redo, 1_000_000);
     plays(&rt, alloc, &mut session, GOES_ON, 7);
 }
 

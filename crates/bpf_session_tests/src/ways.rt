@@ -176,7 +176,7 @@ fn told_in_turn(
     let mut told = Vec::new(alloc);
     for row in transcript.lines() {
         append_told(rt, alloc, &mut session, &mut told, row);
-        session = reopened(rt, session, limit);
+        session = reopened(rt, alloc, session, limit);
     }
     told
 }

@@ -2,6 +2,7 @@
 ghost use Rattle.std.specs.Prelude.{◌≡◌, ◌≤◌, List, Ok, if◌then◌else◌, ◌==◌};
 ghost use Rattle.bpf_machine.specs.State.{State, depth};
 ghost use Rattle.bpf_journal.specs.Histories.{Record};
+ghost use Rattle.bpf_journal.specs.Tracks.{Track};
 ghost use Rattle.bpf_journal.specs.TakingBack.{taken_of};
 ghost use Rattle.bpf_session.specs.Backward.{back, passes, to_latest};
 ghost use Rattle.bpf_session.specs.Outcomes.{unless_refused};
@@ -131,7 +132,7 @@ impl<K: Keeper> Session<K> {
     /// are fewer.
     fn back_to(&mut self, target: Target, count: u64) -> Found
         requires { 1 ≤ count }
-        ensures back { (h : List Record) → HasPast K.holds self.old h → GoesBackTo K.holds (passes target (point_of self.old h)) count h self.old self.new result }
+        ensures back { (h : Track) → HasPast K.holds self.old h → GoesBackTo K.holds (passes target (point_of self.old h)) count h self.old self.new result }
         ensures refused { K.refused self.new.moment.keeper ≡ K.refused self.old.moment.keeper }
         ensures bounds { bounds_of K.room self.new ≡ bounds_of K.room self.old }
     {
@@ -168,7 +169,7 @@ impl<K: Keeper> Session<K> {
     /// state before it is the present one: one or none. It had changed a watched byte or not.
     fn hits(&self, target: &Target, start: usize, taken: Taken, differs: bool) -> u64
         ensures fits { result ≤ 1 }
-        ensures value { (first y : State) (h : List Record) (r : Record) → start ≡ depth first → taken ≡ taken_of r → self.now.moment.state ≡ r.before →
+        ensures value { (first y : State) (h : Track) (r : Record) → start ≡ depth first → taken ≡ taken_of r → self.now.moment.state ≡ r.before →
             differs ≡ some_differs self.now.watches r.before y →
             result ≡ (if passes target.now (record (point_of self.now h) { state = first }) r y then 1 else 0) }
     {

@@ -2,7 +2,7 @@
 ghost use Rattle.std.specs.Prelude.{◌≡◌, ◌≤◌, List, Ok, Err, if◌then◌else◌, ◌==◌};
 ghost use Rattle.bpf_machine.specs.State.{State, depth as depth_of};
 ghost use Rattle.bpf_entries.specs.Status.{has_ended};
-ghost use Rattle.bpf_journal.specs.Histories.{Record};
+ghost use Rattle.bpf_journal.specs.Tracks.{Track};
 ghost use Rattle.bpf_session.specs.Forward.{forward, is_done, stop_in};
 ghost use Rattle.bpf_session.specs.Outcomes.{unless_refused};
 ghost use Rattle.bpf_session.specs.Refused.{refusals_of, when};
@@ -71,7 +71,7 @@ impl<K: Keeper> Session<K> {
 
     /// Why a command that began at a depth stops after so many steps, if it does. The last one changed a watched byte or not.
     fn stop(&self, goal: &Goal, start: usize, taken: u64, differs: bool) -> Option<Why>
-        ensures { (first x : State) (h : List Record) → start ≡ depth_of first → differs ≡ some_differs self.now.watches x self.now.moment.state →
+        ensures { (first x : State) (h : Track) → start ≡ depth_of first → differs ≡ some_differs self.now.watches x self.now.moment.state →
             result ≡ stop_in self.now.limit goal.now (record (point_of self.now h) { state = first }) taken x self.now.moment.state }
     {
         if self.cpu().status().has_ended() {

@@ -1,6 +1,6 @@
 //! What is printed for a reply.
 ghost use Rattle.std.specs.Prelude.{List, length};
-ghost use Rattle.bpf_journal.specs.Histories.{Record};
+ghost use Rattle.bpf_journal.specs.Tracks.{Track};
 ghost use Rattle.bpf_journal.specs.Lookups.{last_change};
 ghost use Rattle.counted_io.specs.Writing.{Writes, WritesAfter};
 ghost use Rattle.bpf_session.specs.Replies.{IsInSight, IsThere, text_of_last, text_of_reply, text_of_view};
@@ -27,7 +27,7 @@ impl<K: Keeper> Session<K> {
         writer: &mut Counted<W>,
     ) -> Result<(), WriteFault>
         requires there { IsThere reply.now self.now.moment.state }
-        ensures { (h : List Record) → HasPast K.holds self.now h → Writes W.contents writer.old writer.new result
+        ensures { (h : Track) → HasPast K.holds self.now h → Writes W.contents writer.old writer.new result
             (text_of_reply (bounds_of K.room self.now) reply.now (point_of self.now h)) }
     {
         self.put_reply(writer, Ok(()), reply)
@@ -42,7 +42,7 @@ impl<K: Keeper> Session<K> {
         reply: &Reply,
     ) -> Result<(), WriteFault>
         requires there { IsThere reply.now self.now.moment.state }
-        ensures { (h : List Record) → HasPast K.holds self.now h → WritesAfter W.contents writer.old so_far writer.new result
+        ensures { (h : Track) → HasPast K.holds self.now h → WritesAfter W.contents writer.old so_far writer.new result
             (text_of_reply (bounds_of K.room self.now) reply.now (point_of self.now h)) }
     {
         let cpu = self.cpu();
@@ -51,6 +51,7 @@ impl<K: Keeper> Session<K> {
                 put_move(writer, so_far, steps, b" forward; ", why, cpu)
             }
             Reply::Back { moves, why } => put_move(writer, so_far, moves, b" back; ", why, cpu),
+            Reply::Redone { moves, why } => put_move(writer, so_far, moves, b" redone; ", why, cpu),
             Reply::Ok => put(writer, so_far, b"ok\n"),
             Reply::Shown(view) => self.put_view(writer, so_far, view),
             Reply::Nothing => so_far,
@@ -66,7 +67,7 @@ impl<K: Keeper> Session<K> {
         view: View,
     ) -> Result<(), WriteFault>
         requires there { IsInSight view self.now.moment.state }
-        ensures { (h : List Record) → HasPast K.holds self.now h → WritesAfter W.contents writer.old so_far writer.new result
+        ensures { (h : Track) → HasPast K.holds self.now h → WritesAfter W.contents writer.old so_far writer.new result
             (text_of_view (bounds_of K.room self.now) view (point_of self.now h)) }
     {
         let cpu = self.cpu();
@@ -103,8 +104,8 @@ impl<K: Keeper> Session<K> {
         so_far: Result<(), WriteFault>,
         address: u64,
     ) -> Result<(), WriteFault>
-        ensures { (h : List Record) → HasPast K.holds self.now h → WritesAfter W.contents writer.old so_far writer.new result
-            (text_of_last (last_change address h self.now.moment.state) (length h)) }
+        ensures { (h : Track) → HasPast K.holds self.now h → WritesAfter W.contents writer.old so_far writer.new result
+            (text_of_last (last_change address h.history self.now.moment.state) (length h.history)) }
     {
         let value = byte_at(self.cpu(), address);
         match self.timeline.last_change(address, value) {

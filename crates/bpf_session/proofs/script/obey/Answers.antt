@@ -1,7 +1,15 @@
 use Rattle.std.proofs.Common.{Ok, ap, sym, ◌∙◌}
-use Rattle.bpf_session.proofs.Obeying.{obeys-command, obeys-refused}
+use Rattle.bpf_session.proofs.Obeying.{fails-once, obeys-command, obeys-refused}
 use Rattle.bpf_session.proofs.script.obey.Goals as goal
 use Rattle.bpf_session.proofs.script.obey.Goals.{in-Ok-Some+else-is_quit, in-Err}
+
+pub returns-clause-fault : goal.returns-clause-fault
+returns-clause-fault g c = elim c.match-said_by.branch [
+  | in-Ok-Some+else-is_quit w ↦
+      let st = w.apply-answer.ensures.stands c.invariant.ensures.track c.invariant.ensures.follows in
+      fails-once _ _ _ _ (rw (w.session-is, w.answer-is) at c.write_answer.ensures.value _ st.1)
+  | in-Err w ↦ fails-once _ _ _ _ (rw (w.session-is, w.answer-is) at c.write_answer.ensures.value _ c.invariant.ensures.follows)
+]
 
 pub returns-clause-value : goal.returns-clause-value
 returns-clause-value g c = λ h text past held. elim c.match-said_by.branch [

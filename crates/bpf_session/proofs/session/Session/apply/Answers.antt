@@ -9,6 +9,10 @@ pub returns-in-Back : goal.returns-in-Back
 unfolding accepted
 returns-in-Back g c = rw c.in-Back.is c.back.ensures
 
+pub returns-in-Redo : goal.returns-in-Redo
+unfolding accepted
+returns-in-Redo g c = rw c.in-Redo.is c.redo.ensures
+
 pub returns-in-Edit : goal.returns-in-Edit
 unfolding accepted
 returns-in-Edit g c = rw c.in-Edit.is c.edit.ensures

@@ -1,5 +1,6 @@
 use Rattle.std.proofs.Common.{[], refl, ap, ◌∙◌, arith}
 use Rattle.bpf_machine.specs.State.{depth}
+use Rattle.bpf_journal.specs.Tracks.{track_of}
 use Rattle.bpf_session.proofs.Backwards.{seeking_step, seeking_found, seeking_on, looked, comparing, went_for}
 use Rattle.bpf_session.specs.Sessions.{SessionValue}
 use Rattle.bpf_session.proofs.session.Session.back_to.Goals as goal
@@ -26,7 +27,7 @@ returns-then-left-eq0-clause-back g c = λ h past.
     went_for _ _ _ h _ _ _
     (seeking_found _ _ _ _ _ _ _ _ _ _ _ _ i (record { breaks = refl; watches = refl; limit = refl }) c.in-Some.ensures.back _ _
     (comparing {K = g.row.K.Denot} _ _ new _ _ _ refl (rw c.cpu-in-loop-k.ensures at c.differ-differs.ensures))
-    (looked {K = g.row.K.Denot} c.args.self.now new _ _ _ _ _ i.only.breaks i.only.watches (λ r z. c.hits-left.ensures.value c.args.self.now.moment.state z [] r began)) c.if-left-eq0.true h past (omega arith))
+    (looked {K = g.row.K.Denot} c.args.self.now new _ _ _ _ _ i.only.breaks i.only.watches (λ r z. c.hits-left.ensures.value c.args.self.now.moment.state z (track_of []) r began)) c.if-left-eq0.true h past (omega arith))
 
 pub loop-k-preserved : goal.loop-k-preserved
 loop-k-preserved g c =
@@ -35,4 +36,4 @@ loop-k-preserved g c =
     let new : SessionValue g.row.K.Denot = record { moment = c.back.new.self; breaks = c.self-in-loop-k.inside.breaks; watches = c.self-in-loop-k.inside.watches; limit = c.self-in-loop-k.inside.limit } in
     seeking_step _ _ _ _ _ _ _ _ _ _ _ _ i (record { breaks = refl; watches = refl; limit = refl }) c.in-Some.ensures.back _ _ _ c.in-Some.ensures.refused c.in-Some.ensures.room
     (comparing {K = g.row.K.Denot} _ _ new _ _ _ refl (rw c.cpu-in-loop-k.ensures at c.differ-differs.ensures)) (rw c.cpu-in-loop-k-2.ensures at c.seen_now-seen.ensures)
-    (looked {K = g.row.K.Denot} c.args.self.now new _ _ _ _ _ i.only.breaks i.only.watches (λ r z. c.hits-left.ensures.value c.args.self.now.moment.state z [] r began)) c.if-left-eq0.false
+    (looked {K = g.row.K.Denot} c.args.self.now new _ _ _ _ _ i.only.breaks i.only.watches (λ r z. c.hits-left.ensures.value c.args.self.now.moment.state z (track_of []) r began)) c.if-left-eq0.false
