@@ -5,7 +5,7 @@ use Rattle.counted_io.specs.Counted.{Tally}
 use Rattle.counted_io.specs.Writing.{Writes, WritesAfter}
 use Rattle.counted_io.proofs.Appending.{Writes-none}
 use Rattle.bpf_entries.specs.Keeping.{Kept}
-use Rattle.bpf_journal.specs.Histories.{Record}
+use Rattle.bpf_journal.specs.Tracks.{Track}
 use Rattle.bpfdb_commands.specs.declared.command.Command.{Command}
 use Rattle.bpfdb_commands.specs.declared.refusal.Refusal.{Refusal}
 use Rattle.bpf_session.specs.declared.reply.Reply.{Reply}
@@ -44,15 +44,15 @@ module _ {K : Type 0} (holds : K → List Kept → Type 0) (refusals room : K �
   -- what a command printed
   told-all : {A E : Type 0} (items : A → List ℕ) (r : Result A E) (buffer : Buffer) (new : SessionValue K) (said : Result Reply Refusal)
       → MatchResult r (λ a. Holds buffer (hex_text (items a))) (λ _. Holds buffer (error_text 16))
-      → IfOk r (λ a. (h : List Record) → HasPast holds new h → items a ≡ text_of_answer (bounds_of room new) said (point_of new h))
-      → (body : List ℕ) × Holds buffer body × ((h : List Record) → HasPast holds new h → Tells (text_of_answer (bounds_of room new) said (point_of new h)) body)
+      → IfOk r (λ a. (t : Track) → HasPast holds new t → items a ≡ text_of_answer (bounds_of room new) said (point_of new t))
+      → (body : List ℕ) × Holds buffer body × ((t : Track) → HasPast holds new t → Tells (text_of_answer (bounds_of room new) said (point_of new t)) body)
   told-all items (Ok a) buffer new said h e = (hex_text (items a), h, λ past had. inl (ap hex_text (e past had)))
   told-all items (Err fault) buffer new said h e = (error_text 16, h, λ past had. inr refl)
 
   pub told-command : {A E : Type 0} (items : A → List ℕ) (r : Result A E) (buffer : Buffer) (old new : SessionValue K) (command : Command) (quits : Bool) (said : Result Reply Refusal)
       → quits ≡ false → Obeyed holds refusals room old new command said
       → MatchResult r (λ a. Holds buffer (hex_text (items a))) (λ _. Holds buffer (error_text 16))
-      → IfOk r (λ a. (h : List Record) → HasPast holds new h → items a ≡ text_of_answer (bounds_of room new) said (point_of new h))
+      → IfOk r (λ a. (t : Track) → HasPast holds new t → items a ≡ text_of_answer (bounds_of room new) said (point_of new t))
       → (body : List ℕ) × Holds buffer body × ObeysCommand holds refusals room old new command quits body
   told-command items r buffer old new command quits said e o h texts =
       let t = told-all items r buffer new said h texts in

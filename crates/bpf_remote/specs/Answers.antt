@@ -32,6 +32,7 @@ halt_of why.End status = halt_of_status status
 halt_of why.Break status = halt.Break
 halt_of why.Watch status = halt.Step
 halt_of why.Done status = halt.Step
+halt_of why.All status = halt.Step
 halt_of why.Limit status = halt.Limit
 halt_of why.Memory status = halt.Limit
 halt_of why.Start status = halt.Begin

@@ -5,7 +5,7 @@ use Rattle.std.specs.Option.{option_map}
 use Rattle.std.specs.Result.{result_ok}
 use Rattle.hex.specs.Hex.{decode_of}
 use Rattle.bpf_entries.specs.Keeping.{Kept}
-use Rattle.bpf_journal.specs.Histories.{Record}
+use Rattle.bpf_journal.specs.Tracks.{Track}
 use Rattle.bpfdb_commands.specs.Commands.{command_of}
 use Rattle.bpfdb_commands.specs.Refusals.{refusal_text}
 use Rattle.bpfdb_commands.specs.declared.command.Command.{Command}
@@ -91,7 +91,7 @@ module _ {K : Type 0} (holds : K → List Kept → Type 0) (refusals room : K �
   abbrev pub ObeysCommand : SessionValue K → SessionValue K → Command → Bool → List ℕ → Type 0
   ObeysCommand old new command true body = (new ≡ old) × (body ≡ codes "OK")
   ObeysCommand old new command false body = (said : Result Reply Refusal) × Obeyed old new command said
-      × ((h : List Record) → HasPast holds new h → Tells (text_of_answer (bounds_of room new) said (point_of new h)) body)
+      × ((t : Track) → HasPast holds new t → Tells (text_of_answer (bounds_of room new) said (point_of new t)) body)
 
   abbrev pub ObeysLine : SessionValue K → SessionValue K → Option (Result (Option Command) Refusal) → List ℕ → Type 0
   ObeysLine old new None body = (new ≡ old) × (body ≡ error_text 2)

@@ -76,7 +76,7 @@ fn halt_of(why: Why, status: Status) -> Halt
     match why {
         Why::End => halt_of_status(status),
         Why::Break => Halt::Break,
-        Why::Watch | Why::Done => Halt::Step,
+        Why::Watch | Why::Done | Why::All => Halt::Step,
         Why::Limit | Why::Memory => Halt::Limit,
         Why::Start => Halt::Begin,
     }

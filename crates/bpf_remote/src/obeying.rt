@@ -1,6 +1,6 @@
 //! Requests and lines, obeyed by a session.
 ghost use Rattle.std.specs.Prelude.{◌≡◌, ◌≤◌, ◌⊎◌, [], List, IfOk, MatchResult, length, ℕ};
-ghost use Rattle.bpf_journal.specs.Histories.{Record};
+ghost use Rattle.bpf_journal.specs.Tracks.{Track};
 ghost use Rattle.bpfdb_commands.specs.Refusals.{refusal_text};
 ghost use Rattle.bpf_session.specs.Output.{is_quit};
 ghost use Rattle.bpf_session.specs.Replies.{IsThere, text_of_answer};
@@ -165,8 +165,8 @@ fn answer_text<K: Keeper>(
     said: &Result<Reply, Refusal>,
 ) -> Result<Text, WriteFault>
     requires there { IfOk said.now (λ reply. IsThere reply session.now.moment.state) }
-    ensures { IfOk result (λ text. (h : List Record) → HasPast K.holds session.now h →
-        text.items ≡ text_of_answer (bounds_of K.room session.now) said.now (point_of session.now h)) }
+    ensures { IfOk result (λ text. (t : Track) → HasPast K.holds session.now t →
+        text.items ≡ text_of_answer (bounds_of K.room session.now) said.now (point_of session.now t)) }
 {
     let reply = match said {
         Ok(reply) => reply,

@@ -20,9 +20,9 @@ fn machine(rt: &impl Abort, alloc: Global, program: &str) -> Cpu {
 /// A session over a machine, with an empty journal and a limit of steps.
 fn session_over(rt: &impl Abort, alloc: Global, cpu: Cpu, limit: u64) -> Session<RingKeeper> {
     let limit = Count::new(limit).expect(rt, "no limit");
-    match RingKeeper::open(alloc, 4096) {
-        Ok(keeper) => Session::open(cpu, keeper, limit.get()),
-        Err(_) => panic!(rt; "no journal"),
+    match (RingKeeper::open(alloc, 4096), RingKeeper::open(alloc, 4096)) {
+        (Ok(keeper), Ok(redo)) => Session::open(cpu, keeper, redo, limit.get()),
+        _ => panic!(rt; "no journal"),
     }
 }
 

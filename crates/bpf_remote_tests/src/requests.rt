@@ -86,6 +86,10 @@ const LINES: &str = "> stepi|1 forward; done; at 1: exit
 > quit|OK
 > stepi 2|2 forward; end; exited at 1: r0 0x2a
 > undo|2 back; done; at 0: mov r0, 42
+> redo|1 redone; done; at 1: exit
+> redo 7|1 redone; all; exited at 1: r0 0x2a
+> redo|refused Q13: nothing to redo
+> undo|2 back; done; at 0: mov r0, 42
 > break 1|ok
 qRcmd,|OK
 qRcmd,7|E02
