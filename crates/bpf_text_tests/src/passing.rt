@@ -1,29 +1,9 @@
 //! What a counted reader or writer passes on: no contract says that it does.
 use counted_io::{Counted, read_byte, write_text};
+use paced_io::Paced;
 use std::io;
 use std::io::{Error, ErrorKind, Read, Write};
 use std::test::Fail;
-
-// A writer that takes `step` bytes a write, and no more than `room` in all.
-#[derive(Drop)]
-struct Narrow {
-    taken: Vec<u8>,
-    step: usize,
-    room: usize,
-}
-
-impl Write for Narrow {
-    fn write(&mut self, piece: &[u8]) -> io::Result<usize> {
-        let count = piece.len().min(self.step).min(self.room);
-        self.taken.extend_from_slice(&piece[..count])?;
-        self.room -= count;
-        Ok(count)
-    }
-
-    fn flush(&mut self) -> io::Result<()> {
-        Err(Error::from(ErrorKind::Other))
-    }
-}
 
 // A writer that fails at its first write and its first flush, and then at each second one.
 #[derive(Drop)]
@@ -73,23 +53,26 @@ impl Read for Tenth {
     }
 }
 
+// A text in pieces of so many bytes, whose write of this number takes nothing: what is taken, how many failures are counted, and how
+// many calls there are. None of them is a flush.
 #[test]
 fn writes_in_short_pieces(rt: HostRuntime) -> Result<(), Fail> {
-    for (step, room, taken, failures) in [(2, 9, "abcde", 0), (5, 3, "abc", 1), (0, 9, "", 1)] {
-        let mut narrow = Narrow {
-            taken: Vec::new(rt.alloc()),
-            step,
-            room,
-        };
-        let mut writer = Counted::new(&mut narrow);
+    for (step, number, taken, failures, calls) in [
+        (2, 0, "abcde", 0, 3),
+        (3, 2, "abc", 1, 2),
+        (5, 1, "", 1, 1),
+    ] {
+        let mut paced = Paced::refusing(Vec::new(rt.alloc()), step, number);
+        let mut writer = Counted::new(&mut paced);
         let is_written = write_text(&mut writer, b"abcde").is_ok();
         let counted = writer.failures();
-        assert_eq!(rt; is_written, failures == 0, "{step} a write, {room} in all");
-        assert_eq!(rt; counted, failures, "{step} a write, {room} in all");
+        assert_eq!(rt; is_written, failures == 0, "pieces of {step}");
+        assert_eq!(rt; counted, failures, "pieces of {step}");
+        assert_eq!(rt; paced.calls(), calls, "pieces of {step}");
         assert_eq!(rt;
-            narrow.taken.as_slice(),
+            paced.into_inner().as_slice(),
             taken.as_bytes(),
-            "{step} a write, {room} in all"
+            "pieces of {step}"
         );
     }
     Ok(())
