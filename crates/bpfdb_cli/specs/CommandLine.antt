@@ -1,4 +1,4 @@
--- The command line as `clap` is told of it: six subcommands, the options of each, and FILE.
+-- The command line as `clap` is told of it: seven subcommands, the options of each, and FILE.
 use Rattle.std.specs.Prelude.{[], ◌∷◌, Some, true, codes}
 use Rattle.clap.specs.Words.{App, Rule, new_app, new_rule, with_rule, with_subcommand}
 use Rattle.clap.specs.declared.builder.action.ArgAction.TheVariants.{SetTrue}
@@ -64,10 +64,18 @@ check_app = with_rule (with_rule (with_rule (new_app (codes "check")) maps_rule)
 abbrev pub link_app : App
 link_app = with_rule (with_rule (new_app (codes "link")) section_rule) file_rule
 
--- The command without its subcommands: it can't stand without one.
-abbrev pub bare_app : App
-bare_app = record (new_app (codes "bpfdb")) { top = record (new_app (codes "bpfdb")).top { subcommand_required = true } }
+abbrev pub gdb_app : App
+gdb_app = with_rule (with_rule (with_rule (with_rule (with_rule (with_rule (new_app (codes "gdb"))
+    mem_rule) maps_rule) journal_rule) steps_rule) listing_rule) file_rule
 
-abbrev pub command_app : App
-command_app = with_subcommand (with_subcommand (with_subcommand (with_subcommand (with_subcommand (with_subcommand bare_app
-    run_app.top) debug_app.top) asm_app.top) disasm_app.top) check_app.top) link_app.top
+-- The command without its subcommands: it can't stand without one, and it tells its version.
+abbrev pub bare_app : App
+bare_app = record (new_app (codes "bpfdb")) { top = record (new_app (codes "bpfdb")).top { subcommand_required = true; has_version = true } }
+
+-- The command with the subcommands that run a program, and then with all.
+unfoldable pub running_app : App
+running_app = with_subcommand (with_subcommand (with_subcommand bare_app run_app.top) debug_app.top) gdb_app.top
+
+unfoldable pub command_app : App
+command_app = with_subcommand (with_subcommand (with_subcommand (with_subcommand running_app
+    asm_app.top) disasm_app.top) check_app.top) link_app.top

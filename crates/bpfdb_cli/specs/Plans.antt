@@ -1,9 +1,10 @@
 -- What a plan says, by what `clap`'s exact matches give for the words.
-use Rattle.std.specs.Prelude.{◌≡◌, ◌<◌, ◌^◌, ℕ, Bool, false, List, Option, Some, None, option_map, codes}
+use Rattle.std.specs.Prelude.{◌≡◌, ◌⊎◌, ◌<◌, ◌^◌, ℕ, Bool, false, List, Option, Some, None, option_map, codes}
 use Rattle.std.specs.Option.{option_map_or}
 use Rattle.std.specs.Str.{bytes_eq}
 use Rattle.std.specs.Str.Parse.{IsNumeral, digits_value, without_leading_plus}
-use Rattle.clap.specs.Words.{Row, Text, first_of, kind_of, subcommand_of}
+use Rattle.clap.specs.Words.{IsAmong, Row, Text, fault_of, first_of, kind_of, subcommand_of}
+use Rattle.clap.specs.declared.error.Error.{Error}
 use Rattle.clap.specs.declared.error.kind.ErrorKind.{ErrorKind}
 use Rattle.clap.specs.declared.error.kind.ErrorKind.TheVariants as kind
 use Rattle.bpfdb_cli.specs.CommandLine.{command_app}
@@ -22,6 +23,7 @@ subcommand_name subcommand.Asm = codes "asm"
 subcommand_name subcommand.Disasm = codes "disasm"
 subcommand_name subcommand.Check = codes "check"
 subcommand_name subcommand.Link = codes "link"
+subcommand_name subcommand.Gdb = codes "gdb"
 
 -- The number of an option, the default where the option has no text.
 abbrev pub number_or : ℕ → Option Text → ℕ
@@ -62,9 +64,30 @@ pub record IsPlan (words : List Text) (plan : Plan) : Type 0 where
   pub met : subcommand_of command_app words ≡ Some (name, rows)
   pub says : Says name rows plan
 
+-- No plan says what the words say.
+abbrev pub HasNoPlan : List Text → Type 0
+HasNoPlan words = (name : Text) (rows : List Row) (plan : Plan) → subcommand_of command_app words ≡ Some (name, rows) → IsPlanOf name rows plan → ⊥
+
+-- Why words are no plan. What is told of them has a kind that `clap` gives for these words, so help and the version are shown only where they
+-- ask for them; or a number is out of its range. Want of memory may come with any words.
+abbrev pub IsFaultOf : List Text → PlanFault → Type 0
+IsFaultOf words Memory = Unit {0}
+IsFaultOf words (Usage fault) = IsAmong (kind_of fault) (fault_of command_app words) ⊎ ((kind_of fault ≡ kind.ValueValidation) × HasNoPlan words)
+
+-- What is told of an error of `clap`: want of memory where it is that, and else the error.
+abbrev pub Tells : Error → PlanFault → Type 0
+Tells error Memory = kind_of error ≡ kind.OutOfMemory
+Tells error (Usage told) = (told ≡ error) × (kind_of error ≡ kind.OutOfMemory → ⊥)
+
+-- A fault that is told, other than want of memory, has this kind.
+abbrev pub HasKindIfTold : ErrorKind → PlanFault → Type 0
+HasKindIfTold expected Memory = Unit {0}
+HasKindIfTold expected (Usage fault) = kind_of fault ≡ expected
+
 -- The exit status of a fault.
 abbrev pub status_of_kind : ErrorKind → ℕ
 status_of_kind kind.DisplayHelp = 0
+status_of_kind kind.DisplayVersion = 0
 status_of_kind _ = 2
 
 abbrev pub status_of : PlanFault → ℕ

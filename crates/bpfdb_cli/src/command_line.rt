@@ -1,7 +1,7 @@
 //! The command line, as `clap` is told of it.
 ghost use Rattle.std.specs.Prelude.{◌≡◌, IfOk, false};
 ghost use Rattle.clap.specs.Words.{app_of, rule_of, with_subcommand};
-ghost use Rattle.bpfdb_cli.specs.CommandLine.{asm_app, bare_app, check_app, command_app, debug_app, disasm_app, file_rule, journal_rule, link_app, listing_rule, maps_rule, mem_rule, run_app, section_rule, steps_rule};
+ghost use Rattle.bpfdb_cli.specs.CommandLine.{asm_app, bare_app, check_app, command_app, debug_app, disasm_app, file_rule, gdb_app, journal_rule, link_app, listing_rule, maps_rule, mem_rule, run_app, running_app, section_rule, steps_rule};
 
 use crate::help;
 use bpfdb_limits::GREATEST_COUNT;
@@ -128,6 +128,23 @@ fn with_debug<'a>(alloc: Global, above: Command<'a>) -> Result<Command<'a>, Allo
     above.subcommand(command)
 }
 
+/// A command and its subcommand `gdb`.
+fn with_gdb<'a>(alloc: Global, above: Command<'a>) -> Result<Command<'a>, AllocError>
+    ensures { IfOk result (λ command. app_of command ≡ with_subcommand (app_of above.entry) gdb_app.top) }
+{
+    let command = Command::new(alloc, "gdb")
+        .about(help::GDB)
+        .long_about(help::GDB_LONG)
+        .after_help(help::GDB_EXAMPLE)
+        .arg(mem_option(alloc))?
+        .arg(maps_option(alloc))?
+        .arg(journal_option(alloc))?
+        .arg(steps_option(alloc))?
+        .arg(listing_option(alloc))?
+        .arg(file_argument(alloc, help::PROGRAM))?;
+    above.subcommand(command)
+}
+
 /// A command and its subcommand `asm`.
 fn with_asm<'a>(alloc: Global, above: Command<'a>) -> Result<Command<'a>, AllocError>
     ensures { IfOk result (λ command. app_of command ≡ with_subcommand (app_of above.entry) asm_app.top) }
@@ -190,16 +207,27 @@ fn bare_command<'a>(alloc: Global) -> Result<Command<'a>, AllocError>
         .long_about(help::BPFDB_LONG)
         .after_help(help::BPFDB_EXAMPLE)
         .subcommand_required(true)
+        .version(help::VERSION)
         .bin_name("bpfdb")
 }
 
-/// The whole command line.
-pub fn command_line<'a>(alloc: Global) -> Result<Command<'a>, AllocError>
-    ensures { IfOk result (λ command. app_of command ≡ command_app) }
+/// The command with the subcommands that run a program.
+#[tactic(auto, unfolding(crate::specs::CommandLine::running_app))]
+fn running_commands<'a>(alloc: Global) -> Result<Command<'a>, AllocError>
+    ensures { IfOk result (λ command. app_of command ≡ running_app) }
 {
     let command = bare_command(alloc)?;
     let command = with_run(alloc, command)?;
     let command = with_debug(alloc, command)?;
+    with_gdb(alloc, command)
+}
+
+/// The whole command line.
+#[tactic(auto, unfolding(crate::specs::CommandLine::command_app))]
+pub fn command_line<'a>(alloc: Global) -> Result<Command<'a>, AllocError>
+    ensures { IfOk result (λ command. app_of command ≡ command_app) }
+{
+    let command = running_commands(alloc)?;
     let command = with_asm(alloc, command)?;
     let command = with_disasm(alloc, command)?;
     let command = with_check(alloc, command)?;

@@ -1,5 +1,8 @@
 //! The texts of help. `clap` adds the usage line, the lists of commands and options, and the defaults; it doesn't wrap lines.
 
+/// The version, and the toolchain that proved it.
+pub const VERSION: &str = "0.9.0 (rattle-kit-13b logic dac8208d650f15bf)";
+
 /// What bpfdb is.
 pub const BPFDB: &str = "Runs BPF programs (RFC 9669) forwards and backwards";
 
@@ -48,9 +51,9 @@ pub const DEBUG_LONG: &str = "Obeys commands from standard input, forwards and b
 
 Reads FILE, the context, and from standard input a script, a command a line:
 stepi, nexti, continue, finish; undo, reverse-stepi, reverse-nexti, reverse-continue,
-reverse-finish; set, break, delete, watch, unwatch; info, x, disas, last-write; quit.
-Writes the reply to each to standard output. What is refused changes nothing, and the
-session goes on; the exit status is 0 then too, and where the program faulted. The
+reverse-finish; redo; set, break, delete, watch, unwatch; info, x, disas, last-write;
+quit. Writes the reply to each to standard output. What is refused changes nothing, and
+the session goes on; the exit status is 0 then too, and where the program faulted. The
 manual, docs/COMMANDS.md, has them all.";
 
 pub const DEBUG_EXAMPLE: &str = "Example:
@@ -110,6 +113,19 @@ pub const LINK_EXAMPLE: &str = "Example:
   $ clang -O2 -target bpf -c count.c
   $ bpfdb link count.o > count.bin";
 
+pub const GDB: &str = "Serves gdb's remote protocol, forwards and backwards";
+
+pub const GDB_LONG: &str = "Serves gdb's remote protocol, forwards and backwards.
+
+Reads FILE, the context, and from standard input what gdb sends. Writes the answers to
+standard output. A session is opened as by debug: `s` and `c` are its stepi and continue,
+`bs` and `bc` its reverse-stepi and reverse-continue, and gdb's monitor obeys a line of a
+script. The registers are r0 to r10 and pc, which is 8 times the slot.";
+
+pub const GDB_EXAMPLE: &str = "Example, in a gdb that is built for BPF:
+  (gdb) target remote | bpfdb gdb count.bin
+  (gdb) monitor break 1";
+
 /// `-m`, `--mem`.
 pub const MEM: &str = "File with the context, 0 to 65536 bytes at r1; none without it";
 
@@ -131,7 +147,8 @@ pub const JOURNAL: &str = "Bytes for moves that can be taken back, 1024 to 16777
 
 pub const JOURNAL_LONG: &str =
     "Size of the journal of moves that can be taken back, in bytes, 1024 to 16777216. Most
-steps take 7 or 16 of them. When it is full the oldest moves go.
+steps take 7 or 16 of them. When it is full the oldest moves go. As many bytes again are
+taken for redo.
 Example: --journal 1048576";
 
 /// `--steps`.

@@ -1,9 +1,9 @@
 //! From the words of a command line to a plan.
-ghost use Rattle.std.specs.Prelude.{◌≡◌, ◌<◌, ◌^◌, IfNone, IfOk, IfSome, MatchOption, Some, List, map, option_map};
+ghost use Rattle.std.specs.Prelude.{◌≡◌, ◌<◌, ◌^◌, IfErr, IfNone, IfOk, IfSome, MatchOption, Some, List, map, option_map};
 ghost use Rattle.std.specs.Str.Parse.{IsNumeral, digits_value, without_leading_plus};
 ghost use Rattle.clap.specs.Words.{Row, Text, first_of, found_of, rows_of, subcommand_rows_of};
 ghost use Rattle.bpfdb_limits.specs.Limits.{IsLimit};
-ghost use Rattle.bpfdb_cli.specs.Plans.{IsPlan, IsPlanOf, Says, is_given, subcommand_name, number_or};
+ghost use Rattle.bpfdb_cli.specs.Plans.{HasKindIfTold, IsFaultOf, IsPlan, IsPlanOf, Says, Tells, is_given, subcommand_name, number_or};
 
 use crate::command_line::command_line;
 use crate::plans::{Plan, PlanFault, Subcommand};
@@ -19,6 +19,7 @@ const BAD_NUMBER: &str = "a number is out of its range";
 pub fn plan<'a>(alloc: Global, words: &'a [&'a str]) -> Result<Plan<'a>, PlanFault>
     ensures value { IfOk result (IsPlan (map (λ word. word.now) words.now)) }
     ensures limit { IfOk result (λ plan. IsLimit plan.limit) }
+    ensures fault { IfErr result (IsFaultOf (map (λ word. word.now) words.now)) }
 {
     let mut command = match command_line(alloc) {
         Ok(command) => command,
@@ -26,7 +27,7 @@ pub fn plan<'a>(alloc: Global, words: &'a [&'a str]) -> Result<Plan<'a>, PlanFau
     };
     let matches = match command.try_get_matches_from_mut(words) {
         Ok(matches) => matches,
-        Err(error) => return Err(fault_of(error)),
+        Err(error) => return Err(told_by(error)),
     };
     match plan_of(&matches) {
         Some(plan) => Ok(plan),
@@ -34,8 +35,10 @@ pub fn plan<'a>(alloc: Global, words: &'a [&'a str]) -> Result<Plan<'a>, PlanFau
     }
 }
 
-/// The fault that `clap` answers.
-fn fault_of(error: Error) -> PlanFault {
+/// What is told of an error of `clap`.
+fn told_by(error: Error) -> PlanFault
+    ensures { Tells error result }
+{
     match error.kind() {
         ErrorKind::OutOfMemory => PlanFault::Memory,
         _ => PlanFault::Usage(error),
@@ -43,7 +46,9 @@ fn fault_of(error: Error) -> PlanFault {
 }
 
 /// The fault of a number that is out of its range.
-fn bad_number(command: &mut Command<'_>) -> PlanFault {
+fn bad_number(command: &mut Command<'_>) -> PlanFault
+    ensures { HasKindIfTold ErrorKind.ValueValidation result }
+{
     match command.error(ErrorKind::ValueValidation, BAD_NUMBER) {
         Ok(error) => PlanFault::Usage(error),
         Err(_) => PlanFault::Memory,
@@ -113,6 +118,7 @@ fn subcommand_named(name: &str) -> Option<Subcommand>
         "disasm" => Some(Subcommand::Disasm),
         "check" => Some(Subcommand::Check),
         "link" => Some(Subcommand::Link),
+        "gdb" => Some(Subcommand::Gdb),
         _ => None,
     }
 }

@@ -12,6 +12,8 @@ pub enum Subcommand {
     Run,
     /// Commands are obeyed.
     Debug,
+    /// gdb is served.
+    Gdb,
     /// A listing is assembled.
     Asm,
     /// A program is written as a listing.
@@ -45,14 +47,14 @@ pub struct Plan<'a> {
 /// Why a command line is no plan.
 #[derive(Drop)]
 pub enum PlanFault {
-    /// It asks for help, or isn't one of bpfdb's: the answer, in `clap`'s words.
+    /// It asks for help or the version, or isn't one of bpfdb's: the answer, in `clap`'s words.
     Usage(Error),
     /// Memory ran out.
     Memory,
 }
 
 impl PlanFault {
-    /// The exit status: 0 where help was asked for, else 2.
+    /// The exit status: 0 where help or the version was asked for, else 2.
     pub fn status(&self) -> u8
         ensures { result ≡ status_of self.now }
     {
@@ -60,6 +62,7 @@ impl PlanFault {
             PlanFault::Memory => 2,
             PlanFault::Usage(error) => match error.kind() {
                 ErrorKind::DisplayHelp => 0,
+                ErrorKind::DisplayVersion => 0,
                 _ => 2,
             },
         }
