@@ -1,3 +1,4 @@
+pub mod Connections
 pub mod Endings
 pub mod Faults
 pub mod Jobs

@@ -1,4 +1,4 @@
--- Scaffolding: a session that was just opened for a job.
+-- A session that was just opened for a job.
 use Rattle.std.specs.Prelude.{ℕ, List}
 use Rattle.bpf_isa.specs.Programs.{Checked}
 use Rattle.bpf_entries.specs.Keeping.{IsSize, Kept}

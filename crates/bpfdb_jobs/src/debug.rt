@@ -16,6 +16,7 @@ use std::alloc::Global;
 use std::io::{Read, Write};
 
 /// Obeys the script from the reader and writes the replies. The journal takes its memory before the first line is read.
+#[inline(never)]
 pub fn debug_job<R: Read, W: Write, E: Write>(
     alloc: Global,
     job: &Job<'_>,

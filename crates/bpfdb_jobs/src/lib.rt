@@ -2,6 +2,7 @@
 #![tactic(auto)]
 
 mod check;
+mod connection;
 mod debug;
 mod dispatch;
 mod fault;
@@ -15,6 +16,7 @@ mod refusal;
 mod report;
 mod run;
 
+pub use connection::serve_job;
 pub use dispatch::tool;
 pub use fault::JobFault;
 pub use job::{Job, JobKind};

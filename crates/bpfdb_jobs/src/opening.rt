@@ -105,8 +105,14 @@ pub fn session_of(alloc: Global, job: &Job<'_>) -> Result<Session<RingKeeper>, J
         Ok(cpu) => cpu,
         Err(refusal) => return Err(refusal),
     };
-    match RingKeeper::open(alloc, job.journal as usize) {
-        Ok(keeper) => Ok(Session::open(cpu, keeper, job.limit)),
-        Err(fault) => Err(JobRefusal::Journal(fault)),
-    }
+    let size = job.journal as usize;
+    let keeper = match RingKeeper::open(alloc, size) {
+        Ok(keeper) => keeper,
+        Err(fault) => return Err(JobRefusal::Journal(fault)),
+    };
+    let redo = match RingKeeper::open(alloc, size) {
+        Ok(redo) => redo,
+        Err(why) => return Err(JobRefusal::Journal(why)),
+    };
+    Ok(Session::open(cpu, keeper, redo, job.limit))
 }

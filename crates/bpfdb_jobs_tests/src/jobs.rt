@@ -4,9 +4,8 @@ use crate::play::{bytes_of, debugging, done, lines, words_of};
 use bpfdb_cli::{Plan, Subcommand, plan};
 use bpfdb_jobs::{Job, JobKind};
 use counted_io::Counted;
+use paced_io::Paced;
 use std::alloc::Global;
-use std::io;
-use std::io::{ErrorKind, Write};
 use std::process::Abort;
 
 // A row: the command line, what comes of it, and FILE (a listing as it stands, else in hexadecimal); an empty line between rows. What comes
@@ -87,7 +86,7 @@ fn file_of(rt: &impl Abort, alloc: Global, plan: &Plan<'_>, file: &str) -> Vec<u
 fn kind_of(subcommand: Subcommand) -> JobKind {
     match subcommand {
         Subcommand::Run => JobKind::Run,
-        Subcommand::Debug => JobKind::Debug,
+        Subcommand::Debug | Subcommand::Gdb => JobKind::Debug,
         Subcommand::Asm => JobKind::Asm,
         Subcommand::Disasm => JobKind::Disasm,
         Subcommand::Check => JobKind::Check,
@@ -179,26 +178,12 @@ fn a_context_of_65537_bytes_is_refused(rt: HostRuntime) {
     );
 }
 
-// A writer that takes nothing.
-#[derive(Drop)]
-struct Full;
-
-impl Write for Full {
-    fn write(&mut self, _buf: &[u8]) -> io::Result<usize> {
-        Err(io::Error::from(ErrorKind::StorageFull))
-    }
-
-    fn flush(&mut self) -> io::Result<()> {
-        Ok(())
-    }
-}
-
 #[test]
 fn what_standard_error_does_not_take_makes_the_status_2(rt: HostRuntime) {
     let program = bytes_of(&rt, rt.alloc(), "71a0fffd000000009500000000000000");
     let mut job = debugging(&program, &[]);
     job.kind = JobKind::Run;
-    let mut errors = Counted::new(Full);
+    let mut errors = Counted::new(Paced::refusing(Vec::new(rt.alloc()), 1, 1));
     let outcome = done(&rt, rt.alloc(), &job, b"", &mut errors);
     assert_eq!(rt; outcome.status, 2);
 }

@@ -8,6 +8,7 @@ use std::process::Abort;
 const PLANS: &str = "\
 run --steps 7 -m c p|run p c - 65536 7 false -
 debug p --mem c --maps 8x2,1x1 --journal 2048 --listing|debug p c 8x2,1x1 2048 1000000 true -
+gdb -m c --journal 2048 --steps 7 p|gdb p c - 2048 7 false -
 asm p|asm p - - 65536 1000000 false -
 disasm --maps 8x2 -- -p|disasm -p - 8x2 65536 1000000 false -
 check --listing p|check p - - 65536 1000000 true -
@@ -22,6 +23,11 @@ run|2
 frob p|2
 --help|0
 debug --help|0
+help|0
+help frob|2
+--version|0
+-V|0
+run --version p|2
 ";
 
 /// The name of a subcommand.
@@ -29,6 +35,7 @@ fn name(subcommand: Subcommand) -> &'static str {
     match subcommand {
         Subcommand::Run => "run",
         Subcommand::Debug => "debug",
+        Subcommand::Gdb => "gdb",
         Subcommand::Asm => "asm",
         Subcommand::Disasm => "disasm",
         Subcommand::Check => "check",
@@ -76,5 +83,5 @@ fn plan_each(rt: &impl Abort, alloc: Global, table: &str) -> usize {
 
 #[test]
 fn command_lines_are_planned(rt: HostRuntime) {
-    assert_eq!(rt; plan_each(&rt, rt.alloc(), PLANS), 16);
+    assert_eq!(rt; plan_each(&rt, rt.alloc(), PLANS), 22);
 }
