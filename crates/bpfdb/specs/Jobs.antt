@@ -8,7 +8,7 @@ use Rattle.bpfdb_jobs.specs.declared.job.Job.{Job}
 use Rattle.bpfdb_jobs.specs.declared.job.JobKind.{JobKind}
 use Rattle.bpfdb_jobs.specs.declared.job.JobKind.TheVariants as kind
 
--- The kind of a subcommand's job.
+-- The kind of a subcommand's job. That of `gdb` opens its session as `debug` does.
 abbrev pub kind_of : Subcommand → JobKind
 kind_of subcommand.Run = kind.Run
 kind_of subcommand.Debug = kind.Debug
@@ -16,6 +16,7 @@ kind_of subcommand.Asm = kind.Asm
 kind_of subcommand.Disasm = kind.Disasm
 kind_of subcommand.Check = kind.Check
 kind_of subcommand.Link = kind.Link
+kind_of subcommand.Gdb = kind.Debug
 
 -- The bytes of a text that may be there.
 abbrev pub bytes_of : Option (Bor (List ℕ)) → Option (List ℕ)

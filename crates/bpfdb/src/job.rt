@@ -1,12 +1,15 @@
 //! The job of a plan, done over any reader and writer.
 ghost use Rattle.std.specs.Prelude.{◌≡◌, ◌≢◌, ◌⊎◌, List, ℕ, Some};
 ghost use Rattle.bpfdb.specs.Jobs.{IsJobOf, kind_of, section_of};
+ghost use Rattle.bpfdb_jobs.specs.Connections.{BreaksConnection, ServesConnection};
 ghost use Rattle.bpfdb_jobs.specs.Endings.{LosesStop, TellsFault, TellsStop};
 ghost use Rattle.bpfdb_jobs.specs.Jobs.{Completes, Needs, Spared, StopsShort};
+ghost use Rattle.bpfdb_jobs.specs.declared.job.JobKind.TheVariants.{Debug};
 ghost use Rattle.bpfdb_limits.specs.Limits.{IsLimit};
 
+use bpf_journal::{Keeper, RingKeeper};
 use bpfdb_cli::{Plan, Subcommand};
-use bpfdb_jobs::{Job, JobKind, tool};
+use bpfdb_jobs::{Job, JobKind, serve_job, tool};
 use counted_io::Counted;
 use std::alloc::Global;
 use std::io::{Read, Write};
@@ -42,6 +45,35 @@ pub fn do_plan<R: Read, W: Write, E: Write>(
     tool(alloc, &job, reader, writer, errors)
 }
 
+/// Serves gdb with the job of a plan, and answers the exit status: what `serve_job` promises of that job.
+pub fn serve_plan<R: Read, W: Write, E: Write>(
+    alloc: Global,
+    plan: &Plan<'_>,
+    file: &[u8],
+    context: &[u8],
+    reader: &mut Counted<R>,
+    writer: &mut Counted<W>,
+    errors: &mut Counted<E>,
+) -> u8
+    requires limit { IsLimit plan.now.limit }
+    ensures value { (job : Job) × IsJobOf plan.now file.now context.now job
+        × (result ≢ 2 → ServesConnection ⟦<RingKeeper as Keeper>⟧.holds ⟦<RingKeeper as Keeper>⟧.refused ⟦<RingKeeper as Keeper>⟧.room
+        R.remaining W.contents job reader.old reader.new writer.old writer.new) }
+    ensures broken { (job : Job) × IsJobOf plan.now file.now context.now job
+        × (result ≡ 2 → ((reader.new ≡ reader.old) × (writer.new ≡ writer.old))
+        ⊎ BreaksConnection ⟦<RingKeeper as Keeper>⟧.holds ⟦<RingKeeper as Keeper>⟧.refused ⟦<RingKeeper as Keeper>⟧.room
+        R.remaining W.contents job reader.old reader.new writer.old writer.new) }
+    ensures refused { (job : Job) × IsJobOf plan.now file.now context.now job
+        × ((Needs Debug job → ⊥) → (result ≡ 2) × (reader.new ≡ reader.old) × (writer.new ≡ writer.old)) }
+    ensures spared { result ≢ 2 → Spared reader.old reader.new × Spared writer.old writer.new × Spared errors.old errors.new }
+    ensures quiet { result ≡ 0 → errors.new ≡ errors.old }
+    ensures told { (job : Job) × IsJobOf plan.now file.now context.now job
+        × (result ≡ 2 → TellsFault E.contents Debug job reader.old reader.new writer.old writer.new errors.old errors.new) }
+{
+    let job = job_of(plan, file, context);
+    serve_job(alloc, &job, reader, writer, errors)
+}
+
 /// The job of a plan.
 fn job_of<'a>(plan: &Plan<'a>, file: &'a [u8], context: &'a [u8]) -> Job<'a>
     ensures { IsJobOf plan.now file.now context.now result }
@@ -58,7 +90,7 @@ fn job_of<'a>(plan: &Plan<'a>, file: &'a [u8], context: &'a [u8]) -> Job<'a>
     }
 }
 
-/// The kind of a subcommand's job.
+/// The kind of a subcommand's job. That of `gdb` opens its session as `debug` does.
 fn kind_of(subcommand: Subcommand) -> JobKind
     ensures { result ≡ kind_of subcommand }
 {
@@ -69,6 +101,7 @@ fn kind_of(subcommand: Subcommand) -> JobKind
         Subcommand::Disasm => JobKind::Disasm,
         Subcommand::Check => JobKind::Check,
         Subcommand::Link => JobKind::Link,
+        Subcommand::Gdb => JobKind::Debug,
     }
 }
 

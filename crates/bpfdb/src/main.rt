@@ -8,6 +8,7 @@ ghost use Rattle.bpfdb_limits.specs.Limits.{IsLimit};
 mod files;
 mod input;
 mod job;
+mod prompt;
 
 use bpfdb_cli::{Plan, PlanFault, Subcommand, plan};
 use bpfdb_files::Retrying;
@@ -17,8 +18,10 @@ use clap::Error;
 use counted_io::Counted;
 use files::{context_at, program_at, source_at};
 use input::is_closed;
-use job::do_plan;
-use std::io::{BufReader, BufWriter, ErrorKind, Stderr, Write};
+use job::{do_plan, serve_plan};
+use prompt::{FIRST_GREETING, GREETING, Prompting};
+use std::alloc::Global;
+use std::io::{BufReader, BufWriter, ErrorKind, IsTerminal, Read, Stderr, Write};
 use std::process::ExitCode;
 use std::{env, io};
 
@@ -170,8 +173,8 @@ fn context_of<'a>(rt: &HostRuntime, plan: &Plan<'a>) -> Result<Vec<u8>, JobFault
     }
 }
 
-/// Does the job of a plan over standard input and standard output. A standard input that is closed is an empty script. Calls that the
-/// system interrupts are made again, below the buffers.
+/// Does the job of a plan over standard input and standard output. A standard input that is closed is an empty script; one that is a
+/// terminal, where commands are typed, is read after a prompt. Calls that the system interrupts are made again, below the buffers.
 ///
 /// The input is read in large pieces, so a program that reads on behind `quit` in the same pipe finds less than the script
 /// left there, mostly nothing.
@@ -191,7 +194,7 @@ fn do_over_streams(
     let mut input = Retrying::new(rt.reader());
     if is_closed(rt, &mut input) {
         let mut reader = Counted::new(b"".as_slice());
-        return do_plan(
+        return do_or_serve(
             rt.alloc(),
             plan,
             file,
@@ -201,17 +204,64 @@ fn do_over_streams(
             errors,
         );
     }
+    match greeting_of(rt, plan) {
+        Some(greeting) => {
+            let input = Prompting::new(input, Retrying::new(rt.stderr()), greeting);
+            do_over_reader(rt, plan, file, context, input, &mut writer, errors)
+        }
+        None => do_over_reader(rt, plan, file, context, input, &mut writer, errors),
+    }
+}
+
+/// What is said first where commands are typed: the plan reads them, and standard input is a terminal.
+fn greeting_of(rt: &HostRuntime, plan: &Plan<'_>) -> Option<&'static str> {
+    match plan.subcommand {
+        Subcommand::Debug => {
+            if !rt.stdin().is_terminal() {
+                None
+            } else if plan.file.is_empty() {
+                Some(FIRST_GREETING)
+            } else {
+                Some(GREETING)
+            }
+        }
+        _ => None,
+    }
+}
+
+/// Does the job of a plan over a reader, which is read in large pieces.
+fn do_over_reader<R: Read + Drop, W: Write>(
+    rt: &HostRuntime,
+    plan: &Plan<'_>,
+    file: &[u8],
+    context: &[u8],
+    input: R,
+    writer: &mut Counted<W>,
+    errors: &mut Errors,
+) -> u8
+    requires limit { IsLimit plan.now.limit }
+{
     let Ok(input) = BufReader::new(rt.alloc(), input) else {
         return give_up(errors, &JobFault::Memory);
     };
     let mut reader = Counted::new(input);
-    do_plan(
-        rt.alloc(),
-        plan,
-        file,
-        context,
-        &mut reader,
-        &mut writer,
-        errors,
-    )
+    do_or_serve(rt.alloc(), plan, file, context, &mut reader, writer, errors)
+}
+
+/// Serves gdb where the plan says so, and else does the plan's job.
+fn do_or_serve<R: Read, W: Write>(
+    alloc: Global,
+    plan: &Plan<'_>,
+    file: &[u8],
+    context: &[u8],
+    reader: &mut Counted<R>,
+    writer: &mut Counted<W>,
+    errors: &mut Errors,
+) -> u8
+    requires limit { IsLimit plan.now.limit }
+{
+    match plan.subcommand {
+        Subcommand::Gdb => serve_plan(alloc, plan, file, context, reader, writer, errors),
+        _ => do_plan(alloc, plan, file, context, reader, writer, errors),
+    }
 }
