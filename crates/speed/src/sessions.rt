@@ -1,11 +1,11 @@
 //! How fast commands run through a session: `continue` with breakpoints and watches that it never meets and without, `last-write` and
-//! `reverse-continue` over what it left, beside the same steps through a timeline.
+//! `reverse-continue` over what it left, and `redo` of what that took back, beside the same steps through a timeline.
 
 use crate::{back, check_steps, failure, used};
 use bpf_isa::{MapTable, check};
 use bpf_journal::{RingKeeper, Timeline};
 use bpf_machine::Cpu;
-use bpf_session::{Command, Counted, Goal, Reply, Session, Stop, Target, View};
+use bpf_session::{Command, Count, Counted, Goal, Reply, Session, Stop, Target, View};
 use std::alloc::Global;
 use std::io;
 use std::time::Instant;
@@ -50,6 +50,7 @@ struct Best {
     on_with_breaks: u128,
     on_with_watches: u128,
     reverse: u128,
+    redo: u128,
     last_write: u128,
     stores: u128,
     stores_with_watches: u128,
@@ -65,6 +66,7 @@ impl Best {
             on_with_breaks: u128::MAX,
             on_with_watches: u128::MAX,
             reverse: u128::MAX,
+            redo: u128::MAX,
             last_write: u128::MAX,
             stores: u128::MAX,
             stores_with_watches: u128::MAX,
@@ -91,6 +93,8 @@ impl Best {
         )?;
         show(rt, "back through a timeline", self.back, self.back)?;
         show(rt, "reverse-continue", self.reverse, self.back)?;
+        show(rt, "reverse-continue to continue", self.reverse, self.on)?;
+        show(rt, "redo to continue", self.redo, self.on)?;
         show(rt, "last-write over all of it", self.last_write, self.back)
     }
 }
@@ -106,6 +110,7 @@ pub fn time_sessions(rt: &HostRuntime, rounds: u64, sum: &mut u64) -> io::Result
         best.on = best.on.min(on.forward);
         best.last_write = best.last_write.min(on.last_write);
         best.reverse = best.reverse.min(on.reverse);
+        best.redo = best.redo.min(on.redo);
         let with_breaks = through_session(rt, &LOOP, Stops::Breakpoints, sum)?;
         best.on_with_breaks = best.on_with_breaks.min(with_breaks.forward);
         let with_watches = through_session(rt, &LOOP, Stops::Watches, sum)?;
@@ -179,9 +184,10 @@ struct Timed {
     forward: u128,
     last_write: u128,
     reverse: u128,
+    redo: u128,
 }
 
-/// The same as commands: `continue`, `last-write` of a byte that never changed, `reverse-continue`.
+/// The same as commands: `continue`, `last-write` of a byte that never changed, `reverse-continue`, `redo`.
 fn through_session(
     rt: &HostRuntime,
     program: &[u8],
@@ -194,19 +200,28 @@ fn through_session(
     let Ok(keeper) = RingKeeper::open(rt.alloc(), SIZE) else {
         return Err(failure(rt, "a journal can't be opened"));
     };
-    let mut session = Session::open(cpu, keeper, STEPS);
+    let Ok(redo) = RingKeeper::open(rt.alloc(), SIZE) else {
+        return Err(failure(rt, "a journal can't be opened"));
+    };
+    let mut session = Session::open(cpu, keeper, redo, STEPS);
     if !set_stops(&mut session, stops) {
         return Err(failure(rt, "a breakpoint or a watch was refused"));
     }
+    let Some(steps) = Count::new(STEPS) else {
+        return Err(failure(rt, "so many steps can't be counted"));
+    };
     let forward = time(rt, &mut session, &Command::Forward(Goal::Continue))?;
     *sum = sum.wrapping_add(used(session.cpu()));
     let last_write = time(rt, &mut session, &Command::Show(View::LastWrite(FRAME)))?;
     let reverse = time(rt, &mut session, &Command::Back(Target::Continue))?;
     *sum = sum.wrapping_add(used(session.cpu()));
+    let redo = time(rt, &mut session, &Command::Redo(steps))?;
+    *sum = sum.wrapping_add(used(session.cpu()));
     Ok(Timed {
         forward,
         last_write,
         reverse,
+        redo,
     })
 }
 
@@ -247,7 +262,7 @@ fn time(
     let elapsed = start.elapsed(rt)?.as_nanos();
     let moves = match answer {
         Ok(Reply::Forward { steps, .. }) => steps,
-        Ok(Reply::Back { moves, .. }) => moves,
+        Ok(Reply::Back { moves, .. } | Reply::Redone { moves, .. }) => moves,
         Ok(Reply::Shown(_)) => STEPS,
         _ => 0,
     };
