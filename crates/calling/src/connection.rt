@@ -1,0 +1,39 @@
+//! A session is served to gdb over any reader and any writer.
+use bpf_isa::{MapTable, check};
+use bpf_journal::RingKeeper;
+use bpf_machine::Cpu;
+use bpf_remote::serve;
+use bpf_session::{Counted, Session};
+
+/// mov r0, 40; add r0, 2; exit.
+const WORDS: [u8; 24] = [
+    0xb7, 0, 0, 0, 40, 0, 0, 0, 0x07, 0, 0, 0, 2, 0, 0, 0, 0x95, 0, 0, 0, 0, 0, 0, 0,
+];
+
+#[test]
+fn a_step_is_served(rt: HostRuntime) {
+    let alloc = rt.alloc();
+    let program = check(alloc, &WORDS, &MapTable::empty());
+    let program = program.ok().expect(&rt, "no program");
+    let cpu = Cpu::open(alloc, program, b"")
+        .ok()
+        .expect(&rt, "no machine");
+    let ring = match RingKeeper::open(alloc, 65_536) {
+        Ok(ring) => ring,
+        Err(_) => panic!(&rt; "no memory"),
+    };
+    let redo = match RingKeeper::open(alloc, 65_536) {
+        Ok(ring) => ring,
+        Err(_) => panic!(&rt; "no memory"),
+    };
+    let mut session = Session::open(cpu, ring, redo, 1_000_000);
+    let mut answers = Vec::new(alloc);
+    let packets: &[u8] = b"$s#73";
+    let ended = serve(
+        &mut session,
+        &mut Counted::new(packets),
+        &mut Counted::new(&mut answers),
+    );
+    assert!(&rt; ended.is_ok());
+    assert!(&rt; answers.as_slice() == b"+$T05#b9".as_slice());
+}
