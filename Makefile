@@ -13,19 +13,21 @@ run:
 test:
 	@sh tests/gate.sh
 
-# Installs the program and its man page, below DESTDIR. It proves and builds the program where that is not done yet.
+# Installs the program, its shell for a terminal and its man page, below DESTDIR. It proves and builds the program where that is not done yet.
 install:
 	@sh tests/build.sh
 	@mkdir -p "$(DESTDIR)$(PREFIX)/bin" "$(DESTDIR)$(PREFIX)/share/man/man1"
 	@cp crates/bpfdb/out/bpfdb "$(DESTDIR)$(PREFIX)/bin/bpfdb"
 	@chmod 755 "$(DESTDIR)$(PREFIX)/bin/bpfdb"
+	@cp share/bpfdb-shell "$(DESTDIR)$(PREFIX)/bin/bpfdb-shell"
+	@chmod 755 "$(DESTDIR)$(PREFIX)/bin/bpfdb-shell"
 	@cp docs/bpfdb.1 "$(DESTDIR)$(PREFIX)/share/man/man1/bpfdb.1"
 	@chmod 644 "$(DESTDIR)$(PREFIX)/share/man/man1/bpfdb.1"
-	@echo "installed $(DESTDIR)$(PREFIX)/bin/bpfdb and its man page"
+	@echo "installed $(DESTDIR)$(PREFIX)/bin/bpfdb, bpfdb-shell beside it, and the man page"
 
-# Takes both away again.
+# Takes them away again.
 uninstall:
-	@rm -f "$(DESTDIR)$(PREFIX)/bin/bpfdb" "$(DESTDIR)$(PREFIX)/share/man/man1/bpfdb.1"
+	@rm -f "$(DESTDIR)$(PREFIX)/bin/bpfdb" "$(DESTDIR)$(PREFIX)/bin/bpfdb-shell" "$(DESTDIR)$(PREFIX)/share/man/man1/bpfdb.1"
 
 # Makes the tables of the pages anew, and holds the pages against the repository.
 pages:

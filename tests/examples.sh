@@ -81,6 +81,19 @@ suite() {
     sh examples/suite/test.sh "$work/wrong.s" > "$work/out" 2>&1 && fault 'examples/suite/test.sh passes a wrong program'
 }
 
+# shell: bpfdb-shell knows short names and comments, and an empty line is the last command again. The replies are those of examples/README.md.
+shell() {
+    cd examples/fault || exit 1
+    # shellcheck disable=SC2046
+    printf 'c # to the fault\nrs\n\n# nothing\nfrob\nq\n' | sh ../../share/bpfdb-shell $(cat arguments) > "$work/out" 2> "$work/err"
+    status=$?
+    cd "$top" || exit 1
+    printf '%s\n' '55 forward; end; fault access 0x100000083 at 9' '1 back; done; at 9: ldxb r0, [r1+15]' \
+        '1 back; done; at 8: ldxdw r1, [r10-8]' 'refused Q1: unknown command' > "$work/wanted-out"
+    printf '> > > > > > ' > "$work/wanted-err"
+    expect 'share/bpfdb-shell' 0 "$work/wanted-out" "$work/wanted-err"
+}
+
 # manual: each command behind '$ ' in the examples of docs/COMMANDS.md prints the lines that follow it there. They are run in one
 # folder, in order.
 manual() {
@@ -110,14 +123,16 @@ for folder in examples/*/; do
     cd "$top" || exit 1
     count=$((count + 1))
 done
-[ "$count" -ge 6 ] || fault "there are $count examples"
+[ "$count" -ge 7 ] || fault "there are $count examples"
 plain count 0 0x3 ''
 plain checksum 0 0xb861 ''
 plain counters 0 0x1 ''
 plain fault 1 '' 'fault access 0x100000083 at 9'
+plain records 1 '' 'fault access 0x10000000f at 0'
 plain suite 0 0x1 ''
 plain wrong-byte 0 0x0 ''
 suite
+shell
 manual
 [ ! -s "$work/faults" ] || exit 1
 echo "tests/examples.sh: $count examples passed"

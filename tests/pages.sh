@@ -176,6 +176,8 @@ examples
 commands
 refusals
 sh docs/man.sh --check || fault 'the man page'
+version=$(sed -n 's/^## \([0-9][0-9.]*\).*/\1/p' CHANGELOG.md | head -n 1)
+grep -q -F "\"$version ($(rt version))\"" crates/bpfdb_cli/src/help.rt || fault "crates/bpfdb_cli/src/help.rt tells another version than $version ($(rt version))"
 for page in README.md docs/PROMISES.md; do
     grep -q -F "$(rt version)" "$page" || fault "$page does not name the toolchain, $(rt version)"
 done

@@ -44,6 +44,38 @@ expect 'an empty context is dropped' '0x0, status 0' "$(result "$work/empty")"
 { head -c 8 "$context"; printf '\001'; tail -c 11 "$context"; } > "$work/last"
 expect 'a time to live of 1 is dropped' '0x0, status 0' "$(result "$work/last")"
 
+# replies_to COMMAND..: the replies to the commands of one session, each with its command, as 'COMMAND: LINE LINE ..'. After each command
+# stands a word that is none: its refusal is where the reply ends, also where that has several lines or none.
+replies_to() {
+    for command in "$@"; do
+        printf '%s\n-\n' "$command"
+    done | "$bpfdb" debug --listing -m "$context" "$program" | {
+        for command in "$@"; do
+            printf '%s:' "$command"
+            while read -r line && [ "$line" != 'refused Q1: unknown command' ]; do
+                printf ' %s' "$line"
+            done
+            echo
+        done
+    }
+}
+
+# The same start twice in one session: a context that is set by hand stays where the machine goes back to before its first step.
+wanted='set mem 0x100000008 02: ok
+continue: 7 forward; end; exited at 6: r0 0x1
+x 0x100000008 1: 0x100000008: 01
+reverse-stepi 1000000000: 7 back; start; at 0: jlt r2, 20, L7
+x 0x100000008 1: 0x100000008: 02
+set mem 0x100000008 01: ok
+continue: 5 forward; end; exited at 8: r0 0x0
+x 0x100000008 1: 0x100000008: 01'
+found=$(replies_to 'set mem 0x100000008 02' continue 'x 0x100000008 1' 'reverse-stepi 1000000000' 'x 0x100000008 1' 'set mem 0x100000008 01' \
+    continue 'x 0x100000008 1')
+expect 'a time to live of 2, and then of 1, in one session' "$wanted" "$found"
+
+# A command that is refused is seen, though the exit status of the session is 0.
+expect 'a refused command' 'set reg r10 1: refused Q7: register not writable' "$(replies_to 'set reg r10 1')"
+
 # Whole replies, for a script of its own.
 "$bpfdb" debug --listing -m "$context" "$program" < "$here/script" > "$work/replies"
 expect 'the exit status of debug' 0 $?

@@ -21,6 +21,27 @@ under() {
     check "$settings bpfdb $*" "$status" "$output" "$errors"
 }
 
+# typed SCRIPT STATUS OUTPUT ERRORS ARGUMENT..: the command line comes to this where the script is typed at a terminal.
+typed() {
+    printf '%b' "$1" > script
+    status=$2 output=$3 errors=$4
+    shift 4
+    ./terminal script "$program" "$@" > found/out 2> found/err
+    echo $? > found/status
+    check "bpfdb $* at a terminal" "$status" "$output" "$errors"
+}
+
+# At a terminal debug says what to do, and each line is read after a prompt; the end of input is one more. Other subcommands say nothing.
+compile terminal
+greeting="bpfdb: commands from the terminal. 'quit' ends them, 'bpfdb debug --help' has them all.\n"
+first_greeting="bpfdb debugs a program of its own, mov r0, 42 and exit. Yours: 'bpfdb debug FILE'. 'quit' ends it.\n"
+typed 'stepi\n\nfrob\n' 0 '1 forward; done; at 1: exit\nrefused Q1: unknown command\n' "$first_greeting> > > > "
+typed 'stepi\nquit\nstepi\n' 0 '1 forward; done; at 1: exit\n' "$first_greeting> > "
+typed 'stepi\n' 0 '1 forward; done; at 1: exit\n' "$greeting> > " debug --listing program.s
+typed '' 0 '' "$greeting> " debug program
+typed 'stepi\n' 0 '0x2a\n' '' run program
+typed 'stepi\n' 2 '' 'refused J1: journal size out of range\n' debug --journal 0 program
+
 # What is interrupted is made again, and what comes short goes on: the answers are those of the other parts.
 "$program" asm long.s > long.bin
 for how in INTERRUPTED=0 INTERRUPTED=1 INTERRUPTED=5 SHORT=1 'INTERRUPTED=2 SHORT=3' 'INTERRUPTED=1 SHORT=1000'; do

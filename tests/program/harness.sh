@@ -114,6 +114,22 @@ session() {
     row "$name" 0 "$script" "$replies" '' "$@"
 }
 
+# version: the line of `bpfdb --version`: the version of the changelog, and the toolchain that README names.
+version() {
+    printf 'bpfdb %s (%s)\\n' "$(sed -n 's/^## \([0-9][0-9.]*\).*/\1/p' "$top/CHANGELOG.md" | head -n 1)" \
+        "$(sed -n 's/.*`\(rattle-kit-[^`]*\)`.*/\1/p' "$top/README.md" | head -n 1)"
+}
+
+# object NAME: the object NAME of that crate, in the file NAME.o.
+object() {
+    constant=$(printf '%s' "$1" | tr a-z A-Z)
+    bytes "$1.o" $(awk -v constant="$constant" '
+        index($0, "pub const " constant ":") { inside = 1; next }
+        inside && /^"/ { exit }
+        inside { gsub(/[^0-9a-f]/, ""); gsub(/../, "& "); print }
+    ' "$top/crates/bpf_link_tests/src/objects.rt")
+}
+
 # text FILE: the lines of a file, as printf's %b reads them.
 text() {
     sed 's/\\/\\\\/g; s/$/\\n/' "$1" | tr -d '\n'

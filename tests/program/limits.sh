@@ -113,15 +113,16 @@ session 'the largest journal' 'stepi 100000\ninfo history\nundo\ninfo history\n'
 0 moves, 0 commands, 0 of 16777216 bytes\n" debug --journal 16777216 endless
 printf 'mov r0, 1\nmov r0, 2\nmov r0, 3\nmov r0, 4\nend: ja end\n' > five.s
 session 'the largest journal, full' "stepi 2396740\ninfo history\nreverse-stepi 2396740\ninfo history\nstepi 2396740\nstepi\ninfo history\n\
-undo\ninfo history\nundo\nreverse-stepi 1000000000\ninfo history\n" \
+undo\ninfo history\nundo\nreverse-stepi 1000000000\ninfo history\nredo 1000000000\ninfo history\nundo\nredo\n" \
     "2396740 forward; done; at 4: ja L4\n2396740 moves, 1 commands, 16777216 of 16777216 bytes\n2396740 back; done; at 0: mov r0, 1\n\
 0 moves, 0 commands, 0 of 16777216 bytes\n2396740 forward; done; at 4: ja L4\n1 forward; done; at 4: ja L4\n\
 2396740 moves, 1 commands, 16777207 of 16777216 bytes\n1 back; done; at 4: ja L4\n2396739 moves, 0 commands, 16777200 of 16777216 bytes\n\
-refused Q5: fewer kept commands\n2396739 back; start; at 1: mov r0, 2\n0 moves, 0 commands, 0 of 16777216 bytes\n" \
+refused Q5: fewer kept commands\n2396739 back; start; at 1: mov r0, 2\n0 moves, 0 commands, 0 of 16777216 bytes\n\
+2396740 redone; all; at 4: ja L4\n2396740 moves, 1 commands, 16777207 of 16777216 bytes\n1 back; done; at 4: ja L4\n1 redone; done; at 4: ja L4\n" \
     debug --journal 16777216 --steps 1000000000 --listing five.s
-session 'the smallest journal, full' 'stepi 100000\ninfo history\nreverse-stepi 146\nreverse-stepi\n' \
+session 'the smallest journal, full' 'stepi 100000\ninfo history\nreverse-stepi 146\nreverse-stepi\nredo 1000\ninfo history\n' \
     "100000 forward; done; at 4: ja L4\n146 moves, 0 commands, 1022 of 1024 bytes\n146 back; done; at 4: ja L4\n\
-refused Q4: no kept step\n" debug --journal 1024 --listing five.s
+refused Q4: no kept step\n146 redone; all; at 4: ja L4\n146 moves, 0 commands, 1022 of 1024 bytes\n" debug --journal 1024 --listing five.s
 
 # Little stack: 256 kB are enough for all of this, and for help and a command line that is none.
 (
@@ -141,8 +142,8 @@ refused Q4: no kept step\n" debug --journal 1024 --listing five.s
 failures=$((failures + $?))
 count=$((count + 9))
 
-# Little memory of all kinds: the work is done, or one line says that memory ran out. 40,000 kB are enough for each of these.
-for room in 6000 8000 10000 12000 14000 16000 18000 20000 25000 30000 40000; do
+# Little memory of all kinds: the work is done, or one line says that memory ran out. 50,000 kB are enough for each of these.
+for room in 6000 8000 10000 12000 14000 16000 18000 20000 25000 30000 40000 50000; do
     while read -r arguments; do
         count=$((count + 1))
         # (the words of a row are without blanks)
@@ -154,7 +155,7 @@ for room in 6000 8000 10000 12000 14000 16000 18000 20000 25000 30000 40000; do
         line=$(cat found/err)
         case $found,$room,$line in
             0,*,) continue ;;
-            2,40000,*) ;;
+            2,50000,*) ;;
             2,*,'out of memory' | 2,*,'refused '[ACOJ]*': out of memory') [ -s found/out ] || continue ;;
         esac
         complain "bpfdb $arguments in $room kB: status $found, $(wc -c < found/out) bytes of output, on standard error '$line'"

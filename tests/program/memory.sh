@@ -34,7 +34,7 @@ lacks() {
     { read -r line; read -r more; } < found/err
     case $line in
         'out of memory' | 'refused A7: out of memory' | 'refused C13: out of memory' | 'refused O2: out of memory' | \
-            'refused J2: out of memory')
+            'refused J2: out of memory' | 'refused E26: out of memory')
             echo "$line" >> met ;;
         *) line='out of memory' more=none ;;
     esac
@@ -78,6 +78,7 @@ a7='refused A7: out of memory\n'
 c13='refused C13: out of memory\n'
 o2='refused O2: out of memory\n'
 j2='refused J2: out of memory\n'
+e26='refused E26: out of memory\n'
 wants "$plain$c13$o2" 0 '0x2a\n' '' run -m context --maps 8x2 program
 wants "$plain$a7$c13$o2" 0 '0x2a\n' '' run --listing program.s
 wants "$plain$c13$o2$j2" 0 '' '' debug -m context --maps 8x2 --journal 1024 --steps 7 program
@@ -87,8 +88,13 @@ wants "$plain$c13" 0 'mov r0, 42\nexit\n' '' disasm --maps 8x2 program
 wants "$plain$a7$c13" 0 'mov r0, 42\nexit\n' '' disasm --listing program.s
 wants "$plain$c13" 0 'ok 2 instructions in 2 slots\n' '' check --maps 8x2 program
 wants "$plain$a7$c13" 0 'ok 2 instructions in 2 slots\n' '' check --listing program.s
+object calls
+bytes linked 85 10 00 00 06 00 00 00 bf 01 00 00 00 00 00 00 85 10 00 00 01 00 00 00 EXIT \
+    bf 10 00 00 00 00 00 00 07 00 00 00 01 00 00 00 EXIT bf 10 00 00 00 00 00 00 27 00 00 00 03 00 00 00 EXIT
+wants "$plain$e26" 0 "$text" '' link calls.o
 wants "$plain" 2 '' 'cannot read missing\n' run missing
 wants "$plain" 0 "$(text "$parts/help/bpfdb.txt")" '' --help
+wants "$plain" 0 "$(version)" '' --version
 
 # wants_usage TEXT ARGUMENT..: a command line that is none is told so, or that memory ran out, and the status is 2. (A request
 # that is refused while clap looks for a similar word costs no more than its tip.)
@@ -118,11 +124,12 @@ wants_usage "invalid value '0' for '--steps <N>': 0 is not in 1..=1000000000" ru
 # makes none, also one whose moves go around the end of its journal.
 others='r1=0x0 r2=0x0 r3=0x0 r4=0x0 r5=0x0 r6=0x0 r7=0x0 r8=0x0 r9=0x0 r10=0x200000200\n'
 start="r0=0x0 ${others}at 0: mov r0, 42\n"
+back='1 back; done; at 0: mov r0, 42\n'
 end='2 forward; end; exited at 1: r0 0x2a\nrefused Q3: the machine has ended\n'
-printf 'stepi\ninfo regs\nreverse-stepi\ninfo regs\nset reg r0 1\nundo\nstepi 5\nstepi\n' > script
+printf 'stepi\ninfo regs\nreverse-stepi\nredo\nundo\ninfo regs\nset reg r0 1\nundo\nredo 2\nundo\nstepi 5\nstepi\n' > script
 wants "$plain$c13$o2$j2" 0 \
-    "1 forward; done; at 1: exit\nr0=0x2a ${others}at 1: exit\n1 back; done; at 0: mov r0, 42\n${start}ok\n1 back; done; at 0: mov r0, 42\n$end" \
+    "1 forward; done; at 1: exit\nr0=0x2a ${others}at 1: exit\n${back}1 redone; done; at 1: exit\n${back}${start}ok\n${back}1 redone; all; at 0: mov r0, 42\n$back$end" \
     '' debug program
-printf 'stepi 10000\ninfo history\nreverse-stepi 9362\n' > script
+printf 'stepi 10000\ninfo history\nreverse-stepi 9362\nredo 9363\n' > script
 wants "$plain$c13$o2$j2" 0 \
-    '10000 forward; done; at 0: ja L0\n9362 moves, 0 commands, 65534 of 65536 bytes\n9362 back; done; at 0: ja L0\n' '' debug endless
+    '10000 forward; done; at 0: ja L0\n9362 moves, 0 commands, 65534 of 65536 bytes\n9362 back; done; at 0: ja L0\n9362 redone; all; at 0: ja L0\n' '' debug endless

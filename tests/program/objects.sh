@@ -1,15 +1,5 @@
 # link: objects that clang made, the words that come of them, and what is refused. The objects stand in crates/bpf_link_tests.
 
-# object NAME: the object NAME of that crate, in the file NAME.o.
-object() {
-    constant=$(printf '%s' "$1" | tr a-z A-Z)
-    bytes "$1.o" $(awk -v constant="$constant" '
-        index($0, "pub const " constant ":") { inside = 1; next }
-        inside && /^"/ { exit }
-        inside { gsub(/[^0-9a-f]/, ""); gsub(/../, "& "); print }
-    ' "$top/crates/bpf_link_tests/src/objects.rt")
-}
-
 for name in calls maps text two extern data; do
     object $name
 done

@@ -52,6 +52,33 @@ session 'a journal of 1,024 bytes' \
     "100 forward; done; at 0: add r0, 1\n89 moves, 0 commands, 1019 of 1024 bytes\nrefused Q5: fewer kept commands\n\
 89 back; start; at 1: ja L0\nr0=0x6 $others\nat 1: ja L0\nrefused Q4: no kept step\n" debug --journal 1024 count
 
+# Moves that are made again: in pieces up to the last one, until a new move; behind refused commands; a new pc in a machine that has
+# faulted; across moves that were dropped; past a breakpoint and a watch.
+bytes three 07 00 00 00 01 00 00 00 a5 00 fe ff 03 00 00 00 EXIT
+at_0='at 0: add r0, 1\n'
+at_1='at 1: jlt r0, 3, L0\n'
+q13='refused Q13: nothing to redo\n'
+session 'redo' 'stepi 3\nundo\nredo\nredo 5\ninfo history\nredo\nundo\nset reg r0 9\nredo\nundo\nredo\ninfo regs\n' \
+    "3 forward; done; ${at_1}3 back; done; ${at_0}1 redone; done; ${at_1}2 redone; all; ${at_1}3 moves, 1 commands, 39 of 65536 bytes\n\
+${q13}3 back; done; ${at_0}ok\n${q13}1 back; done; ${at_0}1 redone; done; ${at_0}r0=0x9 $others\n$at_0" debug three
+q2='refused Q2: wrong argument\n'
+session 'redo behind refused commands' 'redo\nstepi 2\nundo\nset reg r10 1\nredo 0\nredo 1 1\nredo x\nundo\nfrob\nbreak 1\nredo 2\nredo 2\n' \
+    "${q13}2 forward; done; ${at_0}2 back; done; ${at_0}refused Q7: register not writable\n$q2$q2${q2}refused Q5: fewer kept commands\n\
+refused Q1: unknown command\nok\n2 redone; done; ${at_0}$q13" debug three
+bytes below 7a 0a 00 00 07 00 00 00 EXIT
+faulted='fault access 0x200000200 at 0\n'
+session 'redo of a new pc' 'stepi\nset pc 0\nundo\nredo\nstepi\nundo 3\nredo 3\n' \
+    "1 forward; end; ${faulted}ok\n1 back; done; ${faulted}1 redone; done; at 0: stdw [r10+0], 7\n1 forward; end; ${faulted}\
+3 back; done; at 0: stdw [r10+0], 7\n3 redone; done; $faulted" debug below
+session 'redo across moves that were dropped' 'stepi 100\nreverse-stepi 100\nredo 1000\ninfo history\nundo\nreverse-stepi 89\nredo 88\nredo 2\n' \
+    "100 forward; done; ${at_0}89 back; start; at 1: ja L0\n89 redone; all; ${at_0}89 moves, 0 commands, 1019 of 1024 bytes\n\
+refused Q5: fewer kept commands\n89 back; done; at 1: ja L0\n88 redone; done; at 1: ja L0\n1 redone; all; $at_0" debug --journal 1024 count
+bytes stores 72 01 00 00 07 00 00 00 72 01 00 00 02 00 00 00 EXIT
+session 'redo past a breakpoint and a watch' \
+    'break 1\nwatch 0x100000000\ncontinue\ncontinue\nset mem 0x100000000 55\nundo 3\nx 0x100000000 1\nredo 2\nx 0x100000000 1\nredo 2\nx 0x100000000 1\ninfo breaks\n' \
+    "ok\nok\n1 forward; break; at 1: stb [r1+0], 2\n1 forward; watch; at 2: exit\nok\n3 back; done; at 0: stb [r1+0], 7\n0x100000000: 01\n\
+2 redone; done; at 2: exit\n0x100000000: 02\n1 redone; all; at 2: exit\n0x100000000: 55\nbreak 1\nwatch 0x100000000\n" debug -m eight stores
+
 # Maps.
 bytes update 18 51 00 00 00 00 00 00 00 00 00 00 00 00 00 00 bf a2 00 00 00 00 00 00 07 02 00 00 f8 ff ff ff \
     18 63 00 00 00 00 00 00 00 00 00 00 04 00 00 00 85 00 00 00 02 00 00 00 EXIT
@@ -142,12 +169,14 @@ instructions=$parts/listings/instructions.s
 result '0x1\n' run --maps 8x256 --listing "$instructions"
 shown='info regs\ninfo frames\ninfo trace\ninfo history\nx 0x200000000 256\nx 0x200000100 256\nx 0x300000000 256\n'
 there='667 forward; end; exited at 812: r0 0x1\ntrace 1 0xabc\n'
+again='667 redone; done; exited at 812: r0 0x1\ntrace 1 0xabc\n'
 all_zero=$(printf '%0512d' 0)
 at_first="r0=0x0 $others\nat 0: mov r9, 2\ndepth 0\ntrace 0\n0 moves, 0 commands, 0 of 65536 bytes\n\
 0x200000000: $all_zero\n0x200000100: $all_zero\n0x300000000: $all_zero\n"
 session 'every instruction there and back' \
-    "continue\ninfo trace\nundo\n${shown}continue\ninfo trace\nreverse-stepi 1000000000\n$shown" \
-    "${there}667 back; done; at 0: mov r9, 2\n$at_first${there}667 back; start; at 0: mov r9, 2\n$at_first" \
+    "continue\ninfo trace\nundo\n${shown}continue\ninfo trace\nreverse-stepi 1000000000\n${shown}redo 667\ninfo trace\nundo\n$shown" \
+    "${there}667 back; done; at 0: mov r9, 2\n$at_first${there}667 back; start; at 0: mov r9, 2\n$at_first${again}\
+667 back; done; at 0: mov r9, 2\n$at_first" \
     debug --maps 8x256 --listing "$instructions"
 
 # alike NAME NUMBER FILE: the file has so many different lines.

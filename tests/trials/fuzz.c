@@ -327,7 +327,7 @@ static void reopen(void) {
     open_machine(&machine);
 }
 
-/* A run, and a session that goes to the end of the run, back, and there again: both are those of the second machine. */
+/* A run, and a session that goes to the end of the run, back, there again, back, and there by `redo`: both are those of the second machine. */
 static int runs_alike(u64 limit) {
     static char steps[24];
     const char *found = left.output;
@@ -345,7 +345,8 @@ static int runs_alike(u64 limit) {
     if (!gives(machine.ended == 1 ? 0 : 1, wanted))
         return 0;
     make_show();
-    at = snprintf(script, TEXT_ROOM, "%scontinue\n%sundo\n%scontinue\n%s", show_commands, show_commands, show_commands, show_commands);
+    at = snprintf(script, TEXT_ROOM, "%scontinue\n%sundo\n%scontinue\n%sundo\n%sredo 1000000000\n%s", show_commands, show_commands, show_commands,
+        show_commands, show_commands, show_commands);
     put_file("script", script, at);
     words_for("debug", 1);
     add_word("--journal=16777216");
@@ -355,15 +356,15 @@ static int runs_alike(u64 limit) {
     if (!sound())
         return 0;
     at = 0;
-    for (times = 0; times < 2; times++) {
+    for (times = 0; times < 3; times++) {
         reopen();
         at = put_show(at, found);
         while (!machine.ended && machine.steps < limit)
             step(&machine);
-        at += snprintf(wanted + at, 100, "%lu forward; %s; ", machine.steps, machine.ended ? "end" : "limit");
+        at += snprintf(wanted + at, 100, times == 2 ? "%lu redone; all; " : "%lu forward; %s; ", machine.steps, machine.ended ? "end" : "limit");
         at = put_place(at, &found);
         at = put_show(at, found);
-        if (times == 0) {
+        if (times < 2) {
             u64 steps_taken = machine.steps;
             reopen();
             at += snprintf(wanted + at, 100, "%lu back; done; ", steps_taken);
@@ -518,8 +519,9 @@ static int try_context(void) {
 /* A command of a script, sometimes with a wrong word. */
 static u64 put_command(char *to, u64 room) {
     static const char *plain[] = { "stepi", "nexti", "continue", "finish", "undo", "reverse-stepi", "reverse-nexti", "reverse-continue", "rc",
-        "reverse-finish", "info regs", "info frames", "info breaks", "info history", "info trace", "stepi 7", "stepi 1000000000", "undo 2", "reverse-stepi 5" };
-    static const char *numbered[] = { "stepi", "undo", "reverse-stepi", "set pc", "break", "delete", "watch", "unwatch", "last-write", "x", "disas", "set reg r0",
+        "reverse-finish", "redo", "redo 3", "info regs", "info frames", "info breaks", "info history", "info trace", "stepi 7", "stepi 1000000000", "undo 2", "reverse-stepi 5",
+        "redo 1000000000" };
+    static const char *numbered[] = { "stepi", "undo", "reverse-stepi", "redo", "set pc", "break", "delete", "watch", "unwatch", "last-write", "x", "disas", "set reg r0",
         "set reg r1", "set reg r6", "set reg r10", "set mem", "set cell 0" };
     const char *word;
     u64 at, i, n = odd_number();
@@ -540,9 +542,27 @@ static u64 put_command(char *to, u64 room) {
     return at;
 }
 
-/* A random script. All that it moved is taken back by as many `undo`, where no move was dropped; the machine is then as it was. */
+/* The text between two marks, the n-th last and the one behind it, or the end. Returns its length. */
+static const char mark[] = "refused Q2: wrong argument\n";
+static u64 marked(int n, const char **from) {
+    const char *at = left.output + left.length, *end = at;
+    for (; n > 0; n--) {
+        end = at;
+        do {
+            if (at == left.output)
+                return 0;
+            at--;
+        } while (strncmp(at, mark, sizeof mark - 1));
+    }
+    *from = at + sizeof mark - 1;
+    return end - *from;
+}
+
+/* A random script. All that it moved is taken back by as many `undo`, where no move was dropped; the machine is then as it was. All that was
+   taken back is made again by `redo`, also where moves were dropped; the machine is then as it was before. */
 static int try_script(void) {
     u64 length, at = 0, count = 1 + below(40), i, first, shown;
+    const char *before, *again;
     make_surroundings();
     if (!judged(make_program()))
         return 1;
@@ -554,10 +574,10 @@ static int try_script(void) {
     if (chance(30))
         at = first + mutate((u8 *)script + first, at - first, 100000);
     length = at;
-    at += snprintf(script + at, TEXT_ROOM - at, "\n");
+    at += snprintf(script + at, TEXT_ROOM - at, "\nredo 1000000000\nundo now\n%sundo now\n", show_commands);
     for (i = 0; i <= count + 8; i++)
         at += snprintf(script + at, TEXT_ROOM - at, "undo\n");
-    at += snprintf(script + at, TEXT_ROOM - at, "undo now\n%s", show_commands);
+    at += snprintf(script + at, TEXT_ROOM - at, "undo now\n%sundo now\nredo 1000000000\nundo now\n%s", show_commands, show_commands);
     put_file("script", script, at);
     words_for("debug", 1);
     add_word(chance(80) ? "--journal=16777216" : "--journal=1024");
@@ -567,11 +587,16 @@ static int try_script(void) {
         return 0;
     if (left.status)
         return fails("a script ends a session");
-    if (!strcmp(words[word_count - 3], "--journal=1024") || (script[length] = 0, strstr(script + first, "quit")))
+    if (script[length] = 0, strstr(script + first, "quit"))
+        return 1;
+    at = marked(5, &before);
+    if (at == 0 || marked(1, &again) != at || memcmp(before, again, at))
+        return fails("a script that is taken back does not come again");
+    if (!strcmp(words[word_count - 3], "--journal=1024"))
         return 1;
     reopen();
     shown = put_show(0, left.output);
-    if (left.length < 2 * shown || memcmp(left.output, wanted, shown) || memcmp(left.output + left.length - shown, wanted, shown))
+    if (left.length < shown || memcmp(left.output, wanted, shown) || marked(3, &again) != shown || memcmp(again, wanted, shown))
         return fails("a script that is taken back leaves something");
     return 1;
 }
