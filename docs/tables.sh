@@ -1,8 +1,10 @@
 #!/bin/sh
 # The tables of crates and files in README.md and docs/ARCHITECTURE.md, made from crates.txt and from the first sentence
-# of each file. 'docs/tables.sh' writes them anew; 'docs/tables.sh --check' fails where a page and the files differ.
+# of each file, and the code in docs/CALLING.md. 'docs/tables.sh' writes them anew; 'docs/tables.sh --check' fails where a
+# page and the files differ.
 #
-# A table stands between the lines '<!-- docs/tables.sh: NAME -->' and '<!-- docs/tables.sh: end -->' of a page. A file of
+# A table stands between the lines '<!-- docs/tables.sh: NAME -->' and '<!-- docs/tables.sh: end -->' of a page, a whole file of
+# code between such lines with 'code FILE' for NAME. A file of
 # specs/ whose first sentence begins with the word Scaffolding stands in a table of its own.
 set -u
 cd "$(dirname "$0")/.." || exit 1
@@ -121,6 +123,13 @@ page() {
             while ((getline line < (work "/" $3)) > 0) print line
             close(work "/" $3)
         }
+        /^<!-- docs\/tables\.sh: code [^ ]+ -->$/ {
+            inside = 1
+            print "```rust"
+            while ((getline line < $4) > 0) print line
+            close($4)
+            print "```"
+        }
         END { if (inside) exit 1 }
     ' "$1" || fault "$1: a table has no end"
 }
@@ -128,7 +137,7 @@ page() {
 list_crates > "$work/crates"
 { echo; list_files; } > "$work/files"
 stands_apart
-for file in README.md docs/ARCHITECTURE.md; do
+for file in README.md docs/ARCHITECTURE.md docs/CALLING.md; do
     page "$file" > "$work/page"
     if [ "${1:-}" = --check ]; then
         diff "$file" "$work/page" > "$work/diff" && continue
