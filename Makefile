@@ -13,7 +13,7 @@ run:
 test:
 	@sh tests/gate.sh
 
-# Installs the program, its shell for a terminal and its man page, below DESTDIR. It proves and builds the program where that is not done yet.
+# Installs the program, its shell for a terminal, its man page and what gdb loads, below DESTDIR. It proves and builds the program where that is not done yet.
 install:
 	@sh tests/build.sh
 	@mkdir -p "$(DESTDIR)$(PREFIX)/bin" "$(DESTDIR)$(PREFIX)/share/man/man1"
@@ -23,11 +23,17 @@ install:
 	@chmod 755 "$(DESTDIR)$(PREFIX)/bin/bpfdb-shell"
 	@cp docs/bpfdb.1 "$(DESTDIR)$(PREFIX)/share/man/man1/bpfdb.1"
 	@chmod 644 "$(DESTDIR)$(PREFIX)/share/man/man1/bpfdb.1"
-	@echo "installed $(DESTDIR)$(PREFIX)/bin/bpfdb, bpfdb-shell beside it, and the man page"
+	@mkdir -p "$(DESTDIR)$(PREFIX)/share/bpfdb"
+	@cp share/bpfdb-gdb.py "$(DESTDIR)$(PREFIX)/share/bpfdb/bpfdb-gdb.py"
+	@chmod 644 "$(DESTDIR)$(PREFIX)/share/bpfdb/bpfdb-gdb.py"
+	@cp share/bpfdb-symbols "$(DESTDIR)$(PREFIX)/bin/bpfdb-symbols"
+	@chmod 755 "$(DESTDIR)$(PREFIX)/bin/bpfdb-symbols"
+	@echo "installed $(DESTDIR)$(PREFIX)/bin/bpfdb, bpfdb-shell and bpfdb-symbols beside it, and the man page; gdb's part is $(DESTDIR)$(PREFIX)/share/bpfdb/bpfdb-gdb.py"
 
 # Takes them away again.
 uninstall:
-	@rm -f "$(DESTDIR)$(PREFIX)/bin/bpfdb" "$(DESTDIR)$(PREFIX)/bin/bpfdb-shell" "$(DESTDIR)$(PREFIX)/share/man/man1/bpfdb.1"
+	@rm -f "$(DESTDIR)$(PREFIX)/bin/bpfdb" "$(DESTDIR)$(PREFIX)/bin/bpfdb-shell" "$(DESTDIR)$(PREFIX)/bin/bpfdb-symbols" "$(DESTDIR)$(PREFIX)/share/man/man1/bpfdb.1" \
+	    "$(DESTDIR)$(PREFIX)/share/bpfdb/bpfdb-gdb.py"
 
 # Makes the tables of the pages anew, and holds the pages against the repository.
 pages:

@@ -68,7 +68,8 @@ compare 'bpfdb asm first.s'
 for absent in 'run --journal=65536' 'debug -j=65536' 'asm -m=context' 'asm --mem=context' 'asm --maps=8x2' 'asm --journal=65536' \
     'asm --steps=7' 'asm --listing' 'disasm -m=context' 'disasm --mem=context' 'disasm --journal=65536' 'disasm --steps=7' \
     'check -m=context' 'check --mem=context' 'check --journal=65536' 'check --steps=7' 'run --section=a' 'debug --section=a' 'asm --section=a' \
-    'disasm --section=a' 'check --section=a' 'link -m=context' 'link --mem=context' 'link --maps=8x2' 'link --journal=65536' 'link --steps=7' 'link --listing' 'gdb --section=a'
+    'disasm --section=a' 'check --section=a' 'link -m=context' 'link --mem=context' 'link --maps=8x2' 'link --journal=65536' 'link --steps=7' 'link --listing' 'gdb --section=a' \
+    'run --registers=x86' 'debug --registers=x86'
 do
     subcommand=${absent%% *} option=${absent#* }
     name=${option%%=*}
@@ -94,6 +95,7 @@ usage "unexpected argument '-x' found" run -x first
 usage "unexpected argument '--step' found" run --step 7 first
 usage "unexpected argument '--Steps' found" run --Steps 7 first
 usage "unexpected argument 'second' found" run first second
+usage 'a value is none of those that its option takes' gdb --registers arm first
 for subcommand in run debug gdb asm disasm check link; do
     usage 'the following required arguments were not provided:' $subcommand
     usage "unexpected argument 'second' found" $subcommand first second

@@ -55,6 +55,13 @@ impl Program {
         self.insns.get(slot).copied().unwrap_or(None)
     }
 
+    /// Its bytes, eight a slot.
+    pub fn bytes(&self) -> &[u8]
+        ensures { result.now ≡ self.now.bytes }
+    {
+        self.bytes.as_slice()
+    }
+
     /// Its map table.
     pub fn maps(&self) -> &MapTable
         ensures { result.now ≡ self.now.maps }

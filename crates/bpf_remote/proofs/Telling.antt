@@ -1,11 +1,11 @@
 -- Texts that are appended to a body.
-use Rattle.std.proofs.Common.{◌≡◌, ◌<◌, ◌≤◌, ℕ, suc, ◌+◌, ◌-◌, true, false, List, [], ◌∷◌, ◌++◌, Option, None, Some, refl, sym, ap, subst, ◌∙◌, append_assoc, arith, add-one}
+use Rattle.std.proofs.Common.{◌≡◌, ◌<◌, ◌≤◌, ℕ, suc, ◌+◌, ◌-◌, true, false, List, [], ◌∷◌, ◌++◌, Option, None, Some, refl, sym, ap, subst, ◌∙◌, append_assoc, arith, add-one, length, take}
+use lib.Chars.{codes}
 use Rattle.std.proofs.lemmas.List.{append-nil}
-use Rattle.bpf_machine.specs.Regions.{Image, run_at}
 use Rattle.bpf_machine.specs.State.{State}
 use Rattle.bpf_remote.specs.Packets.{Buffer, Holds}
 use Rattle.bpf_remote.specs.Numbers.{hex_text, word_text}
-use Rattle.bpf_remote.specs.Answers.{error_text, register_text, present, registers_below, value_of, memory_part, has_memory}
+use Rattle.bpf_remote.specs.Answers.{byte_at, error_text, register_text, present, registers_below, value_of, memory_part, has_memory, part_of}
 use Rattle.bpf_remote.proofs.HexText.{hex_text-append, hex_text-none}
 
 -- the same text in other words
@@ -28,19 +28,19 @@ registers-more text x n value e =
     ∙ ap (λ (k : ℕ). text ++ registers_below x k) (sym (add-one n))
 
 -- the bytes from an address on, by the first of them
-abbrev first-of : Image → ℕ → ℕ → Option (List ℕ) → List ℕ
+abbrev first-of : State → ℕ → ℕ → Option (List ℕ) → List ℕ
 first-of m a n None = []
 first-of m a n (Some bytes) = bytes ++ present m (a + 1) n
 
-present-first : (m : Image) (a n : ℕ) (bytes : List ℕ) → run_at m a 1 ≡ Some bytes → present m a (suc n) ≡ bytes ++ present m (a + 1) n
+present-first : (m : State) (a n : ℕ) (bytes : List ℕ) → byte_at m a ≡ Some bytes → present m a (suc n) ≡ bytes ++ present m (a + 1) n
 unfolding present
 present-first m a n bytes e = ap (first-of m a n) e
 
-present-absent : (m : Image) (a n : ℕ) → run_at m a 1 ≡ None → present m a (suc n) ≡ []
+present-absent : (m : State) (a n : ℕ) → byte_at m a ≡ None → present m a (suc n) ≡ []
 unfolding present
 present-absent m a n e = ap (first-of m a n) e
 
-present-zero : (m : Image) (a : ℕ) → present m a 0 ≡ []
+present-zero : (m : State) (a : ℕ) → present m a 0 ≡ []
 unfolding present
 present-zero m a = refl
 
@@ -48,7 +48,7 @@ present-zero m a = refl
 one-of : (k n : ℕ) → k < n → n - k ≡ suc (n - (k + 1))
 one-of k n h = omega arith
 
-pub memory-more : (m : Image) (a n k : ℕ) (front bytes : List ℕ) → k < n → run_at m (a + k) 1 ≡ Some bytes → hex_text (present m a n) ≡ front ++ hex_text (present m (a + k) (n - k))
+pub memory-more : (m : State) (a n k : ℕ) (front bytes : List ℕ) → k < n → byte_at m (a + k) ≡ Some bytes → hex_text (present m a n) ≡ front ++ hex_text (present m (a + k) (n - k))
     → hex_text (present m a n) ≡ (front ++ hex_text bytes) ++ hex_text (present m (a + (k + 1)) (n - (k + 1)))
 memory-more m a n k front bytes inside e so =
     let here : present m (a + k) (n - k) ≡ bytes ++ present m (a + (k + 1)) (n - (k + 1)) =
@@ -56,26 +56,39 @@ memory-more m a n k front bytes inside e so =
     so ∙ ap (λ (v : List ℕ). front ++ v) (ap hex_text here ∙ hex_text-append bytes (present m (a + (k + 1)) (n - (k + 1))))
     ∙ sym (append_assoc front (hex_text bytes) (hex_text (present m (a + (k + 1)) (n - (k + 1)))))
 
-pub memory-end : (m : Image) (a n k : ℕ) (front : List ℕ) → k < n → run_at m (a + k) 1 ≡ None → hex_text (present m a n) ≡ front ++ hex_text (present m (a + k) (n - k))
+pub memory-end : (m : State) (a n k : ℕ) (front : List ℕ) → k < n → byte_at m (a + k) ≡ None → hex_text (present m a n) ≡ front ++ hex_text (present m (a + k) (n - k))
     → hex_text (present m a n) ≡ front
 memory-end m a n k front inside e so =
     so ∙ ap (λ (v : List ℕ). front ++ hex_text v) (ap (present m (a + k)) (one-of k n inside) ∙ present-absent m (a + k) (n - (k + 1)) e) ∙ sym (hex_text-none front)
 
-pub memory-all : (m : Image) (a n k : ℕ) (front : List ℕ) → n ≤ k → hex_text (present m a n) ≡ front ++ hex_text (present m (a + k) (n - k)) → hex_text (present m a n) ≡ front
+pub memory-all : (m : State) (a n k : ℕ) (front : List ℕ) → n ≤ k → hex_text (present m a n) ≡ front ++ hex_text (present m (a + k) (n - k)) → hex_text (present m a n) ≡ front
 memory-all m a n k front end so =
     let z : n - k ≡ 0 = omega arith in
     so ∙ ap (λ (v : List ℕ). front ++ hex_text v) (ap (present m (a + k)) z ∙ present-zero m (a + k)) ∙ sym (hex_text-none front)
 
 -- a part that is there, and one that isn't
-pub part-there : (m : Image) (a n : ℕ) → has_memory m a n ≡ true → hex_text (present m a n) ≡ memory_part m a n
+pub part-there : (m : State) (a n : ℕ) → has_memory m a n ≡ true → hex_text (present m a n) ≡ memory_part m a n
 part-there m a n h = rw h refl
 
-pub part-absent : (m : Image) (a n : ℕ) → has_memory m a n ≡ false → error_text 6 ≡ memory_part m a n
+pub part-absent : (m : State) (a n : ℕ) → has_memory m a n ≡ false → error_text 6 ≡ memory_part m a n
 part-absent m a n h = rw h refl
 
 -- a register that there is, and one that there isn't
-pub register-there : (x : State) (n value : ℕ) → n ≤ 11 → value ≡ value_of x n → word_text value ≡ register_text x n
+pub register-there : (x : State) (n value : ℕ) → n ≤ 22 → value ≡ value_of x n → word_text value ≡ register_text x n
 register-there x n value h e = ap word_text e ∙ grind (arith)
 
-pub register-absent : (x : State) (n : ℕ) → 11 < n → error_text 2 ≡ register_text x n
+pub register-absent : (x : State) (n : ℕ) → 22 < n → codes "xxxxxxxxxxxxxxxx" ≡ register_text x n
 register-absent x n h = grind (arith)
+
+-- the last part of a text, and one that isn't
+part-all : (rest : List ℕ) (count : ℕ) → length rest ≤ count → 108 ∷ rest ≡ part_of rest count
+part-all rest count h = grind (arith)
+
+part-cut : (rest : List ℕ) (count : ℕ) → count < length rest → 109 ∷ take count rest ≡ part_of rest count
+part-cut rest count h = grind (arith)
+
+pub part-last : (text rest : List ℕ) (count : ℕ) → length rest ≤ count → (text ++ 108 ∷ []) ++ rest ≡ text ++ part_of rest count
+part-last text rest count h = append_assoc text (108 ∷ []) rest ∙ ap (λ (v : List ℕ). text ++ v) (part-all rest count h)
+
+pub part-more : (text rest : List ℕ) (count : ℕ) → count < length rest → (text ++ 109 ∷ []) ++ take count rest ≡ text ++ part_of rest count
+part-more text rest count h = append_assoc text (109 ∷ []) (take count rest) ∙ ap (λ (v : List ℕ). text ++ v) (part-cut rest count h)

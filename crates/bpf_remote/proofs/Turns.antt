@@ -15,6 +15,7 @@ use Rattle.bpf_remote.specs.Packets.{Buffer, Holds, IsItem, longest_body, is_end
 use Rattle.bpf_remote.specs.Serving.{Ends, Serves, Breaks, opening}
 use Rattle.bpf_remote.specs.Streams.{Reads, ReadsItem}
 use Rattle.bpf_remote.specs.Turning.{Sides, TakesTurn}
+use Rattle.bpf_remote.specs.declared.layout.Layout.{Layout}
 use Rattle.bpf_remote.specs.declared.manners.Manners.{Manners}
 use Rattle.bpf_remote.specs.declared.stream.Item.{Item}
 use Rattle.bpf_remote.specs.declared.stream.Item.TheVariants as item
@@ -61,21 +62,21 @@ no-end item.End e f = cc
 
 module _ {K R W : Type 0} (holds : K → List Kept → Type 0) (refusals room : K → ℕ) (remaining : R → Option (List ℕ)) (contents : W → Option (List ℕ)) where
   -- what holds between two turns
-  pub record Serving (from now : SessionValue K) (manners : Manners) (answer : Buffer) (reader reader' : Tally R) (writer writer' : Tally W) : Type 0 where
+  pub record Serving (gdb : Layout) (from now : SessionValue K) (manners : Manners) (answer : Buffer) (reader reader' : Tally R) (writer writer' : Tally W) : Type 0 where
     pub nearer : reader.reads ≤ reader'.reads
     pub turns : List (Turn holds refusals room)
-    pub are : AreTurns holds refusals room (opening from) turns
+    pub are : AreTurns holds refusals room (opening gdb from) turns
     pub on : GoOn holds refusals room turns
-    pub session : (end_of holds refusals room (opening from) turns).session ≡ now
-    pub polite : (end_of holds refusals room (opening from) turns).manners ≡ manners
-    pub held : Holds answer (end_of holds refusals room (opening from) turns).last
+    pub session : (end_of holds refusals room (opening gdb from) turns).session ≡ now
+    pub polite : (end_of holds refusals room (opening gdb from) turns).manners ≡ manners
+    pub held : Holds answer (end_of holds refusals room (opening gdb from) turns).last
     pub read : Reads remaining reader reader' (read_in holds refusals room turns)
     pub told : Appends (contents writer.inner) (contents writer'.inner) (told_in holds refusals room turns)
     pub same : writer'.failures ≡ writer.failures
 
-  pub Serving-start : (from : SessionValue K) (manners : Manners) (answer : Buffer) (reader : Tally R) (writer : Tally W) → (record { acknowledges = true; swbreak = false }) ≡ manners → Holds answer []
-      → Serving from from manners answer reader reader writer writer
-  Serving-start from manners answer reader writer e h = record {
+  pub Serving-start : (gdb : Layout) (from : SessionValue K) (manners : Manners) (answer : Buffer) (reader : Tally R) (writer : Tally W) → (record { acknowledges = true; swbreak = false; layout = gdb }) ≡ manners → Holds answer []
+      → Serving gdb from from manners answer reader reader writer writer
+  Serving-start gdb from manners answer reader writer e h = record {
     nearer = omega arith;
     turns = [];
     are = tt;
@@ -93,10 +94,10 @@ module _ {K R W : Type 0} (holds : K → List Kept → Type 0) (refusals room : 
   sides session manners answer writer = record { session = session; manners = manners; answer = answer; writer = writer }
 
   -- a turn that was taken behind some
-  pub record Taken (from : SessionValue K) (reader reader' : Tally R) (writer : Tally W) (session : SessionValue K) (manners : Manners) (answer : Buffer) (on : Bool) : Type 0 where
+  pub record Taken (gdb : Layout) (from : SessionValue K) (reader reader' : Tally R) (writer : Tally W) (session : SessionValue K) (manners : Manners) (answer : Buffer) (on : Bool) : Type 0 where
     pub turn : Turn holds refusals room
     pub turns : List (Turn holds refusals room)
-    pub are : AreTurns holds refusals room (opening from) (turn ∷ turns)
+    pub are : AreTurns holds refusals room (opening gdb from) (turn ∷ turns)
     pub on_is : turn.on ≡ on
     pub session_is : turn.after.session ≡ session
     pub manners_is : turn.after.manners ≡ manners
@@ -110,18 +111,18 @@ module _ {K R W : Type 0} (holds : K → List Kept → Type 0) (refusals room : 
     pub same : now.failures ≡ writer.failures
     pub then : Writes contents now writer' result told
 
-  take : {A E F : Type 0} (from session session' : SessionValue K) (manners manners' : Manners) (answer answer' request : Buffer) (reader reader' reader'' : Tally R) (writer writer' writer'' : Tally W)
+  take : {A E F : Type 0} (gdb : Layout) (from session session' : SessionValue K) (manners manners' : Manners) (answer answer' request : Buffer) (reader reader' reader'' : Tally R) (writer writer' writer'' : Tally W)
       (said : Item) (result : Result A E) (on : Bool)
-      → Serving from session manners answer reader reader' writer writer'
+      → Serving gdb from session manners answer reader reader' writer writer'
       → ReadsItem {E = F} remaining reader' reader'' request (Ok said) → is_end said ≡ false
       → TakesTurn holds refusals room contents (sides session manners answer writer') (sides session' manners' answer' writer'') result on said request
-      → (t : Taken from reader reader'' writer session' manners' answer' on) × Wrote writer writer' writer'' (told_in holds refusals room t.turns) t.turn.told result
-  take from session session' manners manners' answer answer' request reader reader' reader'' writer writer' writer'' said result on s r more takes =
+      → (t : Taken gdb from reader reader'' writer session' manners' answer' on) × Wrote writer writer' writer'' (told_in holds refusals room t.turns) t.turn.told result
+  take gdb from session session' manners manners' answer answer' request reader reader' reader'' writer writer' writer'' said result on s r more takes =
       let i = r.item in
-      let last = (end_of holds refusals room (opening from) s.turns).last in
+      let last = (end_of holds refusals room (opening gdb from) s.turns).last in
       let done = takes last request.bytes s.held (body-held said i.0 request i.2) (no-end said more) in
-      let here : end_of holds refusals room (opening from) s.turns ≡ record { session = session; manners = manners; last = last } =
-      ap (λ (v : SessionValue K). record { session = v; manners = (end_of holds refusals room (opening from) s.turns).manners; last = last }) s.session
+      let here : end_of holds refusals room (opening gdb from) s.turns ≡ record { session = session; manners = manners; last = last } =
+      ap (λ (v : SessionValue K). record { session = v; manners = (end_of holds refusals room (opening gdb from) s.turns).manners; last = last }) s.session
       ∙ ap (λ (v : Manners). record { session = session; manners = v; last = last }) s.polite in
       let t : Turn holds refusals room = record {
         read = i.0;
@@ -148,10 +149,10 @@ module _ {K R W : Type 0} (holds : K → List Kept → Type 0) (refusals room : 
       )
 
   -- the next turn follows
-  Serving-more : {E : Type 0} (from session : SessionValue K) (manners : Manners) (answer : Buffer) (reader reader' : Tally R) (writer now writer' : Tally W) (on value : Bool)
-      → (t : Taken from reader reader' writer session manners answer on) → Wrote {E = E} writer now writer' (told_in holds refusals room t.turns) t.turn.told (Ok value) → on ≡ true
-      → Serving from session manners answer reader reader' writer writer'
-  Serving-more from session manners answer reader reader' writer now writer' on value t w e = record {
+  Serving-more : {E : Type 0} (gdb : Layout) (from session : SessionValue K) (manners : Manners) (answer : Buffer) (reader reader' : Tally R) (writer now writer' : Tally W) (on value : Bool)
+      → (t : Taken gdb from reader reader' writer session manners answer on) → Wrote {E = E} writer now writer' (told_in holds refusals room t.turns) t.turn.told (Ok value) → on ≡ true
+      → Serving gdb from session manners answer reader reader' writer writer'
+  Serving-more gdb from session manners answer reader reader' writer now writer' on value t w e = record {
     nearer = t.nearer;
     turns = t.turn ∷ t.turns;
     are = t.are;
@@ -164,14 +165,14 @@ module _ {K R W : Type 0} (holds : K → List Kept → Type 0) (refusals room : 
     same = w.then.same ∙ w.same;
   }
 
-  abbrev ends : SessionValue K → SessionValue K → Tally R → Tally R → Tally W → Tally W → Ends K R W
-  ends from to reader reader' writer writer' = record { from = from; to = to; reader = reader; reader' = reader'; writer = writer; writer' = writer' }
+  abbrev ends : Layout → SessionValue K → SessionValue K → Tally R → Tally R → Tally W → Tally W → Ends K R W
+  ends gdb from to reader reader' writer writer' = record { gdb = gdb; from = from; to = to; reader = reader; reader' = reader'; writer = writer; writer' = writer' }
 
   -- gdb leaves
-  Serves-left : {E : Type 0} (from session : SessionValue K) (manners : Manners) (answer : Buffer) (reader reader' : Tally R) (writer now writer' : Tally W) (on value : Bool)
-      → (t : Taken from reader reader' writer session manners answer on) → Wrote {E = E} writer now writer' (told_in holds refusals room t.turns) t.turn.told (Ok value) → on ≡ false
-      → Serves holds refusals room remaining contents (ends from session reader reader' writer writer')
-  Serves-left from session manners answer reader reader' writer now writer' on value t w e = (
+  Serves-left : {E : Type 0} (gdb : Layout) (from session : SessionValue K) (manners : Manners) (answer : Buffer) (reader reader' : Tally R) (writer now writer' : Tally W) (on value : Bool)
+      → (t : Taken gdb from reader reader' writer session manners answer on) → Wrote {E = E} writer now writer' (told_in holds refusals room t.turns) t.turn.told (Ok value) → on ≡ false
+      → Serves holds refusals room remaining contents (ends gdb from session reader reader' writer writer')
+  Serves-left gdb from session manners answer reader reader' writer now writer' on value t w e = (
     t.turn ∷ t.turns,
     t.are,
     t.session_is,
@@ -180,10 +181,10 @@ module _ {K R W : Type 0} (holds : K → List Kept → Type 0) (refusals room : 
   )
 
   -- the stream ends
-  pub Serves-ended : {F : Type 0} (from session : SessionValue K) (manners : Manners) (answer request : Buffer) (reader reader' reader'' : Tally R) (writer writer' : Tally W) (said : Item)
-      → Serving from session manners answer reader reader' writer writer' → ReadsItem {E = F} remaining reader' reader'' request (Ok said) → is_end said ≡ true
-      → Serves holds refusals room remaining contents (ends from session reader reader'' writer writer')
-  Serves-ended from session manners answer request reader reader' reader'' writer writer' said s r e =
+  pub Serves-ended : {F : Type 0} (gdb : Layout) (from session : SessionValue K) (manners : Manners) (answer request : Buffer) (reader reader' reader'' : Tally R) (writer writer' : Tally W) (said : Item)
+      → Serving gdb from session manners answer reader reader' writer writer' → ReadsItem {E = F} remaining reader' reader'' request (Ok said) → is_end said ≡ true
+      → Serves holds refusals room remaining contents (ends gdb from session reader reader'' writer writer')
+  Serves-ended gdb from session manners answer request reader reader' reader'' writer writer' said s r e =
       let i = r.item in
       let f = is-end said e in (
         s.turns,
@@ -200,18 +201,18 @@ module _ {K R W : Type 0} (holds : K → List Kept → Type 0) (refusals room : 
       )
 
   -- a read fails
-  pub Breaks-read : {E : Type 0} (from session : SessionValue K) (manners : Manners) (answer request : Buffer) (reader reader' reader'' : Tally R) (writer writer' : Tally W) (fault : E)
-      → Serving from session manners answer reader reader' writer writer' → ReadsItem remaining reader' reader'' request (Err fault)
-      → Breaks holds refusals room remaining contents Read (ends from session reader reader'' writer writer')
-  Breaks-read from session manners answer request reader reader' reader'' writer writer' fault s r =
+  pub Breaks-read : {E : Type 0} (gdb : Layout) (from session : SessionValue K) (manners : Manners) (answer request : Buffer) (reader reader' reader'' : Tally R) (writer writer' : Tally W) (fault : E)
+      → Serving gdb from session manners answer reader reader' writer writer' → ReadsItem remaining reader' reader'' request (Err fault)
+      → Breaks holds refusals room remaining contents Read (ends gdb from session reader reader'' writer writer')
+  Breaks-read gdb from session manners answer request reader reader' reader'' writer writer' fault s r =
       let p = r.part in
       (s.turns, s.are, s.session, (s.told, s.same), s.on, p.0, p.2, Reads-Fails remaining reader reader' reader'' (read_in holds refusals room s.turns) p.0 s.read p.1)
 
   -- a write fails
-  Breaks-write : {A E : Type 0} (from session : SessionValue K) (manners : Manners) (answer : Buffer) (reader reader' : Tally R) (writer now writer' : Tally W) (on : Bool) (fault : E)
-      → (t : Taken from reader reader' writer session manners answer on) → Wrote {A = A} writer now writer' (told_in holds refusals room t.turns) t.turn.told (Err fault)
-      → Breaks holds refusals room remaining contents Write (ends from session reader reader' writer writer')
-  Breaks-write from session manners answer reader reader' writer now writer' on fault t w =
+  Breaks-write : {A E : Type 0} (gdb : Layout) (from session : SessionValue K) (manners : Manners) (answer : Buffer) (reader reader' : Tally R) (writer now writer' : Tally W) (on : Bool) (fault : E)
+      → (t : Taken gdb from reader reader' writer session manners answer on) → Wrote {A = A} writer now writer' (told_in holds refusals room t.turns) t.turn.told (Err fault)
+      → Breaks holds refusals room remaining contents Write (ends gdb from session reader reader' writer writer')
+  Breaks-write gdb from session manners answer reader reader' writer now writer' on fault t w =
       let e = w.then.err in
       (t.turn, t.turns, t.are, t.session_is, t.read, e.0, e.1, e.2, Appends-Appends _ _ _ (told_in holds refusals room t.turns) e.0 w.first e.3, w.then.fault ∙ ap one_more w.same)
 
@@ -221,31 +222,31 @@ module _ {K R W : Type 0} (holds : K → List Kept → Type 0) (refusals room : 
       × TakesTurn holds refusals room contents (sides session manners answer writer) (sides session' manners' answer' writer') result on said request
 
   -- behind a turn: the next one, the end, a failure
-  pub after-more : {E F : Type 0} (from session session' : SessionValue K) (manners manners' : Manners) (answer answer' request : Buffer) (reader reader' reader'' : Tally R) (writer writer' writer'' : Tally W)
+  pub after-more : {E F : Type 0} (gdb : Layout) (from session session' : SessionValue K) (manners manners' : Manners) (answer answer' request : Buffer) (reader reader' reader'' : Tally R) (writer writer' writer'' : Tally W)
       (said : Item) (result : Result Bool E) (value : Bool)
-      → Serving from session manners answer reader reader' writer writer' → ReadsItem {E = F} remaining reader' reader'' request (Ok said) → is_end said ≡ false
-      → Turned session session' manners manners' answer answer' request writer' writer'' said result → result ≡ Ok value → value ≡ true → Serving from session' manners' answer' reader reader'' writer writer''
-  after-more from session session' manners manners' answer answer' request reader reader' reader'' writer writer' writer'' said (Err x) value s r more t e on = absurd cc
-  after-more from session session' manners manners' answer answer' request reader reader' reader'' writer writer' writer'' said (Ok y) value s r more t e on =
-      let k = take from session session' manners manners' answer answer' request reader reader' reader'' writer writer' writer'' said (Ok y) t.0 s r more t.2 in
+      → Serving gdb from session manners answer reader reader' writer writer' → ReadsItem {E = F} remaining reader' reader'' request (Ok said) → is_end said ≡ false
+      → Turned session session' manners manners' answer answer' request writer' writer'' said result → result ≡ Ok value → value ≡ true → Serving gdb from session' manners' answer' reader reader'' writer writer''
+  after-more gdb from session session' manners manners' answer answer' request reader reader' reader'' writer writer' writer'' said (Err x) value s r more t e on = absurd cc
+  after-more gdb from session session' manners manners' answer answer' request reader reader' reader'' writer writer' writer'' said (Ok y) value s r more t e on =
+      let k = take gdb from session session' manners manners' answer answer' request reader reader' reader'' writer writer' writer'' said (Ok y) t.0 s r more t.2 in
       let u : t.0 ≡ true = sym t.1 ∙ cc in
-      Serving-more from session' manners' answer' reader reader'' writer writer' writer'' t.0 y k.0 k.1 u
+      Serving-more gdb from session' manners' answer' reader reader'' writer writer' writer'' t.0 y k.0 k.1 u
 
-  pub after-left : {E F : Type 0} (from session session' : SessionValue K) (manners manners' : Manners) (answer answer' request : Buffer) (reader reader' reader'' : Tally R) (writer writer' writer'' : Tally W)
+  pub after-left : {E F : Type 0} (gdb : Layout) (from session session' : SessionValue K) (manners manners' : Manners) (answer answer' request : Buffer) (reader reader' reader'' : Tally R) (writer writer' writer'' : Tally W)
       (said : Item) (result : Result Bool E) (value : Bool)
-      → Serving from session manners answer reader reader' writer writer' → ReadsItem {E = F} remaining reader' reader'' request (Ok said) → is_end said ≡ false
-      → Turned session session' manners manners' answer answer' request writer' writer'' said result → result ≡ Ok value → value ≡ false → Serves holds refusals room remaining contents (ends from session' reader reader'' writer writer'')
-  after-left from session session' manners manners' answer answer' request reader reader' reader'' writer writer' writer'' said (Err x) value s r more t e on = absurd cc
-  after-left from session session' manners manners' answer answer' request reader reader' reader'' writer writer' writer'' said (Ok y) value s r more t e on =
-      let k = take from session session' manners manners' answer answer' request reader reader' reader'' writer writer' writer'' said (Ok y) t.0 s r more t.2 in
+      → Serving gdb from session manners answer reader reader' writer writer' → ReadsItem {E = F} remaining reader' reader'' request (Ok said) → is_end said ≡ false
+      → Turned session session' manners manners' answer answer' request writer' writer'' said result → result ≡ Ok value → value ≡ false → Serves holds refusals room remaining contents (ends gdb from session' reader reader'' writer writer'')
+  after-left gdb from session session' manners manners' answer answer' request reader reader' reader'' writer writer' writer'' said (Err x) value s r more t e on = absurd cc
+  after-left gdb from session session' manners manners' answer answer' request reader reader' reader'' writer writer' writer'' said (Ok y) value s r more t e on =
+      let k = take gdb from session session' manners manners' answer answer' request reader reader' reader'' writer writer' writer'' said (Ok y) t.0 s r more t.2 in
       let u : t.0 ≡ false = sym t.1 ∙ cc in
-      Serves-left from session' manners' answer' reader reader'' writer writer' writer'' t.0 y k.0 k.1 u
+      Serves-left gdb from session' manners' answer' reader reader'' writer writer' writer'' t.0 y k.0 k.1 u
 
-  pub after-failure : {E F : Type 0} (from session session' : SessionValue K) (manners manners' : Manners) (answer answer' request : Buffer) (reader reader' reader'' : Tally R) (writer writer' writer'' : Tally W)
+  pub after-failure : {E F : Type 0} (gdb : Layout) (from session session' : SessionValue K) (manners manners' : Manners) (answer answer' request : Buffer) (reader reader' reader'' : Tally R) (writer writer' writer'' : Tally W)
       (said : Item) (result : Result Bool E) (fault : E)
-      → Serving from session manners answer reader reader' writer writer' → ReadsItem {E = F} remaining reader' reader'' request (Ok said) → is_end said ≡ false
-      → Turned session session' manners manners' answer answer' request writer' writer'' said result → result ≡ Err fault → Breaks holds refusals room remaining contents Write (ends from session' reader reader'' writer writer'')
-  after-failure from session session' manners manners' answer answer' request reader reader' reader'' writer writer' writer'' said (Ok y) fault s r more t e = absurd cc
-  after-failure from session session' manners manners' answer answer' request reader reader' reader'' writer writer' writer'' said (Err x) fault s r more t e =
-      let k = take from session session' manners manners' answer answer' request reader reader' reader'' writer writer' writer'' said (Err x) t.0 s r more t.2 in
-      Breaks-write from session' manners' answer' reader reader'' writer writer' writer'' t.0 x k.0 k.1
+      → Serving gdb from session manners answer reader reader' writer writer' → ReadsItem {E = F} remaining reader' reader'' request (Ok said) → is_end said ≡ false
+      → Turned session session' manners manners' answer answer' request writer' writer'' said result → result ≡ Err fault → Breaks holds refusals room remaining contents Write (ends gdb from session' reader reader'' writer writer'')
+  after-failure gdb from session session' manners manners' answer answer' request reader reader' reader'' writer writer' writer'' said (Ok y) fault s r more t e = absurd cc
+  after-failure gdb from session session' manners manners' answer answer' request reader reader' reader'' writer writer' writer'' said (Err x) fault s r more t e =
+      let k = take gdb from session session' manners manners' answer answer' request reader reader' reader'' writer writer' writer'' said (Err x) t.0 s r more t.2 in
+      Breaks-write gdb from session' manners' answer' reader reader'' writer writer' writer'' t.0 x k.0 k.1

@@ -1,10 +1,10 @@
 -- What the bodies of answers tell.
-use Rattle.std.specs.Prelude.{ℕ, zero, suc, ◌+◌, ◌*◌, ◌^◌, ◌==◌, ◌&&◌, is_some, min, if◌then◌else◌, nat_lt, nat_le, Bool, List, [], ◌++◌, Some, None, Result, Ok, Err, length}
+use Rattle.std.specs.Prelude.{ℕ, zero, suc, ◌+◌, ◌-◌, ◌*◌, ◌^◌, ◌∷◌, slice_index, take, drop, ◌==◌, ◌&&◌, is_some, min, if◌then◌else◌, nat_lt, nat_le, Bool, List, [], ◌++◌, Some, None, Result, Ok, Err, length, Option}
 use lib.Chars.{codes}
 use Rattle.bpf_entries.specs.declared.status.Fault.TheVariants.{Access}
 use Rattle.bpf_entries.specs.declared.status.Status.{Status}
 use Rattle.bpf_entries.specs.declared.status.Status.TheVariants.{Running, Exited, Faulted}
-use Rattle.bpf_machine.specs.Regions.{Image, run_at}
+use Rattle.bpf_machine.specs.Regions.{run_at}
 use Rattle.bpf_machine.specs.State.{State, register}
 use Rattle.bpfdb_commands.specs.Refusals.{number_of}
 use Rattle.bpfdb_commands.specs.declared.refusal.Refusal.{Refusal}
@@ -13,12 +13,16 @@ use Rattle.bpfdb_replies.specs.declared.why.Why.{Why}
 use Rattle.bpfdb_replies.specs.declared.why.Why.TheVariants as why
 use Rattle.bpf_session.specs.declared.reply.Reply.{Reply}
 use Rattle.bpf_session.specs.declared.reply.Reply.TheVariants as reply
+use Rattle.bpf_remote.specs.Layouts.{described, described_again}
 use Rattle.bpf_remote.specs.Numbers.{hex_text, word_text}
 use Rattle.bpf_remote.specs.Packets.{longest_body, two_digits}
 use Rattle.bpf_remote.specs.declared.answer.Answer.{Answer}
 use Rattle.bpf_remote.specs.declared.answer.Answer.TheVariants as answer
 use Rattle.bpf_remote.specs.declared.answer.Halt.{Halt}
 use Rattle.bpf_remote.specs.declared.answer.Halt.TheVariants as halt
+use Rattle.bpf_remote.specs.declared.layout.Layout.{Layout}
+use Rattle.bpf_remote.specs.declared.layout.Layout.TheVariants as layout
+use Rattle.bpf_remote.specs.declared.manners.Manners.{Manners}
 
 -- How a machine stands still in this status, and behind a command that ended for this reason.
 abbrev pub halt_of_status : Status → Halt
@@ -65,55 +69,69 @@ text_of_halt swbreak halt.Fault = codes "T04"
 abbrev pub error_text : ℕ → List ℕ
 error_text number = codes "E" ++ two_digits number
 
--- The registers by gdb's numbers: r0 to r10, and pc, which counts bytes, eight a slot.
+-- The registers by gdb's numbers: r0 to r10; pc, which counts bytes, eight a slot; and r0 to r10 once more.
 abbrev pub value_of : State → ℕ → ℕ
-value_of x n = if n == 11 then 8 * x.pc else register x n
+value_of x n = if n == 11 then 8 * x.pc else register x (if nat_lt n 11 then n else n - 12)
 
+-- Any other has no value.
 abbrev pub register_text : State → ℕ → List ℕ
-register_text x n = if nat_le n 11 then word_text (value_of x n) else error_text 2
+register_text x n = if nat_le n 22 then word_text (value_of x n) else codes "xxxxxxxxxxxxxxxx"
 
 -- The first n of them.
 unfoldable pub registers_below : State → ℕ → List ℕ
 registers_below x zero = []
 registers_below x (suc n) = registers_below x n ++ word_text (value_of x n)
 
-abbrev pub registers_text : State → List ℕ
-registers_text x = registers_below x 12
+abbrev pub registers_text : Layout → State → List ℕ
+registers_text gdb x = registers_below x (12 + described_again gdb)
 
--- The bytes at an address and after it, so many at most, up to the first that isn't present.
-unfoldable pub present : Image → ℕ → ℕ → List ℕ
-present m address zero = []
-present m address (suc count) = elim (run_at m address 1) [ None ↦ [] | Some byte ↦ byte ++ present m (address + 1) count ]
+-- The byte at an address: those of the program stand at address 0, eight a slot, and else there is what is present in memory.
+abbrev pub byte_at : State → ℕ → Option (List ℕ)
+byte_at x address = if nat_lt address (length x.program.bytes) then Some (slice_index x.program.bytes address ∷ []) else run_at x.memory address 1
+
+-- The bytes at an address and after it, so many at most, up to the first that isn't there.
+unfoldable pub present : State → ℕ → ℕ → List ℕ
+present x address zero = []
+present x address (suc count) = elim (byte_at x address) [ None ↦ [] | Some byte ↦ byte ++ present x (address + 1) count ]
 
 -- At most 8,192 bytes are shown at once, and none past the last address.
 abbrev pub most_bytes : ℕ
 most_bytes = 8192
 
--- Whether the first of so many bytes is present, and the last address isn't passed.
-abbrev pub has_memory : Image → ℕ → ℕ → Bool
-has_memory m address n = nat_lt 0 n && nat_lt (address + n) (2 ^ 64) && is_some (run_at m address 1)
+-- Whether the first of so many bytes is there, and the last address isn't passed.
+abbrev pub has_memory : State → ℕ → ℕ → Bool
+has_memory x address n = nat_lt 0 n && nat_lt (address + n) (2 ^ 64) && is_some (byte_at x address)
 
-abbrev pub memory_part : Image → ℕ → ℕ → List ℕ
-memory_part m address n = if has_memory m address n then hex_text (present m address n) else error_text 6
+abbrev pub memory_part : State → ℕ → ℕ → List ℕ
+memory_part x address n = if has_memory x address n then hex_text (present x address n) else error_text 6
 
-abbrev pub memory_text : Image → ℕ → ℕ → List ℕ
-memory_text m address count = memory_part m address (min count most_bytes)
+abbrev pub memory_text : State → ℕ → ℕ → List ℕ
+memory_text x address count = memory_part x address (min count most_bytes)
 
 -- What is understood.
-abbrev pub supported_text : List ℕ
-supported_text = codes "PacketSize=4000;ReverseStep+;ReverseContinue+;swbreak+;QStartNoAckMode+"
+abbrev pub supported_text : Layout → List ℕ
+supported_text layout.Bpf = codes "PacketSize=4000;ReverseStep+;ReverseContinue+;swbreak+;QStartNoAckMode+"
+supported_text _ = codes "PacketSize=4000;ReverseStep+;ReverseContinue+;swbreak+;QStartNoAckMode+;qXfer:features:read+"
+
+-- A part of a text from an offset on: `l` where it ends there, `m` where more follows.
+abbrev pub part_of : List ℕ → ℕ → List ℕ
+part_of rest count = if nat_le (length rest) count then codes "l" ++ rest else codes "m" ++ take count rest
+
+abbrev pub description_text : Layout → ℕ → ℕ → List ℕ
+description_text gdb offset count = part_of (drop offset (described gdb)) count
 
 -- The body of an answer.
-abbrev pub text_of : Bool → State → Answer → List ℕ
-text_of swbreak x answer.Done = codes "OK"
-text_of swbreak x (answer.Error number) = error_text number
-text_of swbreak x (answer.Halted halt) = text_of_halt swbreak halt
-text_of swbreak x answer.Registers = registers_text x
-text_of swbreak x (answer.Register n) = register_text x n
-text_of swbreak x (answer.Memory address count) = memory_text x.memory address count
-text_of swbreak x answer.Supported = supported_text
-text_of swbreak x answer.Attached = codes "1"
-text_of swbreak x answer.Empty = []
+abbrev pub text_of : Manners → State → Answer → List ℕ
+text_of m x answer.Done = codes "OK"
+text_of m x (answer.Error number) = error_text number
+text_of m x (answer.Halted halt) = text_of_halt m.swbreak halt
+text_of m x answer.Registers = registers_text m.layout x
+text_of m x (answer.Register n) = register_text x n
+text_of m x (answer.Memory address count) = memory_text x address count
+text_of m x answer.Supported = supported_text m.layout
+text_of m x (answer.Description offset count) = description_text m.layout offset count
+text_of m x answer.Attached = codes "1"
+text_of m x answer.Empty = []
 
 -- An answer that is too long for a packet is an error.
 abbrev pub sent : List ℕ → List ℕ

@@ -40,6 +40,7 @@ answer_to request.Registers s = answer.Registers
 answer_to (request.Register n) s = answer.Register n
 answer_to (request.Memory address count) s = answer.Memory address count
 answer_to (request.Supported swbreak) s = answer.Supported
+answer_to (request.Description offset count) s = answer.Description offset count
 answer_to request.Attached s = answer.Attached
 answer_to request.Wrong s = answer.Error 2
 answer_to request.Unknown s = answer.Empty
@@ -102,7 +103,7 @@ module _ {K : Type 0} (holds : K → List Kept → Type 0) (refusals room : K �
   -- A packet with this body was answered.
   abbrev pub DoesRequest : Place K → Place K → Request → List ℕ → Bool → Type 0
   DoesRequest old new r told on = (answer : Answer) × Answers old.session new.session r answer × (new.manners ≡ manners_after r old.manners)
-      × (new.last ≡ text_of old.manners.swbreak new.session.moment.state answer) × (told ≡ acknowledgement old.manners ++ packet (is_answered r) new.last) × (on ≡ goes_on r)
+      × (new.last ≡ text_of old.manners new.session.moment.state answer) × (told ≡ acknowledgement old.manners ++ packet (is_answered r) new.last) × (on ≡ goes_on r)
 
   abbrev pub DoesLine : Place K → Place K → List ℕ → List ℕ → Bool → Type 0
   DoesLine old new digits told on = ObeysLine old.session new.session (line_of digits) new.last × (new.manners ≡ old.manners)

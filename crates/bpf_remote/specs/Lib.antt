@@ -2,6 +2,7 @@ pub mod Packets
 pub mod Streams
 pub mod Cuts
 pub mod Numbers
+pub mod Layouts
 pub mod Requests
 pub mod Answers
 pub mod Connections

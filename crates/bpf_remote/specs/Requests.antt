@@ -1,5 +1,5 @@
 -- What the body of a packet asks for.
-use Rattle.std.specs.Prelude.{ℕ, ◌/◌, ◌%◌, ◌==◌, ◌&&◌, ◌||◌, if◌then◌else◌, nat_le, List, [], ◌∷◌, length, is_some, Option, Some, None, Bool, false}
+use Rattle.std.specs.Prelude.{ℕ, ◌-◌, ◌/◌, ◌%◌, ◌==◌, ◌||◌, if◌then◌else◌, nat_le, List, [], ◌∷◌, length, is_some, Option, Some, None, Bool, false}
 use lib.Chars.{codes}
 use Rattle.std.specs.Option.{option_map, option_and_then, unwrap_or}
 use Rattle.std.specs.Str.{bytes_eq}
@@ -31,11 +31,12 @@ or_wrong r = unwrap_or r request.Wrong
 abbrev pub register : Arguments
 register rest = or_wrong (option_map request.Register (number rest))
 
--- The registers that can be set: r0 to r10, and pc, which counts bytes, eight a slot.
+-- The registers that can be set: r0 to r10; pc, which counts bytes, eight a slot; and from 12 on r0 to r10 once more.
 abbrev pub edit_of : ℕ → ℕ → Option Command
 edit_of n value =
     if nat_le n 10 then Some (command.Edit (edit.Register n value))
-    else if n == 11 && value % 8 == 0 then Some (command.Edit (edit.Pc (value / 8)))
+    else if n == 11 then (if value % 8 == 0 then Some (command.Edit (edit.Pc (value / 8))) else None)
+    else if nat_le n 22 then Some (command.Edit (edit.Register (n - 12) value))
     else None
 
 -- The number of a register, `=`, and its eight bytes.
@@ -69,6 +70,10 @@ abbrev pub contains : List ℕ → List ℕ → Bool
 contains name [] = false
 contains name (byte ∷ rest) = is_some (behind name (byte ∷ rest)) || contains name rest
 
+-- Where a part of gdb's description begins, a comma, and how many bytes it has at most.
+abbrev pub description : Arguments
+description rest = or_wrong (option_map (λ p. request.Description p.0 p.1) (pair 44 rest))
+
 abbrev pub supported : Arguments
 supported rest = request.Supported (contains (codes "swbreak+") rest)
 
@@ -101,6 +106,7 @@ names =
     ∷ (codes "k", any request.Kill)
     ∷ (codes "qSupported", supported)
     ∷ (codes "qAttached", any request.Attached)
+    ∷ (codes "qXfer:features:read:target.xml:", description)
     ∷ []
 
 -- The request of a whole word, None where the table doesn't have it.

@@ -1,10 +1,12 @@
 //! Answers: what the bodies of packets tell gdb.
-ghost use Rattle.std.specs.Prelude.{◌≡◌, ◌≤◌, ◌<◌, ◌+◌, ◌^◌, ◌++◌, List, true, ℕ};
-ghost use Rattle.bpf_remote.specs.Answers.{answer_of_move, answer_of_set, error_text, halt_of, halt_of_status, has_memory, memory_text, present, register_text, registers_text, text_of, text_of_halt, value_of};
+ghost use Rattle.std.specs.Prelude.{◌≡◌, ◌≤◌, ◌<◌, ◌+◌, ◌-◌, ◌^◌, ◌++◌, if◌then◌else◌, nat_le, option_map, List, drop, true, ℕ};
+ghost use Rattle.bpf_remote.specs.Answers.{answer_of_move, answer_of_set, byte_at, description_text, error_text, halt_of, halt_of_status, has_memory, memory_text, part_of, present, register_text, registers_text, supported_text, text_of, text_of_halt, value_of};
 ghost use Rattle.bpf_remote.specs.Numbers.{hex_text};
 ghost use Rattle.bpf_remote.specs.Packets.{Holds};
 
 use crate::body::Body;
+use crate::layout::{Layout, described, described_again};
+use crate::manners::Manners;
 use bpf_isa::Reg;
 use bpf_machine::{Cpu, Fault, Status};
 use bpf_session::{Refusal, Reply, Why};
@@ -45,6 +47,8 @@ pub enum Answer {
     Memory { address: u64, count: u64 },
     /// What is understood.
     Supported,
+    /// So many bytes of the machine's description, from an offset on.
+    Description { offset: u64, count: u64 },
     /// The machine was there before.
     Attached,
     /// Nothing: the request isn't known.
@@ -107,19 +111,20 @@ pub(crate) fn answer_of_set(answer: &Result<Reply, Refusal>) -> Answer
 }
 
 /// Writes an answer behind a body.
-pub(crate) fn append_answer(answer: Answer, cpu: &Cpu, swbreak: bool, body: &mut Body)
-    ensures { (text : List ℕ) → Holds body.old text → Holds body.new (text ++ text_of swbreak cpu.now answer) }
+pub(crate) fn append_answer(answer: Answer, cpu: &Cpu, manners: Manners, body: &mut Body)
+    ensures { (text : List ℕ) → Holds body.old text → Holds body.new (text ++ text_of manners cpu.now answer) }
 {
     match answer {
         Answer::Done => body.append(b"OK"),
         Answer::Error(number) => append_error(number, body),
-        Answer::Halted(halt) => body.append(text_of_halt(halt, swbreak).as_bytes()),
-        Answer::Registers => append_registers(cpu, body),
+        Answer::Halted(halt) => body.append(text_of_halt(halt, manners.swbreak).as_bytes()),
+        Answer::Registers => append_registers(cpu, manners.layout, body),
         Answer::Register(n) => append_register(cpu, n, body),
         Answer::Memory { address, count } => append_memory(cpu, address, count, body),
-        Answer::Supported => body.append(
-            b"PacketSize=4000;ReverseStep+;ReverseContinue+;swbreak+;QStartNoAckMode+",
-        ),
+        Answer::Supported => body.append(supported_text(manners.layout).as_bytes()),
+        Answer::Description { offset, count } => {
+            append_description(manners.layout, offset, count, body)
+        }
         Answer::Attached => body.append(b"1"),
         Answer::Empty => {}
     }
@@ -140,6 +145,53 @@ fn text_of_halt(halt: Halt, swbreak: bool) -> &'static str
     }
 }
 
+/// What is understood.
+fn supported_text(layout: Layout) -> &'static str
+    ensures { result.now ≡ supported_text layout }
+{
+    match layout {
+        Layout::Bpf => "PacketSize=4000;ReverseStep+;ReverseContinue+;swbreak+;QStartNoAckMode+",
+        _ => {
+            "PacketSize=4000;ReverseStep+;ReverseContinue+;swbreak+;QStartNoAckMode+;qXfer:features:read+"
+        }
+    }
+}
+
+/// Writes so many bytes of a machine's description behind a body, from an offset on.
+fn append_description(layout: Layout, offset: u64, count: u64, body: &mut Body)
+    ensures { (text : List ℕ) → Holds body.old text → Holds body.new (text ++ description_text layout offset count) }
+{
+    append_part(
+        behind_offset(described(layout).as_bytes(), offset),
+        count,
+        body,
+    );
+}
+
+/// What stands from an offset on.
+fn behind_offset(text: &[u8], offset: u64) -> &[u8]
+    ensures { result.now ≡ drop offset text.now }
+{
+    if offset < text.len() as u64 {
+        &text[offset as usize..]
+    } else {
+        &[]
+    }
+}
+
+/// Writes the first so many bytes behind a body, and before them whether they are all.
+fn append_part(rest: &[u8], count: u64, body: &mut Body)
+    ensures { (text : List ℕ) → Holds body.old text → Holds body.new (text ++ part_of rest.now count) }
+{
+    if rest.len() as u64 <= count {
+        body.append(b"l");
+        body.append(rest);
+    } else {
+        body.append(b"m");
+        body.append(&rest[..count as usize]);
+    }
+}
+
 /// Writes an error's number behind a body.
 pub(crate) fn append_error(number: u8, body: &mut Body)
     ensures { (text : List ℕ) → Holds body.old text → Holds body.new (text ++ error_text number) }
@@ -148,40 +200,49 @@ pub(crate) fn append_error(number: u8, body: &mut Body)
     body.append_hex(&[number]);
 }
 
-/// Writes the values of r0 to r10 and pc behind a body.
-fn append_registers(cpu: &Cpu, body: &mut Body)
-    ensures { (text : List ℕ) → Holds body.old text → Holds body.new (text ++ registers_text cpu.now) }
+/// Writes the values of r0 to r10 and pc behind a body, and those that gdb is told of once more.
+fn append_registers(cpu: &Cpu, layout: Layout, body: &mut Body)
+    ensures { (text : List ℕ) → Holds body.old text → Holds body.new (text ++ registers_text layout cpu.now) }
 {
-    for n in 0..12 {
+    let count = 12 + described_again(layout);
+    for n in 0..count {
         body.append_word(value_of(cpu, n));
     }
 }
 
-/// The value of a register by gdb's number, 0 to 11.
+/// The value of a register by gdb's number, 0 to 22.
 fn value_of(cpu: &Cpu, n: u8) -> u64
-    requires { n ≤ 11 }
+    requires { n ≤ 22 }
     ensures { result ≡ value_of cpu.now n }
 {
-    match Reg::new(n) {
+    match Reg::new(register_of(n)) {
         Some(register) => cpu.reg(register),
         None => 8 * u64::from(cpu.pc()),
     }
+}
+
+/// The register of a number, 11 where it is pc.
+fn register_of(n: u8) -> u8
+    requires { n ≤ 22 }
+    ensures { result ≡ (if nat_le n 11 then n else n - 12) }
+{
+    if n <= 11 { n } else { n - 12 }
 }
 
 /// Writes the value of a register behind a body.
 fn append_register(cpu: &Cpu, n: u64, body: &mut Body)
     ensures { (text : List ℕ) → Holds body.old text → Holds body.new (text ++ register_text cpu.now n) }
 {
-    if n <= 11 {
+    if n <= 22 {
         body.append_word(value_of(cpu, n as u8));
     } else {
-        append_error(2, body);
+        body.append(b"xxxxxxxxxxxxxxxx");
     }
 }
 
-/// Writes bytes from an address on behind a body, up to the first that isn't present.
+/// Writes bytes from an address on behind a body, up to the first that isn't there.
 fn append_memory(cpu: &Cpu, address: u64, count: u64, body: &mut Body)
-    ensures { (text : List ℕ) → Holds body.old text → Holds body.new (text ++ memory_text cpu.now.memory address count) }
+    ensures { (text : List ℕ) → Holds body.old text → Holds body.new (text ++ memory_text cpu.now address count) }
 {
     let n = count.min(MOST_BYTES);
     if has_memory(cpu, address, n) {
@@ -191,27 +252,39 @@ fn append_memory(cpu: &Cpu, address: u64, count: u64, body: &mut Body)
     }
 }
 
-/// Whether the first of so many bytes is present, and the last address isn't passed.
+/// Whether the first of so many bytes is there, and the last address isn't passed.
 fn has_memory(cpu: &Cpu, address: u64, n: u64) -> bool
-    ensures value { result ≡ has_memory cpu.now.memory address n }
+    ensures value { result ≡ has_memory cpu.now address n }
     ensures fits { result ≡ true → address + n < 2 ^ 64 }
 {
     if n == 0 {
         return false;
     }
     match address.checked_add(n) {
-        Some(_) => cpu.peek(address, 1).is_some(),
+        Some(_) => byte_at(cpu, address).is_some(),
         None => false,
     }
 }
 
-/// Writes the bytes that are present behind a body.
+/// The byte at an address: one of the program's, from address 0 on, or what is present in memory.
+fn byte_at(cpu: &Cpu, address: u64) -> Option<&[u8]>
+    ensures { option_map (λ byte. byte.now) result ≡ byte_at cpu.now address }
+{
+    let code = cpu.program().bytes();
+    if address < code.len() as u64 {
+        let at = address as usize;
+        return Some(&code[at..at + 1]);
+    }
+    cpu.peek(address, 1)
+}
+
+/// Writes the bytes that are there behind a body.
 fn append_present(cpu: &Cpu, address: u64, count: u64, body: &mut Body)
     requires { address + count < 2 ^ 64 }
-    ensures { (text : List ℕ) → Holds body.old text → Holds body.new (text ++ hex_text (present cpu.now.memory address count)) }
+    ensures { (text : List ℕ) → Holds body.old text → Holds body.new (text ++ hex_text (present cpu.now address count)) }
 {
     for k in 0..count {
-        match cpu.peek(address + k, 1) {
+        match byte_at(cpu, address + k) {
             Some(byte) => body.append_hex(byte),
             None => return,
         }

@@ -3,7 +3,9 @@
 
 mod answer;
 mod body;
+mod description;
 mod digits;
+mod layout;
 mod manners;
 mod number;
 mod obeying;
@@ -15,6 +17,7 @@ mod stream;
 
 pub use answer::{Answer, Halt, TOO_LONG};
 pub use body::Body;
+pub use layout::Layout;
 pub use manners::Manners;
 pub use packet::put_packet;
 pub use parser::request_of;

@@ -1,4 +1,5 @@
 //! How gdb is talked to.
+use crate::layout::Layout;
 
 /// How gdb is talked to.
 #[derive(Clone, Copy)]
@@ -7,4 +8,6 @@ pub struct Manners {
     pub acknowledges: bool,
     /// gdb understands `swbreak` in an answer.
     pub swbreak: bool,
+    /// Which machine gdb takes this one for.
+    pub layout: Layout,
 }

@@ -43,6 +43,10 @@ pub(crate) fn obey<K: Keeper>(session: &mut Session<K>, request: &Request) -> An
             count: *count,
         },
         Request::Supported { .. } => Answer::Supported,
+        Request::Description { offset, count } => Answer::Description {
+            offset: *offset,
+            count: *count,
+        },
         Request::Attached => Answer::Attached,
         Request::Wrong => Answer::Error(2),
         Request::Unknown => Answer::Empty,
@@ -58,10 +62,12 @@ pub(crate) fn manners_after(request: &Request, manners: Manners) -> Manners
         Request::Silence => Manners {
             acknowledges: false,
             swbreak: manners.swbreak,
+            layout: manners.layout,
         },
         Request::Supported { swbreak } => Manners {
             acknowledges: manners.acknowledges,
             swbreak: *swbreak,
+            layout: manners.layout,
         },
         _ => manners,
     }

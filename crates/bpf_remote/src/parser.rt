@@ -4,7 +4,7 @@ ghost use Rattle.std.specs.Option.{option_and_then};
 ghost use Rattle.bpf_remote.specs.Numbers.{behind, pair};
 ghost use Rattle.std.specs.Str.{bytes_eq};
 ghost use Rattle.bpfdb_commands.specs.Commands.{bytes_of};
-ghost use Rattle.bpf_remote.specs.Requests.{begun_request, breakpoint, contains, edit_of, memory, register, request_of, set_memory, set_register, slot_of, supported, watch, word_request};
+ghost use Rattle.bpf_remote.specs.Requests.{begun_request, breakpoint, contains, description, edit_of, memory, register, request_of, set_memory, set_register, slot_of, supported, watch, word_request};
 
 use crate::number::{behind, cut, number, pair, word};
 use crate::request::Request;
@@ -85,6 +85,8 @@ fn begun_request(body: &[u8]) -> Option<Request>
         Some(supported(rest))
     } else if begins("qAttached", body) {
         Some(Request::Attached)
+    } else if let Some(rest) = behind("qXfer:features:read:target.xml:", body) {
+        Some(description(rest))
     } else {
         None
     }
@@ -124,8 +126,13 @@ fn edit_of(n: u64, value: u64) -> Option<Command>
         let register = Reg::new(n as u8)?;
         return Some(Command::Edit(Edit::Register { register, value }));
     }
-    if n == 11 && value % 8 == 0 {
-        return Some(Command::Edit(Edit::Pc { slot: value / 8 }));
+    if n == 11 {
+        let slot = slot_of(value)?;
+        return Some(Command::Edit(Edit::Pc { slot }));
+    }
+    if n <= 22 {
+        let register = Reg::new((n - 12) as u8)?;
+        return Some(Command::Edit(Edit::Register { register, value }));
     }
     None
 }
@@ -229,6 +236,16 @@ fn unwatch(rest: &[u8]) -> Request
     match pair(b',', rest) {
         Some((address, 1)) => Request::Set(Command::Remove(Stop::Watch(address))),
         _ => Request::Wrong,
+    }
+}
+
+/// Where a part of gdb's description begins, a comma and how many bytes it has at most.
+fn description(rest: &[u8]) -> Request
+    ensures { result ≡ description rest.now }
+{
+    match pair(b',', rest) {
+        Some((offset, count)) => Request::Description { offset, count },
+        None => Request::Wrong,
     }
 }
 

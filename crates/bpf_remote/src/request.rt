@@ -21,6 +21,8 @@ pub enum Request {
     Supported { swbreak: bool },
     /// `QStartNoAckMode`: packets aren't acknowledged any more.
     Silence,
+    /// `qXfer:features:read:target.xml`: so many bytes of gdb's description, from an offset on.
+    Description { offset: u64, count: u64 },
     /// `qAttached`: whether the machine was there before.
     Attached,
     /// `H`: the thread that other requests are about; there is one.

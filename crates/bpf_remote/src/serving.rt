@@ -10,6 +10,7 @@ ghost use Rattle.bpf_remote.specs.Turning.{AnswersBody, AnswersLine, AnswersRequ
 
 use crate::answer::append_answer;
 use crate::body::Body;
+use crate::layout::Layout;
 use crate::manners::Manners;
 use crate::number::behind;
 use crate::obeying::{goes_on, is_answered, manners_after, obey, obey_line};
@@ -22,20 +23,22 @@ use counted_io::{Counted, WriteFault, write_text};
 use std::io::{Read, Write};
 
 /// Serves a connection: answers each packet of a stream, up to its end or until gdb leaves. The writer is flushed after each
-/// answer. It takes no memory.
+/// answer. It takes no memory. `gdb` is the machine that gdb is told of.
 pub fn serve<K: Keeper, R: Read, W: Write>(
+    gdb: Layout,
     session: &mut Session<K>,
     reader: &mut Counted<R>,
     writer: &mut Counted<W>,
 ) -> Result<(), RunFault>
     ensures ok { OnOk result (Serves K.holds K.refused K.room R.remaining W.contents
-        (record { from = session.old; to = session.new; reader = reader.old; reader' = reader.new; writer = writer.old; writer' = writer.new })) }
+        (record { gdb = gdb; from = session.old; to = session.new; reader = reader.old; reader' = reader.new; writer = writer.old; writer' = writer.new })) }
     ensures err { IfErr result (λ why. Breaks K.holds K.refused K.room R.remaining W.contents why
-        (record { from = session.old; to = session.new; reader = reader.old; reader' = reader.new; writer = writer.old; writer' = writer.new })) }
+        (record { gdb = gdb; from = session.old; to = session.new; reader = reader.old; reader' = reader.new; writer = writer.old; writer' = writer.new })) }
 {
     let mut manners = Manners {
         acknowledges: true,
         swbreak: false,
+        layout: gdb,
     };
     let mut request = Body::new();
     let mut answer = Body::new();
@@ -171,7 +174,7 @@ fn answer_request<K: Keeper, W: Write>(
     let request = request_of(body);
     let told = obey(session, &request);
     answer.clear();
-    append_answer(told, session.cpu(), manners.swbreak, answer);
+    append_answer(told, session.cpu(), *manners, answer);
     *manners = manners_after(&request, *manners);
     let wrote = put_answer(writer, begun, answer, is_answered(&request));
     (wrote, goes_on(&request))

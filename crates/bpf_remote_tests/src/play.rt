@@ -3,7 +3,7 @@
 use bpf_isa::{MapTable, check};
 use bpf_journal::RingKeeper;
 use bpf_machine::Cpu;
-use bpf_remote::serve;
+use bpf_remote::{Layout, serve};
 use bpf_session::{Count, Counted, Session};
 use std::alloc::Global;
 use std::process::Abort;
@@ -31,17 +31,28 @@ pub fn session(rt: &impl Abort, alloc: Global, program: &str, limit: u64) -> Ses
     session_over(rt, alloc, machine(rt, alloc, program), limit)
 }
 
-/// What is told to a stream.
+/// What is told to a stream, of a gdb that knows BPF.
 pub fn told(
     rt: &impl Abort,
     alloc: Global,
     session: &mut Session<RingKeeper>,
     stream: &[u8],
 ) -> Vec<u8> {
+    told_as(rt, alloc, Layout::Bpf, session, stream)
+}
+
+/// What is told to a stream, of a gdb that takes the machine for another.
+fn told_as(
+    rt: &impl Abort,
+    alloc: Global,
+    gdb: Layout,
+    session: &mut Session<RingKeeper>,
+    stream: &[u8],
+) -> Vec<u8> {
     let mut told = Vec::new(alloc);
     let mut reader = Counted::new(stream);
     let mut writer = Counted::new(&mut told);
-    assert!(rt; serve(session, &mut reader, &mut writer).is_ok());
+    assert!(rt; serve(gdb, session, &mut reader, &mut writer).is_ok());
     told
 }
 
@@ -94,11 +105,22 @@ fn append_answer(rt: &impl Abort, body: &mut Vec<u8>, row: &str, answer: &str) {
     }
 }
 
-/// Plays a table's rows to a session, a connection a row.
+/// Plays a table's rows to a session, a connection a row, of a gdb that knows BPF.
 pub fn plays(rt: &impl Abort, alloc: Global, session: &mut Session<RingKeeper>, table: &str) {
+    plays_as(rt, alloc, Layout::Bpf, session, table);
+}
+
+/// Plays a table's rows to a session, of a gdb that takes the machine for another.
+pub fn plays_as(
+    rt: &impl Abort,
+    alloc: Global,
+    gdb: Layout,
+    session: &mut Session<RingKeeper>,
+    table: &str,
+) {
     for row in table.lines() {
         if let Some((request, answer)) = row.split_once('|') {
-            play_row(rt, alloc, session, request, answer);
+            play_row(rt, alloc, gdb, session, request, answer);
         }
     }
 }
@@ -107,6 +129,7 @@ pub fn plays(rt: &impl Abort, alloc: Global, session: &mut Session<RingKeeper>, 
 fn play_row(
     rt: &impl Abort,
     alloc: Global,
+    gdb: Layout,
     session: &mut Session<RingKeeper>,
     request: &str,
     answer: &str,
@@ -120,7 +143,7 @@ fn play_row(
     let mut text = Vec::new(alloc);
     append_answer(rt, &mut text, request, answer);
     append_packet(rt, &mut wanted, &text);
-    let found = told(rt, alloc, session, &stream);
+    let found = told_as(rt, alloc, gdb, session, &stream);
     check_bytes(rt, &found, &wanted, request);
 }
 

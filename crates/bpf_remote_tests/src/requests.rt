@@ -1,5 +1,6 @@
 //! Requests in each status of a machine, and their answers.
-use crate::play::{plays, session};
+use crate::play::{plays, plays_as, session};
+use bpf_remote::Layout;
 
 /// mov r0, 42; exit.
 const ANSWER: &str = "b70000002a0000009500000000000000";
@@ -16,7 +17,11 @@ p0|2a00000000000000
 pa|0002000002000000
 pb|0800000000000000
 pB|0800000000000000
-pc|E02
+pc|2a00000000000000
+P16=0100000000000000|E07
+p16|0002000002000000
+P17=0100000000000000|E02
+p17|xxxxxxxxxxxxxxxx
 p|E02
 p0x0|E02
 bs|T05
@@ -38,7 +43,10 @@ M200000000,4:01020a0b|OK
 m200000000,4|01020a0b
 m2000001fe,4|0000
 m200000200,1|E06
-m0,1|E06
+m0,1|b7
+m0,100|b70000002a0000009500000000000000
+mf,2|00
+m10,1|E06
 m200000000,0|E06
 mffffffffffffffff,1|E06
 mffffffffffffffff,2|E06
@@ -104,6 +112,27 @@ fn requests_are_answered(rt: HostRuntime) {
     plays(&rt, rt.alloc(), &mut machine, WHOLE);
     let mut other = session(&rt, rt.alloc(), ANSWER, 1000);
     plays(&rt, rt.alloc(), &mut other, LINES);
+}
+
+/// What is other where gdb takes the machine for x86-64: registers once more, and the beginning of a description.
+const X86: &str =
+    "qSupported:swbreak+|PacketSize=4000;ReverseStep+;ReverseContinue+;swbreak+;QStartNoAckMode+;qXfer:features:read+
+s|T05
+g|2a00000000000000000000000000000000000000000000000000000000000000000000000000000000000000000000000000000000000000000000000000000000000000000000000000000000000000000200000200000008000000000000002a000000000000000000000000000000000000000000000000000000000000000000000000000000000000000000000000000000000000000000000000000000
+qXfer:features:read:target.xml:0,15|m<?xml version=\"1.0\"?>
+qXfer:features:read:target.xml:9d2,7|mtarget>
+qXfer:features:read:target.xml:9da,8|l
+qXfer:features:read:target.xml:ffffffffffffffff,1|l
+qXfer:features:read:target.xml:0|E02
+qXfer:features:read:other.xml:0,15|
+Pc=0700000000000000|OK
+p0|0700000000000000
+";
+
+#[test]
+fn another_machine_is_described(rt: HostRuntime) {
+    let mut machine = session(&rt, rt.alloc(), ANSWER, 1000);
+    plays_as(&rt, rt.alloc(), Layout::X86, &mut machine, X86);
 }
 
 #[test]

@@ -2,6 +2,10 @@
 use Rattle.std.specs.Prelude.{ℕ, ◌≡◌, List, [], Option, Some, None, option_map}
 use Rattle.std.specs.Borrow.{Bor}
 use Rattle.bpfdb_cli.specs.declared.plans.Plan.{Plan}
+use Rattle.bpf_remote.specs.declared.layout.Layout.{Layout}
+use Rattle.bpf_remote.specs.declared.layout.Layout.TheVariants as layout
+use Rattle.bpfdb_cli.specs.declared.plans.Registers.{Registers}
+use Rattle.bpfdb_cli.specs.declared.plans.Registers.TheVariants as registers
 use Rattle.bpfdb_cli.specs.declared.plans.Subcommand.{Subcommand}
 use Rattle.bpfdb_cli.specs.declared.plans.Subcommand.TheVariants as subcommand
 use Rattle.bpfdb_jobs.specs.declared.job.Job.{Job}
@@ -17,6 +21,12 @@ kind_of subcommand.Disasm = kind.Disasm
 kind_of subcommand.Check = kind.Check
 kind_of subcommand.Link = kind.Link
 kind_of subcommand.Gdb = kind.Debug
+
+-- The machine that gdb takes this one for.
+abbrev pub layout_of : Registers → Layout
+layout_of registers.Bpf = layout.Bpf
+layout_of registers.X86 = layout.X86
+layout_of registers.Riscv = layout.Riscv
 
 -- The bytes of a text that may be there.
 abbrev pub bytes_of : Option (Bor (List ℕ)) → Option (List ℕ)

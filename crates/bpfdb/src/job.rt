@@ -1,6 +1,6 @@
 //! The job of a plan, done over any reader and writer.
 ghost use Rattle.std.specs.Prelude.{◌≡◌, ◌≢◌, ◌⊎◌, List, ℕ, Some};
-ghost use Rattle.bpfdb.specs.Jobs.{IsJobOf, kind_of, section_of};
+ghost use Rattle.bpfdb.specs.Jobs.{IsJobOf, kind_of, layout_of, section_of};
 ghost use Rattle.bpfdb_jobs.specs.Connections.{BreaksConnection, ServesConnection};
 ghost use Rattle.bpfdb_jobs.specs.Endings.{LosesStop, TellsFault, TellsStop};
 ghost use Rattle.bpfdb_jobs.specs.Jobs.{Completes, Needs, Spared, StopsShort};
@@ -8,7 +8,8 @@ ghost use Rattle.bpfdb_jobs.specs.declared.job.JobKind.TheVariants.{Debug};
 ghost use Rattle.bpfdb_limits.specs.Limits.{IsLimit};
 
 use bpf_journal::{Keeper, RingKeeper};
-use bpfdb_cli::{Plan, Subcommand};
+use bpf_remote::Layout;
+use bpfdb_cli::{Plan, Registers, Subcommand};
 use bpfdb_jobs::{Job, JobKind, serve_job, tool};
 use counted_io::Counted;
 use std::alloc::Global;
@@ -58,11 +59,11 @@ pub fn serve_plan<R: Read, W: Write, E: Write>(
     requires limit { IsLimit plan.now.limit }
     ensures value { (job : Job) × IsJobOf plan.now file.now context.now job
         × (result ≢ 2 → ServesConnection ⟦<RingKeeper as Keeper>⟧.holds ⟦<RingKeeper as Keeper>⟧.refused ⟦<RingKeeper as Keeper>⟧.room
-        R.remaining W.contents job reader.old reader.new writer.old writer.new) }
+        R.remaining W.contents (layout_of plan.now.registers) job reader.old reader.new writer.old writer.new) }
     ensures broken { (job : Job) × IsJobOf plan.now file.now context.now job
         × (result ≡ 2 → ((reader.new ≡ reader.old) × (writer.new ≡ writer.old))
         ⊎ BreaksConnection ⟦<RingKeeper as Keeper>⟧.holds ⟦<RingKeeper as Keeper>⟧.refused ⟦<RingKeeper as Keeper>⟧.room
-        R.remaining W.contents job reader.old reader.new writer.old writer.new) }
+        R.remaining W.contents (layout_of plan.now.registers) job reader.old reader.new writer.old writer.new) }
     ensures refused { (job : Job) × IsJobOf plan.now file.now context.now job
         × ((Needs Debug job → ⊥) → (result ≡ 2) × (reader.new ≡ reader.old) × (writer.new ≡ writer.old)) }
     ensures spared { result ≢ 2 → Spared reader.old reader.new × Spared writer.old writer.new × Spared errors.old errors.new }
@@ -71,7 +72,14 @@ pub fn serve_plan<R: Read, W: Write, E: Write>(
         × (result ≡ 2 → TellsFault E.contents Debug job reader.old reader.new writer.old writer.new errors.old errors.new) }
 {
     let job = job_of(plan, file, context);
-    serve_job(alloc, &job, reader, writer, errors)
+    serve_job(
+        alloc,
+        layout_of(plan.registers),
+        &job,
+        reader,
+        writer,
+        errors,
+    )
 }
 
 /// The job of a plan.
@@ -102,6 +110,17 @@ fn kind_of(subcommand: Subcommand) -> JobKind
         Subcommand::Check => JobKind::Check,
         Subcommand::Link => JobKind::Link,
         Subcommand::Gdb => JobKind::Debug,
+    }
+}
+
+/// The machine that gdb takes this one for.
+fn layout_of(registers: Registers) -> Layout
+    ensures { result ≡ layout_of registers }
+{
+    match registers {
+        Registers::Bpf => Layout::Bpf,
+        Registers::X86 => Layout::X86,
+        Registers::Riscv => Layout::Riscv,
     }
 }
 

@@ -10,7 +10,7 @@ mod input;
 mod job;
 mod prompt;
 
-use bpfdb_cli::{Plan, PlanFault, Subcommand, plan};
+use bpfdb_cli::{Plan, PlanFault, Registers, Subcommand, plan};
 use bpfdb_files::Retrying;
 use bpfdb_jobs::{JobFault, give_up, tell_usage};
 use bpfdb_limits::{DEFAULT_JOURNAL, DEFAULT_LIMIT};
@@ -44,6 +44,7 @@ const FIRST_PLAN: Plan<'static> = Plan {
     limit: DEFAULT_LIMIT,
     is_listing: false,
     section: None,
+    registers: Registers::X86,
 };
 
 fn main(rt: HostRuntime) -> ExitCode {
@@ -245,7 +246,15 @@ fn do_over_reader<R: Read + Drop, W: Write>(
         return give_up(errors, &JobFault::Memory);
     };
     let mut reader = Counted::new(input);
-    do_or_serve(rt.alloc(), plan, file, context, &mut reader, writer, errors)
+    do_or_serve(
+        rt.alloc(),
+        plan,
+        file,
+        context,
+        &mut reader,
+        writer,
+        errors,
+    )
 }
 
 /// Serves gdb where the plan says so, and else does the plan's job.

@@ -39,6 +39,10 @@ listing_rule = record (new_rule (codes "listing")) { long = Some (codes "listing
 abbrev pub section_rule : Rule
 section_rule = record (new_rule (codes "section")) { long = Some (codes "section"); value_names = 1 }
 
+-- `--registers NAME`: the machine that gdb is told of.
+abbrev pub registers_rule : Rule
+registers_rule = record (new_rule (codes "registers")) { long = Some (codes "registers"); value_names = 1; defaults = codes "x86" ∷ [] }
+
 -- FILE, which each subcommand needs.
 abbrev pub file_rule : Rule
 file_rule = record (new_rule (codes "file")) { required = true; value_names = 1 }
@@ -64,9 +68,13 @@ check_app = with_rule (with_rule (with_rule (new_app (codes "check")) maps_rule)
 abbrev pub link_app : App
 link_app = with_rule (with_rule (new_app (codes "link")) section_rule) file_rule
 
-abbrev pub gdb_app : App
-gdb_app = with_rule (with_rule (with_rule (with_rule (with_rule (with_rule (new_app (codes "gdb"))
+-- `gdb` opens a session as `debug` does.
+abbrev pub gdb_session_app : App
+gdb_session_app = with_rule (with_rule (with_rule (with_rule (with_rule (with_rule (new_app (codes "gdb"))
     mem_rule) maps_rule) journal_rule) steps_rule) listing_rule) file_rule
+
+abbrev pub gdb_app : App
+gdb_app = with_rule gdb_session_app registers_rule
 
 -- The command without its subcommands: it can't stand without one, and it tells its version.
 abbrev pub bare_app : App

@@ -11,6 +11,8 @@ use Rattle.bpfdb_cli.specs.CommandLine.{command_app}
 use Rattle.bpfdb_cli.specs.declared.plans.Plan.{Plan}
 use Rattle.bpfdb_cli.specs.declared.plans.PlanFault.{PlanFault}
 use Rattle.bpfdb_cli.specs.declared.plans.PlanFault.TheVariants.{Usage, Memory}
+use Rattle.bpfdb_cli.specs.declared.plans.Registers.{Registers}
+use Rattle.bpfdb_cli.specs.declared.plans.Registers.TheVariants as registers
 use Rattle.bpfdb_cli.specs.declared.plans.Subcommand.{Subcommand}
 use Rattle.bpfdb_cli.specs.declared.plans.Subcommand.TheVariants as subcommand
 use Rattle.bpfdb_limits.specs.Limits.{IsLimit, default_journal, default_limit}
@@ -34,6 +36,16 @@ number_or default (Some text) = digits_value 10 (without_leading_plus text)
 abbrev pub is_given : Option Text → Bool
 is_given text = option_map_or (λ t. bytes_eq t (codes "true")) text false
 
+-- The names of machines that gdb may take this one for, the default where the option has no text.
+abbrev pub registers_name : Registers → Text
+registers_name registers.Bpf = codes "bpf"
+registers_name registers.X86 = codes "x86"
+registers_name registers.Riscv = codes "riscv"
+
+abbrev pub NamesRegisters : Option Text → Registers → Type 0
+NamesRegisters None r = r ≡ registers.X86
+NamesRegisters (Some text) r = registers_name r ≡ text
+
 -- A plan says what a subcommand's matches say.
 pub record Says (name : Text) (rows : List Row) (plan : Plan) : Type 0 where
   pub subcommand : subcommand_name plan.subcommand ≡ name
@@ -44,6 +56,7 @@ pub record Says (name : Text) (rows : List Row) (plan : Plan) : Type 0 where
   pub limit : plan.limit ≡ number_or default_limit (first_of (codes "steps") rows)
   pub listing : plan.is_listing ≡ is_given (first_of (codes "listing") rows)
   pub section : option_map (λ s. s.now) plan.section ≡ first_of (codes "section") rows
+  pub registers : NamesRegisters (first_of (codes "registers") rows) plan.registers
 
 -- A number that is given is one below 2^64.
 abbrev pub IsNumber : Option Text → Type 0

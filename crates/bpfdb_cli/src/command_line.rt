@@ -1,7 +1,7 @@
 //! The command line, as `clap` is told of it.
 ghost use Rattle.std.specs.Prelude.{◌≡◌, IfOk, false};
-ghost use Rattle.clap.specs.Words.{app_of, rule_of, with_subcommand};
-ghost use Rattle.bpfdb_cli.specs.CommandLine.{asm_app, bare_app, check_app, command_app, debug_app, disasm_app, file_rule, gdb_app, journal_rule, link_app, listing_rule, maps_rule, mem_rule, run_app, running_app, section_rule, steps_rule};
+ghost use Rattle.clap.specs.Words.{AddsArg, AddsSubcommand, app_of, rule_of, shape_of, with_subcommand};
+ghost use Rattle.bpfdb_cli.specs.CommandLine.{asm_app, bare_app, check_app, command_app, debug_app, disasm_app, file_rule, gdb_app, gdb_session_app, journal_rule, link_app, listing_rule, maps_rule, mem_rule, registers_rule, run_app, running_app, section_rule, steps_rule};
 
 use crate::help;
 use bpfdb_limits::GREATEST_COUNT;
@@ -72,6 +72,19 @@ fn listing_option<'a>(alloc: Global) -> Arg<'a>
         .help(help::LISTING)
 }
 
+/// `--registers NAME`.
+fn registers_option<'a>(alloc: Global) -> Arg<'a>
+    ensures value { rule_of result ≡ registers_rule }
+    ensures local { result.global ≡ false }
+{
+    Arg::new(alloc, "registers")
+        .long("registers")
+        .value_name("NAME")
+        .default_value("x86")
+        .help(help::REGISTERS)
+        .long_help(help::REGISTERS_LONG)
+}
+
 /// `--section NAME`.
 fn section_option<'a>(alloc: Global) -> Arg<'a>
     ensures value { rule_of result ≡ section_rule }
@@ -128,9 +141,12 @@ fn with_debug<'a>(alloc: Global, above: Command<'a>) -> Result<Command<'a>, Allo
     above.subcommand(command)
 }
 
-/// A command and its subcommand `gdb`.
-fn with_gdb<'a>(alloc: Global, above: Command<'a>) -> Result<Command<'a>, AllocError>
-    ensures { IfOk result (λ command. app_of command ≡ with_subcommand (app_of above.entry) gdb_app.top) }
+/// The subcommand `gdb` with the options of its session.
+fn gdb_session<'a>(alloc: Global) -> Result<Command<'a>, AllocError>
+    ensures value { IfOk result (λ command. app_of command ≡ gdb_session_app) }
+    // With one more option of its own it can be a subcommand.
+    ensures joins { IfOk result (λ command. (option : Arg) (wider above whole : Command) → option.global ≡ false → AddsArg command option wider
+        → AddsSubcommand above wider whole → app_of whole ≡ with_subcommand (app_of above) (shape_of wider)) }
 {
     let command = Command::new(alloc, "gdb")
         .about(help::GDB)
@@ -142,6 +158,15 @@ fn with_gdb<'a>(alloc: Global, above: Command<'a>) -> Result<Command<'a>, AllocE
         .arg(steps_option(alloc))?
         .arg(listing_option(alloc))?
         .arg(file_argument(alloc, help::PROGRAM))?;
+    Ok(command)
+}
+
+/// A command and its subcommand `gdb`.
+fn with_gdb<'a>(alloc: Global, above: Command<'a>) -> Result<Command<'a>, AllocError>
+    ensures { IfOk result (λ command. app_of command ≡ with_subcommand (app_of above.entry) gdb_app.top) }
+{
+    let command = gdb_session(alloc)?;
+    let command = command.arg(registers_option(alloc))?;
     above.subcommand(command)
 }
 

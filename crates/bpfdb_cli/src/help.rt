@@ -118,13 +118,15 @@ pub const GDB: &str = "Serves gdb's remote protocol, forwards and backwards";
 pub const GDB_LONG: &str = "Serves gdb's remote protocol, forwards and backwards.
 
 Reads FILE, the context, and from standard input what gdb sends. Writes the answers to
-standard output. A session is opened as by debug: `s` and `c` are its stepi and continue,
-`bs` and `bc` its reverse-stepi and reverse-continue, and gdb's monitor obeys a line of a
-script. The registers are r0 to r10 and pc, which is 8 times the slot.";
+standard output. A session is opened as by debug: gdb steps, goes on and goes back in it,
+and its monitor obeys a line of a script. The program's code is at address 0, 8 bytes a
+slot, and pc counts bytes. docs/GDB.md shows a session.";
 
-pub const GDB_EXAMPLE: &str = "Example, in a gdb that is built for BPF:
+pub const GDB_EXAMPLE: &str = "Example, in gdb:
   (gdb) target remote | bpfdb gdb count.bin
-  (gdb) monitor break 1";
+  (gdb) stepi
+  (gdb) reverse-stepi
+  (gdb) monitor undo";
 
 /// `-m`, `--mem`.
 pub const MEM: &str = "File with the context, 0 to 65536 bytes at r1; none without it";
@@ -160,6 +162,14 @@ with exit status 1, and a command with the word limit. Example: --steps 5000";
 
 /// `--listing`.
 pub const LISTING: &str = "FILE is a listing (docs/LISTING.md), and is assembled first";
+
+/// `--registers`.
+pub const REGISTERS: &str = "Machine that gdb takes this one for: x86, riscv or bpf";
+
+pub const REGISTERS_LONG: &str =
+    "Machine that gdb takes this one for: x86 for any gdb on a PC, riscv for gdb-multiarch, bpf
+for a gdb that is built for BPF. r0 to r10 are shown under their own names, too.
+Example: --registers riscv";
 
 /// `--section`.
 pub const SECTION: &str = "Code section to be linked; without it the only one";

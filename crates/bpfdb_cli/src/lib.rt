@@ -8,4 +8,4 @@ mod planner;
 mod plans;
 
 pub use planner::plan;
-pub use plans::{Plan, PlanFault, Subcommand};
+pub use plans::{Plan, PlanFault, Registers, Subcommand};

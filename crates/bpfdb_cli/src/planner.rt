@@ -3,17 +3,18 @@ ghost use Rattle.std.specs.Prelude.{◌≡◌, ◌<◌, ◌^◌, IfErr, IfNone, 
 ghost use Rattle.std.specs.Str.Parse.{IsNumeral, digits_value, without_leading_plus};
 ghost use Rattle.clap.specs.Words.{Row, Text, first_of, found_of, rows_of, subcommand_rows_of};
 ghost use Rattle.bpfdb_limits.specs.Limits.{IsLimit};
-ghost use Rattle.bpfdb_cli.specs.Plans.{HasKindIfTold, IsFaultOf, IsPlan, IsPlanOf, Says, Tells, is_given, subcommand_name, number_or};
+ghost use Rattle.bpfdb_cli.specs.Plans.{HasKindIfTold, IsFaultOf, IsPlan, IsPlanOf, NamesRegisters, Says, Tells, is_given, registers_name, subcommand_name, number_or};
 
 use crate::command_line::command_line;
-use crate::plans::{Plan, PlanFault, Subcommand};
+use crate::plans::{Plan, PlanFault, Registers, Subcommand};
 use bpfdb_limits::{DEFAULT_JOURNAL, DEFAULT_LIMIT, is_limit};
 use clap::error::ErrorKind;
 use clap::{ArgMatches, Command, Error};
 use std::alloc::Global;
 
-/// What would be said of a number that `clap` lets pass out of its range. It lets none pass, which its contract doesn't say.
-const BAD_NUMBER: &str = "a number is out of its range";
+/// What is said of a name that `--registers` doesn't take. It would be said of a number, too, that `clap` lets pass out of its range: it lets
+/// none pass, which its contract doesn't say.
+const BAD_VALUE: &str = "a value is none of those that its option takes";
 
 /// The plan of a command line, of which the first word is the program's name.
 pub fn plan<'a>(alloc: Global, words: &'a [&'a str]) -> Result<Plan<'a>, PlanFault>
@@ -31,7 +32,7 @@ pub fn plan<'a>(alloc: Global, words: &'a [&'a str]) -> Result<Plan<'a>, PlanFau
     };
     match plan_of(&matches) {
         Some(plan) => Ok(plan),
-        None => Err(bad_number(&mut command)),
+        None => Err(bad_value(&mut command)),
     }
 }
 
@@ -45,11 +46,11 @@ fn told_by(error: Error) -> PlanFault
     }
 }
 
-/// The fault of a number that is out of its range.
-fn bad_number(command: &mut Command<'_>) -> PlanFault
+/// The fault of a value that its option doesn't take.
+fn bad_value(command: &mut Command<'_>) -> PlanFault
     ensures { HasKindIfTold ErrorKind.ValueValidation result }
 {
-    match command.error(ErrorKind::ValueValidation, BAD_NUMBER) {
+    match command.error(ErrorKind::ValueValidation, BAD_VALUE) {
         Ok(error) => PlanFault::Usage(error),
         Err(_) => PlanFault::Memory,
     }
@@ -91,6 +92,10 @@ fn plan_in<'a>(name: &'a str, found: &ArgMatches<'a>) -> Option<Plan<'a>>
         Some(limit) => limit,
         None => return None,
     };
+    let registers = match registers_of(text_of(found, "registers")) {
+        Some(registers) => registers,
+        None => return None,
+    };
     if !is_limit(limit) {
         return None;
     }
@@ -103,6 +108,7 @@ fn plan_in<'a>(name: &'a str, found: &ArgMatches<'a>) -> Option<Plan<'a>>
         limit,
         is_listing: is_given(text_of(found, "listing")),
         section: text_of(found, "section"),
+        registers,
     })
 }
 
@@ -119,6 +125,30 @@ fn subcommand_named(name: &str) -> Option<Subcommand>
         "check" => Some(Subcommand::Check),
         "link" => Some(Subcommand::Link),
         "gdb" => Some(Subcommand::Gdb),
+        _ => None,
+    }
+}
+
+/// The machine of this name, the default where none is named.
+fn registers_of(text: Option<&str>) -> Option<Registers>
+    ensures found { IfSome result (NamesRegisters (option_map (λ t. t.now) text.entry)) }
+    ensures none { IfNone result ((registers : Registers) → NamesRegisters (option_map (λ t. t.now) text.entry) registers → ⊥) }
+{
+    match text {
+        None => Some(Registers::X86),
+        Some(text) => registers_named(text),
+    }
+}
+
+/// The machine of this name.
+fn registers_named(name: &str) -> Option<Registers>
+    ensures found { IfSome result (λ registers. registers_name registers ≡ name.now) }
+    ensures none { IfNone result ((registers : Registers) → registers_name registers ≡ name.now → ⊥) }
+{
+    match name {
+        "bpf" => Some(Registers::Bpf),
+        "x86" => Some(Registers::X86),
+        "riscv" => Some(Registers::Riscv),
         _ => None,
     }
 }

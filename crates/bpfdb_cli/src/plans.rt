@@ -24,6 +24,17 @@ pub enum Subcommand {
     Link,
 }
 
+/// The machine that gdb takes this one for.
+#[derive(Clone, Copy)]
+pub enum Registers {
+    /// One for BPF.
+    Bpf,
+    /// x86-64.
+    X86,
+    /// RISC-V of 64 bits.
+    Riscv,
+}
+
 /// What a command line asks for. What the subcommand has no option for stands as when the option is absent.
 #[derive(Clone, Copy)]
 pub struct Plan<'a> {
@@ -42,6 +53,8 @@ pub struct Plan<'a> {
     pub is_listing: bool,
     /// The name of the code section that is linked; without one it is the only one.
     pub section: Option<&'a str>,
+    /// The machine that gdb takes this one for, x86-64 where it isn't given.
+    pub registers: Registers,
 }
 
 /// Why a command line is no plan.

@@ -9,6 +9,8 @@ const PLANS: &str = "\
 run --steps 7 -m c p|run p c - 65536 7 false -
 debug p --mem c --maps 8x2,1x1 --journal 2048 --listing|debug p c 8x2,1x1 2048 1000000 true -
 gdb -m c --journal 2048 --steps 7 p|gdb p c - 2048 7 false -
+gdb --registers riscv p|gdb p - - 65536 1000000 false -
+gdb --registers arm p|2
 asm p|asm p - - 65536 1000000 false -
 disasm --maps 8x2 -- -p|disasm -p - 8x2 65536 1000000 false -
 check --listing p|check p - - 65536 1000000 true -
@@ -83,5 +85,5 @@ fn plan_each(rt: &impl Abort, alloc: Global, table: &str) -> usize {
 
 #[test]
 fn command_lines_are_planned(rt: HostRuntime) {
-    assert_eq!(rt; plan_each(&rt, rt.alloc(), PLANS), 22);
+    assert_eq!(rt; plan_each(&rt, rt.alloc(), PLANS), 24);
 }

@@ -2,7 +2,7 @@
 use bpf_isa::{MapTable, check};
 use bpf_journal::RingKeeper;
 use bpf_machine::Cpu;
-use bpf_remote::serve;
+use bpf_remote::{Layout, serve};
 use bpf_session::{Counted, Session};
 
 /// mov r0, 40; add r0, 2; exit.
@@ -30,6 +30,7 @@ fn a_step_is_served(rt: HostRuntime) {
     let mut answers = Vec::new(alloc);
     let packets: &[u8] = b"$s#73";
     let ended = serve(
+        Layout::X86,
         &mut session,
         &mut Counted::new(packets),
         &mut Counted::new(&mut answers),

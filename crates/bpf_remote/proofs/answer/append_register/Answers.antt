@@ -2,10 +2,10 @@ use Rattle.std.proofs.Common.{ℕ, List, ◌++◌, ap}
 use Rattle.bpf_remote.proofs.Telling.{Holds-text, register-there, register-absent}
 use Rattle.bpf_remote.proofs.answer.append_register.Goals as goal
 
-pub returns-then-n-le11 : goal.returns-then-n-le11
-returns-then-n-le11 c = λ text held.
-    Holds-text _ _ _ (c.append_word.ensures text held) (ap (λ (v : List ℕ). text ++ v) (register-there c.args.cpu.now c.args.n c.value_of.result c.if-n-le11.true c.value_of.ensures))
+pub returns-then-n-le22 : goal.returns-then-n-le22
+returns-then-n-le22 c = λ text held.
+    Holds-text _ _ _ (c.append_word.ensures text held) (ap (λ (v : List ℕ). text ++ v) (register-there c.args.cpu.now c.args.n c.value_of.result c.if-n-le22.true c.value_of.ensures))
 
-pub returns-else-n-le11 : goal.returns-else-n-le11
-returns-else-n-le11 c = λ text held.
-    Holds-text _ _ _ (c.append_error.ensures text held) (ap (λ (v : List ℕ). text ++ v) (register-absent c.args.cpu.now c.args.n c.if-n-le11.false))
+pub returns-else-n-le22 : goal.returns-else-n-le22
+returns-else-n-le22 c = λ text held.
+    Holds-text _ _ _ (c.append.ensures text held) (ap (λ (v : List ℕ). text ++ v) (register-absent c.args.cpu.now c.args.n c.if-n-le22.false))

@@ -1,5 +1,6 @@
-use Rattle.std.proofs.Common.{◌≡◌, ℕ, ◌++◌, ap, arith}
+use Rattle.std.proofs.Common.{◌≡◌, ℕ, ◌+◌, ◌++◌, ap, arith}
 use Rattle.bpf_remote.specs.Answers.{registers_below}
+use Rattle.bpf_remote.specs.Layouts.{described_again}
 use Rattle.bpf_remote.proofs.Telling.{Holds-text, registers-none, registers-more}
 use Rattle.bpf_remote.proofs.answer.append_registers.Goals as goal
 
@@ -11,5 +12,5 @@ loop-n-preserved c = λ text held. Holds-text _ _ _ (c.append_word.ensures _ (c.
 
 pub returns : goal.returns
 returns c = λ text held.
-    let e : c.loop-n.n ≡ 12 = omega arith in
+    let e : c.loop-n.n ≡ 12 + described_again c.args.layout = omega (arith, c.described_again-count.ensures.value) in
     Holds-text _ _ _ (c.loop-n.invariant text held) (ap (λ (n : ℕ). text ++ registers_below c.args.cpu.now n) e)

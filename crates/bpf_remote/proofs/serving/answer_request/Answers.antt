@@ -8,7 +8,7 @@ use Rattle.bpf_remote.proofs.serving.answer_request.Goals as goal
 
 pub returns : goal.returns
 returns g c = λ before.
-    let text = text_of c.args.manners.now.swbreak c.cpu.result.now c.obey-told.result in
+    let text = text_of c.args.manners.now c.cpu.result.now c.obey-told.result in
     subst (λ (r : Request). Tells {E = _} g.W.Write.contents
     (record { session = c.args.session.now; manners = c.args.manners.now; answer = c.args.answer.now; writer = c.args.writer.now })
     (record { session = c.obey-told.new.session; manners = c.manners_after.result; answer = c.append_answer.new.body; writer = c.put_answer-wrote.new.writer })
@@ -25,7 +25,7 @@ returns g c = λ before.
         c.obey-told.result,
         c.obey-told.ensures,
         c.manners_after.ensures,
-        ap (λ (x : State). text_of c.args.manners.now.swbreak x c.obey-told.result) c.cpu.ensures,
+        ap (λ (x : State). text_of c.args.manners.now x c.obey-told.result) c.cpu.ensures,
         ap (λ (b : Bool). acknowledgement c.args.manners.now ++ packet b text) c.is_answered.ensures,
         c.goes_on.ensures,
       );

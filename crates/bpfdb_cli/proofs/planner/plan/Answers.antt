@@ -51,4 +51,4 @@ returns-clause-fault c =
     let matches = c.in-Ok-try_get_matches_from_mut.ensures.ok.2 (ap is_simple line ∙ simple) in
     let words = map (λ word. word.now) c.args.words.now in
     let rows = matches.1 ∙ ap (λ app. subcommand_of app words) line in
-    out_of_range words _ c.bad_number.ensures (λ name found plan met. c.in-None.ensures.none name found plan (rows ∙ met))
+    out_of_range words _ c.bad_value.ensures (λ name found plan met. c.in-None.ensures.none name found plan (rows ∙ met))
