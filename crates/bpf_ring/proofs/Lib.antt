@@ -1,4 +1,6 @@
 pub mod Arounds
 pub mod Counted
 pub mod Held
+pub mod Runs
+pub mod Spans
 pub mod Walks

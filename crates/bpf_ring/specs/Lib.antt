@@ -1,3 +1,5 @@
 pub mod Blocks
 pub mod Counted
 pub mod Held
+pub mod Runs
+pub mod Spans

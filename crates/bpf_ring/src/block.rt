@@ -100,9 +100,37 @@ pub(crate) fn record_in_place(
     let size = block.len();
     let end = place(size, first, len);
     if end + weight < size {
-        cpu.record(change, &mut block[end..end + weight], mark);
+        record_at(cpu, change, block, first, len, end, weight, mark);
         true
     } else {
         false
     }
+}
+
+/// The same where the place behind those bytes is known, and there is room for the entry.
+#[inline(always)]
+pub(crate) fn record_at(
+    cpu: &mut Cpu,
+    change: &Change,
+    block: &mut [u8],
+    first: usize,
+    len: usize,
+    end: usize,
+    weight: usize,
+    mark: bool,
+)
+    requires runs { has_ended cpu.old.status ≡ false }
+    requires looked { change.now ≡ change_of cpu.old }
+    requires entry { FitsFields (step_entry cpu.old) }
+    requires weight { weight ≡ weight_of (step_entry cpu.old) }
+    requires light { weight ≤ greatest_weight }
+    requires first { first < length block.old }
+    requires end { end ≡ behind (length block.old) first len }
+    requires room { end + weight < length block.old }
+    requires short { length block.old < 2 ^ 63 }
+    ensures next { cpu.new ≡ next cpu.old }
+    ensures len { length block.new ≡ length block.old }
+    ensures text { len + weight ≤ length block.old → around block.new first (len + weight) ≡ around block.old first len ++ text (step_entry cpu.old) mark }
+{
+    cpu.record(change, &mut block[end..end + weight], mark);
 }

@@ -6,7 +6,7 @@ ghost use Rattle.bpf_entries.specs.Past.{is_of_step};
 ghost use Rattle.bpf_entries.specs.Texts.{kind, tag as tag_text};
 
 /// The counts of entries, of marked ones, and of those that are of edits.
-#[derive(Drop)]
+#[derive(Clone, Copy)]
 pub(crate) struct Counts {
     entries: usize,
     marks: usize,

@@ -1,9 +1,9 @@
 //! The entries in a ring of bytes.
-ghost use Rattle.std.specs.Prelude.{◌≡◌, ◌≤◌, ◌<◌, ◌+◌, ◌-◌, ◌^◌, if◌then◌else◌, ◌∷◌, ◌++◌, [], List, length, sum_by, count_by, IfOk, None, Some, slice_get, ℕ, false};
+ghost use Rattle.std.specs.Prelude.{◌≡◌, ◌≤◌, ◌<◌, ◌+◌, ◌-◌, ◌^◌, if◌then◌else◌, ◌∷◌, ◌++◌, [], List, length, sum_by, count_by, IfOk, None, Some, slice_get, is_some, ℕ, true, false};
 ghost use Rattle.bpf_entries.specs.Before.{byte_before as byte_before_by, depth_before as depth_before_by};
 ghost use Rattle.bpf_entries.specs.Fields.{FitsFields};
 ghost use Rattle.bpf_entries.specs.Keeping.{Kept, kept_weight, fit, keep};
-ghost use Rattle.bpf_entries.specs.Past.{is_of_step as of_step};
+ghost use Rattle.bpf_entries.specs.Past.{is_of_step as of_step, replaced};
 ghost use Rattle.bpf_entries.specs.Rings.{AllFit, ring as ring_of};
 ghost use Rattle.bpf_entries.specs.Texts.{kind, tag as tag_of, text as text_of};
 ghost use Rattle.bpf_entries.specs.Weights.{greatest_weight, weight as weight_of};
@@ -14,15 +14,18 @@ ghost use Rattle.bpf_machine.specs.Moves.{Leads, overwritten};
 ghost use Rattle.bpf_machine.specs.Next.{change as change_of, next};
 ghost use Rattle.bpf_machine.specs.State.{State};
 ghost use Rattle.bpf_machine.specs.declared.moves.Move.{Move};
+ghost use Rattle.bpf_machine.specs.declared.moves.Move.TheVariants as move_of;
 ghost use Rattle.bpf_ring.specs.Counted.{Counted};
 ghost use Rattle.bpf_ring.specs.Held.{HoldsWay, IsHeld};
+ghost use Rattle.bpf_ring.specs.Runs.{RunsTo, kept_after};
 
 use crate::counts::{Counts, within};
 use crate::ring::Ring;
+use crate::run::{StopTest, change_replaces_bytes};
 use bpf_entries::weights::GREATEST;
 use bpf_entries::{Entry, is_of_step};
 use bpf_machine::laws::entries_fit;
-use bpf_machine::{Change, Cpu};
+use bpf_machine::{Change, Cpu, Ended};
 use circular_buffer::HeapCircularBuffer;
 use std::alloc::{AllocError, Global};
 
@@ -383,6 +386,53 @@ impl EntryRing {
         self.ring.record(cpu, change, weight, mark);
         self.counts.add(mark, true);
         self.invariant();
+    }
+
+    /// Takes steps and keeps each, the first one with a mark, until the machine has ended, a test holds of the last step, or `most` are taken, at
+    /// least one. Answers how many. It takes no memory, and no step is refused.
+    pub fn run<T: StopTest>(&mut self, cpu: &mut Cpu, most: u64, test: &T) -> u64
+        requires runs { has_ended cpu.old.status ≡ false }
+        requires some { 1 ≤ most }
+        ensures to { RunsTo (T.test test.now) most cpu.old cpu.new result }
+        ensures size { self.new.ring.size ≡ self.old.ring.size }
+        ensures fits { length self.new.ring.bytes ≤ self.new.ring.size }
+        ensures held { (ks : List Kept) → IsHeld self.old.ring self.old.counts ks → IsHeld self.new.ring self.new.counts (kept_after self.old.ring.size result cpu.old ks) }
+    {
+        let mut taken = 0;
+        while taken < most {
+            if self.step(cpu, taken == 0, test) {
+                self.invariant();
+                return taken + 1;
+            }
+            let reached = self.ring.run(cpu, self.counts, taken + 1, most, test);
+            self.counts = reached.span.counts;
+            taken = reached.taken;
+            if reached.is_over {
+                self.invariant();
+                return taken;
+            }
+        }
+        self.invariant();
+        taken
+    }
+
+    /// Takes a step of a run and keeps it, wherever its entry goes. Answers whether the run stops there.
+    #[inline(never)]
+    fn step<T: StopTest>(&mut self, cpu: &mut Cpu, mark: bool, test: &T) -> bool
+        requires runs { has_ended cpu.old.status ≡ false }
+        ensures leads { Leads cpu.old move_of.Step cpu.new }
+        ensures stops { result ≡ (if has_ended cpu.new.status then true else T.test test.now (is_some (replaced 0 (step_entry cpu.old))) cpu.new) }
+        ensures size { self.new.ring.size ≡ self.old.ring.size }
+        ensures held { (ks : List Kept) → IsHeld self.old.ring self.old.counts ks → IsHeld self.new.ring self.new.counts (keep kept_weight self.old.ring.size ks (step_entry cpu.old, mark)) }
+    {
+        let change = match cpu.look() {
+            Ok(change) => change,
+            Err(Ended) => unreachable!(),
+        };
+        cpu.invariant();
+        let replaced = change_replaces_bytes(&change);
+        self.record(cpu, &change, mark);
+        test.stops(cpu, replaced)
     }
 
     /// Appends an entry's text, for which there must be room.

@@ -5,6 +5,8 @@ mod block;
 mod counts;
 mod entries;
 mod ring;
+mod run;
 
 pub use entries::EntryRing;
 pub use ring::Ring;
+pub use run::{StopTest, change_replaces_bytes};

@@ -1,5 +1,5 @@
 //! A ring of bytes.
-ghost use Rattle.std.specs.Prelude.{◌≡◌, ◌≤◌, ◌<◌, ◌+◌, ◌-◌, ◌^◌, ◌++◌, ◌∷◌, [], length, take, drop, slice_get, ℕ, Bool, List, IfOk, false};
+ghost use Rattle.std.specs.Prelude.{◌≡◌, ◌≤◌, ◌<◌, ◌+◌, ◌-◌, ◌^◌, ◌++◌, ◌∷◌, [], length, take, drop, slice_get, ℕ, Bool, List, IfOk, true, false};
 ghost use Rattle.byteorder.specs.Endian.{little_bytes};
 ghost use Rattle.bpf_entries.specs.declared.entry.Entry.{Entry};
 ghost use Rattle.bpf_entries.specs.Before.{byte_before as byte_before_by, depth_before as depth_before_by};
@@ -12,9 +12,13 @@ ghost use Rattle.bpf_machine.specs.Moves.{HasComeBy, Leads, overwritten};
 ghost use Rattle.bpf_machine.specs.Next.{change as change_of, next};
 ghost use Rattle.bpf_machine.specs.State.{State};
 ghost use Rattle.bpf_machine.specs.declared.moves.Move.{Move};
-ghost use Rattle.bpf_entries.specs.Keeping.{IsSize};
+ghost use Rattle.bpf_entries.specs.Keeping.{IsSize, Kept};
+ghost use Rattle.bpf_ring.specs.Held.{IsHeld};
+ghost use Rattle.bpf_ring.specs.Runs.{RunsTo, Running, kept_after, state_after};
 
 use crate::block::{fill, place, record_in_place, write_around};
+use crate::counts::Counts;
+use crate::run::{Reached, Span, StopTest, run_in_place};
 use bpf_entries::weights::GREATEST;
 use bpf_entries::{byte_before, depth_before};
 use bpf_machine::{Change, Cpu};
@@ -151,7 +155,43 @@ impl Ring {
         }
     }
 
-    /// The same, by way of a copy of the entry.
+    /// Goes on with a run that has taken some steps and keeps each, in the block: until it is over, or until an entry doesn't go into the block in
+    /// one piece. `counts` are those of the entries that the ring holds. It takes no memory.
+    #[inline(always)]
+    pub(crate) fn run<T: StopTest>(
+        &mut self,
+        cpu: &mut Cpu,
+        counts: Counts,
+        taken: u64,
+        most: u64,
+        test: &T,
+    ) -> Reached
+        requires runs { has_ended cpu.old.status ≡ false }
+        requires some { 1 ≤ taken }
+        requires most { taken ≤ most }
+        ensures size { self.new.size ≡ self.old.size }
+        ensures on { (taken ≤ result.taken) × (result.taken ≤ most) }
+        ensures runs { result.is_over ≡ false → has_ended cpu.new.status ≡ false }
+        ensures goes_on { (x : State) → Running (T.test test.now) x cpu.old taken → result.is_over ≡ false → Running (T.test test.now) x cpu.new result.taken }
+        ensures over { (x : State) → Running (T.test test.now) x cpu.old taken → result.is_over ≡ true → RunsTo (T.test test.now) most x cpu.new result.taken }
+        ensures held { (x : State) (ks : List Kept) → cpu.old ≡ state_after taken x → IsHeld self.old counts (kept_after self.old.size taken x ks) →
+            IsHeld self.new result.span.counts (kept_after self.old.size result.taken x ks) }
+    {
+        let size = self.buffer.capacity();
+        let span = Span {
+            first: self.first,
+            len: self.len,
+            end: place(self.buffer.len(), self.first, self.len),
+            counts,
+        };
+        let block = self.buffer.make_contiguous();
+        let reached = run_in_place(cpu, block, size, span, taken, most, test);
+        self.first = reached.span.first;
+        self.len = reached.span.len;
+        reached
+    }
+
+    /// The same as `record`, by way of a copy of the entry.
     #[inline(never)]
     fn record_apart(&mut self, cpu: &mut Cpu, change: Change, weight: usize, mark: bool)
         requires runs { has_ended cpu.old.status ≡ false }
@@ -408,7 +448,7 @@ impl Ring {
 
 /// The length and the tag that an entry's first three bytes are.
 #[inline(always)]
-fn head(bytes: &[u8]) -> (usize, u8)
+pub(crate) fn head(bytes: &[u8]) -> (usize, u8)
     requires { length bytes.now ≡ 3 }
     ensures len { (n : ℕ) (rest : List ℕ) → n < 2 ^ 16 → bytes.now ≡ little_bytes 2 n ++ rest → result.0 ≡ n }
     ensures tag { (low high third : ℕ) → bytes.now ≡ low ∷ high ∷ third ∷ [] → result.1 ≡ third }

@@ -1,4 +1,4 @@
-use Rattle.std.proofs.Common.{◌≡◌, ◌≤◌, ◌-◌, ◌∙◌, length, drop, ap, refl, sym, subst, arith}
+use Rattle.std.proofs.Common.{◌≤◌, ◌-◌, length, drop, ap, refl, sym, subst, arith}
 use Rattle.std.proofs.lemmas.List.Elements.{All-head}
 use Rattle.bpf_entries.specs.Fields.{FitsFields}
 use Rattle.bpf_entries.specs.Keeping.{kept_weight, fit}

@@ -1,4 +1,4 @@
-use Rattle.std.proofs.Common.{◌≡◌, ◌∙◌, ◌++◌, ◌∷◌, [], take, refl, sym, ap}
+use Rattle.std.proofs.Common.{◌∙◌, [], take, refl, ap}
 use Rattle.bpf_ring.specs.Blocks.{Content}
 use Rattle.bpf_ring.proofs.Arounds.{oldest_piece}
 use Rattle.bpf_ring.proofs.ring.Ring.oldest.Goals as goal

@@ -6,22 +6,22 @@ use Rattle.bpf_entries.proofs.Texts.{length-text}
 use Rattle.bpf_machine.specs.Entries.{step_entry}
 use Rattle.bpf_machine.proofs.ByAddress.{length-run}
 use Rattle.bpf_ring.specs.Blocks.{around, pasted}
-use Rattle.bpf_ring.proofs.block.record_in_place.Goals as goal
+use Rattle.bpf_ring.proofs.block.record_at.Goals as goal
 use Rattle.bpf_ring.proofs.Arounds.{around_more, put_pasted}
 
 -- A text that takes the whole place that it was given.
 whole : (e s : List ℕ) (n : ℕ) → length s ≡ n → e ++ drop n s ≡ e
 whole e s n h = ap (λ t. e ++ t) (drop_all n s (omega (arith, h))) ∙ append-nil e
 
-pub returns-then-end-weight-clause-text : goal.returns-then-end-weight-clause-text
-returns-then-end-weight-clause-text c = λ done room.
+pub returns-clause-text : goal.returns-clause-text
+returns-clause-text c = λ room.
     let block = c.args.block.now in
     let entry = step_entry c.args.cpu.now in
-    let end = c.place-end.result in
+    let end = c.args.end in
     let w = c.args.weight in
     let count : length (text entry c.args.mark) ≡ w = length-text entry c.args.mark c.requires.entry ∙ sym c.requires.weight in
-    let place : length (take (end + w - end) (drop end block)) ≡ weight entry = length-run block end w (omega (arith, c.if-end-weight.true)) ∙ c.requires.weight in
+    let place : length (take (end + w - end) (drop end block)) ≡ weight entry = length-run block end w (omega (arith, c.requires.room)) ∙ c.requires.weight in
     let same = put_pasted block c.record.new.room (text entry c.args.mark) end (end + w - end) (c.record.ensures.text ∙ whole (text entry c.args.mark) (take (end + w - end) (drop end block)) (weight entry) place) (omega (arith, count)) in
     ap (λ l. around l c.args.first (c.args.len + w)) same
     ∙ ap (λ n. around (pasted block end (text entry c.args.mark)) c.args.first (c.args.len + n)) (sym count)
-    ∙ around_more block (text entry c.args.mark) c.args.first c.args.len end c.place-end.ensures.value c.requires.first (omega (arith, room, count)) (omega (arith, c.if-end-weight.true, count))
+    ∙ around_more block (text entry c.args.mark) c.args.first c.args.len end c.requires.end c.requires.first (omega (arith, room, count)) (omega (arith, c.requires.room, count))
