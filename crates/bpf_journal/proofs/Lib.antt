@@ -7,4 +7,5 @@ pub mod Telling
 pub mod ByteChanges
 pub mod RingKeeping
 pub mod MadeAgain
+pub mod Runs
 pub mod Courses

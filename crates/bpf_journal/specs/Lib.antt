@@ -10,6 +10,7 @@ pub mod Items
 pub mod Reverting
 pub mod TakingBack
 pub mod Timelines
+pub mod Runs
 pub mod Again
 pub mod Tracks
 pub mod Courses

@@ -1,11 +1,12 @@
 -- The kept history with what was taken back from it.
-use Rattle.std.specs.Prelude.{◌≡◌, ◌≤◌, ◌+◌, ℕ, List, [], ◌∷◌, map, sum_by}
+use Rattle.std.specs.Prelude.{◌≡◌, ◌≤◌, ◌+◌, ℕ, zero, suc, List, [], ◌∷◌, map, sum_by}
 use Rattle.bpf_entries.specs.Keeping.{Kept, keep}
 use Rattle.bpf_machine.specs.Moves.{Leads, moved}
 use Rattle.bpf_machine.specs.State.{State}
 use Rattle.bpf_ring.specs.Held.{IsHeld}
 use Rattle.bpf_journal.specs.Again.{again_of}
 use Rattle.bpf_journal.specs.Histories.{Record, StandsFor, record_weight}
+use Rattle.bpf_journal.specs.Runs.{history_after}
 use Rattle.bpf_journal.specs.declared.ring_keeper.RingKeeper.{RingKeeper}
 
 -- The history, the newest record first, and the records that were taken back since the latest new move, the next one to be made again first.
@@ -20,6 +21,11 @@ track_of h = record { history = h; ahead = [] }
 -- After a new move, which the journal keeps in its room: what was taken back before is forgotten.
 abbrev pub with_new : ℕ → Record → Track → Track
 with_new room r t = track_of (keep record_weight room t.history r)
+
+-- After so many steps, which are new moves: after none all stays.
+abbrev pub track_after : ℕ → ℕ → State → Track → Track
+track_after room zero x t = t
+track_after room (suc k) x t = track_of (history_after room (suc k) x t.history)
 
 -- The records lead from x on, each by its move to the next one.
 abbrev pub IsAhead : State → List Record → Type 0

@@ -1,5 +1,6 @@
 //! A machine with the keeper of the moves that led to its state, and with those that were taken back.
-ghost use Rattle.std.specs.Prelude.{◌≡◌, List, [], length, min, count_by, sum_by, OnOk, IfOk, IfErr};
+ghost use Rattle.std.specs.Prelude.{◌≡◌, ◌≤◌, List, [], length, min, count_by, sum_by, OnOk, IfOk, IfErr, false};
+ghost use Rattle.bpf_entries.specs.Status.{has_ended};
 ghost use Rattle.bpf_machine.specs.declared.moves.Move.TheVariants as move_of;
 ghost use Rattle.bpf_machine.specs.ByAddress.{byte};
 ghost use Rattle.bpf_machine.specs.Entries.{step_entry};
@@ -7,17 +8,20 @@ ghost use Rattle.bpf_journal.specs.Courses.{FailsThere, GoesBackOne, MakesAgain,
 ghost use Rattle.bpf_journal.specs.Histories.{HasHistory, Record, StandsFor, is_step, record_weight};
 ghost use Rattle.bpf_journal.specs.Lookups.{last_change};
 ghost use Rattle.bpf_journal.specs.Replaced.{replaces_bytes};
+ghost use Rattle.bpf_journal.specs.Runs.{Ends, refusals_by_run};
 ghost use Rattle.bpf_journal.specs.Timelines.{refusals_by};
-ghost use Rattle.bpf_journal.specs.Tracks.{Follows, IsCourse, RingHolds, Track, ring_room, track_of};
+ghost use Rattle.bpf_journal.specs.Tracks.{Follows, IsCourse, RingHolds, Track, ring_room, track_after, track_of};
 
 use crate::again::{entry_again, move_again};
 use crate::fault::TimelineFault;
 use crate::keeper::Keeper;
 use crate::ring_keeper::RingKeeper;
+use crate::run::Run;
 use crate::taken::Taken;
 use crate::timeline::{ByteChange, Timeline};
 use bpf_machine::laws::entries_fit;
 use bpf_machine::{Cpu, Edit};
+use bpf_ring::StopTest;
 use std::marker::Model;
 
 /// A machine and a keeper, and the moves that were taken back since the latest new one. What is kept of these lies in a ring of the
@@ -144,6 +148,25 @@ impl<K: Keeper> Course<K> {
             }
             Err(fault) => Err(fault),
         }
+    }
+
+    /// Takes steps from a running machine, new moves, and keeps each, the first one with a mark: until the machine has ended, a test holds of the last
+    /// step, or `most` are taken, at least one. Where the keeper refuses a step the run is cut short before it; where that is the first one,
+    /// nothing changes.
+    pub fn run<T: StopTest>(&mut self, most: u64, test: &T) -> Run
+        requires runs { has_ended self.old.state.status ≡ false }
+        requires some { 1 ≤ most }
+        ensures ends { Ends (T.test test.now) most self.old.state self.new.state result.steps result.is_cut }
+        ensures kept { (t : Track) → Follows K.holds self.old t → Follows K.holds self.new (track_after (K.room self.old.keeper) result.steps self.old.state t) }
+        ensures refused { K.refused self.new.keeper ≡ refusals_by_run result.is_cut (K.refused self.old.keeper) }
+        ensures room { K.room self.new.keeper ≡ K.room self.old.keeper }
+    {
+        let run = self.timeline.run(most, test);
+        if run.steps == 0 {
+            return run;
+        }
+        self.redo.clear();
+        run
     }
 
     /// Makes an edit, a new move, and keeps it. Nothing changes where the edit is refused, or where the keeper refuses.

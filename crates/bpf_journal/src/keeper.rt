@@ -6,17 +6,20 @@ ghost use Rattle.bpf_entries.specs.Status.{has_ended};
 ghost use Rattle.bpf_machine.specs.Entries.{step_entry};
 ghost use Rattle.bpf_machine.specs.Next.{change as change_of, next};
 ghost use Rattle.bpf_ring.specs.Held.{IsHeld};
+ghost use Rattle.bpf_ring.specs.Runs.{kept_after};
 ghost use Rattle.bpf_journal.specs.EditEntries.{HoldsSome, is_of_step};
 ghost use Rattle.bpf_journal.specs.Handing.{Hands, HoldsStep};
 ghost use Rattle.bpf_journal.specs.Histories.{HasHistory, Record, StandsFor, newest};
 ghost use Rattle.bpf_journal.specs.TakingBack.{TakesBack};
 ghost use Rattle.bpf_journal.specs.Keepers.{IsPlace, IsWithin, PlacesDiffer, TakesNewest, TellsByteBefore, WalksBack, refusals_after};
+ghost use Rattle.bpf_journal.specs.Runs.{Ends, refusals_by_run};
 
 use crate::fields::{is_of_step, step_count};
+use crate::run::Run;
 use crate::taken::Taken;
 use bpf_machine::laws::entries_fit;
-use bpf_machine::{Change, Cpu, Entry};
-use bpf_ring::EntryRing;
+use bpf_machine::{Change, Cpu, Ended, Entry};
+use bpf_ring::{EntryRing, StopTest, change_replaces_bytes};
 use std::alloc::AllocError;
 
 /// Keeps the newest entries of moves, in a journal of some size. Its content is a list of entries and marks, the newest first, and it
@@ -64,6 +67,46 @@ pub trait Keeper {
                 Ok(())
             }
             Err(_) => Err(AllocError),
+        }
+    }
+
+    /// Takes steps and keeps each, as `record` does, the first one with a mark: until the machine has ended, a test holds of the last step, or
+    /// `most` are taken, at least one. Where a step is refused the run is cut short before it. A keeper that writes entries where they are kept
+    /// writes this anew; by itself it takes a step at a time.
+    fn run<T: StopTest>(&mut self, cpu: &mut Cpu, most: u64, test: &T) -> Run
+        requires runs { has_ended cpu.old.status ≡ false }
+        requires some { 1 ≤ most }
+        ensures ends { Ends (T.test test.now) most cpu.old cpu.new result.steps result.is_cut }
+        ensures held { (es : List Kept) → holds self.old es → holds self.new (kept_after (room self.old) result.steps cpu.old es) }
+        ensures refused { refused self.new ≡ refusals_by_run result.is_cut (refused self.old) }
+        ensures room { room self.new ≡ room self.old }
+    {
+        for k in 0..most {
+            let change = match cpu.look() {
+                Ok(change) => change,
+                Err(Ended) => unreachable!(),
+            };
+            cpu.invariant();
+            let replaced = change_replaces_bytes(&change);
+            match self.record(cpu, &change, k == 0) {
+                Ok(()) => {}
+                Err(_) => {
+                    return Run {
+                        steps: k,
+                        is_cut: true,
+                    };
+                }
+            }
+            if test.stops(cpu, replaced) {
+                return Run {
+                    steps: k + 1,
+                    is_cut: false,
+                };
+            }
+        }
+        Run {
+            steps: most,
+            is_cut: false,
         }
     }
 

@@ -11,10 +11,11 @@ ghost use Rattle.bpf_journal.specs.TakingBack.{taken_by};
 
 use crate::fault::JournalFault;
 use crate::keeper::Keeper;
+use crate::run::Run;
 use crate::size::is_size;
 use crate::taken::Taken;
 use bpf_machine::{Change, Cpu, Entry};
-use bpf_ring::EntryRing;
+use bpf_ring::{EntryRing, StopTest};
 use circular_buffer::HeapCircularBuffer;
 use std::alloc::{AllocError, Global};
 
@@ -153,6 +154,13 @@ impl Keeper for RingKeeper {
     fn record(&mut self, cpu: &mut Cpu, change: &Change, mark: bool) -> Result<(), AllocError> {
         self.entries.record(cpu, change, mark);
         Ok(())
+    }
+
+    fn run<T: StopTest>(&mut self, cpu: &mut Cpu, most: u64, test: &T) -> Run {
+        Run {
+            steps: self.entries.run(cpu, most, test),
+            is_cut: false,
+        }
     }
 
     fn refusals(&self) -> u64 {

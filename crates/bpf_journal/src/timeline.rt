@@ -1,5 +1,5 @@
 //! A machine with the keeper of the moves that led to its state.
-ghost use Rattle.std.specs.Prelude.{◌≡◌, ◌<◌, ℕ, List, [], length, map, min, count_by, sum_by, OnOk, OnErr, IfOk, IfErr, false};
+ghost use Rattle.std.specs.Prelude.{◌≡◌, ◌≤◌, ◌<◌, ℕ, List, [], length, map, min, count_by, sum_by, OnOk, OnErr, IfOk, IfErr, false};
 ghost use Rattle.bpf_machine.specs.declared.moves.Move.TheVariants as move_of;
 ghost use Rattle.bpf_machine.specs.Entries.{step_entry};
 ghost use Rattle.bpf_machine.specs.Next.{change as change_of};
@@ -13,14 +13,16 @@ ghost use Rattle.bpf_journal.specs.Lookups.{last_change};
 ghost use Rattle.bpf_journal.specs.Replaced.{replaces_bytes};
 ghost use Rattle.bpf_machine.specs.ByAddress.{byte};
 ghost use Rattle.bpf_machine.specs.Platform.{frame_count};
+ghost use Rattle.bpf_journal.specs.Runs.{Ends, history_after, refusals_by_run};
 ghost use Rattle.bpf_journal.specs.Timelines.{Moment, Makes, Fails, GoesBack, refusals_by};
 
 use crate::fault::{MoveFault, TimelineFault};
 use crate::fields::edit_fits;
 use crate::keeper::Keeper;
-use crate::replaced::change_replaces_bytes;
+use crate::run::Run;
 use crate::taken::Taken;
 use bpf_machine::{Cpu, Edit, Ended, Entry, Move};
+use bpf_ring::{StopTest, change_replaces_bytes};
 use std::marker::Model;
 
 /// A move that changed the value of a byte.
@@ -43,6 +45,7 @@ pub struct Timeline<K: Keeper> {
 
 impl<K: Keeper> Model for Timeline<K> {
     ghost use Rattle.bpf_journal.specs.Histories.{HasHistory};
+    ghost use Rattle.bpf_journal.specs.Runs.{Ends, history_after, refusals_by_run};
     ghost use Rattle.bpf_journal.specs.Timelines.{Moment};
 
     ghost Value = { Moment K };
@@ -166,6 +169,19 @@ impl<K: Keeper> Timeline<K> {
             Err(_) => return Err(TimelineFault::OutOfMemory),
         }
         Ok(change_replaces_bytes(&change))
+    }
+
+    /// Takes steps from a running machine and keeps each, the first one with a mark: until the machine has ended, a test holds of the last step, or
+    /// `most` are taken, at least one. Where the keeper refuses a step the run is cut short before it.
+    pub fn run<T: StopTest>(&mut self, most: u64, test: &T) -> Run
+        requires runs { has_ended self.old.state.status ≡ false }
+        requires some { 1 ≤ most }
+        ensures ends { Ends (T.test test.now) most self.old.state self.new.state result.steps result.is_cut }
+        ensures kept { (h : List Record) → StandsFor K.holds self.old.keeper self.old.state h → StandsFor K.holds self.new.keeper self.new.state (history_after (K.room self.old.keeper) result.steps self.old.state h) }
+        ensures refused { K.refused self.new.keeper ≡ refusals_by_run result.is_cut (K.refused self.old.keeper) }
+        ensures room { K.room self.new.keeper ≡ K.room self.old.keeper }
+    {
+        self.keeper.run(&mut self.cpu, most, test)
     }
 
     /// Makes an edit and keeps it. Nothing changes where the edit is refused; where the keeper refuses, it is taken back.
