@@ -14,7 +14,7 @@ use Rattle.bpf_machine.specs.State.{State}
 use Rattle.bpf_journal.specs.declared.taken.Taken.{Taken}
 use Rattle.bpf_journal.specs.Again.{again_entry, again_of, move_again, seen_again}
 use Rattle.bpf_journal.specs.Courses.{MakesNew, StaysThere, GoesBackOne, MakesAgain}
-use Rattle.bpf_journal.specs.Handing.{Hands, HoldsStep, StepFits}
+use Rattle.bpf_journal.specs.Handing.{Hands}
 use Rattle.bpf_journal.specs.Histories.{Record, HasHistory, IsRun, StandsFor, kept_of, newest, older, record_weight}
 use Rattle.bpf_journal.specs.TakingBack.{TakesBack, taken_by, taken_of}
 use Rattle.bpf_journal.specs.Timelines.{Makes, Stays, Moment, record_of}
@@ -130,17 +130,6 @@ module _ {K : Type 0} (holds : K → List Kept → Type 0) where
       let pushed : RingHolds new.redo (keep kept_weight (ring_room old.redo) (map again_of f) (kept_of r)) =
       subst (λ b. RingHolds new.redo (if b then keep kept_weight (ring_room old.redo) (map again_of f) (kept_of r) else map again_of f)) step e.1 in
       goes_back_one taken old new r h f s (back (r ∷ h) s.history) (subst (λ (v : Kept). RingHolds new.redo (keep kept_weight (ring_room old.redo) (map again_of f) v)) again pushed) same
-
-  -- it fits its fields
-  step_fits : (h : List Record) (y : State) → EntriesFit → IsRun h y → StepFits (map kept_of h)
-  step_fits [] y fit run = tt
-  step_fits (r ∷ h) y fit run = by_move r.move refl where
-    by_move : (m : Move) → r.move ≡ m → is_of_step (overwritten r.before r.move) ≡ true → FitsFields (overwritten r.before r.move)
-    by_move move.Step of step = subst (λ (m : Move). FitsFields (overwritten r.before m)) (sym of) (fit r.before y move.Step (subst (λ (m : Move). Leads r.before m y) of run.0) tt)
-    by_move (move.Edit e) of step = let no = of_move r.before (move.Edit e) in absurd cc
-
-  pub holds_step : (keeper : K) (y : State) → EntriesFit → (h : List Record) → StandsFor holds keeper y h → HoldsStep holds keeper
-  holds_step keeper y fit h s = record { es = map kept_of h; held = s.0; fits = step_fits h y fit s.1 }
 
   -- without a record nothing changes
   pub stays_back : (old : CourseValue K) → ((h : List Record) → StandsFor holds old.keeper old.state h → None ≡ newest (map kept_of h)) → (h f : List Record) → Follows holds old (record { history = h; ahead = f }) → GoesBackOne holds None h f old old

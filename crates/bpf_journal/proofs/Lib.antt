@@ -1,6 +1,7 @@
 pub mod Fitting
 pub mod MoveLaws
 pub mod Histories
+pub mod Handing
 pub mod Items
 pub mod Walks
 pub mod Telling

@@ -1,6 +1,5 @@
 -- The newest entry of a step goes from a keeper to a ring, too.
-use Rattle.std.specs.Prelude.{◌≡◌, ℕ, Bool, true, false, List, [], ◌∷◌, if◌then◌else◌}
-use Rattle.bpf_entries.specs.Fields.{FitsFields}
+use Rattle.std.specs.Prelude.{◌≡◌, ℕ, Bool, false, List, [], ◌∷◌, if◌then◌else◌}
 use Rattle.bpf_entries.specs.Keeping.{Kept, keep, kept_weight}
 use Rattle.bpf_entries.specs.Past.{is_of_step}
 
@@ -8,14 +7,3 @@ use Rattle.bpf_entries.specs.Past.{is_of_step}
 abbrev pub Hands : Bool → List Kept → List Kept → ℕ → (List Kept → Type 0) → Type 0
 Hands handed [] ls size held = (handed ≡ false) × held ls
 Hands handed (k ∷ es) ls size held = (handed ≡ is_of_step k.0) × held (if is_of_step k.0 then keep kept_weight size ls k else ls)
-
--- Scaffolding: the newest fits its fields where it is of a step.
-abbrev pub StepFits : List Kept → Type 0
-StepFits [] = Unit {0}
-StepFits (k ∷ es) = is_of_step k.0 ≡ true → FitsFields k.0
-
--- Scaffolding: a keeper holds such a list.
-pub record HoldsStep {K : Type 0} (holds : K → List Kept → Type 0) (keeper : K) : Type 0 where
-  pub es : List Kept
-  pub held : holds keeper es
-  pub fits : StepFits es

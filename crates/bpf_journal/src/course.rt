@@ -193,11 +193,9 @@ impl<K: Keeper> Course<K> {
         ensures refused { K.refused self.new.keeper ≡ K.refused self.old.keeper }
         ensures room { K.room self.new.keeper ≡ K.room self.old.keeper }
     {
-        entries_fit();
-        if self.redo.add_step_of(self.timeline.keeper()) {
-            self.timeline.back()
-        } else {
-            self.back_by_entry()
+        match self.timeline.hand_back(&mut self.redo) {
+            Some(taken) => Some(taken),
+            None => self.back_by_entry(),
         }
     }
 

@@ -1,5 +1,5 @@
 //! Keepers hold the entries and marks of moves, the newest ones that fit a journal's size.
-ghost use Rattle.std.specs.Prelude.{◌≡◌, ◌≤◌, ◌<◌, ◌+◌, ◌^◌, ◌++◌, ℕ, List, length, sum_by, count_by, OnOk, OnErr, false};
+ghost use Rattle.std.specs.Prelude.{◌≡◌, ◌≤◌, ◌<◌, ◌+◌, ◌^◌, ◌++◌, ℕ, List, length, sum_by, count_by, is_some, None, OnOk, OnErr, OnSome, false};
 ghost use Rattle.bpf_entries.specs.Fields.{FitsFields};
 ghost use Rattle.bpf_entries.specs.Keeping.{Kept, kept_weight, keep};
 ghost use Rattle.bpf_entries.specs.Status.{has_ended};
@@ -8,7 +8,7 @@ ghost use Rattle.bpf_machine.specs.Next.{change as change_of, next};
 ghost use Rattle.bpf_ring.specs.Held.{IsHeld};
 ghost use Rattle.bpf_ring.specs.Runs.{kept_after};
 ghost use Rattle.bpf_journal.specs.EditEntries.{HoldsSome, is_of_step};
-ghost use Rattle.bpf_journal.specs.Handing.{Hands, HoldsStep};
+ghost use Rattle.bpf_journal.specs.Handing.{Hands};
 ghost use Rattle.bpf_journal.specs.Histories.{HasHistory, Record, StandsFor, newest};
 ghost use Rattle.bpf_journal.specs.TakingBack.{TakesBack};
 ghost use Rattle.bpf_journal.specs.Keepers.{IsPlace, IsWithin, PlacesDiffer, TakesNewest, TellsByteBefore, WalksBack, refusals_after};
@@ -141,24 +141,30 @@ pub trait Keeper {
         }
     }
 
-    /// Hands the newest entry over where it is of a step: a ring keeps it as well, with its mark. Answers whether it is; else the ring stays. A
-    /// keeper of bytes copies them as they lie; by itself it reads the entry whole.
-    fn hand_step(&self, ring: &mut EntryRing) -> bool
-        requires step { HoldsStep holds self.now }
-        ensures hands { (es ls : List Kept) → holds self.now es → IsHeld ring.old.ring ring.old.counts ls → Hands result es ls ring.old.ring.size (IsHeld ring.new.ring ring.new.counts) }
-        ensures stays { result ≡ false → ring.new ≡ ring.old }
+    /// Takes the newest entry off and takes its move back, as `take_back` does, where it is of a step: a ring keeps it then, with its mark. Answers
+    /// what move it was; None where nothing is held, or an edit is the newest, and then nothing changes. A keeper of bytes copies them as they
+    /// lie; by itself it reads the entry whole.
+    fn hand_back(&mut self, cpu: &mut Cpu, ring: &mut EntryRing) -> Option<Taken>
+        requires way { HasHistory holds self.old cpu.old }
+        ensures hands { (es ls : List Kept) → holds self.old es → IsHeld ring.old.ring ring.old.counts ls →
+            Hands (is_some result) es ls ring.old.ring.size (IsHeld ring.new.ring ring.new.counts) }
+        ensures back { OnSome result ((h : List Record) → StandsFor holds self.old cpu.old h → TakesBack holds result h cpu.old self.new cpu.new) }
+        ensures stays { result ≡ None → (self.new ≡ self.old) × (cpu.new ≡ cpu.old) × (ring.new ≡ ring.old) }
         ensures size { ring.new.ring.size ≡ ring.old.ring.size }
         ensures fits { length ring.old.ring.bytes ≤ ring.old.ring.size → length ring.new.ring.bytes ≤ ring.new.ring.size }
+        ensures refused { refused self.new ≡ refused self.old }
+        ensures room { room self.new ≡ room self.old }
     {
+        entries_fit();
         match self.last() {
             Some((entry, mark)) => {
                 if !is_of_step(&entry) {
-                    return false;
+                    return None;
                 }
                 ring.push(&entry, mark);
-                true
+                self.take_back(cpu)
             }
-            None => false,
+            None => None,
         }
     }
 

@@ -1,13 +1,13 @@
 //! The keeper that keeps entries as their bytes, in one ring of the journal's size.
 ghost use Rattle.std.specs.Option.{option_map};
-ghost use Rattle.std.specs.Prelude.{◌≡◌, ◌≤◌, [], List, length, sum_by, IfOk, IfErr, OnOk, slice_get, false};
+ghost use Rattle.std.specs.Prelude.{◌≡◌, ◌≤◌, [], List, length, sum_by, is_some, None, IfOk, IfErr, OnOk, OnSome, slice_get};
 ghost use Rattle.bpf_entries.specs.Fields.{FitsFields};
 ghost use Rattle.bpf_entries.specs.Keeping.{IsSize, Kept, keep, kept_weight};
 ghost use Rattle.bpf_entries.specs.Rings.{AllFit, ring as ring_of};
-ghost use Rattle.bpf_journal.specs.Handing.{Hands, HoldsStep};
-ghost use Rattle.bpf_journal.specs.Histories.{newest, older};
+ghost use Rattle.bpf_journal.specs.Handing.{Hands};
+ghost use Rattle.bpf_journal.specs.Histories.{HasHistory, Record, StandsFor, newest, older};
 ghost use Rattle.bpf_journal.specs.Opening.{RefusesSize};
-ghost use Rattle.bpf_journal.specs.TakingBack.{taken_by};
+ghost use Rattle.bpf_journal.specs.TakingBack.{TakesBack, taken_by};
 
 use crate::fault::JournalFault;
 use crate::keeper::Keeper;
@@ -68,17 +68,20 @@ impl RingKeeper {
         self.entries.push(entry, mark);
     }
 
-    /// Keeps the newest entry of another keeper as well, with its mark, where it is of a step. Answers whether it is; else nothing changes. It
-    /// takes no memory.
+    /// Takes back the newest move that another keeper holds, which led to a machine's state, where it is a step, and keeps its entry, with its
+    /// mark. Answers what move it was; None where none is held, or an edit is the newest, and then nothing changes. It takes no memory.
     #[inline(always)]
-    pub fn add_step_of<K: Keeper>(&mut self, other: &K) -> bool
-        requires step { HoldsStep K.holds other.now }
-        ensures hands { (es ls : List Kept) → K.holds other.now es → ⟦<RingKeeper as Keeper>⟧.holds self.old ls →
-            Hands result es ls (⟦<RingKeeper as Keeper>⟧.room self.old) (⟦<RingKeeper as Keeper>⟧.holds self.new) }
-        ensures stays { result ≡ false → self.new ≡ self.old }
+    pub fn take_over<K: Keeper>(&mut self, other: &mut K, cpu: &mut Cpu) -> Option<Taken>
+        requires way { HasHistory K.holds other.old cpu.old }
+        ensures hands { (es ls : List Kept) → K.holds other.old es → ⟦<RingKeeper as Keeper>⟧.holds self.old ls →
+            Hands (is_some result) es ls (⟦<RingKeeper as Keeper>⟧.room self.old) (⟦<RingKeeper as Keeper>⟧.holds self.new) }
+        ensures back { OnSome result ((h : List Record) → StandsFor K.holds other.old cpu.old h → TakesBack K.holds result h cpu.old other.new cpu.new) }
+        ensures stays { result ≡ None → (other.new ≡ other.old) × (cpu.new ≡ cpu.old) × (self.new ≡ self.old) }
         ensures room { ⟦<RingKeeper as Keeper>⟧.room self.new ≡ ⟦<RingKeeper as Keeper>⟧.room self.old }
+        ensures other_refused { K.refused other.new ≡ K.refused other.old }
+        ensures other_room { K.room other.new ≡ K.room other.old }
     {
-        other.hand_step(&mut self.entries)
+        other.hand_back(cpu, &mut self.entries)
     }
 
     /// What move the newest entry is of, and whether it is marked. None where none is held.
@@ -176,16 +179,10 @@ impl Keeper for RingKeeper {
     }
 
     #[inline(always)]
-    fn hand_step(&self, ring: &mut EntryRing) -> bool {
-        match self.newest() {
-            Some(taken) => {
-                if !taken.is_step {
-                    return false;
-                }
-                ring.push_newest_of(&self.entries);
-                true
-            }
-            None => false,
+    fn hand_back(&mut self, cpu: &mut Cpu, ring: &mut EntryRing) -> Option<Taken> {
+        match self.entries.hand_back(cpu, ring) {
+            Some(tag) => Some(Taken::of_tag(tag)),
+            None => None,
         }
     }
 

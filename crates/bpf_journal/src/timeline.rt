@@ -1,5 +1,5 @@
 //! A machine with the keeper of the moves that led to its state.
-ghost use Rattle.std.specs.Prelude.{◌≡◌, ◌≤◌, ◌<◌, ℕ, List, [], length, map, min, count_by, sum_by, OnOk, OnErr, IfOk, IfErr, false};
+ghost use Rattle.std.specs.Prelude.{◌≡◌, ◌≤◌, ◌<◌, ℕ, List, [], length, map, min, count_by, sum_by, OnOk, OnErr, IfOk, IfErr, false, is_some, None, OnSome};
 ghost use Rattle.bpf_machine.specs.declared.moves.Move.TheVariants as move_of;
 ghost use Rattle.bpf_machine.specs.Entries.{step_entry};
 ghost use Rattle.bpf_machine.specs.Next.{change as change_of};
@@ -10,7 +10,9 @@ ghost use Rattle.bpf_journal.specs.Histories.{Record, StandsFor, HasHistory, is_
 ghost use Rattle.bpf_journal.specs.Keepers.{refusals_after};
 ghost use Rattle.bpf_journal.specs.Changes.{change_in};
 ghost use Rattle.bpf_journal.specs.Lookups.{last_change};
+ghost use Rattle.bpf_journal.specs.Handing.{Hands};
 ghost use Rattle.bpf_journal.specs.Replaced.{replaces_bytes};
+ghost use Rattle.bpf_journal.specs.Tracks.{RingHolds, ring_room};
 ghost use Rattle.bpf_machine.specs.ByAddress.{byte};
 ghost use Rattle.bpf_machine.specs.Platform.{frame_count};
 ghost use Rattle.bpf_journal.specs.Runs.{Ends, history_after, refusals_by_run};
@@ -19,6 +21,7 @@ ghost use Rattle.bpf_journal.specs.Timelines.{Moment, Makes, Fails, GoesBack, re
 use crate::fault::{MoveFault, TimelineFault};
 use crate::fields::edit_fits;
 use crate::keeper::Keeper;
+use crate::ring_keeper::RingKeeper;
 use crate::run::Run;
 use crate::taken::Taken;
 use bpf_machine::{Cpu, Edit, Ended, Entry, Move};
@@ -229,6 +232,20 @@ impl<K: Keeper> Timeline<K> {
         ensures room { K.room self.new.keeper ≡ K.room self.old.keeper }
     {
         self.keeper.take_back(&mut self.cpu)
+    }
+
+    /// The same where the newest move is a step: a ring keeps its entry then, with its mark. None where none is kept, or an edit is the newest,
+    /// and then nothing changes.
+    #[inline(always)]
+    pub(crate) fn hand_back(&mut self, ring: &mut RingKeeper) -> Option<Taken>
+        ensures hands { (es ls : List Kept) → K.holds self.old.keeper es → RingHolds ring.old ls → Hands (is_some result) es ls (ring_room ring.old) (RingHolds ring.new) }
+        ensures back { OnSome result ((h : List Record) → StandsFor K.holds self.old.keeper self.old.state h → GoesBack K.holds result h self.old self.new) }
+        ensures stays { result ≡ None → (self.new ≡ self.old) × (ring.new ≡ ring.old) }
+        ensures ring_room { ring_room ring.new ≡ ring_room ring.old }
+        ensures refused { K.refused self.new.keeper ≡ K.refused self.old.keeper }
+        ensures room { K.room self.new.keeper ≡ K.room self.old.keeper }
+    {
+        ring.take_over(&mut self.keeper, &mut self.cpu)
     }
 }
 

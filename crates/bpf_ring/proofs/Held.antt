@@ -221,13 +221,13 @@ came_by content counts n count y way some len same = split way.ks way.held way.l
         come = record { entry = k.0; mark = k.1; come = led; fits = fits; held = told.1 };
       }
 
--- The newest dropped, by what was read of it.
-pub popped : (old new : Content) (before after : Counts) (n count t : ℕ) (ks : List Kept) (k : Kept) → IsHeld old before (k ∷ ks)
+-- The newest dropped, by its tag.
+pub dropped_newest : (old new : Content) (before after : Counts) (n count t : ℕ) (ks : List Kept) (k : Kept) → IsHeld old before (k ∷ ks)
     → ((w : ℕ) (before : List ℕ) → w < 2 ^ 16 → old.bytes ≡ before ++ little_bytes 2 w → n ≡ w)
     → (1 ≤ n → n ≤ length old.bytes → count ≡ n)
-    → TagAt old (length old.bytes - count) t
+    → t ≡ tag (kind k.0) k.1
     → new.bytes ≡ take (length old.bytes - count) old.bytes → CountsNewest before after t → IsHeld new after ks
-popped old new before after n count t ks k held len same tags bytes counts =
+dropped_newest old new before after n count t ks k held len same is bytes counts =
     let fits : FitsFields k.0 = All-head (λ k. FitsFields k.0) k ks held.fit in
     let exact : count ≡ weight k.0 = newest_count old before n count ks k held len same in
     let long : length (text k.0 k.1) ≡ weight k.0 = length-text k.0 k.1 fits in
@@ -236,8 +236,17 @@ popped old new before after n count t ks k held len same tags bytes counts =
     record {
       fit = All-tail (λ k. FitsFields k.0) k ks held.fit;
       bytes = bytes ∙ ap (take (length old.bytes - count)) held.bytes ∙ take_at (ring ks) (text k.0 k.1) (length old.bytes - count) place;
-      counted = counts ks k held.counted (newest_tag old before n count t ks k held len same tags);
+      counted = counts ks k held.counted is;
     }
+
+-- The same, by what was read at its place.
+pub popped : (old new : Content) (before after : Counts) (n count t : ℕ) (ks : List Kept) (k : Kept) → IsHeld old before (k ∷ ks)
+    → ((w : ℕ) (before : List ℕ) → w < 2 ^ 16 → old.bytes ≡ before ++ little_bytes 2 w → n ≡ w)
+    → (1 ≤ n → n ≤ length old.bytes → count ≡ n)
+    → TagAt old (length old.bytes - count) t
+    → new.bytes ≡ take (length old.bytes - count) old.bytes → CountsNewest before after t → IsHeld new after ks
+popped old new before after n count t ks k held len same tags bytes counts =
+    dropped_newest old new before after n count t ks k held len same (newest_tag old before n count t ks k held len same tags) bytes counts
 
 -- The text of a list without some of its newest stands in front.
 pub ring-append : (newer front : List Kept) → ring (newer ++ front) ≡ ring front ++ ring newer

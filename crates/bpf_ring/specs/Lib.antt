@@ -3,3 +3,4 @@ pub mod Counted
 pub mod Held
 pub mod Runs
 pub mod Spans
+pub mod Texts

@@ -63,11 +63,24 @@ pub(crate) fn write_around(block: &mut [u8], first: usize, len: usize, bytes: &[
     let size = block.len();
     let end = place(size, first, len);
     if end + bytes.len() <= size {
-        block[end..end + bytes.len()].copy_from_slice(bytes);
+        copy(&mut block[end..end + bytes.len()], bytes);
     } else {
         let here = size - end;
         block[end..size].copy_from_slice(&bytes[..here]);
         block[..bytes.len() - here].copy_from_slice(&bytes[here..]);
+    }
+}
+
+/// Copies bytes. The arms are alike: those of a jump's entry and of a register's, which are the common ones, are each copied at once.
+#[inline(always)]
+fn copy(into: &mut [u8], bytes: &[u8])
+    requires { length into.old ≡ length bytes.now }
+    ensures { into.new ≡ bytes.now }
+{
+    match bytes.len() {
+        7 => into.copy_from_slice(bytes),
+        16 => into.copy_from_slice(bytes),
+        _ => into.copy_from_slice(bytes),
     }
 }
 

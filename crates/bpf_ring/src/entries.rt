@@ -1,5 +1,5 @@
 //! The entries in a ring of bytes.
-ghost use Rattle.std.specs.Prelude.{◌≡◌, ◌≤◌, ◌<◌, ◌+◌, ◌-◌, ◌^◌, if◌then◌else◌, ◌∷◌, ◌++◌, [], List, length, sum_by, count_by, IfOk, None, Some, slice_get, is_some, ℕ, true, false};
+ghost use Rattle.std.specs.Prelude.{◌≡◌, ◌≤◌, ◌<◌, ◌+◌, ◌-◌, ◌^◌, if◌then◌else◌, ◌∷◌, ◌++◌, [], List, length, sum_by, count_by, IfOk, None, Some, slice_get, is_some, ℕ, true, false, drop};
 ghost use Rattle.bpf_entries.specs.Before.{byte_before as byte_before_by, depth_before as depth_before_by};
 ghost use Rattle.bpf_entries.specs.Fields.{FitsFields};
 ghost use Rattle.bpf_entries.specs.Keeping.{Kept, kept_weight, fit, keep};
@@ -10,7 +10,7 @@ ghost use Rattle.bpf_entries.specs.Weights.{greatest_weight, weight as weight_of
 ghost use Rattle.bpf_entries.specs.Keeping.{IsSize};
 ghost use Rattle.bpf_entries.specs.Status.{has_ended};
 ghost use Rattle.bpf_machine.specs.Entries.{step_entry};
-ghost use Rattle.bpf_machine.specs.Moves.{Leads, overwritten};
+ghost use Rattle.bpf_machine.specs.Moves.{HasComeBy, Leads, overwritten};
 ghost use Rattle.bpf_machine.specs.Next.{change as change_of, next};
 ghost use Rattle.bpf_machine.specs.State.{State};
 ghost use Rattle.bpf_machine.specs.declared.moves.Move.{Move};
@@ -18,12 +18,13 @@ ghost use Rattle.bpf_machine.specs.declared.moves.Move.TheVariants as move_of;
 ghost use Rattle.bpf_ring.specs.Counted.{Counted};
 ghost use Rattle.bpf_ring.specs.Held.{HoldsWay, IsHeld};
 ghost use Rattle.bpf_ring.specs.Runs.{RunsTo, kept_after};
+ghost use Rattle.bpf_ring.specs.Texts.{TakesText};
 
 use crate::counts::{Counts, within};
 use crate::ring::Ring;
 use crate::run::{StopTest, change_replaces_bytes};
 use bpf_entries::weights::GREATEST;
-use bpf_entries::{Entry, is_of_step};
+use bpf_entries::{Entry, is_marked, is_of_step};
 use bpf_machine::laws::entries_fit;
 use bpf_machine::{Change, Cpu, Ended};
 use circular_buffer::HeapCircularBuffer;
@@ -259,6 +260,87 @@ impl EntryRing {
         Some(tag)
     }
 
+    /// Takes back the move whose entry is the newest, which led to a machine's state, where it is of a step: the entry goes to another ring, with
+    /// its mark, where the fewest oldest ones make room for it. Its bytes are read and copied where they lie, and no entry is made. Answers its
+    /// tag; None where none is held, or one of an edit, and then nothing changes.
+    #[inline(always)]
+    pub fn hand_back(&mut self, cpu: &mut Cpu, other: &mut EntryRing) -> Option<u8>
+        requires { HoldsWay self.old.ring self.old.counts cpu.old }
+        ensures size { (self.new.ring.size ≡ self.old.ring.size) × (other.new.ring.size ≡ other.old.ring.size) }
+        ensures fits { (length self.new.ring.bytes ≤ self.new.ring.size) × (length other.new.ring.bytes ≤ other.new.ring.size) }
+        ensures none { IsHeld self.old.ring self.old.counts [] → result ≡ None }
+        ensures edit { (ks : List Kept) (k : Kept) → IsHeld self.old.ring self.old.counts (k ∷ ks) → of_step k.0 ≡ false → result ≡ None }
+        ensures stays { result ≡ None → (self.new ≡ self.old) × (cpu.new ≡ cpu.old) × (other.new ≡ other.old) }
+        ensures some { (ks : List Kept) (k : Kept) → IsHeld self.old.ring self.old.counts (k ∷ ks) → of_step k.0 ≡ true →
+            (result ≡ Some (tag_of (kind k.0) k.1)) × IsHeld self.new.ring self.new.counts ks }
+        ensures back { (ks : List Kept) (k : Kept) (x : State) (m : Move) → IsHeld self.old.ring self.old.counts (k ∷ ks) → of_step k.0 ≡ true → Leads x m cpu.old → overwritten x m ≡ k.0 → cpu.new ≡ x }
+        ensures handed { (ks ls : List Kept) (k : Kept) → IsHeld self.old.ring self.old.counts (k ∷ ks) → of_step k.0 ≡ true → IsHeld other.old.ring other.old.counts ls →
+            IsHeld other.new.ring other.new.counts (keep kept_weight other.old.ring.size ls k) }
+    {
+        self.invariant();
+        other.invariant();
+        let len = self.ring.len();
+        if len < 5 {
+            return None;
+        }
+        let count = within(self.ring.newest_len(), len);
+        match other.take_newest_of(&self.ring, cpu, count) {
+            Some(tag) => {
+                self.ring.drop_newest(count);
+                self.counts.subtract(tag);
+                self.invariant();
+                Some(tag)
+            }
+            None => None,
+        }
+    }
+
+    /// The same of the newest bytes of a ring, so many, which stay there: they are read where they lie, or from a copy where they go around the
+    /// block's end.
+    #[inline(always)]
+    fn take_newest_of(&mut self, ring: &Ring, cpu: &mut Cpu, count: usize) -> Option<u8>
+        requires held { count ≤ length ring.now.bytes }
+        requires light { count ≤ greatest_weight }
+        requires come { HasComeBy cpu.old (drop (length ring.now.bytes - count) ring.now.bytes) }
+        ensures { TakesText (drop (length ring.now.bytes - count) ring.now.bytes) result cpu.old cpu.new self.old self.new }
+    {
+        match ring.newest_piece(count) {
+            Some(text) => self.take_text(cpu, text),
+            None => self.take_apart(ring, cpu, count),
+        }
+    }
+
+    /// The same, by way of a copy of the bytes.
+    #[inline(never)]
+    fn take_apart(&mut self, ring: &Ring, cpu: &mut Cpu, count: usize) -> Option<u8>
+        requires held { count ≤ length ring.now.bytes }
+        requires light { count ≤ greatest_weight }
+        requires come { HasComeBy cpu.old (drop (length ring.now.bytes - count) ring.now.bytes) }
+        ensures { TakesText (drop (length ring.now.bytes - count) ring.now.bytes) result cpu.old cpu.new self.old self.new }
+    {
+        let mut scratch = [0u8; GREATEST];
+        ring.copy_newest(count, &mut scratch);
+        self.take_text(cpu, &scratch[..count])
+    }
+
+    /// The same of the text of an entry.
+    #[inline(always)]
+    fn take_text(&mut self, cpu: &mut Cpu, text: &[u8]) -> Option<u8>
+        requires { HasComeBy cpu.old text.now }
+        ensures { TakesText text.now result cpu.old cpu.new self.old self.new }
+    {
+        self.invariant();
+        let weight = text_len(cpu, text);
+        if !is_of_step(text) {
+            return None;
+        }
+        cpu.revert_text(text);
+        self.make_room(weight);
+        self.append(text, is_marked(text), true);
+        self.invariant();
+        Some(text[2])
+    }
+
     /// Drops the newest entry, whole, where there is one.
     #[inline(always)]
     pub fn drop_last(&mut self)
@@ -321,32 +403,6 @@ impl EntryRing {
         entry.write(&mut text, mark);
         let is_step = is_of_step(&text);
         self.append(&text[..weight], mark, is_step);
-        self.invariant();
-    }
-
-    /// Keeps the newest entry of another ring as well, with its mark: its bytes are copied as they lie, and no entry is made on the way. The
-    /// fewest oldest ones that make room for it are dropped. Nothing changes where the other holds none. It takes no memory.
-    #[inline(always)]
-    pub fn push_newest_of(&mut self, other: &EntryRing)
-        ensures size { self.new.ring.size ≡ self.old.ring.size }
-        ensures fits { length self.new.ring.bytes ≤ self.new.ring.size }
-        ensures none { (ls : List Kept) → IsHeld other.now.ring other.now.counts [] → IsHeld self.old.ring self.old.counts ls → IsHeld self.new.ring self.new.counts ls }
-        ensures some { (ks ls : List Kept) (k : Kept) → IsHeld other.now.ring other.now.counts (k ∷ ks) → IsHeld self.old.ring self.old.counts ls →
-            IsHeld self.new.ring self.new.counts (keep kept_weight self.old.ring.size ls k) }
-    {
-        self.invariant();
-        let len = other.ring.len();
-        if len < 5 {
-            return;
-        }
-        let weight = within(other.ring.newest_len(), len);
-        if weight > GREATEST {
-            return;
-        }
-        let tag = other.ring.tag_at(len - weight);
-        self.make_room(weight);
-        self.ring.push_newest_of(&other.ring, weight);
-        self.counts.add_by_tag(tag);
         self.invariant();
     }
 
@@ -436,6 +492,7 @@ impl EntryRing {
     }
 
     /// Appends an entry's text, for which there must be room.
+    #[inline(always)]
     fn append(&mut self, text: &[u8], mark: bool, is_step: bool)
         requires { length self.old.ring.bytes + length text.now ≤ self.old.ring.size }
         ensures size { self.new.ring.size ≡ self.old.ring.size }
@@ -460,6 +517,17 @@ fn counted(ring: &Ring) -> Counts
         place += within(ring.len_at(place), len - place);
     }
     counts
+}
+
+/// How many bytes the text of an entry has that led to a machine's state.
+#[inline(always)]
+fn text_len(cpu: &Cpu, text: &[u8]) -> usize
+    requires { HasComeBy cpu.now text.now }
+    ensures value { result ≡ length text.now }
+    ensures within { (5 ≤ result) × (result ≤ greatest_weight) }
+{
+    let _cpu = cpu;
+    text.len()
 }
 
 /// How many bytes an entry has.

@@ -1,5 +1,5 @@
 //! A ring of bytes.
-ghost use Rattle.std.specs.Prelude.{◌≡◌, ◌≤◌, ◌<◌, ◌+◌, ◌-◌, ◌^◌, ◌++◌, ◌∷◌, [], length, take, drop, slice_get, ℕ, Bool, List, IfOk, true, false};
+ghost use Rattle.std.specs.Prelude.{◌≡◌, ◌≤◌, ◌<◌, ◌+◌, ◌-◌, ◌^◌, ◌++◌, ◌∷◌, [], length, take, drop, slice_get, ℕ, Bool, List, IfOk, true, false, IfSome};
 ghost use Rattle.byteorder.specs.Endian.{little_bytes};
 ghost use Rattle.bpf_entries.specs.declared.entry.Entry.{Entry};
 ghost use Rattle.bpf_entries.specs.Before.{byte_before as byte_before_by, depth_before as depth_before_by};
@@ -240,37 +240,19 @@ impl Ring {
         cpu.revert_text(&scratch[..count]);
     }
 
-    /// Appends so many of the newest bytes of another ring, for which there must be room: they are read where they lie, or from a copy where
-    /// they go around the block's end. They stay there.
+    /// The newest bytes, so many, where they lie in one piece; None where they go around the block's end.
     #[inline(always)]
-    pub fn push_newest_of(&mut self, other: &Ring, count: usize)
-        requires held { count ≤ length other.now.bytes }
-        requires light { count ≤ greatest_weight }
-        requires room { length self.old.bytes + count ≤ self.old.size }
-        ensures size { self.new.size ≡ self.old.size }
-        ensures bytes { self.new.bytes ≡ self.old.bytes ++ drop (length other.now.bytes - count) other.now.bytes }
+    pub fn newest_piece(&self, count: usize) -> Option<&[u8]>
+        requires { count ≤ length self.now.bytes }
+        ensures { IfSome result (λ piece. piece.now ≡ drop (length self.now.bytes - count) self.now.bytes) }
     {
-        let start = place(other.buffer.len(), other.first, other.len() - count);
-        let (block, _) = other.buffer.as_slices();
+        let start = place(self.buffer.len(), self.first, self.len() - count);
+        let (block, _) = self.buffer.as_slices();
         if start + count <= block.len() {
-            self.push(&block[start..start + count]);
+            Some(&block[start..start + count])
         } else {
-            self.push_apart(other, count);
+            None
         }
-    }
-
-    /// The same, by way of a copy of the bytes.
-    #[inline(never)]
-    fn push_apart(&mut self, other: &Ring, count: usize)
-        requires held { count ≤ length other.now.bytes }
-        requires light { count ≤ greatest_weight }
-        requires room { length self.old.bytes + count ≤ self.old.size }
-        ensures size { self.new.size ≡ self.old.size }
-        ensures bytes { self.new.bytes ≡ self.old.bytes ++ drop (length other.now.bytes - count) other.now.bytes }
-    {
-        let mut scratch = [0u8; GREATEST];
-        other.copy_newest(count, &mut scratch);
-        self.push(&scratch[..count]);
     }
 
     /// The byte at an address and the depth of calls before the move whose entry's text are so many bytes from an index on, where they are
@@ -426,12 +408,16 @@ impl Ring {
         self.byte(place + 2).unwrap_or(0)
     }
 
-    /// How many bytes the newest entry has, by the last two bytes.
+    /// How many bytes the newest entry has, by the last two bytes: they are read at once where they lie in one piece.
+    #[inline(always)]
     pub fn newest_len(&self) -> usize
         requires { 2 ≤ length self.now.bytes }
         ensures { (n : ℕ) (before : List ℕ) → n < 2 ^ 16 → self.now.bytes ≡ before ++ little_bytes 2 n → result ≡ n }
     {
-        self.len_before(self.len())
+        match self.newest_piece(2) {
+            Some(piece) => number(piece),
+            None => self.len_before(self.len()),
+        }
     }
 
     /// How many bytes an entry has that ends at a place, by the two bytes in front of the place.
@@ -444,6 +430,15 @@ impl Ring {
             _ => 0,
         }
     }
+}
+
+/// The length that an entry's last two bytes are.
+#[inline(always)]
+fn number(bytes: &[u8]) -> usize
+    requires { length bytes.now ≡ 2 }
+    ensures { (n : ℕ) → n < 2 ^ 16 → bytes.now ≡ little_bytes 2 n → result ≡ n }
+{
+    usize::from(LittleEndian::read_u16(bytes))
 }
 
 /// The length and the tag that an entry's first three bytes are.

@@ -1,4 +1,4 @@
-use Rattle.std.proofs.Common.{◌≡◌, ap, ◌∙◌, refl}
+use Rattle.std.proofs.Common.{ap, ◌∙◌}
 use Rattle.bpf_journal.specs.Again.{seen_again}
 use Rattle.bpf_journal.proofs.Courses.{course_left, goes_back, handed_fits}
 use Rattle.bpf_journal.proofs.course.Course.back_by_entry.Goals as goal

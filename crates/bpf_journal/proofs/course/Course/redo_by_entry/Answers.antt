@@ -1,4 +1,3 @@
-use Rattle.std.proofs.Common.{sym}
 use Rattle.bpf_journal.proofs.Courses.{course_again, makes_again, none_refused}
 use Rattle.bpf_journal.proofs.course.Course.redo_by_entry.Goals as goal
 
