@@ -1,8 +1,12 @@
--- Scaffolding: a table of all slots beside a list of some, by which a slot is looked up at once.
-use Rattle.std.specs.Prelude.{◌≡◌, ◌<◌, ℕ, Bool, List, Some, slice_get, length}
-use Rattle.bpf_session.specs.Stops.{has}
+-- Scaffolding: a table beside a list of slots, which tells at once of most other slots that they are not in the list.
+use Rattle.std.specs.Prelude.{◌≡◌, ◌<◌, ℕ, ◌%◌, ◌==◌, Bool, List, Some, slice_get, length}
+use Rattle.std.specs.List.{list_any}
 
--- The table tells of each slot whether it is in the list.
+-- Whether one of some slots has a place in the table: its remainder.
+abbrev pub has_at : List ℕ → ℕ → Bool
+has_at slots place = list_any (λ slot. slot % 8192 == place) slots
+
+-- The table tells of each place whether one of the slots has it.
 pub record IsTableOf (slots : List ℕ) (table : List Bool) : Type 0 where
-  pub whole : length table ≡ 65536
-  pub each : (slot : ℕ) → slot < 65536 → slice_get table slot ≡ Some (has slots slot)
+  pub whole : length table ≡ 8192
+  pub each : (place : ℕ) → place < 8192 → slice_get table place ≡ Some (has_at slots place)

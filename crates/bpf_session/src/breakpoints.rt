@@ -1,6 +1,7 @@
 //! Breakpoints: the slots at which forward commands stop.
-ghost use Rattle.std.specs.Prelude.{◌≡◌, ◌<◌, All, ◌++◌, ◌∷◌, [], length, filter, not, nat_le, ◌==◌};
+ghost use Rattle.std.specs.Prelude.{◌≡◌, ◌<◌, All, ◌++◌, ◌∷◌, [], length, filter, not, nat_le, ◌==◌, ◌%◌};
 ghost use Rattle.bpf_session.specs.Limits.{most_breaks};
+ghost use Rattle.bpf_session.specs.SlotTables.{has_at};
 ghost use Rattle.bpf_session.specs.Stops.{has};
 
 use arrayvec::ArrayVec;
@@ -9,14 +10,15 @@ use std::marker::Model;
 /// The most breakpoints.
 pub const MOST_BREAKS: usize = 64;
 
-/// As many slots as a number of 16 bits counts.
-const SLOT_COUNT: usize = 65_536;
+/// How many places the table of slots has.
+const PLACES: usize = 8_192;
 
-/// At most 64 slots, in order of setting, no two alike. Whether there is a breakpoint at a slot is one look at a table of all slots.
+/// At most 64 slots, in order of setting, no two alike. A table tells at once of most slots that they are not among them: each slot has a place in
+/// it, by its remainder, and where none of them has that place it is not looked for. Up to slot 8,191 no two slots share a place.
 #[derive(Drop)]
 pub struct Breakpoints {
     slots: ArrayVec<u16, MOST_BREAKS>,
-    table: [bool; SLOT_COUNT],
+    table: [bool; PLACES],
 }
 
 impl Model for Breakpoints {
@@ -37,7 +39,7 @@ impl Breakpoints {
     {
         Breakpoints {
             slots: ArrayVec::new(),
-            table: [false; SLOT_COUNT],
+            table: [false; PLACES],
         }
     }
 
@@ -66,7 +68,15 @@ impl Breakpoints {
     pub fn has(&self, slot: u16) -> bool
         ensures { result ≡ has self.now slot }
     {
-        self.table[usize::from(slot)]
+        self.table[place_of(slot)] && self.is_among(slot)
+    }
+
+    /// The same, by a look at each of them.
+    #[inline(never)]
+    fn is_among(&self, slot: u16) -> bool
+        ensures { result ≡ has self.now slot }
+    {
+        self.slots.iter().any(|other| *other == slot)
     }
 
     /// Sets one at a slot.
@@ -75,7 +85,7 @@ impl Breakpoints {
         ensures { self.new ≡ self.old ++ slot ∷ [] }
     {
         self.slots.push(slot);
-        self.table[usize::from(slot)] = true;
+        self.table[place_of(slot)] = true;
     }
 
     /// Removes the one at a slot.
@@ -83,8 +93,26 @@ impl Breakpoints {
         ensures { self.new ≡ filter (λ other. not (other == slot)) self.old }
     {
         self.slots.retain(|other| *other != slot);
-        self.table[usize::from(slot)] = false;
+        let place = place_of(slot);
+        self.table[place] = is_taken(self.slots.as_slice(), place);
     }
+}
+
+/// The place of a slot in the table.
+fn place_of(slot: u16) -> usize
+    ensures place { result ≡ slot % 8192 }
+    ensures within { result < 8192 }
+{
+    usize::from(slot) % PLACES
+}
+
+/// Whether one of some slots has a place in the table.
+fn is_taken(slots: &[u16], place: usize) -> bool
+    ensures { result ≡ has_at slots.now place }
+{
+    slots
+        .iter()
+        .any(|slot| usize::from(*slot) % PLACES == place)
 }
 
 /// Brings the range of slots into a proof.
