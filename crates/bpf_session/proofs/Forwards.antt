@@ -1,28 +1,33 @@
 -- A forward command's loop: what holds after k steps, and what each exit comes to.
-use Rattle.std.proofs.Common.{◌≡◌, ◌≢◌, ◌+◌, ◌-◌, ◌<◌, ◌≤◌, ◌==◌, ℕ, zero, suc, Bool, true, false, List, [], Option, Some, None, Ok, Err, is_some, refl, sym, ap, subst, ◌∙◌, arith, add-one}
+use Rattle.std.proofs.Common.{◌≡◌, ◌≢◌, ◌+◌, ◌-◌, ◌<◌, ◌≤◌, ◌==◌, ◌⊎◌, inl, inr, ℕ, zero, suc, Bool, true, false, List, [], Option, Some, None, Ok, Err, is_some, refl, sym, ap, subst, ◌∙◌, arith}
 use Rattle.std.proofs.lemmas.Bool.Decides.{nat_tests}
-use Rattle.std.specs.Prelude.{if◌then◌else◌, nat_lt, IfOk, Result}
+use Rattle.std.specs.Prelude.{if◌then◌else◌, nat_lt, not, unwrap_or, IfOk, Result}
+use Rattle.std.specs.Str.{bytes_eq}
 use Rattle.bpf_machine.specs.State.{State, depth}
 use Rattle.bpf_machine.specs.Next.{next}
-use Rattle.bpf_machine.specs.ByAddress.{byte}
 use Rattle.bpf_machine.specs.Entries.{step_entry}
 use Rattle.bpf_machine.specs.Moves.{Leads}
+use Rattle.bpf_entries.specs.Past.{replaced}
 use Rattle.bpf_entries.specs.Status.{has_ended}
 use Rattle.bpf_machine.specs.declared.moves.Move.TheVariants.{Step}
-use Rattle.bpf_journal.specs.Counts.{one_more}
 use Rattle.bpf_entries.specs.Keeping.{Kept, keep}
-use Rattle.bpf_journal.specs.Histories.{record_weight}
-use Rattle.bpf_journal.specs.Tracks.{Track, track_of}
+use Rattle.bpf_journal.specs.Histories.{Record, record_weight}
+use Rattle.bpf_journal.specs.Runs.{Ends, history_after, refusals_by_run}
+use Rattle.bpf_journal.specs.Tracks.{Track, track_after, track_of}
+use Rattle.bpf_journal.proofs.Runs.{ends_state}
+use Rattle.bpf_ring.specs.Runs as run
+use Rattle.bpf_ring.specs.Runs.{AreSteps, stops_after}
 use Rattle.bpf_journal.specs.Replaced.{replaces_bytes}
 use Rattle.bpf_journal.proofs.Telling.{kept_bytes}
 use Rattle.bpf_journal.specs.Timelines.{record_of}
-use Rattle.bpf_journal.specs.Courses.{MakesNew, StaysThere}
 use Rattle.bpf_session.specs.Points.{Point}
 use Rattle.bpf_session.specs.Outcomes.{Outcome, refused, unless_refused}
 use Rattle.bpf_session.specs.Refused.{refusals_of, when}
-use Rattle.bpf_session.specs.Stops.{breaks_at, some_differs, watch_differs}
+use Rattle.bpf_session.specs.Stops.{has, some_differs}
 use Rattle.bpf_session.specs.Forward.{state_after, kept, gone, still_ahead, is_done, stop, stop_in, least, steps, taken, forward}
-use Rattle.bpf_session.specs.Watched.{Compares, bytes_at}
+use Rattle.bpf_session.specs.Halting.{floor_of, halts, most_of}
+use Rattle.bpf_session.specs.Watched.{bytes_at}
+use Rattle.bpf_session.proofs.Watching.{compares, compares_none}
 use Rattle.bpf_session.specs.Replies.{IsThere}
 use Rattle.bpf_session.specs.Sessions.{SessionValue, HasPast, StandsAt, Obeys, gap_of, point_of, bounds_of, track_at}
 use Rattle.bpf_session.proofs.Answering.{Comes, comes_as, same-bounds}
@@ -50,20 +55,6 @@ least_next test k (suc n) h e = let q : suc n - 1 ≡ n = omega arith in rw (e, 
 pub least_here : (test : ℕ → Bool) (k n : ℕ) → 0 < n → test k ≡ true → least test k n ≡ k
 least_here test k zero h e = absurd (omega arith)
 least_here test k (suc n) h e = rw e refl
-
--- where nothing stops, the machine runs and the limit isn't reached
-none_stops : (ended broken changed done limit : Bool) → (if ended then Some End else if broken then Some Break else if changed then Some Watch else if done then Some Done else if limit then Some Limit else None) ≡ None → (ended ≡ false) × (changed ≡ false) × (limit ≡ false)
-none_stops true broken changed done limit h = cc
-none_stops false true changed done limit h = cc
-none_stops false false true done limit h = cc
-none_stops false false false true limit h = cc
-none_stops false false false false true h = cc
-none_stops false false false false false h = (refl, refl, refl)
-
-goes_on : (limit : ℕ) (goal : Goal) (p : Point) (j : ℕ) (x y : State) → stop_in limit goal p j x y ≡ None → (has_ended y.status ≡ false) × (watch_differs p x y ≡ false) × (j ≢ limit)
-goes_on limit goal p j x y h =
-    let n = none_stops (has_ended y.status) (breaks_at p y) (watch_differs p x y) (is_done goal (depth p.state) j y) (j == limit) h in
-    (n.0, n.1, λ e. let t : (j == limit) ≡ false = n.2 in grind (arith, nat_tests))
 
 -- what stops a command is never a refused step, so that its answer tells no gap
 none_told : (n : ℕ) (why : Why) (ended broken changed done limit : Bool) → Some why ≡ (if ended then Some End else if broken then Some Break else if changed then Some Watch else if done then Some Done else if limit then Some Limit else None) → gap_of (Ok (replies.Forward n why)) ≡ None
@@ -118,129 +109,261 @@ module _ {K : Type 0} (holds : K → List Kept → Type 0) where
     past,
   )
 
--- no number of steps up to k stops, and the machine, the history and the refusals are those after k steps; the watched bytes are still
--- those that were seen
-pub record Going {K : Type 0} (holds : K → List Kept → Type 0) (refusals room : K → ℕ) (old now : SessionValue K) (goal : Goal) (seen : List ℕ) (k : ℕ) : Type 0 where
+-- a state and a history after so many steps are those of the run of the journal
+pub same_state : (k : ℕ) (x : State) → run.state_after k x ≡ state_after k x
+same_state zero x = refl
+same_state (suc k) x = ap next (same_state k x)
+
+same_history : (room k : ℕ) (p : Point) → history_after room k p.state p.history ≡ kept room k p
+same_history room zero p = refl
+same_history room (suc k) p =
+    ap (λ (x : State). keep record_weight room (history_after room k p.state p.history) (record_of x Step (k == 0))) (same_state k p.state)
+    ∙ ap (λ (h : List Record). keep record_weight room h (record_of (state_after k p.state) Step (k == 0))) (same_history room k p)
+
+same_track : {K : Type 0} (room k : ℕ) (s : SessionValue K) (h : Track) → track_after room k s.moment.state h ≡ track_at (gone room k (point_of s h))
+same_track room zero s h = refl
+same_track room (suc k) s h = ap (λ (v : List Record). track_of v) (same_history room (suc k) (point_of s h))
+
+-- the least number is this one, where it passes and no smaller one does
+pub least_is : (test : ℕ → Bool) (k d n : ℕ) → ((j : ℕ) → k ≤ j → j < k + d → test j ≡ false) → test (k + d) ≡ true → d < n → least test k n ≡ k + d
+least_is test k zero n none here low = let e : k + 0 ≡ k = omega arith in least_here test k n (omega arith) (ap test (sym e) ∙ here) ∙ sym e
+least_is test k (suc d) n none here low =
+    let e : k + suc d ≡ k + 1 + d = omega arith in
+    least_next test k n (omega arith) (none k (omega arith) (omega arith))
+    ∙ least_is test (k + 1) d (n - 1) (λ j from to. none j (omega arith) (omega (arith, to, e))) (ap test (sym e) ∙ here) (omega arith)
+    ∙ sym e
+
+-- and no smaller one where none up to it passes
+least_beyond : (test : ℕ → Bool) (k d n : ℕ) → ((j : ℕ) → k ≤ j → j < k + d → test j ≡ false) → d ≤ n → k + d ≤ least test k n
+least_beyond test k zero n none low = omega (arith, least_from test k n)
+least_beyond test k (suc d) n none low =
+    let e : k + suc d ≡ k + 1 + d = omega arith in
+    let more = least_beyond test (k + 1) d (n - 1) (λ j from to. none j (omega arith) (omega (arith, to, e))) (omega arith) in
+    omega (arith, e, more, least_next test k n (omega arith) (none k (omega arith) (omega arith)))
+
+-- what a run that goes on tells of its last step
+goes_on : (ended broken low differs : Bool) → (if ended then true else if broken then true else if low then true else differs) ≡ false → (ended ≡ false) × (broken ≡ false) × (low ≡ false) × (differs ≡ false)
+goes_on true broken low differs h = cc
+goes_on false true low differs h = cc
+goes_on false false true differs h = cc
+goes_on false false false true h = cc
+goes_on false false false false h = (refl, refl, refl, refl)
+
+-- and one that stops
+stops_some : (ended broken changed done limit low differs : Bool) → (low ≡ true → done ≡ true) → (differs ≡ true → changed ≡ true) → (if ended then true else if broken then true else if low then true else differs) ≡ true
+    → is_some (if ended then Some End else if broken then Some Break else if changed then Some Watch else if done then Some Done else if limit then Some Limit else None) ≡ true
+stops_some true broken changed done limit low differs a b h = refl
+stops_some false true changed done limit low differs a b h = refl
+stops_some false false true done limit low differs a b h = refl
+stops_some false false false true limit low differs a b h = refl
+stops_some false false false false limit true differs a b h = let e = a refl in cc
+stops_some false false false false limit false true a b h = let e = b refl in cc
+stops_some false false false false limit false false a b h = cc
+
+ends_some : (ended broken changed done limit : Bool) → (done ≡ true) ⊎ (limit ≡ true)
+    → is_some (if ended then Some End else if broken then Some Break else if changed then Some Watch else if done then Some Done else if limit then Some Limit else None) ≡ true
+ends_some true broken changed done limit h = refl
+ends_some false true changed done limit h = refl
+ends_some false false true done limit h = refl
+ends_some false false false true limit h = refl
+ends_some false false false false true h = refl
+ends_some false false false false false (inl e) = cc
+ends_some false false false false false (inr e) = cc
+
+some_is : (o : Option Why) (d : Why) → is_some o ≡ true → Some (unwrap_or o d) ≡ o
+some_is None d h = cc
+some_is (Some why) d h = refl
+
+-- a command is done where the depth is below its floor, or its count is reached
+done_below : (goal : Goal) (start k : ℕ) (y : State) → nat_lt (depth y) (floor_of goal start) ≡ true → is_done goal start k y ≡ true
+done_below (Steps count) start k y h = grind (arith, nat_tests)
+done_below Next start k y h = grind (arith, nat_tests)
+done_below Continue start k y h = grind (arith, nat_tests)
+done_below Finish start k y h = h
+
+not_done : (goal : Goal) (start k limit : ℕ) (y : State) → nat_lt (depth y) (floor_of goal start) ≡ false → k < most_of goal limit → (is_done goal start k y ≡ false) × ((k == limit) ≡ false)
+not_done (Steps count) start k limit y h low = (grind (arith, nat_tests), grind (arith, nat_tests))
+not_done Next start k limit y h low = (grind (arith, nat_tests), grind (arith, nat_tests))
+not_done Continue start k limit y h low = (refl, grind (arith, nat_tests))
+not_done Finish start k limit y h low = (h, grind (arith, nat_tests))
+
+done_at_most : (goal : Goal) (start k limit : ℕ) (y : State) → k ≡ most_of goal limit → (is_done goal start k y ≡ true) ⊎ ((k == limit) ≡ true)
+done_at_most (Steps count) start k limit y h = by_less (nat_lt count limit) refl where
+  by_less : (b : Bool) → nat_lt count limit ≡ b → ((k == count) ≡ true) ⊎ ((k == limit) ≡ true)
+  by_less true e = inl (grind (arith, nat_tests))
+  by_less false e = inr (grind (arith, nat_tests))
+done_at_most Next start k limit y h = inr (grind (arith, nat_tests))
+done_at_most Continue start k limit y h = inr (grind (arith, nat_tests))
+done_at_most Finish start k limit y h = inr (grind (arith, nat_tests))
+
+pub most_within : (goal : Goal) (limit : ℕ) → most_of goal limit ≤ limit
+most_within (Steps count) limit = grind (arith, nat_tests)
+most_within Next limit = omega arith
+most_within Continue limit = omega arith
+most_within Finish limit = omega arith
+
+-- the watched bytes behind a step that stopped nothing are those that were seen before it
+seen_more : (watches seen : List ℕ) (x y : State) (replaced : Bool) → Leads x Step y → replaced ≡ replaces_bytes (step_entry x) → seen ≡ bytes_at watches x
+    → (if replaced then not (bytes_eq (bytes_at watches y) seen) else false) ≡ false → (seen ≡ bytes_at watches y) × (some_differs watches x y ≡ false)
+seen_more watches seen x y true leads is saw quiet =
+    let c = compares watches seen x y (not (bytes_eq (bytes_at watches y) seen)) saw refl in
+    (c.same quiet, sym c.since ∙ quiet)
+seen_more watches seen x y false leads is saw quiet =
+    let c = compares_none watches seen x y saw (λ a. kept_bytes x y Step leads (sym is) a) in
+    (c.same refl, sym c.since)
+
+module _ (breaks watches seen : List ℕ) (floor : ℕ) (x : State) (n : ℕ) (saw : seen ≡ bytes_at watches x) (leads : (k : ℕ) → suc k < n → Leads (run.state_after k x) Step (run.state_after (suc k) x))
+    (quiet : (k : ℕ) → k < n → stops_after (halts breaks watches seen floor) x k ≡ false) where
+  -- what a step tells that is not the last one
+  step_quiet : (k : ℕ) → suc k < n → (has_ended (run.state_after (suc k) x).status ≡ false) × (has breaks (run.state_after (suc k) x).pc ≡ false) × (nat_lt (depth (run.state_after (suc k) x)) floor ≡ false)
+      × ((if is_some (replaced 0 (step_entry (run.state_after k x))) then not (bytes_eq (bytes_at watches (run.state_after (suc k) x)) seen) else false) ≡ false)
+  step_quiet k low = goes_on (has_ended (run.state_after (suc k) x).status) (has breaks (run.state_after (suc k) x).pc) (nat_lt (depth (run.state_after (suc k) x)) floor)
+      (if is_some (replaced 0 (step_entry (run.state_after k x))) then not (bytes_eq (bytes_at watches (run.state_after (suc k) x)) seen) else false) (quiet (suc k) low)
+
+  seen_still : (k : ℕ) → k < n → seen ≡ bytes_at watches (run.state_after k x)
+  seen_still zero low = saw
+  seen_still (suc k) low =
+      (seen_more watches seen (run.state_after k x) (run.state_after (suc k) x) (is_some (replaced 0 (step_entry (run.state_after k x)))) (leads k low) refl (seen_still k (omega (arith, low))) (step_quiet k low).3).0
+
+  same_watched : (k : ℕ) → suc k < n → some_differs watches (run.state_after k x) (run.state_after (suc k) x) ≡ false
+  same_watched k low =
+      (seen_more watches seen (run.state_after k x) (run.state_after (suc k) x) (is_some (replaced 0 (step_entry (run.state_after k x)))) (leads k low) refl (seen_still k (omega (arith, low))) (step_quiet k low).3).1
+
+-- the run of a command
+pub record Ran {K : Type 0} (holds : K → List Kept → Type 0) (refusals room : K → ℕ) (old new : SessionValue K) (goal : Goal) (seen : List ℕ) (n : ℕ) (cut : Bool) : Type 0 where
   pub fresh : has_ended old.moment.state.status ≡ false
-  pub running : has_ended now.moment.state.status ≡ false
-  pub only : OnlyMoment old now
-  pub saw : seen ≡ bytes_at now.watches now.moment.state
-  pub state : now.moment.state ≡ state_after k old.moment.state
-  pub past : (h : Track) → HasPast holds old h → HasPast holds now (track_at (gone (room old.moment.keeper) k (point_of old h)))
-  pub same : refusals now.moment.keeper ≡ refusals old.moment.keeper
-  pub room_same : room now.moment.keeper ≡ room old.moment.keeper
-  pub below : k < old.limit
-  pub none : (h : Track) → steps old.limit goal (point_of old h) ≡ least (λ j. is_some (stop old.limit goal (point_of old h) j)) (k + 1) (old.limit - k)
+  pub only : OnlyMoment old new
+  pub saw : seen ≡ bytes_at old.watches old.moment.state
+  pub ends : Ends (halts old.breaks old.watches seen (floor_of goal (depth old.moment.state))) (most_of goal old.limit) old.moment.state new.moment.state n cut
+  pub kept : (h : Track) → HasPast holds old h → HasPast holds new (track_after (room old.moment.keeper) n old.moment.state h)
+  pub refused : refusals new.moment.keeper ≡ refusals_by_run cut (refusals old.moment.keeper)
+  pub room_same : room new.moment.keeper ≡ room old.moment.keeper
 
-module _ {K : Type 0} (holds : K → List Kept → Type 0) (refusals room : K → ℕ) (old now new : SessionValue K) (goal : Goal) (seen : List ℕ) (k : ℕ) where
-  -- the state and the history after one more step
-  state_more : Going holds refusals room old now goal seen k → Leads now.moment.state Step new.moment.state → new.moment.state ≡ state_after (k + 1) old.moment.state
-  state_more i leads = rw add-one (leads.after ∙ ap next i.state)
+pub ran : {K : Type 0} (holds : K → List Kept → Type 0) (refusals room : K → ℕ) (old new : SessionValue K) (goal : Goal) (seen : List ℕ) (start floor most n : ℕ) (cut : Bool) → has_ended old.moment.state.status ≡ false
+    → start ≡ depth old.moment.state → floor ≡ floor_of goal start → most ≡ most_of goal old.limit → OnlyMoment old new → seen ≡ bytes_at old.watches old.moment.state
+    → Ends (halts old.breaks old.watches seen floor) most old.moment.state new.moment.state n cut
+    → ((h : Track) → HasPast holds old h → HasPast holds new (track_after (room old.moment.keeper) n old.moment.state h))
+    → refusals new.moment.keeper ≡ refusals_by_run cut (refusals old.moment.keeper) → room new.moment.keeper ≡ room old.moment.keeper → Ran holds refusals room old new goal seen n cut
+ran holds refusals room old new goal seen start floor most n cut fresh began low all only saw ends kept refused room_same = record {
+  fresh = fresh;
+  only = only;
+  saw = saw;
+  ends =
+      subst (λ m. Ends (halts old.breaks old.watches seen (floor_of goal (depth old.moment.state))) m old.moment.state new.moment.state n cut) all
+      (subst (λ f. Ends (halts old.breaks old.watches seen f) most old.moment.state new.moment.state n cut) (low ∙ ap (floor_of goal) began) ends);
+  kept = kept;
+  refused = refused;
+  room_same = room_same;
+}
 
-  past_more : Going holds refusals room old now goal seen k → MakesNew holds (room now.moment.keeper) Step (k == 0) now.moment new.moment → (h : Track) → HasPast holds old h → HasPast holds new (track_at (gone (room old.moment.keeper) (k + 1) (point_of old h)))
-  past_more i m h st =
-      let t = m.kept _ (i.past h st) in
-      rw add-one (subst (λ (x : State). HasPast holds new (track_of (keep record_weight (room old.moment.keeper) (kept (room old.moment.keeper) k (point_of old h)) (record_of x Step (k == 0))))) i.state (subst (λ (r : ℕ). HasPast holds new (track_of (keep record_weight r (kept (room old.moment.keeper) k (point_of old h)) (record_of now.moment.state Step (k == 0))))) i.room_same t))
-
-  only_more : Going holds refusals room old now goal seen k → OnlyMoment now new → OnlyMoment old new
-  only_more i only = record { breaks = only.breaks ∙ i.only.breaks; watches = only.watches ∙ i.only.watches; limit = only.limit ∙ i.only.limit }
-
-  -- the watched bytes after one more step, beside what was seen before, and what a look at it says
-  abbrev pub CompareSeen : Bool → Bool → Type 0
-  CompareSeen replaced differs = (x : State) → seen ≡ bytes_at new.watches x → (replaced ≡ false → (a : ℕ) → byte x a ≡ byte new.moment.state a) → Compares new.watches seen x new.moment.state differs
-
-  abbrev pub Stopping : Bool → Option Why → Type 0
-  Stopping differs why = (x : State) (h : Track) → differs ≡ some_differs new.watches x new.moment.state → why ≡ stop_in new.limit goal (record (point_of new h) { state = old.moment.state }) (k + 1) x new.moment.state
-
-  compared_now : Going holds refusals room old now goal seen k → Leads now.moment.state Step new.moment.state → OnlyMoment now new → (replaced differs : Bool) → replaced ≡ replaces_bytes (step_entry now.moment.state) → CompareSeen replaced differs → Compares new.watches seen now.moment.state new.moment.state differs
-  compared_now i leads only replaced differs told compare =
-      compare now.moment.state (i.saw ∙ ap (λ (ws : List ℕ). bytes_at ws now.moment.state) (sym only.watches))
-      (λ off a. kept_bytes now.moment.state new.moment.state Step leads (sym told ∙ off) a)
-
-  -- why it stops or not after one more step, from where the command began
-  stop_more : Going holds refusals room old now goal seen k → OnlyMoment now new → new.moment.state ≡ state_after (k + 1) old.moment.state → (why : Option Why) → ((h : Track) → why ≡ stop_in new.limit goal (record (point_of new h) { state = old.moment.state }) (k + 1) now.moment.state new.moment.state) → (h : Track) → stop old.limit goal (point_of old h) (k + 1) ≡ why
-  stop_more i only e why found h =
-      let all = only_more i only in
-      let f = found h in
-      let from : stop_in old.limit goal (point_of old h) (k + 1) (state_after k old.moment.state) (state_after (k + 1) old.moment.state) ≡ why = sym (f ∙ at_old new.limit new.breaks new.watches now.moment.state new.moment.state all.limit all.breaks all.watches i.state e) in
-      rw add-one (rw add-one at from)
-    where
-      at_old : (limit : ℕ) (breaks watches : List ℕ) (x y : State) → limit ≡ old.limit → breaks ≡ old.breaks → watches ≡ old.watches → x ≡ state_after k old.moment.state → y ≡ state_after (k + 1) old.moment.state → stop_in limit goal (record { history = h.history; ahead = h.ahead; state = old.moment.state; breaks = breaks; watches = watches }) (k + 1) x y ≡ stop_in old.limit goal (point_of old h) (k + 1) (state_after k old.moment.state) (state_after (k + 1) old.moment.state)
-      at_old limit breaks watches x y l b w q s = rw (l, b, w, q, s) refl
-
-  -- one more step that stops nothing
-  pub going_step : Going holds refusals room old now goal seen k → MakesNew holds (room now.moment.keeper) Step (k == 0) now.moment new.moment → OnlyMoment now new → refusals new.moment.keeper ≡ refusals now.moment.keeper → room new.moment.keeper ≡ room now.moment.keeper → (replaced differs : Bool) → replaced ≡ replaces_bytes (step_entry now.moment.state) → CompareSeen replaced differs → Stopping differs None → Going holds refusals room old new goal seen (k + 1)
-  going_step i m only same room_same replaced differs told compare stops =
-      let compared = compared_now i m.leads only replaced differs told compare in
-      let quiet = λ (h : Track). stops now.moment.state h compared.since in
-      let e = state_more i m.leads in
-      let all = only_more i only in
-      let o = goes_on new.limit goal (record (point_of new (track_of [])) { state = old.moment.state }) (k + 1) now.moment.state new.moment.state (sym (quiet (track_of []))) in
-      let differ = o.2 in
-      let here = i.below in
-      let limit = all.limit in
-      let lt : k + 1 < old.limit = omega (arith, limit) in
-      record {
-        fresh = i.fresh;
-        running = o.0;
-        only = all;
-        saw = compared.same (compared.since ∙ o.1);
-        state = e;
-        past = past_more i m;
-        same = same ∙ i.same;
-        room_same = room_same ∙ i.room_same;
-        below = lt;
-        none = λ h.
-            let passes : is_some (stop old.limit goal (point_of old h) (k + 1)) ≡ false = ap is_some (stop_more i only e None quiet h) in
-            i.none h ∙ least_next (λ j. is_some (stop old.limit goal (point_of old h) j)) (k + 1) (old.limit - k) (omega arith) passes ∙ ap (least (λ j. is_some (stop old.limit goal (point_of old h) j)) (k + 1 + 1)) (let m : old.limit - k - 1 ≡ old.limit - (k + 1) = omega arith in m);
-      }
-
+module _ {K : Type 0} (holds : K → List Kept → Type 0) (refusals room : K → ℕ) (old new : SessionValue K) (goal : Goal) (seen : List ℕ) where
   -- what a forward command means, where its refusals at the start are these
   abbrev pub Meaning : Option ℕ → Point → Outcome
   Meaning gap p = unless_refused (when (has_ended p.state.status) MachineEnded) p (forward gap (bounds_of room old) goal p)
 
-  -- a step that stops the command
-  pub going_stop : Going holds refusals room old now goal seen k → MakesNew holds (room now.moment.keeper) Step (k == 0) now.moment new.moment → OnlyMoment now new → refusals new.moment.keeper ≡ refusals now.moment.keeper → room new.moment.keeper ≡ room now.moment.keeper → (replaced differs : Bool) → replaced ≡ replaces_bytes (step_entry now.moment.state) → CompareSeen replaced differs → (why : Why) → Stopping differs (Some why) → Obeys holds refusals room old new Meaning (Ok (replies.Forward (k + 1) why))
-  going_stop i m only same room_same replaced differs told compare why stops =
-      let compared = compared_now i m.leads only replaced differs told compare in
-      let found = λ (g : Track). stops now.moment.state g compared.since in
-      let fresh = i.fresh in
-      let here = i.below in
-      let e = state_more i m.leads in
-      let all = only_more i only in
-      let p : Point = record (point_of new (track_of [])) { state = old.moment.state } in
-      let tells = none_told (k + 1) why (has_ended new.moment.state.status) (breaks_at p new.moment.state) (watch_differs p now.moment.state new.moment.state) (is_done goal (depth p.state) (k + 1) new.moment.state) (k + 1 == new.limit) (found (track_of [])) in
-      let comes : (h : Track) → HasPast holds old h → Comes holds new Meaning (Ok (replies.Forward (k + 1) why)) (point_of old h) = λ h st.
-      let there = stop_more i only e (Some why) found h in
-      let n : steps old.limit goal (point_of old h) ≡ k + 1 = i.none h ∙ least_here (λ j. is_some (stop old.limit goal (point_of old h) j)) (k + 1) (old.limit - k) (omega arith) (ap is_some there) in
-      let is : Meaning None (point_of old h) ≡ taken (room old.moment.keeper) (k + 1) why (point_of old h) = rw (fresh, n, there) refl in
-      comes_as holds new Meaning _ (point_of old h) None _ tells is refl (stands_gone holds (room old.moment.keeper) (k + 1) old new h all e (past_more i m h st)) in
+  abbrev test_of : Bool → State → Bool
+  test_of = halts old.breaks old.watches seen (floor_of goal (depth old.moment.state))
+
+  -- why it stops, by the states of the journal's run
+  stop_of : (h : Track) (k : ℕ) → stop old.limit goal (point_of old h) (suc k) ≡ stop_in old.limit goal (point_of old h) (suc k) (run.state_after k old.moment.state) (run.state_after (suc k) old.moment.state)
+  stop_of h k = rw (same_state k old.moment.state) refl
+
+  -- no smaller number of steps stops it
+  none_before : (n : ℕ) → n ≤ most_of goal old.limit → seen ≡ bytes_at old.watches old.moment.state → ((k : ℕ) → suc k < n → Leads (run.state_after k old.moment.state) Step (run.state_after (suc k) old.moment.state))
+      → ((k : ℕ) → k < n → stops_after test_of old.moment.state k ≡ false)
+      → (h : Track) (j : ℕ) → 1 ≤ j → j < n → is_some (stop old.limit goal (point_of old h) j) ≡ false
+  none_before n within saw leads quiet h zero some low = absurd (omega arith)
+  none_before n within saw leads quiet h (suc k) some low =
+      let x = old.moment.state in
+      let q = step_quiet old.breaks old.watches seen (floor_of goal (depth x)) x n saw leads quiet k low in
+      let w = same_watched old.breaks old.watches seen (floor_of goal (depth x)) x n saw leads quiet k low in
+      let d = not_done goal (depth x) (suc k) old.limit (run.state_after (suc k) x) q.2 (omega (arith, within, low)) in
+      let none : stop_in old.limit goal (point_of old h) (suc k) (run.state_after k x) (run.state_after (suc k) x) ≡ None = rw (q.0, q.1, w, d.0, d.1) refl in
+      ap is_some (stop_of h k ∙ none)
+
+  -- where it stands
+  stands_there : (n : ℕ) (cut : Bool) → Ran holds refusals room old new goal seen n cut → (h : Track) → HasPast holds old h → StandsAt holds new (gone (room old.moment.keeper) n (point_of old h))
+  stands_there n cut r h st =
+      let state : new.moment.state ≡ state_after n old.moment.state = ends_state _ _ _ _ _ cut r.ends ∙ same_state n old.moment.state in
+      stands_gone holds (room old.moment.keeper) n old new h r.only state
+      (subst (HasPast holds new) (same_track (room old.moment.keeper) n old h) (r.kept h st))
+
+  -- what a look at the last step says
+  abbrev pub Stopping : ℕ → Bool → Why → Type 0
+  Stopping n differs why = (x : State) (h : Track) → differs ≡ some_differs new.watches x new.moment.state → why ≡ unwrap_or (stop_in new.limit goal (record (point_of new h) { state = old.moment.state }) n x new.moment.state) Limit
+
+  -- a run that stops
+  pub ran_to : (n : ℕ) → Ran holds refusals room old new goal seen n false → (differs : Bool) → differs ≡ not (bytes_eq (bytes_at new.watches new.moment.state) seen) → (why : Why) → Stopping n differs why
+      → Obeys holds refusals room old new Meaning (Ok (replies.Forward n why))
+  ran_to zero r differs told why stops = absurd (omega (arith, r.ends.some))
+  ran_to (suc k) r differs told why stops =
+      let x = old.moment.state in
+      let y = new.moment.state in
+      let a = run.state_after k x in
+      let floor = floor_of goal (depth x) in
+      let ends = r.ends in
+      let leads : (j : ℕ) → suc j < suc k → Leads (run.state_after j x) Step (run.state_after (suc j) x) = λ j low. ends.steps j (omega (arith, low)) in
+      let saw : seen ≡ bytes_at old.watches a = seen_still old.breaks old.watches seen floor x (suc k) r.saw leads ends.before k (omega arith) in
+      let compared = compares old.watches seen a (run.state_after (suc k) x) (not (bytes_eq (bytes_at old.watches (run.state_after (suc k) x)) seen)) saw refl in
+      let now : differs ≡ some_differs new.watches a y = (compares new.watches seen a y differs (saw ∙ ap (λ (ws : List ℕ). bytes_at ws a) (sym r.only.watches)) told).since in
+      let here : (h : Track) → stop_in new.limit goal (record (point_of new h) { state = x }) (suc k) a y ≡ stop old.limit goal (point_of old h) (suc k) = λ h. at_old h k r.only ends.state in
+      let some : (h : Track) → is_some (stop old.limit goal (point_of old h) (suc k)) ≡ true = λ h. ap is_some (stop_of h k) ∙ stopped k compared.since ends.last in
+      let is_why : (h : Track) → stop old.limit goal (point_of old h) (suc k) ≡ Some why = λ h. sym (some_is (stop old.limit goal (point_of old h) (suc k)) Limit (some h)) ∙ ap Some (sym (stops a h now ∙ ap (λ o. unwrap_or o Limit) (here h))) in
+      let tells = none_told (suc k) why _ _ _ _ _ (sym (is_why (track_of []))) in
+      let fresh = r.fresh in
+      let comes : (h : Track) → HasPast holds old h → Comes holds new Meaning (Ok (replies.Forward (suc k) why)) (point_of old h) = λ h st.
+      let there = is_why h in
+      let low : k < old.limit = omega (arith, ends.within, most_within goal old.limit) in
+      let e : 1 + k ≡ suc k = omega arith in
+      let n : steps old.limit goal (point_of old h) ≡ suc k =
+      least_is (λ j. is_some (stop old.limit goal (point_of old h) j)) 1 k old.limit (λ j from to. none_before (suc k) ends.within r.saw leads ends.before h j from (omega (arith, to))) (rw e (some h)) low ∙ e in
+      let is : Meaning None (point_of old h) ≡ taken (room old.moment.keeper) (suc k) why (point_of old h) = rw (fresh, n, there) refl in
+      comes_as holds new Meaning _ (point_of old h) None _ tells is refl (stands_there (suc k) false r h st) in
       record {
         answered = λ h st. (comes h st).answered;
         stands = λ h st. (comes h st).stands;
-        counted = rw tells (same ∙ i.same);
-        bounds = same-bounds room old new all.limit (room_same ∙ i.room_same);
+        counted = rw tells r.refused;
+        bounds = same-bounds room old new r.only.limit r.room_same;
         there = tt;
       }
+    where
+      at_old : (h : Track) (k : ℕ) → OnlyMoment old new → new.moment.state ≡ run.state_after (suc k) old.moment.state → stop_in new.limit goal (record (point_of new h) { state = old.moment.state }) (suc k) (run.state_after k old.moment.state) new.moment.state ≡ stop old.limit goal (point_of old h) (suc k)
+      at_old h k only is = rw (only.limit, only.breaks, only.watches, is) (sym (stop_of h k))
 
-  -- a step that the keeper refused
-  pub going_cut : Going holds refusals room old now goal seen k → StaysThere holds now.moment new.moment → OnlyMoment now new → refusals new.moment.keeper ≡ one_more (refusals now.moment.keeper) → room new.moment.keeper ≡ room now.moment.keeper → Obeys holds refusals room old new Meaning (if k == 0 then Err OutOfMemory else Ok (replies.Forward k Memory))
-  going_cut i s only more room_same =
-      let fresh = i.fresh in
-      let all = only_more i only in
-      let tells = cut_told (k == 0) k (is_first k) in
-      let comes : (h : Track) → HasPast holds old h → Comes holds new Meaning (if k == 0 then Err OutOfMemory else Ok (replies.Forward k Memory)) (point_of old h) = λ h st.
-      let far : k < steps old.limit goal (point_of old h) = rw (i.none h) (omega (arith, least_from (λ j. is_some (stop old.limit goal (point_of old h) j)) (k + 1) (old.limit - k))) in
-      let lt : nat_lt k (steps old.limit goal (point_of old h)) ≡ true = lt_true _ _ far in
-      let is : Meaning (Some k) (point_of old h) ≡ cut_of (k == 0) (room old.moment.keeper) k (point_of old h) = rw (fresh, lt) refl in
-      let stands = stands_gone holds (room old.moment.keeper) k old new h all (s.state ∙ i.state) (s.stands _ (i.past h st)) in
-      comes_as holds new Meaning _ (point_of old h) (Some k) _ tells is (cut_answer (k == 0) (room old.moment.keeper) k (point_of old h)) (cut_point (k == 0) (room old.moment.keeper) k (point_of old h) (StandsAt holds new) (is_first k) stands) in
+      changed_if : (replaced b : Bool) → (if replaced then b else false) ≡ true → b ≡ true
+      changed_if true b h = h
+      changed_if false b h = cc
+
+      stopped : (k : ℕ) → not (bytes_eq (bytes_at old.watches (run.state_after (suc k) old.moment.state)) seen) ≡ some_differs old.watches (run.state_after k old.moment.state) (run.state_after (suc k) old.moment.state)
+          → (stops_after test_of old.moment.state (suc k) ≡ true) ⊎ (suc k ≡ most_of goal old.limit)
+          → is_some (stop_in old.limit goal (point_of old (track_of [])) (suc k) (run.state_after k old.moment.state) (run.state_after (suc k) old.moment.state)) ≡ true
+      stopped k same (inl stops) =
+          stops_some _ _ _ _ _ _ _ (done_below goal (depth old.moment.state) (suc k) (run.state_after (suc k) old.moment.state))
+          (λ h. sym same ∙ changed_if (is_some (replaced 0 (step_entry (run.state_after k old.moment.state)))) _ h) stops
+      stopped k same (inr all) = ends_some _ _ _ _ _ (done_at_most goal (depth old.moment.state) (suc k) old.limit (run.state_after (suc k) old.moment.state) all)
+
+  -- a run that the keeper cut short
+  pub ran_cut : (n : ℕ) → Ran holds refusals room old new goal seen n true → Obeys holds refusals room old new Meaning (if n == 0 then Err OutOfMemory else Ok (replies.Forward n Memory))
+  ran_cut n r =
+      let fresh = r.fresh in
+      let ends = r.ends.0 in
+      let low = r.ends.1 in
+      let tells = cut_told (n == 0) n (is_first n) in
+      let comes : (h : Track) → HasPast holds old h → Comes holds new Meaning (if n == 0 then Err OutOfMemory else Ok (replies.Forward n Memory)) (point_of old h) = λ h st.
+      let far : 1 + n ≤ steps old.limit goal (point_of old h) =
+      least_beyond (λ j. is_some (stop old.limit goal (point_of old h) j)) 1 n old.limit
+      (λ j from to. none_before (suc n) (omega (arith, low)) r.saw (λ k less. ends.steps k (omega (arith, less))) (λ k less. ends.on k (omega (arith, less))) h j from (omega (arith, to)))
+      (omega (arith, low, most_within goal old.limit)) in
+      let lt : nat_lt n (steps old.limit goal (point_of old h)) ≡ true = lt_true _ _ (omega (arith, far)) in
+      let is : Meaning (Some n) (point_of old h) ≡ cut_of (n == 0) (room old.moment.keeper) n (point_of old h) = rw (fresh, lt) refl in
+      let stands = stands_there n true r h st in
+      comes_as holds new Meaning _ (point_of old h) (Some n) _ tells is (cut_answer (n == 0) (room old.moment.keeper) n (point_of old h)) (cut_point (n == 0) (room old.moment.keeper) n (point_of old h) (StandsAt holds new) (is_first n) stands) in
       record {
         answered = λ h st. (comes h st).answered;
         stands = λ h st. (comes h st).stands;
-        counted = rw tells (more ∙ ap one_more i.same);
-        bounds = same-bounds room old new all.limit (room_same ∙ i.room_same);
-        there = cut_there (k == 0) k new.moment.state;
+        counted = rw tells r.refused;
+        bounds = same-bounds room old new r.only.limit r.room_same;
+        there = cut_there (n == 0) n new.moment.state;
       }
 
 module _ {K : Type 0} (holds : K → List Kept → Type 0) (refusals room : K → ℕ) (old new : SessionValue K) where

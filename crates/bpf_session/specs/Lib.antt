@@ -15,6 +15,7 @@ pub mod Runs
 pub mod Laws
 pub mod SlotTables
 pub mod Watched
+pub mod Halting
 pub mod Searches
 pub mod EditRefusals
 pub mod Plain

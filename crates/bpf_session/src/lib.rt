@@ -3,6 +3,7 @@
 
 mod breakpoints;
 mod fault;
+mod halting;
 pub mod laws;
 mod plain;
 mod reply;

@@ -90,6 +90,14 @@ impl Watches {
         if differs { self.bytes(cpu) } else { seen }
     }
 
+    /// Whether the bytes at the addresses are not those that were seen.
+    pub fn differ_from(&self, cpu: &Cpu, seen: &Seen) -> bool
+        ensures { result ≡ not (bytes_eq (bytes_at self.now cpu.now) seen.now) }
+    {
+        let bytes = self.bytes(cpu);
+        !bytes.is_same(seen)
+    }
+
     /// Whether a byte at one of the addresses differs now from what was seen before a move that replaced bytes or not.
     pub fn differ(&self, cpu: &Cpu, seen: &Seen, replaced: bool) -> bool
         ensures { (x : State) → seen.now ≡ bytes_at self.now x → (replaced ≡ false → (address : ℕ) → byte x address ≡ byte cpu.now address) →

@@ -1,17 +1,21 @@
 //! Forward commands.
-ghost use Rattle.std.specs.Prelude.{◌≡◌, ◌≤◌, List, Ok, Err, if◌then◌else◌, ◌==◌};
+ghost use Rattle.std.specs.Prelude.{◌≡◌, ◌≤◌, Ok, Err, if◌then◌else◌, ◌==◌, false, unwrap_or};
 ghost use Rattle.bpf_machine.specs.State.{State, depth as depth_of};
 ghost use Rattle.bpf_entries.specs.Status.{has_ended};
-ghost use Rattle.bpf_journal.specs.Tracks.{Track};
+ghost use Rattle.bpf_journal.specs.Runs.{Ends, refusals_by_run};
+ghost use Rattle.bpf_journal.specs.Tracks.{Track, track_after};
 ghost use Rattle.bpf_session.specs.Forward.{forward, is_done, stop_in};
+ghost use Rattle.bpf_session.specs.Halting.{halts};
 ghost use Rattle.bpf_session.specs.Outcomes.{unless_refused};
 ghost use Rattle.bpf_session.specs.Refused.{refusals_of, when};
-ghost use Rattle.bpf_session.specs.Sessions.{Obeys, bounds_of, point_of};
+ghost use Rattle.bpf_session.specs.Sessions.{HasPast, Obeys, bounds_of, point_of};
 ghost use Rattle.bpf_session.specs.Stops.{some_differs};
 
 use super::Session;
+use crate::halting::{Halting, floor_of, most_of};
 use crate::reply::Reply;
-use bpf_journal::{Keeper, TimelineFault};
+use crate::watches::Seen;
+use bpf_journal::{Keeper, Run};
 use bpfdb_commands::{Command, Goal, Refusal};
 use bpfdb_replies::Why;
 
@@ -52,40 +56,58 @@ impl<K: Keeper> Session<K> {
         if self.cpu().status().has_ended() {
             return Err(Refusal::MachineEnded);
         }
+        self.cpu().invariant();
         let start = self.cpu().depth();
-        let seen = self.watches.bytes(self.timeline.cpu());
-        for k in 0..self.limit {
-            let is_first = k == 0;
-            let replaced = match self.timeline.step(is_first) {
-                Ok(replaced) => replaced,
-                Err(TimelineFault::Move(_)) => unreachable!(),
-                Err(TimelineFault::OutOfMemory) => return cut_short(k),
-            };
-            let differs = self.watches.differ(self.timeline.cpu(), &seen, replaced);
-            if let Some(why) = self.stop(&goal, start, k + 1, differs) {
-                return Ok(Reply::Forward { steps: k + 1, why });
-            }
+        let seen = self.watches.bytes(self.cpu());
+        let floor = floor_of(&goal, start);
+        let most = most_of(&goal, self.limit);
+        let run = self.run(most, &seen, floor);
+        if run.is_cut {
+            return cut_short(run.steps);
         }
-        unreachable!()
+        let differs = self.watches.differ_from(self.cpu(), &seen);
+        let why = self.why(&goal, start, run.steps, differs);
+        Ok(Reply::Forward {
+            steps: run.steps,
+            why,
+        })
     }
 
-    /// Why a command that began at a depth stops after so many steps, if it does. The last one changed a watched byte or not.
-    fn stop(&self, goal: &Goal, start: usize, taken: u64, differs: bool) -> Option<Why>
+    /// Takes steps, `most` at the most, until the machine has ended, a breakpoint is at pc, the depth is below a floor, or the watched bytes are not those
+    /// that were seen.
+    fn run(&mut self, most: u64, seen: &Seen, floor: usize) -> Run
+        requires runs { has_ended self.old.moment.state.status ≡ false }
+        requires some { 1 ≤ most }
+        ensures ends { Ends (halts self.old.breaks self.old.watches seen.now floor) most self.old.moment.state self.new.moment.state result.steps result.is_cut }
+        ensures kept { (t : Track) → HasPast K.holds self.old t → HasPast K.holds self.new (track_after (K.room self.old.moment.keeper) result.steps self.old.moment.state t) }
+        ensures refused { K.refused self.new.moment.keeper ≡ refusals_by_run result.is_cut (K.refused self.old.moment.keeper) }
+        ensures room { K.room self.new.moment.keeper ≡ K.room self.old.moment.keeper }
+        ensures tables { (self.new.breaks ≡ self.old.breaks) × (self.new.watches ≡ self.old.watches) × (self.new.limit ≡ self.old.limit) }
+    {
+        let halting = Halting {
+            breaks: &self.breaks,
+            watches: &self.watches,
+            seen,
+            floor,
+        };
+        self.timeline.run(most, &halting)
+    }
+
+    /// Why a command that began at a depth stops after so many steps, where it does. The last one changed a watched byte or not.
+    fn why(&self, goal: &Goal, start: usize, taken: u64, differs: bool) -> Why
         ensures { (first x : State) (h : Track) → start ≡ depth_of first → differs ≡ some_differs self.now.watches x self.now.moment.state →
-            result ≡ stop_in self.now.limit goal.now (record (point_of self.now h) { state = first }) taken x self.now.moment.state }
+            result ≡ unwrap_or (stop_in self.now.limit goal.now (record (point_of self.now h) { state = first }) taken x self.now.moment.state) Why.Limit }
     {
         if self.cpu().status().has_ended() {
-            Some(Why::End)
+            Why::End
         } else if self.breaks.has(self.cpu().pc()) {
-            Some(Why::Break)
+            Why::Break
         } else if differs {
-            Some(Why::Watch)
+            Why::Watch
         } else if is_done(goal, start, taken, self.cpu().depth()) {
-            Some(Why::Done)
-        } else if taken == self.limit {
-            Some(Why::Limit)
+            Why::Done
         } else {
-            None
+            Why::Limit
         }
     }
 }

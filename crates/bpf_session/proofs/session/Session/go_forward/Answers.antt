@@ -1,19 +1,46 @@
-use Rattle.std.proofs.Common.{refl, sym, ap, ◌∙◌}
+use Rattle.std.proofs.Common.{◌≡◌, false, rules, ap, subst, ◌∙◌}
+use Rattle.std.specs.Prelude.{not}
+use Rattle.std.specs.Str.{bytes_eq}
+use Rattle.bpf_entries.specs.Status.{has_ended}
 use Rattle.bpf_machine.specs.State.{depth}
-use Rattle.bpf_session.proofs.Forwards.{going_step, going_stop, going_cut}
+use Rattle.bpf_session.specs.Halting.{most_of}
+use Rattle.bpf_session.specs.Sessions.{SessionValue}
+use Rattle.bpf_session.specs.Watched.{bytes_at}
+use Rattle.bpf_session.proofs.Forwards.{Ran, ran, ran_cut, ran_to}
 use Rattle.bpf_session.proofs.session.Session.go_forward.Goals as goal
 
-pub returns-in-Err-OutOfMemory : goal.returns-in-Err-OutOfMemory
-returns-in-Err-OutOfMemory g c =
+pub returns-then-run : goal.returns-then-run
+returns-then-run g c =
+    let k = g.K.Keeper in
+    let fresh : has_ended c.args.self.now.moment.state.status ≡ false = search rules in
+    let saw : c.bytes-seen.result ≡ bytes_at c.args.self.now.watches c.args.self.now.moment.state =
+    c.bytes-seen.ensures ∙ ap (λ ws. bytes_at ws c.cpu-4.result.now) (ap (λ (s : SessionValue g.row.K.Denot). s.watches) c.self.view_is) ∙ ap (bytes_at c.args.self.now.watches) c.cpu-4.ensures in
+    let most : c.most_of-most.result ≡ most_of c.args.goal c.args.self.now.limit = rw (← c.self.view_is) c.most_of-most.ensures.value in
+    let all : Ran {K = g.row.K.Denot} k.holds k.refused k.room c.args.self.now c.run-run.new.self c.args.goal c.bytes-seen.result c.run-run.result.steps c.run-run.result.is_cut =
+    ran k.holds k.refused k.room c.args.self.now c.run-run.new.self c.args.goal c.bytes-seen.result c.depth-start.result c.floor_of-floor.result c.most_of-most.result c.run-run.result.steps c.run-run.result.is_cut
+    fresh (c.depth-start.ensures ∙ ap depth c.cpu-3.ensures) c.floor_of-floor.ensures most
+    (record { breaks = c.run-run.ensures.tables.0; watches = c.run-run.ensures.tables.1; limit = c.run-run.ensures.tables.2 })
+    saw c.run-run.ensures.ends c.run-run.ensures.kept c.run-run.ensures.refused c.run-run.ensures.room in
     rw c.cut_short.ensures
-    (going_cut _ _ _ _ _ _ _ _ _ (rw (← c.self-in-loop-k.view_is) at c.loop-k.invariant) (rw c.in-Err-OutOfMemory.field-0-is at c.in-Err-OutOfMemory.ensures.err).1 (record { breaks = refl; watches = refl; limit = refl }) (rw c.in-Err-OutOfMemory.field-0-is at c.in-Err-OutOfMemory.ensures.refused) c.in-Err-OutOfMemory.ensures.room)
+    (ran_cut k.holds k.refused k.room c.args.self.now c.run-run.new.self c.args.goal c.bytes-seen.result c.run-run.result.steps
+    (subst (λ b. Ran {K = g.row.K.Denot} k.holds k.refused k.room c.args.self.now c.run-run.new.self c.args.goal c.bytes-seen.result c.run-run.result.steps b) c.if-run.true all))
 
-pub returns-in-Some : goal.returns-in-Some
-returns-in-Some g c =
-    let began = c.depth-start.ensures ∙ ap depth c.cpu-2.ensures in
-    going_stop _ _ _ _ _ _ _ _ _ (rw (← c.self-in-loop-k.view_is) at c.loop-k.invariant) c.in-Ok.ensures.ok (record { breaks = refl; watches = refl; limit = refl }) c.in-Ok.ensures.refused c.in-Ok.ensures.room _ _ c.in-Ok.ensures.bytes (rw c.cpu-in-loop-k.ensures at c.differ-differs.ensures) _ (λ x h differs. sym c.in-Some.is ∙ c.stop.ensures c.args.self.now.moment.state x h began differs)
-
-pub loop-k-preserved : goal.loop-k-preserved
-loop-k-preserved g c =
-    let began = c.depth-start.ensures ∙ ap depth c.cpu-2.ensures in
-    going_step _ _ _ _ _ _ _ _ _ (rw (← c.self-in-loop-k.view_is) at c.loop-k.invariant) c.in-Ok.ensures.ok (record { breaks = refl; watches = refl; limit = refl }) c.in-Ok.ensures.refused c.in-Ok.ensures.room _ _ c.in-Ok.ensures.bytes (rw c.cpu-in-loop-k.ensures at c.differ-differs.ensures) (λ x h differs. sym c.in_default.is ∙ c.stop.ensures c.args.self.now.moment.state x h began differs)
+pub returns : goal.returns
+returns g c =
+    let k = g.K.Keeper in
+    let fresh : has_ended c.args.self.now.moment.state.status ≡ false = search rules in
+    let began = c.depth-start.ensures ∙ ap depth c.cpu-3.ensures in
+    let saw : c.bytes-seen.result ≡ bytes_at c.args.self.now.watches c.args.self.now.moment.state =
+    c.bytes-seen.ensures ∙ ap (λ ws. bytes_at ws c.cpu-4.result.now) (ap (λ (s : SessionValue g.row.K.Denot). s.watches) c.self.view_is) ∙ ap (bytes_at c.args.self.now.watches) c.cpu-4.ensures in
+    let most : c.most_of-most.result ≡ most_of c.args.goal c.args.self.now.limit = rw (← c.self.view_is) c.most_of-most.ensures.value in
+    let told : c.differ_from-differs.result ≡ not (bytes_eq (bytes_at c.run-run.new.self.watches c.run-run.new.self.moment.state) c.bytes-seen.result) =
+    c.differ_from-differs.ensures ∙ ap (λ ws. not (bytes_eq (bytes_at ws c.cpu-5.result.now) c.bytes-seen.result)) (ap (λ (s : SessionValue g.row.K.Denot). s.watches) c.self-2.view_is)
+    ∙ ap (λ y. not (bytes_eq (bytes_at c.run-run.new.self.watches y) c.bytes-seen.result)) c.cpu-5.ensures in
+    let all : Ran {K = g.row.K.Denot} k.holds k.refused k.room c.args.self.now c.run-run.new.self c.args.goal c.bytes-seen.result c.run-run.result.steps c.run-run.result.is_cut =
+    ran k.holds k.refused k.room c.args.self.now c.run-run.new.self c.args.goal c.bytes-seen.result c.depth-start.result c.floor_of-floor.result c.most_of-most.result c.run-run.result.steps c.run-run.result.is_cut
+    fresh began c.floor_of-floor.ensures most
+    (record { breaks = c.run-run.ensures.tables.0; watches = c.run-run.ensures.tables.1; limit = c.run-run.ensures.tables.2 })
+    saw c.run-run.ensures.ends c.run-run.ensures.kept c.run-run.ensures.refused c.run-run.ensures.room in
+    ran_to k.holds k.refused k.room c.args.self.now c.run-run.new.self c.args.goal c.bytes-seen.result c.run-run.result.steps
+    (subst (λ b. Ran {K = g.row.K.Denot} k.holds k.refused k.room c.args.self.now c.run-run.new.self c.args.goal c.bytes-seen.result c.run-run.result.steps b) c.if-run.false all)
+    c.differ_from-differs.result told c.why-why.result (λ x h differs. c.why-why.ensures c.args.self.now.moment.state x h began differs)

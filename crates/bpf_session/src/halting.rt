@@ -1,0 +1,68 @@
+//! How a forward command's run of steps stops.
+ghost use Rattle.std.specs.Prelude.{◌≡◌, ◌≤◌, ◌<◌, ◌^◌};
+ghost use Rattle.bpf_session.specs.Halting.{floor_of as floor, most_of as most};
+
+use crate::breakpoints::Breakpoints;
+use crate::watches::{Seen, Watches};
+use bpf_journal::StopTest;
+use bpf_machine::Cpu;
+use bpfdb_commands::Goal;
+
+/// What stops a run beside its number of steps: a breakpoint, a depth of calls below a floor, and a change of what was seen of the watched bytes.
+#[derive(Clone, Copy)]
+pub(crate) struct Halting<'a> {
+    pub(crate) breaks: &'a Breakpoints,
+    pub(crate) watches: &'a Watches,
+    pub(crate) seen: &'a Seen,
+    pub(crate) floor: usize,
+}
+
+impl<'a> StopTest for Halting<'a> {
+    ghost use Rattle.bpf_session.specs.Halting.{halts};
+
+    ghost test = { λ h replaced y. halts h.breaks.now h.watches.now h.seen.now h.floor replaced y };
+
+    #[inline(always)]
+    fn holds(&self, cpu: &Cpu, replaced: bool) -> bool {
+        if self.breaks.has(cpu.pc()) {
+            true
+        } else if cpu.depth() < self.floor {
+            true
+        } else if replaced {
+            self.watches.differ_from(cpu, self.seen)
+        } else {
+            false
+        }
+    }
+}
+
+/// The floor of a command that began at a depth.
+pub(crate) fn floor_of(goal: &Goal, start: usize) -> usize
+    requires { start < 2 ^ 32 }
+    ensures { result ≡ floor goal.now start }
+{
+    match goal {
+        Goal::Steps(_) => 0,
+        Goal::Next => start + 1,
+        Goal::Continue => 0,
+        Goal::Finish => start,
+    }
+}
+
+/// The most steps of a command, by the session's limit.
+pub(crate) fn most_of(goal: &Goal, limit: u64) -> u64
+    requires { 1 ≤ limit }
+    ensures value { result ≡ most goal.now limit }
+    ensures some { 1 ≤ result }
+{
+    match goal {
+        Goal::Steps(count) => {
+            if count.get() < limit {
+                count.get()
+            } else {
+                limit
+            }
+        }
+        _ => limit,
+    }
+}
