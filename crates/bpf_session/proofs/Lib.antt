@@ -12,4 +12,5 @@ pub mod Redoing
 pub mod Running
 pub mod Tables
 pub mod Watching
+pub mod WatchRuns
 mod WholeScripts

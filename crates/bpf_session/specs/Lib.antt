@@ -16,6 +16,7 @@ pub mod Laws
 pub mod SlotTables
 pub mod Watched
 pub mod Halting
+pub mod WatchRuns
 pub mod Searches
 pub mod EditRefusals
 pub mod Plain

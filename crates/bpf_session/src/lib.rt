@@ -19,3 +19,4 @@ pub use plain::{Ending, run_plain};
 pub use reply::Reply;
 pub use script::run;
 pub use session::Session;
+pub use watches::{Run, Sight};

@@ -11,6 +11,7 @@ mod edits;
 mod forward;
 mod redo;
 mod replies;
+mod runs;
 mod shows;
 mod stops;
 

@@ -7,8 +7,13 @@ ghost use Rattle.bpf_session.specs.Limits.{most_watches};
 ghost use Rattle.bpf_session.specs.Stops.{has};
 ghost use Rattle.bpf_session.specs.Watched.{Compares, bytes_at};
 
+mod run;
+mod sight;
+
 use arrayvec::ArrayVec;
 use bpf_machine::Cpu;
+pub use run::Run;
+pub use sight::Sight;
 use std::marker::Model;
 
 /// The most watches.
