@@ -7,3 +7,4 @@ pub mod Telling
 pub mod LineTexts
 pub mod Turns
 pub mod Bodies
+pub mod Consoles

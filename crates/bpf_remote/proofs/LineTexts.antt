@@ -23,6 +23,13 @@ pub matched-err : {A E : Type 0} (r : Result A E) (fault : E) (P : A → Type 0)
 matched-err {A = A} {E = E} r fault P Q e p = subst (λ (v : Result A E). MatchResult v P Q) (sym e) p
 
 -- what a writer holds that held nothing
+pub written-all : {W A E : Type 0} (contents : W → Option (List ℕ)) (a b : Tally W) (r : Result A E) (x : A) (text items : List ℕ)
+    → Writes contents a b r text → r ≡ Ok x → contents a.inner ≡ Some [] → contents b.inner ≡ Some items → items ≡ text
+written-all {A = A} {E = E} contents a b r x text items h e none some =
+    let w : Writes contents a b (Ok x) text = subst (λ (v : Result A E). Writes contents a b v text) e h in
+    rw (none, some) at w.ok
+
+-- the same behind what was written before
 pub written : {W A E : Type 0} (contents : W → Option (List ℕ)) (a b : Tally W) (r : Result A E) (before x : A) (text items : List ℕ)
     → WritesAfter contents a (Ok before) b r text → r ≡ Ok x → contents a.inner ≡ Some [] → contents b.inner ≡ Some items → items ≡ text
 written {A = A} {E = E} contents a b r before x text items h e none some =

@@ -4,8 +4,8 @@ use lib.Chars.{codes}
 use Rattle.std.proofs.lemmas.List.{append-nil}
 use Rattle.bpf_machine.specs.State.{State}
 use Rattle.bpf_remote.specs.Packets.{Buffer, Holds}
-use Rattle.bpf_remote.specs.Numbers.{hex_text, word_text}
-use Rattle.bpf_remote.specs.Answers.{byte_at, error_text, register_text, present, registers_below, value_of, memory_part, has_memory, part_of}
+use Rattle.bpf_remote.specs.Numbers.{address_text, hex_text, word_text}
+use Rattle.bpf_remote.specs.Answers.{byte_at, error_text, register_text, present, registers_below, value_of, memory_part, has_memory, part_of, watched_text}
 use Rattle.bpf_remote.proofs.HexText.{hex_text-append, hex_text-none}
 
 -- the same text in other words
@@ -15,6 +15,10 @@ Holds-text buffer s t h e = subst (λ (v : List ℕ). Holds buffer v) e h
 pub error-parts : (text : List ℕ) (number : ℕ) → (text ++ 69 ∷ []) ++ hex_text (number ∷ []) ≡ text ++ error_text number
 unfolding hex_text
 error-parts text number = append_assoc text (69 ∷ []) (hex_text (number ∷ []))
+
+-- the address of a watched byte
+pub watched-parts : (text : List ℕ) (address : ℕ) → ((text ++ codes "T05watch:") ++ address_text address) ++ codes ";" ≡ text ++ watched_text address
+watched-parts text address = append_assoc (text ++ codes "T05watch:") (address_text address) (codes ";") ∙ append_assoc text (codes "T05watch:") (address_text address ++ codes ";")
 
 -- no register yet, and one more
 pub registers-none : (text : List ℕ) (x : State) → text ≡ text ++ registers_below x 0

@@ -14,7 +14,8 @@ use Rattle.bpfdb_replies.specs.declared.why.Why.TheVariants as why
 use Rattle.bpf_session.specs.declared.reply.Reply.{Reply}
 use Rattle.bpf_session.specs.declared.reply.Reply.TheVariants as reply
 use Rattle.bpf_remote.specs.Layouts.{described, described_again}
-use Rattle.bpf_remote.specs.Numbers.{hex_text, word_text}
+use Rattle.bpfdb_replies.specs.Texts.{place}
+use Rattle.bpf_remote.specs.Numbers.{address_text, hex_text, word_text}
 use Rattle.bpf_remote.specs.Packets.{longest_body, two_digits}
 use Rattle.bpf_remote.specs.declared.answer.Answer.{Answer}
 use Rattle.bpf_remote.specs.declared.answer.Answer.TheVariants as answer
@@ -41,17 +42,22 @@ halt_of why.Limit status = halt.Limit
 halt_of why.Memory status = halt.Limit
 halt_of why.Start status = halt.Begin
 
+-- The same with the first watched byte that has changed since before the command. (There may be none behind a way back over edits.)
+abbrev pub answer_of_why : Why → Status → Option ℕ → Answer
+answer_of_why why.Watch status (Some address) = answer.Watched address
+answer_of_why why status changed = answer.Halted (halt_of why status)
+
 -- The answer to a request that moves: where a machine has ended, or nothing is kept, the way there is at its end.
-abbrev pub answer_of_move : Result Reply Refusal → Status → Answer
-answer_of_move (Ok (reply.Forward steps why)) status = answer.Halted (halt_of why status)
-answer_of_move (Ok (reply.Back moves why)) status = answer.Halted (halt_of why status)
-answer_of_move (Ok _) status = answer.Done
-answer_of_move (Err MachineEnded) status = answer.Halted halt.End
-answer_of_move (Err NoKeptStep) status = answer.Halted halt.Begin
-answer_of_move (Err refusal) status = answer.Error (number_of refusal)
+abbrev pub answer_of_move : Result Reply Refusal → Status → Option ℕ → Answer
+answer_of_move (Ok (reply.Forward steps why)) status changed = answer_of_why why status changed
+answer_of_move (Ok (reply.Back moves why)) status changed = answer_of_why why status changed
+answer_of_move (Ok _) status changed = answer.Done
+answer_of_move (Err MachineEnded) status changed = answer.Halted halt.End
+answer_of_move (Err NoKeptStep) status changed = answer.Halted halt.Begin
+answer_of_move (Err refusal) status changed = answer.Error (number_of refusal)
 
 -- The answer to a request that sets something.
-abbrev pub answer_of_set : Result Reply Refusal → Answer
+abbrev pub answer_of_set : {A : Type 0} → Result A Refusal → Answer
 answer_of_set (Ok _) = answer.Done
 answer_of_set (Err refusal) = answer.Error (number_of refusal)
 
@@ -64,6 +70,14 @@ text_of_halt swbreak halt.End = codes "T05replaylog:end;"
 text_of_halt swbreak halt.Limit = codes "T02"
 text_of_halt swbreak halt.Access = codes "T0b"
 text_of_halt swbreak halt.Fault = codes "T04"
+
+-- The address of a watched byte that has changed.
+abbrev pub watched_text : ℕ → List ℕ
+watched_text address = codes "T05watch:" ++ address_text address ++ codes ";"
+
+-- A line PLACE, which gdb shows to its user.
+abbrev pub console_text : State → List ℕ
+console_text x = codes "O" ++ hex_text (place x ++ codes "\n")
 
 -- An error's number.
 abbrev pub error_text : ℕ → List ℕ
@@ -110,8 +124,8 @@ memory_text x address count = memory_part x address (min count most_bytes)
 
 -- What is understood.
 abbrev pub supported_text : Layout → List ℕ
-supported_text layout.Bpf = codes "PacketSize=4000;ReverseStep+;ReverseContinue+;swbreak+;QStartNoAckMode+"
-supported_text _ = codes "PacketSize=4000;ReverseStep+;ReverseContinue+;swbreak+;QStartNoAckMode+;qXfer:features:read+"
+supported_text layout.Bpf = codes "PacketSize=4000;ReverseStep+;ReverseContinue+;swbreak+;vContSupported+;QStartNoAckMode+"
+supported_text _ = codes "PacketSize=4000;ReverseStep+;ReverseContinue+;swbreak+;vContSupported+;QStartNoAckMode+;qXfer:features:read+"
 
 -- A part of a text from an offset on: `l` where it ends there, `m` where more follows.
 abbrev pub part_of : List ℕ → ℕ → List ℕ
@@ -125,6 +139,8 @@ abbrev pub text_of : Manners → State → Answer → List ℕ
 text_of m x answer.Done = codes "OK"
 text_of m x (answer.Error number) = error_text number
 text_of m x (answer.Halted halt) = text_of_halt m.swbreak halt
+text_of m x (answer.Watched address) = watched_text address
+text_of m x answer.Actions = codes "vCont;c;C;s;S"
 text_of m x answer.Registers = registers_text m.layout x
 text_of m x (answer.Register n) = register_text x n
 text_of m x (answer.Memory address count) = memory_text x address count

@@ -5,6 +5,8 @@ use Rattle.std.specs.Option.{option_map}
 use Rattle.std.specs.Result.{result_ok}
 use Rattle.hex.specs.Hex.{decode_of}
 use Rattle.bpf_entries.specs.Keeping.{Kept}
+use Rattle.bpf_entries.specs.Status.{has_ended}
+use Rattle.bpf_machine.specs.State.{State}
 use Rattle.bpf_journal.specs.Tracks.{Track}
 use Rattle.bpfdb_commands.specs.Commands.{command_of}
 use Rattle.bpfdb_commands.specs.Refusals.{refusal_text}
@@ -15,10 +17,11 @@ use Rattle.bpf_session.specs.Meaning.{does}
 use Rattle.bpf_session.specs.Output.{is_quit}
 use Rattle.bpf_session.specs.Replies.{text_of_answer}
 use Rattle.bpf_session.specs.Sessions.{SessionValue, HasPast, Obeys, bounds_of, point_of}
+use Rattle.bpf_session.specs.WatchRuns.{SetsWatches, first_changed, seen_at, with_run, without_run}
 use Rattle.bpf_remote.specs.Numbers.{behind, hex_text}
 use Rattle.bpf_remote.specs.Packets.{framed, IsItem}
 use Rattle.bpf_remote.specs.Requests.{request_of}
-use Rattle.bpf_remote.specs.Answers.{answer_of_move, answer_of_set, error_text, halt_of_status, sent, text_of}
+use Rattle.bpf_remote.specs.Answers.{answer_of_move, answer_of_set, console_text, error_text, halt_of_status, sent, text_of}
 use Rattle.bpf_remote.specs.declared.answer.Answer.{Answer}
 use Rattle.bpf_remote.specs.declared.answer.Answer.TheVariants as answer
 use Rattle.bpf_remote.specs.declared.manners.Manners.{Manners}
@@ -42,6 +45,7 @@ answer_to (request.Memory address count) s = answer.Memory address count
 answer_to (request.Supported swbreak) s = answer.Supported
 answer_to (request.Description offset count) s = answer.Description offset count
 answer_to request.Attached s = answer.Attached
+answer_to request.Actions s = answer.Actions
 answer_to request.Wrong s = answer.Error 2
 answer_to request.Unknown s = answer.Empty
 answer_to _ s = answer.Done
@@ -61,6 +65,16 @@ goes_on _ = true
 abbrev pub is_answered : Request → Bool
 is_answered request.Kill = false
 is_answered _ = true
+
+-- Whether a line PLACE comes before an answer: behind a request that moves, where the machine has ended.
+abbrev pub tells_place : Request → State → Bool
+tells_place (request.Move command) x = has_ended x.status
+tells_place _ x = false
+
+-- The packet of that line, or none: that it is left out only where the line doesn't fit a packet isn't said.
+abbrev pub IsConsole : Bool → State → List ℕ → Type 0
+IsConsole false x text = text ≡ []
+IsConsole true x text = (text ≡ framed (console_text x)) ⊎ (text ≡ [])
 
 -- A packet is acknowledged.
 abbrev pub acknowledgement : Manners → List ℕ
@@ -85,8 +99,11 @@ module _ {K : Type 0} (holds : K → List Kept → Type 0) (refusals room : K �
 
   -- A request is answered as the session answers the command that it stands for; one that stands for none changes nothing.
   abbrev pub Answers : SessionValue K → SessionValue K → Request → Answer → Type 0
-  Answers old new (request.Move command) told = (said : Result Reply Refusal) × Obeyed old new command said × (told ≡ answer_of_move said new.moment.state.status)
+  Answers old new (request.Move command) told = (said : Result Reply Refusal) × Obeyed old new command said
+      × (told ≡ answer_of_move said new.moment.state.status (first_changed (seen_at old.watches old.moment.state) new.moment.state))
   Answers old new (request.Set command) told = (said : Result Reply Refusal) × Obeyed old new command said × (told ≡ answer_of_set said)
+  Answers old new (request.Watch run) told = (said : Result (Unit {0}) Refusal) × SetsWatches old new (with_run run old.watches old.moment.state) said × (told ≡ answer_of_set said)
+  Answers old new (request.Unwatch run) told = (said : Result (Unit {0}) Refusal) × SetsWatches old new (without_run run old.watches) said × (told ≡ answer_of_set said)
   Answers old new r told = (new ≡ old) × (told ≡ answer_to r old)
 
   abbrev pub ObeysCommand : SessionValue K → SessionValue K → Command → Bool → List ℕ → Type 0
@@ -103,7 +120,9 @@ module _ {K : Type 0} (holds : K → List Kept → Type 0) (refusals room : K �
   -- A packet with this body was answered.
   abbrev pub DoesRequest : Place K → Place K → Request → List ℕ → Bool → Type 0
   DoesRequest old new r told on = (answer : Answer) × Answers old.session new.session r answer × (new.manners ≡ manners_after r old.manners)
-      × (new.last ≡ text_of old.manners new.session.moment.state answer) × (told ≡ acknowledgement old.manners ++ packet (is_answered r) new.last) × (on ≡ goes_on r)
+      × (new.last ≡ text_of old.manners new.session.moment.state answer)
+      × (console : List ℕ) × IsConsole (tells_place r new.session.moment.state) new.session.moment.state console
+      × (told ≡ acknowledgement old.manners ++ console ++ packet (is_answered r) new.last) × (on ≡ goes_on r)
 
   abbrev pub DoesLine : Place K → Place K → List ℕ → List ℕ → Bool → Type 0
   DoesLine old new digits told on = ObeysLine old.session new.session (line_of digits) new.last × (new.manners ≡ old.manners)

@@ -1,9 +1,9 @@
 -- Numbers and bytes, as bodies write them.
 use Rattle.std.specs.Prelude.{ℕ, ◌+◌, List, [], ◌∷◌, ◌++◌, length, take, drop, position, ◌==◌, if◌then◌else◌, Option, Some, None}
-use Rattle.std.specs.Option.{option_map, option_and_then}
+use Rattle.std.specs.Option.{option_map, option_and_then, unwrap_or}
 use Rattle.std.specs.Result.{result_ok}
 use Rattle.std.specs.Str.{bytes_eq}
-use Rattle.byteorder.specs.Endian.{little_bytes, little_number}
+use Rattle.byteorder.specs.Endian.{big_bytes, little_bytes, little_number}
 use Rattle.hex.specs.Hex.{decode_sized}
 use Rattle.counted_io.specs.Numerals.{as_u64, numeral}
 use Rattle.bpf_remote.specs.Packets.{two_digits}
@@ -16,6 +16,10 @@ hex_text (byte ∷ bytes) = two_digits byte ++ hex_text bytes
 -- The eight bytes of a number, the lowest first.
 unfoldable pub word_text : ℕ → List ℕ
 word_text value = hex_text (little_bytes 8 value)
+
+-- The same, the highest first.
+unfoldable pub address_text : ℕ → List ℕ
+address_text value = hex_text (big_bytes 8 value)
 
 -- The number that hexadecimal digits of either case are, if it is below 2^64.
 abbrev pub number : List ℕ → Option ℕ
@@ -32,6 +36,10 @@ behind name s = if bytes_eq (take (length name) s) name then Some (drop (length 
 -- What stands before the first of these bytes, and what behind it.
 abbrev pub cut : ℕ → List ℕ → Option (List ℕ × List ℕ)
 cut mark s = option_map (λ at. (take at s, drop (at + 1) s)) (position (λ byte. byte == mark) s)
+
+-- What stands before the first of these bytes, or all where there is none.
+abbrev pub before : ℕ → List ℕ → List ℕ
+before mark s = unwrap_or (option_map (λ parts. parts.0) (cut mark s)) s
 
 -- Two numbers with a byte between them.
 abbrev pub pair : ℕ → List ℕ → Option (ℕ × ℕ)

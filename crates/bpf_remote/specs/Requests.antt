@@ -7,11 +7,13 @@ use Rattle.bpf_machine.specs.declared.edit.Edit.TheVariants as edit
 use Rattle.bpfdb_commands.specs.Commands.{bytes_of}
 use Rattle.bpfdb_commands.specs.declared.command.Command.{Command}
 use Rattle.bpfdb_commands.specs.declared.command.Command.TheVariants as command
+use Rattle.bpfdb_commands.specs.declared.command.Goal.{Goal}
 use Rattle.bpfdb_commands.specs.declared.command.Goal.TheVariants as goal
 use Rattle.bpfdb_commands.specs.declared.command.Stop.{Stop}
 use Rattle.bpfdb_commands.specs.declared.command.Stop.TheVariants as stop
 use Rattle.bpfdb_commands.specs.declared.command.Target.TheVariants as target
-use Rattle.bpf_remote.specs.Numbers.{behind, cut, number, pair, word}
+use Rattle.bpf_session.specs.WatchRuns.{run_of}
+use Rattle.bpf_remote.specs.Numbers.{before, behind, cut, number, pair, word}
 use Rattle.bpf_remote.specs.declared.request.Request.{Request}
 use Rattle.bpf_remote.specs.declared.request.Request.TheVariants as request
 
@@ -61,9 +63,9 @@ slot_of address = if address % 8 == 0 then Some (address / 8) else None
 abbrev pub breakpoint : (Stop → Command) → Arguments
 breakpoint does rest = or_wrong (option_and_then (λ p. option_map (λ slot. request.Set (does (stop.Breakpoint slot))) (slot_of p.0)) (pair 44 rest))
 
--- An address, and how many bytes are watched: one.
-abbrev pub watch : (Stop → Command) → Arguments
-watch does rest = or_wrong (option_and_then (λ p. if p.1 == 1 then Some (request.Set (does (stop.Watch p.0))) else None) (pair 44 rest))
+-- An address, a comma, and how many bytes are watched from there on: 1 to 4.
+abbrev pub watch : (List ℕ → Request) → Arguments
+watch does rest = or_wrong (option_and_then (λ p. option_map does (run_of p.0 p.1)) (pair 44 rest))
 
 -- Whether a text stands in another.
 abbrev pub contains : List ℕ → List ℕ → Bool
@@ -77,6 +79,38 @@ description rest = or_wrong (option_map (λ p. request.Description p.0 p.1) (pai
 abbrev pub supported : Arguments
 supported rest = request.Supported (contains (codes "swbreak+") rest)
 
+-- The request of a whole word, None where the table doesn't have it.
+abbrev pub word_of : List (List ℕ × Request) → List ℕ → Option Request
+word_of [] body = None
+word_of (row ∷ rows) body = if bytes_eq body row.0 then Some row.1 else word_of rows body
+
+-- The request of the first name that the body begins with.
+abbrev pub begun : List (List ℕ × Arguments) → List ℕ → Option Request
+begun [] body = None
+begun (row ∷ rows) body = elim (behind row.0 body) [ None ↦ begun rows body | Some rest ↦ Some (row.1 rest) ]
+
+-- The ways to go on: by a step, or until something stops the machine.
+abbrev pub goes : List (List ℕ × Request)
+goes =
+    (codes "s", request.Move (command.Forward (goal.Steps 1)))
+    ∷ (codes "c", request.Move (command.Forward goal.Continue))
+    ∷ []
+
+-- The same with the number of a signal, which says nothing, since no signal reaches a program.
+abbrev pub with_signal : Goal → Arguments
+with_signal does rest = or_wrong (option_map (λ n. request.Move (command.Forward does)) (number rest))
+
+abbrev pub signalled : List (List ℕ × Arguments)
+signalled = (codes "S", with_signal (goal.Steps 1)) ∷ (codes "C", with_signal goal.Continue) ∷ []
+
+-- What each thread is to do, one behind another with semicolons between them, and behind a colon the thread. There is one thread, so the
+-- first counts, whatever thread it names.
+abbrev pub action : List ℕ → Request
+action s = unwrap_or (word_of goes s) (unwrap_or (begun signalled s) request.Wrong)
+
+abbrev pub actions : Arguments
+actions rest = action (before 58 (before 59 rest))
+
 -- The requests that are whole words.
 abbrev pub words : List (List ℕ × Request)
 words =
@@ -87,6 +121,7 @@ words =
     ∷ (codes "bs", request.Move (command.Back (target.Steps 1)))
     ∷ (codes "bc", request.Move (command.Back target.Continue))
     ∷ (codes "QStartNoAckMode", request.Silence)
+    ∷ (codes "vCont?", request.Actions)
     ∷ []
 
 -- The requests that begin with a name.
@@ -98,8 +133,11 @@ names =
     ∷ (codes "M", set_memory)
     ∷ (codes "Z0,", breakpoint command.Add)
     ∷ (codes "z0,", breakpoint command.Remove)
-    ∷ (codes "Z2,", watch command.Add)
-    ∷ (codes "z2,", watch command.Remove)
+    ∷ (codes "Z2,", watch request.Watch)
+    ∷ (codes "z2,", watch request.Unwatch)
+    ∷ (codes "S", with_signal (goal.Steps 1))
+    ∷ (codes "C", with_signal goal.Continue)
+    ∷ (codes "vCont;", actions)
     ∷ (codes "H", any request.Thread)
     ∷ (codes "D", any request.Leave)
     ∷ (codes "vKill", any request.Leave)
@@ -108,16 +146,6 @@ names =
     ∷ (codes "qAttached", any request.Attached)
     ∷ (codes "qXfer:features:read:target.xml:", description)
     ∷ []
-
--- The request of a whole word, None where the table doesn't have it.
-abbrev pub word_of : List (List ℕ × Request) → List ℕ → Option Request
-word_of [] body = None
-word_of (row ∷ rows) body = if bytes_eq body row.0 then Some row.1 else word_of rows body
-
--- The request of the first name that the body begins with.
-abbrev pub begun : List (List ℕ × Arguments) → List ℕ → Option Request
-begun [] body = None
-begun (row ∷ rows) body = elim (behind row.0 body) [ None ↦ begun rows body | Some rest ↦ Some (row.1 rest) ]
 
 -- What a body asks for.
 unfoldable pub word_request : List ℕ → Option Request

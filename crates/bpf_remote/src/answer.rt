@@ -1,6 +1,6 @@
 //! Answers: what the bodies of packets tell gdb.
 ghost use Rattle.std.specs.Prelude.{◌≡◌, ◌≤◌, ◌<◌, ◌+◌, ◌-◌, ◌^◌, ◌++◌, if◌then◌else◌, nat_le, option_map, List, drop, true, ℕ};
-ghost use Rattle.bpf_remote.specs.Answers.{answer_of_move, answer_of_set, byte_at, description_text, error_text, halt_of, halt_of_status, has_memory, memory_text, part_of, present, register_text, registers_text, supported_text, text_of, text_of_halt, value_of};
+ghost use Rattle.bpf_remote.specs.Answers.{answer_of_move, answer_of_set, answer_of_why, byte_at, description_text, error_text, halt_of, halt_of_status, has_memory, memory_text, part_of, present, register_text, registers_text, supported_text, text_of, text_of_halt, value_of, watched_text};
 ghost use Rattle.bpf_remote.specs.Numbers.{hex_text};
 ghost use Rattle.bpf_remote.specs.Packets.{Holds};
 
@@ -39,6 +39,8 @@ pub enum Answer {
     Error(u8),
     /// `T` and why the machine stands still.
     Halted(Halt),
+    /// `T` and the address of a watched byte that has changed.
+    Watched(u64),
     /// The values of r0 to r10 and pc.
     Registers,
     /// The value of one of them.
@@ -51,6 +53,8 @@ pub enum Answer {
     Description { offset: u64, count: u64 },
     /// The machine was there before.
     Attached,
+    /// The ways to go on.
+    Actions,
     /// Nothing: the request isn't known.
     Empty,
 }
@@ -86,13 +90,27 @@ fn halt_of(why: Why, status: Status) -> Halt
     }
 }
 
-/// The answer to a request that moves.
-pub(crate) fn answer_of_move(answer: &Result<Reply, Refusal>, status: Status) -> Answer
-    ensures { result ≡ answer_of_move answer.now status }
+/// How a machine stands still behind a command that moved it, with the watched byte that has changed since before it.
+fn answer_of_why(why: Why, status: Status, changed: Option<u64>) -> Answer
+    ensures { result ≡ answer_of_why why status changed }
+{
+    match (why, changed) {
+        (Why::Watch, Some(address)) => Answer::Watched(address),
+        _ => Answer::Halted(halt_of(why, status)),
+    }
+}
+
+/// The answer to a request that moves, with the watched byte that has changed since before it.
+pub(crate) fn answer_of_move(
+    answer: &Result<Reply, Refusal>,
+    status: Status,
+    changed: Option<u64>,
+) -> Answer
+    ensures { result ≡ answer_of_move answer.now status changed }
 {
     match answer {
-        Ok(Reply::Forward { why, .. }) => Answer::Halted(halt_of(*why, status)),
-        Ok(Reply::Back { why, .. }) => Answer::Halted(halt_of(*why, status)),
+        Ok(Reply::Forward { why, .. }) => answer_of_why(*why, status, changed),
+        Ok(Reply::Back { why, .. }) => answer_of_why(*why, status, changed),
         Ok(_) => Answer::Done,
         Err(Refusal::MachineEnded) => Answer::Halted(Halt::End),
         Err(Refusal::NoKeptStep) => Answer::Halted(Halt::Begin),
@@ -101,7 +119,7 @@ pub(crate) fn answer_of_move(answer: &Result<Reply, Refusal>, status: Status) ->
 }
 
 /// The answer to a request that sets something.
-pub(crate) fn answer_of_set(answer: &Result<Reply, Refusal>) -> Answer
+pub(crate) fn answer_of_set<A>(answer: &Result<A, Refusal>) -> Answer
     ensures { result ≡ answer_of_set answer.now }
 {
     match answer {
@@ -118,6 +136,7 @@ pub(crate) fn append_answer(answer: Answer, cpu: &Cpu, manners: Manners, body: &
         Answer::Done => body.append(b"OK"),
         Answer::Error(number) => append_error(number, body),
         Answer::Halted(halt) => body.append(text_of_halt(halt, manners.swbreak).as_bytes()),
+        Answer::Watched(address) => append_watched(address, body),
         Answer::Registers => append_registers(cpu, manners.layout, body),
         Answer::Register(n) => append_register(cpu, n, body),
         Answer::Memory { address, count } => append_memory(cpu, address, count, body),
@@ -126,6 +145,7 @@ pub(crate) fn append_answer(answer: Answer, cpu: &Cpu, manners: Manners, body: &
             append_description(manners.layout, offset, count, body)
         }
         Answer::Attached => body.append(b"1"),
+        Answer::Actions => body.append(b"vCont;c;C;s;S"),
         Answer::Empty => {}
     }
 }
@@ -145,14 +165,25 @@ fn text_of_halt(halt: Halt, swbreak: bool) -> &'static str
     }
 }
 
+/// Writes the address of a watched byte that has changed behind a body.
+fn append_watched(address: u64, body: &mut Body)
+    ensures { (text : List ℕ) → Holds body.old text → Holds body.new (text ++ watched_text address) }
+{
+    body.append(b"T05watch:");
+    body.append_address(address);
+    body.append(b";");
+}
+
 /// What is understood.
 fn supported_text(layout: Layout) -> &'static str
     ensures { result.now ≡ supported_text layout }
 {
     match layout {
-        Layout::Bpf => "PacketSize=4000;ReverseStep+;ReverseContinue+;swbreak+;QStartNoAckMode+",
+        Layout::Bpf => {
+            "PacketSize=4000;ReverseStep+;ReverseContinue+;swbreak+;vContSupported+;QStartNoAckMode+"
+        }
         _ => {
-            "PacketSize=4000;ReverseStep+;ReverseContinue+;swbreak+;QStartNoAckMode+;qXfer:features:read+"
+            "PacketSize=4000;ReverseStep+;ReverseContinue+;swbreak+;vContSupported+;QStartNoAckMode+;qXfer:features:read+"
         }
     }
 }

@@ -1,12 +1,12 @@
 //! The bodies of packets, in a buffer of fixed size.
 ghost use Rattle.std.specs.Prelude.{◌≡◌, ◌<◌, ◌≤◌, ◌++◌, ◌∷◌, [], List, MatchOption, false, IsSome, length, ℕ};
-ghost use Rattle.byteorder.specs.Endian.{little_bytes};
-ghost use Rattle.bpf_remote.specs.Numbers.{hex_text, word_text};
+ghost use Rattle.byteorder.specs.Endian.{big_bytes, little_bytes};
+ghost use Rattle.bpf_remote.specs.Numbers.{address_text, hex_text, word_text};
 ghost use Rattle.bpf_remote.specs.Packets.{Holds, longest_body};
 
 use crate::digits::two_digits;
 use arrayvec::ArrayVec;
-use byteorder::{ByteOrder, LittleEndian};
+use byteorder::{BigEndian, ByteOrder, LittleEndian};
 use std::marker::Model;
 
 /// The longest body that is read or sent, in bytes.
@@ -81,6 +81,14 @@ impl Body {
         self.append_hex(&word_bytes(value));
     }
 
+    /// Adds the eight bytes of an address, the highest first.
+    #[tactic(auto, unfolding(crate::specs::Numbers::address_text))]
+    pub(crate) fn append_address(&mut self, address: u64)
+        ensures { (body : List ℕ) → Holds self.old body → Holds self.new (body ++ address_text address) }
+    {
+        self.append_hex(&address_bytes(address));
+    }
+
     /// Its bytes, None where there are more than 16,384.
     pub fn bytes(&self) -> Option<&[u8]>
         ensures short { IsSome result → self.now.is_long ≡ false }
@@ -92,6 +100,15 @@ impl Body {
         }
         Some(self.bytes.as_slice())
     }
+}
+
+/// The eight bytes of an address, the highest first.
+fn address_bytes(address: u64) -> [u8; 8]
+    ensures { result ≡ big_bytes 8 address }
+{
+    let mut bytes = [0; 8];
+    BigEndian::write_u64(&mut bytes, address);
+    bytes
 }
 
 /// The eight bytes of a number, the lowest first.

@@ -5,7 +5,7 @@ ghost use Rattle.std.specs.List.{list_all};
 ghost use Rattle.std.specs.Char.{digit_value, is_digit};
 ghost use Rattle.std.specs.Str.Parse.{digits_value};
 ghost use Rattle.counted_io.specs.Numerals.{as_u64};
-ghost use Rattle.bpf_remote.specs.Numbers.{behind, cut, number, pair, word};
+ghost use Rattle.bpf_remote.specs.Numbers.{before, behind, cut, number, pair, word};
 
 use byteorder::{ByteOrder, LittleEndian};
 
@@ -71,6 +71,16 @@ pub(crate) fn cut(mark: u8, text: &[u8]) -> Option<(&[u8], &[u8])>
     match place(mark, text) {
         Some(at) => Some((&text[..at], &text[at + 1..])),
         None => None,
+    }
+}
+
+/// What stands before the first of these bytes, or all where there is none.
+pub(crate) fn before(mark: u8, text: &[u8]) -> &[u8]
+    ensures { result.now ≡ before mark text.now }
+{
+    match cut(mark, text) {
+        Some((front, _)) => front,
+        None => text,
     }
 }
 

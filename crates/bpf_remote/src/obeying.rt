@@ -1,13 +1,14 @@
 //! Requests and lines, obeyed by a session.
-ghost use Rattle.std.specs.Prelude.{◌≡◌, ◌≤◌, ◌⊎◌, [], List, IfOk, MatchResult, length, ℕ};
+ghost use Rattle.std.specs.Prelude.{◌≡◌, ◌≤◌, ◌⊎◌, ◌++◌, [], List, IfOk, MatchResult, codes, length, true, ℕ};
 ghost use Rattle.bpf_journal.specs.Tracks.{Track};
 ghost use Rattle.bpfdb_commands.specs.Refusals.{refusal_text};
 ghost use Rattle.bpf_session.specs.Output.{is_quit};
 ghost use Rattle.bpf_session.specs.Replies.{IsThere, text_of_answer};
 ghost use Rattle.bpf_session.specs.Sessions.{HasPast, bounds_of, point_of};
-ghost use Rattle.bpf_remote.specs.Answers.{error_text};
+ghost use Rattle.bpfdb_replies.specs.Texts.{place};
+ghost use Rattle.bpf_remote.specs.Answers.{console_text, error_text};
 ghost use Rattle.bpf_remote.specs.Numbers.{hex_text};
-ghost use Rattle.bpf_remote.specs.Connections.{Answers, ObeysCommand, ObeysLine, Tells, goes_on, is_answered, line_of, manners_after};
+ghost use Rattle.bpf_remote.specs.Connections.{Answers, ObeysCommand, ObeysLine, Tells, goes_on, is_answered, line_of, manners_after, tells_place};
 ghost use Rattle.bpf_remote.specs.Packets.{Holds, longest_body};
 
 use crate::answer::{
@@ -18,9 +19,10 @@ use crate::manners::Manners;
 use crate::request::Request;
 use arrayvec::ArrayVec;
 use bpf_journal::Keeper;
+use bpf_machine::Cpu;
 use bpf_session::{Command, Refusal, Reply, Session, parse_command};
-use bpfdb_replies::put_refusal;
-use counted_io::{Counted, WriteFault};
+use bpfdb_replies::{put_refusal, write_place};
+use counted_io::{Counted, WriteFault, put};
 
 /// The longest text of a reply that fits a packet, in bytes, and the longest line that a packet spells.
 const LONGEST_TEXT: usize = LONGEST_BODY / 2;
@@ -31,10 +33,14 @@ pub(crate) fn obey<K: Keeper>(session: &mut Session<K>, request: &Request) -> An
 {
     match request {
         Request::Move(command) => {
+            let sight = session.sight();
             let said = session.apply(command);
-            answer_of_move(&said, session.cpu().status())
+            let changed = sight.first_changed(session.cpu());
+            answer_of_move(&said, session.cpu().status(), changed)
         }
         Request::Set(command) => answer_of_set(&session.apply(command)),
+        Request::Watch(run) => answer_of_set(&session.watch(run)),
+        Request::Unwatch(run) => answer_of_set(&session.unwatch(run)),
         Request::Stop => Answer::Halted(halt_of_status(session.cpu().status())),
         Request::Registers => Answer::Registers,
         Request::Register(n) => Answer::Register(*n),
@@ -48,6 +54,7 @@ pub(crate) fn obey<K: Keeper>(session: &mut Session<K>, request: &Request) -> An
             count: *count,
         },
         Request::Attached => Answer::Attached,
+        Request::Actions => Answer::Actions,
         Request::Wrong => Answer::Error(2),
         Request::Unknown => Answer::Empty,
         Request::Silence | Request::Thread | Request::Leave | Request::Kill => Answer::Done,
@@ -90,6 +97,43 @@ pub(crate) fn is_answered(request: &Request) -> bool
     match request {
         Request::Kill => false,
         _ => true,
+    }
+}
+
+/// Whether a line PLACE comes before an answer: behind a move, where the machine has ended.
+pub(crate) fn tells_place(request: &Request, cpu: &Cpu) -> bool
+    ensures { result ≡ tells_place request.now cpu.now }
+{
+    match request {
+        Request::Move(_) => cpu.status().has_ended(),
+        _ => false,
+    }
+}
+
+/// A line PLACE.
+fn place_text(cpu: &Cpu) -> Result<Text, WriteFault>
+    ensures { IfOk result (λ text. text.items ≡ place cpu.now ++ codes "\n") }
+{
+    let mut writer = Counted::new(ArrayVec::new());
+    let placed = write_place(cpu, &mut writer);
+    match put(&mut writer, placed, b"\n") {
+        Ok(()) => Ok(writer.into_inner()),
+        Err(fault) => Err(fault),
+    }
+}
+
+/// Writes a line PLACE into an empty body, as gdb shows it to its user. Answers whether it is there.
+pub(crate) fn append_place(cpu: &Cpu, body: &mut Body) -> bool
+    requires { Holds body.old [] }
+    ensures { result ≡ true → Holds body.new (console_text cpu.now) }
+{
+    match place_text(cpu) {
+        Ok(text) => {
+            body.append(b"O");
+            body.append_hex(text.as_slice());
+            true
+        }
+        Err(_) => false,
     }
 }
 

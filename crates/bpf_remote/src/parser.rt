@@ -1,16 +1,17 @@
 //! The parser of requests.
 ghost use Rattle.std.specs.Prelude.{◌≡◌, is_some};
 ghost use Rattle.std.specs.Option.{option_and_then};
+ghost use Rattle.bpf_session.specs.WatchRuns.{run_of};
 ghost use Rattle.bpf_remote.specs.Numbers.{behind, pair};
 ghost use Rattle.std.specs.Str.{bytes_eq};
 ghost use Rattle.bpfdb_commands.specs.Commands.{bytes_of};
-ghost use Rattle.bpf_remote.specs.Requests.{begun_request, breakpoint, contains, description, edit_of, memory, register, request_of, set_memory, set_register, slot_of, supported, watch, word_request};
+ghost use Rattle.bpf_remote.specs.Requests.{action, actions, begun_request, breakpoint, contains, description, edit_of, memory, register, request_of, set_memory, set_register, slot_of, supported, watch, with_signal, word_request};
 
-use crate::number::{behind, cut, number, pair, word};
+use crate::number::{before, behind, cut, number, pair, word};
 use crate::request::Request;
 use bpf_isa::Reg;
 use bpf_machine::{ByteString, Edit};
-use bpf_session::{Command, Count, Goal, Stop, Target};
+use bpf_session::{Command, Count, Goal, Run, Stop, Target};
 
 /// The most bytes that an edit writes.
 const LONGEST_BYTES: usize = 256;
@@ -47,6 +48,8 @@ fn word_request(body: &[u8]) -> Option<Request>
         Some(Request::Move(Command::Back(Target::Continue)))
     } else if is(body, "QStartNoAckMode") {
         Some(Request::Silence)
+    } else if is(body, "vCont?") {
+        Some(Request::Actions)
     } else {
         None
     }
@@ -73,6 +76,12 @@ fn begun_request(body: &[u8]) -> Option<Request>
         Some(watch(rest))
     } else if let Some(rest) = behind("z2,", body) {
         Some(unwatch(rest))
+    } else if let Some(rest) = behind("S", body) {
+        Some(with_signal(Goal::Steps(Count::ONE), rest))
+    } else if let Some(rest) = behind("C", body) {
+        Some(with_signal(Goal::Continue, rest))
+    } else if let Some(rest) = behind("vCont;", body) {
+        Some(actions(rest))
     } else if begins("H", body) {
         Some(Request::Thread)
     } else if begins("D", body) {
@@ -219,23 +228,67 @@ fn delete(rest: &[u8]) -> Request
     }
 }
 
-/// Sets a watch of one byte.
-fn watch(rest: &[u8]) -> Request
-    ensures { result ≡ watch Command.Add rest.now }
+/// An address, a comma, and how many bytes are watched from there on.
+fn run_at(rest: &[u8]) -> Option<Run>
+    ensures { result ≡ option_and_then (λ p. run_of p.0 p.1) (pair 44 rest.now) }
 {
     match pair(b',', rest) {
-        Some((address, 1)) => Request::Set(Command::Add(Stop::Watch(address))),
-        _ => Request::Wrong,
+        Some((address, count)) => Run::new(address, count),
+        None => None,
     }
 }
 
-/// Removes a watch of one byte.
-fn unwatch(rest: &[u8]) -> Request
-    ensures { result ≡ watch Command.Remove rest.now }
+/// Watches bytes.
+fn watch(rest: &[u8]) -> Request
+    ensures { result ≡ watch Request.Watch rest.now }
 {
-    match pair(b',', rest) {
-        Some((address, 1)) => Request::Set(Command::Remove(Stop::Watch(address))),
-        _ => Request::Wrong,
+    match run_at(rest) {
+        Some(run) => Request::Watch(run),
+        None => Request::Wrong,
+    }
+}
+
+/// No longer watches bytes.
+fn unwatch(rest: &[u8]) -> Request
+    ensures { result ≡ watch Request.Unwatch rest.now }
+{
+    match run_at(rest) {
+        Some(run) => Request::Unwatch(run),
+        None => Request::Wrong,
+    }
+}
+
+/// The first action of a thread, before a semicolon, and before a colon and the thread that it names.
+fn actions(rest: &[u8]) -> Request
+    ensures { result ≡ actions rest.now }
+{
+    action(before(b':', before(b';', rest)))
+}
+
+/// What a thread is to do: `s` or `c`, or `S` or `C` with a signal.
+fn action(text: &[u8]) -> Request
+    ensures { result ≡ action text.now }
+{
+    if is(text, "s") {
+        Request::Move(Command::Forward(Goal::Steps(Count::ONE)))
+    } else if is(text, "c") {
+        Request::Move(Command::Forward(Goal::Continue))
+    } else if let Some(rest) = behind("S", text) {
+        with_signal(Goal::Steps(Count::ONE), rest)
+    } else if let Some(rest) = behind("C", text) {
+        with_signal(Goal::Continue, rest)
+    } else {
+        Request::Wrong
+    }
+}
+
+/// Goes on, where what stands behind is the number of a signal, which says nothing.
+fn with_signal(goal: Goal, rest: &[u8]) -> Request
+    ensures { result ≡ with_signal goal rest.now }
+{
+    match number(rest) {
+        Some(_) => Request::Move(Command::Forward(goal)),
+        None => Request::Wrong,
     }
 }
 

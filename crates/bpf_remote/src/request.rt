@@ -1,14 +1,20 @@
 //! Requests: what the body of a packet asks for.
 
-use bpf_session::Command;
+use bpf_session::{Command, Run};
 
 /// What a packet asks for.
 #[derive(Drop)]
 pub enum Request {
-    /// `s`, `c`, `bs`, `bc`: a command that moves. It is answered by where it stopped.
+    /// `s`, `c`, `S`, `C`, `vCont;`, `bs`, `bc`: a command that moves. It is answered by where it stopped.
     Move(Command),
-    /// `P`, `M`, `Z`, `z`: a command that changes something. It is answered by `OK`.
+    /// `P`, `M`, `Z0`, `z0`: a command that changes something. It is answered by `OK`.
     Set(Command),
+    /// `Z2`: bytes that are watched from now on.
+    Watch(Run),
+    /// `z2`: bytes that are no longer watched.
+    Unwatch(Run),
+    /// `vCont?`: which ways to go on there are.
+    Actions,
     /// `?`: where the machine stands.
     Stop,
     /// `g`: all registers.

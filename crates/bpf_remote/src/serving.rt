@@ -1,9 +1,9 @@
 //! Connections: the items of a stream, answered one after another.
-ghost use Rattle.std.specs.Prelude.{◌≡◌, ◌≤◌, Bool, IfErr, IfOk, List, OnOk, length, ℕ};
+ghost use Rattle.std.specs.Prelude.{◌≡◌, ◌≤◌, ◌⊎◌, Bool, IfErr, IfOk, List, OnOk, length, ℕ};
 ghost use Rattle.counted_io.specs.Counted.{Tally};
 ghost use Rattle.counted_io.specs.Writing.{Writes, WritesAfter};
 ghost use Rattle.bpf_remote.specs.Answers.{sent};
-ghost use Rattle.bpf_remote.specs.Connections.{acknowledgement, packet};
+ghost use Rattle.bpf_remote.specs.Connections.{IsConsole, acknowledgement, packet, tells_place};
 ghost use Rattle.bpf_remote.specs.Packets.{Holds, framed, longest_body};
 ghost use Rattle.bpf_remote.specs.Serving.{Breaks, Serves};
 ghost use Rattle.bpf_remote.specs.Turning.{AnswersBody, AnswersLine, AnswersRequest, TakesTurn};
@@ -13,11 +13,15 @@ use crate::body::Body;
 use crate::layout::Layout;
 use crate::manners::Manners;
 use crate::number::behind;
-use crate::obeying::{goes_on, is_answered, manners_after, obey, obey_line};
+use crate::obeying::{
+    append_place, goes_on, is_answered, manners_after, obey, obey_line, tells_place,
+};
 use crate::packet::put_packet;
 use crate::parser::request_of;
+use crate::request::Request;
 use crate::stream::{Item, next_item};
 use bpf_journal::Keeper;
+use bpf_machine::Cpu;
 use bpf_session::{RunFault, Session};
 use counted_io::{Counted, WriteFault, write_text};
 use std::io::{Read, Write};
@@ -173,11 +177,35 @@ fn answer_request<K: Keeper, W: Write>(
     let begun = acknowledge(*manners, writer);
     let request = request_of(body);
     let told = obey(session, &request);
+    let placed = put_console(writer, begun, &request, session.cpu(), answer);
     answer.clear();
     append_answer(told, session.cpu(), *manners, answer);
     *manners = manners_after(&request, *manners);
-    let wrote = put_answer(writer, begun, answer, is_answered(&request));
+    let wrote = put_answer(writer, placed, answer, is_answered(&request));
     (wrote, goes_on(&request))
+}
+
+/// Writes the packet of a line PLACE, where there is to be one. The body is used for it.
+fn put_console<W: Write>(
+    writer: &mut Counted<W>,
+    so_far: Result<(), WriteFault>,
+    request: &Request,
+    cpu: &Cpu,
+    body: &mut Body,
+) -> Result<(), WriteFault>
+    ensures { (text : List ℕ) × IsConsole (tells_place request.now cpu.now) cpu.now text × WritesAfter W.contents writer.old so_far writer.new result text }
+{
+    if !tells_place(request, cpu) {
+        return so_far;
+    }
+    body.clear();
+    if !append_place(cpu, body) {
+        return so_far;
+    }
+    match body.bytes() {
+        Some(bytes) => put_packet(writer, so_far, bytes),
+        None => so_far,
+    }
 }
 
 /// Acknowledges a packet, where that is wanted.

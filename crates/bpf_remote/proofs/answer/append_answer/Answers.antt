@@ -18,6 +18,12 @@ returns-in-Error c = λ text held. Holds-text _ _ _ (c.append_error.ensures text
 pub returns-in-Halted : goal.returns-in-Halted
 returns-in-Halted c = λ text held. Holds-text _ _ _ (c.append-in-Halted.ensures text held) (ap (λ (v : List ℕ). text ++ v) (c.as_bytes.ensures.value ∙ c.text_of_halt.ensures) ∙ answered text c.args.manners c.args.cpu.now _ _ c.in-Halted.is)
 
+pub returns-in-Watched : goal.returns-in-Watched
+returns-in-Watched c = λ text held. Holds-text _ _ _ (c.append_watched.ensures text held) (answered text c.args.manners c.args.cpu.now _ _ c.in-Watched.is)
+
+pub returns-in-Actions : goal.returns-in-Actions
+returns-in-Actions c = λ text held. Holds-text _ _ _ (c.append-in-Actions.ensures text held) (answered text c.args.manners c.args.cpu.now _ _ c.in-Actions.is)
+
 pub returns-in-Registers : goal.returns-in-Registers
 returns-in-Registers c = λ text held. Holds-text _ _ _ (c.append_registers.ensures text held) (answered text c.args.manners c.args.cpu.now _ _ c.in-Registers.is)
 
