@@ -1,5 +1,5 @@
 -- What is read of an operand is what its grammar says.
-use Rattle.std.proofs.Common.{ℕ, suc, ◌≡◌, ◌<◌, ◌≤◌, ◌+◌, ◌==◌, Bool, true, false, not, ◌↔◌, List, [], ◌∷◌, ◌++◌, take, drop, length, refl, ap, sym, ◌∙◌, arith, inl, inr, nat_lt, ◌⊎◌, Option, Some, None, option_map, option_and_then, slice_index, subst, if◌then◌else◌}
+use Rattle.std.proofs.Common.{ℕ, suc, ◌≡◌, ◌<◌, ◌≤◌, ◌+◌, ◌-◌, ◌==◌, Bool, true, false, not, ◌↔◌, List, [], ◌∷◌, ◌++◌, take, drop, length, refl, ap, sym, ◌∙◌, arith, inl, inr, nat_lt, ◌⊎◌, Option, Some, None, option_map, option_and_then, slice_index, subst, if◌then◌else◌}
 use Rattle.std.specs.List.{list_all, position_or_len, before_first, after_first}
 use Rattle.std.proofs.Math.ListN.{drop_of_length-le}
 use Rattle.std.proofs.Math.Seq.{take-length}
@@ -299,6 +299,16 @@ bracketed-says (a ∷ s) h =
     drop_of_length-le s {i = position_or_len (λ b. b == 93) s + 1} (omega (arith, here)) in
     rw first (ap (λ r. 91 ∷ r) (cut.1 ∙ ap (λ r. before 93 s ++ cut.0 ∷ r) none
     ∙ ap (λ c. before 93 s ++ c ∷ []) (eqb-true cut.0 93 cut.2)))
+
+-- what stands between them
+pub bracketed-inside : (s : List ℕ) → is_bracketed s ≡ true → take (length s - 1 - 1) (drop 1 s) ≡ before 93 (drop 1 s)
+bracketed-inside [] h = cc
+bracketed-inside (a ∷ s) h =
+    let parts = and-both (a == 91) (position_or_len (λ b. b == 93) (a ∷ s) + 1 == suc (length s)) h in
+    let first : a ≡ 91 = eqb-true a 91 parts.0 in
+    let place : position_or_len (λ b. b == 93) (a ∷ s) + 1 ≡ suc (length s) = eqb-true _ _ parts.1 in
+    let here : 1 + position_or_len (λ b. b == 93) s + 1 ≡ suc (length s) = rw first at place in
+    ap (λ n. take n s) (omega (arith, here))
 
 no-other : (s : List ℕ) (t : Term) → base_and_displacement s ≡ Some t → (base : ℕ) × (number : Number) × (t ≡ term.Memory base number)
 no-other s t e = go (register_named (trim (before_first is_sign s))) e where

@@ -12,6 +12,10 @@ before byte s = before_first (λ b. b == byte) s
 abbrev pub after : ℕ → List ℕ → List ℕ
 after byte s = after_first (λ b. b == byte) s
 
+-- Whether there is such a byte.
+abbrev pub holds : ℕ → List ℕ → Bool
+holds byte s = nat_lt (position_or_len (λ b. b == byte) s) (length s)
+
 -- Without the blanks at the end.
 abbrev pub onto_trimmed : ℕ → List ℕ → List ℕ
 onto_trimmed b [] = if is_blank b then [] else b ∷ []
@@ -31,7 +35,7 @@ without_comment line = before 59 line
 
 -- Whether a colon stands directly after a name.
 abbrev pub is_labelled : List ℕ → Bool
-is_labelled s = nat_lt (position_or_len (λ b. b == 58) s) (length s) && is_name (before 58 s)
+is_labelled s = holds 58 s && is_name (before 58 s)
 
 -- The mnemonic of an instruction: all up to the next blank.
 abbrev pub mnemonic_part : List ℕ → List ℕ

@@ -1,8 +1,8 @@
 //! Cuts of lines into labels, mnemonics and operands.
-ghost use Rattle.std.specs.Prelude.{◌≡◌, ◌==◌, ◌≤◌, length, position};
+ghost use Rattle.std.specs.Prelude.{◌≡◌, ◌==◌, ◌≤◌, true, false, [], length, position, IfSome, IfNone};
 ghost use Rattle.std.specs.List.{position_or_len, list_all};
 ghost use Rattle.bpf_text.specs.Characters.{is_text, is_name, is_name_byte, is_letter};
-ghost use Rattle.bpf_text.specs.Scaffolding.Cuts.{before, after, trim_end, trim};
+ghost use Rattle.bpf_text.specs.Scaffolding.Cuts.{before, after, holds, trim_end, trim};
 
 use counted_io::{is_blank, trim_start};
 
@@ -28,22 +28,28 @@ fn position(text: &[u8], byte: u8) -> Option<usize>
     text.iter().position(|b| *b == byte)
 }
 
-/// The text before the first such byte, or all of it.
-pub fn before(text: &[u8], byte: u8) -> &[u8]
-    ensures { result.now ≡ before byte text.now }
+/// The text before the first such byte, or all of it, and the text after that byte, if there is one.
+pub fn cut(text: &[u8], byte: u8) -> (&[u8], Option<&[u8]>)
+    ensures before { result.0.now ≡ before byte text.now }
+    ensures found { IfSome result.1 (λ rest. (holds byte text.now ≡ true) × (rest.now ≡ after byte text.now)) }
+    ensures none { IfNone result.1 ((holds byte text.now ≡ false) × (after byte text.now ≡ [])) }
 {
-    &text[..find(text, byte)]
+    let place = find(text, byte);
+    if place < text.len() {
+        (&text[..place], Some(&text[place + 1..]))
+    } else {
+        (text, None)
+    }
 }
 
-/// The text after the first such byte, or nothing.
-pub fn after(text: &[u8], byte: u8) -> &[u8]
-    ensures { result.now ≡ after byte text.now }
+/// The text before the first such byte, or all of it, and the text after that byte, or nothing.
+pub fn sides(text: &[u8], byte: u8) -> (&[u8], &[u8])
+    ensures before { result.0.now ≡ before byte text.now }
+    ensures after { result.1.now ≡ after byte text.now }
 {
-    let end = find(text, byte);
-    if end < text.len() {
-        &text[end + 1..]
-    } else {
-        &[]
+    match cut(text, byte) {
+        (front, Some(back)) => (front, back),
+        (front, None) => (front, &[]),
     }
 }
 

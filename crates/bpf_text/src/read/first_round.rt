@@ -7,7 +7,7 @@ ghost use Rattle.bpf_text.specs.Listing.{first_round, nothing, line_end, slot_af
 ghost use Rattle.bpf_text.specs.Scaffolding.Labels.{labels_in, labels_of, placed_of};
 
 use crate::fault::{AsmFault, LineFault};
-use crate::read::cut::{after, before};
+use crate::read::cut::sides;
 use crate::read::labels::{Definition, LabelMap, definition_of, put_label};
 use crate::read::line::{Line, read_line};
 use crate::read::statement::Statement;
@@ -100,7 +100,8 @@ pub fn first_round(alloc: Global, text: &[u8]) -> Result<Outline<'_>, AsmFault>
     let mut line_number = 1;
     let mut rest = text;
     while !rest.is_empty() {
-        let line = read_line(before(rest, b'\n'));
+        let (first, others) = sides(rest, b'\n');
+        let line = read_line(first);
         match line_end(&outline.labels, slot, &line) {
             Ok(next) => match outline.push(slot as u16, line_number, line) {
                 Ok(()) => slot = next,
@@ -108,7 +109,7 @@ pub fn first_round(alloc: Global, text: &[u8]) -> Result<Outline<'_>, AsmFault>
             },
             Err(fault) => return Err(AsmFault::Line(fault, line_number)),
         }
-        rest = after(rest, b'\n');
+        rest = others;
         line_number += 1;
     }
     Ok(outline)

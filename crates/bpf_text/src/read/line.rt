@@ -2,11 +2,10 @@
 ghost use Rattle.std.specs.Prelude.{◌≡◌, ◌≤◌, Ok, Err, nat_le, IfOk, ◌+◌, if◌then◌else◌};
 ghost use Rattle.std.specs.List.{list_all};
 ghost use Rattle.bpf_text.specs.Characters.{is_text};
-ghost use Rattle.bpf_text.specs.Scaffolding.Cuts.{is_labelled};
 ghost use Rattle.bpf_text.specs.Scaffolding.Lines.{read_line, line_of};
 
 use crate::fault::LineFault;
-use crate::read::cut::{after, before, find, is_name, is_text, trim};
+use crate::read::cut::{cut, is_name, is_text, sides, trim};
 use crate::read::statement::{Statement, read_statement};
 use crate::read::term::Name;
 use counted_io::trim_start;
@@ -24,7 +23,7 @@ pub struct Line<'a> {
 pub fn read_line(line: &[u8]) -> Result<Line<'_>, LineFault>
     ensures { result ≡ read_line line.now }
 {
-    let code = before(line, b';');
+    let (code, _) = sides(line, b';');
     if are_text(code) {
         Ok(line_of(trim_start(code)))
     } else {
@@ -42,23 +41,14 @@ fn are_text(text: &[u8]) -> bool
 fn line_of(code: &[u8]) -> Line<'_>
     ensures { result ≡ line_of code.now }
 {
-    if is_labelled(code) {
-        Line {
-            label: Some(Name {
-                bytes: before(code, b':'),
-            }),
-            statement: read_statement(trim(after(code, b':'))),
-        }
-    } else {
-        Line {
+    match cut(code, b':') {
+        (name, Some(rest)) if is_name(name) => Line {
+            label: Some(Name { bytes: name }),
+            statement: read_statement(trim(rest)),
+        },
+        _ => Line {
             label: None,
             statement: read_statement(trim(code)),
-        }
+        },
     }
-}
-
-fn is_labelled(text: &[u8]) -> bool
-    ensures { result ≡ is_labelled text.now }
-{
-    find(text, b':') < text.len() && is_name(before(text, b':'))
 }

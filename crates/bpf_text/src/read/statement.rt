@@ -27,26 +27,23 @@ pub fn read_statement(text: &[u8]) -> Result<Option<Statement<'_>>, LineFault>
     if text.is_empty() {
         return Ok(None);
     }
-    match named(mnemonic_part(text)) {
+    let (name, operands) = parts_of(text);
+    match named(name) {
         None => Err(LineFault::UnknownMnemonic),
-        Some(mnemonic) => statement_of(mnemonic, operands_part(text)),
+        Some(mnemonic) => statement_of(mnemonic, operands),
     }
 }
 
-fn mnemonic_part(text: &[u8]) -> &[u8]
-    ensures { result.now ≡ mnemonic_part text.now }
-{
-    &text[..find_blank(text)]
-}
-
-fn operands_part(text: &[u8]) -> &[u8]
-    ensures { result.now ≡ operands_part text.now }
+/// The mnemonic of an instruction, and its operands.
+fn parts_of(text: &[u8]) -> (&[u8], &[u8])
+    ensures mnemonic { result.0.now ≡ mnemonic_part text.now }
+    ensures operands { result.1.now ≡ operands_part text.now }
 {
     let end = find_blank(text);
     if end < text.len() {
-        trim(&text[end + 1..])
+        (&text[..end], trim(&text[end + 1..]))
     } else {
-        trim(&[])
+        (text, trim(&[]))
     }
 }
 

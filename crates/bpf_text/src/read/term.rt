@@ -7,7 +7,7 @@ ghost use Rattle.bpf_text.specs.Instructions.{register_in, unsigned_in, immediat
 ghost use Rattle.bpf_text.specs.Scaffolding.Terms.{term_of, memory, displacement, base_and_displacement, terms_of};
 ghost use Rattle.bpf_text.specs.Scaffolding.Cuts.{first_operand, other_operands};
 
-use crate::read::cut::{after, before, find, is_name, trim};
+use crate::read::cut::{find, is_name, sides, trim};
 use crate::read::number::{Number, signed_number};
 use bpf_isa::{Reg, Source};
 use counted_io::{Numeral, natural};
@@ -184,30 +184,29 @@ pub fn read_terms(forms: OperandForms, text: &[u8]) -> Option<Terms<'_>>
             Some(Terms::new(first, Term::Absent, Term::Absent))
         }
         OperandForms::Two(a, b) => {
-            let first = read_term(a, first_operand(text))?;
-            let second = read_term(b, other_operands(text))?;
+            let (first, second) = first_and_others(text);
+            let first = read_term(a, first)?;
+            let second = read_term(b, second)?;
             Some(Terms::new(first, second, Term::Absent))
         }
         OperandForms::Three(a, b, c) => {
-            let first = read_term(a, first_operand(text))?;
-            let rest = other_operands(text);
-            let second = read_term(b, first_operand(rest))?;
-            let third = read_term(c, other_operands(rest))?;
+            let (first, others) = first_and_others(text);
+            let (second, third) = first_and_others(others);
+            let first = read_term(a, first)?;
+            let second = read_term(b, second)?;
+            let third = read_term(c, third)?;
             Some(Terms::new(first, second, third))
         }
     }
 }
 
-fn first_operand(text: &[u8]) -> &[u8]
-    ensures { result.now ≡ first_operand text.now }
+/// The first operand, and those behind its comma.
+fn first_and_others(text: &[u8]) -> (&[u8], &[u8])
+    ensures first { result.0.now ≡ first_operand text.now }
+    ensures others { result.1.now ≡ other_operands text.now }
 {
-    trim(before(text, b','))
-}
-
-fn other_operands(text: &[u8]) -> &[u8]
-    ensures { result.now ≡ other_operands text.now }
-{
-    trim(after(text, b','))
+    let (first, others) = sides(text, b',');
+    (trim(first), trim(others))
 }
 
 /// An operand of this form, if it is one.
@@ -243,7 +242,7 @@ fn memory(text: &[u8]) -> Option<Term<'_>>
     ensures { result ≡ memory text.now }
 {
     if is_bracketed(text) {
-        base_and_displacement(before(&text[1..], b']'))
+        base_and_displacement(&text[1..text.len() - 1])
     } else {
         None
     }
@@ -259,15 +258,17 @@ fn is_bracketed(text: &[u8]) -> bool
 fn base_and_displacement(text: &[u8]) -> Option<Term<'_>>
     ensures { result ≡ base_and_displacement text.now }
 {
-    let base = Reg::parse(trim(&text[..find_sign(text)]))?;
-    Some(Term::Memory(base, displacement(text)?))
+    let sign = find_sign(text);
+    let base = Reg::parse(trim(&text[..sign]))?;
+    Some(Term::Memory(base, displacement(text, sign)?))
 }
 
-/// The number behind the register in brackets, 0 if none stands there.
-fn displacement(text: &[u8]) -> Option<Number<'_>>
+/// The number behind the register in brackets, from its sign's place on: 0 if none stands there.
+fn displacement(text: &[u8], sign: usize) -> Option<Number<'_>>
+    requires value { sign ≡ position_or_len is_sign text.now }
+    requires within { sign ≤ length text.now }
     ensures { result ≡ displacement text.now }
 {
-    let sign = find_sign(text);
     if sign == text.len() {
         return Some(Number {
             negative: false,
