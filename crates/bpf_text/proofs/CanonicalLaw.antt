@@ -12,7 +12,8 @@ use Rattle.bpf_isa.specs.Words.{IsWord, row_of}
 use Rattle.counted_io.specs.Lines.{lines}
 use Rattle.bpf_text.specs.Canonical.{is_target, goes_to, canon}
 use Rattle.bpf_text.specs.Scaffolding.Lines.{read_line}
-use Rattle.bpf_text.specs.Listing.{Labels, no_label, nothing, first_round, after_first_round, rounds, AreWords, IsListing}
+use Rattle.bpf_text.specs.Listing.{IsListing}
+use Rattle.bpf_text.specs.Scaffolding.Rounds.{Labels, no_label, nothing, first_round, after_first_round, rounds, AreWords}
 use Rattle.bpf_text.proofs.Assembling.{is-listing}
 use Rattle.bpf_text.proofs.Listings.{start-within}
 use Rattle.bpf_text.proofs.CanonicalLines.{EntryFits, AllFit, lines-listing, line_list}

@@ -15,7 +15,7 @@ use Rattle.bpf_isa.specs.Words.{IsWord}
 use Rattle.bpf_text.specs.Operands.{text_of_insn, label_text}
 use Rattle.bpf_text.specs.Scaffolding.Lines.{read_line}
 use Rattle.bpf_text.specs.declared.read.first_round.Placed.{Placed}
-use Rattle.bpf_text.specs.Listing.{Labels, Outline, labels_with, line_end, first_round, second_round, insns_with, insn_at, with_target, with_distance, fits_offset, AreWords}
+use Rattle.bpf_text.specs.Scaffolding.Rounds.{Labels, Collected, labels_with, line_end, first_round, second_round, insns_with, insn_at, with_target, with_distance, fits_offset, AreWords}
 use Rattle.bpf_text.proofs.InsnTexts.{InsnFits, TargetFits, unplaced, target_text, statement_from}
 use Rattle.bpf_text.proofs.LineTexts.{Reads-insn, Reads-label}
 use Rattle.bpf_text.proofs.CanonicalLines.{slot_list, line_list, AllFit}
@@ -57,7 +57,7 @@ labels_after f labels p line_number (Some i ∷ rest) =
 abbrev pub Fresh : Labels → ℕ → Type 0
 Fresh labels p = (q : ℕ) → p ≤ q → q ≤ 65535 → labels (label_text q) ≡ None
 
-slots_of-unplaced : (i : Insn) → slots_of (unplaced i) ≡ slots_of i
+pub slots_of-unplaced : (i : Insn) → slots_of (unplaced i) ≡ slots_of i
 slots_of-unplaced (insn.JumpIf c width dst s o) = refl
 slots_of-unplaced (insn.Jump o) = refl
 slots_of-unplaced (insn.JumpLong d) = refl
@@ -108,7 +108,7 @@ placed_list f p line_number (Some i ∷ rest) =
 
 -- the first round at a slot, and over all
 first_round-slot : (b : Bool) (labels : Labels) (placed : List Placed) (p line_number next : ℕ) (i : Insn) (tail : List (List ℕ))
-    (result : Result Outline AsmFault)
+    (result : Result Collected AsmFault)
     → p ≤ 65535 → Fresh labels p → InsnFits i → TargetFits (target_of p i) → p + slots_of i ≤ 65535
     → next ≡ p + slots_of i
     → first_round (labels_at b labels p line_number, placed ++ placed_at b p line_number i ∷ []) next (line_of_insn b line_number + 1) (map read_line tail)

@@ -1,5 +1,5 @@
 -- The canonical operands of an instruction are read back.
-use Rattle.std.proofs.Common.{ℕ, ℤ, pos, negsuc, zero, suc, ◌≡◌, ◌<◌, ◌≤◌, ◌+◌, ◌+ℤ◌, ◌^◌, ◌==◌, Bool, true, false, List, [], ◌∷◌, ◌++◌, length, refl, arith, codes, Option, Some, None, Ok, w16, w32, SFits, decimal, if◌then◌else◌, ◌/◌, ◌%◌}
+use Rattle.std.proofs.Common.{ℕ, ℤ, pos, negsuc, zero, suc, ◌≡◌, ◌<◌, ◌≤◌, ◌^◌, ◌==◌, Bool, true, false, List, [], ◌∷◌, ◌++◌, length, refl, arith, codes, Option, Some, None, Ok, w16, w32, SFits, decimal, if◌then◌else◌, ◌/◌, ◌%◌}
 use Rattle.std.specs.Fmt.{digits, digits_onto, digit_glyph}
 use Rattle.std.proofs.lemmas.Fmt.{decimal_nonempty}
 use Rattle.std.proofs.lemmas.Bool.Decides.{nat_tests}
@@ -23,12 +23,13 @@ use Rattle.bpf_text.specs.declared.read.term.Terms.{Terms}
 use Rattle.bpf_text.specs.declared.read.statement.Statement.{Statement}
 use Rattle.bpf_text.specs.Scaffolding.Cuts.{first_operand, other_operands}
 use Rattle.bpf_isa.specs.Mnemonics.{mnemonic_of}
-use Rattle.bpf_text.specs.Operands.{operand_text, operands_of, operand_of, label_text, target_operand, IsSlot}
-use Rattle.bpf_text.specs.Tokens.{number_with}
-use Rattle.bpf_text.specs.Grammar.{one, two, three}
-use Rattle.bpf_text.specs.Instructions.{source_in, name_in, target_in}
+use Rattle.bpf_text.specs.Operands.{operand_text, operands_of, operand_of}
+use Rattle.bpf_text.specs.Scaffolding.Slots.{IsSlot}
+use Rattle.bpf_text.specs.Scaffolding.Tokens.{number_with}
+use Rattle.bpf_text.specs.Scaffolding.Grammar.{one, two, three}
+use Rattle.bpf_text.specs.Scaffolding.Instructions.{source_in, target_in}
 use Rattle.bpf_text.specs.Scaffolding.Terms.{term_of, terms_of}
-use Rattle.bpf_text.specs.Instructions.{forms_of, insn_with}
+use Rattle.bpf_text.specs.Scaffolding.Instructions.{forms_of, insn_with}
 use Rattle.bpf_text.specs.Scaffolding.Lines.{of_mnemonic}
 use Rattle.bpf_text.proofs.PlainTexts.{is_plain, are_plain, plain-comma, before_first-at, after_first-at, trim-plain, list_all-append, are_plain-decimal, Snug, Snug-plain, Snug-append, Snug-trim-blank}
 use Rattle.bpf_text.proofs.TokenTexts.{SourceFits, number_from, register-text, natural-decimal, signed-signed, signed-hexadecimal, register-signed, memory-text, name-label, unsigned-fits, immediate-fits, wide-fits, offset-fits}
@@ -53,7 +54,7 @@ OperandFits (Signed value) = SFits w32 value
 OperandFits (Unsigned n) = n < 2 ^ 32
 OperandFits (Hexadecimal n) = n < 2 ^ 64
 OperandFits (Memory r o) = (r ≤ 10) × SFits w16 o
-OperandFits (Target p) = p ≤ 65535
+OperandFits (Target z) = IsSlot z
 
 -- hexadecimal digits
 glyph : (d : ℕ) → d < 16 → is_plain (digit_glyph false d) ≡ true
@@ -94,7 +95,8 @@ plain-operand (Memory r (pos n)) fits =
     let small : n < 32768 = fits.1.sfits in (plain-memory r 43 n fits.0 (omega arith) refl, omega arith)
 plain-operand (Memory r (negsuc n)) fits =
     let small : n < 32768 = fits.1.sfits in (plain-memory r 45 (suc n) fits.0 (omega arith) refl, omega arith)
-plain-operand (Target p) fits = (are_plain-decimal p (omega arith), omega arith)
+plain-operand (Target (pos p)) fits = let h : p ≤ 65535 = fits in (are_plain-decimal p (omega (arith, h)), omega arith)
+plain-operand (Target (negsuc n)) fits = absurd fits
 
 -- what a text of operands is without its first blank
 abbrev pub operands_of_text : Operands → List ℕ
@@ -141,10 +143,6 @@ pub source-fits : (s : Source) → SourceFits s → OperandFits (operand_of s)
 source-fits (source_is.Immediate value) fits = fits
 source-fits (source_is.Register r) fits = fits
 
-pub target-fits : (z : ℤ) → IsSlot z → OperandFits (target_operand z)
-target-fits (pos p) h = h
-target-fits (negsuc n) h = absurd h
-
 pub snug-operand : (o : Operand) → OperandFits o → Snug (operand_text o)
 snug-operand o fits = let p = plain-operand o fits in Snug-plain (operand_text o) p.1 p.0
 
@@ -184,7 +182,7 @@ term_from (Signed z) = term.Number (number_from z)
 term_from (Unsigned n) = term.Number (number_with false n)
 term_from (Hexadecimal n) = term.Number (number_with false n)
 term_from (Memory r o) = term.Memory r (number_from o)
-term_from (Target p) = term.Name (label_text p)
+term_from (Target z) = term.Name (operand_text (Target z))
 
 abbrev pub terms_from : Operands → Terms
 terms_from Nothing = one term.Absent
@@ -201,7 +199,8 @@ term-text form.Signed (Hexadecimal n) fits h = rw (signed-hexadecimal n fits) re
 term-text form.Source (Register r) fits h = rw (register-text r fits) refl
 term-text form.Source (Signed z) fits h = rw (register-signed z fits, signed-signed z fits) refl
 term-text form.Memory (Memory r o) fits h = memory-text r o fits.0 fits.1
-term-text form.Name (Target p) fits h = rw (name-label p (omega arith)) refl
+term-text form.Name (Target (pos p)) fits h = let k : p ≤ 65535 = fits in rw (name-label p (omega (arith, k))) refl
+term-text form.Name (Target (negsuc n)) fits h = absurd fits
 term-text f o fits h = absurd h
 
 -- operands are read back
@@ -237,16 +236,12 @@ source-form : (s : Source) → HasForm form.Source (operand_of s)
 source-form (source_is.Immediate value) = tt
 source-form (source_is.Register r) = tt
 
-target-form : (z : ℤ) → HasForm form.Name (target_operand z)
-target-form (pos p) = tt
-target-form (negsuc n) = tt
-
 pub insn-forms : (p : ℕ) (i : Insn) → HaveForms (forms_of (mnemonic_of i)) (operands_of p i)
 insn-forms p (insn.Binary op width dst s) = (tt, source-form s)
-insn-forms p (insn.JumpIf c width dst s o) = (tt, source-form s, target-form (pos (p + 1) +ℤ o))
-insn-forms p (insn.Jump o) = target-form (pos (p + 1) +ℤ o)
-insn-forms p (insn.JumpLong d) = target-form (pos (p + 1) +ℤ d)
-insn-forms p (insn.CallLocal d) = target-form (pos (p + 1) +ℤ d)
+insn-forms p (insn.JumpIf c width dst s o) = (tt, source-form s, tt)
+insn-forms p (insn.Jump o) = tt
+insn-forms p (insn.JumpLong d) = tt
+insn-forms p (insn.CallLocal d) = tt
 insn-forms p (insn.LoadMapValue dst m o) = (tt, tt, tt)
 insn-forms p (insn.Negate width dst) = tt
 insn-forms p (insn.SwapBytes order width dst) = tt
@@ -283,18 +278,14 @@ insn-back p (insn.LoadMapValue dst m o) fits = rw (unsigned-fits m fits.1, unsig
 -- the text of a target, if there is one
 abbrev pub target_text : Option ℤ → Option (List ℕ)
 target_text None = None
-target_text (Some z) = Some (operand_text (target_operand z))
-
-name-back : (z : ℤ) → name_in (term_from (target_operand z)) ≡ Some (operand_text (target_operand z))
-name-back (pos p) = refl
-name-back (negsuc n) = refl
+target_text (Some z) = Some (operand_text (Target z))
 
 -- the name of the target is read back
 pub target-back : (p : ℕ) (i : Insn) → target_in (terms_from (operands_of p i)) ≡ target_text (target_of p i)
-target-back p (insn.JumpIf c width dst s o) = rw (name-back (pos (p + 1) +ℤ o)) refl
-target-back p (insn.Jump o) = rw (name-back (pos (p + 1) +ℤ o)) refl
-target-back p (insn.JumpLong d) = rw (name-back (pos (p + 1) +ℤ d)) refl
-target-back p (insn.CallLocal d) = rw (name-back (pos (p + 1) +ℤ d)) refl
+target-back p (insn.JumpIf c width dst s o) = refl
+target-back p (insn.Jump o) = refl
+target-back p (insn.JumpLong d) = refl
+target-back p (insn.CallLocal d) = refl
 target-back p i = refl
 
 -- the operands of an instruction are in their ranges
@@ -303,11 +294,11 @@ operands-fit p (insn.Binary op width dst s) fits t = (fits.0, source-fits s fits
 operands-fit p (insn.Negate width dst) fits t = fits
 operands-fit p (insn.SignExtend e dst src) fits t = fits
 operands-fit p (insn.SwapBytes order width dst) fits t = fits
-operands-fit p (insn.JumpIf c width dst s o) fits t = (fits.0, source-fits s fits.1, target-fits (pos (p + 1) +ℤ o) t)
-operands-fit p (insn.Jump o) fits t = target-fits (pos (p + 1) +ℤ o) t
-operands-fit p (insn.JumpLong d) fits t = target-fits (pos (p + 1) +ℤ d) t
+operands-fit p (insn.JumpIf c width dst s o) fits t = (fits.0, source-fits s fits.1, t)
+operands-fit p (insn.Jump o) fits t = t
+operands-fit p (insn.JumpLong d) fits t = t
 operands-fit p (insn.CallHelper h) fits t = fits
-operands-fit p (insn.CallLocal d) fits t = target-fits (pos (p + 1) +ℤ d) t
+operands-fit p (insn.CallLocal d) fits t = t
 operands-fit p insn.Exit fits t = tt
 operands-fit p (insn.Load size dst src o) fits t = (fits.0, (fits.1, fits.2))
 operands-fit p (insn.LoadSigned size dst src o) fits t = (fits.0, (fits.1, fits.2))

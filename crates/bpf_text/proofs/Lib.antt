@@ -16,3 +16,8 @@ pub mod ProgramParts
 pub mod Rounds
 pub mod TokenGrammar
 pub mod TokenTexts
+pub mod WrittenNumbers
+pub mod WrittenTerms
+pub mod WrittenInsns
+pub mod StatementGrammar
+pub mod ListingGrammar

@@ -17,14 +17,15 @@ use Rattle.counted_io.specs.Lines.{is_blank, trim_start}
 use Rattle.bpf_text.specs.Characters.{is_name, is_text}
 use Rattle.bpf_text.specs.Scaffolding.Cuts.{is_labelled, before, after, without_comment, trim, trim_end, mnemonic_part}
 use Rattle.bpf_text.specs.Scaffolding.Cuts as cuts
-use Rattle.bpf_text.specs.Grammar.{AreOperands}
-use Rattle.bpf_text.specs.LineGrammar.{IsComment, IsLabelled, IsLabel, IsApart, IsInstruction, IsStatement, IsReading}
+use Rattle.bpf_text.specs.Scaffolding.Grammar.{AreOperands}
+use Rattle.bpf_text.specs.LineGrammar.{IsComment, IsLabelled, IsLabel, IsApart, IsInstruction}
+use Rattle.bpf_text.specs.Scaffolding.Readings.{IsStatement, IsReading}
 use Rattle.bpf_text.specs.Scaffolding.Lines.{read_line, line_of}
 use Rattle.bpf_text.specs.declared.read.line.Line.{Line}
 use Rattle.bpf_text.specs.Mnemonics.{name_of}
 use Rattle.bpf_text.specs.Scaffolding.Named.{named}
 use Rattle.bpf_text.specs.declared.fault.LineFault.TheVariants.{UnknownMnemonic, WrongOperands, OutOfRange, TooFar, LabelTwice, UnknownLabel, NotText, TooManySlots}
-use Rattle.bpf_text.specs.Instructions.{forms_of, insn_with}
+use Rattle.bpf_text.specs.Scaffolding.Instructions.{forms_of, insn_with}
 use Rattle.bpf_text.specs.LineGrammar.{LineReading}
 use Rattle.bpf_text.specs.Scaffolding.Lines.{read_statement, of_mnemonic, of_forms, in_ranges}
 use Rattle.bpf_text.specs.Scaffolding.Terms.{terms_of}
@@ -193,7 +194,7 @@ found-so rest word operands m i k =
     let body = word-body rest word operands i in
     read_statement-some (trim rest) body.some ∙ rw (body.mnemonic, body.operands_are, k) refl
 
-formed-so : (rest operands : List ℕ) (m : Mnemonic) (t : Option Terms) → IsInstruction rest (name_of m) operands
+pub formed-so : (rest operands : List ℕ) (m : Mnemonic) (t : Option Terms) → IsInstruction rest (name_of m) operands
     → terms_of (forms_of m) (trim operands) ≡ t → read_statement (trim rest) ≡ of_forms m t
 formed-so rest operands m t i e = found-so rest (name_of m) operands (Some m) i (named-name_of m) ∙ ap (of_forms m) e
 
@@ -210,7 +211,7 @@ unformed m operands none = go (terms_of (forms_of m) (trim operands)) refl where
   go None e = e
   go (Some terms) e = absurd (none terms ((operand-lists (forms_of m) operands terms).0 e))
 
-says-statement : (rest : List ℕ) (r : LineReading (Option Statement)) → IsStatement rest r → read_statement (trim rest) ≡ r
+pub says-statement : (rest : List ℕ) (r : LineReading (Option Statement)) → IsStatement rest r → read_statement (trim rest) ≡ r
 says-statement rest (Ok None) known = ap (λ s. read_statement (trim_end s)) (all-blank rest known)
 says-statement rest (Ok (Some said)) known =
     let terms = (operand-lists (forms_of known.0) known.1 known.2).1 known.4 in
@@ -286,7 +287,7 @@ statement-of rest body m word name t e = formed t (ap (terms_of (forms_of m)) wo
     ranged None r = (m, word.operands, terms, whole, fits, r)
     ranged (Some insn) r = (m, word.operands, terms, whole, fits, r, refl)
 
-statement-reads : (rest : List ℕ) → IsStatement rest (read_statement (trim rest))
+pub statement-reads : (rest : List ℕ) → IsStatement rest (read_statement (trim rest))
 statement-reads rest = go (trim rest) refl where
   around : (pad : List ℕ) × (x : List ℕ) × (back : List ℕ) × (rest ≡ pad ++ (x ++ back)) × (list_all is_blank pad ≡ true) × (x ≡ trim rest) × (list_all is_blank back ≡ true)
   around = padded-trim (λ x. x ≡ trim rest) rest refl
@@ -354,12 +355,12 @@ labelled-says code h =
     }
 
 -- what is read of it
-record ReadsLabel (code name rest : List ℕ) : Type 0 where
+pub record ReadsLabel (code name rest : List ℕ) : Type 0 where
   pub labelled : is_labelled (trim_start code) ≡ true
   pub name_is : before 58 (trim_start code) ≡ name
   pub rest_is : after 58 (trim_start code) ≡ rest
 
-says-labelled : (code name rest : List ℕ) → IsLabelled code name rest → ReadsLabel code name rest
+pub says-labelled : (code name rest : List ℕ) → IsLabelled code name rest → ReadsLabel code name rest
 says-labelled code name rest known =
     let tight = name-plain name known.named in
     let start : trim_start code ≡ name ++ 58 ∷ rest =
@@ -375,7 +376,7 @@ says-labelled code name rest known =
 -- ---- lines
 
 -- what stands before a comment
-code-before : (code comment : List ℕ) → list_all no_semicolon code ≡ true → IsComment comment → without_comment (code ++ comment) ≡ code
+pub code-before : (code comment : List ℕ) → list_all no_semicolon code ≡ true → IsComment comment → without_comment (code ++ comment) ≡ code
 code-before code [] p c =
     ap without_comment (append-nil code) ∙ before_first-none (λ b. b == 59) no_semicolon code not-semicolon p
 code-before code (b ∷ s) p c =

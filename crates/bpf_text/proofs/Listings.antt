@@ -5,7 +5,7 @@ use Rattle.std.proofs.lemmas.Bool.{eqb-true, eq-eqb}
 use Rattle.std.proofs.lemmas.Option.{unwrap_or-slice_get, slice_get_within, slice_get-get_or}
 use Rattle.bpf_isa.specs.declared.instruction.Insn.{Insn}
 use Rattle.bpf_isa.specs.Programs.{Checked, IsProgram, IsStart, IsStartAt, insn_at, target_of}
-use Rattle.bpf_text.specs.Operands.{IsSlot}
+use Rattle.bpf_text.specs.Scaffolding.Slots.{IsSlot}
 use Rattle.bpf_text.specs.Canonical.{goes_to, is_target, slot_lines, lines_from}
 
 -- the first slots and one more

@@ -20,9 +20,9 @@ use Rattle.counted_io.specs.Lines.{is_blank, trim_start}
 use Rattle.bpf_text.specs.Characters.{is_name}
 use Rattle.bpf_text.specs.Scaffolding.Cuts.{trim, trim_end, onto_trimmed, before}
 use Rattle.counted_io.specs.Numerals.{IsNatural, natural}
-use Rattle.bpf_text.specs.Grammar.{IsRegister, IsSigned, Padded, IsDisplaced, IsInside, IsOperand}
+use Rattle.bpf_text.specs.Scaffolding.Grammar.{IsRegister, IsSigned, Padded, ReadsDisplaced, ReadsInside, IsOperand}
 use Rattle.bpf_text.specs.Scaffolding.Terms.{signed_number, is_sign, is_bracketed}
-use Rattle.bpf_text.specs.Tokens.{number_with}
+use Rattle.bpf_text.specs.Scaffolding.Tokens.{number_with}
 use Rattle.bpf_text.specs.Scaffolding.Terms.{term_of, memory, base_and_displacement, displacement, register_or}
 use Rattle.bpf_text.proofs.PlainTexts.{no_blank, not-true, and-join, list_all-append, list_all-weaken, before_first-at, before_first-none, position_or_len-none}
 use Rattle.bpf_text.proofs.TokenTexts.{slice_index-other, is_decimal, are_decimal, is_open, no_sign, displacement-at, memory-at}
@@ -185,10 +185,10 @@ sign-of c h = go (c == 43) refl where
   go false e = let same : (c == 45) ≡ true = rw e at h in inr (eqb-true c 45 same, same)
 
 inside-says : (s : List ℕ) (base : ℕ) (number : Number) → base_and_displacement s ≡ Some (term.Memory base number)
-    → IsInside s base number
+    → ReadsInside s base number
 inside-says s base number e = go (register_named (trim (before_first is_sign s))) refl e where
   go : (o : Option ℕ) → register_named (trim (before_first is_sign s)) ≡ o
-      → option_and_then (λ b. option_map (term.Memory b) (displacement s)) o ≡ Some (term.Memory base number) → IsInside s base number
+      → option_and_then (λ b. option_map (term.Memory b) (displacement s)) o ≡ Some (term.Memory base number) → ReadsInside s base number
   go None h e = cc
   go (Some b) h e =
       let part = map-some (term.Memory b) (displacement s) (term.Memory base number) e in
@@ -197,7 +197,7 @@ inside-says s base number e = go (register_named (trim (before_first is_sign s))
       let reg = register-says (trim (before_first is_sign s)) base ((h ∙ ap Some same)) in
       whole (position_or_len is_sign s == length s) refl reg (part.1 ∙ ap Some numbers) where
         whole : (t : Bool) → (position_or_len is_sign s == length s) ≡ t → IsRegister (trim (before_first is_sign s)) base
-            → displacement s ≡ Some number → IsInside s base number
+            → displacement s ≡ Some number → ReadsInside s base number
         whole true h reg e =
             let all : before_first is_sign s ≡ s =
             ap (λ n. take n s) (eqb-true (position_or_len is_sign s) (length s) h) ∙ take-length s in
@@ -214,7 +214,7 @@ inside-says s base number e = go (register_named (trim (before_first is_sign s))
                   → s ≡ before_first is_sign s ++ c ∷ after_first is_sign s
                   → (slice_index s (position_or_len is_sign s) == 45) ≡ (c == 45)
                   → option_map (number_with (slice_index s (position_or_len is_sign s) == 45)) (natural (trim (after_first is_sign s)))
-                  ≡ Some number → IsInside s base number
+                  ≡ Some number → ReadsInside s base number
               signed_number c (inl k) cut byte rest =
                   let parts = map-says (slice_index s (position_or_len is_sign s) == 45) (natural (trim (after_first is_sign s))) number rest in
                   inr (inl (
@@ -243,7 +243,7 @@ same-eqb : (a b : ℕ) → a ≡ b → (a == b) ≡ true
 same-eqb a b e = eq-eqb a b e
 
 says-displaced : (negative : Bool) (sign : ℕ) (s : List ℕ) (base : ℕ) (number : Number) → is_sign sign ≡ true
-    → (sign == 45) ≡ negative → IsDisplaced negative sign s base number
+    → (sign == 45) ≡ negative → ReadsDisplaced negative sign s base number
     → base_and_displacement s ≡ Some (term.Memory base number)
 says-displaced negative sign s base number e same known =
     let a = known.0 in
@@ -261,7 +261,7 @@ says-displaced negative sign s base number e same known =
       ← known.5,
     ) refl
 
-says-inside : (s : List ℕ) (base : ℕ) (number : Number) → IsInside s base number
+says-inside : (s : List ℕ) (base : ℕ) (number : Number) → ReadsInside s base number
     → base_and_displacement s ≡ Some (term.Memory base number)
 says-inside s base number (inl known) =
     let none = padded-all no_sign (λ x. IsRegister x base) s blank-no-sign mark-no-sign (λ x h. register-marks x base h) known.0 in
@@ -278,7 +278,7 @@ says-inside s base number (inr (inr known)) = says-displaced true 45 s base numb
 
 -- memory
 displaced-open : (negative : Bool) (sign : ℕ) (s : List ℕ) (base : ℕ) (number : Number) → is_open sign ≡ true
-    → IsDisplaced negative sign s base number → list_all is_open s ≡ true
+    → ReadsDisplaced negative sign s base number → list_all is_open s ≡ true
 displaced-open negative sign s base number e known =
     let front = padded-all is_open (λ x. IsRegister x base) known.0 blank-open mark-open (λ x h. register-marks x base h) known.3 in
     let back = padded-all is_open (λ x. IsNatural x number.magnitude) known.1 blank-open mark-open
@@ -317,7 +317,7 @@ no-other s t e = go (register_named (trim (before_first is_sign s))) e where
   go None e = cc
   go (Some b) e = let part = map-some (term.Memory b) (displacement s) t e in (b, part.0, sym part.2)
 
-pub inside-open : (s : List ℕ) (base : ℕ) (number : Number) → IsInside s base number → list_all is_open s ≡ true
+pub inside-open : (s : List ℕ) (base : ℕ) (number : Number) → ReadsInside s base number → list_all is_open s ≡ true
 inside-open s base number (inl known) =
     padded-all is_open (λ x. IsRegister x base) s blank-open mark-open (λ x h. register-marks x base h) known.0
 inside-open s base number (inr (inl known)) = displaced-open false 43 s base number refl known

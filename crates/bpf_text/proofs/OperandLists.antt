@@ -15,8 +15,8 @@ use Rattle.counted_io.specs.Lines.{is_blank}
 use Rattle.bpf_text.specs.Characters.{is_letter, is_name, is_name_byte}
 use Rattle.bpf_text.specs.Scaffolding.Cuts.{trim, trim_end, first_operand, other_operands, before, after}
 use Rattle.counted_io.specs.Numerals.{IsNatural}
-use Rattle.bpf_text.specs.Grammar.{IsRegister, IsSigned, IsInside, IsDisplaced, IsOperand, AreOperands, Padded}
-use Rattle.bpf_text.specs.Grammar.{two, three, one}
+use Rattle.bpf_text.specs.Scaffolding.Grammar.{IsRegister, IsSigned, ReadsInside, ReadsDisplaced, IsOperand, AreOperands, Padded}
+use Rattle.bpf_text.specs.Scaffolding.Grammar.{two, three, one}
 use Rattle.bpf_text.specs.Scaffolding.Terms.{terms_of, term_of}
 use Rattle.bpf_text.proofs.Cutting.{trim_end-blank}
 use Rattle.bpf_text.proofs.PlainTexts.{is_plain, are_plain, and-join, list_all-append, list_all-weaken, before_first-at, after_first-at, Snug, Snug-plain, Snug-append}
@@ -75,14 +75,14 @@ blank-no-comma : (b : ℕ) → is_blank b ≡ true → no_comma b ≡ true
 blank-no-comma b h = grind (arith, nat_tests)
 
 displaced-no-comma : (negative : Bool) (sign : ℕ) (s : List ℕ) (base : ℕ) (n : Number) → no_comma sign ≡ true
-    → IsDisplaced negative sign s base n → list_all no_comma s ≡ true
+    → ReadsDisplaced negative sign s base n → list_all no_comma s ≡ true
 displaced-no-comma negative sign s base n e known =
     let front = padded-all no_comma (λ x. IsRegister x base) known.0 blank-no-comma mark-no-comma (λ x h. register-marks x base h) known.3 in
     let back = padded-all no_comma (λ x. IsNatural x n.magnitude) known.1 blank-no-comma mark-no-comma
     (λ x h. natural-marks x n.magnitude h) known.4 in
     rw known.2 (list_all-append no_comma known.0 (sign ∷ known.1) front (and-join (no_comma sign) (list_all no_comma known.1) e back))
 
-inside-no-comma : (s : List ℕ) (base : ℕ) (n : Number) → IsInside s base n → list_all no_comma s ≡ true
+inside-no-comma : (s : List ℕ) (base : ℕ) (n : Number) → ReadsInside s base n → list_all no_comma s ≡ true
 inside-no-comma s base n (inl known) =
     padded-all no_comma (λ x. IsRegister x base) s blank-no-comma mark-no-comma (λ x h. register-marks x base h) known.0
 inside-no-comma s base n (inr (inl known)) = displaced-no-comma false 43 s base n refl known

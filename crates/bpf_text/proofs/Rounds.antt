@@ -13,11 +13,11 @@ use Rattle.counted_io.specs.Lines.{lines}
 use Rattle.bpf_text.specs.Scaffolding.Cuts.{before, after}
 use Rattle.bpf_text.specs.Scaffolding.Lines.{read_line}
 use Rattle.bpf_text.specs.LineGrammar.{LineReading}
-use Rattle.bpf_text.specs.Listing.{Labels, Outline, labels_with, label_of, placed_with, statement_of, line_end, first_round, second_round, insn_at, insns_with, AreWords}
+use Rattle.bpf_text.specs.Scaffolding.Rounds.{Labels, Collected, labels_with, label_of, placed_with, statement_of, line_end, first_round, second_round, insn_at, insns_with, AreWords}
 use Rattle.bpf_text.proofs.Cutting.{lines-cut}
 
 -- the first round at a line that has a fault
-pub first_round-Err : (outline : Outline) (slot line_number : ℕ) (rest line : List ℕ) (reading : LineReading LineSaid) (fault : LineFault)
+pub first_round-Err : (outline : Collected) (slot line_number : ℕ) (rest line : List ℕ) (reading : LineReading LineSaid) (fault : LineFault)
     → 0 < length rest → line ≡ before 10 rest → reading ≡ read_line line → line_end outline.0 slot reading ≡ Err fault
     → first_round outline slot line_number (map read_line (lines rest)) ≡ Err (Line fault line_number)
 first_round-Err outline slot line_number rest line reading fault h first read e =
@@ -26,7 +26,7 @@ first_round-Err outline slot line_number rest line reading fault h first read e 
     rw (lines-cut rest h, end) refl
 
 -- the first round at a line that has none, and what it leaves
-pub first_round-Ok : (outline found : Outline) (slot line_number : ℕ) (rest line left : List ℕ) (reading : LineReading LineSaid)
+pub first_round-Ok : (outline found : Collected) (slot line_number : ℕ) (rest line left : List ℕ) (reading : LineReading LineSaid)
     (next : ℕ) → 0 < length rest → line ≡ before 10 rest → left ≡ after 10 rest
     → reading ≡ read_line line → line_end outline.0 slot reading ≡ Ok next
     → ((q : List ℕ) → found.0 q ≡ labels_with outline.0 (record { line = line_number; slot = slot }) (label_of reading) q)

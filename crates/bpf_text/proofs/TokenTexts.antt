@@ -19,7 +19,7 @@ use Rattle.bpf_text.specs.Characters.{is_name, is_name_byte}
 use Rattle.bpf_text.specs.Scaffolding.Cuts.{trim}
 use Rattle.counted_io.specs.Numerals.{natural}
 use Rattle.bpf_text.specs.Scaffolding.Terms.{is_negative, signed_number, is_sign}
-use Rattle.bpf_text.specs.Tokens.{number_with, unsigned, immediate, wide, offset}
+use Rattle.bpf_text.specs.Scaffolding.Tokens.{number_with, unsigned, immediate, wide, offset}
 use Rattle.bpf_text.specs.Scaffolding.Terms.{memory, base_and_displacement, displacement}
 use Rattle.counted_io.specs.Writing.{hexadecimal}
 use Rattle.bpf_text.specs.Operands.{label_text, operand_text}

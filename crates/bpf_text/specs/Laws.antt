@@ -1,38 +1,44 @@
 -- Laws of listings.
-use Rattle.std.specs.Prelude.{ℕ, ◌≡◌, List}
+use Rattle.std.specs.Prelude.{ℕ, ◌≡◌, List, Option, Some, None}
+use Rattle.bpf_isa.specs.declared.instruction.Insn.{Insn}
 use Rattle.bpf_isa.specs.declared.mnemonic.Mnemonic.{Mnemonic}
 use Rattle.bpf_text.specs.declared.fault.LineFault.{LineFault}
 use Rattle.bpf_text.specs.declared.fault.AsmFault.TheVariants.{Line as AtLine}
-use Rattle.bpf_text.specs.declared.read.line.Line.{Line}
-use Rattle.bpf_text.specs.declared.read.term.OperandForm.{OperandForm}
-use Rattle.bpf_text.specs.declared.read.term.OperandForms.{OperandForms}
-use Rattle.bpf_text.specs.declared.read.term.Term.{Term}
-use Rattle.bpf_text.specs.declared.read.term.Terms.{Terms}
-use Rattle.bpf_text.specs.Grammar.{IsOperand, AreOperands}
-use Rattle.bpf_text.specs.LineGrammar.{IsReading}
+use Rattle.bpf_text.specs.Labels.{Labels}
+use Rattle.bpf_text.specs.LineGrammar.{LineReading, IsLine, HasStranger}
 use Rattle.bpf_text.specs.Listing.{IsListing, IsFaultOf}
 use Rattle.bpf_text.specs.Mnemonics.{name_of}
-use Rattle.bpf_text.specs.LineGrammar.{LineReading}
+use Rattle.bpf_text.specs.Statements.{SaysInsn, Takes}
 
 -- No two mnemonics have one name.
 abbrev pub HaveOneMnemonic : Type 0
 HaveOneMnemonic = (a b : Mnemonic) → name_of a ≡ name_of b → a ≡ b
 
--- An operand in a form says one thing at most, and so do the operands of an instruction.
-abbrev pub HaveOneTerm : Type 0
-HaveOneTerm = (form : OperandForm) (s : List ℕ) (a b : Term) → IsOperand form s a → IsOperand form s b → a ≡ b
+-- Where labels are known, a text says one instruction at most.
+abbrev pub HaveOneInsn : Type 0
+HaveOneInsn = (labels : Labels) (p : ℕ) (s : List ℕ) (a b : Insn) → SaysInsn labels p s a → SaysInsn labels p s b → a ≡ b
 
-abbrev pub HaveOneTermList : Type 0
-HaveOneTermList = (forms : OperandForms) (s : List ℕ) (a b : Terms) → AreOperands forms s a → AreOperands forms s b → a ≡ b
+-- A text behind a label takes so many slots, or has one fault, and not both.
+pub record HasOneSize (p : ℕ) (s : List ℕ) : Type 0 where
+  pub size : LineReading ℕ
+  pub takes : Takes p s size
+  pub only : (other : LineReading ℕ) → Takes p s other → other ≡ size
 
--- A line has exactly one reading: it says one thing, or one thing is wrong with it.
-pub record HasOneReading (line : List ℕ) : Type 0 where
-  pub reading : LineReading Line
-  pub reads : IsReading line reading
-  pub only : (other : LineReading Line) → IsReading line other → other ≡ reading
+abbrev pub HaveOneSize : Type 0
+HaveOneSize = (p : ℕ) (s : List ℕ) → HasOneSize p s
 
-abbrev pub HaveOneReading : Type 0
-HaveOneReading = (line : List ℕ) → HasOneReading line
+-- A line has one label, or none, and one text behind it; or a byte outside text, and not both.
+abbrev pub IsCut : List ℕ → Option (Option (List ℕ) × List ℕ) → Type 0
+IsCut line None = HasStranger line
+IsCut line (Some cut) = IsLine line cut.0 cut.1
+
+pub record HasOneCut (line : List ℕ) : Type 0 where
+  pub cut : Option (Option (List ℕ) × List ℕ)
+  pub is : IsCut line cut
+  pub only : (other : Option (Option (List ℕ) × List ℕ)) → IsCut line other → other ≡ cut
+
+abbrev pub HaveOneCut : Type 0
+HaveOneCut = (line : List ℕ) → HasOneCut line
 
 -- A listing has the bytes of one program or one fault of a line, and not both.
 pub record HaveOneAssembly : Type 0 where

@@ -1,12 +1,12 @@
 pub mod Canonical
 pub mod Characters
 pub mod Faults
-pub mod Grammar
-pub mod Instructions
+pub mod Labels
 pub mod Laws
 pub mod LineGrammar
 pub mod Listing
 pub mod Mnemonics
 pub mod Operands
 pub mod Scaffolding
-pub mod Tokens
+pub mod Statements
+pub mod Written

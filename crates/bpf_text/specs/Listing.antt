@@ -1,143 +1,72 @@
--- A listing: what its lines say, its faults in two rounds, and its bytes. bpfdb's own choice.
-use Rattle.std.specs.Prelude.{ℕ, ℤ, pos, negsuc, ◌≡◌, ◌+◌, ◌-ℤ◌, Bool, nat_le, nat_lt, if◌then◌else◌, List, [], ◌∷◌, ◌++◌, Option, Some, None, Result, Ok, Err, ⊤}
-use Rattle.std.specs.Str.{bytes_eq}
+-- A listing: its faults in two rounds, and its bytes. bpfdb's own choice.
+use Rattle.std.specs.Prelude.{ℕ, ◌≡◌, ◌<◌, ◌≤◌, ◌+◌, ◌⊎◌, true, List, [], ◌∷◌, ◌++◌, Option, Some, None, Result, Ok, Err, ⊤}
+use Rattle.std.specs.List.{list_all}
 use Rattle.bpf_isa.specs.declared.instruction.Insn.{Insn}
-use Rattle.bpf_isa.specs.declared.instruction.Insn.TheVariants.{JumpIf, Jump, JumpLong, CallLocal}
-use Rattle.bpf_isa.specs.Programs.{slots_of}
 use Rattle.bpf_isa.specs.Words.{IsWord}
 use Rattle.bpf_isa.specs.Checker.{most_slots}
-use Rattle.bpf_text.specs.declared.fault.LineFault.TheVariants.{TooFar, LabelTwice, UnknownLabel, TooManySlots}
+use Rattle.bpf_text.specs.declared.fault.LineFault.{LineFault}
+use Rattle.bpf_text.specs.declared.fault.LineFault.TheVariants.{LabelTwice, NotText, TooManySlots}
 use Rattle.bpf_text.specs.declared.fault.AsmFault.{AsmFault}
 use Rattle.bpf_text.specs.declared.fault.AsmFault.TheVariants.{Line, Memory}
-use Rattle.bpf_text.specs.declared.read.first_round.Placed.{Placed}
 use Rattle.bpf_text.specs.declared.read.labels.Definition.{Definition}
-use Rattle.bpf_text.specs.declared.read.line.Line.{Line as LineSaid}
-use Rattle.bpf_text.specs.declared.read.statement.Statement.{Statement}
-use Rattle.counted_io.specs.Lines.{lines}
-use Rattle.bpf_text.specs.LineGrammar.{IsReading}
-use Rattle.bpf_text.specs.LineGrammar.{LineReading}
+use Rattle.counted_io.specs.Lines.{is_blank, lines}
+use Rattle.bpf_text.specs.Labels.{Labels, no_label, labels_with, definition_of}
+use Rattle.bpf_text.specs.LineGrammar.{IsLine, HasStranger}
+use Rattle.bpf_text.specs.Statements.{Takes, Means}
 
--- What is read of lines, one by one.
-abbrev pub AreReadings : List (List ℕ) → List (LineReading LineSaid) → Type 0
-AreReadings [] [] = Unit {0}
-AreReadings (line ∷ lines) (reading ∷ readings) = IsReading line reading × AreReadings lines readings
-AreReadings lines readings = ⊥
+-- A line without a label, or with one that no line before it has.
+abbrev pub IsNew : Labels → List ℕ → Option (List ℕ) → List ℕ → Type 0
+IsNew labels line label rest = IsLine line label rest × (definition_of labels label ≡ None)
 
--- Where labels stand: the line and the slot of a name.
-abbrev pub Labels : Type 0
-Labels = List ℕ → Option Definition
+-- What is wrong in the first round with a line in slot p, behind lines with these labels.
+abbrev pub HasFault : Labels → ℕ → List ℕ → LineFault → Type 0
+HasFault labels p line NotText = HasStranger line
+HasFault labels p line (LabelTwice first) = (name rest : List ℕ) × IsLine line (Some name) rest
+    × (d : Definition) × (labels name ≡ Some d) × (d.line ≡ first)
+HasFault labels p line TooManySlots = (label : Option (List ℕ)) × (rest : List ℕ) × (n : ℕ) × IsNew labels line label rest
+    × Takes p rest (Ok n) × (most_slots < p + n)
+HasFault labels p line fault = (label : Option (List ℕ)) × (rest : List ℕ) × IsNew labels line label rest × Takes p rest (Err fault)
 
-abbrev pub no_label : Labels
-no_label name = None
+-- A text behind a label, in its place.
+pub record Place : Type 0 where
+  pub line : ℕ
+  pub slot : ℕ
+  pub rest : List ℕ
 
--- The labels before, and one more.
-abbrev pub labels_with : Labels → Definition → Option (List ℕ) → Labels
-labels_with labels definition None = labels
-labels_with labels definition (Some name) = λ q. if bytes_eq name q then Some definition else labels q
-
-abbrev pub definition_of : Labels → Option (List ℕ) → Option Definition
-definition_of labels None = None
-definition_of labels (Some name) = labels name
-
--- The label of a line, and its statement, if it has them.
-abbrev pub label_of : LineReading LineSaid → Option (List ℕ)
-label_of (Ok line) = line.label
-label_of (Err fault) = None
-
-abbrev pub statement_or_none : LineReading (Option Statement) → Option Statement
-statement_or_none (Ok statement) = statement
-statement_or_none (Err fault) = None
-
-abbrev pub statement_of : LineReading LineSaid → Option Statement
-statement_of (Ok line) = statement_or_none line.statement
-statement_of (Err fault) = None
-
--- The slot after a statement, which can't pass slot 65,534.
-abbrev pub slot_after : ℕ → LineReading (Option Statement) → LineReading ℕ
-slot_after slot (Err fault) = Err fault
-slot_after slot (Ok None) = Ok slot
-slot_after slot (Ok (Some statement)) =
-    if nat_le (slot + slots_of statement.insn) most_slots then Ok (slot + slots_of statement.insn) else Err TooManySlots
-
--- The first round at a line: the slot after it, or its first fault.
-abbrev pub unless_defined : Option Definition → LineReading ℕ → LineReading ℕ
-unless_defined (Some definition) next = Err (LabelTwice definition.line)
-unless_defined None next = next
-
-abbrev pub line_end : Labels → ℕ → LineReading LineSaid → LineReading ℕ
-line_end labels slot (Err fault) = Err fault
-line_end labels slot (Ok line) = unless_defined (definition_of labels line.label) (slot_after slot line.statement)
-
--- What follows a line, unless it has a fault.
-abbrev pub line_or : {A B : Type 0} → LineReading A → ℕ → (A → Result B AsmFault) → Result B AsmFault
-line_or (Err fault) line_number next = Err (Line fault line_number)
-line_or (Ok value) line_number next = next value
-
--- The first round over lines from a slot and a line number on: all labels and all statements in their places, or the first fault.
 abbrev pub Outline : Type 0
-Outline = Labels × List Placed
+Outline = Labels × List Place
 
-abbrev pub placed_with : List Placed → ℕ → ℕ → Option Statement → List Placed
-placed_with placed slot line_number None = placed
-placed_with placed slot line_number (Some statement) = placed ++ record { line = line_number; slot = slot; statement = statement } ∷ []
+abbrev pub outline_with : Place → Result Outline AsmFault → Result Outline AsmFault
+outline_with place (Ok outline) = Ok (outline.0, place ∷ outline.1)
+outline_with place (Err fault) = Err fault
 
-abbrev pub outline_with : Outline → ℕ → ℕ → LineReading LineSaid → Outline
-outline_with outline slot line_number reading =
-    (labels_with outline.0 (record { line = line_number; slot = slot }) (label_of reading), placed_with outline.1 slot line_number (statement_of reading))
+-- The first round over lines, from slot p and line k on: all labels, and all texts in their places; or the first fault.
+abbrev pub IsOutline : Labels → ℕ → ℕ → List (List ℕ) → Result Outline AsmFault → Type 0
+IsOutline labels p k [] outcome = outcome ≡ Ok (labels, [])
+IsOutline labels p k (line ∷ more) outcome =
+    ((fault : LineFault) × HasFault labels p line fault × (outcome ≡ Err (Line fault k)))
+    ⊎ ((label : Option (List ℕ)) × (rest : List ℕ) × (n : ℕ) × (others : Result Outline AsmFault)
+    × IsNew labels line label rest × Takes p rest (Ok n) × (p + n ≤ most_slots)
+    × IsOutline (labels_with labels (record { line = k; slot = p }) label) (p + n) (k + 1) more others
+    × (outcome ≡ outline_with (record { line = k; slot = p; rest = rest }) others))
 
-abbrev pub nothing : Outline
-nothing = (no_label, [])
-
-abbrev pub first_round : Outline → ℕ → ℕ → List (LineReading LineSaid) → Result Outline AsmFault
-first_round outline slot line_number [] = Ok outline
-first_round outline slot line_number (reading ∷ rest) = line_or (line_end outline.0 slot reading) line_number
-    (λ next. first_round (outline_with outline slot line_number reading) next (line_number + 1) rest)
-
--- Whether a distance fits the offset of ja and of a conditional jump, of 16 bits.
-abbrev pub fits_offset : ℤ → Bool
-fits_offset (pos n) = nat_lt n 32768
-fits_offset (negsuc n) = nat_lt n 32768
-
--- An instruction with the distance of its target.
-abbrev pub fitting : ℤ → Insn → LineReading Insn
-fitting distance insn = if fits_offset distance then Ok insn else Err (TooFar distance)
-
-abbrev pub with_distance : Insn → ℤ → LineReading Insn
-with_distance (JumpIf condition width dst source offset) distance =
-    fitting distance (JumpIf condition width dst source distance)
-with_distance (Jump offset) distance = fitting distance (Jump distance)
-with_distance (JumpLong old) distance = Ok (JumpLong distance)
-with_distance (CallLocal old) distance = Ok (CallLocal distance)
-with_distance insn distance = Ok insn
-
--- The instruction in a slot whose target is a label: the distance is counted from the next slot.
-abbrev pub with_label : ℕ → Insn → Option Definition → LineReading Insn
-with_label slot insn None = Err UnknownLabel
-with_label slot insn (Some target) = with_distance insn (pos target.slot -ℤ pos (slot + 1))
-
-abbrev pub with_target : Labels → ℕ → Insn → Option (List ℕ) → LineReading Insn
-with_target labels slot insn None = Ok insn
-with_target labels slot insn (Some name) = with_label slot insn (labels name)
-
--- The second round over statements: their instructions, labels replaced by distances, or the first fault.
-abbrev pub insn_at : Labels → Placed → LineReading Insn
-insn_at labels placed = with_target labels placed.slot placed.statement.insn placed.statement.target
-
+-- The second round over texts in their places, with all labels: their instructions, or the first fault.
 abbrev pub insns_with : Insn → Result (List Insn) AsmFault → Result (List Insn) AsmFault
 insns_with insn (Ok insns) = Ok (insn ∷ insns)
 insns_with insn (Err fault) = Err fault
 
-abbrev pub second_round : Labels → List Placed → Result (List Insn) AsmFault
-second_round labels [] = Ok []
-second_round labels (placed ∷ rest) = line_or (insn_at labels placed) placed.line (λ insn. insns_with insn (second_round labels rest))
+abbrev pub AreInsns : Labels → List Place → Result (List Insn) AsmFault → Type 0
+AreInsns labels [] outcome = outcome ≡ Ok []
+AreInsns labels (place ∷ more) outcome =
+    ((list_all is_blank place.rest ≡ true) × AreInsns labels more outcome)
+    ⊎ ((fault : LineFault) × Means labels place.slot place.rest (Err fault) × (outcome ≡ Err (Line fault place.line)))
+    ⊎ ((insn : Insn) × (others : Result (List Insn) AsmFault) × Means labels place.slot place.rest (Ok insn)
+    × AreInsns labels more others × (outcome ≡ insns_with insn others))
 
--- Both rounds over what is read of a listing's lines: its instructions, or its first fault.
-abbrev pub after_first_round : Result Outline AsmFault → Result (List Insn) AsmFault
-after_first_round (Ok outline) = second_round outline.0 outline.1
-after_first_round (Err fault) = Err fault
-
-abbrev pub rounds : List (LineReading LineSaid) → Result (List Insn) AsmFault
-rounds readings = after_first_round (first_round nothing 0 1 readings)
+-- Both rounds over a listing: its instructions, or its first fault.
+abbrev pub IsAssembled : List ℕ → Result (List Insn) AsmFault → Type 0
+IsAssembled text outcome = ((fault : AsmFault) × IsOutline no_label 0 1 (lines text) (Err fault) × (outcome ≡ Err fault))
+    ⊎ ((outline : Outline) × IsOutline no_label 0 1 (lines text) (Ok outline) × AreInsns outline.0 outline.1 outcome)
 
 -- The bytes of instructions, one behind the other.
 abbrev pub AreWords : List Insn → List ℕ → Type 0
@@ -146,14 +75,11 @@ AreWords (insn ∷ rest) bytes = (word more : List ℕ) × (bytes ≡ word ++ mo
 
 -- A listing without a fault, and its bytes.
 pub record IsListing (text bytes : List ℕ) : Type 0 where
-  pub readings : List (LineReading LineSaid)
-  pub read : AreReadings (lines text) readings
   pub insns : List Insn
-  pub clear : rounds readings ≡ Ok insns
+  pub clear : IsAssembled text (Ok insns)
   pub spelled : AreWords insns bytes
 
 -- Want of memory may be answered instead of a fault; else it is the listing's.
 abbrev pub IsFaultOf : List ℕ → AsmFault → Type 0
 IsFaultOf text Memory = ⊤
-IsFaultOf text (Line fault line_number) = (readings : List (LineReading LineSaid)) × AreReadings (lines text) readings
-    × (rounds readings ≡ Err (Line fault line_number))
+IsFaultOf text (Line fault k) = IsAssembled text (Err (Line fault k))

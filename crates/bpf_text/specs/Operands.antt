@@ -1,11 +1,10 @@
 -- The operands of instructions, and their canonical texts. bpfdb's own choice.
-use Rattle.std.specs.Prelude.{ℕ, ℤ, pos, negsuc, ◌+◌, ◌+ℤ◌, ◌≤◌, List, [], ◌++◌, codes, decimal}
+use Rattle.std.specs.Prelude.{ℕ, ℤ, pos, negsuc, ◌+◌, ◌+ℤ◌, List, [], ◌++◌, codes, decimal}
 use Rattle.std.specs.Fmt.{signed_decimal}
 use Rattle.bpf_isa.specs.declared.instruction.Insn.{Insn}
 use Rattle.bpf_isa.specs.declared.instruction.Insn.TheVariants.{Binary, Negate, SignExtend, SwapBytes, JumpIf, Jump, JumpLong, CallHelper, CallLocal, Exit, Load, LoadSigned, StoreImmediate, StoreRegister, Atomic, LoadNumber, LoadMap, LoadMapValue}
 use Rattle.bpf_isa.specs.declared.instruction.Source.{Source}
 use Rattle.bpf_isa.specs.declared.instruction.Source.TheVariants as source
-use Rattle.bpf_isa.specs.Checker.{most_slots}
 use Rattle.bpf_isa.specs.Registers.{register_text}
 use Rattle.bpf_text.specs.declared.write.operand.Operand.{Operand}
 use Rattle.bpf_text.specs.declared.write.operand.Operand.TheVariants.{Register, Signed, Unsigned, Hexadecimal, Memory, Target}
@@ -15,20 +14,10 @@ use Rattle.bpf_isa.specs.Mnemonics.{mnemonic_of}
 use Rattle.bpf_text.specs.Mnemonics.{name_of}
 use Rattle.counted_io.specs.Writing.{hexadecimal}
 
--- A whole number that can be a slot.
-abbrev pub IsSlot : ℤ → Type 0
-IsSlot (pos p) = p ≤ most_slots
-IsSlot (negsuc n) = ⊥
-
 -- A second operand.
 abbrev pub operand_of : Source → Operand
 operand_of (source.Immediate value) = Signed value
 operand_of (source.Register reg) = Register reg
-
--- A target: the slot of this whole number.
-abbrev pub target_operand : ℤ → Operand
-target_operand (pos p) = Target p
-target_operand (negsuc n) = Target 0
 
 -- The operands of an instruction in slot p. A target is counted from the next slot (RFC 9669, section 4.3).
 abbrev pub operands_of : ℕ → Insn → Operands
@@ -37,11 +26,11 @@ operands_of p (Negate width dst) = One (Register dst)
 operands_of p (SignExtend extension dst src) = Two (Register dst) (Register src)
 operands_of p (SwapBytes order width dst) = One (Register dst)
 operands_of p (JumpIf condition width dst source offset) =
-    Three (Register dst) (operand_of source) (target_operand (pos (p + 1) +ℤ offset))
-operands_of p (Jump offset) = One (target_operand (pos (p + 1) +ℤ offset))
-operands_of p (JumpLong distance) = One (target_operand (pos (p + 1) +ℤ distance))
+    Three (Register dst) (operand_of source) (Target (pos (p + 1) +ℤ offset))
+operands_of p (Jump offset) = One (Target (pos (p + 1) +ℤ offset))
+operands_of p (JumpLong distance) = One (Target (pos (p + 1) +ℤ distance))
 operands_of p (CallHelper helper) = One (Unsigned helper)
-operands_of p (CallLocal distance) = One (target_operand (pos (p + 1) +ℤ distance))
+operands_of p (CallLocal distance) = One (Target (pos (p + 1) +ℤ distance))
 operands_of p Exit = Nothing
 operands_of p (Load size dst src offset) = Two (Register dst) (Memory src offset)
 operands_of p (LoadSigned size dst src offset) = Two (Register dst) (Memory src offset)
@@ -61,14 +50,14 @@ abbrev pub offset_text : ℤ → List ℕ
 offset_text (pos n) = codes "+" ++ decimal n
 offset_text (negsuc n) = signed_decimal (negsuc n)
 
--- The canonical text of an operand.
+-- The canonical text of an operand. A target is the label of its slot.
 abbrev pub operand_text : Operand → List ℕ
 operand_text (Register r) = register_text r
 operand_text (Signed value) = signed_decimal value
 operand_text (Unsigned n) = decimal n
 operand_text (Hexadecimal n) = hexadecimal n
 operand_text (Memory base offset) = codes "[" ++ register_text base ++ offset_text offset ++ codes "]"
-operand_text (Target p) = label_text p
+operand_text (Target slot) = codes "L" ++ signed_decimal slot
 
 -- The canonical text of operands: a blank before the first, a comma and a blank before each further one.
 abbrev pub operands_text : Operands → List ℕ

@@ -1,6 +1,6 @@
 //! Laws of listings.
 ghost use Rattle.bpf_text.specs.Canonical.{canon};
-ghost use Rattle.bpf_text.specs.Laws.{HaveOneMnemonic, HaveOneTerm, HaveOneTermList, HaveOneReading, HaveOneAssembly};
+ghost use Rattle.bpf_text.specs.Laws.{HaveOneMnemonic, HaveOneInsn, HaveOneSize, HaveOneCut, HaveOneAssembly};
 ghost use Rattle.bpf_text.specs.Listing.{IsListing};
 
 use bpf_isa::Program;
@@ -12,13 +12,13 @@ pub fn canonical_listing(program: &Program)
     program.invariant();
 }
 
-/// No two mnemonics have one name, operands say one thing at most, a line has exactly one reading,
-/// and a listing has the bytes of one program or one fault.
+/// No two mnemonics have one name, a text says one instruction at most and takes its slots or has
+/// one fault, a line is cut in one way, and a listing has the bytes of one program or one fault.
 #[tactic(none)]
 pub fn one_reading()
     ensures value { HaveOneMnemonic }
-    ensures operands { HaveOneTerm }
-    ensures lists { HaveOneTermList }
-    ensures lines { HaveOneReading }
+    ensures instructions { HaveOneInsn }
+    ensures sizes { HaveOneSize }
+    ensures lines { HaveOneCut }
     ensures only { HaveOneAssembly }
 {}

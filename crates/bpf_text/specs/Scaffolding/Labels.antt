@@ -6,7 +6,7 @@ use Rattle.std.specs.Borrow.{Bor}
 use Rattle.bpf_text.specs.declared.read.first_round.Outline.{Outline}
 use Rattle.bpf_text.specs.declared.read.labels.Definition.{Definition}
 use Rattle.bpf_text.specs.declared.read.first_round.Placed.{Placed}
-use Rattle.bpf_text.specs.Listing.{Labels}
+use Rattle.bpf_text.specs.Scaffolding.Rounds.{Labels}
 
 abbrev pub labels_in : {S : Type 0} → IndexMap (Bor (List ℕ)) Definition S → Labels
 labels_in map = λ q. get_by (λ name. bytes_eq q name.now) map

@@ -11,7 +11,7 @@ use Rattle.bpf_text.specs.declared.read.statement.Statement.{Statement}
 use Rattle.bpf_text.specs.declared.read.term.Terms.{Terms}
 use Rattle.counted_io.specs.Lines.{trim_start}
 use Rattle.bpf_text.specs.Characters.{is_text}
-use Rattle.bpf_text.specs.Instructions.{forms_of, insn_with, target_in}
+use Rattle.bpf_text.specs.Scaffolding.Instructions.{forms_of, insn_with, target_in}
 use Rattle.bpf_text.specs.LineGrammar.{LineReading}
 use Rattle.bpf_text.specs.Scaffolding.Cuts.{before, after, trim, without_comment, is_labelled, mnemonic_part, operands_part}
 use Rattle.bpf_text.specs.Scaffolding.Named.{named}

@@ -3,7 +3,7 @@ ghost use Rattle.std.specs.Prelude.{◌≡◌, ◌≤◌, ◌+◌, ℕ, List, If
 ghost use Rattle.bpf_isa.specs.Checker.{most_slots};
 ghost use Rattle.counted_io.specs.Lines.{lines};
 ghost use Rattle.bpf_text.specs.Scaffolding.Lines.{read_line, MemoryOr};
-ghost use Rattle.bpf_text.specs.Listing.{first_round, nothing, line_end, slot_after, label_of, labels_with, statement_of, statement_or_none, placed_with};
+ghost use Rattle.bpf_text.specs.Scaffolding.Rounds.{first_round, nothing, line_end, slot_after, label_of, labels_with, statement_of, statement_or_none, placed_with};
 ghost use Rattle.bpf_text.specs.Scaffolding.Labels.{labels_in, labels_of, placed_of};
 
 use crate::fault::{AsmFault, LineFault};

@@ -1,6 +1,6 @@
 //! Where labels stand.
 ghost use Rattle.std.specs.Prelude.{◌≡◌, ℕ, List, OnOk};
-ghost use Rattle.bpf_text.specs.Listing.{labels_with, definition_of};
+ghost use Rattle.bpf_text.specs.Scaffolding.Rounds.{labels_with, definition_of};
 ghost use Rattle.bpf_text.specs.Scaffolding.Labels.{labels_in};
 
 use crate::read::term::Name;

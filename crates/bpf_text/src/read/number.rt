@@ -1,7 +1,7 @@
 //! Numbers of a listing, which may have a minus.
 ghost use Rattle.std.specs.Prelude.{◌≡◌};
 ghost use Rattle.bpf_text.specs.Scaffolding.Terms.{is_negative, signed_number};
-ghost use Rattle.bpf_text.specs.Tokens.{unsigned, immediate, wide, offset};
+ghost use Rattle.bpf_text.specs.Scaffolding.Tokens.{unsigned, immediate, wide, offset};
 
 use counted_io::{Numeral, natural};
 

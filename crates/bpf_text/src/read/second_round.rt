@@ -2,7 +2,7 @@
 ghost use Rattle.std.specs.Prelude.{◌≡◌, ◌+◌, ◌≤ℤ◌, ◌-ℤ◌, pos, List, IfOk, IfErr, Ok, Err, if◌then◌else◌};
 ghost use Rattle.bpf_isa.specs.declared.instruction.Insn.{Insn};
 ghost use Rattle.bpf_text.specs.Scaffolding.Lines.{MemoryOr};
-ghost use Rattle.bpf_text.specs.Listing.{insn_at, with_distance, with_label, second_round, AreWords, fits_offset};
+ghost use Rattle.bpf_text.specs.Scaffolding.Rounds.{insn_at, with_distance, with_label, second_round, AreWords, fits_offset};
 ghost use Rattle.bpf_text.specs.Scaffolding.Labels.{labels_in, labels_of, placed_of};
 
 use crate::fault::{AsmFault, LineFault};

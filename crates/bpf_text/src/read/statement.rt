@@ -1,7 +1,7 @@
 //! The statement of a line: a mnemonic and its operands.
 ghost use Rattle.std.specs.Prelude.{◌≡◌};
 ghost use Rattle.bpf_text.specs.Scaffolding.Cuts.{mnemonic_part, operands_part};
-ghost use Rattle.bpf_text.specs.Instructions.{forms_of, insn_with};
+ghost use Rattle.bpf_text.specs.Scaffolding.Instructions.{forms_of, insn_with};
 ghost use Rattle.bpf_text.specs.Scaffolding.Lines.{read_statement, of_mnemonic};
 
 use crate::fault::LineFault;

@@ -2,7 +2,7 @@
 ghost use Rattle.std.specs.Prelude.{◌≡◌, ◌≤◌, ◌<◌, ◌++◌, ℕ, length, Some, IfOk, IfSome, slice_get, vec_len};
 ghost use Rattle.bpf_isa.specs.Checker.{most_slots};
 ghost use Rattle.bpf_isa.specs.Programs.{target_of};
-ghost use Rattle.bpf_text.specs.Operands.{IsSlot};
+ghost use Rattle.bpf_text.specs.Scaffolding.Slots.{IsSlot};
 ghost use Rattle.bpf_text.specs.Canonical.{canon, is_target, slot_lines, label_line};
 ghost use Rattle.counted_io.specs.Writing.{WritesAfter};
 
@@ -40,8 +40,7 @@ fn put_lines<W: Write>(
     slot: usize,
     insn: Insn,
 ) -> Result<(), WriteFault>
-    requires slot { slot ≤ most_slots }
-    requires target { IfSome (target_of slot insn) IsSlot }
+    requires { slot ≤ most_slots }
     ensures { WritesAfter W.contents writer.old so_far writer.new result
         (slot_lines labelled slot (Some insn)) }
 {

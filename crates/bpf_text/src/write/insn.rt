@@ -1,9 +1,8 @@
 //! The canonical text of an instruction.
-ghost use Rattle.std.specs.Prelude.{◌≤◌, ◌++◌, IfSome};
+ghost use Rattle.std.specs.Prelude.{◌≤◌, ◌++◌};
 ghost use Rattle.bpf_isa.specs.Checker.{most_slots};
-ghost use Rattle.bpf_isa.specs.Programs.{target_of};
 ghost use Rattle.bpf_isa.specs.Registers.{register_text};
-ghost use Rattle.bpf_text.specs.Operands.{IsSlot, offset_text, operand_text, operands_text, text_of_insn, label_text};
+ghost use Rattle.bpf_text.specs.Operands.{offset_text, operand_text, operands_text, text_of_insn, label_text};
 ghost use Rattle.counted_io.specs.Writing.{Writes, WritesAfter};
 
 use crate::names::name_of;
@@ -12,15 +11,13 @@ use bpf_isa::{Insn, Mnemonic, Reg};
 use counted_io::{Counted, WriteFault, put, put_decimal, put_hexadecimal, put_signed};
 use std::io::Write;
 
-/// Writes the canonical text of the instruction in this slot, without a line feed. The slot is 0 to
-/// 65,535, and so is its target, if it has one.
+/// Writes the canonical text of the instruction in this slot, 0 to 65,535, without a line feed.
 pub fn write_insn<W: Write>(
     writer: &mut Counted<W>,
     slot: usize,
     insn: Insn,
 ) -> Result<(), WriteFault>
-    requires slot { slot ≤ most_slots }
-    requires target { IfSome (target_of slot insn) IsSlot }
+    requires { slot ≤ most_slots }
     ensures { Writes W.contents writer.old writer.new result (text_of_insn slot insn) }
 {
     put_insn(writer, Ok(()), slot, insn)
@@ -34,8 +31,7 @@ pub fn put_insn<W: Write>(
     slot: usize,
     insn: Insn,
 ) -> Result<(), WriteFault>
-    requires slot { slot ≤ most_slots }
-    requires target { IfSome (target_of slot insn) IsSlot }
+    requires { slot ≤ most_slots }
     ensures { WritesAfter W.contents writer.old so_far writer.new result (text_of_insn slot insn) }
 {
     let named = put(writer, so_far, name_of(&Mnemonic::of(&insn)).as_bytes());
@@ -93,7 +89,7 @@ fn put_operand<W: Write>(
         Operand::Unsigned(value) => put_decimal(writer, so_far, u64::from(value)),
         Operand::Hexadecimal(value) => put_hexadecimal(writer, so_far, value),
         Operand::Memory(base, offset) => put_memory(writer, so_far, base, offset),
-        Operand::Target(slot) => put_label(writer, so_far, slot),
+        Operand::Target(slot) => put_target(writer, so_far, slot),
     }
 }
 
@@ -136,6 +132,18 @@ fn put_offset<W: Write>(
         let sign = put(writer, so_far, b"+");
         put_signed(writer, sign, i64::from(offset))
     }
+}
+
+fn put_target<W: Write>(
+    writer: &mut Counted<W>,
+    so_far: Result<(), WriteFault>,
+    slot: i64,
+) -> Result<(), WriteFault>
+    ensures { WritesAfter W.contents writer.old so_far writer.new result
+        (operand_text (Operand.Target slot)) }
+{
+    let begun = put(writer, so_far, b"L");
+    put_signed(writer, begun, slot)
 }
 
 /// Writes the name of the label of a slot after what was written so far, unless that failed.

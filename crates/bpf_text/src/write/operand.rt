@@ -2,7 +2,8 @@
 ghost use Rattle.std.specs.Prelude.{◌≡◌, ◌≤◌, ◌+◌, ◌+ℤ◌, pos, Some, None, IfSome, IfNone};
 ghost use Rattle.bpf_isa.specs.Checker.{most_slots};
 ghost use Rattle.bpf_isa.specs.Programs.{target_of};
-ghost use Rattle.bpf_text.specs.Operands.{operand_of, operands_of, target_operand, IsSlot};
+ghost use Rattle.bpf_text.specs.Operands.{operand_of, operands_of};
+ghost use Rattle.bpf_text.specs.Scaffolding.Slots.{IsSlot};
 
 use bpf_isa::{Insn, Reg, Source};
 
@@ -19,8 +20,8 @@ pub enum Operand {
     Hexadecimal(u64),
     /// The memory at a register and an offset in bytes.
     Memory(Reg, i16),
-    /// The slot of a target.
-    Target(u64),
+    /// The slot of a target. One before slot 0 is negative: no program has it.
+    Target(i64),
 }
 
 /// The operands of an instruction.
@@ -32,10 +33,9 @@ pub enum Operands {
     Three(Operand, Operand, Operand),
 }
 
-/// The operands of an instruction in this slot; its target, if it has one, is a slot of 0 to 65,535.
+/// The operands of an instruction in this slot.
 pub fn operands_of(slot: usize, insn: &Insn) -> Operands
-    requires slot { slot ≤ most_slots }
-    requires target { IfSome (target_of slot insn.now) IsSlot }
+    requires { slot ≤ most_slots }
     ensures { result ≡ operands_of slot insn.now }
 {
     match *insn {
@@ -121,11 +121,10 @@ fn operand_of(source: Source) -> Operand
 
 /// The target that is the distance from the next slot.
 fn target(slot: usize, distance: i32) -> Operand
-    requires slot { slot ≤ most_slots }
-    requires target { IsSlot (pos (slot + 1) +ℤ distance) }
-    ensures { result ≡ target_operand (pos (slot + 1) +ℤ distance) }
+    requires { slot ≤ most_slots }
+    ensures { result ≡ Operand.Target (pos (slot + 1) +ℤ distance) }
 {
-    Operand::Target((slot as i64 + 1 + i64::from(distance)) as u64)
+    Operand::Target(slot as i64 + 1 + i64::from(distance))
 }
 
 /// The target of an instruction in this slot, if it has one: a slot of 0 to 65,535.

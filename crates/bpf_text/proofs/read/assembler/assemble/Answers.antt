@@ -1,7 +1,7 @@
 -- Both rounds.
 use Rattle.std.proofs.Common.{◌∙◌, ap}
 use Rattle.std.proofs.lemmas.Result.{IfOk-weaker, IfErr-weaker}
-use Rattle.bpf_text.specs.Listing.{after_first_round}
+use Rattle.bpf_text.specs.Scaffolding.Rounds.{after_first_round}
 use Rattle.bpf_text.proofs.Assembling.{is-listing, is-fault, fault-after, fault-before}
 use Rattle.bpf_text.proofs.read.assembler.assemble.Goals as goal
 

@@ -1,7 +1,7 @@
 use Rattle.std.proofs.Common.{◌≡◌, ◌≤◌, ◌+◌, length, map}
 use Rattle.counted_io.specs.Lines.{lines}
 use Rattle.bpf_text.specs.Scaffolding.Lines.{read_line}
-use Rattle.bpf_text.specs.Listing.{first_round, nothing}
+use Rattle.bpf_text.specs.Scaffolding.Rounds.{first_round, nothing}
 use Rattle.bpf_text.specs.Scaffolding.Labels.{labels_of, placed_of}
 use Rattle.bpf_text.proofs.read.first_round.first_round.Given as goal
 

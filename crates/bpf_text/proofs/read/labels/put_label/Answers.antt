@@ -1,7 +1,7 @@
 -- What an insertion changes.
 use Rattle.std.proofs.Common.{◌∙◌, ap, sym, Some, Option, List, ℕ}
 use Rattle.std.proofs.lemmas.Map.Text.{hash_map_updates_str}
-use Rattle.bpf_text.specs.Listing.{labels_with}
+use Rattle.bpf_text.specs.Scaffolding.Rounds.{labels_with}
 use Rattle.bpf_text.specs.Scaffolding.Labels.{labels_in}
 use Rattle.bpf_text.proofs.read.labels.put_label.Goals as goal
 

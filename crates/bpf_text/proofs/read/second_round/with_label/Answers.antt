@@ -1,7 +1,7 @@
 -- The distance, and then the instruction with it.
 use Rattle.std.proofs.Common.{◌∙◌, ap, sym, w32, SFits}
 use Rattle.std.proofs.lemmas.Int.{to_z-of_z}
-use Rattle.bpf_text.specs.Listing.{with_distance, with_label}
+use Rattle.bpf_text.specs.Scaffolding.Rounds.{with_distance, with_label}
 use Rattle.bpf_text.proofs.read.second_round.with_label.Goals as goal
 
 pub returns-in-Some : goal.returns-in-Some

@@ -4,13 +4,9 @@ use Rattle.std.proofs.lemmas.Option.{get_or_from_slice_get}
 use Rattle.std.proofs.lemmas.List.{append-nil}
 use Rattle.bpf_text.specs.Canonical.{is_target, lines_from, slot_lines}
 use Rattle.counted_io.proofs.Appending.{Writes-text}
-use Rattle.bpf_text.proofs.Listings.{target-IsSlot, lines_from-more}
+use Rattle.bpf_text.proofs.Listings.{lines_from-more}
 use Rattle.bpf_text.proofs.write.disassembler.disassemble.Goals as goal
 use Rattle.bpf_text.proofs.write.disassembler.disassemble.Goals.{in-Some, in_default}
-
-pub put_lines-so_far-requires-clause-target : goal.put_lines-so_far-requires-clause-target
-put_lines-so_far-requires-clause-target c =
-    target-IsSlot c.args.program.now c.invariant.ensures c.loop-slot.slot c.in-Some.insn (sym c.in-Some.ensures)
 
 pub loop-slot-preserved : goal.loop-slot-preserved
 loop-slot-preserved c =

@@ -1,4 +1,4 @@
--- The numbers of a listing and their ranges. bpfdb's own choice.
+-- Scaffolding: the numbers of a listing and their ranges, as they are read.
 use Rattle.std.specs.Prelude.{ℕ, ℤ, pos, neg_ℤ, ◌-◌, ◌%◌, ◌^◌, Bool, true, false, nat_lt, nat_le, Option, Some, None}
 use Rattle.std.specs.Int.{w32, cast_signed}
 use Rattle.bpf_text.specs.declared.read.number.Number.{Number}

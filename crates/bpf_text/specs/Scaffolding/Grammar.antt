@@ -1,7 +1,6 @@
--- How the operands of a listing are written, in words of their pieces. bpfdb's own choice.
-use Rattle.std.specs.Prelude.{ℕ, ◌≡◌, ◌≤◌, ◌⊎◌, Bool, true, false, List, ◌∷◌, ◌++◌, codes}
+-- Scaffolding: how operands are read, in words of their pieces.
+use Rattle.std.specs.Prelude.{ℕ, ◌≡◌, ◌⊎◌, Bool, true, false, List, ◌∷◌, ◌++◌, codes}
 use Rattle.std.specs.List.{list_all}
-use Rattle.bpf_isa.specs.Registers.{register_text}
 use Rattle.bpf_text.specs.declared.read.number.Number.{Number}
 use Rattle.bpf_text.specs.declared.read.term.OperandForm.{OperandForm}
 use Rattle.bpf_text.specs.declared.read.term.OperandForm.TheVariants as form
@@ -13,30 +12,22 @@ use Rattle.bpf_text.specs.declared.read.term.OperandForms.TheVariants.{Nothing, 
 use Rattle.counted_io.specs.Lines.{is_blank}
 use Rattle.counted_io.specs.Numerals.{IsNatural}
 use Rattle.bpf_text.specs.Characters.{is_name}
-use Rattle.bpf_text.specs.Tokens.{number_with}
-
--- A register: r and one of the numbers 0 to 10, without a zero in front.
-abbrev pub IsRegister : List ℕ → ℕ → Type 0
-IsRegister s reg = (reg ≤ 10) × (s ≡ register_text reg)
+pub use Rattle.bpf_text.specs.Written.{IsRegister, Padded}
+use Rattle.bpf_text.specs.Scaffolding.Tokens.{number_with}
 
 -- A number, directly behind a minus or without one.
 abbrev pub IsSigned : List ℕ → Number → Type 0
 IsSigned s number = ((number.negative ≡ false) × IsNatural s number.magnitude)
     ⊎ ((rest : List ℕ) × (s ≡ codes "-" ++ rest) × (number.negative ≡ true) × IsNatural rest number.magnitude)
 
--- A text with blanks on both sides.
-abbrev pub Padded : (List ℕ → Type 0) → List ℕ → Type 0
-Padded Is s = (front x back : List ℕ) × (s ≡ front ++ (x ++ back)) × (list_all is_blank front ≡ true) × Is x
-    × (list_all is_blank back ≡ true)
-
 -- What stands in brackets: a register, and then nothing, or a sign (43 is +, 45 is -) and a number.
-abbrev pub IsDisplaced : Bool → ℕ → List ℕ → ℕ → Number → Type 0
-IsDisplaced negative sign s base number = (a b : List ℕ) × (s ≡ a ++ sign ∷ b) × Padded (λ x. IsRegister x base) a
+abbrev pub ReadsDisplaced : Bool → ℕ → List ℕ → ℕ → Number → Type 0
+ReadsDisplaced negative sign s base number = (a b : List ℕ) × (s ≡ a ++ sign ∷ b) × Padded (λ x. IsRegister x base) a
     × Padded (λ x. IsNatural x number.magnitude) b × (number.negative ≡ negative)
 
-abbrev pub IsInside : List ℕ → ℕ → Number → Type 0
-IsInside s base number = (Padded (λ x. IsRegister x base) s × (number ≡ number_with false 0))
-    ⊎ IsDisplaced false 43 s base number ⊎ IsDisplaced true 45 s base number
+abbrev pub ReadsInside : List ℕ → ℕ → Number → Type 0
+ReadsInside s base number = (Padded (λ x. IsRegister x base) s × (number ≡ number_with false 0))
+    ⊎ ReadsDisplaced false 43 s base number ⊎ ReadsDisplaced true 45 s base number
 
 -- An operand that is written in a form.
 abbrev pub IsOperand : OperandForm → List ℕ → Term → Type 0
@@ -45,7 +36,7 @@ IsOperand form.Unsigned s (Num number) = (number.negative ≡ false) × IsNatura
 IsOperand form.Signed s (Num number) = IsSigned s number
 IsOperand form.Source s (Register reg) = IsRegister s reg
 IsOperand form.Source s (Num number) = IsSigned s number
-IsOperand form.Memory s (Memory base number) = (inside : List ℕ) × (s ≡ codes "[" ++ inside ++ codes "]") × IsInside inside base number
+IsOperand form.Memory s (Memory base number) = (inside : List ℕ) × (s ≡ codes "[" ++ inside ++ codes "]") × ReadsInside inside base number
 IsOperand form.Name s (Name name) = (name ≡ s) × (is_name s ≡ true)
 IsOperand f s t = ⊥
 

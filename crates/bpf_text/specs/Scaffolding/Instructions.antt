@@ -1,4 +1,4 @@
--- The instructions of a listing: how the operands of each mnemonic are written, and what they make. bpfdb's own choice.
+-- Scaffolding: how the operands of each mnemonic are read, and what instruction they make.
 use Rattle.std.specs.Prelude.{ℕ, ℤ, pos, List, Option, Some, None, option_map}
 use Rattle.bpf_isa.specs.declared.instruction.Insn.{Insn}
 use Rattle.bpf_isa.specs.declared.instruction.Insn.TheVariants as insn
@@ -12,7 +12,7 @@ use Rattle.bpf_text.specs.declared.read.term.OperandForms.TheVariants.{Nothing, 
 use Rattle.bpf_text.specs.declared.read.term.Term.{Term}
 use Rattle.bpf_text.specs.declared.read.term.Term.TheVariants.{Register, Number as Num, Memory, Name}
 use Rattle.bpf_text.specs.declared.read.term.Terms.{Terms}
-use Rattle.bpf_text.specs.Tokens.{unsigned, immediate, wide, offset}
+use Rattle.bpf_text.specs.Scaffolding.Tokens.{unsigned, immediate, wide, offset}
 
 -- How the operands of each mnemonic are written.
 abbrev pub forms_of : Mnemonic → OperandForms
