@@ -1,4 +1,4 @@
--- A forward command's loop: what holds after k steps, and what each exit comes to.
+-- A forward command's run: what it stands at after k steps, and what it comes to where it stops or is cut short.
 use Rattle.std.proofs.Common.{◌≡◌, ◌≢◌, ◌+◌, ◌-◌, ◌<◌, ◌≤◌, ◌==◌, ◌⊎◌, inl, inr, ℕ, zero, suc, Bool, true, false, List, [], Option, Some, None, Ok, Err, is_some, refl, sym, ap, subst, ◌∙◌, arith}
 use Rattle.std.proofs.lemmas.Bool.Decides.{nat_tests}
 use Rattle.std.specs.Prelude.{if◌then◌else◌, nat_lt, not, unwrap_or, IfOk, Result}
