@@ -1,19 +1,19 @@
 //! The texts of help. `clap` adds the usage line, the lists of commands and options, and the defaults; it doesn't wrap lines.
 
 /// The version, and the toolchain that proved it.
-pub const VERSION: &str = "0.9.0 (rattle-kit-13b logic dac8208d650f15bf)";
+pub const VERSION: &str = "0.9.0 (rattle-kit-13f logic dac8208d650f15bf)";
 
 /// What bpfdb is.
 pub const BPFDB: &str = "Runs BPF programs (RFC 9669) forwards and backwards";
 
 pub const BPFDB_LONG: &str = "Runs BPF programs (RFC 9669) forwards and backwards.
 
-FILE holds the program's instructions as raw little-endian words, its relocations
-applied; or, with --listing, a listing, which has an instruction on a line (without
---listing that is refused, mostly with C3 or C4). The context is the bytes that the
-program works on: their address is in r1, their number in r2.
+FILE holds a program: raw little-endian words, with relocations applied. `bpfdb link`
+makes them from an object of clang. With --listing FILE is a text, one instruction a
+line; without --listing such a text is refused, mostly with C3 or C4. The context is the
+bytes that the program works on: r1 has their address, r2 their number.
 
-Without any word bpfdb debugs a program of its own: mov r0, 42 and exit.";
+Without arguments bpfdb debugs a small program that is built in: mov r0, 42 and exit.";
 
 pub const BPFDB_EXAMPLE: &str = "Example:
   $ cat count.s
@@ -29,17 +29,17 @@ pub const BPFDB_EXAMPLE: &str = "Example:
 
 Exit status: 0; 1 where `run` ends in a fault or at the limit of steps; 2 where the
 command line or the program is refused, input or output fails, or memory runs out.
-Results go to standard output, and so does what a session refuses. What ends the program
-with 1 or 2 is told on standard error.";
+Results go to standard output, and so do the replies of a session, refusals among them.
+What ends bpfdb with status 1 or 2 is told on standard error.";
 
 pub const RUN: &str = "Runs a program to its end and prints r0";
 
 pub const RUN_LONG: &str = "Runs a program to its end and prints r0.
 
 Reads FILE, and the context from the file that -m names. Writes r0 to standard output, as
-0x and hexadecimal digits. A fault of the program, or the limit of steps, is one line on
-standard error, with the slot of the instruction; then the exit status is 1, and nothing
-is on standard output.";
+0x and hexadecimal digits. If the program faults or reaches the limit of steps, a line on
+standard error says so, with the slot of the instruction. Then the exit status is 1, and
+nothing is on standard output.";
 
 pub const RUN_EXAMPLE: &str = "Example:
   $ bpfdb run --steps 5000 --listing count.s
@@ -49,12 +49,21 @@ pub const DEBUG: &str = "Obeys commands from standard input, forwards and backwa
 
 pub const DEBUG_LONG: &str = "Obeys commands from standard input, forwards and backwards.
 
-Reads FILE, the context, and from standard input a script, a command a line:
-stepi, nexti, continue, finish; undo, reverse-stepi, reverse-nexti, reverse-continue,
-reverse-finish; redo; set, break, delete, watch, unwatch; info, x, disas, last-write;
-quit. Writes the reply to each to standard output. What is refused changes nothing, and
-the session goes on; the exit status is 0 then too, and where the program faulted. The
-manual, docs/COMMANDS.md, has them all.";
+Reads FILE, the context, and from standard input a script, one command a line:
+
+  forward        stepi, nexti, continue, finish
+  back           undo, reverse-stepi, reverse-nexti, reverse-continue or rc,
+                 reverse-finish
+  forward again  redo
+  edits          set reg, set mem, set cell, set pc
+  stops          break, delete, watch, unwatch
+  views          info regs, info frames, info breaks, info history, info trace, x,
+                 disas, last-write
+  end            quit
+
+Writes the reply to each command to standard output. A refused command gets a reply,
+changes nothing, and the session continues. The exit status is 0 then too, and where the
+program faulted. The manual, docs/COMMANDS.md, describes each command.";
 
 pub const DEBUG_EXAMPLE: &str = "Example:
   $ printf 'break 1\\ncontinue\\nundo\\n' | bpfdb debug --journal 1048576 count.bin
@@ -66,7 +75,7 @@ pub const ASM: &str = "Assembles a listing to raw words";
 
 pub const ASM_LONG: &str = "Assembles a listing to raw words.
 
-Reads the listing FILE (docs/LISTING.md is its grammar). Writes the words of its
+Reads the listing FILE (docs/LISTING.md has the grammar). Writes the words of its
 instructions, 8 or 16 bytes each, to standard output. The program isn't checked:
 `bpfdb check` does that.";
 
@@ -77,7 +86,7 @@ pub const DISASM: &str = "Writes a program as a listing";
 
 pub const DISASM_LONG: &str = "Writes a program as a listing.
 
-Reads and checks FILE. Writes its listing to standard output: a line an instruction, and
+Reads and checks FILE. Writes its listing to standard output: one instruction a line, and
 a label before each target of a jump or call. `bpfdb asm` gives the same words back.";
 
 pub const DISASM_EXAMPLE: &str = "Example:
@@ -92,8 +101,8 @@ pub const CHECK: &str = "Checks a program";
 pub const CHECK_LONG: &str = "Checks a program.
 
 Reads FILE. Writes to standard output how many instructions it has, and in how many slots
-of 8 bytes. The first thing that is wrong with it is one line on standard error, with its
-number and, where it has one, its slot or line; then the exit status is 2.";
+of 8 bytes. If something is wrong with it, the first fault is told in one line on standard
+error, with its number and, where it has one, its slot or line. Then the exit status is 2.";
 
 pub const CHECK_EXAMPLE: &str = "Example:
   $ bpfdb check --listing count.s
@@ -149,19 +158,18 @@ pub const JOURNAL: &str = "Bytes for moves that can be taken back, 1024 to 16777
 
 pub const JOURNAL_LONG: &str =
     "Size of the journal of moves that can be taken back, in bytes, 1024 to 16777216. Most
-steps take 7 or 16 of them. When it is full the oldest moves go. As many bytes again are
-taken for redo.
-Example: --journal 1048576";
+steps take 7 or 16 of them. When it is full the oldest moves are dropped. As many bytes
+again are taken for redo. Example: --journal 1048576";
 
 /// `--steps`.
-pub const STEPS: &str = "Most steps of a run, or of one command of a session, 1 to 1000000000";
+pub const STEPS: &str = "Most steps of a run, or of one forward command, 1 to 1000000000";
 
 pub const STEPS_LONG: &str =
-    "Most steps of a run, or of one command of a session, 1 to 1000000000. There a run ends
+    "Most steps of a run, or of one forward command, 1 to 1000000000. At this limit a run ends
 with exit status 1, and a command with the word limit. Example: --steps 5000";
 
 /// `--listing`.
-pub const LISTING: &str = "FILE is a listing (docs/LISTING.md), and is assembled first";
+pub const LISTING: &str = "FILE is a listing (docs/LISTING.md); it is assembled first";
 
 /// `--registers`.
 pub const REGISTERS: &str = "Machine that gdb takes this one for: x86, riscv or bpf";
