@@ -3,6 +3,7 @@
 # Its last line, where all passed, is that of rt ci.
 set -u
 cd "$(dirname "$0")/.." || exit 1
+. tests/machine.sh
 exec < /dev/null
 mkdir -p out || exit 1
 log=out/ci.log
@@ -27,22 +28,11 @@ part() {
     [ "$outcome" = passed ] || exit 1
 }
 
-# memory: the free memory, in gigabytes.
-memory() {
-    awk '/^MemAvailable/ { print int($2 / 1048576) }' /proc/meminfo
-}
-
-# alone: rt ci sets more memory aside for a check than it takes, and then leaves processors idle. A check of this repository takes 2 GB, the
-# greatest 4.2, so where there are 4 GB and more for each processor, each processor is to have one check.
+# alone: rt ci sets more memory aside for a check than it takes, and then leaves processors idle. Where there is room for a check a
+# processor, each processor is to have one.
 alone() {
-    processors=$(nproc)
-    limit=$(cat /sys/fs/cgroup/memory.max 2> /dev/null)
-    case $limit in
-    '' | max) ;;
-    *) [ "$((limit / 1073741824))" -ge "$((4 * processors))" ] || return ;;
-    esac
-    [ "$(memory)" -ge "$((4 * processors))" ] || return
-    RT_JOBS=$processors
+    [ "$(room)" -eq "$(nproc)" ] || return
+    RT_JOBS=$(nproc)
     export RT_JOBS
 }
 

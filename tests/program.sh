@@ -1,7 +1,7 @@
 #!/bin/sh
 # Tests of the built program (or of the one whose whole path is BPFDB) from outside: its output, its standard error and its exit
 # status, with input and output that fail, with each request for memory refused in turn, at its limits, and with programs that are
-# made to hurt or at random. A test that passes prints nothing; one that fails names itself and shows what differs. The tests stand in
+# made to hurt or at random, and how it is built. A test that passes prints nothing; one that fails names itself and shows what differs. The tests stand in
 # tests/program/, a file a part; with the names of parts (session, usage, ..) these alone are run. Expected texts are written out
 # there, by the manual, or stand in crates/bpfdb/stdout and tests/session/; the texts of help stand in tests/program/help/.
 set -u
@@ -22,7 +22,7 @@ trap leave EXIT
 trap 'exit 130' HUP INT TERM
 
 . "$parts/harness.sh"
-[ $# -gt 0 ] || set -- session usage refusals results objects remote gdb files streams calls memory faults limits hostile fuzz
+[ $# -gt 0 ] || set -- session usage refusals results objects remote gdb files streams calls memory faults limits hostile fuzz build
 for part in "$@"; do
     begin "$part"
 done
