@@ -1,6 +1,6 @@
 #!/bin/sh
-# The tables of crates and files in README.md and docs/ARCHITECTURE.md, made from crates.txt and from the first sentence
-# of each file, and the code in docs/CALLING.md. 'docs/tables.sh' writes them anew; 'docs/tables.sh --check' fails where a
+# The tables of crates and files in docs/ARCHITECTURE.md, made from crates.txt and from the first sentence of each file, and
+# the code in docs/CALLING.md with the crates that it uses. 'docs/tables.sh' writes them anew; 'docs/tables.sh --check' fails where a
 # page and the files differ.
 #
 # A table stands between the lines '<!-- docs/tables.sh: NAME -->' and '<!-- docs/tables.sh: end -->' of a page, a whole file of
@@ -125,6 +125,13 @@ page() {
         }
         /^<!-- docs\/tables\.sh: code [^ ]+ -->$/ {
             inside = 1
+            crates = ""
+            while ((getline line < $4) > 0) if (line ~ /^use /) {
+                split(line, words, /[ :]+/)
+                crates = crates " " words[2]
+            }
+            close($4)
+            print "A line of `crates.txt` for it: `yours:" crates "`.\n"
             print "```rust"
             while ((getline line < $4) > 0) print line
             close($4)
@@ -137,7 +144,7 @@ page() {
 list_crates > "$work/crates"
 { echo; list_files; } > "$work/files"
 stands_apart
-for file in README.md docs/ARCHITECTURE.md docs/CALLING.md; do
+for file in docs/ARCHITECTURE.md docs/CALLING.md; do
     page "$file" > "$work/page"
     if [ "${1:-}" = --check ]; then
         diff "$file" "$work/page" > "$work/diff" && continue
