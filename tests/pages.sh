@@ -1,7 +1,7 @@
 #!/bin/sh
 # What README.md and docs/ say of the repository, held against it: the tables made from the files, the files, functions,
 # clauses and definitions that a page names, the sessions that README and examples/README.md show, the commands and refusals of
-# the manual and its man page, and the toolchain that README names.
+# the manual and its man page, the commands and options of help, and the toolchain that README and `bpfdb --version` name.
 set -u
 cd "$(dirname "$0")/.." || exit 1
 work=$(mktemp -d) || exit 1
@@ -125,8 +125,8 @@ examples() {
     [ "$shown" -gt 0 ] || fault "examples/README.md shows no session"
 }
 
-# commands: the commands of bpfdb_commands's tables are the rows of docs/COMMANDS.md, in the same order.
-commands() {
+# grammar: the commands of bpfdb_commands's tables, a line each.
+grammar() {
     awk -F '"' '
         /^(settings|infos|commands) =$/ { table = substr($0, 1, length($0) - 2) }
         /^$/ { table = "" }
@@ -138,11 +138,61 @@ commands() {
                 else for (j = 1; j <= count[inner]; j++) print names["commands", i], names[inner, j]
             }
         }
-    ' crates/bpfdb_commands/specs/Commands.antt > "$work/commands"
+    ' crates/bpfdb_commands/specs/Commands.antt
+}
+
+# commands: those of the grammar are the rows of docs/COMMANDS.md, in the same order, and the words of README's table and of the table in the
+# help of `bpfdb debug`, in any order.
+commands() {
+    grammar > "$work/commands"
+    [ -s "$work/commands" ] || fault 'crates/bpfdb_commands/specs/Commands.antt has no commands'
     awk -F ' *\\| *' '/^## / { inside = $0 == "## COMMANDS" } inside && NF > 3 && $2 ~ /`/ { print $2 }' docs/COMMANDS.md |
-        quoted | sed 's/ *\[*[A-Z].*//' > "$work/rows"
-    [ -s "$work/commands" ] && cmp -s "$work/commands" "$work/rows" && return
-    fault "docs/COMMANDS.md has other commands than crates/bpfdb_commands/specs/Commands.antt, or another order"
+        quoted | sed 's/ *\[*[A-Z].*//' | cmp -s "$work/commands" - ||
+        fault "docs/COMMANDS.md has other commands than crates/bpfdb_commands/specs/Commands.antt, or another order"
+    sort "$work/commands" > "$work/sorted"
+    awk '/^## / { inside = $0 == "## The commands" } inside && /^\|/' README.md | quoted | sort > "$work/found"
+    same_words README.md commands
+    awk '/^  [a-z ]*[a-z]   */ { table = 1 } table && /^$/ { exit } table { sub(/^  ([a-z]+ )*[a-z]*   */, ""); gsub(/,? or |, */, "\n"); print }' \
+        tests/program/help/debug.txt | sed 's/^ *//' | grep . | sort > "$work/found"
+    same_words tests/program/help/debug.txt commands
+}
+
+# same_words PAGE NAME: fails where the words of $work/found, which PAGE has, aren't those of $work/sorted.
+same_words() {
+    diff "$work/sorted" "$work/found" > "$work/diff" && return
+    fault "$1 has other $2 ('>') than bpfdb ('<'):"
+    cat "$work/diff"
+}
+
+# options: those that the command line is made of are the rows of docs/COMMANDS.md, and the items of help and of the man page; and each
+# subcommand's help has those that are said to be for it.
+options() {
+    {
+        sed -n 's/.*\.long("\([a-z]*\)").*/--\1/p; s/.*\.short(.\([a-zA-Z]\).).*/-\1/p' crates/bpfdb_cli/src/command_line.rt
+        printf '%s\n' -h --help -V --version
+    } | sort -u > "$work/sorted"
+    awk -F ' *\\| *' '/^## / { inside = $0 == "## OPTIONS" } inside && NF > 3 && $2 ~ /`/ { print $2 }' docs/COMMANDS.md |
+        quoted | sed 's/ .*//' | sort -u > "$work/found"
+    same_words docs/COMMANDS.md options
+    cat tests/program/help/*.txt | awk '/^Options:/ { inside = 1 } /^[A-Z]/ && !/^Options:/ { inside = 0 } inside' |
+        grep -o -E '^ +(-[a-zA-Z], )?--[a-z]+' | tr -d ' ' | tr ',' '\n' | sort -u > "$work/found"
+    same_words 'tests/program/help' options
+    sed -n '/^\.SH "OPTIONS"/,/^\.SH "COMMANDS"/p' docs/bpfdb.1 | grep '^.fB' | sed 's/\\f[BR]//g; s/\\-/-/g' |
+        grep -o -E '(^|, )--?[a-zA-Z]+' | tr -d ', ' | sort -u > "$work/found"
+    same_words docs/bpfdb.1 options
+    awk -F ' *\\| *' '/^## / { inside = $0 == "## OPTIONS" } inside && $2 ~ /`--/ {
+        match($2, /--[a-z]+/)
+        n = split($4, names, ", ")
+        for (i = 1; i <= n; i++) if (names[i] ~ /^[a-z]+$/ && names[i] != "each") print names[i], substr($2, RSTART, RLENGTH)
+    }' docs/COMMANDS.md | sort > "$work/sorted"
+    for text in tests/program/help/*.txt; do
+        case $text in */bpfdb.txt | *-short.txt) continue ;; esac
+        awk -v name="$(basename "$text" .txt)" '/^Options:/ { inside = 1 } inside && match($0, /^ +(-[a-z], )?--[a-z]+/) {
+            match($0, /--[a-z]+/)
+            if (substr($0, RSTART, RLENGTH) != "--help") print name, substr($0, RSTART, RLENGTH)
+        }' "$text"
+    done | sort > "$work/found"
+    same_words 'tests/program/help' 'options of subcommands'
 }
 
 # refusals: each number and text of the crates' refusals is a row of docs/COMMANDS.md, and no other is. Of variants of one number the first counts.
@@ -167,6 +217,25 @@ refusals() {
     cat "$work/diff"
 }
 
+# libraries: README names each library of the toolchain that crates.txt lists.
+libraries() {
+    sed 's/#.*//; /:/!d; s/:.*//; s/ .*//' crates.txt > "$work/own"
+    sed 's/#.*//; s/.*://' crates.txt | tr ' ' '\n' | grep . | sort -u | grep -v -x -F -f "$work/own" | while read -r library; do
+        grep -q "^- Trusted:.*\`$library\`" README.md || fault "README.md doesn't name $library among what is trusted"
+    done
+}
+
+# toolchain: README.md and `bpfdb --version` name the one that `rt version` does, and `bpfdb --version` the changelog's version.
+toolchain() {
+    kit=$(rt version)
+    grep -q -F "\`$kit\`" README.md || fault "README.md doesn't name the toolchain, $kit"
+    version=$(sed -n 's/^## \([0-9][0-9.]*\).*/\1/p' CHANGELOG.md | head -n 1)
+    grep -q -F "\"$version ($kit)\"" crates/bpfdb_cli/src/help.rt ||
+        fault "crates/bpfdb_cli/src/help.rt tells another version than $version ($kit)"
+    others=$(files | grep -v -x -e README.md -e crates/bpfdb_cli/src/help.rt -e 'tests/.*' | xargs grep -l 'rattle-kit-' /dev/null)
+    [ -z "$others" ] || fault "more pages than README.md name the toolchain: $others"
+}
+
 sh docs/tables.sh --check || fault 'tables of files'
 names_of_files
 contracts
@@ -174,11 +243,9 @@ definitions
 session
 examples
 commands
+options
+libraries
 refusals
 sh docs/man.sh --check || fault 'the man page'
-version=$(sed -n 's/^## \([0-9][0-9.]*\).*/\1/p' CHANGELOG.md | head -n 1)
-grep -q -F "\"$version ($(rt version))\"" crates/bpfdb_cli/src/help.rt || fault "crates/bpfdb_cli/src/help.rt tells another version than $version ($(rt version))"
-for page in README.md docs/PROMISES.md; do
-    grep -q -F "$(rt version)" "$page" || fault "$page does not name the toolchain, $(rt version)"
-done
+toolchain
 [ ! -s "$work/faults" ]
