@@ -1,19 +1,21 @@
 # bpfdb in gdb 13 or later: 'source bpfdb-gdb.py' before 'target remote | bpfdb gdb FILE'.
 #
-# It shows frames of local calls and instructions as bpfdb has them, and adds the commands bpf-undo and last-write. What it asks of bpfdb
-# are lines of its script, by gdb's 'monitor'; docs/COMMANDS.md has them.
+# It shows frames of local calls and instructions as bpfdb has them, and adds the commands bpf-undo, bpf-redo and last-write. What it asks
+# of bpfdb are lines of its script, by gdb's 'monitor'; docs/COMMANDS.md has them.
 import gdb
 import gdb.disassembler
 import gdb.unwinder
 
-# Where r0 to r10 stand among the registers of the machine that gdb takes this one for.
-STANDING = {
+# Where pc, and r0 to r10, stand among the registers of the machine that gdb takes this one for.
+COUNTERS = {"i386:x86-64": "rip", "riscv:rv64": "pc"}
+REGISTERS = {
     "i386:x86-64": "rax rdx rcx rbx rsi rdi rbp rsp r8 r9 r10".split(),
     "riscv:rv64": "zero ra sp gp tp t0 t1 t2 fp s1 a0".split(),
 }
-COUNTERS = {"i386:x86-64": "rip", "riscv:rv64": "pc"}
-FIRST_POINTER = 0x200000200
-POINTER_STRIDE = 0x400
+# r10 at depth 0, and what a call adds to it.
+FIRST_POINTER, POINTER_STRIDE = 0x200000200, 0x400
+SLOT = 8
+WIDE_LOAD = b"\x18"
 
 
 def ask(line):
@@ -21,10 +23,38 @@ def ask(line):
     return gdb.execute("monitor " + line, to_string=True)
 
 
+def forget():
+    """Lets gdb forget what it has read of the machine: registers, memory, and the old values of watches."""
+    gdb.execute("maintenance flush register-cache", to_string=True)
+    gdb.execute("maintenance flush dcache", to_string=True)
+    for stop in gdb.breakpoints():
+        if stop.type in (gdb.BP_WATCHPOINT, gdb.BP_HARDWARE_WATCHPOINT) and stop.enabled:
+            stop.enabled = False
+            stop.enabled = True
+
+
 class FrameId:
+    """What tells frames apart: where a frame lies, and where its function begins."""
+
     def __init__(self, sp, pc):
         self.sp = sp
         self.pc = pc
+
+
+def function_start(counter):
+    """Where the function of an instruction begins, 0 where no debug information says so."""
+    block = gdb.block_for_pc(int(counter))
+    while block and block.superblock and not block.superblock.is_static:
+        block = block.superblock
+    return gdb.Value(block.start if block else 0).cast(counter.type)
+
+
+def returning(depth):
+    """Where the call that made this depth returns to, and the registers that come back then, with their values."""
+    lines = ask("info frames").splitlines()
+    deepest = int(lines[0].split()[1])
+    words = lines[1 + deepest - depth].split()
+    return int(words[2]), [word.split("=") for word in words[3:]]
 
 
 class Unwinder(gdb.unwinder.Unwinder):
@@ -35,31 +65,29 @@ class Unwinder(gdb.unwinder.Unwinder):
 
     def __call__(self, pending):
         name = pending.architecture().name()
-        if name not in STANDING:
+        if name not in REGISTERS:
             return None
-        registers = STANDING[name]
-        top = pending.read_register(registers[10])
-        pointer = int(top)
+        registers = REGISTERS[name]
+        pointer = pending.read_register(registers[10])
         counter = pending.read_register(COUNTERS[name])
-        if pointer < FIRST_POINTER or (pointer - FIRST_POINTER) % POINTER_STRIDE:
+        depth, rest = divmod(int(pointer) - FIRST_POINTER, POINTER_STRIDE)
+        if depth < -1 or rest:
             return None
-        depth = (pointer - FIRST_POINTER) // POINTER_STRIDE
         # (gdb takes stacks to grow down, and these grow up)
-        frame = pending.create_unwind_info(FrameId(gdb.Value(2 * FIRST_POINTER - pointer).cast(top.type), counter))
-        if depth == 0:
-            # The outermost: its caller would be itself, where gdb stops.
+        place = gdb.Value(2 * FIRST_POINTER - int(pointer)).cast(pointer.type)
+        frame = pending.create_unwind_info(FrameId(place, function_start(counter)))
+        if depth > 0:
+            word = pending.read_register(registers[0]).type
+            slot, saved = returning(depth)
+            frame.add_saved_register(COUNTERS[name], gdb.Value(SLOT * slot).cast(counter.type))
+            for register, value in saved:
+                frame.add_saved_register(registers[int(register[1:])], gdb.Value(int(value, 16)).cast(word))
+        else:
             frame.add_saved_register(COUNTERS[name], counter)
-            frame.add_saved_register(registers[10], top)
-            return frame
-        lines = ask("info frames").splitlines()
-        deepest = int(lines[0].split()[1])
-        words = lines[1 + deepest - depth].split()
-        word = pending.read_register(registers[0]).type
-        frame.add_saved_register(COUNTERS[name], gdb.Value(8 * int(words[2])).cast(counter.type))
-        frame.add_saved_register(registers[10], gdb.Value(pointer - POINTER_STRIDE).cast(word))
-        for saved in words[3:]:
-            register, value = saved.split("=")
-            frame.add_saved_register(registers[int(register[1:])], gdb.Value(int(value, 16)).cast(word))
+        # The outermost frame has no caller. Where a file of symbols is loaded gdb knows by its entry, and asks only for a frame that differs.
+        # Elsewhere it stops at one that doesn't.
+        steps = 1 if depth > 0 or depth == 0 and gdb.current_progspace().filename else 0
+        frame.add_saved_register(registers[10], gdb.Value(int(pointer) - steps * POINTER_STRIDE).cast(pointer.type))
         return frame
 
 
@@ -70,28 +98,35 @@ class Disassembler(gdb.disassembler.Disassembler):
         super().__init__("bpfdb")
 
     def __call__(self, info):
-        if info.architecture.name() not in STANDING:
+        if info.architecture.name() not in REGISTERS:
             return None
-        try:
-            code = info.read_memory(1)
-            text = ask("disas %d 1" % (info.address // 8)).split(":", 1)
-        except gdb.error:
-            return None
-        if len(text) < 2:
-            return None
-        return gdb.disassembler.DisassemblerResult(16 if code[0] == b"\x18" else 8, text[1].strip())
+        length = 2 * SLOT if bytes(info.read_memory(1)) == WIDE_LOAD else SLOT
+        slot, rest = divmod(info.address, SLOT)
+        place, found, text = ask("disas %d 1" % slot).partition(": ")
+        if rest or place != str(slot) or not found:
+            return gdb.disassembler.DisassemblerResult(SLOT, "(no instruction)")
+        return gdb.disassembler.DisassemblerResult(length, text.strip())
 
 
-class Undo(gdb.Command):
-    """bpf-undo [COUNT]: takes back the last COUNT commands, edits too."""
+class Mover(gdb.Command):
+    """A command of bpfdb that moves."""
 
-    def __init__(self):
-        super().__init__("bpf-undo", gdb.COMMAND_RUNNING)
+    def __init__(self, name, line):
+        super().__init__(name, gdb.COMMAND_RUNNING)
+        self.line = line
 
     def invoke(self, argument, from_tty):
-        print(ask("undo " + argument), end="")
-        gdb.execute("maintenance flush register-cache", to_string=True)
+        print(ask(self.line + " " + argument), end="")
+        forget()
         gdb.execute("frame", from_tty)
+
+
+class Undo(Mover):
+    """bpf-undo [COUNT]: takes back the last COUNT commands that moved, edits too."""
+
+
+class Redo(Mover):
+    """bpf-redo [COUNT]: makes the next COUNT moves again that were taken back, edits too."""
 
 
 class LastWrite(gdb.Command):
@@ -107,7 +142,10 @@ class LastWrite(gdb.Command):
 
 gdb.unwinder.register_unwinder(None, Unwinder(), replace=True)
 gdb.disassembler.register_disassembler(Disassembler())
-Undo()
+Undo("bpf-undo", "undo")
+Redo("bpf-redo", "redo")
 LastWrite()
+# A fault stops gdb by a signal, and there is nothing to pass one on to.
+gdb.execute("handle SIGSEGV SIGILL SIGINT nopass", to_string=True)
 # The stop reply doesn't say which byte a watch saw, so gdb compares by itself, step by step.
 gdb.execute("set can-use-hw-watchpoints 0")
