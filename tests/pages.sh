@@ -1,6 +1,6 @@
 #!/bin/sh
 # What README.md and docs/ say of the repository, held against it: the tables made from the files, the files, functions,
-# clauses and definitions that a page names, the sessions that README and examples/README.md show, the commands and refusals of
+# clauses and definitions that a page names, the sessions that README and examples/README.md show, the C of docs/GDB.md, the commands and refusals of
 # the manual and its man page, the commands and options of help, and the toolchain that README and `bpfdb --version` name.
 set -u
 cd "$(dirname "$0")/.." || exit 1
@@ -125,6 +125,13 @@ examples() {
     [ "$shown" -gt 0 ] || fault "examples/README.md shows no session"
 }
 
+# listing: the C that docs/GDB.md shows is the end of the example's file.
+listing() {
+    awk '/^```/ { if (inside) exit; inside = 1; next } inside' docs/GDB.md > "$work/shown"
+    [ -s "$work/shown" ] && tail -n "$(wc -l < "$work/shown")" examples/overrun/overrun.c | cmp -s - "$work/shown" ||
+        fault 'docs/GDB.md shows another program than examples/overrun/overrun.c'
+}
+
 # grammar: the commands of bpfdb_commands's tables, a line each.
 grammar() {
     awk -F '"' '
@@ -242,6 +249,7 @@ contracts
 definitions
 session
 examples
+listing
 commands
 options
 libraries

@@ -1,85 +1,98 @@
-# A real gdb over `bpfdb gdb`: transcripts, held against what stands here. Without a gdb of version 13 or later nothing is tested, and a line says so.
+# A real gdb over `bpfdb gdb`: sessions, held against transcripts. Without a gdb of version 13 or later, or python3 for bpfdb-symbols, nothing
+# is tested, and a line says so.
+#
+# A transcript is a session as a terminal shows it, without its empty lines: what is typed stands behind '(gdb) ', the answer in the lines
+# that follow. The transcripts stand in tests/program/gdb/, and docs/GDB.md has one. In those of the interface for editors, which ends each
+# answer by a line '(gdb)', what is typed stands behind '> '.
 
-# transcript NAME: the commands in the file `commands`, given to gdb, are answered by the lines of the file `lines`.
+# transcript GDB FILE: what is typed in a transcript is answered by the lines that stand there.
 transcript() {
-    timeout 60 "$gdb" -nx -batch -x commands < /dev/null > found/out 2> found/err
-    sed '/^$/d' found/out > found/lines
-    count=$((count + 1))
-    cmp -s lines found/lines && return
-    complain "$1"
-    diff -a lines found/lines
-    cat found/err
+    sed '/^$/d' "$2" > wanted/lines
+    # (each command is told by `echo` before it is obeyed)
+    awk '
+        !/^\(gdb\) / { next }
+        { typed = substr($0, 7); told = typed; gsub(/\\/, "\\\\", told) }
+        { printf "echo (gdb) %s\\n\n%s\n", told, typed }
+    ' "$2" | installed > typed
+    talk "$1" -ex 'set prompt' -ex 'set width 0' -ex 'set confirm off'
+    hold "$1: $2"
 }
 
-gdb=
-for name in gdb gdb-multiarch; do
-    if command -v $name > /dev/null && $name -nx -batch -ex 'python import gdb.disassembler' > /dev/null 2>&1; then
-        gdb=$name
-        break
-    fi
-done
+# editor GDB FILE: the same of the interface for editors. The folders of files are left out of its answers.
+editor() {
+    grep -v '^> ' "$2" > wanted/lines
+    sed -n 's/^> //p' "$2" | installed > typed
+    talk "$1" --interpreter=mi
+    sed -i 's|fullname="[^"]*/|fullname="|g; /^&"source /d' found/lines
+    hold "$1, as an editor: $2"
+}
 
-if [ -z "$gdb" ]; then
-    echo "tests/program/gdb.sh: no gdb of version 13 or later, so none is tested"
+# installed: what comes in, with the folder of this repository for that of bpfdb-gdb.py where it is installed.
+installed() {
+    sed "/^source /s|/usr/local/share/bpfdb/|$top/share/|"
+}
+
+# talk GDB OPTION..: gdb on what is typed. It finds the program as bpfdb.
+talk() {
+    gdb=$1
+    shift
+    PATH=$PWD/bin:$PATH LC_ALL=C DEBUGINFOD_URLS='' timeout 120 "$gdb" -nx -q "$@" < typed 2>&1 | sed 's/ *$//; /^$/d' > found/lines
+}
+
+# hold NAME: holds the lines found against those that are wanted.
+hold() {
+    count=$((count + 1))
+    cmp -s wanted/lines found/lines && return
+    complain "$1"
+    echo "  ('<' wanted, '>' found):"
+    diff -a wanted/lines found/lines
+}
+
+# serves GDB: whether there is such a gdb, and of version 13 or later.
+serves() {
+    command -v "$1" > /dev/null && "$1" -nx -batch -ex 'python import gdb.disassembler' > /dev/null 2>&1
+}
+
+# story: the session that docs/GDB.md shows in gdb, with an end.
+story() {
+    awk '/^```/ { if (inside) exit; getline; if (/^\(gdb\) /) inside = 1 } inside' "$top/docs/GDB.md"
+    printf '(gdb) kill\n[Inferior 1 (Remote target) killed]\n'
+}
+
+if ! command -v python3 > /dev/null || ! serves gdb && ! serves gdb-multiarch; then
+    echo 'tests/program/gdb.sh: no gdb of version 13 or later, or no python3, so no session in gdb is tested'
 else
+    mkdir bin
+    ln -s "$program" bin/bpfdb
     printf 'loop: add r0, 1\njlt r0, 3, loop\nstxdw [r10-8], r0\nexit\n' > count.s
-    cat > commands << END
-source $top/share/bpfdb-gdb.py
-target remote | $program gdb --listing count.s
-stepi
-print \$r0
-reverse-stepi
-print \$r0
-break *16
-continue
-info registers r0 r1 pc rip
-set \$r0 = 7
-print \$r0
-bpf-undo
-print \$r0
-watch *(unsigned char *) 0x2000001f8
-continue
-x/1xb 0x2000001f8
-last-write 0x2000001f8
-reverse-continue
-x/3i 0
-delete
-continue
-reverse-continue
-detach
-END
-    cat > lines << 'END'
-0x0000000000000000 in ?? ()
-0x0000000000000008 in ?? ()
-$1 = 1
-0x0000000000000000 in ?? ()
-$2 = 0
-Breakpoint 1 at 0x10
-Breakpoint 1, 0x0000000000000010 in ?? ()
-r0             0x3                 3
-r1             0x0                 0
-pc             0x10                0x10
-rip            0x10                0x10
-$3 = 7
-1 back; done; at 2: stxdw [r10-8], r0
-#0  0x0000000000000010 in ?? ()
-$4 = 3
-Watchpoint 2: *(unsigned char *) 0x2000001f8
-Watchpoint 2: *(unsigned char *) 0x2000001f8
-Old value = 0 '\000'
-New value = 3 '\003'
-0x0000000000000018 in ?? ()
-0x2000001f8:	0x03
-changed 1 moves back: 0x0 to 0x3
-Breakpoint 1, 0x0000000000000010 in ?? ()
-   0x0:	add r0, 1
-   0x8:	jlt r0, 3, L0
-=> 0x10:	stxdw [r10-8], r0
-No more reverse-execution history.
-0x0000000000000018 in ?? ()
-No more reverse-execution history.
-0x0000000000000000 in ?? ()
-[Inferior 1 (Remote target) detached]
-END
-    transcript "gdb's commands, there and back"
+    printf 'mov r1, 1\nldxdw r0, [r1+0]\nexit\n' > access.s
+    printf 'callf f\nexit\nf: callf f\nexit\n' > deep.s
+    printf 'loop: add r0, 1\nja loop\n' > loop.s
+    object calls
+    "$program" link calls.o > calls.bin
+    "$top/share/bpfdb-symbols" calls.o calls.sym
+    cp "$top/examples/overrun/overrun.c" "$top/examples/overrun/context.bin" .
+    bytes overrun.o $(sed 's/../& /g' "$top/examples/overrun/object.hex")
+    "$program" link overrun.o > overrun.bin
+    same 'examples/overrun/program.bin is linked from its object' "$top/examples/overrun/program.bin" overrun.bin
+    "$top/share/bpfdb-symbols" overrun.o overrun.sym
+    "$top/share/bpfdb-symbols" --registers riscv overrun.o overrun.riscv
+    story > story.txt
+    [ "$(wc -l < story.txt)" -gt 2 ] || complain 'docs/GDB.md shows no session'
+
+    sessions=$parts/gdb
+    if serves gdb; then
+        for name in steps stops edits faults calls limits source sections; do
+            transcript gdb "$sessions/$name.txt"
+        done
+        transcript gdb story.txt
+        editor gdb "$sessions/editor.txt"
+    else
+        echo 'tests/program/gdb.sh: no gdb of version 13 or later, so only gdb-multiarch is tested'
+    fi
+    if serves gdb-multiarch; then
+        transcript gdb-multiarch "$sessions/riscv.txt"
+    else
+        echo 'tests/program/gdb.sh: no gdb-multiarch of version 13 or later, so --registers riscv is not tested'
+    fi
 fi
