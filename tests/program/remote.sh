@@ -1,12 +1,164 @@
-# gdb: packets, as gdb sends them, and the answers. The sums are of the bodies, by hand.
+# gdb: packets, as gdb sends them, and the answers; connections that end, and that fail.
 
+# packet BODY: the packet of a body.
+packet() {
+    printf '$%s#%02x' "$1" "$(printf '%s' "$1" | od -An -v -tu1 | awk '{ for (i = 1; i <= NF; i++) sum += $i } END { print sum % 256 }')"
+}
+
+# requests NAME ARGUMENT..: a connection that is asked what the lines of standard input have before a bar, is answered what they have behind it.
+requests() {
+    name=$1
+    shift
+    : > script
+    : > wanted/packets
+    while IFS='|' read -r request answer; do
+        packet "$request" >> script
+        { printf '+'; packet "$answer"; } >> wanted/packets
+    done
+    run "$@"
+    check "$name" 0 "$(cat wanted/packets)" ''
+}
+
+# answered NAME STATUS OUTPUT ERRORS: holds what a connection is answered that has no rows, and whose status is the last one.
+answered() {
+    echo $? > found/status
+    check "$@"
+}
+
+# The sums of these are of the bodies, by hand.
 printf 'mov r0, 42\nexit\n' > answer.s
-row 'a step, the way back, and the end' 0 '$s#73$bs#d5$bs#d5$c#63$D#44' \
-    '+$T05#b9+$T05#b9+$T05replaylog:begin;#02+$T05replaylog:end;#34+$OK#9a' '' gdb --listing answer.s
+row 'a step, the way back, and the end' 0 '$s#73$bs#d5$bs#d5$D#44' '+$T05#b9+$T05#b9+$T05replaylog:begin;#02+$OK#9a' '' gdb --listing answer.s
 row 'nothing' 0 '' '' '' gdb --listing answer.s
 row 'a damaged packet, and one behind it' 0 '$s#00$?#3f' '-+$T05#b9' '' gdb --listing answer.s
+row 'sums that are none' 0 '$?#3g$?#g3$?##3f$?#3f' '---+$T05#b9' '' gdb --listing answer.s
+row 'the last answer again' 0 '$s#73-' '+$T05#b9$T05#b9' '' gdb --listing answer.s
+row 'noise' 0 'noise#3f+\003$?#3f++' '+$T05#b9' '' gdb --listing answer.s
 row 'nothing is answered behind the end of a connection' 0 '$D#44$?#3f' '+$OK#9a' '' gdb --listing answer.s
+row 'the end without an answer' 0 '$k#6b$?#3f' '+' '' gdb --listing answer.s
+row 'no more acknowledgements' 0 '$QStartNoAckMode#b0$?#3f$?#00' '+$OK#9a$T05#b9-' '' gdb --listing answer.s
 row 'a limit of steps' 0 '$c#63' '+$T02#b6' '' gdb --listing --steps 1 answer.s
+for cut in '$' '$?' '$?#' '$?#3'; do
+    row "a packet that is cut: $cut" 0 "\$s#73$cut" '+$T05#b9' '' gdb --listing answer.s
+done
+{ printf '$'; head -c 16385 /dev/zero | tr '\0' 'p'; printf '#70$?#3f'; } > script
+run gdb --listing answer.s
+check 'a packet that is too long' 0 '-+$T05#b9' ''
 printf 'frob\n' > wrong.s
 row 'a refused listing' 2 '$?#3f' '' 'refused A1 at line 1: unknown mnemonic\n' gdb --listing wrong.s
 row 'a refused journal' 2 '$?#3f' '' 'refused J1: journal size out of range\n' gdb --journal 1 --listing answer.s
+
+# The numbers of errors are those of refusals, in hexadecimal, 02 where a request's arguments are wrong.
+requests 'registers' gdb --registers bpf --listing answer.s <<'ROWS'
+g|000000000000000000000000000000000000000000000000000000000000000000000000000000000000000000000000000000000000000000000000000000000000000000000000000000000000000000020000020000000000000000000000
+p0|0000000000000000
+pa|0002000002000000
+pb|0000000000000000
+p17|xxxxxxxxxxxxxxxx
+p|E02
+pg|E02
+P0=2a00000000000000|OK
+p0|2a00000000000000
+P9=ffffffffffffffff|OK
+p9|ffffffffffffffff
+Pa=0000000000000000|E07
+pa|0002000002000000
+Pb=0800000000000000|OK
+pb|0800000000000000
+Pb=0400000000000000|E02
+Pb=1000000000000000|E08
+pb|0800000000000000
+P0=2a|E02
+P0|E02
+P17=0000000000000000|E02
+p0|2a00000000000000
+ROWS
+requests 'memory' gdb --listing answer.s <<'ROWS'
+m0,8|b70000002a000000
+m8,20|9500000000000000
+m10,1|E06
+m2000001fe,4|0000
+m200000200,1|E06
+mffffffffffffffff,1|E06
+m2000001f8,0|E06
+m2000001f8|E02
+M2000001f8,2:0703|OK
+m2000001f8,4|07030000
+M2000001ff,2:0000|E06
+M0,1:00|E06
+M2000001f8,2:07|E02
+M2000001f8,1:0|E02
+m2000001f8,4|07030000
+ROWS
+requests 'stops' gdb --listing answer.s <<'ROWS'
+Z0,8,1|OK
+Z0,8,1|E0b
+Z0,10,1|E08
+Z0,4,1|E02
+Z0,8|E02
+c|T05
+pb|0800000000000000
+z0,8,1|OK
+z0,8,1|E0b
+Z2,2000001f8,1|OK
+Z2,2000001f8,1|E0b
+Z2,10,1|E06
+z2,2000001f8,1|OK
+z2,2000001f8,1|E0b
+ROWS
+requests 'what is not known' gdb --listing answer.s <<'ROWS'
+|
+vMustReplyEmpty|
+qC|
+qfThreadInfo|
+X0,0:|
+Z1,8,1|
+Z3,8,1|
+Z4,8,1|
+R00|
+!|
+i|
+bx|
+ROWS
+requests 'what gdb expects, and lines of a script' gdb --listing answer.s <<'ROWS'
+Hg0|OK
+qAttached|1
+qRcmd,7265672072|726566757365642051313a20756e6b6e6f776e20636f6d6d616e640a
+qRcmd,7|E02
+qRcmd,7g|E02
+qRcmd,73657420726567207230203961|726566757365642051323a2077726f6e6720617267756d656e740a
+qRcmd,73657420726567207230203961g|E02
+qRcmd,|OK
+vKill;1|OK
+ROWS
+
+# Lines of 30 bytes and of the digits of their slots: 256 are 8,338 bytes, and 8,192 fit a packet. 251 are 8,173.
+{ yes 'stdw [r10-256], -2147483648' | head -n 256; echo exit; } > long.s
+requests 'a reply that is too long' gdb --listing long.s <<'ROWS'
+qRcmd,6469736173203020323536|E10
+?|T05
+ROWS
+packet qRcmd,6469736173203020323531 > script
+run gdb --listing long.s
+[ "$(wc -c < found/out)" = $((1 + 2 * 8173 + 4)) ] || complain 'a reply that is nearly too long'
+
+# A connection that ends has status 0, one that fails status 2.
+: > found/out
+"$program" gdb --listing answer.s < . > found/out 2> found/err
+answered 'input that is none' 2 '' 'cannot read input\n'
+"$program" gdb --listing answer.s <&- > found/out 2> found/err
+answered 'closed input' 0 '' ''
+printf '$?#3f' > script
+: > found/out
+if [ -c /dev/full ]; then
+    "$program" gdb --listing answer.s < script > /dev/full 2> found/err
+    answered 'an output that is full' 2 '' 'cannot write output\n'
+fi
+"$program" gdb --listing answer.s < script >&- 2> found/err
+answered 'a closed output' 2 '' 'cannot write output\n'
+mkfifo pipe
+: < pipe &
+exec 5> pipe
+wait
+"$program" gdb --listing answer.s < script >&5 2> found/err
+answered 'an output whose reader has left' 2 '' 'cannot write output\n'
+exec 5>&-
