@@ -3,6 +3,9 @@
 
 PREFIX = /usr/local
 DESTDIR =
+BIN = $(DESTDIR)$(PREFIX)/bin
+MAN = $(DESTDIR)$(PREFIX)/share/man/man1
+SHARE = $(DESTDIR)$(PREFIX)/share/bpfdb
 
 # Proves and builds the debugger, where that is not done yet, and shows the session of tests/session/script.
 run:
@@ -13,27 +16,21 @@ run:
 test:
 	@sh tests/gate.sh
 
-# Installs the program, its shell for a terminal, its man page and what gdb loads, below DESTDIR. It proves and builds the program where that is not done yet.
+# Installs the program, its shell for a terminal, its man page and what belongs to gdb, below DESTDIR. It proves and builds the program where that is not done yet.
 install:
 	@sh tests/build.sh
-	@mkdir -p "$(DESTDIR)$(PREFIX)/bin" "$(DESTDIR)$(PREFIX)/share/man/man1"
-	@cp crates/bpfdb/out/bpfdb "$(DESTDIR)$(PREFIX)/bin/bpfdb"
-	@chmod 755 "$(DESTDIR)$(PREFIX)/bin/bpfdb"
-	@cp share/bpfdb-shell "$(DESTDIR)$(PREFIX)/bin/bpfdb-shell"
-	@chmod 755 "$(DESTDIR)$(PREFIX)/bin/bpfdb-shell"
-	@cp docs/bpfdb.1 "$(DESTDIR)$(PREFIX)/share/man/man1/bpfdb.1"
-	@chmod 644 "$(DESTDIR)$(PREFIX)/share/man/man1/bpfdb.1"
-	@mkdir -p "$(DESTDIR)$(PREFIX)/share/bpfdb"
-	@cp share/bpfdb-gdb.py "$(DESTDIR)$(PREFIX)/share/bpfdb/bpfdb-gdb.py"
-	@chmod 644 "$(DESTDIR)$(PREFIX)/share/bpfdb/bpfdb-gdb.py"
-	@cp share/bpfdb-symbols "$(DESTDIR)$(PREFIX)/bin/bpfdb-symbols"
-	@chmod 755 "$(DESTDIR)$(PREFIX)/bin/bpfdb-symbols"
-	@echo "installed $(DESTDIR)$(PREFIX)/bin/bpfdb, bpfdb-shell and bpfdb-symbols beside it, and the man page; gdb's part is $(DESTDIR)$(PREFIX)/share/bpfdb/bpfdb-gdb.py"
+	@mkdir -p "$(BIN)" "$(MAN)" "$(SHARE)"
+	@cp crates/bpfdb/out/bpfdb share/bpfdb-shell share/bpfdb-symbols "$(BIN)"
+	@chmod 755 "$(BIN)/bpfdb" "$(BIN)/bpfdb-shell" "$(BIN)/bpfdb-symbols"
+	@cp docs/bpfdb.1 "$(MAN)"
+	@cp share/bpfdb-gdb.py "$(SHARE)"
+	@chmod 644 "$(MAN)/bpfdb.1" "$(SHARE)/bpfdb-gdb.py"
+	@echo "installed $(BIN)/bpfdb, bpfdb-shell and bpfdb-symbols beside it, and the man page; in gdb: source $(SHARE)/bpfdb-gdb.py"
 
 # Takes them away again.
 uninstall:
-	@rm -f "$(DESTDIR)$(PREFIX)/bin/bpfdb" "$(DESTDIR)$(PREFIX)/bin/bpfdb-shell" "$(DESTDIR)$(PREFIX)/bin/bpfdb-symbols" "$(DESTDIR)$(PREFIX)/share/man/man1/bpfdb.1" \
-	    "$(DESTDIR)$(PREFIX)/share/bpfdb/bpfdb-gdb.py"
+	@rm -f "$(BIN)/bpfdb" "$(BIN)/bpfdb-shell" "$(BIN)/bpfdb-symbols" "$(MAN)/bpfdb.1" "$(SHARE)/bpfdb-gdb.py"
+	@[ ! -d "$(SHARE)" ] || rmdir "$(SHARE)"
 
 # Makes the tables of the pages anew, and holds the pages against the repository.
 pages:

@@ -22,7 +22,7 @@ trap leave EXIT
 trap 'exit 130' HUP INT TERM
 
 . "$parts/harness.sh"
-[ $# -gt 0 ] || set -- session usage refusals results objects remote symbols gdb files streams calls memory faults limits hostile fuzz build
+[ $# -gt 0 ] || set -- session usage refusals results objects remote symbols gdb install files streams calls memory faults limits hostile fuzz build
 for part in "$@"; do
     begin "$part"
 done
