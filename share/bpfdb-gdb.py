@@ -18,6 +18,11 @@ SLOT = 8
 WIDE_LOAD = b"\x18"
 
 
+def is_bpf(architecture):
+    """Whether a machine is one that bpfdb has described: it has r0 beside its own registers."""
+    return architecture.name() in REGISTERS and architecture.registers().find("r0") is not None
+
+
 def ask(line):
     """What bpfdb answers to a line of its script."""
     return gdb.execute("monitor " + line, to_string=True)
@@ -64,9 +69,9 @@ class Unwinder(gdb.unwinder.Unwinder):
         super().__init__("bpfdb")
 
     def __call__(self, pending):
-        name = pending.architecture().name()
-        if name not in REGISTERS:
+        if not is_bpf(pending.architecture()):
             return None
+        name = pending.architecture().name()
         registers = REGISTERS[name]
         pointer = pending.read_register(registers[10])
         counter = pending.read_register(COUNTERS[name])
@@ -98,7 +103,7 @@ class Disassembler(gdb.disassembler.Disassembler):
         super().__init__("bpfdb")
 
     def __call__(self, info):
-        if info.architecture.name() not in REGISTERS:
+        if not is_bpf(info.architecture):
             return None
         length = 2 * SLOT if bytes(info.read_memory(1)) == WIDE_LOAD else SLOT
         slot, rest = divmod(info.address, SLOT)
@@ -108,17 +113,27 @@ class Disassembler(gdb.disassembler.Disassembler):
         return gdb.disassembler.DisassemblerResult(length, text.strip())
 
 
-class Mover(gdb.Command):
+class Asker(gdb.Command):
+    """A command that is answered by bpfdb. What gdb refuses of it is said as of a command of gdb's own."""
+
+    def invoke(self, argument, from_tty):
+        try:
+            self.obey(argument)
+        except gdb.error as fault:
+            raise gdb.GdbError(str(fault))
+
+
+class Mover(Asker):
     """A command of bpfdb that moves."""
 
     def __init__(self, name, line):
         super().__init__(name, gdb.COMMAND_RUNNING)
         self.line = line
 
-    def invoke(self, argument, from_tty):
+    def obey(self, argument):
         print(ask(self.line + " " + argument), end="")
         forget()
-        gdb.execute("frame", from_tty)
+        gdb.execute("frame")
 
 
 class Undo(Mover):
@@ -129,13 +144,13 @@ class Redo(Mover):
     """bpf-redo [COUNT]: makes the next COUNT moves again that were taken back, edits too."""
 
 
-class LastWrite(gdb.Command):
+class LastWrite(Asker):
     """last-write EXPRESSION: tells how many moves ago the byte at an address was changed."""
 
     def __init__(self):
         super().__init__("last-write", gdb.COMMAND_DATA)
 
-    def invoke(self, argument, from_tty):
+    def obey(self, argument):
         address = int(gdb.parse_and_eval(argument)) % 2**64
         print(ask("last-write 0x%x" % address), end="")
 
