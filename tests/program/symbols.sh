@@ -68,20 +68,20 @@ else
     convert --registers bpf overrun.o none.sym
     grep -q "invalid choice: 'bpf'" found/err || complain 'bpfdb-symbols --registers bpf'
 
-    # A program (2) for x86-64 (62), or for RISC-V of 64 bits (243), whose bytes are as many.
+    # A program (2) for x86-64 (62), or for RISC-V of 64 bits (243). It has as many bytes where it tells no sizes of stacks.
     cp overrun.o before
     converted overrun.o overrun.sym
     same 'bpfdb-symbols leaves the object' before overrun.o
     [ "$(field overrun.sym 16)" = $((2 + 65536 * 62 + 4294967296)) ] || complain 'bpfdb-symbols: a program for x86-64'
-    [ "$(wc -c < overrun.sym)" = "$length" ] || complain 'bpfdb-symbols: the size of its file'
     converted --registers riscv overrun.o overrun.sym
     [ "$(field overrun.sym 16)" = $((2 + 65536 * 243 + 4294967296)) ] || complain 'bpfdb-symbols: a program for RISC-V'
     converted --section b two.o two.sym
     converted --section .text calls.o calls.sym
     converted calls.o calls.sym
+    [ "$(wc -c < calls.sym)" = "$(wc -c < calls.o)" ] || complain 'bpfdb-symbols: the size of its file'
 
     # The object that the clang which is here makes of the same C, where it knows BPF, has the same fault.
-    if clang -g -O1 -target bpf -c -o compiled.o "$top/examples/overrun/overrun.c" 2> /dev/null; then
+    if clang -g -O1 -fstack-size-section -target bpf -c -o compiled.o "$top/examples/overrun/overrun.c" 2> /dev/null; then
         converted compiled.o compiled.sym
         "$program" link compiled.o > compiled.bin
         "$program" run -m "$top/examples/overrun/context.bin" compiled.bin 2>&1 | grep -q '^fault access 0x10077656d at ' ||
