@@ -160,7 +160,6 @@ gdb.disassembler.register_disassembler(Disassembler())
 Undo("bpf-undo", "undo")
 Redo("bpf-redo", "redo")
 LastWrite()
-# A fault stops gdb by a signal, and there is nothing to pass one on to.
-gdb.execute("handle SIGSEGV SIGILL SIGINT nopass", to_string=True)
-# The stop reply doesn't say which byte a watch saw, so gdb compares by itself, step by step.
-gdb.execute("set can-use-hw-watchpoints 0")
+# bpfdb watches four bytes; gdb compares what is wider, and further watches, by itself, step by step.
+gdb.execute("set remote hardware-watchpoint-limit 1")
+gdb.execute("set remote hardware-watchpoint-length-limit 4")

@@ -6,14 +6,17 @@ packet() {
 }
 
 # requests NAME ARGUMENT..: a connection that is asked what the lines of standard input have before a bar, is answered what they have behind it.
+# What stands behind a further bar is a line that gdb is to show before.
 requests() {
     name=$1
     shift
     : > script
     : > wanted/packets
-    while IFS='|' read -r request answer; do
+    while IFS='|' read -r request answer line; do
         packet "$request" >> script
-        { printf '+'; packet "$answer"; } >> wanted/packets
+        printf '+' >> wanted/packets
+        [ -z "$line" ] || packet "O$(printf '%s\n' "$line" | od -An -v -tx1 | tr -d ' \n')" >> wanted/packets
+        packet "$answer" >> wanted/packets
     done
     run "$@"
     check "$name" 0 "$(cat wanted/packets)" ''
@@ -99,11 +102,31 @@ c|T05
 pb|0800000000000000
 z0,8,1|OK
 z0,8,1|E0b
-Z2,2000001f8,1|OK
-Z2,2000001f8,1|E0b
+Z2,2000001f8,2|OK
+Z2,2000001f9,1|E0b
+Z2,200000000,3|E0a
 Z2,10,1|E06
-z2,2000001f8,1|OK
+Z2,200000000,5|E02
+z2,2000001f8,2|OK
 z2,2000001f8,1|E0b
+ROWS
+printf 'stw [r10-8], 7\nldxb r0, [r0+0]\nexit\n' > watched.s
+requests 'ways to go on, a watch, a fault and the end' gdb --listing watched.s <<'ROWS'
+vCont?|vCont;c;C;s;S
+Z2,2000001f8,2|OK
+vCont;c:1|T05watch:00000002000001f8;
+vCont;s:1|T0b|fault access 0x0 at 1
+S0b|T05replaylog:end;|fault access 0x0 at 1
+bs|T05
+bc|T05watch:00000002000001f8;
+pb|0000000000000000
+z2,2000001f8,2|OK
+P0=f801000002000000|OK
+C05|T05replaylog:end;|exited at 2: r0 0x7
+c|T05replaylog:end;|exited at 2: r0 0x7
+?|T05replaylog:end;
+bc|T05replaylog:begin;
+vCont;t|E02
 ROWS
 requests 'what is not known' gdb --listing answer.s <<'ROWS'
 |
