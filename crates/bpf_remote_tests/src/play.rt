@@ -1,5 +1,5 @@
-//! Connections that are played. Each row of a table is the body of a packet and that of its answer, with a bar between; a row that
-//! begins with `> ` is a line of a script and its reply.
+//! Connections that are played. Each row of a table is the body of a packet and that of its answer, with a bar between, and before the
+//! answer the line that gdb shows, if there is one; a row that begins with `> ` is a line of a script and its reply.
 use bpf_isa::{MapTable, check};
 use bpf_journal::RingKeeper;
 use bpf_machine::Cpu;
@@ -9,7 +9,7 @@ use std::alloc::Global;
 use std::process::Abort;
 
 /// The machine of a program in hexadecimal digits, without a context.
-fn machine(rt: &impl Abort, alloc: Global, program: &str) -> Cpu {
+fn machine(rt: &impl Abort, alloc: Global, program: &[u8]) -> Cpu {
     let bytes = hex::decode(alloc, program).ok().expect(rt, "no digits");
     let program = check(alloc, &bytes, &MapTable::empty())
         .ok()
@@ -28,6 +28,16 @@ fn session_over(rt: &impl Abort, alloc: Global, cpu: Cpu, limit: u64) -> Session
 
 /// The session of a program in hexadecimal digits, with a limit of steps.
 pub fn session(rt: &impl Abort, alloc: Global, program: &str, limit: u64) -> Session<RingKeeper> {
+    session_of(rt, alloc, program.as_bytes(), limit)
+}
+
+/// The same of digits as bytes.
+pub fn session_of(
+    rt: &impl Abort,
+    alloc: Global,
+    program: &[u8],
+    limit: u64,
+) -> Session<RingKeeper> {
     session_over(rt, alloc, machine(rt, alloc, program), limit)
 }
 
@@ -105,6 +115,28 @@ fn append_answer(rt: &impl Abort, body: &mut Vec<u8>, row: &str, answer: &str) {
     }
 }
 
+/// The packets of an answer: a line that gdb shows comes before a bar.
+fn append_answers(rt: &impl Abort, alloc: Global, packets: &mut Vec<u8>, row: &str, answer: &str) {
+    let mut text = Vec::new(alloc);
+    match answer.split_once('|') {
+        Some((line, answer)) => {
+            append_line(rt, alloc, packets, line);
+            append_answer(rt, &mut text, row, answer);
+        }
+        None => append_answer(rt, &mut text, row, answer),
+    }
+    append_packet(rt, packets, &text);
+}
+
+/// The packet of a line that gdb shows.
+fn append_line(rt: &impl Abort, alloc: Global, packets: &mut Vec<u8>, line: &str) {
+    let mut text = Vec::new(alloc);
+    append(rt, &mut text, b"O");
+    append_hex(rt, &mut text, line.as_bytes());
+    append_hex(rt, &mut text, b"\n");
+    append_packet(rt, packets, &text);
+}
+
 /// Plays a table's rows to a session, a connection a row, of a gdb that knows BPF.
 pub fn plays(rt: &impl Abort, alloc: Global, session: &mut Session<RingKeeper>, table: &str) {
     plays_as(rt, alloc, Layout::Bpf, session, table);
@@ -140,9 +172,7 @@ fn play_row(
     append_packet(rt, &mut stream, &body);
     let mut wanted = Vec::new(alloc);
     append(rt, &mut wanted, b"+");
-    let mut text = Vec::new(alloc);
-    append_answer(rt, &mut text, request, answer);
-    append_packet(rt, &mut wanted, &text);
+    append_answers(rt, alloc, &mut wanted, request, answer);
     let found = told_as(rt, alloc, gdb, session, &stream);
     check_bytes(rt, &found, &wanted, request);
 }

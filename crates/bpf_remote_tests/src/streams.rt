@@ -1,5 +1,9 @@
 //! Streams of bytes, and what is told to them.
 use crate::play::{append, check_bytes, session, told};
+use bpf_journal::RingKeeper;
+use bpf_remote::{Layout, serve};
+use bpf_session::{Counted, RunFault, Session};
+use paced_io::Paced;
 use std::alloc::Global;
 use std::process::Abort;
 
@@ -31,7 +35,7 @@ const STREAMS: [(&[u8], &[u8]); 22] = [
     (b"$k#6b$?#3f", b"+"),
     (
         b"$qSupported:swbreak+#8b$Z0,8,1#4b$c#63",
-        b"+$PacketSize=4000;ReverseStep+;ReverseContinue+;swbreak+;QStartNoAckMode+#c4+$OK#9a+$T05swbreak:;#1d",
+        b"+$PacketSize=4000;ReverseStep+;ReverseContinue+;swbreak+;vContSupported+;QStartNoAckMode+#fa+$OK#9a+$T05swbreak:;#1d",
     ),
 ];
 
@@ -42,18 +46,28 @@ fn streams_are_answered(rt: HostRuntime) {
     }
 }
 
-/// A step, a breakpoint where gdb understands the word, and the way back: three packets of 5, 21 and 5 bytes.
-const CUT: &[u8] = b"$s#73$qSupported:swbreak+#8b$bs#d5";
+/// A step, what gdb understands, the rest of the program, and the way back: packets of 5, 23, 5 and 6 bytes.
+const CUT: &[u8] = b"$s#73$qSupported:swbreak+#8b$c#63$bs#d5";
 
 /// What is told of the first so many bytes.
 fn told_of(count: usize) -> &'static [u8] {
     match count {
         0..5 => b"",
         5..28 => b"+$T05#b9",
-        28..34 =>
-            b"+$T05#b9+$PacketSize=4000;ReverseStep+;ReverseContinue+;swbreak+;QStartNoAckMode+#c4",
+        28..33 =>
+            b"+$T05#b9+$PacketSize=4000;ReverseStep+;ReverseContinue+;swbreak+;vContSupported+;QStartNoAckMode+#fa",
+        33..39 =>
+            b"+$T05#b9+$PacketSize=4000;ReverseStep+;ReverseContinue+;swbreak+;vContSupported+;QStartNoAckMode+#fa+$O65786974656420617420313a20723020307832610a#25$T05replaylog:end;#34",
         _ =>
-            b"+$T05#b9+$PacketSize=4000;ReverseStep+;ReverseContinue+;swbreak+;QStartNoAckMode+#c4+$T05#b9",
+            b"+$T05#b9+$PacketSize=4000;ReverseStep+;ReverseContinue+;swbreak+;vContSupported+;QStartNoAckMode+#fa+$O65786974656420617420313a20723020307832610a#25$T05replaylog:end;#34+$T05#b9",
+    }
+}
+
+/// Where the machine then stands.
+fn pc_of(count: usize) -> u16 {
+    match count {
+        0..5 => 0,
+        _ => 1,
     }
 }
 
@@ -67,6 +81,68 @@ fn a_stream_may_end_anywhere(rt: HostRuntime) {
             told_of(count),
         );
     }
+}
+
+/// What becomes of the stream where a call of its reader fails, or of the writer; each passes a byte at a time.
+fn served(
+    session: &mut Session<RingKeeper>,
+    read_fails: u64,
+    write_fails: u64,
+    told: &mut Vec<u8>,
+) -> Option<RunFault> {
+    let mut reader = Counted::new(Paced::failing(CUT, 1, read_fails));
+    let mut writer = Counted::new(Paced::failing(told, 1, write_fails));
+    serve(Layout::Bpf, session, &mut reader, &mut writer).err()
+}
+
+#[test]
+fn a_read_may_fail_anywhere(rt: HostRuntime) {
+    for count in 0..CUT.len() + 1 {
+        check_read(&rt, rt.alloc(), count);
+    }
+}
+
+/// Stops unless the bytes before a failed read are answered.
+fn check_read(rt: &impl Abort, alloc: Global, count: usize) {
+    let mut session = session(rt, alloc, ANSWER, 1000);
+    let mut told = Vec::new(alloc);
+    let fault = served(&mut session, (count as u64).saturating_add(1), 0, &mut told);
+    assert!(rt; matches!(fault, Some(RunFault::Read)));
+    check_bytes(rt, &told, told_of(count), "a failed read");
+    assert!(rt; session.cpu().pc() == pc_of(count));
+}
+
+/// How many calls there are to the writer: a byte each, and a flush behind each of four answers.
+fn write_calls() -> usize {
+    told_of(CUT.len()).len() + 4
+}
+
+#[test]
+fn a_write_may_fail_anywhere(rt: HostRuntime) {
+    for count in 0..write_calls().saturating_add(1) {
+        check_write(&rt, rt.alloc(), count);
+    }
+}
+
+/// Stops unless a beginning of the answers is told before a failed write, or all where none fails.
+fn check_write(rt: &impl Abort, alloc: Global, count: usize) {
+    let mut session = session(rt, alloc, ANSWER, 1000);
+    let mut told = Vec::new(alloc);
+    let fault = served(&mut session, 0, (count as u64).saturating_add(1), &mut told);
+    let whole = told_of(CUT.len());
+    if count == write_calls() {
+        assert!(rt; fault.is_none());
+        check_bytes(rt, &told, whole, "no failed write");
+    } else {
+        assert!(rt; matches!(fault, Some(RunFault::Write)));
+        check_beginning(rt, &told, whole, count);
+    }
+}
+
+/// Stops unless bytes are a beginning of others: one less for each call, but for up to four that flushed.
+fn check_beginning(rt: &impl Abort, found: &[u8], whole: &[u8], count: usize) {
+    assert!(rt; whole.starts_with(found));
+    assert!(rt; found.len() <= count && count <= found.len() + 4);
 }
 
 /// Stops unless this is told to a stream.
