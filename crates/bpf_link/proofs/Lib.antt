@@ -6,3 +6,4 @@ pub mod Inversions
 pub mod LaidOut
 pub mod Relocated
 pub mod Laid
+pub mod InOrder

@@ -5,6 +5,7 @@ use Rattle.bpf_link.specs.declared.layout.FileHeader.{FileHeader}
 use Rattle.bpf_link.specs.declared.layout.SectionHeader.{SectionHeader}
 use Rattle.bpf_link.specs.declared.layout.SymbolEntry.{SymbolEntry}
 use Rattle.bpf_link.specs.declared.layout.RelocationEntry.{RelocationEntry}
+use Rattle.bpf_link.specs.declared.layout.MapDefinition.{MapDefinition}
 
 -- Eight bytes as a number.
 abbrev pub u64_at : List ℕ → ℕ → ℕ
@@ -43,3 +44,7 @@ symbol_entry object at = record { kind = slice_index object (at + 4) % 16; secti
 -- A relocation, Elf64_Rel: r_offset, and of r_info the type (its low half) and the symbol (its high half).
 abbrev pub relocation_entry : List ℕ → ℕ → RelocationEntry
 relocation_entry object at = record { offset = u64_at object at; kind = u32_at object (at + 8); symbol = u32_at object (at + 12) }
+
+-- The definition of a map, struct bpf_map_def of the section `maps`, as far as it is read: type, key_size, value_size, max_entries.
+abbrev pub map_definition : List ℕ → ℕ → MapDefinition
+map_definition object at = record { kind = u32_at object at; key_size = u32_at object (at + 4); value_size = u32_at object (at + 8); entries = u32_at object (at + 12) }

@@ -6,3 +6,4 @@ pub mod Plans
 pub mod Patches
 pub mod Links
 pub mod Laid
+pub mod Shapes

@@ -1,5 +1,5 @@
 -- What a program is put together from: the section that is asked for, `.text` where that calls it, the symbols and the maps.
-use Rattle.std.specs.Prelude.{◌≤◌, ◌<◌, ◌≡◌, ℕ, zero, suc, ◌+◌, ◌*◌, ◌/◌, ◌%◌, ◌-◌, ◌==◌, nat_le, nat_lt, Bool, true, false, ◌&&◌, ◌||◌, if◌then◌else◌, List, Result, Ok, Err, length, slice_index}
+use Rattle.std.specs.Prelude.{◌≤◌, ◌<◌, ◌≡◌, ℕ, zero, suc, ◌+◌, ◌*◌, ◌/◌, ◌%◌, ◌-◌, ◌==◌, nat_le, nat_lt, Bool, true, false, ◌&&◌, ◌||◌, if◌then◌else◌, List, Result, Ok, Err, length, codes, slice_index}
 use Rattle.bpf_isa.specs.Checker.{most_slots}
 use Rattle.bpf_link.specs.declared.fault.LinkFault.{LinkFault}
 use Rattle.bpf_link.specs.declared.fault.LinkFault.TheVariants.{NoSection, ManySections, Section, TooLong, RunsOff, SymbolTable, ManyMapSections, RelocationTable}
@@ -15,7 +15,7 @@ use Rattle.bpf_link.specs.declared.plan.Part.{Part}
 use Rattle.bpf_link.specs.declared.plan.Plan.{Plan}
 use Rattle.bpf_link.specs.Layout.{symbol_entry, relocation_entry}
 use Rattle.bpf_link.specs.Header.{provided}
-use Rattle.bpf_link.specs.Sections.{section_at, relocations_of}
+use Rattle.bpf_link.specs.Sections.{section_at, is_named, relocations_of}
 
 -- What follows a value, unless there is a fault.
 abbrev pub after : {A B : Type 0} → Result A LinkFault → (A → Result B LinkFault) → Result B LinkFault
@@ -109,13 +109,27 @@ is_closed object slots =
     let last = slice_index object (slots.at + 8 * (slots.count - 1)) in
     nat_lt 0 slots.count && ((last == 0x95) || ((last == 0x05) || (last == 0x06)))
 
+-- Definitions of maps stand in a section: SHT_PROGBITS, called `maps` (what is called `.maps` holds none), and it lies in the file.
+abbrev pub has_definitions : List ℕ → Sections → SectionHeader → Bool
+has_definitions object sections section =
+    (section.kind == 1) && (is_named object sections section (codes "maps") && nat_le (section.offset + section.size) (length object))
+
+-- The bytes of the section of maps, where they are definitions.
+abbrev pub definitions_in : List ℕ → Sections → Found → Entries
+definitions_in object sections Nothing = no_entries
+definitions_in object sections (Only i) =
+    if has_definitions object sections (section_at object sections i)
+    then record { at = (section_at object sections i).offset; count = (section_at object sections i).size }
+    else no_entries
+definitions_in object sections Several = no_entries
+
 abbrev pub plan_with : List ℕ → Sections → Roles → Entries → ℕ → ℕ → Result Plan LinkFault
 plan_with object sections roles symbols maps chosen =
     after (part_of object sections roles.symbols chosen 0) (λ code.
     provided (is_closed object code.slots) RunsOff
     (after (text_in object sections roles.symbols symbols code roles.text) (λ text.
     provided (nat_le (code.slots.count + text.slots.count) most_slots) TooLong
-    (Ok (record { symbols = symbols; maps = maps; code = code; text = text })))))
+    (Ok (record { symbols = symbols; maps = maps; definitions = definitions_in object sections roles.maps; code = code; text = text })))))
 
 abbrev pub plan_of : List ℕ → Sections → Roles → Bool → Result Plan LinkFault
 plan_of object sections roles unnamed =
@@ -136,6 +150,7 @@ pub record LiesPart (object : List ℕ) (part : Part) : Type 0 where
 -- All that a plan names lies in the file. The slots of `.text` follow those of the section that is asked for.
 pub record LiesPlan (object : List ℕ) (plan : Plan) : Type 0 where
   pub symbols : Lies object 24 plan.symbols
+  pub definitions : Lies object 1 plan.definitions
   pub code : LiesPart object plan.code
   pub text : LiesPart object plan.text
   pub begins : plan.code.first ≡ 0

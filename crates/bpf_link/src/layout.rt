@@ -1,6 +1,6 @@
 //! The parts of an object: its header, and the entries of its tables.
 ghost use Rattle.std.specs.Prelude.{◌≡◌, ◌≤◌, ◌+◌, length};
-ghost use Rattle.bpf_link.specs.Layout.{file_header, section_header, symbol_entry, relocation_entry};
+ghost use Rattle.bpf_link.specs.Layout.{file_header, section_header, symbol_entry, relocation_entry, map_definition};
 
 use crate::fields::{u16_at, u32_at, u64_at};
 
@@ -68,6 +68,19 @@ pub struct RelocationEntry {
     pub symbol: u32,
 }
 
+/// The definition of a map: how `struct bpf_map_def` begins.
+#[derive(Clone, Copy)]
+pub struct MapDefinition {
+    /// 2 for an array.
+    pub kind: u32,
+    /// The size of a key in bytes.
+    pub key_size: u32,
+    /// The size of a value in bytes.
+    pub value_size: u32,
+    /// How many entries it has at most.
+    pub entries: u32,
+}
+
 /// The header of a file.
 pub fn file_header(object: &[u8]) -> FileHeader
     requires { 64 ≤ length object.now }
@@ -123,5 +136,18 @@ pub fn relocation_entry(object: &[u8], at: usize) -> RelocationEntry
         offset: u64_at(object, at),
         kind: u32_at(object, at + 8),
         symbol: u32_at(object, at + 12),
+    }
+}
+
+/// The definition of a map at a place in the file.
+pub fn map_definition(object: &[u8], at: usize) -> MapDefinition
+    requires { at + 16 ≤ length object.now }
+    ensures { result ≡ map_definition object.now at }
+{
+    MapDefinition {
+        kind: u32_at(object, at),
+        key_size: u32_at(object, at + 4),
+        value_size: u32_at(object, at + 8),
+        entries: u32_at(object, at + 12),
     }
 }

@@ -9,6 +9,7 @@ mod linker;
 mod patch;
 mod plan;
 mod sections;
+mod shapes;
 mod words;
 
 pub use fault::LinkFault;

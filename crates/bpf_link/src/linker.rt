@@ -4,14 +4,17 @@ ghost use Rattle.bpf_isa.specs.Checker.{IsAccepted};
 ghost use Rattle.bpf_link.specs.Laid.{IsLaid};
 ghost use Rattle.bpf_link.specs.Links.{IsLinkFault, MemoryOr, linked, planned, program_of, plain_maps};
 ghost use Rattle.bpf_link.specs.Plans.{LiesPlan};
+ghost use Rattle.bpf_link.specs.Shapes.{HasShapes};
 ghost use Rattle.bpf_link.specs.declared.plan.Plan.{Plan};
 
 use crate::fault::LinkFault;
 use crate::header::open;
 use crate::plan::{Plan, plan_of};
 use crate::sections::roles_of;
+use crate::shapes::shapes_of;
 use crate::words::{maps_of, words_of};
-use bpf_isa::{LoadFault, MapTable, check};
+use arrayvec::ArrayVec;
+use bpf_isa::{LoadFault, MapShape, MapTable, check};
 use std::alloc::Global;
 
 /// A program that was made of an object.
@@ -21,6 +24,8 @@ pub struct Linked {
     pub words: Vec<u8>,
     /// How many maps the object has, at most 16. Their numbers follow their places in the section of maps.
     pub maps: usize,
+    /// Their shapes, in the order of their numbers: those that the object's section `maps` gives them, of any size. None unless it defines each as an array.
+    pub shapes: ArrayVec<MapShape, 16>,
 }
 
 /// The most bytes of a section's name.
@@ -54,13 +59,14 @@ fn planned(object: &[u8], name: &[u8]) -> Result<Plan, LinkFault>
     plan_of(object, &sections, &roles, name.is_empty())
 }
 
-/// The words of a plan, and how many maps there are.
+/// The words of a plan, how many maps there are, and their shapes.
 fn program_of(alloc: Global, object: &[u8], plan: &Plan) -> Result<Linked, LinkFault>
     requires { LiesPlan object.now plan.now }
     ensures ok { IfOk result (λ program. program_of object.now plan.now ≡ Ok (program.words.items, program.maps)) }
     ensures err { IfErr result (MemoryOr (program_of object.now plan.now)) }
     ensures laid { IfOk result (λ program. IsLaid object.now plan.now program.words.items) }
     ensures few { IfOk result (λ program. program.maps ≤ 16) }
+    ensures shapes { IfOk result (λ program. HasShapes object.now plan.now program.shapes.items) }
 {
     let maps = match maps_of(object, plan) {
         Ok(maps) => maps,
@@ -70,6 +76,7 @@ fn program_of(alloc: Global, object: &[u8], plan: &Plan) -> Result<Linked, LinkF
         Ok(words) => Ok(Linked {
             words,
             maps: maps.len(),
+            shapes: shapes_of(object, &plan.definitions, maps.as_slice()),
         }),
         Err(fault) => Err(fault),
     }
@@ -85,6 +92,8 @@ pub fn link(alloc: Global, object: &[u8], section: &[u8]) -> Result<Linked, Link
     ensures ok { IfOk result (λ program. linked object.now section.now ≡ Ok (program.words.items, program.maps)) }
     ensures laid { IfOk result (λ program. (plan : Plan)
         × (planned object.now section.now ≡ Ok plan) × IsLaid object.now plan program.words.items) }
+    ensures shapes { IfOk result (λ program. (plan : Plan)
+        × (planned object.now section.now ≡ Ok plan) × HasShapes object.now plan program.shapes.items) }
     ensures accepted { IfOk result (λ program. IsAccepted program.words.items (plain_maps program.maps)) }
     ensures err { IfErr result (IsLinkFault object.now section.now) }
 {

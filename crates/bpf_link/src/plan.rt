@@ -1,14 +1,14 @@
 //! What a program is put together from.
 ghost use Rattle.std.specs.Prelude.{◌≡◌, ◌≤◌, ◌<◌, ◌==◌, ◌⊎◌, length, IfOk, ℕ, Bool};
 ghost use Rattle.bpf_link.specs.Header.{HasTable};
-ghost use Rattle.bpf_link.specs.Plans.{entries_of, symbols_in, maps_in, chosen_in, is_only, relocations_in, part_of, relocation_at, symbol_at, is_call_of, calls_below, text_in, is_closed, plan_with, plan_of, Lies, LiesPart, LiesPlan};
+ghost use Rattle.bpf_link.specs.Plans.{entries_of, symbols_in, maps_in, chosen_in, is_only, relocations_in, part_of, relocation_at, symbol_at, is_call_of, calls_below, text_in, is_closed, has_definitions, definitions_in, plan_with, plan_of, Lies, LiesPart, LiesPlan};
 ghost use Rattle.bpf_link.specs.Sections.{FoundBelow};
 
 use crate::fault::LinkFault;
 use crate::fields::lies;
 use crate::header::Sections;
 use crate::layout::{RelocationEntry, SectionHeader, SymbolEntry, relocation_entry, symbol_entry};
-use crate::sections::{Found, Roles, relocations_of, section_at};
+use crate::sections::{Found, Roles, is_named, relocations_of, section_at};
 use bpf_isa::MOST_SLOTS;
 
 /// Entries of one size, one after the other, in the file.
@@ -36,6 +36,8 @@ pub struct Plan {
     pub symbols: Entries,
     /// The index of the section of maps, 0 of none.
     pub maps: usize,
+    /// The bytes of that section, where they are definitions of maps.
+    pub definitions: Entries,
     /// The section that is asked for.
     pub code: Part,
     /// `.text`, without slots where it isn't called.
@@ -286,6 +288,39 @@ fn is_closed(object: &[u8], slots: &Entries) -> bool
     last == 0x95 || (last == 0x05 || last == 0x06)
 }
 
+/// Whether definitions of maps stand in a section.
+fn has_definitions(object: &[u8], sections: &Sections, section: &SectionHeader) -> bool
+    requires { HasTable object.now sections.now }
+    ensures { result ≡ has_definitions object.now sections.now section.now }
+{
+    section.kind == 1
+        && (is_named(object, sections, section, b"maps")
+            && lies(object, section.offset, section.size))
+}
+
+/// The bytes of the definitions of maps.
+fn definitions_in(object: &[u8], sections: &Sections, found: Found) -> Entries
+    requires table { HasTable object.now sections.now }
+    requires found { FoundBelow sections.now.count found }
+    ensures value { result ≡ definitions_in object.now sections.now found }
+    ensures fits { Lies object.now 1 result }
+{
+    match found {
+        Found::Nothing => NO_ENTRIES,
+        Found::Only(i) => {
+            let section = section_at(object, sections, i);
+            if !has_definitions(object, sections, &section) {
+                return NO_ENTRIES;
+            }
+            Entries {
+                at: section.offset as usize,
+                count: section.size as usize,
+            }
+        }
+        Found::Several => NO_ENTRIES,
+    }
+}
+
 fn plan_with(
     object: &[u8],
     sections: &Sections,
@@ -296,6 +331,7 @@ fn plan_with(
 ) -> Result<Plan, LinkFault>
     requires table { HasTable object.now sections.now }
     requires text { FoundBelow sections.now.count roles.now.text }
+    requires maps { FoundBelow sections.now.count roles.now.maps }
     requires chosen { chosen < sections.now.count }
     requires symbols { Lies object.now 24 symbols.now }
     ensures value { result ≡ plan_with object.now sections.now roles.now symbols.now maps chosen }
@@ -312,6 +348,7 @@ fn plan_with(
     Ok(Plan {
         symbols: *symbols,
         maps,
+        definitions: definitions_in(object, sections, roles.maps),
         code,
         text,
     })
@@ -328,6 +365,7 @@ pub fn plan_of(
     requires chosen { FoundBelow sections.now.count roles.now.chosen }
     requires text { FoundBelow sections.now.count roles.now.text }
     requires symbols { FoundBelow sections.now.count roles.now.symbols }
+    requires maps { FoundBelow sections.now.count roles.now.maps }
     ensures value { result ≡ plan_of object.now sections.now roles.now unnamed }
     ensures fits { IfOk result (LiesPlan object.now) }
 {

@@ -65,7 +65,8 @@ fn name_at(object: &[u8], at: usize, name: &[u8]) -> bool
     &object[at..end] == name && object[end] == 0
 }
 
-fn is_named(object: &[u8], sections: &Sections, section: &SectionHeader, name: &[u8]) -> bool
+/// Whether a section has a name.
+pub fn is_named(object: &[u8], sections: &Sections, section: &SectionHeader, name: &[u8]) -> bool
     requires { HasTable object.now sections.now }
     ensures { result ≡ is_named object.now sections.now section.now name.now }
 {
@@ -123,6 +124,7 @@ pub fn roles_of(object: &[u8], sections: &Sections, name: &[u8]) -> Roles
     ensures chosen { FoundBelow sections.now.count result.chosen }
     ensures text { FoundBelow sections.now.count result.text }
     ensures symbols { FoundBelow sections.now.count result.symbols }
+    ensures maps { FoundBelow sections.now.count result.maps }
 {
     let mut roles = Roles {
         chosen: Found::Nothing,

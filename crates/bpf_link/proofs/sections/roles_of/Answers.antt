@@ -1,5 +1,5 @@
 use Rattle.std.proofs.Common.{◌≡◌, ap, arith}
-use Rattle.bpf_link.specs.Sections.{section_at, is_chosen, is_text, is_symbols}
+use Rattle.bpf_link.specs.Sections.{section_at, is_chosen, is_text, is_symbols, is_maps}
 use Rattle.bpf_link.proofs.Searches.{roles_more, inside}
 use Rattle.bpf_link.proofs.sections.roles_of.Goals as goal
 
@@ -23,3 +23,8 @@ pub returns-clause-symbols : goal.returns-clause-symbols
 returns-clause-symbols c =
     let end : c.loop-i.i ≡ c.args.sections.now.count = omega arith in
     inside (λ i. is_symbols (section_at c.args.object.now c.args.sections.now i)) c.loop-i.i _ _ (ap (λ r. r.symbols) c.loop-i.invariant) end
+
+pub returns-clause-maps : goal.returns-clause-maps
+returns-clause-maps c =
+    let end : c.loop-i.i ≡ c.args.sections.now.count = omega arith in
+    inside (λ i. is_maps c.args.object.now c.args.sections.now (section_at c.args.object.now c.args.sections.now i)) c.loop-i.i _ _ (ap (λ r. r.maps) c.loop-i.invariant) end

@@ -1,0 +1,7 @@
+use Rattle.bpf_link.proofs.InOrder.{numbered}
+use Rattle.bpf_link.proofs.shapes.shapes_of.Goals as goal
+
+pub returns-clause-numbered : goal.returns-clause-numbered
+returns-clause-numbered c =
+    numbered c.args.object.now c.args.definitions.now c.args.maps.now c.in_order-ordered.result.items c.shapes_at.result.items c.in_order-ordered.ensures.value
+    (rw c.as_slice.ensures.value at c.shapes_at.ensures)

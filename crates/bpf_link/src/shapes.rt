@@ -1,0 +1,91 @@
+//! The shapes of the maps that an object defines.
+ghost use Rattle.std.specs.Prelude.{◌≡◌, ◌≤◌, ◌+◌, nat_le, length, IsTrue};
+ghost use Rattle.bpf_link.specs.Plans.{Lies};
+ghost use Rattle.bpf_link.specs.Shapes.{definition_at, is_array, shape_at, shapes_at, IsInOrder, AreShapes, AreNumbered};
+
+use crate::layout::{MapDefinition, map_definition};
+use crate::plan::Entries;
+use arrayvec::ArrayVec;
+use bpf_isa::MapShape;
+
+/// The definition at a place of the section.
+fn definition_at(object: &[u8], definitions: &Entries, place: u64) -> MapDefinition
+    requires lies { Lies object.now 1 definitions.now }
+    requires inside { place + 16 ≤ definitions.now.count }
+    ensures { result ≡ definition_at object.now definitions.now place }
+{
+    map_definition(object, definitions.at + place as usize)
+}
+
+/// Whether a definition lies at a place of the section.
+fn is_inside(definitions: &Entries, place: u64) -> bool
+    ensures { result ≡ nat_le (place + 16) definitions.now.count }
+{
+    let count = definitions.count as u64;
+    count >= 16 && place <= count - 16
+}
+
+/// Whether an array is defined at a place of the section.
+fn is_array(object: &[u8], definitions: &Entries, place: u64) -> bool
+    requires { Lies object.now 1 definitions.now }
+    ensures value { result ≡ is_array object.now definitions.now place }
+    ensures inside { IsTrue result → place + 16 ≤ definitions.now.count }
+{
+    if !is_inside(definitions, place) {
+        return false;
+    }
+    let definition = definition_at(object, definitions, place);
+    definition.kind == 2 && definition.key_size == 4
+}
+
+/// The shape of the map that is defined at a place of the section.
+fn shape_at(object: &[u8], definitions: &Entries, place: u64) -> MapShape
+    requires lies { Lies object.now 1 definitions.now }
+    requires inside { place + 16 ≤ definitions.now.count }
+    ensures { result ≡ shape_at object.now definitions.now place }
+{
+    let definition = definition_at(object, definitions, place);
+    MapShape {
+        value_size: definition.value_size,
+        entries: definition.entries,
+    }
+}
+
+/// The shapes of the maps at places of the section, none unless each is an array.
+fn shapes_at(object: &[u8], definitions: &Entries, places: &[u64]) -> ArrayVec<MapShape, 16>
+    requires lies { Lies object.now 1 definitions.now }
+    requires few { length places.now ≤ 16 }
+    ensures { result.items ≡ shapes_at object.now definitions.now places.now }
+{
+    let mut shapes = ArrayVec::new();
+    for place in places {
+        if !is_array(object, definitions, *place) {
+            return ArrayVec::new();
+        }
+        shapes.push(shape_at(object, definitions, *place));
+    }
+    shapes
+}
+
+/// Places in ascending order.
+fn in_order(places: &[u64]) -> ArrayVec<u64, 16>
+    requires { length places.now ≤ 16 }
+    ensures value { IsInOrder places.now result.items }
+    ensures length { length result.items ≤ 16 }
+{
+    let mut ordered = ArrayVec::new();
+    let _all = ordered.try_extend_from_slice(places);
+    ordered.as_mut_slice().sort_unstable();
+    ordered
+}
+
+/// The shapes of maps that stand at places of the section, in the order of their numbers. None unless each is an array.
+pub fn shapes_of(object: &[u8], definitions: &Entries, maps: &[u64]) -> ArrayVec<MapShape, 16>
+    requires lies { Lies object.now 1 definitions.now }
+    requires few { length maps.now ≤ 16 }
+    ensures ordered { AreShapes object.now definitions.now maps.now result.items }
+    ensures numbered { AreNumbered object.now definitions.now maps.now result.items }
+{
+    let ordered = in_order(maps);
+    shapes_at(object, definitions, ordered.as_slice())
+}
