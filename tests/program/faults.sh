@@ -94,6 +94,14 @@ hold_bytes() {
     done < statuses
 }
 
+# hold_told: in each run of the last sweep the whole output came, and on standard error a beginning of what is told.
+hold_told() {
+    for run in $(seq "$number"); do
+        cmp -s stated "runs/$run.out" && head -c "$(wc -c < "runs/$run.err")" told | cmp -s - "runs/$run.err" && continue
+        complain "$name: call $run: $(wc -c < "runs/$run.out") bytes of output, on standard error: $(cat "runs/$run.err")"
+    done
+}
+
 # state STATUS OUTPUT ERRORS: what the command line of the next sweeps comes to; the texts are as printf's %b reads them.
 state() {
     status=$1
@@ -284,6 +292,8 @@ all=''
 # Standard error: a fault of the command line, of a file, of what is in it, and of a run.
 bytes endless 05 00 ff ff 00 00 00 00
 : > empty
+object arrays
+"$program" link arrays.o > linked 2> /dev/null
 for all in '' all; do
     for kind in fail none interrupted; do
         [ "$all$kind" != allinterrupted ] || continue
@@ -294,6 +304,11 @@ for all in '' all; do
             errors $piece $kind debug empty
             state 1 '' 'step limit 7 reached at 0\n'
             errors $piece $kind run --steps 7 endless
+            cp linked stated
+            echo '--maps 8x2,16x256' > told
+            sweep write 2 $piece $kind link arrays.o
+            hold_bytes
+            hold_told
             state 1 '' 'fault access 0x0 at 0\n'
             printf 'ldxb r0, [r1+0]\nexit\n' > fault.s
             errors $piece $kind run --listing fault.s

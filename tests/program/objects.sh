@@ -1,6 +1,6 @@
 # link: objects that clang made, the words that come of them, and what is refused. The objects stand in crates/bpf_link_tests.
 
-for name in calls maps text two extern data; do
+for name in calls maps arrays text two extern data; do
     object $name
 done
 
@@ -26,6 +26,36 @@ result '0x300000001\n' run -m context calls
 "$program" link maps.o > maps
 refused 'refused C12 at slot 1: no such map or offset' check maps
 result 'ok 13 instructions in 15 slots\n' check --maps 8x2,4x256 maps
+
+# An object that defines its maps as arrays tells them, and the words run with just that: under the key 2 there is an entry in the second map alone, under
+# 1000 in neither.
+bytes words $(printf '%s' 'bf16000000000000 1851000001000000 0000000000000000 bf62000000000000 8500000001000000 bf07000000000000 1851000000000000 0000000000000000 bf62000000000000 8500000001000000 bf01000000000000 b700000001000000 1d17010000000000 b700000000000000 9500000000000000' | tr -d ' ' | sed 's/../& /g')
+row 'bpfdb link arrays.o' 0 "$script_unread" "$text" '--maps 8x2,16x256\n' link arrays.o
+"$program" link arrays.o > arrays 2> told
+refused 'refused C12 at slot 1: no such map or offset' check arrays
+result 'ok 13 instructions in 15 slots\n' check $(cat told) arrays
+printf '\002\000\000\000' > context
+result '0x0\n' run $(cat told) -m context arrays
+printf '\350\003\000\000' > context
+result '0x1\n' run $(cat told) -m context arrays
+
+# Where standard error fails the words came, and the status is 2; where the output fails no maps are told.
+"$program" link arrays.o > found/out 2> /dev/full
+echo $? > found/status
+: > found/err
+check 'bpfdb link arrays.o, and standard error is full' 2 "$text" ''
+"$program" link arrays.o > /dev/full 2> found/err
+echo $? > found/status
+: > found/out
+check 'bpfdb link arrays.o, and the output is full' 2 '' 'cannot write output\n'
+
+# What bpfdb can't have. Of sizes that are out of range the option is told, and then refused (the first map has values of no byte); of a map that is no array
+# none is (the type of the first is that of a hash).
+{ head -c 192 arrays.o; printf '\000'; tail -c +194 arrays.o; } > sizeless.o
+row 'bpfdb link sizeless.o' 0 "$script_unread" "$text" '--maps 0x2,16x256\n' link sizeless.o
+refused 'refused M1: value size out of range' check --maps 0x2,16x256 arrays
+{ head -c 184 arrays.o; printf '\001'; tail -c +186 arrays.o; } > hash.o
+result "$text" link hash.o
 
 # What is refused. In the last one the first byte of the code is an opcode that there is not.
 : > empty
@@ -61,6 +91,18 @@ if clang -O1 -target bpf -c -o sum.o sum.c 2> /dev/null; then
     printf '\001\002\375' > context
     result '0x100\n' run -m context sum
     result '0x0\n' run sum
+    cat > keys.c <<'C'
+struct bpf_map_def { unsigned int type, key_size, value_size, max_entries, map_flags; };
+__attribute__((section("maps"))) struct bpf_map_def counts = { 2, 4, 8, 2, 0 }, names = { 2, 4, 16, 256, 0 };
+static void *(*lookup)(void *, const void *) = (void *)1;
+__attribute__((section("prog"))) int entry(const void *key) { return (lookup(&names, key) ? 2 : 0) + (lookup(&counts, key) ? 1 : 0); }
+C
+    clang -O2 -target bpf -c -o keys.o keys.c
+    "$program" link keys.o > keys 2> told
+    for key in 001 002 377; do
+        printf "\\$key\\000\\000\\000" > context
+        result "$([ $key = 001 ] && echo 0x3 || echo 0x2)\n" run $(cat told) -m context keys
+    done
 else
     echo 'objects: there is no clang for BPF here, so no file of C is compiled'
 fi

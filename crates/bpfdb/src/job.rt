@@ -2,7 +2,7 @@
 ghost use Rattle.std.specs.Prelude.{◌≡◌, ◌≢◌, ◌⊎◌, List, ℕ, Some};
 ghost use Rattle.bpfdb.specs.Jobs.{IsJobOf, kind_of, layout_of, section_of};
 ghost use Rattle.bpfdb_jobs.specs.Connections.{BreaksConnection, ServesConnection};
-ghost use Rattle.bpfdb_jobs.specs.Endings.{LosesStop, TellsFault, TellsStop};
+ghost use Rattle.bpfdb_jobs.specs.Endings.{LosesLine, TellsDone, TellsFault, TellsStop};
 ghost use Rattle.bpfdb_jobs.specs.Jobs.{Completes, Needs, Spared, StopsShort};
 ghost use Rattle.bpfdb_jobs.specs.declared.job.JobKind.TheVariants.{Debug};
 ghost use Rattle.bpfdb_limits.specs.Limits.{IsLimit};
@@ -35,12 +35,13 @@ pub fn do_plan<R: Read, W: Write, E: Write>(
     ensures refused { (job : Job) × IsJobOf plan.now file.now context.now job
         × ((Needs job.kind job → ⊥) → (result ≡ 2) × (reader.new ≡ reader.old) × (writer.new ≡ writer.old)) }
     ensures spared { result ≢ 2 → Spared reader.old reader.new × Spared writer.old writer.new × Spared errors.old errors.new }
-    ensures quiet { result ≡ 0 → errors.new ≡ errors.old }
+    ensures quiet { (job : Job) × IsJobOf plan.now file.now context.now job
+        × (result ≡ 0 → TellsDone E.contents job.kind job errors.old errors.new) }
     ensures stopped { (job : Job) × IsJobOf plan.now file.now context.now job
         × (result ≡ 1 → TellsStop E.contents job errors.old errors.new × (reader.new ≡ reader.old) × (writer.new ≡ writer.old)) }
     ensures told { (job : Job) × IsJobOf plan.now file.now context.now job
         × (result ≡ 2 → TellsFault E.contents job.kind job reader.old reader.new writer.old writer.new errors.old errors.new
-        ⊎ (LosesStop E.contents job errors.old errors.new × (reader.new ≡ reader.old) × (writer.new ≡ writer.old))) }
+        ⊎ (LosesLine E.contents job.kind job writer.old writer.new errors.old errors.new × (reader.new ≡ reader.old))) }
 {
     let job = job_of(plan, file, context);
     tool(alloc, &job, reader, writer, errors)

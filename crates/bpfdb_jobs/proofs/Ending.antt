@@ -11,7 +11,7 @@ use Rattle.bpf_session.specs.declared.plain.Ending.{Ending}
 use Rattle.bpf_session.specs.declared.plain.Ending.TheVariants.{Exited, Faulted, Limit}
 use Rattle.bpf_entries.specs.declared.status.Status.{Status}
 use Rattle.bpf_entries.specs.declared.status.Status.TheVariants as status
-use Rattle.bpfdb_jobs.specs.Endings.{EndsBy, FailedOnce, LosesStop, StopsAt, TellsFault, TellsStop, Told}
+use Rattle.bpfdb_jobs.specs.Endings.{EndsBy, FailedOnce, LosesLine, LosesStop, StopsAt, TellsDone, TellsFault, TellsStop, Told}
 use Rattle.bpfdb_jobs.specs.Faults.{line_of, line_of_stop}
 use Rattle.bpfdb_jobs.specs.Jobs.{Opens}
 use Rattle.bpfdb_jobs.specs.Refusals.{Refuses, RefusesMachine, RefusesProgram}
@@ -71,7 +71,7 @@ pub stop-lost : {E A F : Type 0} (contents : E → Option (List ℕ)) (job : Job
     → OnOk told (status ≡ 1) → status ≡ 2 → LosesStop contents job errors errors'
 stop-lost contents job x ending errors errors' (Ok v) status is at written done two = absurd (omega (arith, done, two))
 stop-lost contents job x ending errors errors' (Err e) status is at written done two =
-    (x, at, subst (λ (e : Ending). AppendsBeginning (contents errors.inner) (contents errors'.inner) (line_of_stop e job.limit x)) is written.err, written.fault)
+    (x, at, (subst (λ (e : Ending). AppendsBeginning (contents errors.inner) (contents errors'.inner) (line_of_stop e job.limit x)) is written.err, written.fault))
 
 -- the state in which a run stops
 pub stops-at : (job : Job) (x end : State) → (code : Checked) × Opens job code × (x ≡ initial code job.context.now) → end ≡ plain_end job.limit x → StopsAt job end
@@ -90,11 +90,16 @@ pub unread-told : {R W E : Type 0} (contents : E → Option (List ℕ)) (kind ot
 unread-told contents kind other job reader writer writer' errors errors' is t =
     (t.0, subst (λ (k : JobKind). EndsBy k job reader reader writer writer' t.0) (sym is) (ends-unread other job reader writer writer' t.0 t.1), t.2)
 
-pub run-told : {R W E : Type 0} (contents : E → Option (List ℕ)) (kind other : JobKind) (job : Job) (reader : Tally R) (writer writer' : Tally W) (errors errors' : Tally E)
-    → kind ≡ other → TellsUnread contents other job writer writer' errors errors' ⊎ (LosesStop contents job errors errors' × (writer' ≡ writer))
-    → TellsFault contents kind job reader reader writer writer' errors errors' ⊎ (LosesStop contents job errors errors' × (reader ≡ reader) × (writer' ≡ writer))
-run-told contents kind other job reader writer writer' errors errors' is (inl t) = inl (unread-told contents kind other job reader writer writer' errors errors' is t)
-run-told contents kind other job reader writer writer' errors errors' is (inr l) = inr (l.0, refl, l.1)
+pub told-or-lost : {R W E : Type 0} (contents : E → Option (List ℕ)) (kind other : JobKind) (job : Job) (reader : Tally R) (writer writer' : Tally W) (errors errors' : Tally E)
+    → kind ≡ other → TellsUnread contents other job writer writer' errors errors' ⊎ LosesLine contents other job writer writer' errors errors'
+    → TellsFault contents kind job reader reader writer writer' errors errors' ⊎ (LosesLine contents kind job writer writer' errors errors' × (reader ≡ reader))
+told-or-lost contents kind other job reader writer writer' errors errors' is (inl t) = inl (unread-told contents kind other job reader writer writer' errors errors' is t)
+told-or-lost contents kind other job reader writer writer' errors errors' is (inr l) =
+    inr (subst (λ (k : JobKind). LosesLine contents k job writer writer' errors errors') (sym is) l, refl)
+
+pub done-told : {E : Type 0} (contents : E → Option (List ℕ)) (kind other : JobKind) (job : Job) (errors errors' : Tally E)
+    → kind ≡ other → TellsDone contents other job errors errors' → TellsDone contents kind job errors errors'
+done-told contents kind other job errors errors' is d = subst (λ (k : JobKind). TellsDone contents k job errors errors') (sym is) d
 
 pub debug-told : {R W E : Type 0} (contents : E → Option (List ℕ)) (kind other : JobKind) (job : Job) (reader reader' : Tally R) (writer writer' : Tally W) (errors errors' : Tally E)
     → kind ≡ other → TellsFault contents other job reader reader' writer writer' errors errors' → TellsFault contents kind job reader reader' writer writer' errors errors'

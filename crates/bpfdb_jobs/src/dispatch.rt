@@ -1,6 +1,6 @@
 //! The program without its command line and its files: a job, done.
 ghost use Rattle.std.specs.Prelude.{◌≡◌, ◌≢◌, ◌⊎◌, List, ℕ, Some};
-ghost use Rattle.bpfdb_jobs.specs.Endings.{LosesStop, TellsFault, TellsStop};
+ghost use Rattle.bpfdb_jobs.specs.Endings.{LosesLine, TellsDone, TellsFault, TellsStop};
 ghost use Rattle.bpfdb_jobs.specs.Jobs.{StopsShort, Completes, Needs, Spared};
 ghost use Rattle.bpfdb_limits.specs.Limits.{IsLimit};
 
@@ -17,7 +17,7 @@ use std::io::{Read, Write};
 /// Does a job, and answers the exit status: 0; 1 where `run` ends in a fault of the program or at the limit of steps; 2 where
 /// the job is refused, where input or output fails, and where memory runs out.
 ///
-/// Results go to the writer. A refusal, a fault or a limit is one line on `errors`. The reader is read by `debug` alone.
+/// Results go to the writer. A refusal, a fault or a limit is one line on `errors`, and so are the maps of an object that is linked. The reader is read by `debug` alone.
 pub fn tool<R: Read, W: Write, E: Write>(
     alloc: Global,
     job: &Job<'_>,
@@ -36,12 +36,12 @@ pub fn tool<R: Read, W: Write, E: Write>(
     ensures refused { (Needs job.now.kind job.now → ⊥) → (result ≡ 2) × (reader.new ≡ reader.old) × (writer.new ≡ writer.old) }
     // Where anything failed the status is 2.
     ensures spared { result ≢ 2 → Spared reader.old reader.new × Spared writer.old writer.new × Spared errors.old errors.new }
-    // Nothing stands on standard error, or the line of a run that stopped, or that of the fault that ended the job. Where no read and no
-    // write failed, status 2 leaves reader and writer as they were.
-    ensures quiet { result ≡ 0 → errors.new ≡ errors.old }
+    // Nothing stands on standard error, or the maps of an object that was linked, or the line of a run that stopped, or that of the fault that
+    // ended the job. Where no read and no write failed, status 2 leaves reader and writer as they were.
+    ensures quiet { result ≡ 0 → TellsDone E.contents job.now.kind job.now errors.old errors.new }
     ensures stopped { result ≡ 1 → TellsStop E.contents job.now errors.old errors.new × (reader.new ≡ reader.old) × (writer.new ≡ writer.old) }
     ensures told { result ≡ 2 → TellsFault E.contents job.now.kind job.now reader.old reader.new writer.old writer.new errors.old errors.new
-        ⊎ (LosesStop E.contents job.now errors.old errors.new × (reader.new ≡ reader.old) × (writer.new ≡ writer.old)) }
+        ⊎ (LosesLine E.contents job.now.kind job.now writer.old writer.new errors.old errors.new × (reader.new ≡ reader.old)) }
 {
     match job.kind {
         JobKind::Run => run_job(alloc, job, writer, errors),

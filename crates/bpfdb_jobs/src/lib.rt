@@ -9,6 +9,7 @@ mod fault;
 mod job;
 mod line;
 mod listing;
+mod maps;
 mod name;
 mod object;
 mod opening;

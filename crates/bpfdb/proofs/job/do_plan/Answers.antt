@@ -14,3 +14,6 @@ returns-clause-stopped g c = (c.job_of-job.result, c.job_of-job.ensures, c.tool.
 
 pub returns-clause-told : goal.returns-clause-told
 returns-clause-told g c = (c.job_of-job.result, c.job_of-job.ensures, c.tool.ensures.told)
+
+pub returns-clause-quiet : goal.returns-clause-quiet
+returns-clause-quiet g c = (c.job_of-job.result, c.job_of-job.ensures, c.tool.ensures.quiet)

@@ -1,5 +1,5 @@
 use Rattle.std.proofs.Common.{inl}
-use Rattle.bpfdb_jobs.proofs.Ending.{debug-told, run-told, unread-told}
+use Rattle.bpfdb_jobs.proofs.Ending.{debug-told, done-told, told-or-lost, unread-told}
 use Rattle.bpfdb_jobs.proofs.Yielding.{completes-debug, completes-too, stops-short, stops-short-debug}
 use Rattle.bpfdb_jobs.specs.declared.job.JobKind.TheVariants.{Run, Debug, Asm, Disasm, Check, Link}
 use Rattle.bpfdb_jobs.proofs.dispatch.tool.Goals as goal
@@ -68,7 +68,7 @@ returns-in-Debug-clause-value g c = λ script told left held not.
 
 pub returns-in-Run-clause-told : goal.returns-in-Run-clause-told
 returns-in-Run-clause-told g c = λ two.
-    run-told g.E.Write.contents c.args.job.now.kind Run c.args.job.now c.args.reader.now c.args.writer.now c.run_job.new.writer c.args.errors.now
+    told-or-lost g.E.Write.contents c.args.job.now.kind Run c.args.job.now c.args.reader.now c.args.writer.now c.run_job.new.writer c.args.errors.now
     c.run_job.new.errors c.in-Run.is (c.run_job.ensures.told two)
 
 pub returns-in-Debug-clause-told : goal.returns-in-Debug-clause-told
@@ -92,6 +92,30 @@ returns-in-Check-clause-told g c = λ two. inl
     c.check_job.new.errors c.in-Check.is (c.check_job.ensures.told two))
 
 pub returns-in-Link-clause-told : goal.returns-in-Link-clause-told
-returns-in-Link-clause-told g c = λ two. inl
-    (unread-told g.E.Write.contents c.args.job.now.kind Link c.args.job.now c.args.reader.now c.args.writer.now c.link_job.new.writer c.args.errors.now
-    c.link_job.new.errors c.in-Link.is (c.link_job.ensures.told two))
+returns-in-Link-clause-told g c = λ two.
+    told-or-lost g.E.Write.contents c.args.job.now.kind Link c.args.job.now c.args.reader.now c.args.writer.now c.link_job.new.writer c.args.errors.now
+    c.link_job.new.errors c.in-Link.is (c.link_job.ensures.told two)
+
+pub returns-in-Run-clause-quiet : goal.returns-in-Run-clause-quiet
+returns-in-Run-clause-quiet g c = λ zero.
+    done-told g.E.Write.contents c.args.job.now.kind Run c.args.job.now c.args.errors.now c.run_job.new.errors c.in-Run.is (c.run_job.ensures.quiet zero)
+
+pub returns-in-Debug-clause-quiet : goal.returns-in-Debug-clause-quiet
+returns-in-Debug-clause-quiet g c = λ zero.
+    done-told g.E.Write.contents c.args.job.now.kind Debug c.args.job.now c.args.errors.now c.debug_job.new.errors c.in-Debug.is (c.debug_job.ensures.quiet zero)
+
+pub returns-in-Asm-clause-quiet : goal.returns-in-Asm-clause-quiet
+returns-in-Asm-clause-quiet g c = λ zero.
+    done-told g.E.Write.contents c.args.job.now.kind Asm c.args.job.now c.args.errors.now c.asm_job.new.errors c.in-Asm.is (c.asm_job.ensures.quiet zero)
+
+pub returns-in-Disasm-clause-quiet : goal.returns-in-Disasm-clause-quiet
+returns-in-Disasm-clause-quiet g c = λ zero.
+    done-told g.E.Write.contents c.args.job.now.kind Disasm c.args.job.now c.args.errors.now c.disasm_job.new.errors c.in-Disasm.is (c.disasm_job.ensures.quiet zero)
+
+pub returns-in-Check-clause-quiet : goal.returns-in-Check-clause-quiet
+returns-in-Check-clause-quiet g c = λ zero.
+    done-told g.E.Write.contents c.args.job.now.kind Check c.args.job.now c.args.errors.now c.check_job.new.errors c.in-Check.is (c.check_job.ensures.quiet zero)
+
+pub returns-in-Link-clause-quiet : goal.returns-in-Link-clause-quiet
+returns-in-Link-clause-quiet g c = λ zero.
+    done-told g.E.Write.contents c.args.job.now.kind Link c.args.job.now c.args.errors.now c.link_job.new.errors c.in-Link.is (c.link_job.ensures.quiet zero)
