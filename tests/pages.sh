@@ -1,7 +1,7 @@
 #!/bin/sh
 # What README.md and docs/ say of the repository, held against it: the tables made from the files, the files, functions,
 # clauses and definitions that a page names, the sessions that README and examples/README.md show, the C of docs/GDB.md, the commands and refusals of
-# the manual and its man page, the commands and options of help, and the toolchain that README and `bpfdb --version` name.
+# the manual and its man page, the commands and options of help, the wrong bodies of must-fail/, and the toolchain that README and `bpfdb --version` name.
 set -u
 cd "$(dirname "$0")/.." || exit 1
 work=$(mktemp -d) || exit 1
@@ -243,6 +243,29 @@ toolchain() {
     [ -z "$others" ] || fault "more pages than README.md name the toolchain: $others"
 }
 
+# edits: each text that an edit of must-fail/ takes the place of stands exactly once in its file. (One that can't be made counts for nothing,
+# and rt ci doesn't say so.)
+edits() {
+    awk '
+        function text_of(path, line, text) {
+            while ((getline line < path) > 0) text = text line "\n"
+            close(path)
+            return text
+        }
+        FNR == 1 { split("", texts); folder = FILENAME; sub(/must-fail\/.*/, "", folder) }
+        /^file: / { path = folder substr($0, 7); if (!(path in texts)) texts[path] = text_of(path) }
+        /^old: / { old = substr($0, 6) }
+        /^new: / {
+            at = index(texts[path], old)
+            rest = substr(texts[path], at + length(old))
+            if (at && !index(rest, old)) texts[path] = substr(texts[path], 1, at - 1) substr($0, 6) rest
+            else print FILENAME
+        }
+    ' crates/*/must-fail/*.edit | sort -u | while read -r edit; do
+        fault "$edit can't be made: a text that it names does not stand exactly once in its file"
+    done
+}
+
 sh docs/tables.sh --check || fault 'tables of files'
 names_of_files
 contracts
@@ -254,6 +277,7 @@ commands
 options
 libraries
 refusals
+edits
 sh docs/man.sh --check || fault 'the man page'
 toolchain
 [ ! -s "$work/faults" ]
