@@ -227,12 +227,13 @@ fn check_moves(rt: &impl Abort, alloc: Global, size: usize, seed: u64, moves: us
     both(rt, alloc, &mut pair, "all back", "all back");
 }
 
-const SEEDS: [u64; 2] = [1, 2];
+/// How many seeds there are, from 1 on.
+const SEEDS: u64 = 8;
 
 /// The same of each size and each seed.
 fn check_sizes(rt: &impl Abort, alloc: Global, moves: usize) {
     for size in 1_024usize..1_041 {
-        for seed in SEEDS {
+        for seed in 1..=SEEDS {
             check_moves(rt, alloc, size, seed, moves);
         }
     }
@@ -240,5 +241,5 @@ fn check_sizes(rt: &impl Abort, alloc: Global, moves: usize) {
 
 #[test]
 fn random_moves_in_a_ring_and_in_a_list(rt: HostRuntime) {
-    check_sizes(&rt, rt.alloc(), 60);
+    check_sizes(&rt, rt.alloc(), 120);
 }
