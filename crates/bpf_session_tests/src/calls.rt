@@ -328,6 +328,19 @@ undo|29 back; done; at 0: callf L2
 ",
 );
 
+// The same up to 8: the eighth call in another has no frame.
+const TOO_DEEP: Row = (
+    "8510000001000000950000000000000007000000010000003500010008000000\
+     85100000fdffffff9500000000000000",
+    &[],
+    65_536,
+    "\
+continue|22 forward; end; fault depth at 4
+undo|22 back; done; at 0: callf L2
+info frames|depth 0
+",
+);
+
 // mov r4, 2; mov r3, 0; callf 3; add r4, -1; jne r4, 0, -4; exit; ldxb r2, [r10-512]; add r0, r2; ldxb r2, [r10-1]; add r0, r2;
 // stb [r10-512], 9; stb [r10-1], 7; add r3, 1; jeq r3, 7, 1; callf -9; exit: twice it goes down to depth 7, adds up the first and the
 // last byte of each frame, and then writes them. A call and what it runs down to depth 7 are 9 moves a depth; the whole is 148.
@@ -365,7 +378,7 @@ x 0x200001c00 1|0x200001c00: 09
 ",
 );
 
-const ROWS: [Row; 19] = [
+const ROWS: [Row; 20] = [
     CALLED,
     SAVED,
     TRACED,
@@ -384,6 +397,7 @@ const ROWS: [Row; 19] = [
     CLEARED_BYTE,
     FULL_OF_CALLS,
     DEEP,
+    TOO_DEEP,
     EACH_DEPTH,
 ];
 

@@ -1,8 +1,9 @@
-//! Keepers that have room for a few entries alone.
+//! Keepers that have room for a few entries alone, and for many.
 ghost use Rattle.std.specs.Prelude.{◌≡◌, ◌<◌, ◌^◌, OnOk};
 ghost use Rattle.bpf_journal.specs.Keepers.{refusals_after};
 
 use crate::play::{machine, plays, ring_for, stop_unless};
+use crate::scripts;
 use bpf_journal::{Keeper, ListKeeper};
 use bpf_machine::Entry;
 use bpf_session::Session;
@@ -219,6 +220,29 @@ fn play_rows(rt: &impl Abort, alloc: Global, rows: &[Row]) {
     for row in rows {
         play_row(rt, alloc, *row);
     }
+}
+
+/// As many entries as a list or a ring of the greatest size is asked to keep: 50,000 of 16 bytes, and as many of 7.
+const MANY: scripts::Row = (
+    ENDLESS,
+    &[],
+    16_777_216,
+    1_000_000,
+    "\
+stepi 100000|100000 forward; done; at 0: add r0, 1
+info history|100000 moves, 1 commands, 1150000 of 16777216 bytes
+undo|100000 back; done; at 0: add r0, 1
+info history|0 moves, 0 commands, 0 of 16777216 bytes
+redo 100000|100000 redone; done; at 0: add r0, 1
+info history|100000 moves, 1 commands, 1150000 of 16777216 bytes
+info regs|r0=0xc350 r1=0x0 r2=0x0 r3=0x0 r4=0x0 r5=0x0 r6=0x0 r7=0x0 r8=0x0 r9=0x0 r10=0x200000200
+|at 0: add r0, 1
+",
+);
+
+#[test]
+fn many_entries_are_kept(rt: HostRuntime) {
+    scripts::play_rows(&rt, rt.alloc(), &[MANY], 10_000);
 }
 
 #[test]

@@ -70,6 +70,45 @@ fn play(rt: &impl Abort, alloc: Global, transcript: &str) {
     plays(rt, alloc, &mut ringed, transcript, 10_000);
 }
 
+/// Puts a text behind another.
+fn add(rt: &impl Abort, text: &mut String, more: &str) {
+    text.push_str(more).ok().expect(rt, "no memory");
+}
+
+/// Four edits of a cell of 256 bytes. The smallest journal holds three of them, of 269 bytes each.
+fn full_cells(rt: &impl Abort, alloc: Global) -> String {
+    let mut lines = String::new(alloc);
+    for _ in 0..4 {
+        add(rt, &mut lines, "set cell 0 0 ");
+        for _ in 0..256 {
+            add(rt, &mut lines, "00");
+        }
+        add(rt, &mut lines, "|ok\n");
+    }
+    add(
+        rt,
+        &mut lines,
+        "info history|3 moves, 3 commands, 807 of 1024 bytes\n",
+    );
+    lines
+}
+
+/// Plays a transcript over either keeper, in the smallest journal and with a map of two cells of 256 bytes.
+fn play_narrow(rt: &impl Abort, alloc: Global, transcript: &str) {
+    let cpu = machine_on(rt, alloc, UPDATE, "256x2", &[]);
+    let mut listed = session_over(rt, alloc, cpu, 1_024, 1_000_000);
+    plays(rt, alloc, &mut listed, transcript, 10_000);
+    let cpu = machine_on(rt, alloc, UPDATE, "256x2", &[]);
+    let mut ringed = ring_session_over(rt, alloc, cpu, 1_024, 1_000_000);
+    plays(rt, alloc, &mut ringed, transcript, 10_000);
+}
+
+#[test]
+fn three_cells_fit_the_smallest_journal(rt: HostRuntime) {
+    let lines = full_cells(&rt, rt.alloc());
+    play_narrow(&rt, rt.alloc(), &lines);
+}
+
 #[test]
 fn cells_are_updated(rt: HostRuntime) {
     play(&rt, rt.alloc(), OVERLAP);

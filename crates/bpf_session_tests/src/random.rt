@@ -158,16 +158,22 @@ fn check_scripts(
     }
 }
 
-/// The same of each size, with a seed each.
+/// How many seeds each size has.
+const SEEDS: u64 = 6;
+
+/// The same of each size and each of its seeds.
 fn check_sizes(rt: &impl Abort, alloc: Global, scripts: usize, commands: usize) {
+    let mut seeds = Random { state: 0 };
     for size in 1_024usize..1_041 {
-        check_scripts(rt, alloc, size, size as u64, scripts, commands);
+        for _ in 0..SEEDS {
+            check_scripts(rt, alloc, size, seeds.next(), scripts, commands);
+        }
     }
 }
 
 #[test]
 fn random_scripts_over_a_ring_and_over_a_list(rt: HostRuntime) {
-    check_sizes(&rt, rt.alloc(), 4, 40);
+    check_sizes(&rt, rt.alloc(), 4, 60);
 }
 
 /// The first numbers of a seed are those that the generator's description has.
