@@ -1,7 +1,9 @@
 //! Scripts that are obeyed by `debug`, and what they print. What is expected was worked out by hand from what instructions and commands
 //! mean; none is bpfdb's own output.
 use crate::play::{bytes_of, debugging, done, lines};
+use bpfdb_jobs::{Job, tool};
 use counted_io::Counted;
+use paced_io::Paced;
 use std::alloc::Global;
 use std::process::Abort;
 
@@ -103,4 +105,38 @@ fn play_each(rt: &impl Abort, alloc: Global, table: &str) -> usize {
 #[test]
 fn sessions_print_their_replies(rt: HostRuntime) {
     assert_eq!(rt; play_each(&rt, rt.alloc(), SESSIONS), 9);
+}
+
+/// The status of a job over a script, where the writer takes so many bytes and no more.
+fn status_of(
+    rt: &impl Abort,
+    alloc: Global,
+    job: &Job<'_>,
+    script: &[u8],
+    taken: u64,
+    written: &mut Vec<u8>,
+    errors: &mut Vec<u8>,
+) -> u8 {
+    assert!(rt; job.limit >= 1);
+    assert!(rt; job.limit <= 1_000_000_000);
+    let mut writer = Counted::new(Paced::refusing(written, 1, taken.saturating_add(1)));
+    tool(
+        alloc,
+        job,
+        &mut Counted::new(script),
+        &mut writer,
+        &mut Counted::new(errors),
+    )
+}
+
+#[test]
+fn a_writer_that_takes_10_bytes_makes_the_status_2(rt: HostRuntime) {
+    let program = bytes_of(&rt, rt.alloc(), "b70000002a0000009500000000000000");
+    let (mut written, mut errors) = (Vec::new(rt.alloc()), Vec::new(rt.alloc()));
+    let job = debugging(&program, &[]);
+    let script = b"stepi\ninfo regs\nreverse-stepi\n";
+    let status = status_of(&rt, rt.alloc(), &job, script, 10, &mut written, &mut errors);
+    assert_eq!(rt; status, 2);
+    assert!(rt; written.as_slice() == b"1 forward;".as_slice());
+    assert!(rt; errors.as_slice() == b"cannot write output\n".as_slice());
 }
