@@ -1,5 +1,6 @@
 # Memory: each request for it is refused in turn, alone and with all later ones, until a run meets no refusal. Then the
-# program has said so on one line, by the number of what it couldn't do, if that has one, and its status is 2.
+# program has said so on one line, by the number of what it couldn't do, if that has one, and its status is 2. So it is with bpfdb, and
+# with a program that makes each public call of the libraries below the jobs that takes memory.
 
 bytes endless 05 00 ff ff 00 00 00 00
 bytes context 01 02 03 04 05 06 07 08
@@ -27,9 +28,17 @@ refuse() {
     echo $found > found/status
 }
 
+# The program's name, and the status by which it says that memory ran out before it came to what is tried, if it has one.
+name=bpfdb
+unreached=''
+
 # lacks NAME: the last run wrote nothing but one line, which says that memory ran out. It is kept in the file `met`.
 # (most tests are made here, so no other program is called for one that passes)
 lacks() {
+    if [ "$found" = "$unreached" ] && ! [ -s found/out ] && ! [ -s found/err ]; then
+        count=$((count + 1))
+        return
+    fi
     line='' more=''
     { read -r line; read -r more; } < found/err
     case $line in
@@ -56,20 +65,20 @@ wants() {
     while [ "$request" -le "$most" ]; do
         refuse "$request" '' "$@"
         [ "$found" = "$status" ] && cmp -s errors found/err && break
-        lacks "bpfdb $*: request $request for memory refused"
+        lacks "$name $*: request $request for memory refused"
         refuse "$request" all "$@"
-        lacks "bpfdb $*: requests for memory from $request on refused"
+        lacks "$name $*: requests for memory from $request on refused"
         request=$((request + 1))
     done
-    check "bpfdb $*: request $request for memory, if there is one, refused" "$status" "$output" "$errors"
+    check "$name $*: request $request for memory, if there is one, refused" "$status" "$output" "$errors"
     refuse "$request" all "$@"
-    check "bpfdb $*: there is no request for memory after $((request - 1))" "$status" "$output" "$errors"
+    check "$name $*: there is no request for memory after $((request - 1))" "$status" "$output" "$errors"
     sort -u met > found/out
     printf '%b' "$lines" | sort > wanted/out
     : > found/err
     : > wanted/err
     cp wanted/status found/status
-    compare "bpfdb $*: what is said of refused requests"
+    compare "$name $*: what is said of refused requests"
 }
 
 # Each subcommand, with and without a listing, and with its other ends; help; and a command line that is none.
@@ -120,6 +129,10 @@ wants_usage "unrecognized subcommand 'rum'" rum program
 wants_usage "unexpected argument '--frob' found" run --frob program
 wants_usage "invalid value '0' for '--steps <N>': 0 is not in 1..=1000000000" run --steps 0 program
 
+printf '$s#73' > script
+wants "$plain$c13$o2$j2" 0 '+$T05#b9' '' gdb --maps 8x2 program
+: > script
+
 # Sessions: each request that can be refused is one before the first command, and then nothing is replied. A session that has begun
 # makes none, also one whose moves go around the end of its journal.
 others='r1=0x0 r2=0x0 r3=0x0 r4=0x0 r5=0x0 r6=0x0 r7=0x0 r8=0x0 r9=0x0 r10=0x200000200\n'
@@ -133,3 +146,160 @@ wants "$plain$c13$o2$j2" 0 \
 printf 'stepi 10000\ninfo history\nreverse-stepi 9362\nredo 9363\n' > script
 wants "$plain$c13$o2$j2" 0 \
     '10000 forward; done; at 0: ja L0\n9362 moves, 0 commands, 65534 of 65536 bytes\n9362 back; done; at 0: ja L0\n9362 redone; all; at 0: ja L0\n' '' debug endless
+
+# The calls of the libraries, in crates/memory_calls: each answers by its own number, or by `out of memory` where it has none.
+sh "$top/tests/build.sh" memory_calls || exit 1
+tool=$program
+program=$top/crates/memory_calls/out/memory_calls
+name=memory_calls
+unreached=3
+: > script
+bytes words 07 00 00 00 01 00 00 00 a5 00 fe ff 03 00 00 00 EXIT
+words=$text
+listing='L0:\nadd r0, 1\njlt r0, 3, L0\nexit\n'
+wants "$c13" 0 "$words" '' check
+wants "$a7" 0 "$words" '' assemble
+wants "$plain" 0 "$listing" '' disassemble
+wants "$o2" 0 '\01\02\03\04\05\06\07\010' '' memory
+wants "$o2" 0 '\01\02\03\04\05\06\07\010' '' machine
+wants '' 0 '1024' '' list
+wants "$j2" 0 '1024' '' ring
+wants "$plain" 0 "$words" '' program
+wants "$plain" 0 "$words" '' context
+wants "$plain" 0 "$words" '' source
+cp calls.o script
+bytes linked 85 10 00 00 06 00 00 00 bf 01 00 00 00 00 00 00 85 10 00 00 01 00 00 00 EXIT \
+    bf 10 00 00 00 00 00 00 07 00 00 00 01 00 00 00 EXIT bf 10 00 00 00 00 00 00 27 00 00 00 03 00 00 00 EXIT
+wants "$e26" 0 "$text" '' link
+
+# replies CALL: scripts over a list of entries, whose pushes take memory: the runs in which a request is refused, alone (one) or with each
+# later one (all), up to the first that meets no refusal. Each is a part of the file `told` that begins with its number and how.
+replies() {
+    : > told
+    request=1
+    while [ "$request" -le "$most" ]; do
+        for all in one all; do
+            refuse "$request" "${all#one}" "$1"
+            if [ "$found" = "$unreached" ]; then
+                lacks "memory_calls $1: request $request for memory refused"
+                continue
+            fi
+            count=$((count + 1))
+            [ "$found" = 0 ] && ! [ -s found/err ] || complain "memory_calls $1: request $request for memory refused: status $found"
+            { echo "== $request $all"; cat found/out; } >> told
+        done
+        [ "$found" = 0 ] && cmp -s stated found/out && break
+        request=$((request + 1))
+    done
+    [ "$request" -le "$most" ] || complain "memory_calls $1: requests for memory up to $most refused"
+}
+
+# hold CALL RULES: each run of the last sweep printed what the rules (of awk) make of how far its moves were kept.
+hold() {
+    awk -v call="$1" '
+        function hexadecimal(n, text) {
+            for (text = ""; n > 0; n = int(n / 16)) text = substr("0123456789abcdef", n % 16 + 1, 1) text
+            return "0x" (text == "" ? "0" : text)
+        }
+        # is_kept(reply): whether the next line is this reply; else it has to be a refusal for want of memory, and then it is told once.
+        function is_kept(reply) {
+            if (lines[at + 1] == reply) { at++; kept++; if (refused && how == "all") wrong = 1; return 1 }
+            say("refused Q15: out of memory")
+            refused++
+            return 0
+        }
+        # say(reply): the next line is this one.
+        function say(reply) { if (lines[++at] != reply) { wrong = 1; if (wanted == "") wanted = reply } }
+        # count_of(word): the number at the beginning of the next line, where the word stands behind it; else 0.
+        function count_of(word, words) {
+            split(lines[at + 1], words, " ")
+            return words[2] == word ";" || words[2] == word ? words[1] + 0 : 0
+        }
+        '"$2"'
+        function judge() {
+            at = kept = refused = wrong = 0
+            wanted = ""
+            rules()
+            if (at != count) wrong = 1
+            if (refused > 1 && how == "one") wrong = 1
+            met[refused > 0]++
+            if (wrong) { printf "  request %s (%s): line %d: %s (wanted: %s)\n", request, how, at, lines[at], wanted; bad++ }
+        }
+        /^== / { if (request) judge(); request = $2; how = $3; count = 0; delete lines; next }
+        { lines[++count] = $0 }
+        END { judge(); exit bad > 0 || !met[0] || !met[1] }
+    ' told > wrong || complain "memory_calls $1: what is answered where requests for memory are refused"
+    head -n 10 wrong
+}
+
+# (of a run without refusals: two steps, of 16 and 5 bytes)
+printf '2 forward; end; exited at 1: r0 0x2a\nr0=0x2a r1=0x0 r2=0x0 r3=0x0 r4=0x0 r5=0x0 r6=0x0 r7=0x0 r8=0x0 r9=0x0 r10=0x200000200\n' > stated
+printf 'exited at 1: r0 0x2a\n2 moves, 1 commands, 21 of 1024 bytes\n' >> stated
+: > script
+replies answer
+hold answer '
+    function rules(k) {
+        k = count_of("forward")
+        place = k == 0 ? "at 0: mov r0, 42" : k == 1 ? "at 1: exit" : "exited at 1: r0 0x2a"
+        if (k == 2) say("2 forward; end; " place)
+        else { refused = 1; say(k == 1 ? "1 forward; memory; " place : "refused Q15: out of memory") }
+        say("r0=" (k ? "0x2a" : "0x0") " r1=0x0 r2=0x0 r3=0x0 r4=0x0 r5=0x0 r6=0x0 r7=0x0 r8=0x0 r9=0x0 r10=0x200000200")
+        say(place)
+        say(k " moves, " (k > 0) " commands, " (k == 2 ? 21 : 16 * k) " of 1024 bytes")
+    }'
+
+# (of a hundred steps by turns of 16 and 7 bytes the newest that fit the journal are kept; fifty go back, and are made again)
+printf '100 forward; done; at 0: add r0, 1\n89 moves, 0 commands, 1019 of 1024 bytes\n50 back; done; at 0: add r0, 1\n' > stated
+printf '50 redone; done; at 0: add r0, 1\n89 moves, 0 commands, 1019 of 1024 bytes\n' >> stated
+printf 'r0=0x32 r1=0x0 r2=0x0 r3=0x0 r4=0x0 r5=0x0 r6=0x0 r7=0x0 r8=0x0 r9=0x0 r10=0x200000200\nat 0: add r0, 1\n' >> stated
+replies loop
+hold loop '
+    function place() { return newest % 2 ? "at 1: ja L0" : "at 0: add r0, 1" }
+    function weighs(move) { return move % 2 ? 16 : 7 }
+    function history() {
+        say((newest - oldest + 1) " moves, " (oldest == 1 && newest > 0) " commands, " weight " of 1024 bytes")
+    }
+    function rules(moves, back, again) {
+        newest = count_of("forward")
+        oldest = 1
+        weight = 0
+        for (moves = 1; moves <= newest; moves++) weight += weighs(moves)
+        while (weight > 1024) weight -= weighs(oldest++)
+        if (newest < 100) refused = 1
+        say(newest == 0 ? "refused Q15: out of memory" : newest " forward; " (newest < 100 ? "memory" : "done") "; " place())
+        history()
+        moves = newest - oldest + 1
+        back = moves < 50 ? moves : 50
+        for (; back > 0 && newest > moves + oldest - 1 - back; newest--) weight -= weighs(newest)
+        say(back == 0 ? "refused Q4: no kept step" : back " back; " (back < 50 ? "start" : "done") "; " place())
+        again = count_of("redone")
+        for (moves = 1; moves <= again; moves++) weight += weighs(++newest)
+        if (again < back) { refused++; if (how == "all" && refused > 1 && again > 0) wrong = 1 }
+        if (back == 0) say("refused Q13: nothing to redo")
+        else if (again == 0) say("refused Q15: out of memory")
+        else say(again " redone; " (again == 50 ? "done" : again == back ? "all" : "memory") "; " place())
+        history()
+        say("r0=" hexadecimal(int((newest + 1) / 2)) " r1=0x0 r2=0x0 r3=0x0 r4=0x0 r5=0x0 r6=0x0 r7=0x0 r8=0x0 r9=0x0 r10=0x200000200")
+        say(place())
+    }'
+
+# (edits of a register, of 2 bytes, of a cell of 8 and of pc, a call and a store of a byte: 14, 15, 21, 16, 519 and 17 bytes)
+printf 'ok\nok\nok\n1 forward; done; at 2: stb [r10-8], 7\nok\n1 forward; done; at 3: exit\n6 moves, 6 commands, 602 of 1024 bytes\n' > stated
+printf 'r0=0x0 r1=0x0 r2=0x0 r3=0x0 r4=0x0 r5=0x0 r6=0x1 r7=0x0 r8=0x0 r9=0x0 r10=0x200000600\nat 3: exit\n' >> stated
+printf '0x200000000: 0102\n0x300000008: 0102030405060708\n' >> stated
+replies edits
+hold edits '
+    function rules(register, bytes, cell, call, jump, store) {
+        register = is_kept("ok")
+        bytes = is_kept("ok")
+        cell = is_kept("ok")
+        call = is_kept("1 forward; done; at 2: stb [r10-8], 7")
+        jump = is_kept("ok")
+        store = is_kept("1 forward; done; at 3: exit")
+        say(kept " moves, " kept " commands, " 14 * register + 15 * bytes + 21 * cell + 519 * call + 16 * jump + 17 * store " of 1024 bytes")
+        say("r0=0x0 r1=0x0 r2=0x0 r3=0x0 r4=0x0 r5=0x0 r6=0x" register " r7=0x0 r8=0x0 r9=0x0 r10=0x200000" (call ? "6" : "2") "00")
+        say(store ? "at 3: exit" : call || jump ? "at 2: stb [r10-8], 7" : "at 0: callf L2")
+        say("0x200000000: " (bytes ? "0102" : "0000"))
+        say("0x300000008: " (cell ? "0102030405060708" : "0000000000000000"))
+    }'
+program=$tool

@@ -1,0 +1,136 @@
+//! Programs: their words, listings and objects, and the machines that are opened on them.
+ghost use Rattle.std.specs.Prelude.{◌≤◌};
+
+use crate::NOT_REACHED;
+use crate::telling::{refuse, say, tell_memory};
+use bpf_isa::{MapTable, Program, check};
+use bpf_link::link;
+use bpf_machine::{Cpu, Memory};
+use bpf_text::{assemble, disassemble};
+use counted_io::Counted;
+use std::alloc::Global;
+use std::io::{Read, Write};
+
+/// A listing with a label, a comment and a number in hexadecimal.
+const LISTING: &[u8] = b"; count\nloop: add r0, 1\njlt r0, 0x3, loop\nexit\n";
+
+/// Its words.
+pub const WORDS: [u8; 24] = [
+    0x07, 0, 0, 0, 1, 0, 0, 0, 0xa5, 0, 0xfe, 0xff, 3, 0, 0, 0, 0x95, 0, 0, 0, 0, 0, 0, 0,
+];
+
+/// The bytes of a context.
+const CONTEXT: [u8; 8] = [1, 2, 3, 4, 5, 6, 7, 8];
+
+/// The most bytes of an object.
+const OBJECT_BYTES: usize = 4_096;
+
+/// The program of the listing; none where memory runs out.
+fn program(alloc: Global) -> Option<Program> {
+    check(alloc, &WORDS, &MapTable::empty()).ok()
+}
+
+/// `check`: the bytes of the program.
+pub fn check_words<W: Write, E: Write>(
+    alloc: Global,
+    output: &mut Counted<W>,
+    errors: &mut Counted<E>,
+) -> u8 {
+    match check(alloc, &WORDS, &MapTable::empty()) {
+        Ok(program) => say(output, program.bytes()),
+        Err(fault) => refuse(errors, "C", fault.number(), fault.text()),
+    }
+}
+
+/// `assemble`: the words.
+pub fn assemble_listing<W: Write, E: Write>(
+    alloc: Global,
+    output: &mut Counted<W>,
+    errors: &mut Counted<E>,
+) -> u8 {
+    match assemble(alloc, LISTING) {
+        Ok(words) => say(output, &words),
+        Err(fault) => refuse(errors, "A", fault.number(), fault.text()),
+    }
+}
+
+/// `disassemble`: the canonical listing.
+pub fn disassemble_program<W: Write, E: Write>(
+    alloc: Global,
+    output: &mut Counted<W>,
+    errors: &mut Counted<E>,
+) -> u8 {
+    let Some(program) = program(alloc) else {
+        return NOT_REACHED;
+    };
+    match disassemble(alloc, &program) {
+        Ok(text) => say(output, &text),
+        Err(_) => tell_memory(errors),
+    }
+}
+
+/// `link`: the words of the object on standard input.
+pub fn link_object<W: Write, E: Write>(
+    rt: &HostRuntime,
+    output: &mut Counted<W>,
+    errors: &mut Counted<E>,
+) -> u8 {
+    let mut object = [0u8; OBJECT_BYTES];
+    let count = first_bytes(&mut rt.reader(), &mut object);
+    match link(rt.alloc(), &object[..count], b"") {
+        Ok(linked) => say(output, &linked.words),
+        Err(fault) => refuse(errors, "E", fault.number(), fault.text()),
+    }
+}
+
+/// How many bytes a reader gives that fit.
+fn first_bytes<R: Read>(reader: &mut R, bytes: &mut [u8; OBJECT_BYTES]) -> usize
+    ensures { result ≤ 4096 }
+{
+    let mut count = 0;
+    while count < OBJECT_BYTES {
+        match reader.read(&mut bytes[count..]) {
+            Ok(0) => return count,
+            Ok(more) => count += more,
+            Err(_) => return count,
+        }
+    }
+    count
+}
+
+/// `Memory::open`: the context.
+pub fn open_memory<W: Write, E: Write>(
+    alloc: Global,
+    output: &mut Counted<W>,
+    errors: &mut Counted<E>,
+) -> u8 {
+    let mut maps = MapTable::empty();
+    if maps.add(8, 2).is_err() {
+        return NOT_REACHED;
+    }
+    match Memory::open(alloc, &maps, &CONTEXT) {
+        Ok(mut memory) => match memory.bytes_mut(0x1_0000_0000, 8) {
+            Some(bytes) => say(output, bytes),
+            None => NOT_REACHED,
+        },
+        Err(fault) => refuse(errors, "O", fault.number(), fault.text()),
+    }
+}
+
+/// `Cpu::open`: the context.
+pub fn open_machine<W: Write, E: Write>(
+    alloc: Global,
+    output: &mut Counted<W>,
+    errors: &mut Counted<E>,
+) -> u8 {
+    let Some(program) = program(alloc) else {
+        return NOT_REACHED;
+    };
+    match Cpu::open(alloc, program, &CONTEXT) {
+        Ok(cpu) => match cpu.peek(0x1_0000_0000, 8) {
+            Some(bytes) => say(output, bytes),
+            None => NOT_REACHED,
+        },
+        Err(fault) => refuse(errors, "O", fault.number(), fault.text()),
+    }
+}

@@ -1,0 +1,123 @@
+//! Journals, and scripts over a list of entries: each of its pushes takes memory.
+use crate::NOT_REACHED;
+use crate::telling::{refuse, say_number, tell_failure};
+use bpf_isa::{MapTable, check};
+use bpf_journal::{Keeper, ListKeeper, RingKeeper};
+use bpf_machine::Cpu;
+use bpf_session::{Session, run};
+use counted_io::Counted;
+use std::alloc::Global;
+use std::io::Write;
+
+/// The smallest size of a journal.
+const SIZE: usize = 1_024;
+
+/// The most steps of a command.
+const LIMIT: u64 = 1_000_000;
+
+/// mov r0, 42; exit.
+const ANSWER: [u8; 16] = [0xb7, 0, 0, 0, 0x2a, 0, 0, 0, 0x95, 0, 0, 0, 0, 0, 0, 0];
+
+/// add r0, 1; ja L0.
+const LOOP: [u8; 16] = [0x07, 0, 0, 0, 1, 0, 0, 0, 0x05, 0, 0xfe, 0xff, 0, 0, 0, 0];
+
+/// callf L2; exit; stb [r10-8], 7; exit.
+const CALL: [u8; 32] = [
+    0x85, 0x10, 0, 0, 1, 0, 0, 0, 0x95, 0, 0, 0, 0, 0, 0, 0, 0x72, 0x0a, 0xf8, 0xff, 7, 0, 0, 0,
+    0x95, 0, 0, 0, 0, 0, 0, 0,
+];
+
+/// A program and a script.
+#[derive(Clone, Copy)]
+pub enum Script {
+    /// A few steps, and what they left.
+    Answer,
+    /// More steps than the journal holds, most of them taken back and made again.
+    Loop,
+    /// An edit of each kind, and a step of each of several kinds.
+    Edits,
+}
+
+impl Script {
+    /// The program's words.
+    fn words(self) -> &'static [u8] {
+        match self {
+            Script::Answer => &ANSWER,
+            Script::Loop => &LOOP,
+            Script::Edits => &CALL,
+        }
+    }
+
+    /// The commands.
+    fn text(self) -> &'static [u8] {
+        match self {
+            Script::Answer => b"stepi 2\ninfo regs\ninfo history\n",
+            Script::Loop => {
+                b"stepi 100\ninfo history\nreverse-stepi 50\nredo 50\ninfo history\ninfo regs\n"
+            }
+            Script::Edits => {
+                b"set reg r6 1\nset mem 0x200000000 0102\nset cell 0 1 0102030405060708\nstepi\nset pc 2\nstepi\n\
+                info history\ninfo regs\nx 0x200000000 2\nx 0x300000008 8\n"
+            }
+        }
+    }
+}
+
+/// `ListKeeper::open`: the size.
+pub fn open_list<W: Write, E: Write>(
+    alloc: Global,
+    output: &mut Counted<W>,
+    errors: &mut Counted<E>,
+) -> u8 {
+    match ListKeeper::open(alloc, SIZE) {
+        Ok(keeper) => say_number(output, keeper.capacity()),
+        Err(fault) => refuse(errors, "J", fault.number(), fault.text()),
+    }
+}
+
+/// `RingKeeper::open`: the size.
+pub fn open_ring<W: Write, E: Write>(
+    alloc: Global,
+    output: &mut Counted<W>,
+    errors: &mut Counted<E>,
+) -> u8 {
+    match RingKeeper::open(alloc, SIZE) {
+        Ok(keeper) => say_number(output, keeper.capacity()),
+        Err(fault) => refuse(errors, "J", fault.number(), fault.text()),
+    }
+}
+
+/// A machine before its first step; none where memory runs out.
+fn machine(alloc: Global, words: &[u8]) -> Option<Cpu> {
+    let mut maps = MapTable::empty();
+    if maps.add(8, 2).is_err() {
+        return None;
+    }
+    let program = check(alloc, words, &maps).ok()?;
+    Cpu::open(alloc, program, b"").ok()
+}
+
+/// `run` over a list: the replies.
+pub fn run_script<W: Write, E: Write>(
+    alloc: Global,
+    script: Script,
+    output: &mut Counted<W>,
+    errors: &mut Counted<E>,
+) -> u8 {
+    let Some(cpu) = machine(alloc, script.words()) else {
+        return NOT_REACHED;
+    };
+    let keeper = match ListKeeper::open(alloc, SIZE) {
+        Ok(keeper) => keeper,
+        Err(_) => return NOT_REACHED,
+    };
+    let redo = match RingKeeper::open(alloc, SIZE) {
+        Ok(redo) => redo,
+        Err(_) => return NOT_REACHED,
+    };
+    let mut session = Session::open(cpu, keeper, redo, LIMIT);
+    match run(&mut session, &mut Counted::new(script.text()), output) {
+        Ok(()) => 0,
+        Err(_) => tell_failure(errors),
+    }
+}
