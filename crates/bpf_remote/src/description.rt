@@ -20,7 +20,7 @@ pub(crate) const X86_XML: &str = r#"<?xml version="1.0"?>
 <reg name="r9" bitsize="64" type="int64"/>
 <reg name="r10" bitsize="64" type="int64"/>
 <reg name="rip" bitsize="64" type="code_ptr"/>
-<reg name="r11" bitsize="64" type="int64" regnum="20"/>
+<reg name="r11" bitsize="64" type="int64" regnum="23"/>
 <reg name="r12" bitsize="64" type="int64"/>
 <reg name="r13" bitsize="64" type="int64"/>
 <reg name="r14" bitsize="64" type="int64"/>
