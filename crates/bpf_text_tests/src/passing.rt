@@ -57,9 +57,11 @@ impl Read for Tenth {
 // many calls there are. None of them is a flush.
 #[test]
 fn writes_in_short_pieces(rt: HostRuntime) -> Result<(), Fail> {
-    for (step, number, taken, failures, calls) in
-        [(2, 0, "abcde", 0, 3), (3, 2, "abc", 1, 2), (5, 1, "", 1, 1)]
-    {
+    for (step, number, taken, failures, calls) in [
+        (2, 0, "abcde", 0, 3),
+        (3, 2, "abc", 1, 2),
+        (5, 1, "", 1, 1),
+    ] {
         let mut paced = Paced::refusing(Vec::new(rt.alloc()), step, number);
         let mut writer = Counted::new(&mut paced);
         let is_written = write_text(&mut writer, b"abcde").is_ok();
@@ -67,7 +69,11 @@ fn writes_in_short_pieces(rt: HostRuntime) -> Result<(), Fail> {
         assert_eq!(rt; is_written, failures == 0, "pieces of {step}");
         assert_eq!(rt; counted, failures, "pieces of {step}");
         assert_eq!(rt; paced.calls(), calls, "pieces of {step}");
-        assert_eq!(rt; paced.into_inner().as_slice(), taken.as_bytes(), "pieces of {step}");
+        assert_eq!(rt;
+            paced.into_inner().as_slice(),
+            taken.as_bytes(),
+            "pieces of {step}"
+        );
     }
     Ok(())
 }

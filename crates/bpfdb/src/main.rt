@@ -246,15 +246,7 @@ fn do_over_reader<R: Read + Drop, W: Write>(
         return give_up(errors, &JobFault::Memory);
     };
     let mut reader = Counted::new(input);
-    do_or_serve(
-        rt.alloc(),
-        plan,
-        file,
-        context,
-        &mut reader,
-        writer,
-        errors,
-    )
+    do_or_serve(rt.alloc(), plan, file, context, &mut reader, writer, errors)
 }
 
 /// Serves gdb where the plan says so, and else does the plan's job.
