@@ -83,19 +83,14 @@ pub fn link_object<W: Write, E: Write>(
     }
 }
 
-/// How many bytes a reader gives that fit.
+/// How many bytes one read gives. (A small file is read whole by it.)
 fn first_bytes<R: Read>(reader: &mut R, bytes: &mut [u8; OBJECT_BYTES]) -> usize
     ensures { result ≤ 4096 }
 {
-    let mut count = 0;
-    while count < OBJECT_BYTES {
-        match reader.read(&mut bytes[count..]) {
-            Ok(0) => return count,
-            Ok(more) => count += more,
-            Err(_) => return count,
-        }
+    match reader.read(bytes) {
+        Ok(count) => count.min(OBJECT_BYTES),
+        Err(_) => 0,
     }
-    count
 }
 
 /// `Memory::open`: the context.
