@@ -53,7 +53,7 @@ check 'bpfdb link arrays.o, and the output is full' 2 '' 'cannot write output\n'
 # none is (the type of the first is that of a hash).
 { head -c 192 arrays.o; printf '\000'; tail -c +194 arrays.o; } > sizeless.o
 row 'bpfdb link sizeless.o' 0 "$script_unread" "$text" '--maps 0x2,16x256\n' link sizeless.o
-refused 'refused M1: value size out of range' check --maps 0x2,16x256 arrays
+refused 'refused M1: value size not 1 to 256' check --maps 0x2,16x256 arrays
 { head -c 184 arrays.o; printf '\001'; tail -c +186 arrays.o; } > hash.o
 result "$text" link hash.o
 
