@@ -6,10 +6,12 @@ use Rattle.bpf_isa.specs.declared.instruction.Insn.{Insn}
 use Rattle.bpf_isa.specs.declared.instruction.Insn.TheVariants as insn
 use Rattle.bpf_isa.specs.declared.instruction.Source.{Source}
 use Rattle.bpf_isa.specs.declared.instruction.Source.TheVariants as source
+use Rattle.bpf_isa.specs.declared.instruction.WideValue.TheVariants as value
 use Rattle.bpf_isa.specs.declared.instruction.SourceKind.{SourceKind}
 use Rattle.bpf_isa.specs.declared.instruction.SourceKind.TheVariants.{Immediate, Register}
 use Rattle.bpf_isa.specs.declared.mnemonic.Mnemonic.{Mnemonic}
-use Rattle.bpf_isa.specs.declared.mnemonic.Mnemonic.TheVariants.{Binary, Negate, SignExtend, SwapBytes, JumpIf, Jump, JumpLong, CallHelper, CallLocal, Exit, Load, LoadSigned, StoreImmediate, StoreRegister, Atomic, LoadNumber, LoadMap, LoadMapValue}
+use Rattle.bpf_isa.specs.declared.mnemonic.Mnemonic.TheVariants.{Binary, Negate, SignExtend, SwapBytes, JumpIf, Jump, JumpLong, CallHelper, CallLocal, Exit, Load, Store, Atomic, LoadWide}
+use Rattle.bpf_isa.specs.declared.mnemonic.WideKind.TheVariants.{Number, Map, MapValue}
 use Rattle.bpf_isa.specs.declared.fields.Fields.{Fields}
 use Rattle.bpf_isa.specs.declared.fault.WordFault.{WordFault}
 use Rattle.bpf_isa.specs.declared.fault.WordFault.TheVariants.{UnknownInstruction, RegisterAboveTen, UnusedField, CutOff}
@@ -34,14 +36,12 @@ reading JumpLong kind f = insn.JumpLong (cast_signed w32 f.imm)
 reading CallHelper kind f = insn.CallHelper f.imm
 reading CallLocal kind f = insn.CallLocal (cast_signed w32 f.imm)
 reading Exit kind f = insn.Exit
-reading (Load size) kind f = insn.Load size f.dst f.src (cast_signed w16 f.offset)
-reading (LoadSigned size) kind f = insn.LoadSigned size f.dst f.src (cast_signed w16 f.offset)
-reading (StoreImmediate size) kind f = insn.StoreImmediate size f.dst (cast_signed w16 f.offset) (cast_signed w32 f.imm)
-reading (StoreRegister size) kind f = insn.StoreRegister size f.dst f.src (cast_signed w16 f.offset)
-reading (Atomic op width) kind f = insn.Atomic op width f.dst f.src (cast_signed w16 f.offset)
-reading LoadNumber kind f = insn.LoadNumber f.dst (f.imm + 4294967296 * f.next)
-reading LoadMap kind f = insn.LoadMap f.dst f.imm
-reading LoadMapValue kind f = insn.LoadMapValue f.dst f.imm f.next
+reading (Load size) kind f = insn.Load size f.dst (record { base = f.src; offset = cast_signed w16 f.offset })
+reading (Store size form) kind f = insn.Store size (record { base = f.dst; offset = cast_signed w16 f.offset }) (operand form f)
+reading (Atomic op width) kind f = insn.Atomic op width (record { base = f.dst; offset = cast_signed w16 f.offset }) f.src
+reading (LoadWide Number) kind f = insn.LoadWide f.dst (value.Number (f.imm + 4294967296 * f.next))
+reading (LoadWide Map) kind f = insn.LoadWide f.dst (value.Map f.imm)
+reading (LoadWide MapValue) kind f = insn.LoadWide f.dst (value.MapValue f.imm f.next)
 
 reads_as : (mnemonic : Mnemonic) (kind : SourceKind) (f : Fields) → HasCodes (row mnemonic kind) f → ReadsAs f (reading mnemonic kind f)
 reads_as mnemonic kind f codes = grind arith

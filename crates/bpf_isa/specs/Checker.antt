@@ -2,7 +2,8 @@
 use Rattle.std.specs.Prelude.{◌≡◌, ◌≢◌, ◌<◌, ◌≤◌, ◌⊎◌, ℕ, zero, suc, ℤ, pos, negsuc, ◌+◌, ◌*◌, ◌/◌, ◌%◌, Bool, true, not, ◌&&◌, ◌==◌, if◌then◌else◌, IsTrue, List, Some, IfSome, MatchOption, length, map, take, drop, slice_index, slice_get}
 use Rattle.std.specs.List.{concat, filter, range_with_len}
 use Rattle.bpf_isa.specs.declared.instruction.Insn.{Insn}
-use Rattle.bpf_isa.specs.declared.instruction.Insn.TheVariants.{CallHelper, LoadMap, LoadMapValue}
+use Rattle.bpf_isa.specs.declared.instruction.Insn.TheVariants.{CallHelper, LoadWide}
+use Rattle.bpf_isa.specs.declared.instruction.WideValue.TheVariants.{Map, MapValue}
 use Rattle.bpf_isa.specs.declared.maps.MapShape.{MapShape}
 use Rattle.bpf_isa.specs.declared.fault.PieceFault.{PieceFault}
 use Rattle.bpf_isa.specs.declared.fault.PieceFault.TheVariants.{Word, WritesFramePointer, NoTarget, RunsOff, UnknownHelper, NoMap}
@@ -72,8 +73,8 @@ HelperExists _ = Unit {0}
 
 -- A wide load's map exists, and the byte that it names lies in the map's values.
 abbrev pub MapExists : List MapShape → Insn → Type 0
-MapExists maps (LoadMap dst map) = map < length maps
-MapExists maps (LoadMapValue dst map offset) = MatchOption (slice_get maps map) ⊥ (λ shape. offset < shape.value_size * shape.entries)
+MapExists maps (LoadWide dst (Map map)) = map < length maps
+MapExists maps (LoadWide dst (MapValue map offset)) = MatchOption (slice_get maps map) ⊥ (λ shape. offset < shape.value_size * shape.entries)
 MapExists maps _ = Unit {0}
 
 -- The piece at a slot reads as an instruction that something holds of.

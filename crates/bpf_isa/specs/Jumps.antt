@@ -34,13 +34,9 @@ condition_opcode SignedLessOrEqual = jmp 0xd5 0xdd 0xd6 0xde
 abbrev pub condition_row : Condition → Width → SourceKind → Row
 condition_row condition width source = record { opcode = condition_opcode condition width source; dst = Used; src = src_of source; offset = Used; imm = imm_of source; next = Unused }
 
--- CALL: src_reg 0 calls a helper, imm is its number; src_reg 1 calls a local function.
-abbrev pub call_helper_row : Row
-call_helper_row = record { opcode = 0x85; dst = Unused; src = Code 0; offset = Unused; imm = Used; next = Unused }
-
--- CALL of a local function: imm is the distance.
-abbrev pub call_local_row : Row
-call_local_row = record { opcode = 0x85; dst = Unused; src = Code 1; offset = Unused; imm = Used; next = Unused }
+-- CALL: imm is a helper's number where src_reg is 0, and the distance of a local function where it is 1.
+abbrev pub call_row : ℕ → Row
+call_row kind = record { opcode = 0x85; dst = Unused; src = Code kind; offset = Unused; imm = Used; next = Unused }
 
 -- EXIT uses nothing.
 abbrev pub exit_row : Row

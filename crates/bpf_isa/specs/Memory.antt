@@ -4,12 +4,16 @@ use Rattle.bpf_isa.specs.declared.instruction.Width.{Width}
 use Rattle.bpf_isa.specs.declared.instruction.Width.TheVariants.{Bits32, Bits64}
 use Rattle.bpf_isa.specs.declared.instruction.Size.{Size}
 use Rattle.bpf_isa.specs.declared.instruction.Size.TheVariants.{Word, Half, Byte, Double}
-use Rattle.bpf_isa.specs.declared.instruction.SignedSize.{SignedSize}
 use Rattle.bpf_isa.specs.declared.instruction.SignedSize.TheVariants.{Word as SignedWord, Half as SignedHalf, Byte as SignedByte}
+use Rattle.bpf_isa.specs.declared.instruction.LoadSize.{LoadSize}
+use Rattle.bpf_isa.specs.declared.instruction.LoadSize.TheVariants.{Plain, Signed}
+use Rattle.bpf_isa.specs.declared.instruction.SourceKind.{SourceKind}
+use Rattle.bpf_isa.specs.declared.instruction.SourceKind.TheVariants.{Immediate, Register}
 use Rattle.bpf_isa.specs.declared.instruction.AtomicOp.{AtomicOp}
 use Rattle.bpf_isa.specs.declared.instruction.AtomicOp.TheVariants.{Add, Or, And, Xor, FetchAdd, FetchOr, FetchAnd, FetchXor, Exchange, CompareExchange}
 use Rattle.bpf_isa.specs.declared.row.Field.TheVariants.{Unused, Code, Used}
 use Rattle.bpf_isa.specs.declared.row.Row.{Row}
+use Rattle.bpf_isa.specs.Rows.{imm_of, src_of}
 
 -- The opcodes of the sizes W, H, B, DW.
 abbrev pub sizes : ℕ → ℕ → ℕ → ℕ → Size → ℕ
@@ -18,39 +22,25 @@ sizes w h b dw Half = h
 sizes w h b dw Byte = b
 sizes w h b dw Double = dw
 
--- MEM in class LDX.
-abbrev pub load_opcode : Size → ℕ
-load_opcode = sizes 0x61 0x69 0x71 0x79
+-- Class LDX: MEM, and MEMSX, which extends the sign.
+abbrev pub load_opcode : LoadSize → ℕ
+load_opcode (Plain size) = sizes 0x61 0x69 0x71 0x79 size
+load_opcode (Signed SignedWord) = 0x81
+load_opcode (Signed SignedHalf) = 0x89
+load_opcode (Signed SignedByte) = 0x91
 
 -- dst takes what stands at src + offset.
-abbrev pub load_row : Size → Row
+abbrev pub load_row : LoadSize → Row
 load_row size = record { opcode = load_opcode size; dst = Used; src = Used; offset = Used; imm = Unused; next = Unused }
 
--- MEMSX in class LDX.
-abbrev pub load_signed_opcode : SignedSize → ℕ
-load_signed_opcode SignedWord = 0x81
-load_signed_opcode SignedHalf = 0x89
-load_signed_opcode SignedByte = 0x91
+-- MEM in class ST (form K) and in class STX (form X).
+abbrev pub store_opcode : Size → SourceKind → ℕ
+store_opcode size Immediate = sizes 0x62 0x6a 0x72 0x7a size
+store_opcode size Register = sizes 0x63 0x6b 0x73 0x7b size
 
--- dst takes what stands at src + offset, its sign extended.
-abbrev pub load_signed_row : SignedSize → Row
-load_signed_row size = record { opcode = load_signed_opcode size; dst = Used; src = Used; offset = Used; imm = Unused; next = Unused }
-
--- MEM in class ST.
-abbrev pub store_immediate_opcode : Size → ℕ
-store_immediate_opcode = sizes 0x62 0x6a 0x72 0x7a
-
--- imm is stored at dst + offset.
-abbrev pub store_immediate_row : Size → Row
-store_immediate_row size = record { opcode = store_immediate_opcode size; dst = Used; src = Unused; offset = Used; imm = Used; next = Unused }
-
--- MEM in class STX.
-abbrev pub store_register_opcode : Size → ℕ
-store_register_opcode = sizes 0x63 0x6b 0x73 0x7b
-
--- src is stored at dst + offset.
-abbrev pub store_register_row : Size → Row
-store_register_row size = record { opcode = store_register_opcode size; dst = Used; src = Used; offset = Used; imm = Unused; next = Unused }
+-- imm or src is stored at dst + offset.
+abbrev pub store_row : Size → SourceKind → Row
+store_row size kind = record { opcode = store_opcode size kind; dst = Used; src = src_of kind; offset = Used; imm = imm_of kind; next = Unused }
 
 -- ATOMIC in class STX, of 4 and 8 bytes.
 abbrev pub atomic_opcode : Width → ℕ

@@ -5,8 +5,23 @@ use Rattle.bpf_isa.specs.declared.instruction.Source.{Source}
 use Rattle.bpf_isa.specs.declared.instruction.Source.TheVariants as source
 use Rattle.bpf_isa.specs.declared.instruction.SourceKind.{SourceKind}
 use Rattle.bpf_isa.specs.declared.instruction.SourceKind.TheVariants.{Immediate, Register}
+use Rattle.bpf_isa.specs.declared.instruction.WideValue.{WideValue}
+use Rattle.bpf_isa.specs.declared.instruction.WideValue.TheVariants as value
+use Rattle.bpf_isa.specs.declared.mnemonic.WideKind.{WideKind}
+use Rattle.bpf_isa.specs.declared.mnemonic.WideKind.TheVariants.{Number, Map, MapValue}
 use Rattle.bpf_isa.specs.declared.mnemonic.Mnemonic.{Mnemonic}
-use Rattle.bpf_isa.specs.declared.mnemonic.Mnemonic.TheVariants.{Binary, Negate, SignExtend, SwapBytes, JumpIf, Jump, JumpLong, CallHelper, CallLocal, Exit, Load, LoadSigned, StoreImmediate, StoreRegister, Atomic, LoadNumber, LoadMap, LoadMapValue}
+use Rattle.bpf_isa.specs.declared.mnemonic.Mnemonic.TheVariants.{Binary, Negate, SignExtend, SwapBytes, JumpIf, Jump, JumpLong, CallHelper, CallLocal, Exit, Load, Store, Atomic, LoadWide}
+
+-- K for an immediate, X for a register.
+abbrev pub kind_of : Source → SourceKind
+kind_of (source.Immediate value) = Immediate
+kind_of (source.Register src) = Register
+
+-- A wide load's value without its numbers.
+abbrev pub wide_kind_of : WideValue → WideKind
+wide_kind_of (value.Number number) = Number
+wide_kind_of (value.Map map) = Map
+wide_kind_of (value.MapValue map offset) = MapValue
 
 -- The mnemonic of an instruction.
 abbrev pub mnemonic_of : Insn → Mnemonic
@@ -20,21 +35,12 @@ mnemonic_of (insn.JumpLong distance) = JumpLong
 mnemonic_of (insn.CallHelper helper) = CallHelper
 mnemonic_of (insn.CallLocal distance) = CallLocal
 mnemonic_of insn.Exit = Exit
-mnemonic_of (insn.Load size dst src offset) = Load size
-mnemonic_of (insn.LoadSigned size dst src offset) = LoadSigned size
-mnemonic_of (insn.StoreImmediate size dst offset value) = StoreImmediate size
-mnemonic_of (insn.StoreRegister size dst src offset) = StoreRegister size
-mnemonic_of (insn.Atomic op width dst src offset) = Atomic op width
-mnemonic_of (insn.LoadNumber dst value) = LoadNumber
-mnemonic_of (insn.LoadMap dst map) = LoadMap
-mnemonic_of (insn.LoadMapValue dst map offset) = LoadMapValue
+mnemonic_of (insn.Load size dst from) = Load size
+mnemonic_of (insn.Store size to source) = Store size (kind_of source)
+mnemonic_of (insn.Atomic op width to src) = Atomic op width
+mnemonic_of (insn.LoadWide dst value) = LoadWide (wide_kind_of value)
 
--- K for an immediate, X for a register.
-abbrev pub kind_of : Source → SourceKind
-kind_of (source.Immediate value) = Immediate
-kind_of (source.Register src) = Register
-
--- The form of an instruction, K where its line of the tables has no choice.
+-- The form of an instruction where its mnemonic leaves it open, else K.
 abbrev pub insn_kind : Insn → SourceKind
 insn_kind (insn.Binary op width dst source) = kind_of source
 insn_kind (insn.JumpIf condition width dst source offset) = kind_of source

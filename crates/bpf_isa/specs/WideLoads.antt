@@ -1,5 +1,7 @@
 -- Wide loads (RFC 9669, section 5.4): opcode 0x18, told apart by src_reg.
 use Rattle.std.specs.Prelude.{ℕ}
+use Rattle.bpf_isa.specs.declared.mnemonic.WideKind.{WideKind}
+use Rattle.bpf_isa.specs.declared.mnemonic.WideKind.TheVariants.{Number, Map, MapValue}
 use Rattle.bpf_isa.specs.declared.row.Field.{Field}
 use Rattle.bpf_isa.specs.declared.row.Field.TheVariants.{Unused, Code, Used}
 use Rattle.bpf_isa.specs.declared.row.Row.{Row}
@@ -9,17 +11,11 @@ abbrev pub wide_opcode : ℕ
 wide_opcode = 0x18
 
 -- src tells the kind, and next is used or not.
-abbrev pub wide_row : ℕ → Field → Row
-wide_row kind next = record { opcode = wide_opcode; dst = Used; src = Code kind; offset = Unused; imm = Used; next = next }
+abbrev pub wide_with : ℕ → Field → Row
+wide_with src next = record { opcode = wide_opcode; dst = Used; src = Code src; offset = Unused; imm = Used; next = next }
 
--- 0: a number of 64 bits.
-abbrev pub load_number_row : Row
-load_number_row = wide_row 0 Used
-
--- 5: a map by its index.
-abbrev pub load_map_row : Row
-load_map_row = wide_row 5 Unused
-
--- 6: the address of a map's values, plus next.
-abbrev pub load_map_value_row : Row
-load_map_value_row = wide_row 6 Used
+-- A number of 64 bits, its high half in next; a map by its index; a byte of a map's values, its offset in next.
+abbrev pub wide_row : WideKind → Row
+wide_row Number = wide_with 0 Used
+wide_row Map = wide_with 5 Unused
+wide_row MapValue = wide_with 6 Used

@@ -1,9 +1,12 @@
 -- Words: the 8 or 16 bytes that spell an instruction (RFC 9669, section 3).
-use Rattle.std.specs.Prelude.{◌≡◌, ◌<◌, ◌≤◌, ℕ, ◌+◌, ◌*◌, ◌/◌, ◌%◌, List, [], ◌++◌, All, length, slice_index}
+use Rattle.std.specs.Prelude.{◌≡◌, ◌<◌, ◌≤◌, ℕ, ℤ, ◌+◌, ◌*◌, ◌/◌, ◌%◌, List, [], ◌++◌, All, length, slice_index}
 use Rattle.std.specs.Int.{w16, w32, cast_signed}
 use Rattle.bpf_isa.specs.declared.instruction.Insn.{Insn}
 use Rattle.bpf_isa.specs.declared.instruction.Source.{Source}
-use Rattle.bpf_isa.specs.declared.instruction.Insn.TheVariants.{Binary, Negate, SignExtend, SwapBytes, JumpIf, Jump, JumpLong, CallHelper, CallLocal, Exit, Load, LoadSigned, StoreImmediate, StoreRegister, Atomic, LoadNumber, LoadMap, LoadMapValue}
+use Rattle.bpf_isa.specs.declared.instruction.Insn.TheVariants.{Binary, Negate, SignExtend, SwapBytes, JumpIf, Jump, JumpLong, CallHelper, CallLocal, Exit, Load, Store, Atomic, LoadWide}
+use Rattle.bpf_isa.specs.declared.instruction.Address.{Address}
+use Rattle.bpf_isa.specs.declared.instruction.WideValue.{WideValue}
+use Rattle.bpf_isa.specs.declared.instruction.WideValue.TheVariants.{Number, Map, MapValue}
 use Rattle.bpf_isa.specs.declared.instruction.Source.TheVariants.{Immediate, Register}
 use Rattle.bpf_isa.specs.declared.instruction.SourceKind.{SourceKind}
 use Rattle.bpf_isa.specs.declared.mnemonic.Mnemonic.{Mnemonic}
@@ -13,9 +16,9 @@ use Rattle.bpf_isa.specs.declared.row.Row.{Row}
 use Rattle.bpf_isa.specs.Rows.{HasCode, IsClear}
 use Rattle.bpf_isa.specs.Arithmetic.{binary_row, negate_row, extension_row}
 use Rattle.bpf_isa.specs.Swaps.{swap_row}
-use Rattle.bpf_isa.specs.Jumps.{jump_row, jump_long_row, condition_row, call_helper_row, call_local_row, exit_row}
-use Rattle.bpf_isa.specs.Memory.{load_row, load_signed_row, store_immediate_row, store_register_row, atomic_row}
-use Rattle.bpf_isa.specs.WideLoads.{load_number_row, load_map_row, load_map_value_row}
+use Rattle.bpf_isa.specs.Jumps.{jump_row, jump_long_row, condition_row, call_row, exit_row}
+use Rattle.bpf_isa.specs.Memory.{load_row, store_row, atomic_row}
+use Rattle.bpf_isa.specs.WideLoads.{wide_row}
 use Rattle.bpf_isa.specs.Mnemonics.{mnemonic_of, insn_kind}
 use Rattle.bpf_isa.specs.Insns.{slots_of}
 
@@ -28,17 +31,13 @@ row (mnemonic.SwapBytes order width) source = swap_row order width
 row (mnemonic.JumpIf condition width) source = condition_row condition width source
 row mnemonic.Jump source = jump_row
 row mnemonic.JumpLong source = jump_long_row
-row mnemonic.CallHelper source = call_helper_row
-row mnemonic.CallLocal source = call_local_row
+row mnemonic.CallHelper source = call_row 0
+row mnemonic.CallLocal source = call_row 1
 row mnemonic.Exit source = exit_row
 row (mnemonic.Load size) source = load_row size
-row (mnemonic.LoadSigned size) source = load_signed_row size
-row (mnemonic.StoreImmediate size) source = store_immediate_row size
-row (mnemonic.StoreRegister size) source = store_register_row size
+row (mnemonic.Store size kind) source = store_row size kind
 row (mnemonic.Atomic op width) source = atomic_row op width
-row mnemonic.LoadNumber source = load_number_row
-row mnemonic.LoadMap source = load_map_row
-row mnemonic.LoadMapValue source = load_map_value_row
+row (mnemonic.LoadWide kind) source = wide_row kind
 
 -- The row of an instruction.
 abbrev pub row_of : Insn → Row
@@ -85,10 +84,28 @@ pub record HasRegisters (fields : Fields) : Type 0 where
   pub dst : fields.dst ≤ 10
   pub src : fields.src ≤ 10
 
--- The second operand is read from imm as a signed number, or from src.
+-- A signed number of 16 bits in offset.
+abbrev pub HasOffset : ℤ → Fields → Type 0
+HasOffset offset fields = cast_signed w16 fields.offset ≡ offset
+
+-- A signed number of 32 bits in imm.
+abbrev pub HasImmediate : ℤ → Fields → Type 0
+HasImmediate value fields = cast_signed w32 fields.imm ≡ value
+
+-- The second operand: a number in imm, or a register in src.
 abbrev pub HasSource : Source → Fields → Type 0
-HasSource (Immediate value) fields = cast_signed w32 fields.imm ≡ value
+HasSource (Immediate value) fields = HasImmediate value fields
 HasSource (Register src) fields = fields.src ≡ src
+
+-- An address: a register in src (of a load) or dst (of a store), and a number in offset.
+abbrev pub HasAddress : Address → ℕ → Fields → Type 0
+HasAddress address register fields = (register ≡ address.base) × HasOffset address.offset fields
+
+-- A wide load's value: in imm its low half or the map, in next its high half or the byte's offset.
+abbrev pub HasWideValue : WideValue → Fields → Type 0
+HasWideValue (Number value) fields = fields.imm + 4294967296 * fields.next ≡ value
+HasWideValue (Map map) fields = fields.imm ≡ map
+HasWideValue (MapValue map offset) fields = (fields.imm ≡ map) × (fields.next ≡ offset)
 
 -- The parts of an instruction, as they are read from the fields.
 abbrev pub HasParts : Insn → Fields → Type 0
@@ -96,20 +113,16 @@ HasParts (Binary op width dst source) fields = (fields.dst ≡ dst) × HasSource
 HasParts (Negate width dst) fields = fields.dst ≡ dst
 HasParts (SignExtend extension dst src) fields = (fields.dst ≡ dst) × (fields.src ≡ src)
 HasParts (SwapBytes order width dst) fields = fields.dst ≡ dst
-HasParts (JumpIf condition width dst source offset) fields = (fields.dst ≡ dst) × HasSource source fields × (cast_signed w16 fields.offset ≡ offset)
-HasParts (Jump offset) fields = cast_signed w16 fields.offset ≡ offset
-HasParts (JumpLong distance) fields = cast_signed w32 fields.imm ≡ distance
+HasParts (JumpIf condition width dst source offset) fields = (fields.dst ≡ dst) × HasSource source fields × HasOffset offset fields
+HasParts (Jump offset) fields = HasOffset offset fields
+HasParts (JumpLong distance) fields = HasImmediate distance fields
 HasParts (CallHelper helper) fields = fields.imm ≡ helper
-HasParts (CallLocal distance) fields = cast_signed w32 fields.imm ≡ distance
+HasParts (CallLocal distance) fields = HasImmediate distance fields
 HasParts Exit fields = Unit {0}
-HasParts (Load size dst src offset) fields = (fields.dst ≡ dst) × (fields.src ≡ src) × (cast_signed w16 fields.offset ≡ offset)
-HasParts (LoadSigned size dst src offset) fields = (fields.dst ≡ dst) × (fields.src ≡ src) × (cast_signed w16 fields.offset ≡ offset)
-HasParts (StoreImmediate size dst offset value) fields = (fields.dst ≡ dst) × (cast_signed w16 fields.offset ≡ offset) × (cast_signed w32 fields.imm ≡ value)
-HasParts (StoreRegister size dst src offset) fields = (fields.dst ≡ dst) × (fields.src ≡ src) × (cast_signed w16 fields.offset ≡ offset)
-HasParts (Atomic op width dst src offset) fields = (fields.dst ≡ dst) × (fields.src ≡ src) × (cast_signed w16 fields.offset ≡ offset)
-HasParts (LoadNumber dst value) fields = (fields.dst ≡ dst) × (fields.imm + 4294967296 * fields.next ≡ value)
-HasParts (LoadMap dst map) fields = (fields.dst ≡ dst) × (fields.imm ≡ map)
-HasParts (LoadMapValue dst map offset) fields = (fields.dst ≡ dst) × (fields.imm ≡ map) × (fields.next ≡ offset)
+HasParts (Load size dst from) fields = (fields.dst ≡ dst) × HasAddress from fields.src fields
+HasParts (Store size to source) fields = HasAddress to fields.dst fields × HasSource source fields
+HasParts (Atomic op width to src) fields = HasAddress to fields.dst fields × (fields.src ≡ src)
+HasParts (LoadWide dst value) fields = (fields.dst ≡ dst) × HasWideValue value fields
 
 -- The fields read as the instruction: its row's codes and its own parts stand in them. What it doesn't use may be anything.
 pub record ReadsAs (fields : Fields) (insn : Insn) : Type 0 where

@@ -1,7 +1,7 @@
 //! From words to instructions.
 ghost use Rattle.std.specs.Prelude.{◌≡◌, ◌≤◌, ◌⊎◌, ◌↔◌, IsTrue, IfOk, OnOk, IfErr, Ok, ◌++◌, length, slice_index};
-ghost use Rattle.bpf_isa.specs.Mnemonics.{mnemonic_of, kind_of};
-ghost use Rattle.bpf_isa.specs.Words.{row, row_of, HasRegisters, HasSource, HasParts, IsWord};
+ghost use Rattle.bpf_isa.specs.Mnemonics.{mnemonic_of, kind_of, wide_kind_of};
+ghost use Rattle.bpf_isa.specs.Words.{row, row_of, HasRegisters, HasSource, HasAddress, HasWideValue, HasParts, IsWord};
 ghost use Rattle.bpf_isa.specs.Scaffolding.Codec.{IsRead};
 ghost use Rattle.bpf_isa.specs.Faults.{word_fault_number};
 ghost use Rattle.bpf_isa.specs.WideLoads.{wide_opcode};
@@ -10,8 +10,8 @@ ghost use Rattle.bpf_isa.specs.declared.fault.WordFault.TheVariants.{CutOff};
 
 use crate::fault::WordFault;
 use crate::fields::{Fields, read};
-use crate::instruction::{Insn, Source, SourceKind};
-use crate::mnemonic::Mnemonic;
+use crate::instruction::{Address, Insn, Source, SourceKind, WideValue};
+use crate::mnemonic::{Mnemonic, WideKind};
 use crate::opcode::{WIDE_OPCODE, find_mnemonic, source_kind};
 use crate::register::Reg;
 use crate::row::Row;
@@ -35,6 +35,34 @@ fn has_registers(fields: Fields) -> bool
     fields.dst <= 10 && fields.src <= 10
 }
 
+/// The address whose base is this register.
+fn address_of(register: u8, fields: Fields) -> Address
+    requires { register ≤ 10 }
+    ensures { HasAddress result register fields }
+{
+    Address {
+        base: Reg::of(register),
+        offset: fields.offset.cast_signed(),
+    }
+}
+
+/// What a wide load leaves in dst.
+fn wide_value_of(kind: WideKind, fields: Fields) -> WideValue
+    ensures kind { wide_kind_of result ≡ kind }
+    ensures value { HasWideValue result fields }
+{
+    match kind {
+        WideKind::Number => {
+            WideValue::Number(u64::from(fields.imm) + 4294967296 * u64::from(fields.next))
+        }
+        WideKind::Map => WideValue::Map(fields.imm),
+        WideKind::MapValue => WideValue::MapValue {
+            map: fields.imm,
+            offset: fields.next,
+        },
+    }
+}
+
 /// The instruction of a mnemonic with the parts that stand in the fields.
 fn insn_of(mnemonic: Mnemonic, source: SourceKind, fields: Fields) -> Insn
     requires { HasRegisters fields }
@@ -45,6 +73,9 @@ fn insn_of(mnemonic: Mnemonic, source: SourceKind, fields: Fields) -> Insn
     let dst = Reg::of(fields.dst);
     let src = Reg::of(fields.src);
     let offset = fields.offset.cast_signed();
+    let distance = fields.imm.cast_signed();
+    let from = address_of(fields.src, fields);
+    let to = address_of(fields.dst, fields);
     match mnemonic {
         Mnemonic::Binary(op, width) => Insn::Binary {
             op,
@@ -67,57 +98,20 @@ fn insn_of(mnemonic: Mnemonic, source: SourceKind, fields: Fields) -> Insn
             offset,
         },
         Mnemonic::Jump => Insn::Jump { offset },
-        Mnemonic::JumpLong => Insn::JumpLong {
-            distance: fields.imm.cast_signed(),
-        },
+        Mnemonic::JumpLong => Insn::JumpLong { distance },
         Mnemonic::CallHelper => Insn::CallHelper { helper: fields.imm },
-        Mnemonic::CallLocal => Insn::CallLocal {
-            distance: fields.imm.cast_signed(),
-        },
+        Mnemonic::CallLocal => Insn::CallLocal { distance },
         Mnemonic::Exit => Insn::Exit,
-        Mnemonic::Load(size) => Insn::Load {
+        Mnemonic::Load(size) => Insn::Load { size, dst, from },
+        Mnemonic::Store(size, kind) => Insn::Store {
             size,
-            dst,
-            src,
-            offset,
+            to,
+            source: source_of(kind, fields),
         },
-        Mnemonic::LoadSigned(size) => Insn::LoadSigned {
-            size,
+        Mnemonic::Atomic(op, width) => Insn::Atomic { op, width, to, src },
+        Mnemonic::LoadWide(kind) => Insn::LoadWide {
             dst,
-            src,
-            offset,
-        },
-        Mnemonic::StoreImmediate(size) => Insn::StoreImmediate {
-            size,
-            dst,
-            offset,
-            value: fields.imm.cast_signed(),
-        },
-        Mnemonic::StoreRegister(size) => Insn::StoreRegister {
-            size,
-            dst,
-            src,
-            offset,
-        },
-        Mnemonic::Atomic(op, width) => Insn::Atomic {
-            op,
-            width,
-            dst,
-            src,
-            offset,
-        },
-        Mnemonic::LoadNumber => Insn::LoadNumber {
-            dst,
-            value: u64::from(fields.imm) + 4294967296 * u64::from(fields.next),
-        },
-        Mnemonic::LoadMap => Insn::LoadMap {
-            dst,
-            map: fields.imm,
-        },
-        Mnemonic::LoadMapValue => Insn::LoadMapValue {
-            dst,
-            map: fields.imm,
-            offset: fields.next,
+            value: wide_value_of(kind, fields),
         },
     }
 }

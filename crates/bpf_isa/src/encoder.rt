@@ -1,11 +1,10 @@
 //! From instructions to words.
 ghost use Rattle.std.specs.Prelude.{◌≡◌};
-ghost use Rattle.std.specs.Int.{w16, cast_signed};
 ghost use Rattle.bpf_isa.specs.Mnemonics.{insn_kind};
-ghost use Rattle.bpf_isa.specs.Words.{row_of, IsClean, HasRegisters, HasParts, HasSource, ReadsAs, IsWord};
+ghost use Rattle.bpf_isa.specs.Words.{row_of, IsClean, HasRegisters, HasSource, HasOffset, HasWideValue, HasParts, ReadsAs, IsWord};
 
 use crate::fields::Fields;
-use crate::instruction::{Insn, Source, SourceKind};
+use crate::instruction::{Insn, Source, SourceKind, WideValue};
 use crate::mnemonic::Mnemonic;
 use crate::register::Reg;
 use crate::row::Row;
@@ -22,36 +21,50 @@ const ZERO: Fields = Fields {
     next: 0,
 };
 
-/// Fields with two registers and an offset.
-fn access_parts(dst: Reg, src: Reg, offset: i16) -> Fields
-    ensures parts { (result.dst ≡ dst) × (result.src ≡ src) × (cast_signed w16 result.offset ≡ offset) }
+/// Fields with a number in imm.
+fn number_parts(imm: u32) -> Fields
+    ensures imm { result.imm ≡ imm }
     ensures registers { HasRegisters result }
 {
+    Fields { imm, ..ZERO }
+}
+
+/// Fields with a register, a second operand and an offset.
+fn operand_parts(dst: Reg, source: Source, offset: i16) -> Fields
+    ensures dst { result.dst ≡ dst }
+    ensures source { HasSource source result }
+    ensures offset { HasOffset offset result }
+    ensures registers { HasRegisters result }
+{
+    let (src, imm) = match source {
+        Source::Immediate(value) => (0, value.cast_unsigned()),
+        Source::Register(src) => (src.number(), 0),
+    };
     Fields {
         dst: dst.number(),
-        src: src.number(),
+        src,
         offset: offset.cast_unsigned(),
+        imm,
         ..ZERO
     }
 }
 
-/// Fields with a register and a second operand.
-fn operand_parts(dst: Reg, source: Source) -> Fields
+/// Fields with a register and a wide load's value.
+fn wide_parts(dst: Reg, value: WideValue) -> Fields
     ensures dst { result.dst ≡ dst }
-    ensures source { HasSource source result }
+    ensures value { HasWideValue value result }
     ensures registers { HasRegisters result }
 {
-    match source {
-        Source::Immediate(value) => Fields {
-            dst: dst.number(),
-            imm: value.cast_unsigned(),
-            ..ZERO
-        },
-        Source::Register(src) => Fields {
-            dst: dst.number(),
-            src: src.number(),
-            ..ZERO
-        },
+    let (imm, next) = match value {
+        WideValue::Number(value) => ((value % 4294967296) as u32, (value / 4294967296) as u32),
+        WideValue::Map(map) => (map, 0),
+        WideValue::MapValue { map, offset } => (map, offset),
+    };
+    Fields {
+        dst: dst.number(),
+        imm,
+        next,
+        ..ZERO
     }
 }
 
@@ -61,106 +74,41 @@ fn parts_of(insn: Insn) -> Fields
     ensures registers { HasRegisters result }
 {
     match insn {
-        Insn::Binary { dst, source, .. } => operand_parts(dst, source),
+        Insn::Binary { dst, source, .. } => operand_parts(dst, source, 0),
+        Insn::Negate { dst, .. } | Insn::SwapBytes { dst, .. } => Fields {
+            dst: dst.number(),
+            ..ZERO
+        },
+        Insn::SignExtend { dst, src, .. } => operand_parts(dst, Source::Register(src), 0),
         Insn::JumpIf {
             dst,
             source,
             offset,
             ..
-        } => Fields {
-            offset: offset.cast_unsigned(),
-            ..operand_parts(dst, source)
-        },
-        Insn::Negate { dst, .. } | Insn::SwapBytes { dst, .. } => Fields {
-            dst: dst.number(),
-            ..ZERO
-        },
-        Insn::SignExtend { dst, src, .. } => access_parts(dst, src, 0),
+        } => operand_parts(dst, source, offset),
         Insn::Jump { offset } => Fields {
             offset: offset.cast_unsigned(),
             ..ZERO
         },
-        Insn::JumpLong { distance } => Fields {
-            imm: distance.cast_unsigned(),
-            ..ZERO
-        },
-        Insn::CallLocal { distance } => Fields {
-            imm: distance.cast_unsigned(),
-            ..ZERO
-        },
-        Insn::CallHelper { helper } => Fields {
-            imm: helper,
-            ..ZERO
-        },
+        Insn::JumpLong { distance } => number_parts(distance.cast_unsigned()),
+        Insn::CallHelper { helper } => number_parts(helper),
+        Insn::CallLocal { distance } => number_parts(distance.cast_unsigned()),
         Insn::Exit => ZERO,
-        Insn::Load {
-            dst,
-            src,
-            offset,
-            ..
-        } => access_parts(dst, src, offset),
-        Insn::LoadSigned {
-            dst,
-            src,
-            offset,
-            ..
-        } => access_parts(dst, src, offset),
-        Insn::StoreRegister {
-            dst,
-            src,
-            offset,
-            ..
-        } => access_parts(dst, src, offset),
-        Insn::Atomic {
-            dst,
-            src,
-            offset,
-            ..
-        } => access_parts(dst, src, offset),
-        Insn::StoreImmediate {
-            dst,
-            offset,
-            value,
-            ..
-        } => Fields {
-            dst: dst.number(),
-            offset: offset.cast_unsigned(),
-            imm: value.cast_unsigned(),
-            ..ZERO
-        },
-        Insn::LoadNumber { dst, value } => Fields {
-            dst: dst.number(),
-            imm: (value % 4294967296) as u32,
-            next: (value / 4294967296) as u32,
-            ..ZERO
-        },
-        Insn::LoadMap { dst, map } => Fields {
-            dst: dst.number(),
-            imm: map,
-            ..ZERO
-        },
-        Insn::LoadMapValue { dst, map, offset } => Fields {
-            dst: dst.number(),
-            imm: map,
-            next: offset,
-            ..ZERO
-        },
+        Insn::Load { dst, from, .. } => {
+            operand_parts(dst, Source::Register(from.base), from.offset)
+        }
+        Insn::Store { to, source, .. } => operand_parts(to.base, source, to.offset),
+        Insn::Atomic { to, src, .. } => operand_parts(to.base, Source::Register(src), to.offset),
+        Insn::LoadWide { dst, value } => wide_parts(dst, value),
     }
 }
 
-/// The form of an instruction, K where its row has no choice.
+/// The form of an instruction where its mnemonic leaves it open, else K.
 fn kind_in(insn: Insn) -> SourceKind
     ensures { result ≡ insn_kind insn }
 {
     match insn {
-        Insn::Binary {
-            source: Source::Register(_),
-            ..
-        }
-        | Insn::JumpIf {
-            source: Source::Register(_),
-            ..
-        } => SourceKind::Register,
+        Insn::Binary { source, .. } | Insn::JumpIf { source, .. } => source.kind(),
         _ => SourceKind::Immediate,
     }
 }

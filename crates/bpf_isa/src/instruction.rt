@@ -60,6 +60,21 @@ impl SignedSize {
     }
 }
 
+/// How many bytes a load reads, and what fills the rest: zeros (MEM, section 5.1) or the sign
+/// (MEMSX, section 5.2).
+#[derive(Clone, Copy)]
+pub enum LoadSize {
+    Plain(Size),
+    Signed(SignedSize),
+}
+
+/// Where an access begins: `base + offset` (RFC 9669, section 5).
+#[derive(Clone, Copy)]
+pub struct Address {
+    pub base: Reg,
+    pub offset: i16,
+}
+
 /// Arithmetic of two operands, in the order of RFC 9669, section 4.1.
 #[derive(Clone, Copy)]
 pub enum BinaryOp {
@@ -150,6 +165,17 @@ pub enum AtomicOp {
     CompareExchange,
 }
 
+/// What a wide load leaves in dst (RFC 9669, section 5.4).
+#[derive(Clone, Copy)]
+pub enum WideValue {
+    /// A number.
+    Number(u64),
+    /// The token of a map, by the map's index.
+    Map(u32),
+    /// The address of a byte of a map's values, `offset` from their first.
+    MapValue { map: u32, offset: u32 },
+}
+
 /// An instruction. Offsets of jumps count slots from the next slot, those of accesses count bytes.
 #[derive(Clone, Copy)]
 pub enum Insn {
@@ -203,57 +229,29 @@ pub enum Insn {
     },
     /// The end of a function or of the program.
     Exit,
-    /// `dst` = the number at `src + offset`.
+    /// `dst` = the number at `from`.
     Load {
+        size: LoadSize,
+        dst: Reg,
+        from: Address,
+    },
+    /// Stores the low bytes of the source at `to`.
+    Store {
         size: Size,
-        dst: Reg,
-        src: Reg,
-        offset: i16,
+        to: Address,
+        source: Source,
     },
-    /// `dst` = the number at `src + offset`, its sign extended.
-    LoadSigned {
-        size: SignedSize,
-        dst: Reg,
-        src: Reg,
-        offset: i16,
-    },
-    /// Stores the low bytes of `value` at `dst + offset`.
-    StoreImmediate {
-        size: Size,
-        dst: Reg,
-        offset: i16,
-        value: i32,
-    },
-    /// Stores the low bytes of `src` at `dst + offset`.
-    StoreRegister {
-        size: Size,
-        dst: Reg,
-        src: Reg,
-        offset: i16,
-    },
-    /// An atomic operation on the number at `dst + offset`.
+    /// An atomic operation on the number at `to`.
     Atomic {
         op: AtomicOp,
         width: Width,
-        dst: Reg,
+        to: Address,
         src: Reg,
-        offset: i16,
     },
-    /// A wide load of a number.
-    LoadNumber {
+    /// A wide load, of two slots: `dst` = the value.
+    LoadWide {
         dst: Reg,
-        value: u64,
-    },
-    /// A wide load of a map's token.
-    LoadMap {
-        dst: Reg,
-        map: u32,
-    },
-    /// A wide load of the address of a byte of a map's values.
-    LoadMapValue {
-        dst: Reg,
-        map: u32,
-        offset: u32,
+        value: WideValue,
     },
 }
 
@@ -266,7 +264,7 @@ impl Insn {
         ensures within { result ≤ 2 }
     {
         match *self {
-            Insn::LoadNumber { .. } | Insn::LoadMap { .. } | Insn::LoadMapValue { .. } => 2,
+            Insn::LoadWide { .. } => 2,
             _ => 1,
         }
     }

@@ -23,11 +23,11 @@ pub use encoder::encode;
 pub use fault::{LoadFault, MapFault, PieceFault, WordFault};
 pub use helpers::{LOOKUP, TRACE, UPDATE};
 pub use instruction::{
-    AtomicOp, BinaryOp, ByteOrder, Condition, Extension, Insn, SignedSize, Size, Source, SwapWidth,
-    Width,
+    Address, AtomicOp, BinaryOp, ByteOrder, Condition, Extension, Insn, LoadSize, SignedSize, Size,
+    Source, SourceKind, SwapWidth, WideValue, Width,
 };
 pub use maps::{MapShape, MapTable};
-pub use mnemonic::Mnemonic;
+pub use mnemonic::{Mnemonic, WideKind};
 pub use program::{MOST_SLOTS, Program, check};
 pub use register::Reg;
 pub use words::Words;

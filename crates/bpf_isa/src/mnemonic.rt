@@ -1,9 +1,10 @@
 //! Mnemonics: an instruction without its operands.
 ghost use Rattle.std.specs.Prelude.{◌≡◌};
-ghost use Rattle.bpf_isa.specs.Mnemonics.{mnemonic_of};
+ghost use Rattle.bpf_isa.specs.Mnemonics.{mnemonic_of, kind_of, wide_kind_of};
 
 use crate::instruction::{
-    AtomicOp, BinaryOp, ByteOrder, Condition, Extension, Insn, SignedSize, Size, SwapWidth, Width,
+    AtomicOp, BinaryOp, ByteOrder, Condition, Extension, Insn, LoadSize, Size, Source, SourceKind,
+    SwapWidth, WideValue, Width,
 };
 
 /// What an instruction does, without its operands: a line of RFC 9669's tables. Where the line has
@@ -30,22 +31,25 @@ pub enum Mnemonic {
     CallLocal,
     /// EXIT (section 4.3).
     Exit,
-    /// MEM in class LDX (section 5.1).
-    Load(Size),
-    /// MEMSX in class LDX (section 5.2).
-    LoadSigned(SignedSize),
-    /// MEM in class ST (section 5.1).
-    StoreImmediate(Size),
-    /// MEM in class STX (section 5.1).
-    StoreRegister(Size),
+    /// MEM and MEMSX in class LDX (sections 5.1 and 5.2).
+    Load(LoadSize),
+    /// MEM in class ST (form K) or STX (form X) (section 5.1).
+    Store(Size, SourceKind),
     /// ATOMIC in class STX (section 5.3).
     Atomic(AtomicOp, Width),
-    /// A wide load of a number, src_reg 0 (section 5.4).
-    LoadNumber,
-    /// A wide load of a map by its index, src_reg 5 (section 5.4).
-    LoadMap,
-    /// A wide load of the address of a byte of a map's values, src_reg 6 (section 5.4).
-    LoadMapValue,
+    /// IMM in class LD: a wide load (section 5.4).
+    LoadWide(WideKind),
+}
+
+/// What a wide load leaves in dst, without its numbers (RFC 9669, section 5.4).
+#[derive(Clone, Copy)]
+pub enum WideKind {
+    /// A number of 64 bits, src_reg 0.
+    Number,
+    /// A map by its index, src_reg 5.
+    Map,
+    /// The address of a byte of a map's values, src_reg 6.
+    MapValue,
 }
 
 impl Mnemonic {
@@ -69,13 +73,34 @@ impl Mnemonic {
             Insn::CallLocal { .. } => Mnemonic::CallLocal,
             Insn::Exit => Mnemonic::Exit,
             Insn::Load { size, .. } => Mnemonic::Load(size),
-            Insn::LoadSigned { size, .. } => Mnemonic::LoadSigned(size),
-            Insn::StoreImmediate { size, .. } => Mnemonic::StoreImmediate(size),
-            Insn::StoreRegister { size, .. } => Mnemonic::StoreRegister(size),
+            Insn::Store { size, source, .. } => Mnemonic::Store(size, source.kind()),
             Insn::Atomic { op, width, .. } => Mnemonic::Atomic(op, width),
-            Insn::LoadNumber { .. } => Mnemonic::LoadNumber,
-            Insn::LoadMap { .. } => Mnemonic::LoadMap,
-            Insn::LoadMapValue { .. } => Mnemonic::LoadMapValue,
+            Insn::LoadWide { value, .. } => Mnemonic::LoadWide(value.kind()),
+        }
+    }
+}
+
+impl Source {
+    /// The kind of the second operand.
+    pub(crate) fn kind(self) -> SourceKind
+        ensures { result ≡ kind_of self }
+    {
+        match self {
+            Source::Immediate(_) => SourceKind::Immediate,
+            Source::Register(_) => SourceKind::Register,
+        }
+    }
+}
+
+impl WideValue {
+    /// What it is, without its numbers.
+    pub(crate) fn kind(self) -> WideKind
+        ensures { result ≡ wide_kind_of self }
+    {
+        match self {
+            WideValue::Number(_) => WideKind::Number,
+            WideValue::Map(_) => WideKind::Map,
+            WideValue::MapValue { .. } => WideKind::MapValue,
         }
     }
 }

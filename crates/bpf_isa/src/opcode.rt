@@ -3,16 +3,16 @@ mod arithmetic;
 mod jumps;
 mod memory;
 
-ghost use Rattle.std.specs.Prelude.{◌≡◌, ◌/◌, ◌*◌, ◌%◌, IfSome, Some};
+ghost use Rattle.std.specs.Prelude.{◌≡◌, ◌/◌, ◌*◌, ◌%◌, IfSome};
 ghost use Rattle.bpf_isa.specs.Words.{row, HasCodes};
-ghost use Rattle.bpf_isa.specs.Scaffolding.Codec.{source_bit_of};
+ghost use Rattle.bpf_isa.specs.Scaffolding.Codec.{IsOnly, source_bit_of};
 
 use crate::fields::Fields;
 use crate::instruction::{SourceKind, Width};
 use crate::mnemonic::Mnemonic;
 use arithmetic::arithmetic_mnemonic;
 use jumps::jump_mnemonic;
-use memory::{load_mnemonic, store_immediate_mnemonic, store_register_mnemonic, wide_mnemonic};
+use memory::{load_mnemonic, store_mnemonic, wide_mnemonic};
 
 /// The one opcode whose instructions have two slots.
 pub const WIDE_OPCODE: u8 = 0x18;
@@ -32,14 +32,13 @@ pub fn source_kind(opcode: u8) -> SourceKind
 pub fn find_mnemonic(fields: Fields, source: SourceKind) -> Option<Mnemonic>
     requires bit { source_bit_of source ≡ fields.opcode / 8 % 2 * 8 }
     ensures found { IfSome result (λ mnemonic. HasCodes (row mnemonic source) fields) }
-    ensures only { (mnemonic : Mnemonic) (kind : SourceKind) → HasCodes (row mnemonic kind) fields
-        → result ≡ Some mnemonic }
+    ensures only { IsOnly fields result }
 {
     match fields.opcode % 8 {
         0 => wide_mnemonic(fields),
         1 => load_mnemonic(fields),
-        2 => store_immediate_mnemonic(fields),
-        3 => store_register_mnemonic(fields),
+        2 => store_mnemonic(fields, SourceKind::Immediate),
+        3 => store_mnemonic(fields, SourceKind::Register),
         4 => arithmetic_mnemonic(fields, Width::Bits32, source),
         5 => jump_mnemonic(fields, Width::Bits64, source),
         6 => jump_mnemonic(fields, Width::Bits32, source),

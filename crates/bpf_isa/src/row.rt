@@ -3,8 +3,8 @@ mod codes;
 
 ghost use Rattle.std.specs.Prelude.{◌≡◌, ◌≤◌, ◌⊎◌, ◌↔◌, IsTrue};
 ghost use Rattle.bpf_isa.specs.Arithmetic.{binary_row, extension_row};
-ghost use Rattle.bpf_isa.specs.Jumps.{condition_row};
-ghost use Rattle.bpf_isa.specs.Memory.{atomic_row};
+ghost use Rattle.bpf_isa.specs.Jumps.{condition_row, call_row};
+ghost use Rattle.bpf_isa.specs.Memory.{store_row, atomic_row};
 ghost use Rattle.bpf_isa.specs.Rows.{HasCode, IsClear};
 ghost use Rattle.bpf_isa.specs.Swaps.{swap_row};
 ghost use Rattle.bpf_isa.specs.WideLoads.{wide_row};
@@ -13,13 +13,12 @@ ghost use Rattle.bpf_isa.specs.Scaffolding.Codec.{IsKept, IsLaid, access_row};
 
 use crate::fields::Fields;
 use crate::instruction::{
-    AtomicOp, BinaryOp, ByteOrder, Condition, Extension, SourceKind, SwapWidth, Width,
+    AtomicOp, BinaryOp, ByteOrder, Condition, Extension, Size, SourceKind, SwapWidth, Width,
 };
-use crate::mnemonic::Mnemonic;
+use crate::mnemonic::{Mnemonic, WideKind};
 use crate::opcode::WIDE_OPCODE;
 use codes::{
-    arithmetic_bits, atomic_imm, binary_code, condition_code, jump_bits, signed_size_bits,
-    size_bits,
+    arithmetic_bits, atomic_imm, binary_code, condition_code, jump_bits, load_bits, size_bits,
 };
 
 /// What a row says of a field.
@@ -180,6 +179,18 @@ fn condition_row(condition: Condition, width: Width, source: SourceKind) -> Row
     }
 }
 
+/// The row of a call, of the kind that src tells.
+fn call_row(kind: u8) -> Row
+    ensures { result ≡ call_row kind }
+{
+    Row {
+        opcode: 0x85,
+        src: Field::Code(kind),
+        imm: Field::Used,
+        ..NONE
+    }
+}
+
 /// The row of an access to memory with two registers and an offset.
 fn access_row(opcode: u8) -> Row
     ensures { result ≡ access_row opcode }
@@ -189,6 +200,24 @@ fn access_row(opcode: u8) -> Row
         dst: Field::Used,
         src: Field::Used,
         offset: Field::Used,
+        ..NONE
+    }
+}
+
+/// The row of a store.
+fn store_row(size: Size, kind: SourceKind) -> Row
+    ensures { result ≡ store_row size kind }
+{
+    let class = match kind {
+        SourceKind::Immediate => 2,
+        SourceKind::Register => 3,
+    };
+    Row {
+        opcode: size_bits(size) + class,
+        dst: Field::Used,
+        src: Field::src_of(kind),
+        offset: Field::Used,
+        imm: Field::imm_of(kind),
         ..NONE
     }
 }
@@ -207,10 +236,15 @@ fn atomic_row(op: AtomicOp, width: Width) -> Row
     }
 }
 
-/// The row of a wide load, of the kind that src tells.
-fn wide_row(src: u8, next: Field) -> Row
-    ensures { result ≡ wide_row src next }
+/// The row of a wide load.
+fn wide_row(kind: WideKind) -> Row
+    ensures { result ≡ wide_row kind }
 {
+    let (src, next) = match kind {
+        WideKind::Number => (0, Field::Used),
+        WideKind::Map => (5, Field::Unused),
+        WideKind::MapValue => (6, Field::Used),
+    };
     Row {
         opcode: WIDE_OPCODE,
         dst: Field::Used,
@@ -246,36 +280,16 @@ impl Row {
                 imm: Field::Used,
                 ..NONE
             },
-            Mnemonic::CallHelper => Row {
-                opcode: 0x85,
-                src: Field::Code(0),
-                imm: Field::Used,
-                ..NONE
-            },
-            Mnemonic::CallLocal => Row {
-                opcode: 0x85,
-                src: Field::Code(1),
-                imm: Field::Used,
-                ..NONE
-            },
+            Mnemonic::CallHelper => call_row(0),
+            Mnemonic::CallLocal => call_row(1),
             Mnemonic::Exit => Row {
                 opcode: 0x95,
                 ..NONE
             },
-            Mnemonic::Load(size) => access_row(size_bits(size) + 1),
-            Mnemonic::LoadSigned(size) => access_row(signed_size_bits(size) + 1),
-            Mnemonic::StoreImmediate(size) => Row {
-                opcode: size_bits(size) + 2,
-                dst: Field::Used,
-                offset: Field::Used,
-                imm: Field::Used,
-                ..NONE
-            },
-            Mnemonic::StoreRegister(size) => access_row(size_bits(size) + 3),
+            Mnemonic::Load(size) => access_row(load_bits(size) + 1),
+            Mnemonic::Store(size, kind) => store_row(size, kind),
             Mnemonic::Atomic(op, width) => atomic_row(op, width),
-            Mnemonic::LoadNumber => wide_row(0, Field::Used),
-            Mnemonic::LoadMap => wide_row(5, Field::Unused),
-            Mnemonic::LoadMapValue => wide_row(6, Field::Used),
+            Mnemonic::LoadWide(kind) => wide_row(kind),
         }
     }
 

@@ -4,7 +4,7 @@ ghost use Rattle.bpf_isa.specs.Checker.{HelperExists, MapExists, Lands, most_slo
 ghost use Rattle.bpf_isa.specs.Scaffolding.Checking.{AreStarts, SparesTen};
 
 use crate::helpers::{LOOKUP, TRACE, UPDATE};
-use crate::instruction::{AtomicOp, Insn};
+use crate::instruction::{AtomicOp, Insn, WideValue};
 use crate::maps::MapTable;
 use crate::register::Reg;
 
@@ -43,10 +43,7 @@ impl Insn {
             | Insn::SignExtend { dst, .. }
             | Insn::SwapBytes { dst, .. }
             | Insn::Load { dst, .. }
-            | Insn::LoadSigned { dst, .. }
-            | Insn::LoadNumber { dst, .. }
-            | Insn::LoadMap { dst, .. }
-            | Insn::LoadMapValue { dst, .. } => Some(*dst),
+            | Insn::LoadWide { dst, .. } => Some(*dst),
             Insn::Atomic { op, src, .. } => op.replaced(*src),
             Insn::CallHelper { .. } => Some(Reg::of(0)),
             _ => None,
@@ -78,15 +75,18 @@ impl Insn {
     pub(crate) fn map_exists(&self, maps: &MapTable) -> bool
         ensures { IsTrue result ↔ MapExists maps.now self.now }
     {
-        match self {
-            Insn::LoadMap { map, .. } => (*map as usize) < maps.len(),
-            Insn::LoadMapValue { map, offset, .. } => match maps.shape(*map as usize) {
+        let Insn::LoadWide { value, .. } = *self else {
+            return true;
+        };
+        match value {
+            WideValue::Number(_) => true,
+            WideValue::Map(map) => (map as usize) < maps.len(),
+            WideValue::MapValue { map, offset } => match maps.shape(map as usize) {
                 Some(shape) => {
-                    u64::from(*offset) < u64::from(shape.value_size) * u64::from(shape.entries)
+                    u64::from(offset) < u64::from(shape.value_size) * u64::from(shape.entries)
                 }
                 None => false,
             },
-            _ => true,
         }
     }
 }

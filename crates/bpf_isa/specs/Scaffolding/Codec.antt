@@ -1,15 +1,16 @@
 -- Scaffolding: no public contract cites this. The parts of an opcode (RFC 9669, sections 3.1 and 4), and what the decoder and the encoder ask of their own functions.
-use Rattle.std.specs.Prelude.{◌≡◌, ◌<◌, ℕ, List, All}
+use Rattle.std.specs.Prelude.{◌≡◌, ◌<◌, ℕ, List, Option, Some, All}
 use Rattle.bpf_isa.specs.declared.fields.Fields.{Fields}
 use Rattle.bpf_isa.specs.declared.instruction.Width.{Width}
 use Rattle.bpf_isa.specs.declared.instruction.Width.TheVariants.{Bits32, Bits64}
 use Rattle.bpf_isa.specs.declared.instruction.SourceKind.{SourceKind}
 use Rattle.bpf_isa.specs.declared.instruction.SourceKind.TheVariants.{Immediate, Register}
 use Rattle.bpf_isa.specs.declared.instruction.Insn.{Insn}
+use Rattle.bpf_isa.specs.declared.mnemonic.Mnemonic.{Mnemonic}
 use Rattle.bpf_isa.specs.declared.row.Field.{Field}
 use Rattle.bpf_isa.specs.declared.row.Field.TheVariants.{Unused, Used}
 use Rattle.bpf_isa.specs.declared.row.Row.{Row}
-use Rattle.bpf_isa.specs.Words.{row_of, fields_of, IsClean, HasRegisters, ReadsAs}
+use Rattle.bpf_isa.specs.Words.{row, row_of, fields_of, HasCodes, IsClean, HasRegisters, ReadsAs}
 
 -- The source bit: K is 0, X is 1, in the place of 8.
 abbrev pub source_bit_of : SourceKind → ℕ
@@ -25,6 +26,15 @@ class_of Bits64 = 7
 abbrev pub jump_class_of : Width → ℕ
 jump_class_of Bits32 = 6
 jump_class_of Bits64 = 5
+
+-- The classes ST and STX.
+abbrev pub store_class_of : SourceKind → ℕ
+store_class_of Immediate = 2
+store_class_of Register = 3
+
+-- Of all mnemonics, in either form, only the one found has its row's codes in the fields.
+abbrev pub IsOnly : Fields → Option Mnemonic → Type 0
+IsOnly fields found = (mnemonic : Mnemonic) (kind : SourceKind) → HasCodes (row mnemonic kind) fields → found ≡ Some mnemonic
 
 -- A field of a word holds the part of the instruction where the row uses it.
 abbrev pub IsKept : Field → ℕ → ℕ → Type 0

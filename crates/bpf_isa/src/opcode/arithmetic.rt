@@ -1,7 +1,7 @@
 //! The mnemonics of arithmetic and byte swaps (RFC 9669, sections 4.1 and 4.2).
-ghost use Rattle.std.specs.Prelude.{◌≡◌, ◌/◌, ◌%◌, ◌*◌, ◌+◌, IfSome, Some};
+ghost use Rattle.std.specs.Prelude.{◌≡◌, ◌/◌, ◌%◌, ◌*◌, ◌+◌, IfSome};
 ghost use Rattle.bpf_isa.specs.Words.{row, HasCodes};
-ghost use Rattle.bpf_isa.specs.Scaffolding.Codec.{class_of, source_bit_of};
+ghost use Rattle.bpf_isa.specs.Scaffolding.Codec.{IsOnly, class_of, source_bit_of};
 
 use crate::fields::Fields;
 use crate::instruction::{BinaryOp, ByteOrder, Extension, SourceKind, SwapWidth, Width};
@@ -11,8 +11,7 @@ use crate::mnemonic::Mnemonic;
 fn division_mnemonic(fields: Fields, width: Width, source: SourceKind) -> Option<Mnemonic>
     requires { fields.opcode ≡ 0x30 + source_bit_of source + class_of width }
     ensures found { IfSome result (λ mnemonic. HasCodes (row mnemonic source) fields) }
-    ensures only { (mnemonic : Mnemonic) (kind : SourceKind) → HasCodes (row mnemonic kind) fields
-        → result ≡ Some mnemonic }
+    ensures only { IsOnly fields result }
 {
     let op = match fields.offset {
         0 => BinaryOp::Div,
@@ -26,8 +25,7 @@ fn division_mnemonic(fields: Fields, width: Width, source: SourceKind) -> Option
 fn modulo_mnemonic(fields: Fields, width: Width, source: SourceKind) -> Option<Mnemonic>
     requires { fields.opcode ≡ 0x90 + source_bit_of source + class_of width }
     ensures found { IfSome result (λ mnemonic. HasCodes (row mnemonic source) fields) }
-    ensures only { (mnemonic : Mnemonic) (kind : SourceKind) → HasCodes (row mnemonic kind) fields
-        → result ≡ Some mnemonic }
+    ensures only { IsOnly fields result }
 {
     let op = match fields.offset {
         0 => BinaryOp::Mod,
@@ -41,8 +39,7 @@ fn modulo_mnemonic(fields: Fields, width: Width, source: SourceKind) -> Option<M
 fn negate_mnemonic(fields: Fields, width: Width, source: SourceKind) -> Option<Mnemonic>
     requires { fields.opcode ≡ 0x80 + source_bit_of source + class_of width }
     ensures found { IfSome result (λ mnemonic. HasCodes (row mnemonic source) fields) }
-    ensures only { (mnemonic : Mnemonic) (kind : SourceKind) → HasCodes (row mnemonic kind) fields
-        → result ≡ Some mnemonic }
+    ensures only { IsOnly fields result }
 {
     match source {
         SourceKind::Immediate => Some(Mnemonic::Negate(width)),
@@ -54,8 +51,7 @@ fn negate_mnemonic(fields: Fields, width: Width, source: SourceKind) -> Option<M
 fn move_mnemonic(fields: Fields, width: Width, source: SourceKind) -> Option<Mnemonic>
     requires { fields.opcode ≡ 0xb0 + source_bit_of source + class_of width }
     ensures found { IfSome result (λ mnemonic. HasCodes (row mnemonic source) fields) }
-    ensures only { (mnemonic : Mnemonic) (kind : SourceKind) → HasCodes (row mnemonic kind) fields
-        → result ≡ Some mnemonic }
+    ensures only { IsOnly fields result }
 {
     let extension = match (source, fields.offset, width) {
         (SourceKind::Immediate, _, _) | (SourceKind::Register, 0, _) => {
@@ -75,8 +71,7 @@ fn move_mnemonic(fields: Fields, width: Width, source: SourceKind) -> Option<Mne
 fn swap_mnemonic(fields: Fields, width: Width, source: SourceKind) -> Option<Mnemonic>
     requires { fields.opcode ≡ 0xd0 + source_bit_of source + class_of width }
     ensures found { IfSome result (λ mnemonic. HasCodes (row mnemonic source) fields) }
-    ensures only { (mnemonic : Mnemonic) (kind : SourceKind) → HasCodes (row mnemonic kind) fields
-        → result ≡ Some mnemonic }
+    ensures only { IsOnly fields result }
 {
     let order = match (width, source) {
         (Width::Bits32, SourceKind::Immediate) => ByteOrder::Little,
@@ -98,8 +93,7 @@ pub fn arithmetic_mnemonic(fields: Fields, width: Width, source: SourceKind) -> 
     requires bit { source_bit_of source ≡ fields.opcode / 8 % 2 * 8 }
     requires class { fields.opcode % 8 ≡ class_of width }
     ensures found { IfSome result (λ mnemonic. HasCodes (row mnemonic source) fields) }
-    ensures only { (mnemonic : Mnemonic) (kind : SourceKind) → HasCodes (row mnemonic kind) fields
-        → result ≡ Some mnemonic }
+    ensures only { IsOnly fields result }
 {
     let op = match fields.opcode / 16 {
         0 => BinaryOp::Add,

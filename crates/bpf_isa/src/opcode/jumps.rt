@@ -1,7 +1,7 @@
 //! The mnemonics of jumps, calls and exit (RFC 9669, section 4.3).
-ghost use Rattle.std.specs.Prelude.{◌≡◌, ◌/◌, ◌%◌, ◌*◌, ◌+◌, IfSome, Some};
+ghost use Rattle.std.specs.Prelude.{◌≡◌, ◌/◌, ◌%◌, ◌*◌, ◌+◌, IfSome};
 ghost use Rattle.bpf_isa.specs.Words.{row, HasCodes};
-ghost use Rattle.bpf_isa.specs.Scaffolding.Codec.{jump_class_of, source_bit_of};
+ghost use Rattle.bpf_isa.specs.Scaffolding.Codec.{IsOnly, jump_class_of, source_bit_of};
 
 use crate::fields::Fields;
 use crate::instruction::{Condition, SourceKind, Width};
@@ -11,8 +11,7 @@ use crate::mnemonic::Mnemonic;
 fn always_mnemonic(fields: Fields, width: Width, source: SourceKind) -> Option<Mnemonic>
     requires { fields.opcode ≡ source_bit_of source + jump_class_of width }
     ensures found { IfSome result (λ mnemonic. HasCodes (row mnemonic source) fields) }
-    ensures only { (mnemonic : Mnemonic) (kind : SourceKind) → HasCodes (row mnemonic kind) fields
-        → result ≡ Some mnemonic }
+    ensures only { IsOnly fields result }
 {
     match (width, source) {
         (Width::Bits64, SourceKind::Immediate) => Some(Mnemonic::Jump),
@@ -25,8 +24,7 @@ fn always_mnemonic(fields: Fields, width: Width, source: SourceKind) -> Option<M
 fn call_mnemonic(fields: Fields, width: Width, source: SourceKind) -> Option<Mnemonic>
     requires { fields.opcode ≡ 0x80 + source_bit_of source + jump_class_of width }
     ensures found { IfSome result (λ mnemonic. HasCodes (row mnemonic source) fields) }
-    ensures only { (mnemonic : Mnemonic) (kind : SourceKind) → HasCodes (row mnemonic kind) fields
-        → result ≡ Some mnemonic }
+    ensures only { IsOnly fields result }
 {
     match (width, source, fields.src) {
         (Width::Bits64, SourceKind::Immediate, 0) => Some(Mnemonic::CallHelper),
@@ -39,8 +37,7 @@ fn call_mnemonic(fields: Fields, width: Width, source: SourceKind) -> Option<Mne
 fn exit_mnemonic(fields: Fields, width: Width, source: SourceKind) -> Option<Mnemonic>
     requires { fields.opcode ≡ 0x90 + source_bit_of source + jump_class_of width }
     ensures found { IfSome result (λ mnemonic. HasCodes (row mnemonic source) fields) }
-    ensures only { (mnemonic : Mnemonic) (kind : SourceKind) → HasCodes (row mnemonic kind) fields
-        → result ≡ Some mnemonic }
+    ensures only { IsOnly fields result }
 {
     match (width, source) {
         (Width::Bits64, SourceKind::Immediate) => Some(Mnemonic::Exit),
@@ -53,8 +50,7 @@ pub fn jump_mnemonic(fields: Fields, width: Width, source: SourceKind) -> Option
     requires bit { source_bit_of source ≡ fields.opcode / 8 % 2 * 8 }
     requires class { fields.opcode % 8 ≡ jump_class_of width }
     ensures found { IfSome result (λ mnemonic. HasCodes (row mnemonic source) fields) }
-    ensures only { (mnemonic : Mnemonic) (kind : SourceKind) → HasCodes (row mnemonic kind) fields
-        → result ≡ Some mnemonic }
+    ensures only { IsOnly fields result }
 {
     let condition = match fields.opcode / 16 {
         0 => return always_mnemonic(fields, width, source),

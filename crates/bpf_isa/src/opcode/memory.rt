@@ -1,24 +1,23 @@
 //! The mnemonics of loads, stores, atomic operations and wide loads (RFC 9669, section 5).
-ghost use Rattle.std.specs.Prelude.{◌≡◌, ◌%◌, IfSome, Some};
+ghost use Rattle.std.specs.Prelude.{◌≡◌, ◌%◌, IfSome};
 ghost use Rattle.bpf_isa.specs.Words.{row, HasCodes};
 ghost use Rattle.bpf_isa.specs.Memory.{atomic_opcode};
-ghost use Rattle.bpf_isa.specs.declared.instruction.SourceKind.{SourceKind};
+ghost use Rattle.bpf_isa.specs.Scaffolding.Codec.{IsOnly, store_class_of};
 
 use crate::fields::Fields;
-use crate::instruction::{AtomicOp, SignedSize, Size, Width};
-use crate::mnemonic::Mnemonic;
+use crate::instruction::{AtomicOp, LoadSize, SignedSize, Size, SourceKind, Width};
+use crate::mnemonic::{Mnemonic, WideKind};
 
 /// Class LD: the wide loads.
 pub fn wide_mnemonic(fields: Fields) -> Option<Mnemonic>
     requires { fields.opcode % 8 ≡ 0 }
     ensures found { IfSome result (λ mnemonic. (kind : SourceKind) → HasCodes (row mnemonic kind) fields) }
-    ensures only { (mnemonic : Mnemonic) (kind : SourceKind) → HasCodes (row mnemonic kind) fields
-        → result ≡ Some mnemonic }
+    ensures only { IsOnly fields result }
 {
     match (fields.opcode / 8, fields.src) {
-        (3, 0) => Some(Mnemonic::LoadNumber),
-        (3, 5) => Some(Mnemonic::LoadMap),
-        (3, 6) => Some(Mnemonic::LoadMapValue),
+        (3, 0) => Some(Mnemonic::LoadWide(WideKind::Number)),
+        (3, 5) => Some(Mnemonic::LoadWide(WideKind::Map)),
+        (3, 6) => Some(Mnemonic::LoadWide(WideKind::MapValue)),
         _ => None,
     }
 }
@@ -27,63 +26,44 @@ pub fn wide_mnemonic(fields: Fields) -> Option<Mnemonic>
 pub fn load_mnemonic(fields: Fields) -> Option<Mnemonic>
     requires { fields.opcode % 8 ≡ 1 }
     ensures found { IfSome result (λ mnemonic. (kind : SourceKind) → HasCodes (row mnemonic kind) fields) }
-    ensures only { (mnemonic : Mnemonic) (kind : SourceKind) → HasCodes (row mnemonic kind) fields
-        → result ≡ Some mnemonic }
-{
-    match fields.opcode / 8 {
-        12 => Some(Mnemonic::Load(Size::Word)),
-        13 => Some(Mnemonic::Load(Size::Half)),
-        14 => Some(Mnemonic::Load(Size::Byte)),
-        15 => Some(Mnemonic::Load(Size::Double)),
-        16 => Some(Mnemonic::LoadSigned(SignedSize::Word)),
-        17 => Some(Mnemonic::LoadSigned(SignedSize::Half)),
-        18 => Some(Mnemonic::LoadSigned(SignedSize::Byte)),
-        _ => None,
-    }
-}
-
-/// Class ST.
-pub fn store_immediate_mnemonic(fields: Fields) -> Option<Mnemonic>
-    requires { fields.opcode % 8 ≡ 2 }
-    ensures found { IfSome result (λ mnemonic. (kind : SourceKind) → HasCodes (row mnemonic kind) fields) }
-    ensures only { (mnemonic : Mnemonic) (kind : SourceKind) → HasCodes (row mnemonic kind) fields
-        → result ≡ Some mnemonic }
+    ensures only { IsOnly fields result }
 {
     let size = match fields.opcode / 8 {
-        12 => Size::Word,
-        13 => Size::Half,
-        14 => Size::Byte,
-        15 => Size::Double,
+        12 => LoadSize::Plain(Size::Word),
+        13 => LoadSize::Plain(Size::Half),
+        14 => LoadSize::Plain(Size::Byte),
+        15 => LoadSize::Plain(Size::Double),
+        16 => LoadSize::Signed(SignedSize::Word),
+        17 => LoadSize::Signed(SignedSize::Half),
+        18 => LoadSize::Signed(SignedSize::Byte),
         _ => return None,
     };
-    Some(Mnemonic::StoreImmediate(size))
+    Some(Mnemonic::Load(size))
 }
 
-/// Class STX.
-pub fn store_register_mnemonic(fields: Fields) -> Option<Mnemonic>
-    requires { fields.opcode % 8 ≡ 3 }
+/// Classes ST and STX: the forms K and X of a store, and the atomic operations.
+pub fn store_mnemonic(fields: Fields, form: SourceKind) -> Option<Mnemonic>
+    requires { fields.opcode % 8 ≡ store_class_of form }
     ensures found { IfSome result (λ mnemonic. (kind : SourceKind) → HasCodes (row mnemonic kind) fields) }
-    ensures only { (mnemonic : Mnemonic) (kind : SourceKind) → HasCodes (row mnemonic kind) fields
-        → result ≡ Some mnemonic }
+    ensures only { IsOnly fields result }
 {
-    let size = match fields.opcode / 8 {
-        12 => Size::Word,
-        13 => Size::Half,
-        14 => Size::Byte,
-        15 => Size::Double,
-        24 => return atomic_mnemonic(fields, Width::Bits32),
-        27 => return atomic_mnemonic(fields, Width::Bits64),
+    let size = match (fields.opcode / 8, form) {
+        (12, _) => Size::Word,
+        (13, _) => Size::Half,
+        (14, _) => Size::Byte,
+        (15, _) => Size::Double,
+        (24, SourceKind::Register) => return atomic_mnemonic(fields, Width::Bits32),
+        (27, SourceKind::Register) => return atomic_mnemonic(fields, Width::Bits64),
         _ => return None,
     };
-    Some(Mnemonic::StoreRegister(size))
+    Some(Mnemonic::Store(size, form))
 }
 
 /// The atomic operation that imm names.
 fn atomic_mnemonic(fields: Fields, width: Width) -> Option<Mnemonic>
     requires { fields.opcode ≡ atomic_opcode width }
     ensures found { IfSome result (λ mnemonic. (kind : SourceKind) → HasCodes (row mnemonic kind) fields) }
-    ensures only { (mnemonic : Mnemonic) (kind : SourceKind) → HasCodes (row mnemonic kind) fields
-        → result ≡ Some mnemonic }
+    ensures only { IsOnly fields result }
 {
     let op = match fields.imm {
         0x00 => AtomicOp::Add,

@@ -3,9 +3,11 @@ ghost use Rattle.std.specs.Prelude.{◌≡◌, ◌<◌, ◌+◌, ◌*◌};
 ghost use Rattle.bpf_isa.specs.Arithmetic.{binary_opcode};
 ghost use Rattle.bpf_isa.specs.Scaffolding.Codec.{source_bit_of, class_of, jump_class_of};
 ghost use Rattle.bpf_isa.specs.Jumps.{condition_opcode};
-ghost use Rattle.bpf_isa.specs.Memory.{sizes, load_signed_opcode, atomic_code};
+ghost use Rattle.bpf_isa.specs.Memory.{sizes, load_opcode, atomic_code};
 
-use crate::instruction::{AtomicOp, BinaryOp, Condition, SignedSize, Size, SourceKind, Width};
+use crate::instruction::{
+    AtomicOp, BinaryOp, Condition, LoadSize, SignedSize, Size, SourceKind, Width,
+};
 
 /// The class and source bit of arithmetic.
 pub fn arithmetic_bits(width: Width, source: SourceKind) -> u8
@@ -95,14 +97,15 @@ pub fn size_bits(size: Size) -> u8
     }
 }
 
-/// The size and mode of a load that extends the sign, in the bits above the class.
-pub fn signed_size_bits(size: SignedSize) -> u8
-    ensures { load_signed_opcode size ≡ result + 1 }
+/// The size and mode of a load, in the bits above the class.
+pub fn load_bits(size: LoadSize) -> u8
+    ensures { load_opcode size ≡ result + 1 }
 {
     match size {
-        SignedSize::Word => 0x80,
-        SignedSize::Half => 0x88,
-        SignedSize::Byte => 0x90,
+        LoadSize::Plain(size) => size_bits(size),
+        LoadSize::Signed(SignedSize::Word) => 0x80,
+        LoadSize::Signed(SignedSize::Half) => 0x88,
+        LoadSize::Signed(SignedSize::Byte) => 0x90,
     }
 }
 
