@@ -103,11 +103,10 @@ fn insn_of(mnemonic: Mnemonic, source: SourceKind, fields: Fields) -> Insn
         Mnemonic::CallLocal => Insn::CallLocal { distance },
         Mnemonic::Exit => Insn::Exit,
         Mnemonic::Load(size) => Insn::Load { size, dst, from },
-        Mnemonic::Store(size, kind) => Insn::Store {
-            size,
-            to,
-            source: source_of(kind, fields),
-        },
+        Mnemonic::Store(size, kind) => {
+            let source = source_of(kind, fields);
+            Insn::Store { size, to, source }
+        }
         Mnemonic::Atomic(op, width) => Insn::Atomic { op, width, to, src },
         Mnemonic::LoadWide(kind) => Insn::LoadWide {
             dst,

@@ -4,16 +4,17 @@ mod codes;
 ghost use Rattle.std.specs.Prelude.{◌≡◌, ◌≤◌, ◌⊎◌, ◌↔◌, IsTrue};
 ghost use Rattle.bpf_isa.specs.Arithmetic.{binary_row, extension_row};
 ghost use Rattle.bpf_isa.specs.Jumps.{condition_row, call_row};
-ghost use Rattle.bpf_isa.specs.Memory.{store_row, atomic_row};
+ghost use Rattle.bpf_isa.specs.Memory.{load_row, store_row, atomic_row};
 ghost use Rattle.bpf_isa.specs.Rows.{HasCode, IsClear};
 ghost use Rattle.bpf_isa.specs.Swaps.{swap_row};
 ghost use Rattle.bpf_isa.specs.WideLoads.{wide_row};
 ghost use Rattle.bpf_isa.specs.Words.{row, HasCodes, IsClean};
-ghost use Rattle.bpf_isa.specs.Scaffolding.Codec.{IsKept, IsLaid, access_row};
+ghost use Rattle.bpf_isa.specs.Scaffolding.Codec.{IsKept, IsLaid};
 
 use crate::fields::Fields;
 use crate::instruction::{
-    AtomicOp, BinaryOp, ByteOrder, Condition, Extension, Size, SourceKind, SwapWidth, Width,
+    AtomicOp, BinaryOp, ByteOrder, Condition, Extension, LoadSize, Size, SourceKind, SwapWidth,
+    Width,
 };
 use crate::mnemonic::{Mnemonic, WideKind};
 use crate::opcode::WIDE_OPCODE;
@@ -191,12 +192,12 @@ fn call_row(kind: u8) -> Row
     }
 }
 
-/// The row of an access to memory with two registers and an offset.
-fn access_row(opcode: u8) -> Row
-    ensures { result ≡ access_row opcode }
+/// The row of a load.
+fn load_row(size: LoadSize) -> Row
+    ensures { result ≡ load_row size }
 {
     Row {
-        opcode,
+        opcode: load_bits(size) + 1,
         dst: Field::Used,
         src: Field::Used,
         offset: Field::Used,
@@ -231,8 +232,12 @@ fn atomic_row(op: AtomicOp, width: Width) -> Row
         Width::Bits64 => 0xdb,
     };
     Row {
+        opcode,
+        dst: Field::Used,
+        src: Field::Used,
+        offset: Field::Used,
         imm: Field::Code(atomic_imm(op)),
-        ..access_row(opcode)
+        ..NONE
     }
 }
 
@@ -286,7 +291,7 @@ impl Row {
                 opcode: 0x95,
                 ..NONE
             },
-            Mnemonic::Load(size) => access_row(load_bits(size) + 1),
+            Mnemonic::Load(size) => load_row(size),
             Mnemonic::Store(size, kind) => store_row(size, kind),
             Mnemonic::Atomic(op, width) => atomic_row(op, width),
             Mnemonic::LoadWide(kind) => wide_row(kind),

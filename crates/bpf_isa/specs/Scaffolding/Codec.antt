@@ -8,7 +8,7 @@ use Rattle.bpf_isa.specs.declared.instruction.SourceKind.TheVariants.{Immediate,
 use Rattle.bpf_isa.specs.declared.instruction.Insn.{Insn}
 use Rattle.bpf_isa.specs.declared.mnemonic.Mnemonic.{Mnemonic}
 use Rattle.bpf_isa.specs.declared.row.Field.{Field}
-use Rattle.bpf_isa.specs.declared.row.Field.TheVariants.{Unused, Used}
+use Rattle.bpf_isa.specs.declared.row.Field.TheVariants.{Used}
 use Rattle.bpf_isa.specs.declared.row.Row.{Row}
 use Rattle.bpf_isa.specs.Words.{row, row_of, fields_of, HasCodes, IsClean, HasRegisters, ReadsAs}
 
@@ -48,10 +48,6 @@ pub record IsLaid (row : Row) (parts fields : Fields) : Type 0 where
   pub offset : IsKept row.offset parts.offset fields.offset
   pub imm : IsKept row.imm parts.imm fields.imm
   pub next : IsKept row.next parts.next fields.next
-
--- The row of an access by two registers and an offset.
-abbrev pub access_row : ℕ → Row
-access_row opcode = record { opcode = opcode; dst = Used; src = Used; offset = Used; imm = Unused; next = Unused }
 
 -- What the bytes read as, without fault but that a second slot may be missing.
 pub record IsRead (bytes : List ℕ) (insn : Insn) : Type 0 where
