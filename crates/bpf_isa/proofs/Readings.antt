@@ -1,5 +1,5 @@
 -- What fields read as: a row whose codes stand in them gives an instruction, and one alone.
-use Rattle.std.proofs.Common.{◌≡◌, ◌≤◌, ◌<◌, ◌+◌, ◌*◌, ℕ, List, Result, Ok, arith, sym, subst, ap}
+use Rattle.std.proofs.Common.{◌≡◌, ◌≤◌, ◌<◌, ◌+◌, ◌*◌, ℕ, List, Some, Result, Ok, arith, sym, ◌∙◌, subst, ap}
 use Rattle.std.specs.Prelude.{All}
 use Rattle.std.specs.Int.{w16, w32, cast_signed}
 use Rattle.bpf_isa.specs.declared.instruction.Insn.{Insn}
@@ -13,13 +13,14 @@ use Rattle.bpf_isa.specs.declared.mnemonic.Mnemonic.{Mnemonic}
 use Rattle.bpf_isa.specs.declared.mnemonic.Mnemonic.TheVariants.{Binary, Negate, SignExtend, SwapBytes, JumpIf, Jump, JumpLong, CallHelper, CallLocal, Exit, Load, Store, Atomic, LoadWide}
 use Rattle.bpf_isa.specs.declared.mnemonic.WideKind.TheVariants.{Number, Map, MapValue}
 use Rattle.bpf_isa.specs.declared.fields.Fields.{Fields}
+use Rattle.bpf_isa.specs.declared.row.Row.{Row}
 use Rattle.bpf_isa.specs.declared.fault.WordFault.{WordFault}
 use Rattle.bpf_isa.specs.declared.fault.WordFault.TheVariants.{UnknownInstruction, RegisterAboveTen, UnusedField, CutOff}
 use Rattle.bpf_isa.specs.Faults.{word_fault_number}
-use Rattle.bpf_isa.specs.Mnemonics.{mnemonic_of}
+use Rattle.bpf_isa.specs.Mnemonics.{mnemonic_of, insn_kind}
 use Rattle.bpf_isa.specs.WordFaults.{HasWordFault, IsLeastWordFault}
 use Rattle.bpf_isa.specs.Words.{row, row_of, fields_of, HasCodes, HasRegisters, HasParts, IsClean, ReadsAs, IsWord}
-use Rattle.bpf_isa.specs.Scaffolding.Codec.{IsLaid, IsRead}
+use Rattle.bpf_isa.specs.Scaffolding.Codec.{IsOnly, IsLaid, IsRead}
 
 abbrev operand : SourceKind → Fields → Source
 operand Immediate f = source.Immediate (cast_signed w32 f.imm)
@@ -63,16 +64,21 @@ register_fault bytes f mnemonic kind e codes above =
     let reads : ReadsAs (fields_of bytes) (reading mnemonic kind f) = subst (λ (g : Fields). ReadsAs g (reading mnemonic kind f)) e (reads_as mnemonic kind f codes) in
     record { applies = subst (λ (g : Fields). HasRegisters g → ⊥) e above; least = least_five bytes (reading mnemonic kind f) reads }
 
--- an instruction was read
-pub is_read : (bytes : List ℕ) (f : Fields) (i : Insn) → f ≡ fields_of bytes → All (λ byte. byte < 256) bytes → ReadsAs f i → IsClean (row_of i) f → HasRegisters f → ((other : Insn) → ReadsAs f other → mnemonic_of other ≡ mnemonic_of i) → IsRead bytes i
-is_read bytes f i e small reads clean registers same =
+-- the instruction of the one mnemonic whose codes stand in the fields was read
+same_of : (i j : Mnemonic) → Some i ≡ Some j → j ≡ i
+same_of i j e = cc
+
+pub is_read : (bytes : List ℕ) (f : Fields) (mnemonic : Mnemonic) (kind : SourceKind) (i : Insn) → f ≡ fields_of bytes → All (λ byte. byte < 256) bytes → HasCodes (row mnemonic kind) f → IsOnly f (Some mnemonic) → mnemonic_of i ≡ mnemonic → row_of i ≡ row mnemonic kind → HasParts i f → HasRegisters f → IsClean (row mnemonic kind) f → IsRead bytes i
+is_read bytes f mnemonic kind i e small codes only named at parts registers clean =
+    let reads : ReadsAs f i = record { codes = subst (λ r. HasCodes r f) (sym at) codes; parts = parts } in
     let reads_here : ReadsAs (fields_of bytes) i = subst (λ (g : Fields). ReadsAs g i) e reads in
+    let codes_of : (other : Insn) → ReadsAs (fields_of bytes) other → HasCodes (row_of other) f = λ other read. subst (HasCodes (row_of other)) (sym e) read.codes in
     record {
       small = small;
       reads = reads_here;
-      clean = subst (IsClean (row_of i)) e clean;
+      clean = subst (IsClean (row_of i)) e (subst (λ r. IsClean r f) (sym at) clean);
       registers = subst HasRegisters e registers;
-      only = λ other read. one_reading other i (fields_of bytes) read reads_here (same other (subst (λ (g : Fields). ReadsAs g other) (sym e) read));
+      only = λ other read. one_reading other i (fields_of bytes) read reads_here (same_of _ _ (only (mnemonic_of other) (insn_kind other) (codes_of other read)) ∙ sym named);
     }
 
 -- it is the only one
@@ -80,8 +86,18 @@ pub ok_reading : (bytes : List ℕ) (i other : Insn) → IsRead bytes i → IsWo
 ok_reading bytes i other read whole = ap Ok (sym (read.only other whole.reads))
 
 -- parts stay where the codes of a row are laid over them
-pub laid_parts : (i : Insn) (parts f : Fields) → IsLaid (row_of i) parts f → HasParts i parts → HasParts i f
+laid_parts : (i : Insn) (parts f : Fields) → IsLaid (row_of i) parts f → HasParts i parts → HasParts i f
 laid_parts i parts f laid has = grind arith
 
-pub laid_registers : (i : Insn) (parts f : Fields) → IsLaid (row_of i) parts f → HasCodes (row_of i) f → IsClean (row_of i) f → HasRegisters parts → HasRegisters f
+laid_registers : (i : Insn) (parts f : Fields) → IsLaid (row_of i) parts f → HasCodes (row_of i) f → IsClean (row_of i) f → HasRegisters parts → HasRegisters f
 laid_registers i parts f laid codes clean registers = grind arith
+
+module _ (i : Insn) (mnemonic : Mnemonic) (kind : SourceKind) (r : Row) (named : mnemonic ≡ mnemonic_of i) (form : kind ≡ insn_kind i) (is_row : r ≡ row mnemonic kind) (parts f : Fields) (codes : HasCodes r f) (laid : IsLaid r parts f) where
+  at : r ≡ row_of i
+  at = is_row ∙ ap (λ m. row m kind) named ∙ ap (row _) form
+
+  pub laid_reads : HasParts i parts → ReadsAs f i
+  laid_reads has = record { codes = subst (λ (q : Row). HasCodes q f) at codes; parts = laid_parts i parts f (subst (λ (q : Row). IsLaid q parts f) at laid) has }
+
+  pub laid_in_range : IsClean r f → HasRegisters parts → HasRegisters f
+  laid_in_range clean = laid_registers i parts f (subst (λ (q : Row). IsLaid q parts f) at laid) (subst (λ (q : Row). HasCodes q f) at codes) (subst (λ (q : Row). IsClean q f) at clean)
