@@ -3,21 +3,22 @@ mod codes;
 
 ghost use Rattle.std.specs.Prelude.{◌≡◌, ◌≤◌, ◌⊎◌, ◌↔◌, IsTrue};
 ghost use Rattle.bpf_isa.specs.Arithmetic.{binary_row, extension_row};
-ghost use Rattle.bpf_isa.specs.Jumps.{condition_row, call_row};
-ghost use Rattle.bpf_isa.specs.Memory.{load_row, store_row, atomic_row};
+ghost use Rattle.bpf_isa.specs.Jumps.{condition_row};
+ghost use Rattle.bpf_isa.specs.Memory.{store_row, atomic_row};
 ghost use Rattle.bpf_isa.specs.Rows.{HasCode, IsClear};
 ghost use Rattle.bpf_isa.specs.Swaps.{swap_row};
+ghost use Rattle.bpf_isa.specs.declared.row.Field.TheVariants.{Unused};
 ghost use Rattle.bpf_isa.specs.WideLoads.{wide_row};
 ghost use Rattle.bpf_isa.specs.Words.{row, HasCodes, IsClean};
 ghost use Rattle.bpf_isa.specs.Scaffolding.Codec.{IsKept, IsLaid};
 
 use crate::fields::Fields;
 use crate::instruction::{
-    AtomicOp, BinaryOp, ByteOrder, Condition, Extension, LoadSize, Size, SourceKind, SwapWidth,
-    Width,
+    AtomicOp, BinaryOp, ByteOrder, Condition, Extension, Size, SourceKind, SwapWidth, Width,
 };
 use crate::mnemonic::{Mnemonic, WideKind};
 use crate::opcode::WIDE_OPCODE;
+use Field::{Code, Unused, Used};
 use codes::{
     arithmetic_bits, atomic_imm, binary_code, condition_code, jump_bits, load_bits, size_bits,
 };
@@ -45,16 +46,6 @@ pub struct Row {
     pub next: Field,
 }
 
-/// A row that uses no field.
-const NONE: Row = Row {
-    opcode: 0,
-    dst: Field::Unused,
-    src: Field::Unused,
-    offset: Field::Unused,
-    imm: Field::Unused,
-    next: Field::Unused,
-};
-
 impl Field {
     ghost use Rattle.bpf_isa.specs.Rows.{src_of, imm_of};
 
@@ -63,8 +54,8 @@ impl Field {
         ensures { result ≡ src_of source }
     {
         match source {
-            SourceKind::Immediate => Field::Unused,
-            SourceKind::Register => Field::Used,
+            SourceKind::Immediate => Unused,
+            SourceKind::Register => Used,
         }
     }
 
@@ -73,8 +64,8 @@ impl Field {
         ensures { result ≡ imm_of source }
     {
         match source {
-            SourceKind::Immediate => Field::Used,
-            SourceKind::Register => Field::Unused,
+            SourceKind::Immediate => Used,
+            SourceKind::Register => Unused,
         }
     }
 
@@ -83,7 +74,7 @@ impl Field {
         ensures { IsTrue result ↔ IsClear self value }
     {
         match self {
-            Field::Unused => value == 0,
+            Unused => value == 0,
             _ => true,
         }
     }
@@ -96,9 +87,9 @@ impl Field {
         ensures fits { (result ≤ 255) ⊎ (result ≤ part) }
     {
         match self {
-            Field::Unused => 0,
-            Field::Code(code) => u32::from(code),
-            Field::Used => part,
+            Unused => 0,
+            Code(code) => u32::from(code),
+            Used => part,
         }
     }
 }
@@ -107,21 +98,15 @@ impl Field {
 fn binary_row(op: BinaryOp, width: Width, source: SourceKind) -> Row
     ensures { result ≡ binary_row op width source }
 {
+    let opcode = 16 * binary_code(op) + arithmetic_bits(width, source);
     let offset = match (op, source) {
-        (BinaryOp::SignedDiv | BinaryOp::SignedMod, _) => Field::Code(1),
-        (BinaryOp::Div | BinaryOp::Mod, _) | (BinaryOp::Mov, SourceKind::Register) => {
-            Field::Code(0)
-        }
-        _ => Field::Unused,
+        (BinaryOp::SignedDiv | BinaryOp::SignedMod, _) => Code(1),
+        (BinaryOp::Div | BinaryOp::Mod, _) | (BinaryOp::Mov, SourceKind::Register) => Code(0),
+        _ => Unused,
     };
-    Row {
-        opcode: 16 * binary_code(op) + arithmetic_bits(width, source),
-        dst: Field::Used,
-        src: Field::src_of(source),
-        offset,
-        imm: Field::imm_of(source),
-        ..NONE
-    }
+    let src = Field::src_of(source);
+    let imm = Field::imm_of(source);
+    Row::new(opcode, Used, src, offset, imm)
 }
 
 /// The row of an extending move.
@@ -135,13 +120,7 @@ fn extension_row(extension: Extension) -> Row
         Extension::Byte32 => (0xbc, 8),
         Extension::Half32 => (0xbc, 16),
     };
-    Row {
-        opcode,
-        dst: Field::Used,
-        src: Field::Used,
-        offset: Field::Code(bits),
-        ..NONE
-    }
+    Row::new(opcode, Used, Used, Code(bits), Unused)
 }
 
 /// The row of a byte swap.
@@ -158,51 +137,17 @@ fn swap_row(order: ByteOrder, width: SwapWidth) -> Row
         SwapWidth::Bits32 => 32,
         SwapWidth::Bits64 => 64,
     };
-    Row {
-        opcode,
-        dst: Field::Used,
-        imm: Field::Code(bits),
-        ..NONE
-    }
+    Row::new(opcode, Used, Unused, Unused, Code(bits))
 }
 
 /// The row of a conditional jump.
 fn condition_row(condition: Condition, width: Width, source: SourceKind) -> Row
     ensures { result ≡ condition_row condition width source }
 {
-    Row {
-        opcode: 16 * condition_code(condition) + jump_bits(width, source),
-        dst: Field::Used,
-        src: Field::src_of(source),
-        offset: Field::Used,
-        imm: Field::imm_of(source),
-        ..NONE
-    }
-}
-
-/// The row of a call, of the kind that src tells.
-fn call_row(kind: u8) -> Row
-    ensures { result ≡ call_row kind }
-{
-    Row {
-        opcode: 0x85,
-        src: Field::Code(kind),
-        imm: Field::Used,
-        ..NONE
-    }
-}
-
-/// The row of a load.
-fn load_row(size: LoadSize) -> Row
-    ensures { result ≡ load_row size }
-{
-    Row {
-        opcode: load_bits(size) + 1,
-        dst: Field::Used,
-        src: Field::Used,
-        offset: Field::Used,
-        ..NONE
-    }
+    let opcode = 16 * condition_code(condition) + jump_bits(width, source);
+    let src = Field::src_of(source);
+    let imm = Field::imm_of(source);
+    Row::new(opcode, Used, src, Used, imm)
 }
 
 /// The row of a store.
@@ -213,14 +158,9 @@ fn store_row(size: Size, kind: SourceKind) -> Row
         SourceKind::Immediate => 2,
         SourceKind::Register => 3,
     };
-    Row {
-        opcode: size_bits(size) + class,
-        dst: Field::Used,
-        src: Field::src_of(kind),
-        offset: Field::Used,
-        imm: Field::imm_of(kind),
-        ..NONE
-    }
+    let src = Field::src_of(kind);
+    let imm = Field::imm_of(kind);
+    Row::new(size_bits(size) + class, Used, src, Used, imm)
 }
 
 /// The row of an atomic operation.
@@ -231,14 +171,7 @@ fn atomic_row(op: AtomicOp, width: Width) -> Row
         Width::Bits32 => 0xc3,
         Width::Bits64 => 0xdb,
     };
-    Row {
-        opcode,
-        dst: Field::Used,
-        src: Field::Used,
-        offset: Field::Used,
-        imm: Field::Code(atomic_imm(op)),
-        ..NONE
-    }
+    Row::new(opcode, Used, Used, Used, Code(atomic_imm(op)))
 }
 
 /// The row of a wide load.
@@ -246,52 +179,50 @@ fn wide_row(kind: WideKind) -> Row
     ensures { result ≡ wide_row kind }
 {
     let (src, next) = match kind {
-        WideKind::Number => (0, Field::Used),
-        WideKind::Map => (5, Field::Unused),
-        WideKind::MapValue => (6, Field::Used),
+        WideKind::Number => (0, Used),
+        WideKind::Map => (5, Unused),
+        WideKind::MapValue => (6, Used),
     };
     Row {
-        opcode: WIDE_OPCODE,
-        dst: Field::Used,
-        src: Field::Code(src),
-        imm: Field::Used,
         next,
-        ..NONE
+        ..Row::new(WIDE_OPCODE, Used, Code(src), Unused, Used)
     }
 }
 
 impl Row {
+    /// A row of one slot: the opcode, and what dst, src, offset and imm hold.
+    fn new(opcode: u8, dst: Field, src: Field, offset: Field, imm: Field) -> Row
+        ensures { result ≡ record { opcode = opcode; dst = dst; src = src; offset = offset; imm = imm; next = Unused } }
+    {
+        Row {
+            opcode,
+            dst,
+            src,
+            offset,
+            imm,
+            next: Unused,
+        }
+    }
+
     /// The row of a mnemonic in form K or X.
     pub fn of(mnemonic: Mnemonic, source: SourceKind) -> Row
         ensures { result ≡ row mnemonic source }
     {
         match mnemonic {
             Mnemonic::Binary(op, width) => binary_row(op, width, source),
-            Mnemonic::Negate(width) => Row {
-                opcode: 0x80 + arithmetic_bits(width, SourceKind::Immediate),
-                dst: Field::Used,
-                ..NONE
-            },
+            Mnemonic::Negate(width) => {
+                let opcode = 0x80 + arithmetic_bits(width, SourceKind::Immediate);
+                Row::new(opcode, Used, Unused, Unused, Unused)
+            }
             Mnemonic::SignExtend(extension) => extension_row(extension),
             Mnemonic::SwapBytes(order, width) => swap_row(order, width),
             Mnemonic::JumpIf(condition, width) => condition_row(condition, width, source),
-            Mnemonic::Jump => Row {
-                opcode: 0x05,
-                offset: Field::Used,
-                ..NONE
-            },
-            Mnemonic::JumpLong => Row {
-                opcode: 0x06,
-                imm: Field::Used,
-                ..NONE
-            },
-            Mnemonic::CallHelper => call_row(0),
-            Mnemonic::CallLocal => call_row(1),
-            Mnemonic::Exit => Row {
-                opcode: 0x95,
-                ..NONE
-            },
-            Mnemonic::Load(size) => load_row(size),
+            Mnemonic::Jump => Row::new(0x05, Unused, Unused, Used, Unused),
+            Mnemonic::JumpLong => Row::new(0x06, Unused, Unused, Unused, Used),
+            Mnemonic::CallHelper => Row::new(0x85, Unused, Code(0), Unused, Used),
+            Mnemonic::CallLocal => Row::new(0x85, Unused, Code(1), Unused, Used),
+            Mnemonic::Exit => Row::new(0x95, Unused, Unused, Unused, Unused),
+            Mnemonic::Load(size) => Row::new(load_bits(size) + 1, Used, Used, Used, Unused),
             Mnemonic::Store(size, kind) => store_row(size, kind),
             Mnemonic::Atomic(op, width) => atomic_row(op, width),
             Mnemonic::LoadWide(kind) => wide_row(kind),
