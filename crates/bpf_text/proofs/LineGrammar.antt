@@ -1,9 +1,6 @@
 -- What is read of a line is what its grammar says.
 use Rattle.std.proofs.Common.{ℕ, suc, ◌≡◌, ◌<◌, ◌+◌, ◌==◌, Bool, true, false, ◌&&◌, not, List, [], ◌∷◌, ◌++◌, drop, length, length-append, refl, ap, sym, ◌∙◌, arith, Option, Some, None, Ok, Err, nat_lt, subst, append_assoc}
-use Rattle.std.specs.Prelude.{find}
 use Rattle.std.specs.List.{list_all, position_or_len, before_first, after_first}
-use Rattle.std.specs.Str.{bytes_eq}
-use Rattle.std.proofs.lemmas.Slice.Eq.{bytes_eq-Decides}
 use Rattle.std.proofs.lemmas.Bool.{eqb-true}
 use Rattle.std.proofs.lemmas.Bool.Decides.{nat_tests}
 use Rattle.std.proofs.lemmas.List.{append-nil}
@@ -11,7 +8,6 @@ use Rattle.counted_io.proofs.Naturals.{and-both}
 use Rattle.bpf_isa.specs.declared.instruction.Insn.{Insn}
 use Rattle.bpf_isa.specs.declared.mnemonic.Mnemonic.{Mnemonic}
 use Rattle.bpf_text.specs.declared.read.statement.Statement.{Statement}
-use Rattle.bpf_text.specs.declared.read.table.TheConstants.{MNEMONICS}
 use Rattle.bpf_text.specs.declared.read.term.Terms.{Terms}
 use Rattle.counted_io.specs.Lines.{is_blank, trim_start}
 use Rattle.bpf_text.specs.Characters.{is_name, is_text}
@@ -29,7 +25,7 @@ use Rattle.bpf_text.specs.Scaffolding.Instructions.{forms_of, insn_with}
 use Rattle.bpf_text.specs.LineGrammar.{LineReading}
 use Rattle.bpf_text.specs.Scaffolding.Lines.{read_statement, of_mnemonic, of_forms, in_ranges}
 use Rattle.bpf_text.specs.Scaffolding.Terms.{terms_of}
-use Rattle.bpf_text.proofs.MnemonicNames.{named-name_of}
+use Rattle.bpf_text.proofs.MnemonicNames.{named-name_of, named-sound}
 use Rattle.bpf_text.proofs.OperandGrammar.{split-first, trim_start-blank, trim_start-other, trim_start-blanks, trim_start-says, trim_end-says, padded-trim}
 use Rattle.bpf_text.proofs.OperandLists.{name-plain, trim_end-blanks, trim-snug, operand-lists}
 use Rattle.bpf_text.proofs.PlainTexts.{is_plain, and-join, list_all-append, no_blank, solid-blank, position_or_len-at, before_first-at, before_first-none, after_first-at, after_first-none, plain-colon, Snug, Snug-solid, Snug-plain, Snug-append}
@@ -118,18 +114,6 @@ trimmed-snug s b t h =
     )
 
 -- ---- statements
-
--- a mnemonic that is found has the name
-find-passes : {A : Type 0} (p : A → Bool) (xs : List A) (y : A) → find p xs ≡ Some y → p y ≡ true
-find-passes p [] y e = cc
-find-passes p (x ∷ xs) y e = go (p x) refl e (λ f. find-passes p xs y f) where
-  go : (t : Bool) → p x ≡ t → find p (x ∷ xs) ≡ Some y → (find p xs ≡ Some y → p y ≡ true) → p y ≡ true
-  go true h e more = let same : x ≡ y = (let f = rw h at e in cc) in ap p (sym same) ∙ h
-  go false h e more = let f = rw h at e in more f
-
-named-sound : (name : List ℕ) (m : Mnemonic) → named name ≡ Some m → name_of m ≡ name
-unfolding named
-named-sound name m e = (bytes_eq-Decides (name_of m) name).0 (find-passes (λ x. bytes_eq (name_of x) name) MNEMONICS m e)
 
 -- what stands behind a label, as it is read
 record HasBody (rest name operands : List ℕ) : Type 0 where

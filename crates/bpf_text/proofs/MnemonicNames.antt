@@ -1,5 +1,11 @@
 -- Each mnemonic is found by its name.
-use Rattle.std.proofs.Common.{ℕ, ◌≡◌, ◌<◌, ◌++◌, true, length, length-append, codes, arith, List, Some, refl}
+use Rattle.std.proofs.Common.{ℕ, ◌≡◌, ◌<◌, [], ◌∷◌, ◌++◌, Bool, true, false, take, drop, length, length-append, codes, arith, List, Some, None, refl, ap, sym, ◌∙◌, option_map, is_some, if◌then◌else◌}
+use Rattle.std.specs.Prelude.{find}
+use Rattle.std.specs.Str.{bytes_eq}
+use Rattle.std.proofs.lemmas.Slice.Eq.{bytes_eq-Decides}
+use Rattle.std.proofs.lemmas.List.{append-nil, take-append-drop}
+use Rattle.bpf_text.proofs.OperandGrammar.{map-some}
+use Rattle.bpf_text.proofs.OperandLists.{and-some}
 use Rattle.bpf_text.proofs.PlainTexts.{is_plain, are_plain, list_all-append}
 use Rattle.bpf_isa.specs.declared.instruction.Width.{Width}
 use Rattle.bpf_isa.specs.declared.instruction.Width.TheVariants.{Bits32, Bits64}
@@ -20,34 +26,35 @@ use Rattle.bpf_isa.specs.declared.instruction.Condition.TheVariants as condition
 use Rattle.bpf_isa.specs.declared.instruction.AtomicOp.{AtomicOp}
 use Rattle.bpf_isa.specs.declared.instruction.AtomicOp.TheVariants as atomic
 use Rattle.bpf_isa.specs.declared.mnemonic.Mnemonic.{Mnemonic}
-use Rattle.bpf_isa.specs.declared.mnemonic.Mnemonic.TheVariants.{Binary, Negate, SignExtend, SwapBytes, JumpIf, Jump, Load, LoadSigned, StoreImmediate, StoreRegister, Atomic}
-use Rattle.bpf_text.specs.Mnemonics.{name_of, binary_name, width_suffix, condition_name, atomic_name}
-use Rattle.bpf_text.specs.Scaffolding.Named.{named}
+use Rattle.bpf_isa.specs.declared.mnemonic.Mnemonic.TheVariants.{Binary, Negate, SignExtend, SwapBytes, JumpIf, Jump, JumpLong, CallHelper, CallLocal, Exit, Load, LoadSigned, StoreImmediate, StoreRegister, Atomic, LoadNumber, LoadMap, LoadMapValue}
+use Rattle.bpf_text.specs.declared.names.TheConstants.{STEMS, WIDTHS, EXTENSIONS, SWAP_WIDTHS, SIZES, SIGNED_SIZES}
+use Rattle.bpf_text.specs.Mnemonics.{name_of, binary_name, width_suffix, extension_suffix, order_name, swap_suffix, condition_name, size_suffix, signed_suffix, atomic_name, atomic_suffix}
+use Rattle.bpf_text.specs.Scaffolding.Named.{stem_of, suffix_of, whole, with_suffix, behind, mnemonic_with, stem_named, named}
 
 -- arithmetic
 named-binary : (width : Width) (op : BinaryOp) → named (name_of (Binary op width)) ≡ Some (Binary op width)
-unfolding named
+unfolding named stem_named
 named-binary Bits32 binary.Add = refl
 named-binary Bits64 binary.Add = refl
 named-binary width op = refl
 
 -- conditional jumps
 named-jump : (width : Width) (c : Condition) → named (name_of (JumpIf c width)) ≡ Some (JumpIf c width)
-unfolding named
+unfolding named stem_named
 named-jump Bits32 condition.Equal = refl
 named-jump Bits64 condition.Equal = refl
 named-jump width c = refl
 
 -- atomic operations
 named-atomic : (width : Width) (op : AtomicOp) → named (name_of (Atomic op width)) ≡ Some (Atomic op width)
-unfolding named
+unfolding named stem_named
 named-atomic Bits32 atomic.Add = refl
 named-atomic Bits64 atomic.Add = refl
 named-atomic width op = refl
 
 -- byte swaps
 named-swap : (order : ByteOrder) (width : SwapWidth) → named (name_of (SwapBytes order width)) ≡ Some (SwapBytes order width)
-unfolding named
+unfolding named stem_named
 named-swap Little swap.Bits16 = refl
 named-swap Big swap.Bits16 = refl
 named-swap Swap swap.Bits16 = refl
@@ -55,38 +62,38 @@ named-swap order width = refl
 
 -- the mnemonics of one part
 named-negate : (width : Width) → named (name_of (Negate width)) ≡ Some (Negate width)
-unfolding named
+unfolding named stem_named
 named-negate Bits32 = refl
 named-negate width = refl
 
 named-extend : (e : Extension) → named (name_of (SignExtend e)) ≡ Some (SignExtend e)
-unfolding named
+unfolding named stem_named
 named-extend Byte64 = refl
 named-extend e = refl
 
 named-load : (size : Size) → named (name_of (Load size)) ≡ Some (Load size)
-unfolding named
+unfolding named stem_named
 named-load Word = refl
 named-load size = refl
 
 named-load_signed : (size : SignedSize) → named (name_of (LoadSigned size)) ≡ Some (LoadSigned size)
-unfolding named
+unfolding named stem_named
 named-load_signed signed.Word = refl
 named-load_signed size = refl
 
 named-store : (size : Size) → named (name_of (StoreImmediate size)) ≡ Some (StoreImmediate size)
-unfolding named
+unfolding named stem_named
 named-store Word = refl
 named-store size = refl
 
 named-store_register : (size : Size) → named (name_of (StoreRegister size)) ≡ Some (StoreRegister size)
-unfolding named
+unfolding named stem_named
 named-store_register Word = refl
 named-store_register size = refl
 
 -- every mnemonic
 pub named-name_of : (m : Mnemonic) → named (name_of m) ≡ Some m
-unfolding named
+unfolding named stem_named
 named-name_of (Binary op width) = named-binary width op
 named-name_of (Negate width) = named-negate width
 named-name_of (SignExtend e) = named-extend e
@@ -99,6 +106,67 @@ named-name_of (StoreRegister size) = named-store_register size
 named-name_of (Atomic op width) = named-atomic width op
 named-name_of Jump = refl
 named-name_of m = refl
+
+-- the stem and the suffix are the name
+pub name-pieces : (m : Mnemonic) → stem_of m ++ suffix_of m ≡ name_of m
+name-pieces (Binary op width) = refl
+name-pieces Jump = refl
+name-pieces m = refl
+
+-- a mnemonic that is found has the name
+find-passes : {A : Type 0} (p : A → Bool) (xs : List A) (y : A) → find p xs ≡ Some y → p y ≡ true
+find-passes p [] y e = cc
+find-passes p (x ∷ xs) y e = go (p x) refl e (λ f. find-passes p xs y f) where
+  go : (t : Bool) → p x ≡ t → find p (x ∷ xs) ≡ Some y → (find p xs ≡ Some y → p y ≡ true) → p y ≡ true
+  go true h e more = let same : x ≡ y = (let f = rw h at e in cc) in ap p (sym same) ∙ h
+  go false h e more = let f = rw h at e in more f
+
+suffixed : {A : Type 0} (make : A → Mnemonic) (stem : List ℕ) (text : A → List ℕ) (all : List A) (s : List ℕ) (m : Mnemonic)
+    → ((a : A) → name_of (make a) ≡ stem ++ text a) → option_map make (find (λ a. bytes_eq (text a) s) all) ≡ Some m → name_of m ≡ stem ++ s
+suffixed make stem text all s m named e =
+    let k = map-some make (find (λ a. bytes_eq (text a) s) all) m e in
+    let same = (bytes_eq-Decides (text k.0) s).0 (find-passes (λ a. bytes_eq (text a) s) all k.0 k.1) in
+    ap name_of (sym k.2) ∙ named k.0 ∙ ap (λ t. stem ++ t) same
+
+whole-says : (x : Mnemonic) (s : List ℕ) (m : Mnemonic) → name_of x ≡ stem_of x → whole x s ≡ Some m → name_of m ≡ stem_of x ++ s
+whole-says x [] m named e = let same : x ≡ m = cc in ap name_of (sym same) ∙ named ∙ sym (append-nil (stem_of x))
+whole-says x (b ∷ s) m named e = cc
+
+with_suffix-says : (x : Mnemonic) (s : List ℕ) (m : Mnemonic) → with_suffix x s ≡ Some m → name_of m ≡ stem_of x ++ s
+with_suffix-says (Binary op width) s m e = suffixed (Binary op) (binary_name op) width_suffix WIDTHS s m (λ w. refl) e
+with_suffix-says (Negate width) s m e = suffixed Negate (codes "neg") width_suffix WIDTHS s m (λ w. refl) e
+with_suffix-says (SignExtend extension) s m e = suffixed SignExtend (codes "movsx") extension_suffix EXTENSIONS s m (λ w. refl) e
+with_suffix-says (SwapBytes order width) s m e = suffixed (SwapBytes order) (order_name order) swap_suffix SWAP_WIDTHS s m (λ w. refl) e
+with_suffix-says (JumpIf c width) s m e = suffixed (JumpIf c) (condition_name c) width_suffix WIDTHS s m (λ w. refl) e
+with_suffix-says (Load size) s m e = suffixed Load (codes "ldx") size_suffix SIZES s m (λ z. refl) e
+with_suffix-says (LoadSigned size) s m e = suffixed LoadSigned (codes "ldxs") signed_suffix SIGNED_SIZES s m (λ z. refl) e
+with_suffix-says (StoreImmediate size) s m e = suffixed StoreImmediate (codes "st") size_suffix SIZES s m (λ z. refl) e
+with_suffix-says (StoreRegister size) s m e = suffixed StoreRegister (codes "stx") size_suffix SIZES s m (λ z. refl) e
+with_suffix-says (Atomic op width) s m e = suffixed (Atomic op) (atomic_name op) atomic_suffix WIDTHS s m (λ w. refl) e
+with_suffix-says Jump s m e = whole-says Jump s m refl e
+with_suffix-says JumpLong s m e = whole-says JumpLong s m refl e
+with_suffix-says CallHelper s m e = whole-says CallHelper s m refl e
+with_suffix-says CallLocal s m e = whole-says CallLocal s m refl e
+with_suffix-says Exit s m e = whole-says Exit s m refl e
+with_suffix-says LoadNumber s m e = whole-says LoadNumber s m refl e
+with_suffix-says LoadMap s m e = whole-says LoadMap s m refl e
+with_suffix-says LoadMapValue s m e = whole-says LoadMapValue s m refl e
+
+behind-says : (stem name s : List ℕ) → behind stem name ≡ Some s → name ≡ stem ++ s
+behind-says stem name s e = go (bytes_eq (take (length stem) name) stem) refl e where
+  go : (t : Bool) → bytes_eq (take (length stem) name) stem ≡ t → (if t then Some (drop (length stem) name) else None) ≡ Some s → name ≡ stem ++ s
+  go true h e =
+      let same : drop (length stem) name ≡ s = cc in
+      let begins = (bytes_eq-Decides (take (length stem) name) stem).0 h in
+      sym (take-append-drop (length stem) name) ∙ ap (λ x. x ++ drop (length stem) name) begins ∙ ap (λ x. stem ++ x) same
+  go false h e = cc
+
+pub named-sound : (name : List ℕ) (m : Mnemonic) → named name ≡ Some m → name_of m ≡ name
+unfolding named stem_named
+named-sound name m e =
+    let found = and-some (λ x. mnemonic_with x name) (find (λ x. is_some (mnemonic_with x name)) STEMS) m e in
+    let rest = and-some (with_suffix found.0) (behind (stem_of found.0) name) m found.2 in
+    with_suffix-says found.0 rest.0 m rest.2 ∙ sym (behind-says (stem_of found.0) name rest.0 rest.1)
 
 -- names are plain, and not empty
 plain-binary : (op : BinaryOp) → (are_plain (binary_name op) ≡ true) × (0 < length (binary_name op))

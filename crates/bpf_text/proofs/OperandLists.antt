@@ -223,7 +223,7 @@ says-operands (forms.Three f g h) s terms known =
     ∙ says-three f g h a.1 a.2 b.0 b.1 b.2 c.0 c.1 known.3 known.4 known.5 a.5 a.6 b.4 b.5 b.6 c.4 c.5 ∙ ap Some (sym known.10)
 
 -- what is read of operands is said by the grammar
-and-some : {A B : Type 0} (f : A → Option B) (o : Option A) (b : B) → option_and_then f o ≡ Some b → (a : A) × (o ≡ Some a) × (f a ≡ Some b)
+pub and-some : {A B : Type 0} (f : A → Option B) (o : Option A) (b : B) → option_and_then f o ≡ Some b → (a : A) × (o ≡ Some a) × (f a ≡ Some b)
 and-some f None b e = cc
 and-some f (Some a) b e = (a, refl, e)
 

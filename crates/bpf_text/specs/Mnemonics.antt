@@ -44,12 +44,12 @@ width_suffix Bits32 = codes "32"
 width_suffix Bits64 = []
 
 -- Moves that extend the sign (section 4.1).
-abbrev pub extension_name : Extension → List ℕ
-extension_name Byte64 = codes "movsx8"
-extension_name Half64 = codes "movsx16"
-extension_name Word64 = codes "movsx32"
-extension_name Byte32 = codes "movsx8_32"
-extension_name Half32 = codes "movsx16_32"
+abbrev pub extension_suffix : Extension → List ℕ
+extension_suffix Byte64 = codes "8"
+extension_suffix Half64 = codes "16"
+extension_suffix Word64 = codes "32"
+extension_suffix Byte32 = codes "8_32"
+extension_suffix Half32 = codes "16_32"
 
 -- Byte swaps (section 4.2).
 abbrev pub order_name : ByteOrder → List ℕ
@@ -112,7 +112,7 @@ atomic_suffix Bits64 = codes "64"
 abbrev pub name_of : Mnemonic → List ℕ
 name_of (Binary op width) = binary_name op ++ width_suffix width
 name_of (Negate width) = codes "neg" ++ width_suffix width
-name_of (SignExtend extension) = extension_name extension
+name_of (SignExtend extension) = codes "movsx" ++ extension_suffix extension
 name_of (SwapBytes order width) = order_name order ++ swap_suffix width
 name_of (JumpIf condition width) = condition_name condition ++ width_suffix width
 name_of Jump = codes "ja"

@@ -1,215 +1,384 @@
-//! The names of the mnemonics, a row an arm (RFC 9669, sections 4 and 5).
-ghost use Rattle.std.specs.Prelude.{◌≡◌, ◌++◌, codes};
-ghost use Rattle.bpf_text.specs.Mnemonics.{binary_name, width_suffix, extension_name, order_name, swap_suffix, condition_name, size_suffix, signed_suffix, atomic_name, atomic_suffix, name_of};
+//! The names of the mnemonics (RFC 9669, sections 4 and 5): a stem and a suffix, for writing and for reading.
+ghost use Rattle.std.specs.Prelude.{◌≡◌, option_map};
+ghost use Rattle.bpf_text.specs.Mnemonics.{binary_name, width_suffix, extension_suffix, order_name, swap_suffix, condition_name, size_suffix, signed_suffix, atomic_name, atomic_suffix};
+ghost use Rattle.bpf_text.specs.Scaffolding.Named.{stem_of, suffix_of, behind, width_named, extension_named, swap_width_named, size_named, signed_size_named, atomic_width_named, whole, with_suffix, mnemonic_with, stem_named, named};
 
 use bpf_isa::{
     AtomicOp, BinaryOp, ByteOrder, Condition, Extension, Mnemonic, SignedSize, Size, SwapWidth,
     Width,
 };
 
-/// The name of a mnemonic in a listing.
-pub fn name_of(mnemonic: &Mnemonic) -> &'static str
-    ensures { result.now ≡ name_of mnemonic.now }
+/// Each stem once, as a mnemonic that has it, in the order of RFC 9669's tables.
+pub const STEMS: [Mnemonic; 52] = [
+    Mnemonic::Binary(BinaryOp::Add, Width::Bits64),
+    Mnemonic::Binary(BinaryOp::Sub, Width::Bits64),
+    Mnemonic::Binary(BinaryOp::Mul, Width::Bits64),
+    Mnemonic::Binary(BinaryOp::Div, Width::Bits64),
+    Mnemonic::Binary(BinaryOp::SignedDiv, Width::Bits64),
+    Mnemonic::Binary(BinaryOp::Or, Width::Bits64),
+    Mnemonic::Binary(BinaryOp::And, Width::Bits64),
+    Mnemonic::Binary(BinaryOp::LeftShift, Width::Bits64),
+    Mnemonic::Binary(BinaryOp::RightShift, Width::Bits64),
+    Mnemonic::Binary(BinaryOp::Mod, Width::Bits64),
+    Mnemonic::Binary(BinaryOp::SignedMod, Width::Bits64),
+    Mnemonic::Binary(BinaryOp::Xor, Width::Bits64),
+    Mnemonic::Binary(BinaryOp::Mov, Width::Bits64),
+    Mnemonic::Binary(BinaryOp::SignedRightShift, Width::Bits64),
+    Mnemonic::Negate(Width::Bits64),
+    Mnemonic::SignExtend(Extension::Byte64),
+    Mnemonic::SwapBytes(ByteOrder::Little, SwapWidth::Bits16),
+    Mnemonic::SwapBytes(ByteOrder::Big, SwapWidth::Bits16),
+    Mnemonic::SwapBytes(ByteOrder::Swap, SwapWidth::Bits16),
+    Mnemonic::JumpIf(Condition::Equal, Width::Bits64),
+    Mnemonic::JumpIf(Condition::Greater, Width::Bits64),
+    Mnemonic::JumpIf(Condition::GreaterOrEqual, Width::Bits64),
+    Mnemonic::JumpIf(Condition::BitsSet, Width::Bits64),
+    Mnemonic::JumpIf(Condition::NotEqual, Width::Bits64),
+    Mnemonic::JumpIf(Condition::SignedGreater, Width::Bits64),
+    Mnemonic::JumpIf(Condition::SignedGreaterOrEqual, Width::Bits64),
+    Mnemonic::JumpIf(Condition::Less, Width::Bits64),
+    Mnemonic::JumpIf(Condition::LessOrEqual, Width::Bits64),
+    Mnemonic::JumpIf(Condition::SignedLess, Width::Bits64),
+    Mnemonic::JumpIf(Condition::SignedLessOrEqual, Width::Bits64),
+    Mnemonic::Jump,
+    Mnemonic::JumpLong,
+    Mnemonic::CallHelper,
+    Mnemonic::CallLocal,
+    Mnemonic::Exit,
+    Mnemonic::Load(Size::Word),
+    Mnemonic::LoadSigned(SignedSize::Word),
+    Mnemonic::StoreImmediate(Size::Word),
+    Mnemonic::StoreRegister(Size::Word),
+    Mnemonic::Atomic(AtomicOp::Add, Width::Bits64),
+    Mnemonic::Atomic(AtomicOp::Or, Width::Bits64),
+    Mnemonic::Atomic(AtomicOp::And, Width::Bits64),
+    Mnemonic::Atomic(AtomicOp::Xor, Width::Bits64),
+    Mnemonic::Atomic(AtomicOp::FetchAdd, Width::Bits64),
+    Mnemonic::Atomic(AtomicOp::FetchOr, Width::Bits64),
+    Mnemonic::Atomic(AtomicOp::FetchAnd, Width::Bits64),
+    Mnemonic::Atomic(AtomicOp::FetchXor, Width::Bits64),
+    Mnemonic::Atomic(AtomicOp::Exchange, Width::Bits64),
+    Mnemonic::Atomic(AtomicOp::CompareExchange, Width::Bits64),
+    Mnemonic::LoadNumber,
+    Mnemonic::LoadMap,
+    Mnemonic::LoadMapValue,
+];
+
+/// The two widths.
+pub const WIDTHS: [Width; 2] = [Width::Bits64, Width::Bits32];
+
+/// The moves that extend the sign.
+pub const EXTENSIONS: [Extension; 5] = [
+    Extension::Byte64,
+    Extension::Half64,
+    Extension::Word64,
+    Extension::Byte32,
+    Extension::Half32,
+];
+
+/// How many bits a byte swap can keep.
+pub const SWAP_WIDTHS: [SwapWidth; 3] = [SwapWidth::Bits16, SwapWidth::Bits32, SwapWidth::Bits64];
+
+/// The sizes of loads and stores.
+pub const SIZES: [Size; 4] = [Size::Word, Size::Half, Size::Byte, Size::Double];
+
+/// The sizes of loads that extend the sign.
+pub const SIGNED_SIZES: [SignedSize; 3] = [SignedSize::Word, SignedSize::Half, SignedSize::Byte];
+
+/// What a mnemonic's name begins with: its operation.
+pub fn stem_of(mnemonic: &Mnemonic) -> &'static str
+    ensures { result.now ≡ stem_of mnemonic.now }
 {
     match *mnemonic {
-        Mnemonic::Binary(op, width) => binary_name(op, width),
-        Mnemonic::Negate(width) => negate_name(width),
-        Mnemonic::SignExtend(extension) => extension_name(extension),
-        Mnemonic::SwapBytes(order, width) => swap_name(order, width),
-        Mnemonic::JumpIf(condition, width) => jump_name(condition, width),
+        Mnemonic::Binary(op, _) => binary_name(op),
+        Mnemonic::Negate(_) => "neg",
+        Mnemonic::SignExtend(_) => "movsx",
+        Mnemonic::SwapBytes(order, _) => order_name(order),
+        Mnemonic::JumpIf(condition, _) => condition_name(condition),
         Mnemonic::Jump => "ja",
         Mnemonic::JumpLong => "ja32",
         Mnemonic::CallHelper => "call",
         Mnemonic::CallLocal => "callf",
         Mnemonic::Exit => "exit",
-        Mnemonic::Load(size) => load_name(size),
-        Mnemonic::LoadSigned(size) => signed_load_name(size),
-        Mnemonic::StoreImmediate(size) => store_name(size),
-        Mnemonic::StoreRegister(size) => store_register_name(size),
-        Mnemonic::Atomic(op, width) => atomic_name(op, width),
+        Mnemonic::Load(_) => "ldx",
+        Mnemonic::LoadSigned(_) => "ldxs",
+        Mnemonic::StoreImmediate(_) => "st",
+        Mnemonic::StoreRegister(_) => "stx",
+        Mnemonic::Atomic(op, _) => atomic_name(op),
         Mnemonic::LoadNumber => "lddw",
         Mnemonic::LoadMap => "ldmap",
         Mnemonic::LoadMapValue => "ldmapval",
     }
 }
 
+/// What a mnemonic's name ends with: its width or size, if it has one.
+pub fn suffix_of(mnemonic: &Mnemonic) -> &'static str
+    ensures { result.now ≡ suffix_of mnemonic.now }
+{
+    match *mnemonic {
+        Mnemonic::Binary(_, width) => width_suffix(width),
+        Mnemonic::Negate(width) => width_suffix(width),
+        Mnemonic::SignExtend(extension) => extension_suffix(extension),
+        Mnemonic::SwapBytes(_, width) => swap_suffix(width),
+        Mnemonic::JumpIf(_, width) => width_suffix(width),
+        Mnemonic::Load(size) => size_suffix(size),
+        Mnemonic::LoadSigned(size) => signed_suffix(size),
+        Mnemonic::StoreImmediate(size) => size_suffix(size),
+        Mnemonic::StoreRegister(size) => size_suffix(size),
+        Mnemonic::Atomic(_, width) => atomic_suffix(width),
+        _ => "",
+    }
+}
+
 /// Arithmetic of two operands (section 4.1).
-fn binary_name(op: BinaryOp, width: Width) -> &'static str
-    ensures { result.now ≡ binary_name op ++ width_suffix width }
+fn binary_name(op: BinaryOp) -> &'static str
+    ensures { result.now ≡ binary_name op }
 {
-    match (op, width) {
-        (BinaryOp::Add, Width::Bits64) => "add",
-        (BinaryOp::Add, Width::Bits32) => "add32",
-        (BinaryOp::Sub, Width::Bits64) => "sub",
-        (BinaryOp::Sub, Width::Bits32) => "sub32",
-        (BinaryOp::Mul, Width::Bits64) => "mul",
-        (BinaryOp::Mul, Width::Bits32) => "mul32",
-        (BinaryOp::Div, Width::Bits64) => "div",
-        (BinaryOp::Div, Width::Bits32) => "div32",
-        (BinaryOp::SignedDiv, Width::Bits64) => "sdiv",
-        (BinaryOp::SignedDiv, Width::Bits32) => "sdiv32",
-        (BinaryOp::Or, Width::Bits64) => "or",
-        (BinaryOp::Or, Width::Bits32) => "or32",
-        (BinaryOp::And, Width::Bits64) => "and",
-        (BinaryOp::And, Width::Bits32) => "and32",
-        (BinaryOp::LeftShift, Width::Bits64) => "lsh",
-        (BinaryOp::LeftShift, Width::Bits32) => "lsh32",
-        (BinaryOp::RightShift, Width::Bits64) => "rsh",
-        (BinaryOp::RightShift, Width::Bits32) => "rsh32",
-        (BinaryOp::Mod, Width::Bits64) => "mod",
-        (BinaryOp::Mod, Width::Bits32) => "mod32",
-        (BinaryOp::SignedMod, Width::Bits64) => "smod",
-        (BinaryOp::SignedMod, Width::Bits32) => "smod32",
-        (BinaryOp::Xor, Width::Bits64) => "xor",
-        (BinaryOp::Xor, Width::Bits32) => "xor32",
-        (BinaryOp::Mov, Width::Bits64) => "mov",
-        (BinaryOp::Mov, Width::Bits32) => "mov32",
-        (BinaryOp::SignedRightShift, Width::Bits64) => "arsh",
-        (BinaryOp::SignedRightShift, Width::Bits32) => "arsh32",
-    }
-}
-
-/// Negation (section 4.1).
-fn negate_name(width: Width) -> &'static str
-    ensures { result.now ≡ codes "neg" ++ width_suffix width }
-{
-    match width {
-        Width::Bits64 => "neg",
-        Width::Bits32 => "neg32",
-    }
-}
-
-/// Moves that extend the sign (section 4.1).
-fn extension_name(extension: Extension) -> &'static str
-    ensures { result.now ≡ extension_name extension }
-{
-    match extension {
-        Extension::Byte64 => "movsx8",
-        Extension::Half64 => "movsx16",
-        Extension::Word64 => "movsx32",
-        Extension::Byte32 => "movsx8_32",
-        Extension::Half32 => "movsx16_32",
+    match op {
+        BinaryOp::Add => "add",
+        BinaryOp::Sub => "sub",
+        BinaryOp::Mul => "mul",
+        BinaryOp::Div => "div",
+        BinaryOp::SignedDiv => "sdiv",
+        BinaryOp::Or => "or",
+        BinaryOp::And => "and",
+        BinaryOp::LeftShift => "lsh",
+        BinaryOp::RightShift => "rsh",
+        BinaryOp::Mod => "mod",
+        BinaryOp::SignedMod => "smod",
+        BinaryOp::Xor => "xor",
+        BinaryOp::Mov => "mov",
+        BinaryOp::SignedRightShift => "arsh",
     }
 }
 
 /// Byte swaps (section 4.2).
-fn swap_name(order: ByteOrder, width: SwapWidth) -> &'static str
-    ensures { result.now ≡ order_name order ++ swap_suffix width }
+fn order_name(order: ByteOrder) -> &'static str
+    ensures { result.now ≡ order_name order }
 {
-    match (order, width) {
-        (ByteOrder::Little, SwapWidth::Bits16) => "le16",
-        (ByteOrder::Little, SwapWidth::Bits32) => "le32",
-        (ByteOrder::Little, SwapWidth::Bits64) => "le64",
-        (ByteOrder::Big, SwapWidth::Bits16) => "be16",
-        (ByteOrder::Big, SwapWidth::Bits32) => "be32",
-        (ByteOrder::Big, SwapWidth::Bits64) => "be64",
-        (ByteOrder::Swap, SwapWidth::Bits16) => "swap16",
-        (ByteOrder::Swap, SwapWidth::Bits32) => "swap32",
-        (ByteOrder::Swap, SwapWidth::Bits64) => "swap64",
+    match order {
+        ByteOrder::Little => "le",
+        ByteOrder::Big => "be",
+        ByteOrder::Swap => "swap",
     }
 }
 
 /// Conditional jumps (section 4.3).
-fn jump_name(condition: Condition, width: Width) -> &'static str
-    ensures { result.now ≡ condition_name condition ++ width_suffix width }
+fn condition_name(condition: Condition) -> &'static str
+    ensures { result.now ≡ condition_name condition }
 {
-    match (condition, width) {
-        (Condition::Equal, Width::Bits64) => "jeq",
-        (Condition::Equal, Width::Bits32) => "jeq32",
-        (Condition::Greater, Width::Bits64) => "jgt",
-        (Condition::Greater, Width::Bits32) => "jgt32",
-        (Condition::GreaterOrEqual, Width::Bits64) => "jge",
-        (Condition::GreaterOrEqual, Width::Bits32) => "jge32",
-        (Condition::BitsSet, Width::Bits64) => "jset",
-        (Condition::BitsSet, Width::Bits32) => "jset32",
-        (Condition::NotEqual, Width::Bits64) => "jne",
-        (Condition::NotEqual, Width::Bits32) => "jne32",
-        (Condition::SignedGreater, Width::Bits64) => "jsgt",
-        (Condition::SignedGreater, Width::Bits32) => "jsgt32",
-        (Condition::SignedGreaterOrEqual, Width::Bits64) => "jsge",
-        (Condition::SignedGreaterOrEqual, Width::Bits32) => "jsge32",
-        (Condition::Less, Width::Bits64) => "jlt",
-        (Condition::Less, Width::Bits32) => "jlt32",
-        (Condition::LessOrEqual, Width::Bits64) => "jle",
-        (Condition::LessOrEqual, Width::Bits32) => "jle32",
-        (Condition::SignedLess, Width::Bits64) => "jslt",
-        (Condition::SignedLess, Width::Bits32) => "jslt32",
-        (Condition::SignedLessOrEqual, Width::Bits64) => "jsle",
-        (Condition::SignedLessOrEqual, Width::Bits32) => "jsle32",
-    }
-}
-
-/// Loads (section 5.1).
-fn load_name(size: Size) -> &'static str
-    ensures { result.now ≡ codes "ldx" ++ size_suffix size }
-{
-    match size {
-        Size::Word => "ldxw",
-        Size::Half => "ldxh",
-        Size::Byte => "ldxb",
-        Size::Double => "ldxdw",
-    }
-}
-
-/// Loads that extend the sign (section 5.2).
-fn signed_load_name(size: SignedSize) -> &'static str
-    ensures { result.now ≡ codes "ldxs" ++ signed_suffix size }
-{
-    match size {
-        SignedSize::Word => "ldxsw",
-        SignedSize::Half => "ldxsh",
-        SignedSize::Byte => "ldxsb",
-    }
-}
-
-/// Stores of an immediate number (section 5.1).
-fn store_name(size: Size) -> &'static str
-    ensures { result.now ≡ codes "st" ++ size_suffix size }
-{
-    match size {
-        Size::Word => "stw",
-        Size::Half => "sth",
-        Size::Byte => "stb",
-        Size::Double => "stdw",
-    }
-}
-
-/// Stores of a register (section 5.1).
-fn store_register_name(size: Size) -> &'static str
-    ensures { result.now ≡ codes "stx" ++ size_suffix size }
-{
-    match size {
-        Size::Word => "stxw",
-        Size::Half => "stxh",
-        Size::Byte => "stxb",
-        Size::Double => "stxdw",
+    match condition {
+        Condition::Equal => "jeq",
+        Condition::Greater => "jgt",
+        Condition::GreaterOrEqual => "jge",
+        Condition::BitsSet => "jset",
+        Condition::NotEqual => "jne",
+        Condition::SignedGreater => "jsgt",
+        Condition::SignedGreaterOrEqual => "jsge",
+        Condition::Less => "jlt",
+        Condition::LessOrEqual => "jle",
+        Condition::SignedLess => "jslt",
+        Condition::SignedLessOrEqual => "jsle",
     }
 }
 
 /// Atomic operations (section 5.3).
-fn atomic_name(op: AtomicOp, width: Width) -> &'static str
-    ensures { result.now ≡ atomic_name op ++ atomic_suffix width }
+fn atomic_name(op: AtomicOp) -> &'static str
+    ensures { result.now ≡ atomic_name op }
 {
-    match (op, width) {
-        (AtomicOp::Add, Width::Bits64) => "atomic_add64",
-        (AtomicOp::Add, Width::Bits32) => "atomic_add32",
-        (AtomicOp::Or, Width::Bits64) => "atomic_or64",
-        (AtomicOp::Or, Width::Bits32) => "atomic_or32",
-        (AtomicOp::And, Width::Bits64) => "atomic_and64",
-        (AtomicOp::And, Width::Bits32) => "atomic_and32",
-        (AtomicOp::Xor, Width::Bits64) => "atomic_xor64",
-        (AtomicOp::Xor, Width::Bits32) => "atomic_xor32",
-        (AtomicOp::FetchAdd, Width::Bits64) => "atomic_fetch_add64",
-        (AtomicOp::FetchAdd, Width::Bits32) => "atomic_fetch_add32",
-        (AtomicOp::FetchOr, Width::Bits64) => "atomic_fetch_or64",
-        (AtomicOp::FetchOr, Width::Bits32) => "atomic_fetch_or32",
-        (AtomicOp::FetchAnd, Width::Bits64) => "atomic_fetch_and64",
-        (AtomicOp::FetchAnd, Width::Bits32) => "atomic_fetch_and32",
-        (AtomicOp::FetchXor, Width::Bits64) => "atomic_fetch_xor64",
-        (AtomicOp::FetchXor, Width::Bits32) => "atomic_fetch_xor32",
-        (AtomicOp::Exchange, Width::Bits64) => "atomic_xchg64",
-        (AtomicOp::Exchange, Width::Bits32) => "atomic_xchg32",
-        (AtomicOp::CompareExchange, Width::Bits64) => "atomic_cmpxchg64",
-        (AtomicOp::CompareExchange, Width::Bits32) => "atomic_cmpxchg32",
+    match op {
+        AtomicOp::Add => "atomic_add",
+        AtomicOp::Or => "atomic_or",
+        AtomicOp::And => "atomic_and",
+        AtomicOp::Xor => "atomic_xor",
+        AtomicOp::FetchAdd => "atomic_fetch_add",
+        AtomicOp::FetchOr => "atomic_fetch_or",
+        AtomicOp::FetchAnd => "atomic_fetch_and",
+        AtomicOp::FetchXor => "atomic_fetch_xor",
+        AtomicOp::Exchange => "atomic_xchg",
+        AtomicOp::CompareExchange => "atomic_cmpxchg",
     }
+}
+
+/// Arithmetic and jumps on 32 bits.
+fn width_suffix(width: Width) -> &'static str
+    ensures { result.now ≡ width_suffix width }
+{
+    match width {
+        Width::Bits64 => "",
+        Width::Bits32 => "32",
+    }
+}
+
+/// Moves that extend the sign (section 4.1).
+fn extension_suffix(extension: Extension) -> &'static str
+    ensures { result.now ≡ extension_suffix extension }
+{
+    match extension {
+        Extension::Byte64 => "8",
+        Extension::Half64 => "16",
+        Extension::Word64 => "32",
+        Extension::Byte32 => "8_32",
+        Extension::Half32 => "16_32",
+    }
+}
+
+/// How many bits a byte swap keeps (section 4.2).
+fn swap_suffix(width: SwapWidth) -> &'static str
+    ensures { result.now ≡ swap_suffix width }
+{
+    match width {
+        SwapWidth::Bits16 => "16",
+        SwapWidth::Bits32 => "32",
+        SwapWidth::Bits64 => "64",
+    }
+}
+
+/// The sizes of loads and stores (section 5.1).
+fn size_suffix(size: Size) -> &'static str
+    ensures { result.now ≡ size_suffix size }
+{
+    match size {
+        Size::Word => "w",
+        Size::Half => "h",
+        Size::Byte => "b",
+        Size::Double => "dw",
+    }
+}
+
+/// The sizes of loads that extend the sign (section 5.2).
+fn signed_suffix(size: SignedSize) -> &'static str
+    ensures { result.now ≡ signed_suffix size }
+{
+    match size {
+        SignedSize::Word => "w",
+        SignedSize::Half => "h",
+        SignedSize::Byte => "b",
+    }
+}
+
+/// The width of an atomic operation (section 5.3).
+fn atomic_suffix(width: Width) -> &'static str
+    ensures { result.now ≡ atomic_suffix width }
+{
+    match width {
+        Width::Bits64 => "64",
+        Width::Bits32 => "32",
+    }
+}
+
+/// The mnemonic of this name, if there is one.
+#[tactic(auto, unfolding(crate::specs::Scaffolding::Named::named))]
+pub fn named(name: &[u8]) -> Option<Mnemonic>
+    ensures { result ≡ named name.now }
+{
+    mnemonic_with(&stem_named(name)?, name)
+}
+
+/// A mnemonic with the stem of this name, if there is one.
+#[tactic(auto, unfolding(crate::specs::Scaffolding::Named::stem_named))]
+fn stem_named(name: &[u8]) -> Option<Mnemonic>
+    ensures { result ≡ stem_named name.now }
+{
+    STEMS
+        .iter()
+        .copied()
+        .find(|stem| mnemonic_with(stem, name).is_some())
+}
+
+/// The mnemonic that has this one's stem and this name, if there is one.
+fn mnemonic_with(stem: &Mnemonic, name: &[u8]) -> Option<Mnemonic>
+    ensures { result ≡ mnemonic_with stem.now name.now }
+{
+    with_suffix(stem, behind(stem_of(stem), name)?)
+}
+
+/// What stands behind a stem in a name, if the name begins with it.
+fn behind<'a>(stem: &str, name: &'a [u8]) -> Option<&'a [u8]>
+    ensures { option_map (λ rest. rest.now) result ≡ behind stem.now name.now }
+{
+    name.strip_prefix(stem.as_bytes())
+}
+
+/// The mnemonic that has this one's stem and this suffix, if there is one.
+fn with_suffix(stem: &Mnemonic, suffix: &[u8]) -> Option<Mnemonic>
+    ensures { result ≡ with_suffix stem.now suffix.now }
+{
+    match *stem {
+        Mnemonic::Binary(op, _) => Some(Mnemonic::Binary(op, width_named(suffix)?)),
+        Mnemonic::Negate(_) => Some(Mnemonic::Negate(width_named(suffix)?)),
+        Mnemonic::SignExtend(_) => Some(Mnemonic::SignExtend(extension_named(suffix)?)),
+        Mnemonic::SwapBytes(order, _) => {
+            Some(Mnemonic::SwapBytes(order, swap_width_named(suffix)?))
+        }
+        Mnemonic::JumpIf(condition, _) => Some(Mnemonic::JumpIf(condition, width_named(suffix)?)),
+        Mnemonic::Load(_) => Some(Mnemonic::Load(size_named(suffix)?)),
+        Mnemonic::LoadSigned(_) => Some(Mnemonic::LoadSigned(signed_size_named(suffix)?)),
+        Mnemonic::StoreImmediate(_) => Some(Mnemonic::StoreImmediate(size_named(suffix)?)),
+        Mnemonic::StoreRegister(_) => Some(Mnemonic::StoreRegister(size_named(suffix)?)),
+        Mnemonic::Atomic(op, _) => Some(Mnemonic::Atomic(op, atomic_width_named(suffix)?)),
+        mnemonic => whole(mnemonic, suffix),
+    }
+}
+
+/// A mnemonic without a suffix.
+fn whole(mnemonic: Mnemonic, suffix: &[u8]) -> Option<Mnemonic>
+    ensures { result ≡ whole mnemonic suffix.now }
+{
+    if suffix.is_empty() {
+        Some(mnemonic)
+    } else {
+        None
+    }
+}
+
+fn width_named(suffix: &[u8]) -> Option<Width>
+    ensures { result ≡ width_named suffix.now }
+{
+    WIDTHS
+        .iter()
+        .copied()
+        .find(|width| width_suffix(*width).as_bytes() == suffix)
+}
+
+fn extension_named(suffix: &[u8]) -> Option<Extension>
+    ensures { result ≡ extension_named suffix.now }
+{
+    EXTENSIONS.iter().copied().find(|extension| extension_suffix(*extension).as_bytes() == suffix)
+}
+
+fn swap_width_named(suffix: &[u8]) -> Option<SwapWidth>
+    ensures { result ≡ swap_width_named suffix.now }
+{
+    SWAP_WIDTHS
+        .iter()
+        .copied()
+        .find(|width| swap_suffix(*width).as_bytes() == suffix)
+}
+
+fn size_named(suffix: &[u8]) -> Option<Size>
+    ensures { result ≡ size_named suffix.now }
+{
+    SIZES
+        .iter()
+        .copied()
+        .find(|size| size_suffix(*size).as_bytes() == suffix)
+}
+
+fn signed_size_named(suffix: &[u8]) -> Option<SignedSize>
+    ensures { result ≡ signed_size_named suffix.now }
+{
+    SIGNED_SIZES
+        .iter()
+        .copied()
+        .find(|size| signed_suffix(*size).as_bytes() == suffix)
+}
+
+fn atomic_width_named(suffix: &[u8]) -> Option<Width>
+    ensures { result ≡ atomic_width_named suffix.now }
+{
+    WIDTHS
+        .iter()
+        .copied()
+        .find(|width| atomic_suffix(*width).as_bytes() == suffix)
 }

@@ -7,7 +7,6 @@ mod line;
 mod number;
 mod second_round;
 mod statement;
-mod table;
 mod term;
 mod text_key;
 

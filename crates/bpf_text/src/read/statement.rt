@@ -5,8 +5,8 @@ ghost use Rattle.bpf_text.specs.Scaffolding.Instructions.{forms_of, insn_with};
 ghost use Rattle.bpf_text.specs.Scaffolding.Lines.{read_statement, of_mnemonic};
 
 use crate::fault::LineFault;
+use crate::names::named;
 use crate::read::cut::trim;
-use crate::read::table::named;
 use crate::read::term::{Name, OperandForm, OperandForms, Terms, read_terms};
 use bpf_isa::{Insn, Mnemonic};
 use counted_io::find_blank;

@@ -2,10 +2,11 @@
 ghost use Rattle.std.specs.Prelude.{◌≤◌, ◌++◌};
 ghost use Rattle.bpf_isa.specs.Checker.{most_slots};
 ghost use Rattle.bpf_isa.specs.Registers.{register_text};
+ghost use Rattle.bpf_text.specs.Mnemonics.{name_of};
 ghost use Rattle.bpf_text.specs.Operands.{offset_text, operand_text, operands_text, text_of_insn, label_text};
 ghost use Rattle.counted_io.specs.Writing.{Writes, WritesAfter};
 
-use crate::names::name_of;
+use crate::names::{stem_of, suffix_of};
 use crate::write::operand::{Operand, Operands, operands_of};
 use bpf_isa::{Insn, Mnemonic, Reg};
 use counted_io::{Counted, WriteFault, put, put_decimal, put_hexadecimal, put_signed};
@@ -34,8 +35,20 @@ pub fn put_insn<W: Write>(
     requires { slot ≤ most_slots }
     ensures { WritesAfter W.contents writer.old so_far writer.new result (text_of_insn slot insn) }
 {
-    let named = put(writer, so_far, name_of(&Mnemonic::of(&insn)).as_bytes());
+    let named = put_name(writer, so_far, &Mnemonic::of(&insn));
     put_operands(writer, named, &operands_of(slot, &insn))
+}
+
+/// The name of a mnemonic.
+fn put_name<W: Write>(
+    writer: &mut Counted<W>,
+    so_far: Result<(), WriteFault>,
+    mnemonic: &Mnemonic,
+) -> Result<(), WriteFault>
+    ensures { WritesAfter W.contents writer.old so_far writer.new result (name_of mnemonic.now) }
+{
+    let stem = put(writer, so_far, stem_of(mnemonic).as_bytes());
+    put(writer, stem, suffix_of(mnemonic).as_bytes())
 }
 
 /// Each operand after what stands before it: a blank, or a comma and a blank.

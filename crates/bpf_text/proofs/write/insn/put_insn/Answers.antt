@@ -1,4 +1,4 @@
--- The mnemonic and then the operands.
+-- The name and then the operands.
 use Rattle.std.proofs.Common.{ap, ◌∙◌, ◌++◌}
 use Rattle.bpf_isa.specs.Mnemonics.{mnemonic_of}
 use Rattle.bpf_text.specs.Mnemonics.{name_of}
@@ -8,7 +8,6 @@ use Rattle.bpf_text.proofs.write.insn.put_insn.Goals as goal
 
 pub returns : goal.returns
 returns g c =
-    let name = c.as_bytes.ensures.value ∙ c.name_of.ensures ∙ ap name_of c.of.ensures in
-    WritesAfter-WritesAfter g.W.Write.contents _ _ _ _ _ _ _ _ _ c.put-named.ensures c.put_operands.ensures
-    (ap (λ n. n ++ operands_text c.operands_of.result) name
+    WritesAfter-WritesAfter g.W.Write.contents _ _ _ _ _ _ _ _ _ c.put_name-named.ensures c.put_operands.ensures
+    (ap (λ m. name_of m ++ operands_text c.operands_of.result) c.of.ensures
     ∙ ap (λ o. name_of (mnemonic_of c.args.insn) ++ operands_text o) c.operands_of.ensures)
