@@ -1,5 +1,5 @@
 -- The canonical listing of a checked program has no fault, and its bytes are the program's.
-use Rattle.std.proofs.Common.{ℕ, ℤ, pos, negsuc, suc, zero, ◌≡◌, ◌<◌, ◌≤◌, ◌+◌, ◌*◌, ◌||◌, ◌&&◌, not, Bool, true, false, List, [], ◌∷◌, ◌++◌, take, drop, length, refl, ap, sym, ◌∙◌, arith, subst, map, Option, Some, None, Ok, IsSome, is_some, unwrap_or, slice_get, if◌then◌else◌, add-one, ◌⊎◌, inl, inr, get_or, lit<, length-take, length-drop, drop-drop, zero-add}
+use Rattle.std.proofs.Common.{ℕ, ℤ, pos, negsuc, suc, zero, ◌≡◌, ◌<◌, ◌≤◌, ◌+◌, ◌*◌, ◌||◌, ◌&&◌, not, Bool, true, false, List, [], ◌∷◌, ◌++◌, take, drop, length, refl, ap, sym, ◌∙◌, arith, subst, Option, Some, None, Ok, IsSome, is_some, unwrap_or, slice_get, if◌then◌else◌, add-one, ◌⊎◌, inl, inr, get_or, lit<, length-take, length-drop, drop-drop, zero-add}
 use Rattle.std.proofs.lemmas.Bool.Decides.{nat_tests}
 use Rattle.bpf_isa.proofs.Spelling.{wide_or_not}
 use Rattle.std.proofs.Math.ListN.{drop_of_length-le}
@@ -11,14 +11,12 @@ use Rattle.bpf_isa.specs.Checker.{is_start, is_wide_at, piece_at}
 use Rattle.bpf_isa.specs.Words.{IsWord, row_of}
 use Rattle.counted_io.specs.Lines.{lines}
 use Rattle.bpf_text.specs.Canonical.{is_target, goes_to, canon}
-use Rattle.bpf_text.specs.Scaffolding.Lines.{read_line}
-use Rattle.bpf_text.specs.Listing.{IsListing}
-use Rattle.bpf_text.specs.Scaffolding.Rounds.{Labels, no_label, nothing, first_round, after_first_round, rounds, AreWords}
-use Rattle.bpf_text.proofs.Assembling.{is-listing}
+use Rattle.bpf_text.specs.Labels.{Labels, no_label}
+use Rattle.bpf_text.specs.Listing.{Outline, IsOutline, IsListing, AreWords}
 use Rattle.bpf_text.proofs.Listings.{start-within}
 use Rattle.bpf_text.proofs.CanonicalLines.{EntryFits, AllFit, lines-listing, line_list}
-use Rattle.bpf_text.proofs.CanonicalRounds.{slot_of, WellCut, labels_after, Reaches, AllReach, EntryReaches, AllSpell, EntrySpells, labels_after-has, placed_list, insns_in, first_round-canonical, second_round-canonical, AreWords-canonical, reaches-fits}
-use Rattle.bpf_text.proofs.ProgramParts.{IsWord-fits}
+use Rattle.bpf_text.proofs.CanonicalRounds.{slot_of, WellCut, labels_after, AllSpell, EntrySpells, labels_after-has, all_places, insns_in, outline-canonical, insns-canonical, AreWords-canonical}
+use Rattle.bpf_text.proofs.ProgramParts.{TargetReaches, word-fits, word-short}
 
 -- the entry of slot k of a list
 abbrev pub entry : List (Option Insn) → ℕ → Option Insn
@@ -39,23 +37,14 @@ is_target-true p (suc k) t (x ∷ rest) i e g =
       or-true false = refl
 
 -- from each slot to the recursions over all
-all-fit : (p : ℕ) (rest : List (Option Insn)) → ((k : ℕ) (i : Insn) → entry rest k ≡ Some i → EntryFits (p + k) (Some i)) → AllFit p rest
-all-fit p [] known = tt
-all-fit p (None ∷ rest) known =
-    (tt, all-fit (p + 1) rest (λ k i e. let next : p + suc k ≡ p + 1 + k = omega arith in rw next at (known (suc k) i e)))
-all-fit p (Some i ∷ rest) known = (
+all-fit : (labels : Labels) (p : ℕ) (rest : List (Option Insn))
+    → ((k : ℕ) (i : Insn) → entry rest k ≡ Some i → EntryFits labels (p + k) (Some i)) → AllFit labels p rest
+all-fit labels p [] known = tt
+all-fit labels p (None ∷ rest) known =
+    (tt, all-fit labels (p + 1) rest (λ k i e. let next : p + suc k ≡ p + 1 + k = omega arith in rw next at (known (suc k) i e)))
+all-fit labels p (Some i ∷ rest) known = (
   let here : p + 0 ≡ p = omega arith in rw here at (known 0 i refl),
-  all-fit (p + 1) rest (λ k j e. let next : p + suc k ≡ p + 1 + k = omega arith in rw next at (known (suc k) j e)),
-)
-
-all-reach : (labels : Labels) (p : ℕ) (rest : List (Option Insn))
-    → ((k : ℕ) (i : Insn) → entry rest k ≡ Some i → EntryReaches labels (p + k) (Some i)) → AllReach labels p rest
-all-reach labels p [] known = tt
-all-reach labels p (None ∷ rest) known =
-    (tt, all-reach labels (p + 1) rest (λ k i e. let next : p + suc k ≡ p + 1 + k = omega arith in rw next at (known (suc k) i e)))
-all-reach labels p (Some i ∷ rest) known = (
-  let here : p + 0 ≡ p = omega arith in rw here at (known 0 i refl),
-  all-reach labels (p + 1) rest (λ k j e. let next : p + suc k ≡ p + 1 + k = omega arith in rw next at (known (suc k) j e)),
+  all-fit labels (p + 1) rest (λ k j e. let next : p + suc k ≡ p + 1 + k = omega arith in rw next at (known (suc k) j e)),
 )
 
 all-spell : (bytes : List ℕ) (p : ℕ) (rest : List (Option Insn))
@@ -224,9 +213,9 @@ program_labels code = labels_after (is_target 0 code.insns) no_label 0 1 code.in
 
 -- each target of a program has its label
 program-reach : (code : Checked) → IsProgram code → (k : ℕ) (i : Insn) → entry code.insns k ≡ Some i
-    → Reaches (program_labels code) (target_of k i)
+    → TargetReaches (program_labels code) (target_of k i)
 program-reach code known k i e = go (target_of k i) refl where
-  go : (o : Option ℤ) → target_of k i ≡ o → Reaches (program_labels code) o
+  go : (o : Option ℤ) → target_of k i ≡ o → TargetReaches (program_labels code) o
   go None g = tt
   go (Some (negsuc n)) g = absurd (known.lands k (negsuc n) i e g)
   go (Some (pos t)) g =
@@ -257,20 +246,21 @@ canonical-listing code known =
     let labels = program_labels code in
     let short = known.short in
     let room : 0 + length insns ≤ 65535 = rw (zero-add (length insns)) short in
-    let reach : AllReach labels 0 insns = all-reach labels 0 insns (λ k i e. rw (zero-add k) (program-reach code known k i e)) in
-    let fits : AllFit 0 insns = all-fit 0 insns (λ k i e. rw (zero-add k)
-    (IsWord-fits i (piece_at code.bytes k) (known.words k i e), reaches-fits labels (target_of k i) (program-reach code known k i e))) in
+    let fits : AllFit labels 0 insns = all-fit labels 0 insns (λ k i e. rw (zero-add k)
+    (word-fits labels k i (piece_at code.bytes k) (known.words k i e) (program-reach code known k i e), word-short i (piece_at code.bytes k) (known.words k i e))) in
     let cut = well-cut code.bytes 0 insns (program-cut code known) in
     let spelled : AllSpell code.bytes 0 insns = all-spell code.bytes 0 insns
     (λ k i e. rw (zero-add k) (spells-at code.bytes k i (known.words k i e)))
     (program-end code known) in
-    let text : lines (canon code) ≡ line_list f 0 insns = lines-listing f 0 insns (omega (arith, room)) fits in
+    let text : lines (canon code) ≡ line_list f 0 insns = lines-listing labels f 0 insns (omega (arith, room)) fits in
     let zero_first = slot-first insns known.first in
-    let placed = placed_list f 0 1 insns in
-    let First : ℕ → Type 0 = λ s. first_round nothing s 1 (map read_line (line_list f 0 insns)) ≡ Ok (labels, placed) in
+    let outline : Outline = (labels, all_places f 0 1 insns) in
+    let found = outline-canonical labels f no_label 0 1 insns room fits cut (λ q low high. refl) in
+    let First : ℕ → Type 0 = λ s. IsOutline no_label s 1 (line_list f 0 insns) (Ok outline) in
+    let Lines : List (List ℕ) → Type 0 = λ text. IsOutline no_label 0 1 text (Ok outline) in
     let Bytes : ℕ → Type 0 = λ s. AreWords (insns_in insns) (drop (8 * s) code.bytes) in
-    let found = subst First zero_first (first_round-canonical f no_label [] 0 1 insns room fits cut (λ q low high. refl)) in
-    let clear = second_round-canonical f labels 0 1 insns fits reach in
-    is-listing (canon code) code.bytes (insns_in insns)
-    (ap (λ t. rounds (map read_line t)) text ∙ ap after_first_round found ∙ clear)
-    (subst Bytes zero_first (AreWords-canonical code.bytes 0 insns cut spelled))
+    record {
+      insns = insns_in insns;
+      clear = inr (outline, subst Lines (sym text) (subst First zero_first found), insns-canonical labels f 0 1 insns fits);
+      spelled = subst Bytes zero_first (AreWords-canonical code.bytes 0 insns cut spelled);
+    }

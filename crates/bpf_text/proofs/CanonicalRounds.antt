@@ -1,24 +1,17 @@
--- The two rounds over the canonical listing.
-use Rattle.std.proofs.Common.{ℕ, ℤ, pos, negsuc, suc, zero, ◌≡◌, ◌<◌, ◌≤◌, ◌+◌, ◌*◌, ◌+ℤ◌, ◌-ℤ◌, Bool, true, false, nat_le, List, [], ◌∷◌, ◌++◌, drop, length, refl, ap, sym, ◌∙◌, arith, codes, subst, append_assoc, map, Option, Some, None, Ok, Result, w16, SFits, decimal, IsSome, unwrap_or, slice_get}
+-- The two rounds over the canonical listing, as its definition has them.
+use Rattle.std.proofs.Common.{ℕ, suc, zero, ◌≡◌, ◌<◌, ◌≤◌, ◌+◌, ◌*◌, Bool, true, false, List, [], ◌∷◌, ◌++◌, drop, length, refl, ap, sym, ◌∙◌, arith, codes, subst, Option, Some, None, Ok, decimal, IsSome, unwrap_or, slice_get, inl, inr}
 use Rattle.std.specs.Cmp.Lexicographic.{same_text}
-use Rattle.std.proofs.lemmas.Bool.{eq-eqb}
-use Rattle.std.proofs.lemmas.Int.{ints}
-use Rattle.bpf_text.specs.declared.fault.AsmFault.{AsmFault}
 use Rattle.std.specs.Str.{bytes_eq}
-use Rattle.std.proofs.lemmas.Bool.Decides.{nat_tests}
+use Rattle.std.proofs.lemmas.Bool.{eq-eqb}
 use Rattle.std.proofs.lemmas.Fmt.{decimal_injective}
-use Rattle.std.proofs.lemmas.List.{append-nil}
 use Rattle.bpf_isa.specs.declared.instruction.Insn.{Insn}
-use Rattle.bpf_isa.specs.declared.instruction.Insn.TheVariants as insn
-use Rattle.bpf_isa.specs.Programs.{target_of, slots_of}
+use Rattle.bpf_isa.specs.Programs.{slots_of}
 use Rattle.bpf_isa.specs.Words.{IsWord}
+use Rattle.bpf_text.specs.Labels.{Labels, labels_with}
+use Rattle.bpf_text.specs.Listing.{Place, Outline, IsOutline, AreInsns, AreWords}
 use Rattle.bpf_text.specs.Operands.{text_of_insn, label_text}
-use Rattle.bpf_text.specs.Scaffolding.Lines.{read_line}
-use Rattle.bpf_text.specs.declared.read.first_round.Placed.{Placed}
-use Rattle.bpf_text.specs.Scaffolding.Rounds.{Labels, Collected, labels_with, line_end, first_round, second_round, insns_with, insn_at, with_target, with_distance, fits_offset, AreWords}
-use Rattle.bpf_text.proofs.InsnTexts.{InsnFits, TargetFits, unplaced, target_text, statement_from}
-use Rattle.bpf_text.proofs.LineTexts.{Reads-insn, Reads-label}
-use Rattle.bpf_text.proofs.CanonicalLines.{slot_list, line_list, AllFit}
+use Rattle.bpf_text.proofs.CanonicalLines.{slot_list, line_list, EntryFits, AllFit}
+use Rattle.bpf_text.proofs.CanonicalTexts.{IsAt, says-canonical, insn-line, label-line}
 
 -- the slot of the next instruction from slot p on
 abbrev pub slot_of : ℕ → List (Option Insn) → ℕ
@@ -57,28 +50,6 @@ labels_after f labels p line_number (Some i ∷ rest) =
 abbrev pub Fresh : Labels → ℕ → Type 0
 Fresh labels p = (q : ℕ) → p ≤ q → q ≤ 65535 → labels (label_text q) ≡ None
 
-pub slots_of-unplaced : (i : Insn) → slots_of (unplaced i) ≡ slots_of i
-slots_of-unplaced (insn.JumpIf c width dst s o) = refl
-slots_of-unplaced (insn.Jump o) = refl
-slots_of-unplaced (insn.JumpLong d) = refl
-slots_of-unplaced (insn.CallLocal d) = refl
-slots_of-unplaced i = refl
-
--- the first round at an instruction's line
-line_end-insn : (labels : Labels) (p : ℕ) (i : Insn) → InsnFits i → TargetFits (target_of p i) → p + slots_of i ≤ 65535
-    → line_end labels p (read_line (text_of_insn p i)) ≡ Ok (p + slots_of i)
-line_end-insn labels p i fits t room =
-    let read = Reads-insn p i fits t in
-    let within : nat_le (p + slots_of i) 65535 ≡ true = grind (arith, nat_tests) in
-    rw (read.says, slots_of-unplaced i, within) refl
-
--- the first round at a label's line
-line_end-label : (labels : Labels) (p : ℕ) → p ≤ 65535 → labels (label_text p) ≡ None
-    → line_end labels p (read_line (label_text p ++ codes ":")) ≡ Ok p
-line_end-label labels p h none =
-    let read = Reads-label p (omega arith) in
-    rw (read.says, none) refl
-
 -- a label differs from those of other slots
 label-other : (p q : ℕ) → p ≤ 65535 → q ≤ 65535 → (p ≡ q → ⊥) → bytes_eq (label_text p) (label_text q) ≡ false
 label-other p q h i apart = go (bytes_eq (decimal p) (decimal q)) refl where
@@ -96,52 +67,61 @@ Fresh-next false labels p line_number h fresh q more most = fresh q (omega arith
 Fresh-next true labels p line_number h fresh q more most =
     rw (label-other p q h most (λ e. absurd (omega arith))) (fresh q (omega arith) most)
 
--- the statement of an instruction in slot p
-abbrev pub placed_at : Bool → ℕ → ℕ → Insn → Placed
-placed_at b p line_number i = record { line = line_of_insn b line_number; slot = p; statement = statement_from p i }
+-- the texts of the slots from p on, in their places
+abbrev pub places_at : Bool → ℕ → ℕ → Insn → List Place
+places_at false p k i = record { line = k; slot = p; rest = text_of_insn p i } ∷ []
+places_at true p k i = record { line = k; slot = p; rest = [] } ∷ record { line = k + 1; slot = p; rest = text_of_insn p i } ∷ []
 
-abbrev pub placed_list : (ℕ → Bool) → ℕ → ℕ → List (Option Insn) → List Placed
-placed_list f p line_number [] = []
-placed_list f p line_number (None ∷ rest) = placed_list f (p + 1) line_number rest
-placed_list f p line_number (Some i ∷ rest) =
-    placed_at (f p) p line_number i ∷ placed_list f (p + 1) (line_of_insn (f p) line_number + 1) rest
+abbrev pub all_places : (ℕ → Bool) → ℕ → ℕ → List (Option Insn) → List Place
+all_places f p k [] = []
+all_places f p k (None ∷ rest) = all_places f (p + 1) k rest
+all_places f p k (Some i ∷ rest) = places_at (f p) p k i ++ all_places f (p + 1) (line_of_insn (f p) k + 1) rest
 
--- the first round at a slot, and over all
-first_round-slot : (b : Bool) (labels : Labels) (placed : List Placed) (p line_number next : ℕ) (i : Insn) (tail : List (List ℕ))
-    (result : Result Collected AsmFault)
-    → p ≤ 65535 → Fresh labels p → InsnFits i → TargetFits (target_of p i) → p + slots_of i ≤ 65535
-    → next ≡ p + slots_of i
-    → first_round (labels_at b labels p line_number, placed ++ placed_at b p line_number i ∷ []) next (line_of_insn b line_number + 1) (map read_line tail)
-    ≡ result
-    → first_round (labels, placed) p line_number (map read_line (slot_list b p (Some i) ++ tail)) ≡ result
-first_round-slot false labels placed p line_number next i tail result h fresh fits t room e follows =
-    let read = Reads-insn p i fits t in
-    rw (line_end-insn labels p i fits t room, read.says, ← e) follows
-first_round-slot true labels placed p line_number next i tail result h fresh fits t room e follows =
-    let named = Reads-label p (omega arith) in
-    let read = Reads-insn p i fits t in
-    let here = line_end-label labels p h (fresh p (omega arith) h) in
-    let there = line_end-insn (labels_at true labels p line_number) p i fits t room in
-    rw (here, named.says, there, read.says, ← e) follows
+-- the first round at a slot
+outline-insn : (final labels : Labels) (p k next : ℕ) (i : Insn) (tail : List (List ℕ)) (others : Outline) → EntryFits final p (Some i)
+    → p + slots_of i ≤ 65535 → next ≡ p + slots_of i → IsOutline labels next (k + 1) tail (Ok others)
+    → IsOutline labels p k (text_of_insn p i ∷ tail) (Ok (others.0, record { line = k; slot = p; rest = text_of_insn p i } ∷ others.1))
+outline-insn final labels p k next i tail others fits room e known =
+    let more = subst (λ n. IsOutline labels n (k + 1) tail (Ok others)) e known in
+    let says = says-canonical final p i fits.0 in
+    inr (None, text_of_insn p i, slots_of i, Ok others, ((insn-line final p i fits.0).is, refl), inr (final, i, says, refl), room, more, refl)
 
-pub first_round-canonical : (f : ℕ → Bool) (labels : Labels) (placed : List Placed) (p line_number : ℕ) (rest : List (Option Insn))
-    → p + length rest ≤ 65535 → AllFit p rest → WellCut p rest → Fresh labels p
-    → first_round (labels, placed) (slot_of p rest) line_number (map read_line (line_list f p rest))
-    ≡ Ok (labels_after f labels p line_number rest, placed ++ placed_list f p line_number rest)
-first_round-canonical f labels placed p line_number [] h fits cut fresh = ap (λ l. Ok (labels, l)) (sym (append-nil placed))
-first_round-canonical f labels placed p line_number (None ∷ rest) h fits cut fresh =
-    let S : ℕ → Type 0 = λ s. first_round (labels, placed) s line_number (map read_line (line_list f (p + 1) rest))
-    ≡ Ok (labels_after f labels (p + 1) line_number rest, placed ++ placed_list f (p + 1) line_number rest) in
-    subst S cut.0 (first_round-canonical f labels placed (p + 1) line_number rest (omega arith) fits.1 cut.1 (λ q more most. fresh q (omega arith) most))
-first_round-canonical f labels placed p line_number (Some i ∷ rest) h fits cut fresh =
+outline-label : (labels : Labels) (p k : ℕ) (tail : List (List ℕ)) (others : Outline) → p ≤ 65535 → labels (label_text p) ≡ None
+    → IsOutline (labels_at true labels p k) p (k + 1) tail (Ok others)
+    → IsOutline labels p k ((label_text p ++ codes ":") ∷ tail) (Ok (others.0, record { line = k; slot = p; rest = [] } ∷ others.1))
+outline-label labels p k tail others h fresh known =
+    let here : p ≡ p + 0 = omega arith in
+    let more = subst (λ n. IsOutline (labels_at true labels p k) n (k + 1) tail (Ok others)) here known in
+    let room : p + 0 ≤ 65535 = omega (arith, h) in
+    inr (Some (label_text p), [], 0, Ok others, ((label-line p (omega (arith, h))).is, fresh), inl (refl, refl), room, more, refl)
+
+outline-slot : (final : Labels) (b : Bool) (labels : Labels) (p k next : ℕ) (i : Insn) (tail : List (List ℕ)) (others : Outline)
+    → p ≤ 65535 → Fresh labels p → EntryFits final p (Some i) → p + slots_of i ≤ 65535 → next ≡ p + slots_of i
+    → IsOutline (labels_at b labels p k) next (line_of_insn b k + 1) tail (Ok others)
+    → IsOutline labels p k (slot_list b p (Some i) ++ tail) (Ok (others.0, places_at b p k i ++ others.1))
+outline-slot final false labels p k next i tail others h fresh fits room e known =
+    outline-insn final labels p k next i tail others fits room e known
+outline-slot final true labels p k next i tail others h fresh fits room e known =
+    let inner = outline-insn final (labels_at true labels p k) p (k + 1) next i tail others fits room e known in
+    outline-label labels p k (text_of_insn p i ∷ tail) (others.0, record { line = k + 1; slot = p; rest = text_of_insn p i } ∷ others.1) h
+    (fresh p (omega arith) h) inner
+
+-- and over all
+pub outline-canonical : (final : Labels) (f : ℕ → Bool) (labels : Labels) (p k : ℕ) (rest : List (Option Insn))
+    → p + length rest ≤ 65535 → AllFit final p rest → WellCut p rest → Fresh labels p
+    → IsOutline labels (slot_of p rest) k (line_list f p rest) (Ok (labels_after f labels p k rest, all_places f p k rest))
+outline-canonical final f labels p k [] h fits cut fresh = refl
+outline-canonical final f labels p k (None ∷ rest) h fits cut fresh =
+    let S : ℕ → Type 0 = λ s. IsOutline labels s k (line_list f (p + 1) rest) (Ok (labels_after f labels (p + 1) k rest, all_places f (p + 1) k rest)) in
+    subst S cut.0 (outline-canonical final f labels (p + 1) k rest (omega arith) fits.1 cut.1 (λ q more most. fresh q (omega arith) most))
+outline-canonical final f labels p k (Some i ∷ rest) h fits cut fresh =
     let most = slot_of-le (p + 1) rest in
-    let here = placed_at (f p) p line_number i in
-    let after = line_of_insn (f p) line_number + 1 in
-    let next = first_round-canonical f (labels_at (f p) labels p line_number) (placed ++ here ∷ []) (p + 1) after rest (omega arith) fits.1 cut.1
-    (Fresh-next (f p) labels p line_number (omega arith) fresh) in
-    first_round-slot (f p) labels placed p line_number (slot_of (p + 1) rest) i (line_list f (p + 1) rest) _ (omega arith) fresh
-    fits.0.0 fits.0.1 (omega (arith, cut.0, most)) cut.0
-    (next ∙ ap (λ l. Ok (labels_after f (labels_at (f p) labels p line_number) (p + 1) after rest, l)) (append_assoc placed (here ∷ []) (placed_list f (p + 1) after rest)))
+    let after = line_of_insn (f p) k + 1 in
+    let next = outline-canonical final f (labels_at (f p) labels p k) (p + 1) after rest (omega arith) fits.1 cut.1
+    (Fresh-next (f p) labels p k (omega arith) fresh) in
+    outline-slot final (f p) labels p k (slot_of (p + 1) rest) i (line_list f (p + 1) rest)
+    (labels_after f (labels_at (f p) labels p k) (p + 1) after rest, all_places f (p + 1) after rest) (omega arith) fresh fits.0
+    (omega (arith, cut.0, most)) cut.0 next
 
 -- earlier labels stay
 labels_after-keeps : (f : ℕ → Bool) (labels : Labels) (p t line_number : ℕ) (rest : List (Option Insn)) → p + length rest ≤ 65535 → t < p
@@ -155,10 +135,6 @@ labels_after-keeps f labels p t line_number (Some i ∷ rest) h less =
       one : (b : Bool) → labels_at b labels p line_number (label_text t) ≡ labels (label_text t)
       one false = refl
       one true = rw (label-other p t (omega arith) (omega arith) (λ e. absurd (omega arith))) refl
-
--- the label of a slot stands in it
-abbrev pub IsAt : Labels → ℕ → Type 0
-IsAt labels t = (line : ℕ) × (labels (label_text t) ≡ Some (record { line = line; slot = t }))
 
 -- a labelled slot has its label
 pub labels_after-has : (f : ℕ → Bool) (labels : Labels) (p k line_number : ℕ) (rest : List (Option Insn)) → p + length rest ≤ 65535
@@ -183,54 +159,6 @@ labels_after-has f labels p (suc k) line_number (Some i ∷ rest) h start on =
     rw next (labels_after-has f (labels_at (f p) labels p line_number) (p + 1) k (line_of_insn (f p) line_number + 1) rest (omega arith) start
     (rw next at on))
 
--- each target has its label
-abbrev pub Reaches : Labels → Option ℤ → Type 0
-Reaches labels None = Unit {0}
-Reaches labels (Some (pos t)) = (t ≤ 65535) × IsAt labels t
-Reaches labels (Some (negsuc n)) = ⊥
-
-abbrev pub EntryReaches : Labels → ℕ → Option Insn → Type 0
-EntryReaches labels p None = Unit {0}
-EntryReaches labels p (Some i) = Reaches labels (target_of p i)
-
-abbrev pub AllReach : Labels → ℕ → List (Option Insn) → Type 0
-AllReach labels p [] = Unit {0}
-AllReach labels p (i ∷ rest) = EntryReaches labels p i × AllReach labels (p + 1) rest
-
--- the distance of a target is the offset
-distance-back : (p : ℕ) (o : ℤ) → (pos (p + 1) +ℤ o) -ℤ pos (p + 1) ≡ o
-distance-back p o = omega (arith, ints)
-
-fits-offset : (o : ℤ) → SFits w16 o → fits_offset o ≡ true
-fits-offset (pos n) fits = let h : n < 32768 = fits.sfits in grind (arith, nat_tests)
-fits-offset (negsuc n) fits = let h : n < 32768 = fits.sfits in grind (arith, nat_tests)
-
--- the label of a target is found
-with_target-at : (labels : Labels) (p : ℕ) (i : Insn) (z : ℤ) → Reaches labels (Some z)
-    → with_target labels p i (target_text (Some z)) ≡ with_distance i (z -ℤ pos (p + 1))
-with_target-at labels p i (pos t) reach = rw reach.1.1 refl
-with_target-at labels p i (negsuc n) reach = absurd reach
-
--- an instruction gets its target back
-with_target-canonical : (labels : Labels) (p : ℕ) (i : Insn) → InsnFits i → Reaches labels (target_of p i)
-    → with_target labels p (unplaced i) (target_text (target_of p i)) ≡ Ok i
-with_target-canonical labels p (insn.JumpIf c width dst s o) fits reach =
-    with_target-at labels p (insn.JumpIf c width dst s (pos 0)) (pos (p + 1) +ℤ o) reach
-    ∙ rw (distance-back p o, fits-offset o fits.2) refl
-with_target-canonical labels p (insn.Jump o) fits reach =
-    with_target-at labels p (insn.Jump (pos 0)) (pos (p + 1) +ℤ o) reach
-    ∙ rw (distance-back p o, fits-offset o fits) refl
-with_target-canonical labels p (insn.JumpLong d) fits reach =
-    with_target-at labels p (insn.JumpLong (pos 0)) (pos (p + 1) +ℤ d) reach ∙ rw (distance-back p d) refl
-with_target-canonical labels p (insn.CallLocal d) fits reach =
-    with_target-at labels p (insn.CallLocal (pos 0)) (pos (p + 1) +ℤ d) reach ∙ rw (distance-back p d) refl
-with_target-canonical labels p i fits reach = refl
-
-pub reaches-fits : (labels : Labels) (o : Option ℤ) → Reaches labels o → TargetFits o
-reaches-fits labels None reach = tt
-reaches-fits labels (Some (pos t)) reach = reach.0
-reaches-fits labels (Some (negsuc n)) reach = absurd reach
-
 -- the instructions of slots
 abbrev pub insns_in : List (Option Insn) → List Insn
 insns_in [] = []
@@ -238,14 +166,20 @@ insns_in (None ∷ rest) = insns_in rest
 insns_in (Some i ∷ rest) = i ∷ insns_in rest
 
 -- the second round over them
-pub second_round-canonical : (f : ℕ → Bool) (labels : Labels) (p line_number : ℕ) (rest : List (Option Insn))
-    → AllFit p rest → AllReach labels p rest → second_round labels (placed_list f p line_number rest) ≡ Ok (insns_in rest)
-second_round-canonical f labels p line_number [] fits reach = refl
-second_round-canonical f labels p line_number (None ∷ rest) fits reach =
-    second_round-canonical f labels (p + 1) line_number rest fits.1 reach.1
-second_round-canonical f labels p line_number (Some i ∷ rest) fits reach =
-    let here : insn_at labels (placed_at (f p) p line_number i) ≡ Ok i = with_target-canonical labels p i fits.0.0 reach.0 in
-    rw here (ap (insns_with i) (second_round-canonical f labels (p + 1) (line_of_insn (f p) line_number + 1) rest fits.1 reach.1))
+insns-slot : (final : Labels) (b : Bool) (p k : ℕ) (i : Insn) (places : List Place) (insns : List Insn) → EntryFits final p (Some i)
+    → AreInsns final places (Ok insns) → AreInsns final (places_at b p k i ++ places) (Ok (i ∷ insns))
+insns-slot final false p k i places insns fits known =
+    inr (inr (i, Ok insns, (says-canonical final p i fits.0, fits.1), known, refl))
+insns-slot final true p k i places insns fits known =
+    inl (refl, inr (inr (i, Ok insns, (says-canonical final p i fits.0, fits.1), known, refl)))
+
+pub insns-canonical : (final : Labels) (f : ℕ → Bool) (p k : ℕ) (rest : List (Option Insn)) → AllFit final p rest
+    → AreInsns final (all_places f p k rest) (Ok (insns_in rest))
+insns-canonical final f p k [] fits = refl
+insns-canonical final f p k (None ∷ rest) fits = insns-canonical final f (p + 1) k rest fits.1
+insns-canonical final f p k (Some i ∷ rest) fits =
+    insns-slot final (f p) p k i (all_places f (p + 1) (line_of_insn (f p) k + 1) rest) (insns_in rest) fits.0
+    (insns-canonical final f (p + 1) (line_of_insn (f p) k + 1) rest fits.1)
 
 -- the bytes of the instructions from slot p on
 abbrev pub EntrySpells : List ℕ → ℕ → Option Insn → Type 0

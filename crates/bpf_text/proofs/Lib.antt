@@ -1,10 +1,9 @@
 pub mod CanonicalLaw
 pub mod CanonicalLines
 pub mod CanonicalRounds
+pub mod CanonicalTexts
 pub mod Cutting
-pub mod InsnTexts
 pub mod LineGrammar
-pub mod LineTexts
 pub mod Listings
 pub mod MnemonicNames
 pub mod Offsets

@@ -1,5 +1,5 @@
 -- What is read of a line is what its grammar says.
-use Rattle.std.proofs.Common.{ℕ, suc, ◌≡◌, ◌<◌, ◌+◌, ◌==◌, Bool, true, false, ◌&&◌, not, List, [], ◌∷◌, ◌++◌, drop, length, length-append, refl, ap, sym, ◌∙◌, arith, Option, Some, None, Ok, Err, nat_lt, subst, append_assoc}
+use Rattle.std.proofs.Common.{ℕ, suc, ◌≡◌, ◌<◌, ◌+◌, ◌==◌, Bool, true, false, not, List, [], ◌∷◌, ◌++◌, drop, length, length-append, refl, ap, sym, ◌∙◌, arith, Option, Some, None, Ok, Err, nat_lt, subst, append_assoc}
 use Rattle.std.specs.List.{list_all, position_or_len, before_first, after_first}
 use Rattle.std.proofs.lemmas.Bool.{eqb-true}
 use Rattle.std.proofs.lemmas.Bool.Decides.{nat_tests}
@@ -28,7 +28,7 @@ use Rattle.bpf_text.specs.Scaffolding.Terms.{terms_of}
 use Rattle.bpf_text.proofs.MnemonicNames.{named-name_of, named-sound}
 use Rattle.bpf_text.proofs.OperandGrammar.{split-first, trim_start-blank, trim_start-other, trim_start-blanks, trim_start-says, trim_end-says, padded-trim}
 use Rattle.bpf_text.proofs.OperandLists.{name-plain, trim_end-blanks, trim-snug, operand-lists}
-use Rattle.bpf_text.proofs.PlainTexts.{is_plain, and-join, list_all-append, no_blank, solid-blank, position_or_len-at, before_first-at, before_first-none, after_first-at, after_first-none, plain-colon, Snug, Snug-solid, Snug-plain, Snug-append}
+use Rattle.bpf_text.proofs.PlainTexts.{is_plain, and-join, list_all-append, list_all-no, no_blank, solid-blank, position_or_len-at, before_first-at, before_first-none, after_first-at, after_first-none, plain-colon, Snug, Snug-solid, Snug-plain, Snug-append}
 
 -- ---- cuts
 
@@ -365,15 +365,6 @@ code-before code [] p c =
     ap without_comment (append-nil code) ∙ before_first-none (λ b. b == 59) no_semicolon code not-semicolon p
 code-before code (b ∷ s) p c =
     before_first-at (λ b. b == 59) no_semicolon code b s not-semicolon (ap (λ x. x == 59) c) p
-
--- a byte outside text among others
-and-no : (a b : Bool) → b ≡ false → (a && b) ≡ false
-and-no true b h = h
-and-no false b h = refl
-
-list_all-no : (test : ℕ → Bool) (s : List ℕ) (c : ℕ) (t : List ℕ) → test c ≡ false → list_all test (s ++ c ∷ t) ≡ false
-list_all-no test [] c t h = rw h refl
-list_all-no test (b ∷ s) c t h = and-no (test b) (list_all test (s ++ c ∷ t)) (list_all-no test s c t h)
 
 -- the first that fails, where not all pass
 record HasFailing (test : ℕ → Bool) (s : List ℕ) : Type 0 where

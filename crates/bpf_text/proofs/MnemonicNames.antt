@@ -10,8 +10,13 @@ use Rattle.bpf_text.proofs.PlainTexts.{is_plain, are_plain, list_all-append}
 use Rattle.bpf_isa.specs.declared.instruction.Width.{Width}
 use Rattle.bpf_isa.specs.declared.instruction.Width.TheVariants.{Bits32, Bits64}
 use Rattle.bpf_isa.specs.declared.instruction.Size.{Size}
-use Rattle.bpf_isa.specs.declared.instruction.Size.TheVariants.{Word}
-use Rattle.bpf_isa.specs.declared.instruction.SignedSize.{SignedSize}
+use Rattle.bpf_isa.specs.declared.instruction.Size.TheVariants.{Word, Half, Byte, Double}
+use Rattle.bpf_isa.specs.declared.instruction.LoadSize.{LoadSize}
+use Rattle.bpf_isa.specs.declared.instruction.LoadSize.TheVariants.{Plain, Signed}
+use Rattle.bpf_isa.specs.declared.instruction.SourceKind.{SourceKind}
+use Rattle.bpf_isa.specs.declared.instruction.SourceKind.TheVariants.{Immediate, Register}
+use Rattle.bpf_isa.specs.declared.mnemonic.WideKind.{WideKind}
+use Rattle.bpf_isa.specs.declared.mnemonic.WideKind.TheVariants.{Number, Map, MapValue}
 use Rattle.bpf_isa.specs.declared.instruction.SignedSize.TheVariants as signed
 use Rattle.bpf_isa.specs.declared.instruction.BinaryOp.{BinaryOp}
 use Rattle.bpf_isa.specs.declared.instruction.BinaryOp.TheVariants as binary
@@ -26,9 +31,9 @@ use Rattle.bpf_isa.specs.declared.instruction.Condition.TheVariants as condition
 use Rattle.bpf_isa.specs.declared.instruction.AtomicOp.{AtomicOp}
 use Rattle.bpf_isa.specs.declared.instruction.AtomicOp.TheVariants as atomic
 use Rattle.bpf_isa.specs.declared.mnemonic.Mnemonic.{Mnemonic}
-use Rattle.bpf_isa.specs.declared.mnemonic.Mnemonic.TheVariants.{Binary, Negate, SignExtend, SwapBytes, JumpIf, Jump, JumpLong, CallHelper, CallLocal, Exit, Load, LoadSigned, StoreImmediate, StoreRegister, Atomic, LoadNumber, LoadMap, LoadMapValue}
-use Rattle.bpf_text.specs.declared.names.TheConstants.{STEMS, WIDTHS, EXTENSIONS, SWAP_WIDTHS, SIZES, SIGNED_SIZES}
-use Rattle.bpf_text.specs.Mnemonics.{name_of, binary_name, width_suffix, extension_suffix, order_name, swap_suffix, condition_name, size_suffix, signed_suffix, atomic_name, atomic_suffix}
+use Rattle.bpf_isa.specs.declared.mnemonic.Mnemonic.TheVariants.{Binary, Negate, SignExtend, SwapBytes, JumpIf, Jump, JumpLong, CallHelper, CallLocal, Exit, Load, Store, Atomic, LoadWide}
+use Rattle.bpf_text.specs.declared.names.TheConstants.{STEMS, WIDTHS, EXTENSIONS, SWAP_WIDTHS, SIZES, LOAD_SIZES}
+use Rattle.bpf_text.specs.Mnemonics.{name_of, binary_name, width_suffix, extension_suffix, order_name, swap_suffix, condition_name, size_suffix, load_suffix, store_name, atomic_name, atomic_suffix, wide_name}
 use Rattle.bpf_text.specs.Scaffolding.Named.{stem_of, suffix_of, whole, with_suffix, behind, mnemonic_with, stem_named, named}
 
 -- arithmetic
@@ -71,25 +76,32 @@ unfolding named stem_named
 named-extend Byte64 = refl
 named-extend e = refl
 
-named-load : (size : Size) → named (name_of (Load size)) ≡ Some (Load size)
+named-load : (size : LoadSize) → named (name_of (Load size)) ≡ Some (Load size)
 unfolding named stem_named
-named-load Word = refl
-named-load size = refl
+named-load (Plain Word) = refl
+named-load (Plain Half) = refl
+named-load (Plain Byte) = refl
+named-load (Plain Double) = refl
+named-load (Signed signed.Word) = refl
+named-load (Signed signed.Half) = refl
+named-load (Signed signed.Byte) = refl
 
-named-load_signed : (size : SignedSize) → named (name_of (LoadSigned size)) ≡ Some (LoadSigned size)
+named-store : (size : Size) (kind : SourceKind) → named (name_of (Store size kind)) ≡ Some (Store size kind)
 unfolding named stem_named
-named-load_signed signed.Word = refl
-named-load_signed size = refl
+named-store Word Immediate = refl
+named-store Word Register = refl
+named-store Half Immediate = refl
+named-store Half Register = refl
+named-store Byte Immediate = refl
+named-store Byte Register = refl
+named-store Double Immediate = refl
+named-store Double Register = refl
 
-named-store : (size : Size) → named (name_of (StoreImmediate size)) ≡ Some (StoreImmediate size)
+named-wide : (kind : WideKind) → named (name_of (LoadWide kind)) ≡ Some (LoadWide kind)
 unfolding named stem_named
-named-store Word = refl
-named-store size = refl
-
-named-store_register : (size : Size) → named (name_of (StoreRegister size)) ≡ Some (StoreRegister size)
-unfolding named stem_named
-named-store_register Word = refl
-named-store_register size = refl
+named-wide Number = refl
+named-wide Map = refl
+named-wide MapValue = refl
 
 -- every mnemonic
 pub named-name_of : (m : Mnemonic) → named (name_of m) ≡ Some m
@@ -100,9 +112,8 @@ named-name_of (SignExtend e) = named-extend e
 named-name_of (SwapBytes order width) = named-swap order width
 named-name_of (JumpIf c width) = named-jump width c
 named-name_of (Load size) = named-load size
-named-name_of (LoadSigned size) = named-load_signed size
-named-name_of (StoreImmediate size) = named-store size
-named-name_of (StoreRegister size) = named-store_register size
+named-name_of (Store size kind) = named-store size kind
+named-name_of (LoadWide kind) = named-wide kind
 named-name_of (Atomic op width) = named-atomic width op
 named-name_of Jump = refl
 named-name_of m = refl
@@ -110,7 +121,9 @@ named-name_of m = refl
 -- the stem and the suffix are the name
 pub name-pieces : (m : Mnemonic) → stem_of m ++ suffix_of m ≡ name_of m
 name-pieces (Binary op width) = refl
-name-pieces Jump = refl
+name-pieces (LoadWide Number) = refl
+name-pieces (LoadWide Map) = refl
+name-pieces (LoadWide MapValue) = refl
 name-pieces m = refl
 
 -- a mnemonic that is found has the name
@@ -138,19 +151,15 @@ with_suffix-says (Negate width) s m e = suffixed Negate (codes "neg") width_suff
 with_suffix-says (SignExtend extension) s m e = suffixed SignExtend (codes "movsx") extension_suffix EXTENSIONS s m (λ w. refl) e
 with_suffix-says (SwapBytes order width) s m e = suffixed (SwapBytes order) (order_name order) swap_suffix SWAP_WIDTHS s m (λ w. refl) e
 with_suffix-says (JumpIf c width) s m e = suffixed (JumpIf c) (condition_name c) width_suffix WIDTHS s m (λ w. refl) e
-with_suffix-says (Load size) s m e = suffixed Load (codes "ldx") size_suffix SIZES s m (λ z. refl) e
-with_suffix-says (LoadSigned size) s m e = suffixed LoadSigned (codes "ldxs") signed_suffix SIGNED_SIZES s m (λ z. refl) e
-with_suffix-says (StoreImmediate size) s m e = suffixed StoreImmediate (codes "st") size_suffix SIZES s m (λ z. refl) e
-with_suffix-says (StoreRegister size) s m e = suffixed StoreRegister (codes "stx") size_suffix SIZES s m (λ z. refl) e
+with_suffix-says (Load size) s m e = suffixed Load (codes "ldx") load_suffix LOAD_SIZES s m (λ z. refl) e
+with_suffix-says (Store size kind) s m e = suffixed (λ z. Store z kind) (store_name kind) size_suffix SIZES s m (λ z. refl) e
 with_suffix-says (Atomic op width) s m e = suffixed (Atomic op) (atomic_name op) atomic_suffix WIDTHS s m (λ w. refl) e
 with_suffix-says Jump s m e = whole-says Jump s m refl e
 with_suffix-says JumpLong s m e = whole-says JumpLong s m refl e
 with_suffix-says CallHelper s m e = whole-says CallHelper s m refl e
 with_suffix-says CallLocal s m e = whole-says CallLocal s m refl e
 with_suffix-says Exit s m e = whole-says Exit s m refl e
-with_suffix-says LoadNumber s m e = whole-says LoadNumber s m refl e
-with_suffix-says LoadMap s m e = whole-says LoadMap s m refl e
-with_suffix-says LoadMapValue s m e = whole-says LoadMapValue s m refl e
+with_suffix-says (LoadWide kind) s m e = whole-says (LoadWide kind) s m refl e
 
 behind-says : (stem name s : List ℕ) → behind stem name ≡ Some s → name ≡ stem ++ s
 behind-says stem name s e = go (bytes_eq (take (length stem) name) stem) refl e where
@@ -189,6 +198,24 @@ plain-join : (s t : List ℕ) → (are_plain s ≡ true) × (0 < length s) → a
     → (are_plain (s ++ t) ≡ true) × (0 < length (s ++ t))
 plain-join s t p q = (list_all-append is_plain s t p.0 q, omega (arith, p.1, length-append s t))
 
+plain-size : (size : Size) → are_plain (size_suffix size) ≡ true
+plain-size Word = refl
+plain-size size = refl
+
+plain-load : (size : LoadSize) → are_plain (load_suffix size) ≡ true
+plain-load (Plain size) = plain-size size
+plain-load (Signed signed.Word) = refl
+plain-load (Signed signed.Half) = refl
+plain-load (Signed signed.Byte) = refl
+
+plain-store : (kind : SourceKind) → (are_plain (store_name kind) ≡ true) × (0 < length (store_name kind))
+plain-store Immediate = (refl, omega arith)
+plain-store Register = (refl, omega arith)
+
+plain-wide : (kind : WideKind) → (are_plain (wide_name kind) ≡ true) × (0 < length (wide_name kind))
+plain-wide Number = (refl, omega arith)
+plain-wide kind = (refl, omega arith)
+
 pub plain-name_of : (m : Mnemonic) → (are_plain (name_of m) ≡ true) × (0 < length (name_of m))
 plain-name_of (Binary op width) = plain-join (binary_name op) (width_suffix width) (plain-binary op) (plain-width width)
 plain-name_of (Negate Bits32) = (refl, omega arith)
@@ -202,10 +229,9 @@ plain-name_of (SwapBytes Little swap.Bits16) = (refl, omega arith)
 plain-name_of (SwapBytes Big swap.Bits16) = (refl, omega arith)
 plain-name_of (SwapBytes Swap swap.Bits16) = (refl, omega arith)
 plain-name_of (JumpIf c width) = plain-join (condition_name c) (width_suffix width) (plain-condition c) (plain-width width)
-plain-name_of (Load Word) = (refl, omega arith)
-plain-name_of (LoadSigned signed.Word) = (refl, omega arith)
-plain-name_of (StoreImmediate Word) = (refl, omega arith)
-plain-name_of (StoreRegister Word) = (refl, omega arith)
+plain-name_of (Load size) = plain-join (codes "ldx") (load_suffix size) (refl, omega arith) (plain-load size)
+plain-name_of (Store size kind) = plain-join (store_name kind) (size_suffix size) (plain-store kind) (plain-size size)
+plain-name_of (LoadWide kind) = plain-wide kind
 plain-name_of (Atomic op Bits32) = plain-join (atomic_name op) (codes "32") (plain-atomic op) refl
 plain-name_of (Atomic op Bits64) = plain-join (atomic_name op) (codes "64") (plain-atomic op) refl
 plain-name_of m = (refl, omega arith)

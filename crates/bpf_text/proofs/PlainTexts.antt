@@ -38,6 +38,15 @@ list_all-weaken test other (b ∷ s) h p =
     let parts = and-both (test b) (list_all test s) p in
     and-join (other b) (list_all other s) (h b parts.0) (list_all-weaken test other s h parts.1)
 
+-- one byte that fails among others
+and-no : (a b : Bool) → b ≡ false → (a && b) ≡ false
+and-no true b h = h
+and-no false b h = refl
+
+pub list_all-no : (test : ℕ → Bool) (s : List ℕ) (c : ℕ) (t : List ℕ) → test c ≡ false → list_all test (s ++ c ∷ t) ≡ false
+list_all-no test [] c t h = rw h refl
+list_all-no test (b ∷ s) c t h = and-no (test b) (list_all test (s ++ c ∷ t)) (list_all-no test s c t h)
+
 -- a digit
 is_plain-digit : (d : ℕ) → d < 10 → is_plain (48 + d) ≡ true
 is_plain-digit d h = grind (arith, nat_tests)

@@ -22,12 +22,10 @@ use Rattle.bpf_text.specs.Scaffolding.Instructions.{forms_of, insn_with, target_
 use Rattle.bpf_text.specs.Scaffolding.Lines.{read_statement, of_forms, in_ranges}
 use Rattle.bpf_text.specs.Scaffolding.Readings.{IsStatement}
 use Rattle.bpf_text.specs.Scaffolding.Rounds.{fits_offset, with_distance, with_label, with_target}
-use Rattle.bpf_text.proofs.CanonicalRounds.{slots_of-unplaced}
-use Rattle.bpf_text.proofs.InsnTexts.{unplaced, insn-forms}
 use Rattle.bpf_text.proofs.LineGrammar.{says-statement, statement-reads, formed-so}
 use Rattle.bpf_text.proofs.OperandLists.{operand-lists}
 use Rattle.bpf_text.proofs.WrittenTerms.{Keeps, IsAlike, written-read, read-written, shaped-read, read-shaped, listed-read, read-listed}
-use Rattle.bpf_text.proofs.WrittenInsns.{at_distance, resolved, kept-made, made-kept, operands-alike}
+use Rattle.bpf_text.proofs.WrittenInsns.{insn-forms, unplaced, slots_of-unplaced, at_distance, resolved, kept-made, made-kept, operands-alike}
 
 -- ---- instructions
 
@@ -209,14 +207,10 @@ with_distance-checked i d = kept i d where
   kept (insn.CallHelper h) d = refl
   kept (insn.CallLocal o) d = refl
   kept insn.Exit d = refl
-  kept (insn.Load size dst src o) d = refl
-  kept (insn.LoadSigned size dst src o) d = refl
-  kept (insn.StoreImmediate size dst o v) d = refl
-  kept (insn.StoreRegister size dst src o) d = refl
-  kept (insn.Atomic op width dst src o) d = refl
-  kept (insn.LoadNumber dst v) d = refl
-  kept (insn.LoadMap dst m) d = refl
-  kept (insn.LoadMapValue dst m o) d = refl
+  kept (insn.Load size dst from) d = refl
+  kept (insn.Store size to s) d = refl
+  kept (insn.Atomic op width to src) d = refl
+  kept (insn.LoadWide dst v) d = refl
 
 target-checked : (labels : Labels) (p : ℕ) (i : Insn) (target : Option (List ℕ)) → resolved labels p (unplaced i) target ≡ Some i
     → with_target labels p (unplaced i) target ≡ checked i

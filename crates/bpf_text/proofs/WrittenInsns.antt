@@ -5,9 +5,14 @@ use Rattle.bpf_isa.specs.declared.instruction.Insn.{Insn}
 use Rattle.bpf_isa.specs.declared.instruction.Insn.TheVariants as insn
 use Rattle.bpf_isa.specs.declared.instruction.Source.{Source}
 use Rattle.bpf_isa.specs.declared.instruction.Source.TheVariants as source
+use Rattle.bpf_isa.specs.declared.instruction.SourceKind.TheVariants as kind
+use Rattle.bpf_isa.specs.declared.instruction.Address.{Address}
+use Rattle.bpf_isa.specs.declared.instruction.WideValue.TheVariants as value
+use Rattle.bpf_isa.specs.declared.mnemonic.WideKind.TheVariants as wide_kind
 use Rattle.bpf_isa.specs.declared.mnemonic.Mnemonic.{Mnemonic}
-use Rattle.bpf_isa.specs.declared.mnemonic.Mnemonic.TheVariants.{Binary, Negate, SignExtend, SwapBytes, JumpIf, Jump, JumpLong, CallHelper, CallLocal, Exit, Load, LoadSigned, StoreImmediate, StoreRegister, Atomic, LoadNumber, LoadMap, LoadMapValue}
+use Rattle.bpf_isa.specs.declared.mnemonic.Mnemonic.TheVariants.{Binary, Negate, SignExtend, SwapBytes, JumpIf, Jump, JumpLong, CallHelper, CallLocal, Exit, Load, Store, Atomic, LoadWide}
 use Rattle.bpf_isa.specs.Mnemonics.{mnemonic_of}
+use Rattle.bpf_isa.specs.Programs.{slots_of}
 use Rattle.bpf_text.specs.declared.read.number.Number.{Number}
 use Rattle.bpf_text.specs.declared.read.labels.Definition.{Definition}
 use Rattle.bpf_text.specs.declared.read.term.OperandForm.{OperandForm}
@@ -16,16 +21,54 @@ use Rattle.bpf_text.specs.declared.read.term.OperandForms.TheVariants as forms
 use Rattle.bpf_text.specs.declared.read.term.Term.{Term}
 use Rattle.bpf_text.specs.declared.read.term.Term.TheVariants as term
 use Rattle.bpf_text.specs.declared.read.term.Terms.{Terms}
-use Rattle.bpf_text.specs.declared.write.operand.Operand.TheVariants.{Target}
-use Rattle.bpf_text.specs.declared.write.operand.Operands.TheVariants.{One}
+use Rattle.bpf_text.specs.declared.write.operand.Operand.{Operand}
+use Rattle.bpf_text.specs.declared.write.operand.Operand.TheVariants.{Register, Signed, Unsigned, Hexadecimal, Memory, Target}
+use Rattle.bpf_text.specs.declared.write.operand.Operands.{Operands}
+use Rattle.bpf_text.specs.declared.write.operand.Operands.TheVariants.{Nothing, One, Two, Three}
 use Rattle.bpf_text.specs.Labels.{Labels}
 use Rattle.bpf_text.specs.Operands.{operand_of, operands_of}
 use Rattle.bpf_text.specs.Scaffolding.Grammar.{IsOperand, AreOperands, one, two, three}
 use Rattle.bpf_text.specs.Scaffolding.Instructions.{forms_of, insn_with, target_in, register_in, unsigned_in, immediate_in, wide_in, source_in, memory_in, name_in, of_one, of_two, of_three}
 use Rattle.bpf_text.specs.Scaffolding.Tokens.{unsigned, immediate, wide, offset}
-use Rattle.bpf_text.proofs.InsnTexts.{unplaced}
 use Rattle.bpf_text.proofs.OperandGrammar.{map-some}
-use Rattle.bpf_text.proofs.WrittenTerms.{IsAlike, Keeps, AreKept}
+use Rattle.bpf_text.proofs.WrittenTerms.{HasForm, HaveForms, IsAlike, Keeps, AreKept}
+
+-- the operands of an instruction are in the forms of its mnemonic
+source-form : (s : Source) → HasForm form.Source (operand_of s)
+source-form (source.Immediate value) = tt
+source-form (source.Register r) = tt
+
+pub insn-forms : (p : ℕ) (i : Insn) → HaveForms (forms_of (mnemonic_of i)) (operands_of p i)
+insn-forms p (insn.Binary op width dst s) = (tt, source-form s)
+insn-forms p (insn.JumpIf c width dst s o) = (tt, source-form s, tt)
+insn-forms p (insn.Jump o) = tt
+insn-forms p (insn.JumpLong d) = tt
+insn-forms p (insn.CallLocal d) = tt
+insn-forms p (insn.Store size to (source.Immediate v)) = (tt, tt)
+insn-forms p (insn.Store size to (source.Register r)) = (tt, tt)
+insn-forms p (insn.LoadWide dst (value.Number v)) = (tt, tt)
+insn-forms p (insn.LoadWide dst (value.Map m)) = (tt, tt)
+insn-forms p (insn.LoadWide dst (value.MapValue m o)) = (tt, tt, tt)
+insn-forms p (insn.Negate width dst) = tt
+insn-forms p (insn.SwapBytes order width dst) = tt
+insn-forms p (insn.CallHelper h) = tt
+insn-forms p insn.Exit = tt
+insn-forms p i = (tt, tt)
+
+-- the instruction with the distance 0
+abbrev pub unplaced : Insn → Insn
+unplaced (insn.JumpIf c width dst s o) = insn.JumpIf c width dst s (pos 0)
+unplaced (insn.Jump o) = insn.Jump (pos 0)
+unplaced (insn.JumpLong d) = insn.JumpLong (pos 0)
+unplaced (insn.CallLocal d) = insn.CallLocal (pos 0)
+unplaced i = i
+
+pub slots_of-unplaced : (i : Insn) → slots_of (unplaced i) ≡ slots_of i
+slots_of-unplaced (insn.JumpIf c width dst s o) = refl
+slots_of-unplaced (insn.Jump o) = refl
+slots_of-unplaced (insn.JumpLong d) = refl
+slots_of-unplaced (insn.CallLocal d) = refl
+slots_of-unplaced i = refl
 
 -- an instruction with the distance of its target
 abbrev pub at_distance : Insn → ℤ → Insn
@@ -73,15 +116,14 @@ kept-made labels p (insn.CallHelper h) terms k = let t = k.2 in rw (k.1, t.1, t.
 kept-made labels p (insn.CallLocal o) terms k =
     let t = k.2 in rw (k.1, t.2, t.3) (refl, ap (λ z. Some (insn.CallLocal z)) (back-again p t.1.slot o t.4))
 kept-made labels p insn.Exit terms k = rw k (refl, refl)
-kept-made labels p (insn.Load size dst src o) terms k = let t = k.4 in rw (k.2, k.3, t.1, t.2) (refl, refl)
-kept-made labels p (insn.LoadSigned size dst src o) terms k = let t = k.4 in rw (k.2, k.3, t.1, t.2) (refl, refl)
-kept-made labels p (insn.StoreImmediate size dst o v) terms k =
+kept-made labels p (insn.Load size dst from) terms k = let t = k.4 in rw (k.2, k.3, t.1, t.2) (refl, refl)
+kept-made labels p (insn.Store size to (source.Immediate v)) terms k =
     let t = k.3 in let u = k.4 in rw (k.2, t.1, t.2, u.1, u.2) (refl, refl)
-kept-made labels p (insn.StoreRegister size dst src o) terms k = let t = k.3 in rw (k.2, t.1, t.2, k.4) (refl, refl)
-kept-made labels p (insn.Atomic op width dst src o) terms k = let t = k.3 in rw (k.2, t.1, t.2, k.4) (refl, refl)
-kept-made labels p (insn.LoadNumber dst v) terms k = let t = k.4 in rw (k.2, k.3, t.1, t.2) (refl, refl)
-kept-made labels p (insn.LoadMap dst m) terms k = let t = k.4 in rw (k.2, k.3, t.1, t.2) (refl, refl)
-kept-made labels p (insn.LoadMapValue dst m o) terms k =
+kept-made labels p (insn.Store size to (source.Register r)) terms k = let t = k.3 in rw (k.2, t.1, t.2, k.4) (refl, refl)
+kept-made labels p (insn.Atomic op width to src) terms k = let t = k.3 in rw (k.2, t.1, t.2, k.4) (refl, refl)
+kept-made labels p (insn.LoadWide dst (value.Number v)) terms k = let t = k.4 in rw (k.2, k.3, t.1, t.2) (refl, refl)
+kept-made labels p (insn.LoadWide dst (value.Map m)) terms k = let t = k.4 in rw (k.2, k.3, t.1, t.2) (refl, refl)
+kept-made labels p (insn.LoadWide dst (value.MapValue m o)) terms k =
     let t = k.5 in let u = k.6 in rw (k.3, k.4, t.1, t.2, u.1, u.2) (refl, refl)
 
 -- ---- what makes an instruction is kept of its operands
@@ -116,10 +158,11 @@ is-wide : (t : Term) (v : ℕ) → wide_in t ≡ Some v → (n : Number) × (t �
 is-wide (term.Number n) v e = (n, refl, e)
 is-wide t v e = cc
 
-is-memory : (t : Term) (m : ℕ × ℤ) → memory_in t ≡ Some m → (n : Number) × (t ≡ term.Memory m.0 n) × (offset n ≡ Some m.1)
-is-memory (term.Memory b n) m e =
-    let k = map-some (λ o. (b, o)) (offset n) m e in
-    subst (λ m. (n' : Number) × (term.Memory b n ≡ term.Memory m.0 n') × (offset n' ≡ Some m.1)) k.2 (n, refl, k.1)
+is-memory : (t : Term) (a : Address) → memory_in t ≡ Some a → (n : Number) × (t ≡ term.Memory a.base n) × (offset n ≡ Some a.offset)
+is-memory (term.Memory b n) a e =
+    let at : ℤ → Address = λ o. record { base = b; offset = o } in
+    let k = map-some at (offset n) a e in
+    subst (λ a. (n' : Number) × (term.Memory b n ≡ term.Memory a.base n') × (offset n' ≡ Some a.offset)) k.2 (n, refl, k.1)
 is-memory t m e = cc
 
 is-source : (labels : Labels) (t : Term) (s : Source) → source_in t ≡ Some s → Keeps labels (operand_of s) t
@@ -151,12 +194,6 @@ still labels p i found (Some q) h e = go (labels q) e where
   go None e = cc
   go (Some d) e =
       let same : at_distance i (pos d.slot -ℤ pos (p + 1)) ≡ found = cc in sym (h (pos d.slot -ℤ pos (p + 1))) ∙ same
-
-kept-still : (labels : Labels) (p : ℕ) (m : Mnemonic) (terms : Terms) (made i found : Insn) → made ≡ i → ((d : ℤ) → at_distance made d ≡ made)
-    → resolved labels p i (target_in terms) ≡ Some found → IsKeptAs labels p m terms made → IsKeptAs labels p m terms found
-kept-still labels p m terms made i found e h there kept =
-    let here = subst (λ x. resolved labels p x (target_in terms) ≡ Some found) (sym e) there in
-    subst (IsKeptAs labels p m terms) (still labels p made found (target_in terms) h here) kept
 
 -- a target
 name-of : (s : List ℕ) (t : Term) → IsOperand form.Name s t → (q : List ℕ) × (t ≡ term.Name q)
@@ -201,24 +238,85 @@ three-aims f g labels p i found s terms k there =
     let n = name-of whole.1 terms.third name in
     aims labels p i found whole.1 terms.third (target_in terms) name (rw n.1 refl) there
 
+-- a part of an instruction: what it is of a term, and the operand that it is written as
+pub record Part (labels : Labels) (A : Type 0) : Type 0 where
+  pub of : Term → Option A
+  pub operand : A → Operand
+  pub kept : (t : Term) (x : A) → of t ≡ Some x → Keeps labels (operand x) t
+
+abbrev register : (labels : Labels) → Part labels ℕ
+register labels = record { of = register_in; operand = Register; kept = is-register }
+
+abbrev unsigned-part : (labels : Labels) → Part labels ℕ
+unsigned-part labels = record { of = unsigned_in; operand = Unsigned; kept = is-unsigned }
+
+abbrev wide-part : (labels : Labels) → Part labels ℕ
+wide-part labels = record { of = wide_in; operand = Hexadecimal; kept = is-wide }
+
+abbrev signed-part : (labels : Labels) → Part labels ℤ
+signed-part labels = record { of = immediate_in; operand = Signed; kept = is-immediate }
+
+abbrev source-part : (labels : Labels) → Part labels Source
+source-part labels = record { of = source_in; operand = operand_of; kept = is-source labels }
+
+abbrev memory-part : (labels : Labels) → Part labels Address
+memory-part labels = record { of = memory_in; operand = Memory; kept = is-memory }
+
+-- an instruction of a mnemonic, with these operands and without a target
+abbrev pub IsStill : ℕ → Mnemonic → Operands → Insn → Type 0
+IsStill p m os i = (mnemonic_of i ≡ m) × (operands_of p i ≡ os) × ((d : ℤ) → at_distance i d ≡ i)
+
+still-kept : (labels : Labels) (p : ℕ) (m : Mnemonic) (terms : Terms) (os : Operands) (made i found : Insn) → made ≡ i
+    → resolved labels p i (target_in terms) ≡ Some found → IsStill p m os made → AreKept (Keeps labels) os terms → IsKeptAs labels p m terms found
+still-kept labels p m terms os made i found e there is kept =
+    let here = subst (λ x. resolved labels p x (target_in terms) ≡ Some found) (sym e) there in
+    let known = subst (λ os. AreKept (Keeps labels) os terms) (sym is.1) kept in
+    subst (IsKeptAs labels p m terms) (still labels p made found (target_in terms) is.2 here) (is.0, known)
+
+made-one : {A : Type 0} (labels : Labels) (p : ℕ) (m : Mnemonic) (f : OperandForm) (s : List ℕ) (terms : Terms) (a : Part labels A)
+    (make : A → Insn) (i found : Insn) → AreOperands (forms.One f) s terms → of_one (a.of terms.first) make ≡ Some i
+    → resolved labels p i (target_in terms) ≡ Some found → ((x : A) → IsStill p m (One (a.operand x)) (make x)) → IsKeptAs labels p m terms found
+made-one labels p m f s terms a make i found k made there is =
+    let e = one-some (a.of terms.first) make i made in
+    still-kept labels p m terms (One (a.operand e.0)) (make e.0) i found e.2 there (is e.0)
+    (terms.first, shape-one f s terms k, a.kept terms.first e.0 e.1)
+
+made-two : {A B : Type 0} (labels : Labels) (p : ℕ) (m : Mnemonic) (f g : OperandForm) (s : List ℕ) (terms : Terms) (a : Part labels A)
+    (b : Part labels B) (make : A → B → Insn) (i found : Insn) → AreOperands (forms.Two f g) s terms
+    → of_two (a.of terms.first) (b.of terms.second) make ≡ Some i → resolved labels p i (target_in terms) ≡ Some found
+    → ((x : A) (y : B) → IsStill p m (Two (a.operand x) (b.operand y)) (make x y)) → IsKeptAs labels p m terms found
+made-two labels p m f g s terms a b make i found k made there is =
+    let e = two-some (a.of terms.first) (b.of terms.second) make i made in
+    still-kept labels p m terms (Two (a.operand e.0) (b.operand e.1)) (make e.0 e.1) i found e.4 there (is e.0 e.1)
+    (terms.first, terms.second, shape-two f g s terms k, a.kept terms.first e.0 e.2, b.kept terms.second e.1 e.3)
+
+-- an instruction whose only operand is its target
+abbrev pub IsAimed : ℕ → Mnemonic → (ℤ → Insn) → ℤ → Type 0
+IsAimed p m make d = (mnemonic_of (make d) ≡ m) × (operands_of p (make d) ≡ One (Target (pos (p + 1) +ℤ d))) × (at_distance (make (pos 0)) d ≡ make d)
+
+made-aimed : (labels : Labels) (p : ℕ) (m : Mnemonic) (s : List ℕ) (terms : Terms) (make : ℤ → Insn) (i found : Insn)
+    → AreOperands (forms.One form.Name) s terms → make (pos 0) ≡ i → resolved labels p i (target_in terms) ≡ Some found
+    → ((d : ℤ) → IsAimed p m make d) → IsKeptAs labels p m terms found
+made-aimed labels p m s terms make i found k e there is =
+    let here = subst (λ x. resolved labels p x (target_in terms) ≡ Some found) (sym e) there in
+    let aim = one-aims labels p (make (pos 0)) found s terms k here in
+    let known = is aim.distance in
+    let kept : AreKept (Keeps labels) (One (Target (pos (p + 1) +ℤ aim.distance))) terms = (terms.first, shape-one form.Name s terms k, aim.kept) in
+    subst (IsKeptAs labels p m terms) (sym known.2 ∙ aim.same) (known.0, subst (λ os. AreKept (Keeps labels) os terms) (sym known.1) kept)
+
 pub made-kept : (labels : Labels) (p : ℕ) (m : Mnemonic) (s : List ℕ) (terms : Terms) (i found : Insn) → AreOperands (forms_of m) s terms
     → insn_with m terms ≡ Some i → resolved labels p i (target_in terms) ≡ Some found → IsKeptAs labels p m terms found
 made-kept labels p (Binary op width) s terms i found k made there =
-    let e = two-some (register_in terms.first) (source_in terms.second) (insn.Binary op width) i made in
-    kept-still labels p (Binary op width) terms (insn.Binary op width e.0 e.1) i found e.4 (λ d. refl) there
-    (refl, (terms.first, terms.second, shape-two form.Register form.Source s terms k, is-register terms.first e.0 e.2, is-source labels terms.second e.1 e.3))
+    made-two labels p (Binary op width) form.Register form.Source s terms (register labels) (source-part labels) (insn.Binary op width)
+    i found k made there (λ x y. (refl, refl, λ d. refl))
 made-kept labels p (Negate width) s terms i found k made there =
-    let e = one-some (register_in terms.first) (insn.Negate width) i made in
-    kept-still labels p (Negate width) terms (insn.Negate width e.0) i found e.2 (λ d. refl) there
-    (refl, (terms.first, shape-one form.Register s terms k, is-register terms.first e.0 e.1))
+    made-one labels p (Negate width) form.Register s terms (register labels) (insn.Negate width) i found k made there (λ x. (refl, refl, λ d. refl))
 made-kept labels p (SignExtend extension) s terms i found k made there =
-    let e = two-some (register_in terms.first) (register_in terms.second) (insn.SignExtend extension) i made in
-    kept-still labels p (SignExtend extension) terms (insn.SignExtend extension e.0 e.1) i found e.4 (λ d. refl) there
-    (refl, (terms.first, terms.second, shape-two form.Register form.Register s terms k, is-register terms.first e.0 e.2, is-register terms.second e.1 e.3))
+    made-two labels p (SignExtend extension) form.Register form.Register s terms (register labels) (register labels) (insn.SignExtend extension)
+    i found k made there (λ x y. (refl, refl, λ d. refl))
 made-kept labels p (SwapBytes order width) s terms i found k made there =
-    let e = one-some (register_in terms.first) (insn.SwapBytes order width) i made in
-    kept-still labels p (SwapBytes order width) terms (insn.SwapBytes order width e.0) i found e.2 (λ d. refl) there
-    (refl, (terms.first, shape-one form.Register s terms k, is-register terms.first e.0 e.1))
+    made-one labels p (SwapBytes order width) form.Register s terms (register labels) (insn.SwapBytes order width)
+    i found k made there (λ x. (refl, refl, λ d. refl))
 made-kept labels p (JumpIf c width) s terms i found k made there =
     let e = two-some (register_in terms.first) (source_in terms.second) (λ dst source. insn.JumpIf c width dst source (pos 0)) i made in
     let here = subst (λ x. resolved labels p x (target_in terms) ≡ Some found) (sym e.4) there in
@@ -236,68 +334,45 @@ made-kept labels p (JumpIf c width) s terms i found k made there =
       ),
     )
 made-kept labels p Jump s terms i found k made there =
-    let same : insn.Jump (pos 0) ≡ i = cc in
-    let here = subst (λ x. resolved labels p x (target_in terms) ≡ Some found) (sym same) there in
-    let aim = one-aims labels p (insn.Jump (pos 0)) found s terms k here in
-    subst (IsKeptAs labels p Jump terms) aim.same (refl, (terms.first, shape-one form.Name s terms k, aim.kept))
+    made-aimed labels p Jump s terms insn.Jump i found k (let same : insn.Jump (pos 0) ≡ i = cc in same) there (λ d. (refl, refl, refl))
 made-kept labels p JumpLong s terms i found k made there =
-    let same : insn.JumpLong (pos 0) ≡ i = cc in
-    let here = subst (λ x. resolved labels p x (target_in terms) ≡ Some found) (sym same) there in
-    let aim = one-aims labels p (insn.JumpLong (pos 0)) found s terms k here in
-    subst (IsKeptAs labels p JumpLong terms) aim.same (refl, (terms.first, shape-one form.Name s terms k, aim.kept))
+    made-aimed labels p JumpLong s terms insn.JumpLong i found k (let same : insn.JumpLong (pos 0) ≡ i = cc in same) there (λ d. (refl, refl, refl))
 made-kept labels p CallHelper s terms i found k made there =
-    let e = one-some (unsigned_in terms.first) insn.CallHelper i made in
-    kept-still labels p CallHelper terms (insn.CallHelper e.0) i found e.2 (λ d. refl) there
-    (refl, (terms.first, shape-one form.Unsigned s terms k, is-unsigned terms.first e.0 e.1))
+    made-one labels p CallHelper form.Unsigned s terms (unsigned-part labels) insn.CallHelper i found k made there (λ x. (refl, refl, λ d. refl))
 made-kept labels p CallLocal s terms i found k made there =
-    let same : insn.CallLocal (pos 0) ≡ i = cc in
-    let here = subst (λ x. resolved labels p x (target_in terms) ≡ Some found) (sym same) there in
-    let aim = one-aims labels p (insn.CallLocal (pos 0)) found s terms k here in
-    subst (IsKeptAs labels p CallLocal terms) aim.same (refl, (terms.first, shape-one form.Name s terms k, aim.kept))
+    made-aimed labels p CallLocal s terms insn.CallLocal i found k (let same : insn.CallLocal (pos 0) ≡ i = cc in same) there (λ d. (refl, refl, refl))
 made-kept labels p Exit s terms i found k made there =
-    let same : insn.Exit ≡ i = cc in
-    kept-still labels p Exit terms insn.Exit i found same (λ d. refl) there (refl, k.1)
+    let same : insn.Exit ≡ i = cc in still-kept labels p Exit terms Nothing insn.Exit i found same there (refl, refl, λ d. refl) k.1
 made-kept labels p (Load size) s terms i found k made there =
-    let e = two-some (register_in terms.first) (memory_in terms.second) (λ dst src. insn.Load size dst src.0 src.1) i made in
-    kept-still labels p (Load size) terms (insn.Load size e.0 e.1.0 e.1.1) i found e.4 (λ d. refl) there
-    (refl, (terms.first, terms.second, shape-two form.Register form.Memory s terms k, is-register terms.first e.0 e.2, is-memory terms.second e.1 e.3))
-made-kept labels p (LoadSigned size) s terms i found k made there =
-    let e = two-some (register_in terms.first) (memory_in terms.second) (λ dst src. insn.LoadSigned size dst src.0 src.1) i made in
-    kept-still labels p (LoadSigned size) terms (insn.LoadSigned size e.0 e.1.0 e.1.1) i found e.4 (λ d. refl) there
-    (refl, (terms.first, terms.second, shape-two form.Register form.Memory s terms k, is-register terms.first e.0 e.2, is-memory terms.second e.1 e.3))
-made-kept labels p (StoreImmediate size) s terms i found k made there =
-    let e = two-some (memory_in terms.first) (immediate_in terms.second) (λ dst value. insn.StoreImmediate size dst.0 dst.1 value) i made in
-    kept-still labels p (StoreImmediate size) terms (insn.StoreImmediate size e.0.0 e.0.1 e.1) i found e.4 (λ d. refl) there
-    (refl, (terms.first, terms.second, shape-two form.Memory form.Signed s terms k, is-memory terms.first e.0 e.2, is-immediate terms.second e.1 e.3))
-made-kept labels p (StoreRegister size) s terms i found k made there =
-    let e = two-some (memory_in terms.first) (register_in terms.second) (λ dst src. insn.StoreRegister size dst.0 src dst.1) i made in
-    kept-still labels p (StoreRegister size) terms (insn.StoreRegister size e.0.0 e.1 e.0.1) i found e.4 (λ d. refl) there
-    (refl, (terms.first, terms.second, shape-two form.Memory form.Register s terms k, is-memory terms.first e.0 e.2, is-register terms.second e.1 e.3))
+    made-two labels p (Load size) form.Register form.Memory s terms (register labels) (memory-part labels) (insn.Load size)
+    i found k made there (λ x y. (refl, refl, λ d. refl))
+made-kept labels p (Store size kind.Immediate) s terms i found k made there =
+    made-two labels p (Store size kind.Immediate) form.Memory form.Signed s terms (memory-part labels) (signed-part labels)
+    (λ to v. insn.Store size to (source.Immediate v)) i found k made there (λ x y. (refl, refl, λ d. refl))
+made-kept labels p (Store size kind.Register) s terms i found k made there =
+    made-two labels p (Store size kind.Register) form.Memory form.Register s terms (memory-part labels) (register labels)
+    (λ to r. insn.Store size to (source.Register r)) i found k made there (λ x y. (refl, refl, λ d. refl))
 made-kept labels p (Atomic op width) s terms i found k made there =
-    let e = two-some (memory_in terms.first) (register_in terms.second) (λ dst src. insn.Atomic op width dst.0 src dst.1) i made in
-    kept-still labels p (Atomic op width) terms (insn.Atomic op width e.0.0 e.1 e.0.1) i found e.4 (λ d. refl) there
-    (refl, (terms.first, terms.second, shape-two form.Memory form.Register s terms k, is-memory terms.first e.0 e.2, is-register terms.second e.1 e.3))
-made-kept labels p LoadNumber s terms i found k made there =
-    let e = two-some (register_in terms.first) (wide_in terms.second) insn.LoadNumber i made in
-    kept-still labels p LoadNumber terms (insn.LoadNumber e.0 e.1) i found e.4 (λ d. refl) there
-    (refl, (terms.first, terms.second, shape-two form.Register form.Signed s terms k, is-register terms.first e.0 e.2, is-wide terms.second e.1 e.3))
-made-kept labels p LoadMap s terms i found k made there =
-    let e = two-some (register_in terms.first) (unsigned_in terms.second) insn.LoadMap i made in
-    kept-still labels p LoadMap terms (insn.LoadMap e.0 e.1) i found e.4 (λ d. refl) there
-    (refl, (terms.first, terms.second, shape-two form.Register form.Unsigned s terms k, is-register terms.first e.0 e.2, is-unsigned terms.second e.1 e.3))
-made-kept labels p LoadMapValue s terms i found k made there =
-    let e = three-some (register_in terms.first) (unsigned_in terms.second) (unsigned_in terms.third) insn.LoadMapValue i made in
-    kept-still labels p LoadMapValue terms (insn.LoadMapValue e.0 e.1 e.2) i found e.6 (λ d. refl) there (
-      refl,
-      (
-        terms.first,
-        terms.second,
-        terms.third,
-        shape-three form.Register form.Unsigned form.Unsigned s terms k,
-        is-register terms.first e.0 e.3,
-        is-unsigned terms.second e.1 e.4,
-        is-unsigned terms.third e.2 e.5,
-      ),
+    made-two labels p (Atomic op width) form.Memory form.Register s terms (memory-part labels) (register labels) (insn.Atomic op width)
+    i found k made there (λ x y. (refl, refl, λ d. refl))
+made-kept labels p (LoadWide wide_kind.Number) s terms i found k made there =
+    made-two labels p (LoadWide wide_kind.Number) form.Register form.Signed s terms (register labels) (wide-part labels)
+    (λ dst v. insn.LoadWide dst (value.Number v)) i found k made there (λ x y. (refl, refl, λ d. refl))
+made-kept labels p (LoadWide wide_kind.Map) s terms i found k made there =
+    made-two labels p (LoadWide wide_kind.Map) form.Register form.Unsigned s terms (register labels) (unsigned-part labels)
+    (λ dst m. insn.LoadWide dst (value.Map m)) i found k made there (λ x y. (refl, refl, λ d. refl))
+made-kept labels p (LoadWide wide_kind.MapValue) s terms i found k made there =
+    let make : ℕ → ℕ → ℕ → Insn = λ dst m o. insn.LoadWide dst (value.MapValue m o) in
+    let e = three-some (register_in terms.first) (unsigned_in terms.second) (unsigned_in terms.third) make i made in
+    still-kept labels p (LoadWide wide_kind.MapValue) terms (Three (Register e.0) (Unsigned e.1) (Unsigned e.2)) (make e.0 e.1 e.2) i found e.6 there
+    (refl, refl, λ d. refl) (
+      terms.first,
+      terms.second,
+      terms.third,
+      shape-three form.Register form.Unsigned form.Unsigned s terms k,
+      is-register terms.first e.0 e.3,
+      is-unsigned terms.second e.1 e.4,
+      is-unsigned terms.third e.2 e.5,
     )
 
 -- ---- operands of a mnemonic's forms are alike to those of an instruction of it
@@ -322,6 +397,10 @@ source-of s t k = absurd k
 memory-of : (s : List ℕ) (t : Term) → IsOperand form.Memory s t → (b : ℕ) × (n : Number) × (t ≡ term.Memory b n)
 memory-of s (term.Memory b n) k = (b, n, refl)
 memory-of s t k = absurd k
+
+-- the address in a register
+abbrev pub start : ℕ → Address
+start r = record { base = r; offset = pos 0 }
 
 abbrev pub HasAlike : ℕ → Mnemonic → Terms → Type 0
 HasAlike p m terms = (i : Insn) × (mnemonic_of i ≡ m) × AreKept IsAlike (operands_of p i) terms
@@ -359,30 +438,26 @@ operands-alike p Exit s terms k = (insn.Exit, refl, k.1)
 operands-alike p (Load size) s terms k =
     let a = k.5 in let b = k.6 in
     let r = register-of a.1 k.2 a.5 in let m = memory-of b.1 k.3 b.5 in
-    (insn.Load size r.0 m.0 (pos 0), refl, (k.2, k.3, k.7, r.1, (m.1, m.2)))
-operands-alike p (LoadSigned size) s terms k =
-    let a = k.5 in let b = k.6 in
-    let r = register-of a.1 k.2 a.5 in let m = memory-of b.1 k.3 b.5 in
-    (insn.LoadSigned size r.0 m.0 (pos 0), refl, (k.2, k.3, k.7, r.1, (m.1, m.2)))
-operands-alike p (StoreImmediate size) s terms k =
+    (insn.Load size r.0 (start m.0), refl, (k.2, k.3, k.7, r.1, (m.1, m.2)))
+operands-alike p (Store size kind.Immediate) s terms k =
     let a = k.5 in let b = k.6 in
     let m = memory-of a.1 k.2 a.5 in
-    (insn.StoreImmediate size m.0 (pos 0) (pos 0), refl, (k.2, k.3, k.7, (m.1, m.2), signed-of b.1 k.3 b.5))
-operands-alike p (StoreRegister size) s terms k =
+    (insn.Store size (start m.0) (source.Immediate (pos 0)), refl, (k.2, k.3, k.7, (m.1, m.2), signed-of b.1 k.3 b.5))
+operands-alike p (Store size kind.Register) s terms k =
     let a = k.5 in let b = k.6 in
     let m = memory-of a.1 k.2 a.5 in let r = register-of b.1 k.3 b.5 in
-    (insn.StoreRegister size m.0 r.0 (pos 0), refl, (k.2, k.3, k.7, (m.1, m.2), r.1))
+    (insn.Store size (start m.0) (source.Register r.0), refl, (k.2, k.3, k.7, (m.1, m.2), r.1))
 operands-alike p (Atomic op width) s terms k =
     let a = k.5 in let b = k.6 in
     let m = memory-of a.1 k.2 a.5 in let r = register-of b.1 k.3 b.5 in
-    (insn.Atomic op width m.0 r.0 (pos 0), refl, (k.2, k.3, k.7, (m.1, m.2), r.1))
-operands-alike p LoadNumber s terms k =
+    (insn.Atomic op width (start m.0) r.0, refl, (k.2, k.3, k.7, (m.1, m.2), r.1))
+operands-alike p (LoadWide wide_kind.Number) s terms k =
     let a = k.5 in let b = k.6 in
-    let r = register-of a.1 k.2 a.5 in (insn.LoadNumber r.0 0, refl, (k.2, k.3, k.7, r.1, signed-of b.1 k.3 b.5))
-operands-alike p LoadMap s terms k =
+    let r = register-of a.1 k.2 a.5 in (insn.LoadWide r.0 (value.Number 0), refl, (k.2, k.3, k.7, r.1, signed-of b.1 k.3 b.5))
+operands-alike p (LoadWide wide_kind.Map) s terms k =
     let a = k.5 in let b = k.6 in
-    let r = register-of a.1 k.2 a.5 in (insn.LoadMap r.0 0, refl, (k.2, k.3, k.7, r.1, unsigned-of b.1 k.3 b.5))
-operands-alike p LoadMapValue s terms k =
+    let r = register-of a.1 k.2 a.5 in (insn.LoadWide r.0 (value.Map 0), refl, (k.2, k.3, k.7, r.1, unsigned-of b.1 k.3 b.5))
+operands-alike p (LoadWide wide_kind.MapValue) s terms k =
     let a = k.7 in let b = k.8 in let c = k.9 in
     let r = register-of a.1 k.3 a.5 in
-    (insn.LoadMapValue r.0 0 0, refl, (k.3, k.4, k.5, k.10, r.1, unsigned-of b.1 k.4 b.5, unsigned-of c.1 k.5 c.5))
+    (insn.LoadWide r.0 (value.MapValue 0 0), refl, (k.3, k.4, k.5, k.10, r.1, unsigned-of b.1 k.4 b.5, unsigned-of c.1 k.5 c.5))

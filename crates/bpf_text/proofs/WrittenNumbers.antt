@@ -64,13 +64,13 @@ unsigned-range false n v e =
     let known = in-range (nat_lt n (2 ^ 32)) n v e in (known.1, subst (λ x. x < 2 ^ 32) known.1 (lt-true n (2 ^ 32) known.0))
 
 -- the low bits of numbers in their ranges
-low-32 : (n : ℕ) → n < 2 ^ 32 → n % 2 ^ 32 ≡ n
+pub low-32 : (n : ℕ) → n < 2 ^ 32 → n % 2 ^ 32 ≡ n
 low-32 n h = omega arith
 
-low-64 : (n : ℕ) → n < 2 ^ 64 → n % 2 ^ 64 ≡ n
+pub low-64 : (n : ℕ) → n < 2 ^ 64 → n % 2 ^ 64 ≡ n
 low-64 n h = omega arith
 
-minus-32 : (n : ℕ) → n < 2 ^ 31 → cast_signed w32 (2 ^ 32 - 1 - n % 2 ^ 32) ≡ negsuc n
+pub minus-32 : (n : ℕ) → n < 2 ^ 31 → cast_signed w32 (2 ^ 32 - 1 - n % 2 ^ 32) ≡ negsuc n
 minus-32 n h =
     let same : 2 ^ 32 - 1 - n % 2 ^ 32 ≡ 2 ^ 32 - suc n = omega arith in
     ap (cast_signed w32) same ∙ to_z-of_z w32 (negsuc n) (record { sfits = h })

@@ -19,9 +19,27 @@ use Rattle.bpf_text.specs.Written.{IsWithin, IsInside, IsWritten, IsShaped, AreL
 use Rattle.std.specs.Int.{w32, cast_signed}
 use Rattle.bpf_text.specs.Scaffolding.Grammar.{IsOperand, AreOperands, one, two, three}
 use Rattle.bpf_text.specs.Scaffolding.Tokens.{number_with, unsigned, immediate, wide, offset}
-use Rattle.bpf_text.proofs.InsnTexts.{HasForm, HaveForms}
 use Rattle.bpf_text.proofs.TokenTexts.{unsigned-fits}
 use Rattle.bpf_text.proofs.WrittenNumbers.{whole, integer-of, number-of, inside-of, inside-number, unsigned-range, immediate-range, range-immediate, wide-range, range-wide, offset-range, range-offset}
+
+-- the forms in which an operand is written
+abbrev pub HasForm : OperandForm → Operand → Type 0
+HasForm form.Register (Register r) = Unit {0}
+HasForm form.Unsigned (Unsigned n) = Unit {0}
+HasForm form.Signed (Signed z) = Unit {0}
+HasForm form.Signed (Hexadecimal n) = Unit {0}
+HasForm form.Source (Register r) = Unit {0}
+HasForm form.Source (Signed z) = Unit {0}
+HasForm form.Memory (Memory a) = Unit {0}
+HasForm form.Name (Target p) = Unit {0}
+HasForm f o = ⊥
+
+abbrev pub HaveForms : OperandForms → Operands → Type 0
+HaveForms forms.Nothing Nothing = Unit {0}
+HaveForms (forms.One f) (One a) = HasForm f a
+HaveForms (forms.Two f g) (Two a b) = HasForm f a × HasForm g b
+HaveForms (forms.Three f g h) (Three a b c) = HasForm f a × HasForm g b × HasForm h c
+HaveForms fs os = ⊥
 
 -- what a term is to an operand that it is read for, whatever its number or label
 abbrev pub IsAlike : Operand → Term → Type 0
@@ -29,7 +47,7 @@ IsAlike (Register r) t = t ≡ term.Register r
 IsAlike (Signed v) t = (n : Number) × (t ≡ term.Number n)
 IsAlike (Unsigned v) t = (n : Number) × (t ≡ term.Number n)
 IsAlike (Hexadecimal v) t = (n : Number) × (t ≡ term.Number n)
-IsAlike (Memory b o) t = (n : Number) × (t ≡ term.Memory b n)
+IsAlike (Memory a) t = (n : Number) × (t ≡ term.Memory a.base n)
 IsAlike (Target z) t = (q : List ℕ) × (t ≡ term.Name q)
 
 -- and with them
@@ -38,7 +56,7 @@ Keeps labels (Register r) t = t ≡ term.Register r
 Keeps labels (Signed v) t = (n : Number) × (t ≡ term.Number n) × (immediate n ≡ Some v)
 Keeps labels (Unsigned v) t = (n : Number) × (t ≡ term.Number n) × (unsigned n ≡ Some v)
 Keeps labels (Hexadecimal v) t = (n : Number) × (t ≡ term.Number n) × (wide n ≡ Some v)
-Keeps labels (Memory b o) t = (n : Number) × (t ≡ term.Memory b n) × (offset n ≡ Some o)
+Keeps labels (Memory a) t = (n : Number) × (t ≡ term.Memory a.base n) × (offset n ≡ Some a.offset)
 Keeps labels (Target z) t = (q : List ℕ) × (d : Definition) × (t ≡ term.Name q) × (labels q ≡ Some d) × (z ≡ pos d.slot)
 
 -- an operand of a form is read as such a term
@@ -56,9 +74,9 @@ shaped-read form.Source (Signed v) s h known =
     let k = number-of s known.0 known.1 in (term.Number k.0, k.1, (k.0, refl))
 shaped-read form.Signed (Hexadecimal v) s h known =
     let k = number-of s known.0 known.1 in (term.Number k.0, k.1, (k.0, refl))
-shaped-read form.Memory (Memory b o) s h known =
+shaped-read form.Memory (Memory a) s h known =
     let m = known.1 in
-    let k = inside-number m.0 b known.0 m.2 in (term.Memory b k.0, (m.0, m.1, k.1), (k.0, refl))
+    let k = inside-number m.0 a.base known.0 m.2 in (term.Memory a.base k.0, (m.0, m.1, k.1), (k.0, refl))
 shaped-read form.Name (Target z) s h known = (term.Name s, (refl, known), (s, refl))
 shaped-read f o s h known = absurd h
 
@@ -85,11 +103,11 @@ written-read labels form.Signed (Hexadecimal v) s h known =
     let within = subst (IsWithin (2 ^ 63) (2 ^ 64)) k.2 known.2 in
     let value = ap (low_bits 64) (sym k.2) ∙ known.3 in
     (term.Number k.0, k.1, (k.0, refl, range-wide k.0.negative k.0.magnitude v within value))
-written-read labels form.Memory (Memory b o) s h known =
+written-read labels form.Memory (Memory a) s h known =
     let m = known.0 in
-    let k = inside-number m.0 b o m.2 in
+    let k = inside-number m.0 a.base a.offset m.2 in
     let within = subst (IsWithin (2 ^ 15) (2 ^ 15)) k.2 known.1 in
-    (term.Memory b k.0, (m.0, m.1, k.1), (k.0, refl, range-offset k.0.negative k.0.magnitude within ∙ ap Some (sym k.2)))
+    (term.Memory a.base k.0, (m.0, m.1, k.1), (k.0, refl, range-offset k.0.negative k.0.magnitude within ∙ ap Some (sym k.2)))
 written-read labels form.Name (Target z) s h known = (term.Name s, (refl, known.0), (s, known.1, refl, known.2, known.3))
 written-read labels f o s h known = absurd h
 
@@ -116,11 +134,11 @@ read-written labels form.Signed (Hexadecimal v) s t h read kept =
     let n = kept.0 in
     let range = wide-range n.negative n.magnitude v kept.2 in
     (whole n, integer-of s n (subst (IsOperand form.Signed s) kept.1 read), range.0, range.1)
-read-written labels form.Memory (Memory b o) s t h read kept =
+read-written labels form.Memory (Memory a) s t h read kept =
     let n = kept.0 in
     let m = subst (IsOperand form.Memory s) kept.1 read in
-    let range = offset-range n.negative n.magnitude o kept.2 in
-    ((m.0, m.1, subst (IsInside m.0 b) range.1 (inside-of m.0 b n m.2)), subst (IsWithin (2 ^ 15) (2 ^ 15)) range.1 range.0)
+    let range = offset-range n.negative n.magnitude a.offset kept.2 in
+    ((m.0, m.1, subst (IsInside m.0 a.base) range.1 (inside-of m.0 a.base n m.2)), subst (IsWithin (2 ^ 15) (2 ^ 15)) range.1 range.0)
 read-written labels form.Name (Target z) s t h read kept =
     let m = subst (IsOperand form.Name s) kept.2 read in
     (m.1, kept.1, ap labels (sym m.0) ∙ kept.3, kept.4)
@@ -137,8 +155,8 @@ read-shaped form.Source (Signed v) s t h read kept =
     (whole kept.0, integer-of s kept.0 (subst (IsOperand form.Source s) kept.1 read))
 read-shaped form.Signed (Hexadecimal v) s t h read kept =
     (whole kept.0, integer-of s kept.0 (subst (IsOperand form.Signed s) kept.1 read))
-read-shaped form.Memory (Memory b o) s t h read kept =
-    let m = subst (IsOperand form.Memory s) kept.1 read in (whole kept.0, (m.0, m.1, inside-of m.0 b kept.0 m.2))
+read-shaped form.Memory (Memory a) s t h read kept =
+    let m = subst (IsOperand form.Memory s) kept.1 read in (whole kept.0, (m.0, m.1, inside-of m.0 a.base kept.0 m.2))
 read-shaped form.Name (Target z) s t h read kept = (subst (IsOperand form.Name s) kept.1 read).1
 read-shaped f o s t h read kept = absurd h
 

@@ -4,7 +4,8 @@ use Rattle.bpf_isa.specs.declared.instruction.Width.{Width}
 use Rattle.bpf_isa.specs.declared.instruction.Width.TheVariants.{Bits32, Bits64}
 use Rattle.bpf_isa.specs.declared.instruction.Size.{Size}
 use Rattle.bpf_isa.specs.declared.instruction.Size.TheVariants.{Word, Half, Byte, Double}
-use Rattle.bpf_isa.specs.declared.instruction.SignedSize.{SignedSize}
+use Rattle.bpf_isa.specs.declared.instruction.LoadSize.{LoadSize}
+use Rattle.bpf_isa.specs.declared.instruction.LoadSize.TheVariants.{Plain, Signed}
 use Rattle.bpf_isa.specs.declared.instruction.SignedSize.TheVariants as signed
 use Rattle.bpf_isa.specs.declared.instruction.BinaryOp.{BinaryOp}
 use Rattle.bpf_isa.specs.declared.instruction.BinaryOp.TheVariants as binary
@@ -18,8 +19,12 @@ use Rattle.bpf_isa.specs.declared.instruction.Condition.{Condition}
 use Rattle.bpf_isa.specs.declared.instruction.Condition.TheVariants as condition
 use Rattle.bpf_isa.specs.declared.instruction.AtomicOp.{AtomicOp}
 use Rattle.bpf_isa.specs.declared.instruction.AtomicOp.TheVariants as atomic
+use Rattle.bpf_isa.specs.declared.instruction.SourceKind.{SourceKind}
+use Rattle.bpf_isa.specs.declared.instruction.SourceKind.TheVariants.{Immediate, Register}
+use Rattle.bpf_isa.specs.declared.mnemonic.WideKind.{WideKind}
+use Rattle.bpf_isa.specs.declared.mnemonic.WideKind.TheVariants.{Number, Map, MapValue}
 use Rattle.bpf_isa.specs.declared.mnemonic.Mnemonic.{Mnemonic}
-use Rattle.bpf_isa.specs.declared.mnemonic.Mnemonic.TheVariants.{Binary, Negate, SignExtend, SwapBytes, JumpIf, Jump, JumpLong, CallHelper, CallLocal, Exit, Load, LoadSigned, StoreImmediate, StoreRegister, Atomic, LoadNumber, LoadMap, LoadMapValue}
+use Rattle.bpf_isa.specs.declared.mnemonic.Mnemonic.TheVariants.{Binary, Negate, SignExtend, SwapBytes, JumpIf, Jump, JumpLong, CallHelper, CallLocal, Exit, Load, Store, Atomic, LoadWide}
 
 -- Arithmetic (section 4.1).
 abbrev pub binary_name : BinaryOp → List ℕ
@@ -84,11 +89,17 @@ size_suffix Half = codes "h"
 size_suffix Byte = codes "b"
 size_suffix Double = codes "dw"
 
--- The sizes of loads that extend the sign (section 5.2).
-abbrev pub signed_suffix : SignedSize → List ℕ
-signed_suffix signed.Word = codes "w"
-signed_suffix signed.Half = codes "h"
-signed_suffix signed.Byte = codes "b"
+-- The sizes of loads; those that extend the sign have an s (section 5.2).
+abbrev pub load_suffix : LoadSize → List ℕ
+load_suffix (Plain size) = size_suffix size
+load_suffix (Signed signed.Word) = codes "sw"
+load_suffix (Signed signed.Half) = codes "sh"
+load_suffix (Signed signed.Byte) = codes "sb"
+
+-- Stores of a number and of a register (section 5.1).
+abbrev pub store_name : SourceKind → List ℕ
+store_name Immediate = codes "st"
+store_name Register = codes "stx"
 
 -- Atomic operations (section 5.3).
 abbrev pub atomic_name : AtomicOp → List ℕ
@@ -108,6 +119,12 @@ abbrev pub atomic_suffix : Width → List ℕ
 atomic_suffix Bits32 = codes "32"
 atomic_suffix Bits64 = codes "64"
 
+-- Wide loads (section 5.4).
+abbrev pub wide_name : WideKind → List ℕ
+wide_name Number = codes "lddw"
+wide_name Map = codes "ldmap"
+wide_name MapValue = codes "ldmapval"
+
 -- The name of a mnemonic.
 abbrev pub name_of : Mnemonic → List ℕ
 name_of (Binary op width) = binary_name op ++ width_suffix width
@@ -120,11 +137,7 @@ name_of JumpLong = codes "ja32"
 name_of CallHelper = codes "call"
 name_of CallLocal = codes "callf"
 name_of Exit = codes "exit"
-name_of (Load size) = codes "ldx" ++ size_suffix size
-name_of (LoadSigned size) = codes "ldxs" ++ signed_suffix size
-name_of (StoreImmediate size) = codes "st" ++ size_suffix size
-name_of (StoreRegister size) = codes "stx" ++ size_suffix size
+name_of (Load size) = codes "ldx" ++ load_suffix size
+name_of (Store size kind) = store_name kind ++ size_suffix size
 name_of (Atomic op width) = atomic_name op ++ atomic_suffix width
-name_of LoadNumber = codes "lddw"
-name_of LoadMap = codes "ldmap"
-name_of LoadMapValue = codes "ldmapval"
+name_of (LoadWide kind) = wide_name kind

@@ -2,9 +2,11 @@
 use Rattle.std.specs.Prelude.{ℕ, ℤ, pos, negsuc, ◌+◌, ◌+ℤ◌, List, [], ◌++◌, codes, decimal}
 use Rattle.std.specs.Fmt.{signed_decimal}
 use Rattle.bpf_isa.specs.declared.instruction.Insn.{Insn}
-use Rattle.bpf_isa.specs.declared.instruction.Insn.TheVariants.{Binary, Negate, SignExtend, SwapBytes, JumpIf, Jump, JumpLong, CallHelper, CallLocal, Exit, Load, LoadSigned, StoreImmediate, StoreRegister, Atomic, LoadNumber, LoadMap, LoadMapValue}
+use Rattle.bpf_isa.specs.declared.instruction.Insn.TheVariants.{Binary, Negate, SignExtend, SwapBytes, JumpIf, Jump, JumpLong, CallHelper, CallLocal, Exit, Load, Store, Atomic, LoadWide}
 use Rattle.bpf_isa.specs.declared.instruction.Source.{Source}
 use Rattle.bpf_isa.specs.declared.instruction.Source.TheVariants as source
+use Rattle.bpf_isa.specs.declared.instruction.WideValue.{WideValue}
+use Rattle.bpf_isa.specs.declared.instruction.WideValue.TheVariants.{Number, Map, MapValue}
 use Rattle.bpf_isa.specs.Registers.{register_text}
 use Rattle.bpf_text.specs.declared.write.operand.Operand.{Operand}
 use Rattle.bpf_text.specs.declared.write.operand.Operand.TheVariants.{Register, Signed, Unsigned, Hexadecimal, Memory, Target}
@@ -19,6 +21,12 @@ abbrev pub operand_of : Source → Operand
 operand_of (source.Immediate value) = Signed value
 operand_of (source.Register reg) = Register reg
 
+-- The operands of a wide load.
+abbrev pub wide_operands : ℕ → WideValue → Operands
+wide_operands dst (Number value) = Two (Register dst) (Hexadecimal value)
+wide_operands dst (Map map) = Two (Register dst) (Unsigned map)
+wide_operands dst (MapValue map offset) = Three (Register dst) (Unsigned map) (Unsigned offset)
+
 -- The operands of an instruction in slot p. A target is counted from the next slot (RFC 9669, section 4.3).
 abbrev pub operands_of : ℕ → Insn → Operands
 operands_of p (Binary op width dst source) = Two (Register dst) (operand_of source)
@@ -32,14 +40,10 @@ operands_of p (JumpLong distance) = One (Target (pos (p + 1) +ℤ distance))
 operands_of p (CallHelper helper) = One (Unsigned helper)
 operands_of p (CallLocal distance) = One (Target (pos (p + 1) +ℤ distance))
 operands_of p Exit = Nothing
-operands_of p (Load size dst src offset) = Two (Register dst) (Memory src offset)
-operands_of p (LoadSigned size dst src offset) = Two (Register dst) (Memory src offset)
-operands_of p (StoreImmediate size dst offset value) = Two (Memory dst offset) (Signed value)
-operands_of p (StoreRegister size dst src offset) = Two (Memory dst offset) (Register src)
-operands_of p (Atomic op width dst src offset) = Two (Memory dst offset) (Register src)
-operands_of p (LoadNumber dst value) = Two (Register dst) (Hexadecimal value)
-operands_of p (LoadMap dst map) = Two (Register dst) (Unsigned map)
-operands_of p (LoadMapValue dst map offset) = Three (Register dst) (Unsigned map) (Unsigned offset)
+operands_of p (Load size dst from) = Two (Register dst) (Memory from)
+operands_of p (Store size to source) = Two (Memory to) (operand_of source)
+operands_of p (Atomic op width to src) = Two (Memory to) (Register src)
+operands_of p (LoadWide dst value) = wide_operands dst value
 
 -- The name of the label of a slot.
 abbrev pub label_text : ℕ → List ℕ
@@ -56,7 +60,7 @@ operand_text (Register r) = register_text r
 operand_text (Signed value) = signed_decimal value
 operand_text (Unsigned n) = decimal n
 operand_text (Hexadecimal n) = hexadecimal n
-operand_text (Memory base offset) = codes "[" ++ register_text base ++ offset_text offset ++ codes "]"
+operand_text (Memory address) = codes "[" ++ register_text address.base ++ offset_text address.offset ++ codes "]"
 operand_text (Target slot) = codes "L" ++ signed_decimal slot
 
 -- The canonical text of operands: a blank before the first, a comma and a blank before each further one.

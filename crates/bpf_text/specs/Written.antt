@@ -54,7 +54,7 @@ IsWritten labels (Register r) s = IsRegister s r
 IsWritten labels (Signed v) s = (z : ℤ) × IsInteger s z × IsWithin (2 ^ 31) (2 ^ 32) z × (cast_signed w32 (low_bits 32 z) ≡ v)
 IsWritten labels (Unsigned n) s = IsNatural s n × (n < 2 ^ 32)
 IsWritten labels (Hexadecimal n) s = (z : ℤ) × IsInteger s z × IsWithin (2 ^ 63) (2 ^ 64) z × (low_bits 64 z ≡ n)
-IsWritten labels (Memory base offset) s = IsMemory s base offset × IsWithin (2 ^ 15) (2 ^ 15) offset
+IsWritten labels (Memory address) s = IsMemory s address.base address.offset × IsWithin (2 ^ 15) (2 ^ 15) address.offset
 IsWritten labels (Target slot) s = (is_name s ≡ true) × (d : Definition) × (labels s ≡ Some d) × (slot ≡ pos d.slot)
 
 -- A text that has the shape of an operand, whatever its number or label.
@@ -63,7 +63,7 @@ IsShaped (Register r) s = IsRegister s r
 IsShaped (Signed v) s = (z : ℤ) × IsInteger s z
 IsShaped (Unsigned n) s = (m : ℕ) × IsNatural s m
 IsShaped (Hexadecimal n) s = (z : ℤ) × IsInteger s z
-IsShaped (Memory base offset) s = (z : ℤ) × IsMemory s base z
+IsShaped (Memory address) s = (z : ℤ) × IsMemory s address.base z
 IsShaped (Target slot) s = is_name s ≡ true
 
 -- Operands, each of them as it should be, with blanks around each, and a comma (44) after each but the last.

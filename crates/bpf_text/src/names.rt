@@ -1,15 +1,15 @@
 //! The names of the mnemonics (RFC 9669, sections 4 and 5): a stem and a suffix, for writing and for reading.
 ghost use Rattle.std.specs.Prelude.{◌≡◌, option_map};
-ghost use Rattle.bpf_text.specs.Mnemonics.{binary_name, width_suffix, extension_suffix, order_name, swap_suffix, condition_name, size_suffix, signed_suffix, atomic_name, atomic_suffix};
-ghost use Rattle.bpf_text.specs.Scaffolding.Named.{stem_of, suffix_of, behind, width_named, extension_named, swap_width_named, size_named, signed_size_named, atomic_width_named, whole, with_suffix, mnemonic_with, stem_named, named};
+ghost use Rattle.bpf_text.specs.Mnemonics.{binary_name, width_suffix, extension_suffix, order_name, swap_suffix, condition_name, size_suffix, load_suffix, store_name, atomic_name, atomic_suffix, wide_name};
+ghost use Rattle.bpf_text.specs.Scaffolding.Named.{stem_of, suffix_of, behind, width_named, extension_named, swap_width_named, size_named, load_size_named, atomic_width_named, whole, with_suffix, mnemonic_with, stem_named, named};
 
 use bpf_isa::{
-    AtomicOp, BinaryOp, ByteOrder, Condition, Extension, Mnemonic, SignedSize, Size, SwapWidth,
-    Width,
+    AtomicOp, BinaryOp, ByteOrder, Condition, Extension, LoadSize, Mnemonic, SignedSize, Size,
+    SourceKind, SwapWidth, WideKind, Width,
 };
 
 /// Each stem once, as a mnemonic that has it, in the order of RFC 9669's tables.
-pub const STEMS: [Mnemonic; 52] = [
+pub const STEMS: [Mnemonic; 51] = [
     Mnemonic::Binary(BinaryOp::Add, Width::Bits64),
     Mnemonic::Binary(BinaryOp::Sub, Width::Bits64),
     Mnemonic::Binary(BinaryOp::Mul, Width::Bits64),
@@ -45,10 +45,9 @@ pub const STEMS: [Mnemonic; 52] = [
     Mnemonic::CallHelper,
     Mnemonic::CallLocal,
     Mnemonic::Exit,
-    Mnemonic::Load(Size::Word),
-    Mnemonic::LoadSigned(SignedSize::Word),
-    Mnemonic::StoreImmediate(Size::Word),
-    Mnemonic::StoreRegister(Size::Word),
+    Mnemonic::Load(LoadSize::Plain(Size::Word)),
+    Mnemonic::Store(Size::Word, SourceKind::Immediate),
+    Mnemonic::Store(Size::Word, SourceKind::Register),
     Mnemonic::Atomic(AtomicOp::Add, Width::Bits64),
     Mnemonic::Atomic(AtomicOp::Or, Width::Bits64),
     Mnemonic::Atomic(AtomicOp::And, Width::Bits64),
@@ -59,9 +58,9 @@ pub const STEMS: [Mnemonic; 52] = [
     Mnemonic::Atomic(AtomicOp::FetchXor, Width::Bits64),
     Mnemonic::Atomic(AtomicOp::Exchange, Width::Bits64),
     Mnemonic::Atomic(AtomicOp::CompareExchange, Width::Bits64),
-    Mnemonic::LoadNumber,
-    Mnemonic::LoadMap,
-    Mnemonic::LoadMapValue,
+    Mnemonic::LoadWide(WideKind::Number),
+    Mnemonic::LoadWide(WideKind::Map),
+    Mnemonic::LoadWide(WideKind::MapValue),
 ];
 
 /// The two widths.
@@ -79,11 +78,19 @@ pub const EXTENSIONS: [Extension; 5] = [
 /// How many bits a byte swap can keep.
 pub const SWAP_WIDTHS: [SwapWidth; 3] = [SwapWidth::Bits16, SwapWidth::Bits32, SwapWidth::Bits64];
 
-/// The sizes of loads and stores.
+/// The sizes of stores.
 pub const SIZES: [Size; 4] = [Size::Word, Size::Half, Size::Byte, Size::Double];
 
-/// The sizes of loads that extend the sign.
-pub const SIGNED_SIZES: [SignedSize; 3] = [SignedSize::Word, SignedSize::Half, SignedSize::Byte];
+/// The sizes of loads.
+pub const LOAD_SIZES: [LoadSize; 7] = [
+    LoadSize::Plain(Size::Word),
+    LoadSize::Plain(Size::Half),
+    LoadSize::Plain(Size::Byte),
+    LoadSize::Plain(Size::Double),
+    LoadSize::Signed(SignedSize::Word),
+    LoadSize::Signed(SignedSize::Half),
+    LoadSize::Signed(SignedSize::Byte),
+];
 
 /// What a mnemonic's name begins with: its operation.
 pub fn stem_of(mnemonic: &Mnemonic) -> &'static str
@@ -101,13 +108,9 @@ pub fn stem_of(mnemonic: &Mnemonic) -> &'static str
         Mnemonic::CallLocal => "callf",
         Mnemonic::Exit => "exit",
         Mnemonic::Load(_) => "ldx",
-        Mnemonic::LoadSigned(_) => "ldxs",
-        Mnemonic::StoreImmediate(_) => "st",
-        Mnemonic::StoreRegister(_) => "stx",
+        Mnemonic::Store(_, kind) => store_name(kind),
         Mnemonic::Atomic(op, _) => atomic_name(op),
-        Mnemonic::LoadNumber => "lddw",
-        Mnemonic::LoadMap => "ldmap",
-        Mnemonic::LoadMapValue => "ldmapval",
+        Mnemonic::LoadWide(kind) => wide_name(kind),
     }
 }
 
@@ -121,10 +124,8 @@ pub fn suffix_of(mnemonic: &Mnemonic) -> &'static str
         Mnemonic::SignExtend(extension) => extension_suffix(extension),
         Mnemonic::SwapBytes(_, width) => swap_suffix(width),
         Mnemonic::JumpIf(_, width) => width_suffix(width),
-        Mnemonic::Load(size) => size_suffix(size),
-        Mnemonic::LoadSigned(size) => signed_suffix(size),
-        Mnemonic::StoreImmediate(size) => size_suffix(size),
-        Mnemonic::StoreRegister(size) => size_suffix(size),
+        Mnemonic::Load(size) => load_suffix(size),
+        Mnemonic::Store(size, _) => size_suffix(size),
         Mnemonic::Atomic(_, width) => atomic_suffix(width),
         _ => "",
     }
@@ -179,6 +180,27 @@ fn condition_name(condition: Condition) -> &'static str
         Condition::LessOrEqual => "jle",
         Condition::SignedLess => "jslt",
         Condition::SignedLessOrEqual => "jsle",
+    }
+}
+
+/// Stores of a number and of a register (section 5.1).
+fn store_name(kind: SourceKind) -> &'static str
+    ensures { result.now ≡ store_name kind }
+{
+    match kind {
+        SourceKind::Immediate => "st",
+        SourceKind::Register => "stx",
+    }
+}
+
+/// Wide loads (section 5.4).
+fn wide_name(kind: WideKind) -> &'static str
+    ensures { result.now ≡ wide_name kind }
+{
+    match kind {
+        WideKind::Number => "lddw",
+        WideKind::Map => "ldmap",
+        WideKind::MapValue => "ldmapval",
     }
 }
 
@@ -246,14 +268,15 @@ fn size_suffix(size: Size) -> &'static str
     }
 }
 
-/// The sizes of loads that extend the sign (section 5.2).
-fn signed_suffix(size: SignedSize) -> &'static str
-    ensures { result.now ≡ signed_suffix size }
+/// The sizes of loads, which may extend the sign (section 5.2).
+fn load_suffix(size: LoadSize) -> &'static str
+    ensures { result.now ≡ load_suffix size }
 {
     match size {
-        SignedSize::Word => "w",
-        SignedSize::Half => "h",
-        SignedSize::Byte => "b",
+        LoadSize::Plain(size) => size_suffix(size),
+        LoadSize::Signed(SignedSize::Word) => "sw",
+        LoadSize::Signed(SignedSize::Half) => "sh",
+        LoadSize::Signed(SignedSize::Byte) => "sb",
     }
 }
 
@@ -312,10 +335,8 @@ fn with_suffix(stem: &Mnemonic, suffix: &[u8]) -> Option<Mnemonic>
             Some(Mnemonic::SwapBytes(order, swap_width_named(suffix)?))
         }
         Mnemonic::JumpIf(condition, _) => Some(Mnemonic::JumpIf(condition, width_named(suffix)?)),
-        Mnemonic::Load(_) => Some(Mnemonic::Load(size_named(suffix)?)),
-        Mnemonic::LoadSigned(_) => Some(Mnemonic::LoadSigned(signed_size_named(suffix)?)),
-        Mnemonic::StoreImmediate(_) => Some(Mnemonic::StoreImmediate(size_named(suffix)?)),
-        Mnemonic::StoreRegister(_) => Some(Mnemonic::StoreRegister(size_named(suffix)?)),
+        Mnemonic::Load(_) => Some(Mnemonic::Load(load_size_named(suffix)?)),
+        Mnemonic::Store(_, kind) => Some(Mnemonic::Store(size_named(suffix)?, kind)),
         Mnemonic::Atomic(op, _) => Some(Mnemonic::Atomic(op, atomic_width_named(suffix)?)),
         mnemonic => whole(mnemonic, suffix),
     }
@@ -365,13 +386,13 @@ fn size_named(suffix: &[u8]) -> Option<Size>
         .find(|size| size_suffix(*size).as_bytes() == suffix)
 }
 
-fn signed_size_named(suffix: &[u8]) -> Option<SignedSize>
-    ensures { result ≡ signed_size_named suffix.now }
+fn load_size_named(suffix: &[u8]) -> Option<LoadSize>
+    ensures { result ≡ load_size_named suffix.now }
 {
-    SIGNED_SIZES
+    LOAD_SIZES
         .iter()
         .copied()
-        .find(|size| signed_suffix(*size).as_bytes() == suffix)
+        .find(|size| load_suffix(*size).as_bytes() == suffix)
 }
 
 fn atomic_width_named(suffix: &[u8]) -> Option<Width>

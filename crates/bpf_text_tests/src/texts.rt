@@ -1,5 +1,5 @@
 //! Texts of numbers, instructions and faults.
-use bpf_isa::{Insn, Reg};
+use bpf_isa::{Insn, Reg, WideValue};
 use bpf_text::{AsmFault, LineFault, assemble, write_insn};
 use counted_io::{Counted, put, put_decimal, put_hexadecimal, put_signed, write_text};
 use std::alloc::{AllocError, Global};
@@ -29,7 +29,8 @@ fn writes_instructions(rt: HostRuntime) -> Result<(), Fail> {
     let mut text = Vec::new(rt.alloc());
     let mut writer = Counted::new(&mut text);
     assert!(rt; write_insn(&mut writer, 65530, Insn::Jump { offset: 4 }).is_ok());
-    assert!(rt; write_insn(&mut writer, 0, Insn::LoadMap { dst, map: 9 }).is_ok());
+    let value = WideValue::Map(9);
+    assert!(rt; write_insn(&mut writer, 0, Insn::LoadWide { dst, value }).is_ok());
     assert_eq!(rt; text.as_slice(), b"ja L65535ldmap r3, 9".as_slice());
     Ok(())
 }

@@ -1,11 +1,15 @@
 -- Scaffolding: how the operands of each mnemonic are read, and what instruction they make.
 use Rattle.std.specs.Prelude.{ℕ, ℤ, pos, List, Option, Some, None, option_map}
+use Rattle.bpf_isa.specs.declared.instruction.Address.{Address}
 use Rattle.bpf_isa.specs.declared.instruction.Insn.{Insn}
 use Rattle.bpf_isa.specs.declared.instruction.Insn.TheVariants as insn
 use Rattle.bpf_isa.specs.declared.instruction.Source.{Source}
 use Rattle.bpf_isa.specs.declared.instruction.Source.TheVariants as source
+use Rattle.bpf_isa.specs.declared.instruction.SourceKind.TheVariants as kind
+use Rattle.bpf_isa.specs.declared.instruction.WideValue.TheVariants as value
+use Rattle.bpf_isa.specs.declared.mnemonic.WideKind.TheVariants as wide_kind
 use Rattle.bpf_isa.specs.declared.mnemonic.Mnemonic.{Mnemonic}
-use Rattle.bpf_isa.specs.declared.mnemonic.Mnemonic.TheVariants.{Binary, Negate, SignExtend, SwapBytes, JumpIf, Jump, JumpLong, CallHelper, CallLocal, Exit, Load, LoadSigned, StoreImmediate, StoreRegister, Atomic, LoadNumber, LoadMap, LoadMapValue}
+use Rattle.bpf_isa.specs.declared.mnemonic.Mnemonic.TheVariants.{Binary, Negate, SignExtend, SwapBytes, JumpIf, Jump, JumpLong, CallHelper, CallLocal, Exit, Load, Store, Atomic, LoadWide}
 use Rattle.bpf_text.specs.declared.read.term.OperandForm.TheVariants as form
 use Rattle.bpf_text.specs.declared.read.term.OperandForms.{OperandForms}
 use Rattle.bpf_text.specs.declared.read.term.OperandForms.TheVariants.{Nothing, One, Two, Three}
@@ -27,13 +31,12 @@ forms_of CallHelper = One form.Unsigned
 forms_of CallLocal = One form.Name
 forms_of Exit = Nothing
 forms_of (Load size) = Two form.Register form.Memory
-forms_of (LoadSigned size) = Two form.Register form.Memory
-forms_of (StoreImmediate size) = Two form.Memory form.Signed
-forms_of (StoreRegister size) = Two form.Memory form.Register
+forms_of (Store size kind.Immediate) = Two form.Memory form.Signed
+forms_of (Store size kind.Register) = Two form.Memory form.Register
 forms_of (Atomic op width) = Two form.Memory form.Register
-forms_of LoadNumber = Two form.Register form.Signed
-forms_of LoadMap = Two form.Register form.Unsigned
-forms_of LoadMapValue = Three form.Register form.Unsigned form.Unsigned
+forms_of (LoadWide wide_kind.Number) = Two form.Register form.Signed
+forms_of (LoadWide wide_kind.Map) = Two form.Register form.Unsigned
+forms_of (LoadWide wide_kind.MapValue) = Three form.Register form.Unsigned form.Unsigned
 
 -- What an operand is to an instruction, if it is of the kind, and its number in its range.
 abbrev pub register_in : Term → Option ℕ
@@ -57,8 +60,8 @@ source_in (Register reg) = Some (source.Register reg)
 source_in (Num number) = option_map source.Immediate (immediate number)
 source_in _ = None
 
-abbrev pub memory_in : Term → Option (ℕ × ℤ)
-memory_in (Memory base number) = option_map (λ o. (base, o)) (offset number)
+abbrev pub memory_in : Term → Option Address
+memory_in (Memory base number) = option_map (λ o. record { base = base; offset = o }) (offset number)
 memory_in _ = None
 
 abbrev pub name_in : Term → Option (List ℕ)
@@ -100,16 +103,13 @@ insn_with JumpLong t = Some (insn.JumpLong (pos 0))
 insn_with CallHelper t = of_one (unsigned_in t.first) insn.CallHelper
 insn_with CallLocal t = Some (insn.CallLocal (pos 0))
 insn_with Exit t = Some insn.Exit
-insn_with (Load size) t = of_two (register_in t.first) (memory_in t.second) (λ dst src. insn.Load size dst src.0 src.1)
-insn_with (LoadSigned size) t =
-    of_two (register_in t.first) (memory_in t.second) (λ dst src. insn.LoadSigned size dst src.0 src.1)
-insn_with (StoreImmediate size) t =
-    of_two (memory_in t.first) (immediate_in t.second) (λ dst value. insn.StoreImmediate size dst.0 dst.1 value)
-insn_with (StoreRegister size) t =
-    of_two (memory_in t.first) (register_in t.second) (λ dst src. insn.StoreRegister size dst.0 src dst.1)
-insn_with (Atomic op width) t =
-    of_two (memory_in t.first) (register_in t.second) (λ dst src. insn.Atomic op width dst.0 src dst.1)
-insn_with LoadNumber t = of_two (register_in t.first) (wide_in t.second) insn.LoadNumber
-insn_with LoadMap t = of_two (register_in t.first) (unsigned_in t.second) insn.LoadMap
-insn_with LoadMapValue t =
-    of_three (register_in t.first) (unsigned_in t.second) (unsigned_in t.third) insn.LoadMapValue
+insn_with (Load size) t = of_two (register_in t.first) (memory_in t.second) (insn.Load size)
+insn_with (Store size kind.Immediate) t =
+    of_two (memory_in t.first) (immediate_in t.second) (λ to v. insn.Store size to (source.Immediate v))
+insn_with (Store size kind.Register) t =
+    of_two (memory_in t.first) (register_in t.second) (λ to r. insn.Store size to (source.Register r))
+insn_with (Atomic op width) t = of_two (memory_in t.first) (register_in t.second) (insn.Atomic op width)
+insn_with (LoadWide wide_kind.Number) t = of_two (register_in t.first) (wide_in t.second) (λ dst v. insn.LoadWide dst (value.Number v))
+insn_with (LoadWide wide_kind.Map) t = of_two (register_in t.first) (unsigned_in t.second) (λ dst m. insn.LoadWide dst (value.Map m))
+insn_with (LoadWide wide_kind.MapValue) t =
+    of_three (register_in t.first) (unsigned_in t.second) (unsigned_in t.third) (λ dst m o. insn.LoadWide dst (value.MapValue m o))

@@ -3,13 +3,13 @@ use Rattle.std.specs.Prelude.{ℕ, if◌then◌else◌, List, [], ◌∷◌, cod
 use Rattle.std.specs.Str.{bytes_eq}
 use Rattle.bpf_isa.specs.declared.instruction.Width.{Width}
 use Rattle.bpf_isa.specs.declared.instruction.Size.{Size}
-use Rattle.bpf_isa.specs.declared.instruction.SignedSize.{SignedSize}
+use Rattle.bpf_isa.specs.declared.instruction.LoadSize.{LoadSize}
 use Rattle.bpf_isa.specs.declared.instruction.Extension.{Extension}
 use Rattle.bpf_isa.specs.declared.instruction.SwapWidth.{SwapWidth}
 use Rattle.bpf_isa.specs.declared.mnemonic.Mnemonic.{Mnemonic}
-use Rattle.bpf_isa.specs.declared.mnemonic.Mnemonic.TheVariants.{Binary, Negate, SignExtend, SwapBytes, JumpIf, Jump, JumpLong, CallHelper, CallLocal, Exit, Load, LoadSigned, StoreImmediate, StoreRegister, Atomic, LoadNumber, LoadMap, LoadMapValue}
-use Rattle.bpf_text.specs.declared.names.TheConstants.{STEMS, WIDTHS, EXTENSIONS, SWAP_WIDTHS, SIZES, SIGNED_SIZES}
-use Rattle.bpf_text.specs.Mnemonics.{binary_name, width_suffix, extension_suffix, order_name, swap_suffix, condition_name, size_suffix, signed_suffix, atomic_name, atomic_suffix}
+use Rattle.bpf_isa.specs.declared.mnemonic.Mnemonic.TheVariants.{Binary, Negate, SignExtend, SwapBytes, JumpIf, Jump, JumpLong, CallHelper, CallLocal, Exit, Load, Store, Atomic, LoadWide}
+use Rattle.bpf_text.specs.declared.names.TheConstants.{STEMS, WIDTHS, EXTENSIONS, SWAP_WIDTHS, SIZES, LOAD_SIZES}
+use Rattle.bpf_text.specs.Mnemonics.{binary_name, width_suffix, extension_suffix, order_name, swap_suffix, condition_name, size_suffix, load_suffix, store_name, atomic_name, atomic_suffix, wide_name}
 
 -- What the name of a mnemonic begins with.
 abbrev pub stem_of : Mnemonic → List ℕ
@@ -24,13 +24,9 @@ stem_of CallHelper = codes "call"
 stem_of CallLocal = codes "callf"
 stem_of Exit = codes "exit"
 stem_of (Load size) = codes "ldx"
-stem_of (LoadSigned size) = codes "ldxs"
-stem_of (StoreImmediate size) = codes "st"
-stem_of (StoreRegister size) = codes "stx"
+stem_of (Store size kind) = store_name kind
 stem_of (Atomic op width) = atomic_name op
-stem_of LoadNumber = codes "lddw"
-stem_of LoadMap = codes "ldmap"
-stem_of LoadMapValue = codes "ldmapval"
+stem_of (LoadWide kind) = wide_name kind
 
 -- What it ends with.
 abbrev pub suffix_of : Mnemonic → List ℕ
@@ -39,10 +35,8 @@ suffix_of (Negate width) = width_suffix width
 suffix_of (SignExtend extension) = extension_suffix extension
 suffix_of (SwapBytes order width) = swap_suffix width
 suffix_of (JumpIf condition width) = width_suffix width
-suffix_of (Load size) = size_suffix size
-suffix_of (LoadSigned size) = signed_suffix size
-suffix_of (StoreImmediate size) = size_suffix size
-suffix_of (StoreRegister size) = size_suffix size
+suffix_of (Load size) = load_suffix size
+suffix_of (Store size kind) = size_suffix size
 suffix_of (Atomic op width) = atomic_suffix width
 suffix_of _ = []
 
@@ -59,8 +53,8 @@ swap_width_named s = find (λ w. bytes_eq (swap_suffix w) s) SWAP_WIDTHS
 abbrev pub size_named : List ℕ → Option Size
 size_named s = find (λ z. bytes_eq (size_suffix z) s) SIZES
 
-abbrev pub signed_size_named : List ℕ → Option SignedSize
-signed_size_named s = find (λ z. bytes_eq (signed_suffix z) s) SIGNED_SIZES
+abbrev pub load_size_named : List ℕ → Option LoadSize
+load_size_named s = find (λ z. bytes_eq (load_suffix z) s) LOAD_SIZES
 
 abbrev pub atomic_width_named : List ℕ → Option Width
 atomic_width_named s = find (λ w. bytes_eq (atomic_suffix w) s) WIDTHS
@@ -77,10 +71,8 @@ with_suffix (Negate width) s = option_map Negate (width_named s)
 with_suffix (SignExtend extension) s = option_map SignExtend (extension_named s)
 with_suffix (SwapBytes order width) s = option_map (SwapBytes order) (swap_width_named s)
 with_suffix (JumpIf condition width) s = option_map (JumpIf condition) (width_named s)
-with_suffix (Load size) s = option_map Load (size_named s)
-with_suffix (LoadSigned size) s = option_map LoadSigned (signed_size_named s)
-with_suffix (StoreImmediate size) s = option_map StoreImmediate (size_named s)
-with_suffix (StoreRegister size) s = option_map StoreRegister (size_named s)
+with_suffix (Load size) s = option_map Load (load_size_named s)
+with_suffix (Store size kind) s = option_map (λ z. Store z kind) (size_named s)
 with_suffix (Atomic op width) s = option_map (Atomic op) (atomic_width_named s)
 with_suffix m s = whole m s
 

@@ -8,7 +8,10 @@ use crate::fault::LineFault;
 use crate::names::named;
 use crate::read::cut::trim;
 use crate::read::term::{Name, OperandForm, OperandForms, Terms, read_terms};
-use bpf_isa::{Insn, Mnemonic};
+use bpf_isa::{
+    BinaryOp, Condition, Extension, Insn, Mnemonic, Size, Source, SourceKind, WideKind, WideValue,
+    Width,
+};
 use counted_io::find_blank;
 
 /// An instruction of a listing, and the name of its target, if it has one.
@@ -83,16 +86,25 @@ fn forms_of(mnemonic: Mnemonic) -> OperandForms
         }
         Mnemonic::CallHelper => OperandForms::One(OperandForm::Unsigned),
         Mnemonic::Exit => OperandForms::Nothing,
-        Mnemonic::Load(_) | Mnemonic::LoadSigned(_) => {
-            OperandForms::Two(OperandForm::Register, OperandForm::Memory)
+        Mnemonic::Load(_) => OperandForms::Two(OperandForm::Register, OperandForm::Memory),
+        Mnemonic::Store(_, SourceKind::Immediate) => {
+            OperandForms::Two(OperandForm::Memory, OperandForm::Signed)
         }
-        Mnemonic::StoreImmediate(_) => OperandForms::Two(OperandForm::Memory, OperandForm::Signed),
-        Mnemonic::StoreRegister(_) | Mnemonic::Atomic(_, _) => {
+        Mnemonic::Store(_, SourceKind::Register) | Mnemonic::Atomic(_, _) => {
             OperandForms::Two(OperandForm::Memory, OperandForm::Register)
         }
-        Mnemonic::LoadNumber => OperandForms::Two(OperandForm::Register, OperandForm::Signed),
-        Mnemonic::LoadMap => OperandForms::Two(OperandForm::Register, OperandForm::Unsigned),
-        Mnemonic::LoadMapValue => {
+        Mnemonic::LoadWide(kind) => wide_forms(kind),
+    }
+}
+
+/// How the operands of a wide load are written.
+fn wide_forms(kind: WideKind) -> OperandForms
+    ensures { result ≡ forms_of (Mnemonic.LoadWide kind) }
+{
+    match kind {
+        WideKind::Number => OperandForms::Two(OperandForm::Register, OperandForm::Signed),
+        WideKind::Map => OperandForms::Two(OperandForm::Register, OperandForm::Unsigned),
+        WideKind::MapValue => {
             OperandForms::Three(
                 OperandForm::Register,
                 OperandForm::Unsigned,
@@ -107,44 +119,17 @@ fn insn_with(mnemonic: Mnemonic, terms: &Terms<'_>) -> Option<Insn>
     ensures { result ≡ insn_with mnemonic terms.now }
 {
     match mnemonic {
-        Mnemonic::Binary(op, width) => {
-            let dst = terms.first.register()?;
-            let source = terms.second.source()?;
-            Some(Insn::Binary {
-                op,
-                width,
-                dst,
-                source,
-            })
-        }
+        Mnemonic::Binary(op, width) => binary_with(op, width, terms),
         Mnemonic::Negate(width) => {
             let dst = terms.first.register()?;
             Some(Insn::Negate { width, dst })
         }
-        Mnemonic::SignExtend(extension) => {
-            let dst = terms.first.register()?;
-            let src = terms.second.register()?;
-            Some(Insn::SignExtend {
-                extension,
-                dst,
-                src,
-            })
-        }
+        Mnemonic::SignExtend(extension) => extend_with(extension, terms),
         Mnemonic::SwapBytes(order, width) => {
             let dst = terms.first.register()?;
             Some(Insn::SwapBytes { order, width, dst })
         }
-        Mnemonic::JumpIf(condition, width) => {
-            let dst = terms.first.register()?;
-            let source = terms.second.source()?;
-            Some(Insn::JumpIf {
-                condition,
-                width,
-                dst,
-                source,
-                offset: 0,
-            })
-        }
+        Mnemonic::JumpIf(condition, width) => jump_with(condition, width, terms),
         Mnemonic::Jump => Some(Insn::Jump { offset: 0 }),
         Mnemonic::JumpLong => Some(Insn::JumpLong { distance: 0 }),
         Mnemonic::CallHelper => {
@@ -155,70 +140,97 @@ fn insn_with(mnemonic: Mnemonic, terms: &Terms<'_>) -> Option<Insn>
         Mnemonic::Exit => Some(Insn::Exit),
         Mnemonic::Load(size) => {
             let dst = terms.first.register()?;
-            let (src, offset) = terms.second.memory()?;
-            Some(Insn::Load {
-                size,
-                dst,
-                src,
-                offset,
-            })
+            let from = terms.second.memory()?;
+            Some(Insn::Load { size, dst, from })
         }
-        Mnemonic::LoadSigned(size) => {
-            let dst = terms.first.register()?;
-            let (src, offset) = terms.second.memory()?;
-            Some(Insn::LoadSigned {
-                size,
-                dst,
-                src,
-                offset,
-            })
-        }
-        Mnemonic::StoreImmediate(size) => {
-            let (dst, offset) = terms.first.memory()?;
-            let value = terms.second.immediate()?;
-            Some(Insn::StoreImmediate {
-                size,
-                dst,
-                offset,
-                value,
-            })
-        }
-        Mnemonic::StoreRegister(size) => {
-            let (dst, offset) = terms.first.memory()?;
-            let src = terms.second.register()?;
-            Some(Insn::StoreRegister {
-                size,
-                dst,
-                src,
-                offset,
-            })
-        }
+        Mnemonic::Store(size, kind) => store_with(size, kind, terms),
         Mnemonic::Atomic(op, width) => {
-            let (dst, offset) = terms.first.memory()?;
+            let to = terms.first.memory()?;
             let src = terms.second.register()?;
-            Some(Insn::Atomic {
-                op,
-                width,
-                dst,
-                src,
-                offset,
-            })
+            Some(Insn::Atomic { op, width, to, src })
         }
-        Mnemonic::LoadNumber => {
-            let dst = terms.first.register()?;
-            let value = terms.second.wide()?;
-            Some(Insn::LoadNumber { dst, value })
+        Mnemonic::LoadWide(kind) => wide_with(kind, terms),
+    }
+}
+
+/// Arithmetic of two operands.
+fn binary_with(op: BinaryOp, width: Width, terms: &Terms<'_>) -> Option<Insn>
+    ensures { result ≡ insn_with (Mnemonic.Binary op width) terms.now }
+{
+    let dst = terms.first.register()?;
+    let source = terms.second.source()?;
+    Some(Insn::Binary {
+        op,
+        width,
+        dst,
+        source,
+    })
+}
+
+/// A move that extends the sign.
+fn extend_with(extension: Extension, terms: &Terms<'_>) -> Option<Insn>
+    ensures { result ≡ insn_with (Mnemonic.SignExtend extension) terms.now }
+{
+    let dst = terms.first.register()?;
+    let src = terms.second.register()?;
+    Some(Insn::SignExtend {
+        extension,
+        dst,
+        src,
+    })
+}
+
+/// A conditional jump, whose distance is 0 here.
+fn jump_with(condition: Condition, width: Width, terms: &Terms<'_>) -> Option<Insn>
+    ensures { result ≡ insn_with (Mnemonic.JumpIf condition width) terms.now }
+{
+    let dst = terms.first.register()?;
+    let source = terms.second.source()?;
+    Some(Insn::JumpIf {
+        condition,
+        width,
+        dst,
+        source,
+        offset: 0,
+    })
+}
+
+/// A store of a number or of a register.
+fn store_with(size: Size, kind: SourceKind, terms: &Terms<'_>) -> Option<Insn>
+    ensures { result ≡ insn_with (Mnemonic.Store size kind) terms.now }
+{
+    let to = terms.first.memory()?;
+    match kind {
+        SourceKind::Immediate => {
+            let source = Source::Immediate(terms.second.immediate()?);
+            Some(Insn::Store { size, to, source })
         }
-        Mnemonic::LoadMap => {
-            let dst = terms.first.register()?;
-            let map = terms.second.unsigned()?;
-            Some(Insn::LoadMap { dst, map })
+        SourceKind::Register => {
+            let source = Source::Register(terms.second.register()?);
+            Some(Insn::Store { size, to, source })
         }
-        Mnemonic::LoadMapValue => {
-            let dst = terms.first.register()?;
+    }
+}
+
+/// A wide load.
+fn wide_with(kind: WideKind, terms: &Terms<'_>) -> Option<Insn>
+    ensures { result ≡ insn_with (Mnemonic.LoadWide kind) terms.now }
+{
+    let dst = terms.first.register()?;
+    match kind {
+        WideKind::Number => {
+            let value = WideValue::Number(terms.second.wide()?);
+            Some(Insn::LoadWide { dst, value })
+        }
+        WideKind::Map => {
+            let value = WideValue::Map(terms.second.unsigned()?);
+            Some(Insn::LoadWide { dst, value })
+        }
+        WideKind::MapValue => {
             let map = terms.second.unsigned()?;
             let offset = terms.third.unsigned()?;
-            Some(Insn::LoadMapValue { dst, map, offset })
+            let value = WideValue::MapValue { map, offset };
+            Some(Insn::LoadWide { dst, value })
         }
     }
 }

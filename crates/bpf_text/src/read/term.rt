@@ -9,7 +9,7 @@ ghost use Rattle.bpf_text.specs.Scaffolding.Cuts.{first_operand, other_operands}
 
 use crate::read::cut::{find, is_name, sides, trim};
 use crate::read::number::{Number, signed_number};
-use bpf_isa::{Reg, Source};
+use bpf_isa::{Address, Reg, Source};
 use counted_io::{Numeral, natural};
 use std::marker::Model;
 
@@ -125,11 +125,17 @@ impl<'a> Term<'a> {
     }
 
     /// The memory at a register and an offset in bytes, if its offset is in its range.
-    pub fn memory(&self) -> Option<(Reg, i16)>
+    pub fn memory(&self) -> Option<Address>
         ensures { result ≡ memory_in self.now }
     {
         match self {
-            Term::Memory(base, number) => Some((*base, number.offset()?)),
+            Term::Memory(base, number) => {
+                let offset = number.offset()?;
+                Some(Address {
+                    base: *base,
+                    offset,
+                })
+            }
             _ => None,
         }
     }

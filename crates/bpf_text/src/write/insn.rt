@@ -101,7 +101,7 @@ fn put_operand<W: Write>(
         Operand::Signed(value) => put_signed(writer, so_far, i64::from(value)),
         Operand::Unsigned(value) => put_decimal(writer, so_far, u64::from(value)),
         Operand::Hexadecimal(value) => put_hexadecimal(writer, so_far, value),
-        Operand::Memory(base, offset) => put_memory(writer, so_far, base, offset),
+        Operand::Memory(address) => put_memory(writer, so_far, address.base, address.offset),
         Operand::Target(slot) => put_target(writer, so_far, slot),
     }
 }
@@ -124,7 +124,7 @@ fn put_memory<W: Write>(
     offset: i16,
 ) -> Result<(), WriteFault>
     ensures { WritesAfter W.contents writer.old so_far writer.new result
-        (operand_text (Operand.Memory base offset)) }
+        (operand_text (Operand.Memory (record { base = base; offset = offset }))) }
 {
     let opened = put(writer, so_far, b"[");
     let based = put_register(writer, opened, base);

@@ -2,10 +2,10 @@
 ghost use Rattle.std.specs.Prelude.{◌≡◌, ◌≤◌, ◌+◌, ◌+ℤ◌, pos, Some, None, IfSome, IfNone};
 ghost use Rattle.bpf_isa.specs.Checker.{most_slots};
 ghost use Rattle.bpf_isa.specs.Programs.{target_of};
-ghost use Rattle.bpf_text.specs.Operands.{operand_of, operands_of};
+ghost use Rattle.bpf_text.specs.Operands.{operand_of, wide_operands, operands_of};
 ghost use Rattle.bpf_text.specs.Scaffolding.Slots.{IsSlot};
 
-use bpf_isa::{Insn, Reg, Source};
+use bpf_isa::{Address, Insn, Reg, Source, WideValue};
 
 /// One operand.
 #[derive(Clone, Copy)]
@@ -18,8 +18,8 @@ pub enum Operand {
     Unsigned(u32),
     /// A number of 64 bits, in hexadecimal.
     Hexadecimal(u64),
-    /// The memory at a register and an offset in bytes.
-    Memory(Reg, i16),
+    /// The memory at an address.
+    Memory(Address),
     /// The slot of a target. One before slot 0 is negative: no program has it.
     Target(i64),
 }
@@ -65,43 +65,26 @@ pub fn operands_of(slot: usize, insn: &Insn) -> Operands
         }
         Insn::CallHelper { helper } => Operands::One(Operand::Unsigned(helper)),
         Insn::Exit => Operands::Nothing,
-        Insn::Load {
-            dst,
-            src,
-            offset,
-            ..
-        }
-        | Insn::LoadSigned {
-            dst,
-            src,
-            offset,
-            ..
-        } => Operands::Two(Operand::Register(dst), Operand::Memory(src, offset)),
-        Insn::StoreImmediate {
-            dst,
-            offset,
-            value,
-            ..
-        } => Operands::Two(Operand::Memory(dst, offset), Operand::Signed(value)),
-        Insn::StoreRegister {
-            dst,
-            src,
-            offset,
-            ..
-        }
-        | Insn::Atomic {
-            dst,
-            src,
-            offset,
-            ..
-        } => Operands::Two(Operand::Memory(dst, offset), Operand::Register(src)),
-        Insn::LoadNumber { dst, value } => {
+        Insn::Load { dst, from, .. } => Operands::Two(
+            Operand::Register(dst),
+            Operand::Memory(from),
+        ),
+        Insn::Store { to, source, .. } => Operands::Two(Operand::Memory(to), operand_of(source)),
+        Insn::Atomic { to, src, .. } => Operands::Two(Operand::Memory(to), Operand::Register(src)),
+        Insn::LoadWide { dst, value } => wide_operands(dst, value),
+    }
+}
+
+/// The operands of a wide load.
+fn wide_operands(dst: Reg, value: WideValue) -> Operands
+    ensures { result ≡ wide_operands dst value }
+{
+    match value {
+        WideValue::Number(value) => {
             Operands::Two(Operand::Register(dst), Operand::Hexadecimal(value))
         }
-        Insn::LoadMap { dst, map } => {
-            Operands::Two(Operand::Register(dst), Operand::Unsigned(map))
-        }
-        Insn::LoadMapValue { dst, map, offset } => Operands::Three(
+        WideValue::Map(map) => Operands::Two(Operand::Register(dst), Operand::Unsigned(map)),
+        WideValue::MapValue { map, offset } => Operands::Three(
             Operand::Register(dst),
             Operand::Unsigned(map),
             Operand::Unsigned(offset),
