@@ -3,6 +3,7 @@ pub mod CanonicalLines
 pub mod CanonicalRounds
 pub mod CanonicalTexts
 pub mod Cutting
+pub mod Grammar
 pub mod LineGrammar
 pub mod Listings
 pub mod MnemonicNames
@@ -12,6 +13,7 @@ pub mod OperandGrammar
 pub mod OperandLists
 pub mod PlainTexts
 pub mod ProgramParts
+pub mod Readings
 pub mod Rounds
 pub mod TokenGrammar
 pub mod TokenTexts

@@ -13,9 +13,9 @@ use Rattle.counted_io.specs.Lines.{is_blank, trim_start}
 use Rattle.bpf_text.specs.Characters.{is_name, is_text}
 use Rattle.bpf_text.specs.Scaffolding.Cuts.{is_labelled, before, after, without_comment, trim, trim_end, mnemonic_part}
 use Rattle.bpf_text.specs.Scaffolding.Cuts as cuts
-use Rattle.bpf_text.specs.Scaffolding.Grammar.{AreOperands}
+use Rattle.bpf_text.proofs.Grammar.{AreOperands}
 use Rattle.bpf_text.specs.LineGrammar.{IsComment, IsLabelled, IsLabel, IsApart, IsInstruction}
-use Rattle.bpf_text.specs.Scaffolding.Readings.{IsStatement, IsReading}
+use Rattle.bpf_text.proofs.Readings.{IsStatement, IsReading}
 use Rattle.bpf_text.specs.Scaffolding.Lines.{read_line, line_of}
 use Rattle.bpf_text.specs.declared.read.line.Line.{Line}
 use Rattle.bpf_text.specs.Mnemonics.{name_of}

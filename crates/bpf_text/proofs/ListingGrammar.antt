@@ -22,7 +22,7 @@ use Rattle.bpf_text.specs.Statements.{Takes, Means}
 use Rattle.bpf_text.specs.Listing.{IsNew, HasFault, Place, Outline, outline_with, IsOutline, insns_with, AreInsns, IsAssembled}
 use Rattle.bpf_text.specs.Scaffolding.Cuts.{trim, without_comment}
 use Rattle.bpf_text.specs.Scaffolding.Lines.{read_line, read_statement}
-use Rattle.bpf_text.specs.Scaffolding.Readings.{IsReading, IsStatement}
+use Rattle.bpf_text.proofs.Readings.{IsReading, IsStatement}
 use Rattle.bpf_text.specs.Scaffolding.Rounds.{Collected, statement_or_none, slot_after, unless_defined, line_end, placed_with, first_round, second_round, with_target, after_first_round, rounds}
 use Rattle.bpf_text.proofs.LineGrammar.{says-line, line-reads, says-statement, statement-reads, says-labelled, code-before}
 use Rattle.bpf_text.proofs.StatementGrammar.{slots_in, takes-read, read-takes, means-read, read-means}

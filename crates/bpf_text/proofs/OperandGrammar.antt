@@ -20,7 +20,7 @@ use Rattle.counted_io.specs.Lines.{is_blank, trim_start}
 use Rattle.bpf_text.specs.Characters.{is_name}
 use Rattle.bpf_text.specs.Scaffolding.Cuts.{trim, trim_end, onto_trimmed, before}
 use Rattle.counted_io.specs.Numerals.{IsNatural, natural}
-use Rattle.bpf_text.specs.Scaffolding.Grammar.{IsRegister, IsSigned, Padded, ReadsDisplaced, ReadsInside, IsOperand}
+use Rattle.bpf_text.proofs.Grammar.{IsRegister, IsSigned, Padded, ReadsDisplaced, ReadsInside, IsOperand}
 use Rattle.bpf_text.specs.Scaffolding.Terms.{signed_number, is_sign, is_bracketed}
 use Rattle.bpf_text.specs.Scaffolding.Tokens.{number_with}
 use Rattle.bpf_text.specs.Scaffolding.Terms.{term_of, memory, base_and_displacement, displacement, register_or}

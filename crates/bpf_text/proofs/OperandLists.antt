@@ -15,8 +15,8 @@ use Rattle.counted_io.specs.Lines.{is_blank}
 use Rattle.bpf_text.specs.Characters.{is_letter, is_name, is_name_byte}
 use Rattle.bpf_text.specs.Scaffolding.Cuts.{trim, trim_end, first_operand, other_operands, before, after}
 use Rattle.counted_io.specs.Numerals.{IsNatural}
-use Rattle.bpf_text.specs.Scaffolding.Grammar.{IsRegister, IsSigned, ReadsInside, ReadsDisplaced, IsOperand, AreOperands, Padded}
-use Rattle.bpf_text.specs.Scaffolding.Grammar.{two, three, one}
+use Rattle.bpf_text.proofs.Grammar.{IsRegister, IsSigned, ReadsInside, ReadsDisplaced, IsOperand, AreOperands, Padded}
+use Rattle.bpf_text.proofs.Grammar.{two, three, one}
 use Rattle.bpf_text.specs.Scaffolding.Terms.{terms_of, term_of}
 use Rattle.bpf_text.proofs.Cutting.{trim_end-blank}
 use Rattle.bpf_text.proofs.PlainTexts.{is_plain, are_plain, and-join, list_all-append, list_all-weaken, before_first-at, after_first-at, Snug, Snug-plain, Snug-append}

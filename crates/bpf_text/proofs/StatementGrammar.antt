@@ -17,10 +17,10 @@ use Rattle.bpf_text.specs.Operands.{operands_of}
 use Rattle.bpf_text.specs.Statements.{Spells, SaysInsn, Takes, Means, short_offset}
 use Rattle.bpf_text.specs.Written.{IsWritten, IsShaped, IsWithin}
 use Rattle.bpf_text.specs.Scaffolding.Cuts.{trim}
-use Rattle.bpf_text.specs.Scaffolding.Grammar.{AreOperands}
+use Rattle.bpf_text.proofs.Grammar.{AreOperands}
 use Rattle.bpf_text.specs.Scaffolding.Instructions.{forms_of, insn_with, target_in}
 use Rattle.bpf_text.specs.Scaffolding.Lines.{read_statement, of_forms, in_ranges}
-use Rattle.bpf_text.specs.Scaffolding.Readings.{IsStatement}
+use Rattle.bpf_text.proofs.Readings.{IsStatement}
 use Rattle.bpf_text.specs.Scaffolding.Rounds.{fits_offset, with_distance, with_label, with_target}
 use Rattle.bpf_text.proofs.LineGrammar.{says-statement, statement-reads, formed-so}
 use Rattle.bpf_text.proofs.OperandLists.{operand-lists}

@@ -9,7 +9,7 @@ use Rattle.counted_io.proofs.Naturals.{digit-other, list_all-AllDigits, natural-
 use Rattle.bpf_isa.specs.Registers.{register_named}
 use Rattle.bpf_text.specs.declared.read.number.Number.{Number}
 use Rattle.counted_io.specs.Numerals.{IsNatural, natural}
-use Rattle.bpf_text.specs.Scaffolding.Grammar.{IsRegister, IsSigned}
+use Rattle.bpf_text.proofs.Grammar.{IsRegister, IsSigned}
 use Rattle.bpf_text.specs.Scaffolding.Terms.{is_negative, signed_number}
 use Rattle.bpf_text.specs.Scaffolding.Tokens.{number_with}
 use Rattle.bpf_text.proofs.TokenTexts.{register-text, slice_index-other}

@@ -27,7 +27,7 @@ use Rattle.bpf_text.specs.declared.write.operand.Operands.{Operands}
 use Rattle.bpf_text.specs.declared.write.operand.Operands.TheVariants.{Nothing, One, Two, Three}
 use Rattle.bpf_text.specs.Labels.{Labels}
 use Rattle.bpf_text.specs.Operands.{operand_of, operands_of}
-use Rattle.bpf_text.specs.Scaffolding.Grammar.{IsOperand, AreOperands, one, two, three}
+use Rattle.bpf_text.proofs.Grammar.{IsOperand, AreOperands, one, two, three}
 use Rattle.bpf_text.specs.Scaffolding.Instructions.{forms_of, insn_with, target_in, register_in, unsigned_in, immediate_in, wide_in, source_in, memory_in, name_in, of_one, of_two, of_three}
 use Rattle.bpf_text.specs.Scaffolding.Tokens.{unsigned, immediate, wide, offset}
 use Rattle.bpf_text.proofs.OperandGrammar.{map-some}

@@ -5,7 +5,7 @@ use Rattle.std.proofs.lemmas.Bool.Decides.{nat_tests}
 use Rattle.std.proofs.lemmas.Int.{to_z-of_z}
 use Rattle.bpf_text.specs.declared.read.number.Number.{Number}
 use Rattle.bpf_text.specs.Written.{IsInteger, IsInside, IsWithin, low_bits}
-use Rattle.bpf_text.specs.Scaffolding.Grammar.{IsSigned, ReadsInside}
+use Rattle.bpf_text.proofs.Grammar.{IsSigned, ReadsInside}
 use Rattle.bpf_text.specs.Scaffolding.Tokens.{number_with, in_range, unsigned_of, immediate_of, wide_of, offset_of}
 
 -- the whole number that was read

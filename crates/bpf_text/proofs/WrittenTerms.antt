@@ -17,7 +17,7 @@ use Rattle.counted_io.specs.Numerals.{IsNatural}
 use Rattle.bpf_text.specs.Labels.{Labels}
 use Rattle.bpf_text.specs.Written.{IsWithin, IsInside, IsWritten, IsShaped, AreListed, low_bits}
 use Rattle.std.specs.Int.{w32, cast_signed}
-use Rattle.bpf_text.specs.Scaffolding.Grammar.{IsOperand, AreOperands, one, two, three}
+use Rattle.bpf_text.proofs.Grammar.{IsOperand, AreOperands, one, two, three}
 use Rattle.bpf_text.specs.Scaffolding.Tokens.{number_with, unsigned, immediate, wide, offset}
 use Rattle.bpf_text.proofs.TokenTexts.{unsigned-fits}
 use Rattle.bpf_text.proofs.WrittenNumbers.{whole, integer-of, number-of, inside-of, inside-number, unsigned-range, immediate-range, range-immediate, wide-range, range-wide, offset-range, range-offset}

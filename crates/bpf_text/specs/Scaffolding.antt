@@ -1,11 +1,9 @@
 -- Scaffolding: no public contract cites these modules. They say what private functions promise one another, so nobody has to believe them.
 pub mod Cuts
-pub mod Grammar
 pub mod Instructions
 pub mod Labels
 pub mod Lines
 pub mod Named
-pub mod Readings
 pub mod Rounds
 pub mod Slots
 pub mod Terms

@@ -12,7 +12,6 @@ use Rattle.bpf_text.specs.declared.read.term.Term.TheVariants.{Register, Number 
 use Rattle.bpf_text.specs.declared.read.term.Terms.{Terms}
 use Rattle.counted_io.specs.Numerals.{natural}
 use Rattle.bpf_text.specs.Characters.{is_name}
-use Rattle.bpf_text.specs.Scaffolding.Grammar.{one, two, three}
 use Rattle.bpf_text.specs.Scaffolding.Cuts.{trim, before, first_operand, other_operands}
 use Rattle.bpf_text.specs.Scaffolding.Tokens.{number_with}
 
@@ -60,6 +59,16 @@ term_of form.Signed s = option_map Num (signed_number s)
 term_of form.Source s = register_or (register_named s) s
 term_of form.Memory s = memory s
 term_of form.Name s = if is_name s then Some (Name s) else None
+
+-- The operands of an instruction: at most three.
+abbrev pub one : Term → Terms
+one a = record { first = a; second = Absent; third = Absent }
+
+abbrev pub two : Term → Term → Terms
+two a b = record { first = a; second = b; third = Absent }
+
+abbrev pub three : Term → Term → Term → Terms
+three a b c = record { first = a; second = b; third = c }
 
 abbrev pub terms_of : OperandForms → List ℕ → Option Terms
 terms_of Nothing [] = Some (one Absent)

@@ -2,9 +2,8 @@
 ghost use Rattle.std.specs.Prelude.{◌≡◌, ◌≤◌, length, List, ℕ, position};
 ghost use Rattle.std.specs.List.{position_or_len};
 ghost use Rattle.bpf_text.specs.Scaffolding.Terms.{is_sign, is_bracketed};
-ghost use Rattle.bpf_text.specs.Scaffolding.Grammar.{three};
 ghost use Rattle.bpf_text.specs.Scaffolding.Instructions.{register_in, unsigned_in, immediate_in, wide_in, source_in, memory_in, name_in, target_in};
-ghost use Rattle.bpf_text.specs.Scaffolding.Terms.{term_of, memory, displacement, base_and_displacement, terms_of};
+ghost use Rattle.bpf_text.specs.Scaffolding.Terms.{term_of, memory, displacement, base_and_displacement, three, terms_of};
 ghost use Rattle.bpf_text.specs.Scaffolding.Cuts.{first_operand, other_operands};
 
 use crate::read::cut::{find, is_name, sides, trim};

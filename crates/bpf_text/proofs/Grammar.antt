@@ -1,4 +1,4 @@
--- Scaffolding: how operands are read, in words of their pieces.
+-- How operands are read, in words of their pieces.
 use Rattle.std.specs.Prelude.{ℕ, ◌≡◌, ◌⊎◌, Bool, true, false, List, ◌∷◌, ◌++◌, codes}
 use Rattle.std.specs.List.{list_all}
 use Rattle.bpf_text.specs.declared.read.number.Number.{Number}
@@ -13,6 +13,7 @@ use Rattle.counted_io.specs.Lines.{is_blank}
 use Rattle.counted_io.specs.Numerals.{IsNatural}
 use Rattle.bpf_text.specs.Characters.{is_name}
 pub use Rattle.bpf_text.specs.Written.{IsRegister, Padded}
+pub use Rattle.bpf_text.specs.Scaffolding.Terms.{one, two, three}
 use Rattle.bpf_text.specs.Scaffolding.Tokens.{number_with}
 
 -- A number, directly behind a minus or without one.
@@ -39,16 +40,6 @@ IsOperand form.Source s (Num number) = IsSigned s number
 IsOperand form.Memory s (Memory base number) = (inside : List ℕ) × (s ≡ codes "[" ++ inside ++ codes "]") × ReadsInside inside base number
 IsOperand form.Name s (Name name) = (name ≡ s) × (is_name s ≡ true)
 IsOperand f s t = ⊥
-
--- The operands of an instruction: at most three.
-abbrev pub one : Term → Terms
-one a = record { first = a; second = Absent; third = Absent }
-
-abbrev pub two : Term → Term → Terms
-two a b = record { first = a; second = b; third = Absent }
-
-abbrev pub three : Term → Term → Term → Terms
-three a b c = record { first = a; second = b; third = c }
 
 -- Operands in their forms, with blanks around each, and a comma after each but the last.
 abbrev pub AreOperands : OperandForms → List ℕ → Terms → Type 0

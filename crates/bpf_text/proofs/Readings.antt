@@ -1,4 +1,4 @@
--- Scaffolding: what is read of a line, in words of its pieces.
+-- What is read of a line, in words of its pieces.
 use Rattle.std.specs.Prelude.{ℕ, ◌≡◌, ◌==◌, not, true, List, ◌++◌, Option, Some, None, Ok, Err}
 use Rattle.std.specs.List.{list_all}
 use Rattle.bpf_isa.specs.declared.mnemonic.Mnemonic.{Mnemonic}
@@ -10,7 +10,7 @@ use Rattle.counted_io.specs.Lines.{is_blank}
 use Rattle.bpf_text.specs.Characters.{is_text}
 use Rattle.bpf_text.specs.LineGrammar.{LineReading, IsComment, IsLabel, IsInstruction, HasStranger}
 use Rattle.bpf_text.specs.Mnemonics.{name_of}
-use Rattle.bpf_text.specs.Scaffolding.Grammar.{AreOperands}
+use Rattle.bpf_text.proofs.Grammar.{AreOperands}
 use Rattle.bpf_text.specs.Scaffolding.Instructions.{forms_of, insn_with, target_in}
 
 -- What stands behind a label: blanks alone; an instruction of a mnemonic, its operands and numbers in their ranges; or what is
