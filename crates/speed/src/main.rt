@@ -7,7 +7,7 @@
 mod sessions;
 
 use bpf_isa::{MapTable, Reg, check};
-use bpf_journal::{RingKeeper, Timeline};
+use bpf_journal::{RingKeeper, StopTest, Timeline};
 use bpf_machine::Cpu;
 use sessions::time_sessions;
 use std::alloc::Global;
@@ -221,14 +221,26 @@ fn run_back(rt: &HostRuntime, cpu: Cpu, steps: u64, sum: &mut u64) -> io::Result
     Ok(elapsed)
 }
 
-/// Steps, until the machine has ended or memory runs out. Answers how many were taken.
+/// Steps of one run, as a command takes them, until the machine has ended or memory runs out. Answers how many were taken.
 fn forward(timeline: &mut Timeline<RingKeeper>, steps: u64) -> u64 {
-    for step in 0..steps {
-        if timeline.step(false).is_err() {
-            return step;
-        }
+    if steps == 0 || timeline.cpu().status().has_ended() {
+        return 0;
     }
-    steps
+    timeline.run(steps, &Never {}).steps
+}
+
+/// A test by which no run stops.
+#[derive(Clone, Copy)]
+struct Never {}
+
+impl StopTest for Never {
+    ghost use Rattle.std.specs.Prelude.{false};
+
+    ghost test = { λ never replaced y. false };
+
+    fn holds(&self, _cpu: &Cpu, _replaced: bool) -> bool {
+        false
+    }
 }
 
 /// Takes steps back, until none is kept. Answers how many it took back.

@@ -1,7 +1,7 @@
 //! How fast commands run through a session: `continue` with breakpoints and watches that it never meets and without, `last-write` and
 //! `reverse-continue` over what it left, and `redo` of what that took back, beside the same steps through a timeline.
 
-use crate::{back, check_steps, failure, used};
+use crate::{back, check_steps, failure, forward, used};
 use bpf_isa::{MapTable, check};
 use bpf_journal::{RingKeeper, Timeline};
 use bpf_machine::Cpu;
@@ -157,7 +157,7 @@ fn through_timeline(rt: &HostRuntime, sum: &mut u64) -> io::Result<(u128, u128)>
     };
     let mut timeline = Timeline::start(cpu, keeper);
     let start = Instant::now(rt)?;
-    let taken = forward(&mut timeline);
+    let taken = forward(&mut timeline, STEPS);
     let forward_time = start.elapsed(rt)?.as_nanos();
     *sum = sum.wrapping_add(used(timeline.cpu()));
     let start = Instant::now(rt)?;
@@ -166,16 +166,6 @@ fn through_timeline(rt: &HostRuntime, sum: &mut u64) -> io::Result<(u128, u128)>
     *sum = sum.wrapping_add(used(timeline.cpu()));
     check_steps(rt, taken_back, STEPS)?;
     Ok((forward_time, back_time))
-}
-
-/// The steps of a command, the first of them marked. Answers how many were taken.
-fn forward(timeline: &mut Timeline<RingKeeper>) -> u64 {
-    for step in 0..STEPS {
-        if timeline.step(step == 0).is_err() {
-            return step;
-        }
-    }
-    STEPS
 }
 
 /// Nanoseconds of the commands of a session.
