@@ -14,6 +14,7 @@ pub mod Atomics
 pub mod Calls
 pub mod Helpers
 pub mod Next
+pub mod Sorts
 pub mod Fetched
 pub mod Codes
 pub mod Entries

@@ -14,6 +14,7 @@ mod map_layout;
 mod memory;
 mod moves;
 mod platform;
+mod sort;
 
 pub use bpf_entries::{ByteString, Entry, Fault, FrameBytes, Status};
 pub use change::Change;
@@ -25,3 +26,4 @@ pub use frame::Frame;
 pub use memory::Memory;
 pub use moves::Move;
 pub use platform::CONTEXT_LIMIT;
+pub use sort::Sort;
