@@ -7,22 +7,15 @@ use super::Cpu;
 use super::step::{fault, r0};
 use crate::alu::atomic::{combined, low, size_of};
 use crate::change::Change;
-use bpf_isa::{AtomicOp, Reg, Width};
+use bpf_isa::{Address, AtomicOp, Reg, Width};
 
 impl Cpu {
     /// An atomic operation on the number at an address.
-    pub(super) fn atomic(
-        &self,
-        op: AtomicOp,
-        width: Width,
-        dst: Reg,
-        src: Reg,
-        offset: i16,
-    ) -> Change
+    pub(super) fn atomic(&self, op: AtomicOp, width: Width, to: Address, src: Reg) -> Change
         requires { IsStart self.now.program (self.now.pc + 1) }
-        ensures { result ≡ spec.atomic self.now op width dst src offset }
+        ensures { result ≡ spec.atomic self.now op width to src }
     {
-        let address = self.address(dst, offset);
+        let address = self.address(to);
         let size = size_of(width);
         match self.access(address, size.len()) {
             Some(index) => {
