@@ -1,6 +1,6 @@
 //! Programs: what the checker says of them, and what can be read of an accepted one.
 use crate::programs::PROGRAMS;
-use crate::words::{bytes_of, check_text, stop_unless};
+use crate::stops::{bytes, check_text, row, stop_unless};
 use bpf_isa::{LoadFault, MapTable, Program, check};
 use std::alloc::{AllocError, Global};
 use std::process::Abort;
@@ -21,28 +21,31 @@ fn answer(rt: &impl Abort, alloc: Global, bytes: &[u8], maps: &MapTable) -> Stri
     checked(alloc, bytes, maps).ok().expect(rt, "no memory")
 }
 
-/// The maps of a list, `-` for none.
+/// The maps of a list.
 fn maps_of(list: &str) -> MapTable {
-    match list {
-        "-" => MapTable::empty(),
-        _ => MapTable::parse(list.as_bytes()).unwrap_or(MapTable::empty()),
+    MapTable::parse(list.as_bytes()).unwrap_or(MapTable::empty())
+}
+
+/// A program, and its maps where it has some.
+fn program_of(input: &str) -> (&str, MapTable) {
+    match input.split_once(" with ") {
+        Some((program, list)) => (program, maps_of(list)),
+        None => (input, MapTable::empty()),
     }
 }
 
 /// Stops unless the checker says of a program what its row wants.
-fn check_program(rt: &impl Abort, alloc: Global, row: &str) {
-    let (want, rest) = row.split_once("; ").expect(rt, "no answer");
-    let (list, rest) = rest.split_once("; ").expect(rt, "no maps");
-    let (program, _) = rest.split_once("; ").expect(rt, "no name");
-    let bytes = bytes_of(rt, alloc, program);
-    let found = answer(rt, alloc, &bytes, &maps_of(list));
-    check_text(rt, found.as_str(), want, row);
+fn check_program(rt: &impl Abort, alloc: Global, line: &str) {
+    let row = row(rt, line);
+    let (program, maps) = program_of(row.input);
+    let found = answer(rt, alloc, &bytes(rt, alloc, program), &maps);
+    check_text(rt, found.as_str(), row.expected, line);
 }
 
 /// The same of each row.
 fn check_programs(rt: &impl Abort, alloc: Global, table: &str) {
-    for row in table.lines() {
-        check_program(rt, alloc, row);
+    for line in table.lines() {
+        check_program(rt, alloc, line);
     }
 }
 
@@ -69,10 +72,10 @@ fn exits(rt: &impl Abort, alloc: Global, count: usize) -> Vec<u8> {
 #[test]
 fn lengths(rt: HostRuntime) {
     check_bytes(&rt, rt.alloc(), &[], "C1", "no bytes");
-    let mut bytes = exits(&rt, rt.alloc(), 65535);
-    check_bytes(&rt, rt.alloc(), &bytes, "ok", "65,535 slots");
-    bytes.push(0).ok().expect(&rt, "no memory");
-    check_bytes(&rt, rt.alloc(), &bytes, "C2", "one byte more");
+    let mut program = exits(&rt, rt.alloc(), 65535);
+    check_bytes(&rt, rt.alloc(), &program, "ok", "65,535 slots");
+    program.push(0).ok().expect(&rt, "no memory");
+    check_bytes(&rt, rt.alloc(), &program, "C2", "one byte more");
 }
 
 /// Stops unless an instruction starts at a slot, or none does.
@@ -83,7 +86,7 @@ fn check_start(rt: &impl Abort, program: &Program, slot: usize, want: bool) {
 
 #[test]
 fn getters(rt: HostRuntime) {
-    let bytes = bytes_of(
+    let bytes = bytes(
         &rt,
         rt.alloc(),
         "1800000001000000 0000000002000000 9500000000000000",

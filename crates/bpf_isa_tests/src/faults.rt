@@ -1,5 +1,5 @@
 //! The numbers and texts of the faults of programs and of map lists.
-use crate::words::{check_text, stop_unless};
+use crate::stops::{check_text, stop_unless};
 use bpf_isa::{LoadFault, MapFault, PieceFault, WordFault};
 use std::alloc::{AllocError, Global};
 use std::process::Abort;

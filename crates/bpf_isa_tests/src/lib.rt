@@ -12,8 +12,6 @@ mod programs;
 #[cfg(test)]
 mod refusals;
 #[cfg(test)]
-mod rendering;
-#[cfg(test)]
-mod vectors;
+mod stops;
 #[cfg(test)]
 mod words;

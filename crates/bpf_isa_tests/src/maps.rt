@@ -1,39 +1,40 @@
 //! Lists of maps, and tables that maps are added to. Expected values are worked out from the definitions of the faults.
-use crate::words::{check_text, stop_unless};
+use crate::stops::{check_text, stop_unless};
 use bpf_isa::MapTable;
+use bpf_testing::parts_of;
 use std::alloc::{AllocError, Global};
 use std::process::Abort;
 
-/// The maps of a list, or the fault, and the list.
+/// A list, and its maps or the fault.
 const MAP_LISTS: &str = "\
-8x2; 8x2\n\
-256x256; 256x256\n\
-8x2 1x4096; 0008x00000000000000000002,1x4096\n\
-M1; 0x1\n\
-M1; 257x4097\n\
-M1; 99999999999x1\n\
-M1; 4294967304x2\n\
-M1; 8x2,0x0\n\
-M2; 1x0\n\
-M2; 1x4097\n\
-M2; 1x4294967297\n\
-M3; 256x257\n\
-M3; 17x4096\n\
-M3; 8x2,256x257,0x0\n\
-M4; 1x1,1x1,1x1,1x1,1x1,1x1,1x1,1x1,1x1,1x1,1x1,1x1,1x1,1x1,1x1,1x1,1x1\n\
-M5; \n\
-M5; 8x2,\n\
-M5; ,8x2\n\
-M5; 0x0,8\n\
-M5; 8x\n\
-M5; x2\n\
-M5; 8x2x2\n\
-M5; 8X2\n\
-M5; 8x-2\n\
-M5; +8x2\n\
-M5; 8 x2\n\
-M5; 8x2;8x2\n\
-M5; ax2\n\
+8x2 | 8x2
+256x256 | 256x256
+0008x00000000000000000002,1x4096 | 8x2 1x4096
+0x1 | M1
+257x4097 | M1
+99999999999x1 | M1
+4294967304x2 | M1
+8x2,0x0 | M1
+1x0 | M2
+1x4097 | M2
+1x4294967297 | M2
+256x257 | M3
+17x4096 | M3
+8x2,256x257,0x0 | M3
+1x1,1x1,1x1,1x1,1x1,1x1,1x1,1x1,1x1,1x1,1x1,1x1,1x1,1x1,1x1,1x1,1x1 | M4
+ | M5
+8x2, | M5
+,8x2 | M5
+0x0,8 | M5
+8x | M5
+x2 | M5
+8x2x2 | M5
+8X2 | M5
+8x-2 | M5
++8x2 | M5
+8 x2 | M5
+8x2;8x2 | M5
+ax2 | M5
 ";
 
 /// The maps of a list with a blank between them, or the fault.
@@ -54,7 +55,7 @@ fn parsed(alloc: Global, list: &str) -> Result<String, AllocError> {
 
 /// Stops unless a list is read as its row wants.
 fn check_list(rt: &impl Abort, alloc: Global, row: &str) {
-    let (want, list) = row.split_once("; ").expect(rt, "no answer");
+    let (list, want) = parts_of(row).expect(rt, "no answer");
     let text = parsed(alloc, list).ok().expect(rt, "no memory");
     check_text(rt, text.as_str(), want, row);
 }

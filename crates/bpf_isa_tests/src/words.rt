@@ -1,38 +1,49 @@
-//! Words: what each decodes to, and that it is spelled so again.
+//! Words: what the instruction of each does, which words are refused, and how many opcodes there are. (What each says is in its text:
+//! `bpf_text_tests` holds the same words against their texts.)
 use crate::refusals::REFUSALS;
-use crate::rendering::rendered;
-use crate::vectors::{EDGES, FORMS};
-use bpf_isa::{Reg, SignedSize, Size, decode, encode};
-use std::alloc::Global;
+use crate::stops::{bytes, check_text, row, stop_unless};
+use bpf_isa::{Insn, Reg, SignedSize, Size, decode};
+use bpf_testing::{EDGES, INSTRUCTIONS};
+use std::alloc::{AllocError, Global};
 use std::process::Abort;
 
-/// The bytes of hexadecimal words with blanks between them.
-pub fn bytes_of(rt: &impl Abort, alloc: Global, text: &str) -> Vec<u8> {
-    let mut bytes = Vec::new(alloc);
-    for word in text.split(' ') {
-        append(rt, alloc, &mut bytes, word);
+/// Words in slot 0 that lead as far as they can, and one with a slot behind it that is no part of it.
+const FAR: &str = "\
+a condition, 32767 slots on | 2d21ff7f00000000 | to 32768
+a condition, 32768 slots back | 2d21008000000000 | to -32767
+a jump by 0x102 | 0500020100000000 | to 259, stops
+a jump, 32768 slots back | 0500008000000000 | to -32767, stops
+a long jump, 2^31 - 1 slots on | 06000000ffffff7f | to 2147483648, stops
+a long jump, 2^31 slots back | 0600000000000080 | to -2147483647, stops
+a local call, 2^31 slots back | 8510000000000080 | to -2147483647
+an exit before another slot | 9500000000000000 ffffffffffffffff | stops
+";
+
+/// Which register an instruction replaces.
+fn written(alloc: Global, insn: &Insn) -> Result<String, AllocError> {
+    match insn.destination() {
+        Some(register) => format!(in alloc; ", writes r{}", register.number()),
+        None => format!(in alloc; ""),
     }
-    bytes
 }
 
-/// Puts the bytes of a word behind others.
-fn append(rt: &impl Abort, alloc: Global, bytes: &mut Vec<u8>, word: &str) {
-    let piece = hex::decode(alloc, word).ok().expect(rt, "no digits");
-    bytes.extend_from_slice(&piece).ok().expect(rt, "no memory");
+/// Which slot an instruction in slot 0 names.
+fn named(alloc: Global, insn: &Insn) -> Result<String, AllocError> {
+    match insn.target(0) {
+        Some(slot) => format!(in alloc; ", to {slot}"),
+        None => format!(in alloc; ""),
+    }
 }
 
-/// Stops unless a text is the one that is wanted of a row.
-pub fn check_text(rt: &impl Abort, found: &str, wanted: &str, row: &str) {
-    assert_eq!(rt; found, wanted, "{row}");
+/// What an instruction in slot 0 does, with a comma before each piece.
+fn effects(alloc: Global, insn: &Insn) -> Result<String, AllocError> {
+    let (written, named) = (written(alloc, insn)?, named(alloc, insn)?);
+    let stops = if insn.falls_through() { "" } else { ", stops" };
+    format!(in alloc; "{written}{named}{stops}")
 }
 
-/// Stops unless something holds.
-pub fn stop_unless(rt: &impl Abort, holds: bool, what: &str) {
-    assert!(rt; holds, "{what}");
-}
-
-/// The instruction of one or two slots, or the number of the fault.
-fn decoded(rt: &impl Abort, alloc: Global, bytes: &[u8]) -> String {
+/// What the instruction of one or two slots does, or the number of the fault.
+fn told(rt: &impl Abort, alloc: Global, bytes: &[u8]) -> String {
     let first = bytes.first_chunk().copied().expect(rt, "no slot");
     let second = if bytes.len() > 8 {
         bytes.last_chunk().copied()
@@ -40,21 +51,34 @@ fn decoded(rt: &impl Abort, alloc: Global, bytes: &[u8]) -> String {
         None
     };
     let text = match decode(first, second) {
-        Ok(insn) => rendered(alloc, insn),
-        Err(fault) => format!(in alloc; "C{}", fault.number()),
+        Ok(insn) => effects(alloc, &insn),
+        Err(fault) => format!(in alloc; ", C{}", fault.number()),
     };
     text.ok().expect(rt, "no memory")
 }
 
-/// Whether the bytes spell an instruction, and it is spelled so.
-fn is_spelled(bytes: &[u8]) -> bool {
-    match bytes.first_chunk().copied() {
-        Some(first) => match decode(first, bytes.last_chunk().copied()) {
-            Ok(insn) => encode(insn).as_slice() == bytes,
-            Err(_) => false,
-        },
-        None => false,
+/// Stops unless a word does what its row wants, or is refused so.
+fn check_word(rt: &impl Abort, alloc: Global, line: &str) {
+    let row = row(rt, line);
+    let told = told(rt, alloc, &bytes(rt, alloc, row.input));
+    let found = told.as_str().strip_prefix(", ").unwrap_or("-");
+    check_text(rt, found, row.expected, line);
+}
+
+/// The same of each row, of which there are so many.
+fn check_words(rt: &impl Abort, alloc: Global, table: &str, count: usize) {
+    for line in table.lines() {
+        check_word(rt, alloc, line);
     }
+    stop_unless(rt, table.lines().count() == count, "rows");
+}
+
+#[test]
+fn words(rt: HostRuntime) {
+    check_words(&rt, rt.alloc(), INSTRUCTIONS, 160);
+    check_words(&rt, rt.alloc(), EDGES, 14);
+    check_words(&rt, rt.alloc(), FAR, 8);
+    check_words(&rt, rt.alloc(), REFUSALS, 88);
 }
 
 /// Whether a number up to 10 is that of a register, and no other.
@@ -70,39 +94,6 @@ fn registers(rt: HostRuntime) {
     for number in 0..=255u8 {
         stop_unless(&rt, is_register(number), "a register");
     }
-}
-
-/// Stops unless a word says what its row wants, and is spelled so.
-fn check_word(rt: &impl Abort, alloc: Global, row: &str) {
-    let (word, want) = row.split_once(' ').expect(rt, "no blank");
-    let bytes = bytes_of(rt, alloc, word);
-    check_text(rt, decoded(rt, alloc, &bytes).as_str(), want, row);
-    stop_unless(rt, is_spelled(&bytes), row);
-}
-
-/// The same of each row.
-fn check_words(rt: &impl Abort, alloc: Global, table: &str) {
-    for row in table.lines() {
-        check_word(rt, alloc, row);
-    }
-}
-
-#[test]
-fn forms(rt: HostRuntime) {
-    check_words(&rt, rt.alloc(), FORMS);
-    stop_unless(&rt, FORMS.lines().count() == 159, "forms");
-}
-
-#[test]
-fn edges(rt: HostRuntime) {
-    check_words(&rt, rt.alloc(), EDGES);
-}
-
-#[test]
-fn second_slot_of_an_exit(rt: HostRuntime) {
-    let bytes = bytes_of(&rt, rt.alloc(), "9500000000000000 ffffffffffffffff");
-    let text = decoded(&rt, rt.alloc(), &bytes);
-    check_text(&rt, text.as_str(), "Exit stops", "exit");
 }
 
 #[test]
@@ -135,24 +126,4 @@ fn opcodes_with(fault: u8) -> usize {
 fn every_opcode(rt: HostRuntime) {
     stop_unless(&rt, opcodes_with(0) == 116, "known");
     stop_unless(&rt, opcodes_with(4) == 140, "unknown");
-}
-
-/// Stops unless a word is refused as its row wants.
-fn check_refusal(rt: &impl Abort, alloc: Global, row: &str) {
-    let (want, rest) = row.split_once(' ').expect(rt, "no fault");
-    let (word, _) = rest.split_once(' ').expect(rt, "no name");
-    let bytes = bytes_of(rt, alloc, word);
-    check_text(rt, decoded(rt, alloc, &bytes).as_str(), want, row);
-}
-
-/// The same of each row.
-fn check_refusals(rt: &impl Abort, alloc: Global, table: &str) {
-    for row in table.lines() {
-        check_refusal(rt, alloc, row);
-    }
-}
-
-#[test]
-fn refused_words(rt: HostRuntime) {
-    check_refusals(&rt, rt.alloc(), REFUSALS);
 }

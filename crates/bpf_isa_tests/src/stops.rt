@@ -1,0 +1,24 @@
+//! What a test of this crate stops at.
+use bpf_testing::{Row, row_of};
+use std::alloc::Global;
+use std::process::Abort;
+
+/// The parts of a row.
+pub fn row<'a>(rt: &impl Abort, line: &'a str) -> Row<'a> {
+    row_of(line).expect(rt, "no row")
+}
+
+/// The bytes of hexadecimal words.
+pub fn bytes(rt: &impl Abort, alloc: Global, words: &str) -> Vec<u8> {
+    bpf_testing::bytes_of(alloc, words).expect(rt, "no bytes")
+}
+
+/// Stops unless a text is the one that is wanted of a row.
+pub fn check_text(rt: &impl Abort, found: &str, wanted: &str, row: &str) {
+    assert_eq!(rt; found, wanted, "{row}");
+}
+
+/// Stops unless something holds.
+pub fn stop_unless(rt: &impl Abort, holds: bool, what: &str) {
+    assert!(rt; holds, "{what}");
+}
