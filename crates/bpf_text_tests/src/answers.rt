@@ -1,6 +1,7 @@
 //! What a listing is assembled to, and how a program is listed.
-use bpf_isa::{MapTable, check};
-use bpf_text::{assemble, disassemble};
+use bpf_isa::{MapTable, check, decode};
+use bpf_text::{assemble, disassemble, write_insn};
+use counted_io::Counted;
 use std::alloc::Global;
 use std::test::Fail;
 
@@ -38,4 +39,17 @@ fn three_maps() -> MapTable {
         let _added = maps.add(8, 2).is_ok();
     }
     maps
+}
+
+// The text of the instruction in slot 0 that a word spells.
+pub fn written(alloc: Global, word: &str) -> Result<Vec<u8>, Fail> {
+    let bytes = hex::decode(alloc, word)?;
+    let first = bytes.first_chunk().copied().ok_or("no slot")?;
+    let insn = decode(first, bytes.last_chunk().copied())
+        .ok()
+        .ok_or("no word")?;
+    let mut text = Vec::new(alloc);
+    let mut writer = Counted::new(&mut text);
+    write_insn(&mut writer, 0, insn).ok().ok_or("not written")?;
+    Ok(text)
 }

@@ -13,5 +13,3 @@ mod passing;
 mod rows;
 #[cfg(test)]
 mod texts;
-#[cfg(test)]
-mod words;

@@ -1,7 +1,7 @@
 //! Listings and their answers, and programs and their listings.
-use crate::answers::{answer, listed};
+use crate::answers::{answer, listed, written};
 use crate::rows::{LINES, MEMORY, MNEMONICS, NAMES, NUMBERS};
-use crate::words::WORDS;
+use bpf_testing::{EDGES, INSTRUCTIONS, row_of};
 use bpf_text::{AsmFault, LineFault, assemble};
 use std::alloc::{AllocError, Global};
 use std::test::Fail;
@@ -25,43 +25,38 @@ fn answers_by_the_rules(rt: HostRuntime) -> Result<(), Fail> {
     Ok(())
 }
 
-// A row of words with the word that was found in place of the one that it has; what follows is `exit`.
-fn assembled(alloc: Global, row: &str) -> Result<String, Fail> {
-    let text = row.split_once(' ').ok_or("no blank")?.1;
+// The word that the text of an instruction is assembled to; what follows is `exit`.
+fn assembled(alloc: Global, text: &str) -> Result<String, Fail> {
     let listing = format!(in alloc; "L0: {text}\nexit")?;
     let found = answer(alloc, listing.as_str())?;
     let word = found
         .as_str()
         .strip_suffix("9500000000000000")
         .ok_or("no exit")?;
-    Ok(format!(in alloc; "{word} {text}")?)
-}
-
-// The listing of a row of words, followed by `exit`.
-fn listing(alloc: Global, row: &str) -> Result<String, Fail> {
-    let text = row.split_once(' ').ok_or("no blank")?.1;
-    let label = if text.contains("L0") { "L0:\n" } else { "" };
-    Ok(format!(in alloc; "{label}{text}\nexit\n")?)
+    Ok(format!(in alloc; "{word}")?)
 }
 
 // Each mnemonic in each form.
 #[test]
-fn assembles_each_mnemonic(rt: HostRuntime) -> Result<(), Fail> {
-    for row in WORDS.lines() {
-        let found = assembled(rt.alloc(), row)?;
-        assert_eq!(rt; found.as_str(), row);
+fn assembles_each_instruction(rt: HostRuntime) -> Result<(), Fail> {
+    for table in [INSTRUCTIONS, EDGES] {
+        for line in table.lines() {
+            let row = row_of(line).ok_or("no row")?;
+            let found = assembled(rt.alloc(), row.name)?;
+            assert_eq!(rt; found.as_str(), row.input, "{line}");
+        }
     }
     Ok(())
 }
 
 #[test]
-fn lists_each_mnemonic(rt: HostRuntime) -> Result<(), Fail> {
-    for row in WORDS.lines() {
-        let word = row.split_once(' ').ok_or("no blank")?.0;
-        let program = format!(in rt.alloc(); "{word}9500000000000000")?;
-        let found = listed(rt.alloc(), program.as_str())?;
-        let wanted = listing(rt.alloc(), row)?;
-        assert_eq!(rt; found.as_slice(), wanted.as_bytes(), "{row}");
+fn writes_each_instruction(rt: HostRuntime) -> Result<(), Fail> {
+    for table in [INSTRUCTIONS, EDGES] {
+        for line in table.lines() {
+            let row = row_of(line).ok_or("no row")?;
+            let found = written(rt.alloc(), row.input)?;
+            assert_eq!(rt; found.as_slice(), row.name.as_bytes(), "{line}");
+        }
     }
     Ok(())
 }
