@@ -116,6 +116,23 @@ stands_apart() {
 # page FILE: the page with its tables as they are to be.
 page() {
     awk -v work="$work" '
+        # those of the repository that so many crates stand on, themselves included, in the order of crates.txt
+        function closure(names,    wanted, n, words, i, j, m, below, text) {
+            n = split(names, words, " ")
+            for (i = 1; i <= n; i++) wanted[words[i]] = 1
+            for (i = count; i >= 1; i--) if (wanted[order[i]]) {
+                m = split(uses[order[i]], below, " ")
+                for (j = 1; j <= m; j++) wanted[below[j]] = 1
+            }
+            for (i = 1; i <= count; i++) if (wanted[order[i]]) text = text (text == "" ? "" : " ") order[i]
+            return text
+        }
+        BEGIN {
+            while ((getline line < "crates.txt") > 0) {
+                sub(/#.*/, "", line)
+                if (split(line, words, ":") > 1) { order[++count] = words[1]; uses[words[1]] = words[2] }
+            }
+        }
         /^<!-- docs\/tables\.sh: end -->$/ { inside = 0 }
         !inside { print }
         /^<!-- docs\/tables\.sh: (crates|files) -->$/ {
@@ -131,7 +148,7 @@ page() {
                 crates = crates " " words[2]
             }
             close($4)
-            print "A line of `crates.txt` for it: `yours:" crates "`.\n"
+            print "Its line of `crates.txt`: `yours:" crates "`. The folders to copy: `" closure(crates) "`.\n"
             print "```rust"
             while ((getline line < $4) > 0) print line
             close($4)
