@@ -81,7 +81,8 @@ suite() {
     sh examples/suite/test.sh "$work/wrong.s" > "$work/out" 2>&1 && fault 'examples/suite/test.sh passes a wrong program'
 }
 
-# shell: bpfdb-shell knows short names and comments, and an empty line is the last command again. The replies are those of examples/README.md.
+# shell: bpfdb-shell knows short names and comments, and an empty line is the last command again. Where bpfdb refuses the program it reads no line.
+# The replies are those of examples/README.md.
 shell() {
     cd examples/fault || exit 1
     # shellcheck disable=SC2046
@@ -92,6 +93,29 @@ shell() {
         '1 back; done; at 8: ldxdw r1, [r10-8]' 'refused Q1: unknown command' > "$work/wanted-out"
     printf '> > > > > > ' > "$work/wanted-err"
     expect 'share/bpfdb-shell' 0 "$work/wanted-out" "$work/wanted-err"
+    sh share/bpfdb-shell missing < /dev/null > "$work/out" 2> "$work/err"
+    status=$?
+    echo 'cannot read missing' > "$work/wanted-err"
+    expect 'share/bpfdb-shell without a program' 2 /dev/null "$work/wanted-err"
+    short_names
+}
+
+# played NAME: what a session of bpfdb-shell answers to a command of this name, with words and without.
+played() {
+    printf 'stepi 9\n%s\n%s 1\n%s 0 2\n%s 0x2000001f8\n' "$1" "$1" "$1" "$1" |
+        sh share/bpfdb-shell --listing -m examples/fault/context.bin examples/fault/program.s 2> /dev/null
+}
+
+# short_names: each short name in the help of bpfdb-shell does what the command before it does.
+short_names() {
+    sh share/bpfdb-shell --help | grep -o -E '[a-z-]+( [a-z]+)? \([a-z, ]+\)' |
+        awk -F ' *[(]' '{ n = split($2, names, /[,) ]+/); for (i = 1; i < n; i++) print $1 "|" names[i] }' > "$work/names"
+    while IFS='|' read -r long short; do
+        played "$long" > "$work/wanted-out"
+        played "$short" > "$work/out"
+        cmp -s "$work/wanted-out" "$work/out" || fault "share/bpfdb-shell: $short isn't $long"
+    done < "$work/names"
+    [ "$(wc -l < "$work/names")" -ge 20 ] || fault 'share/bpfdb-shell --help tells no short names'
 }
 
 # manual: each command behind '$ ' in the examples of docs/COMMANDS.md prints the lines that follow it there. They are run in one

@@ -148,8 +148,8 @@ grammar() {
     ' crates/bpfdb_commands/specs/Commands.antt
 }
 
-# commands: those of the grammar are the rows of docs/COMMANDS.md, in the same order, and the words of README's table and of the table in the
-# help of `bpfdb debug`, in any order.
+# commands: those of the grammar are the rows of docs/COMMANDS.md, in the same order, and the words of README's table, of the table in the
+# help of `bpfdb debug` and of the one in bpfdb-shell, in any order.
 commands() {
     grammar > "$work/commands"
     [ -s "$work/commands" ] || fault 'crates/bpfdb_commands/specs/Commands.antt has no commands'
@@ -162,6 +162,8 @@ commands() {
     awk '/^  [a-z ]*[a-z]   */ { table = 1 } table && /^$/ { exit } table { sub(/^  ([a-z]+ )*[a-z]*   */, ""); gsub(/,? or |, */, "\n"); print }' \
         tests/program/help/debug.txt | sed 's/^ *//' | grep . | sort > "$work/found"
     same_words tests/program/help/debug.txt commands
+    sed -n '/^forward  /,/^end  /p' share/bpfdb-shell | sed -E 's/^([a-z]+ )*[a-z]* {2,}//; s/ \([^)]*\)//g; s/,$//; s/, | or /\n/g' | sort > "$work/found"
+    same_words share/bpfdb-shell commands
 }
 
 # same_words PAGE NAME: fails where the words of $work/found, which PAGE has, aren't those of $work/sorted.
