@@ -1,6 +1,6 @@
 #!/bin/sh
 # The examples, through the built program (or the one that BPFDB names): each script gives its replies, each program assembles
-# and disassembles to itself, the example of a test suite passes and can fail, and the examples in docs/COMMANDS.md print what
+# and disassembles to itself, the example of a test suite passes and can fail, and the examples in docs/COMMANDS.md and examples/README.md print what
 # they show. What is wrong is a line each.
 set -u
 cd "$(dirname "$0")/.." || exit 1
@@ -25,7 +25,7 @@ first_difference() {
         NR == FNR { wanted[FNR] = $0; n = FNR; next }
         { m = FNR }
         $0 != wanted[FNR] || FNR > n { printf "line %d is \"%s\", and not \"%s\"", FNR, $0, wanted[FNR]; told = 1; exit }
-        END { if (!told) printf "it ends behind line %d of %d", m, n }
+        END { if (!told) printf "it ends after line %d of %d", m, n }
     ' "$1" "$2"
 }
 
@@ -118,25 +118,35 @@ short_names() {
     [ "$(wc -l < "$work/names")" -ge 20 ] || fault 'share/bpfdb-shell --help tells no short names'
 }
 
-# manual: each command behind '$ ' in the examples of docs/COMMANDS.md prints the lines that follow it there. They are run in one
-# folder, in order.
-manual() {
-    mkdir "$work/manual" "$work/bin" || exit 1
-    ln -s "$BPFDB" "$work/bin/bpfdb" || exit 1
-    awk -v work="$work" '
-        /^## / { inside = $0 == "## EXAMPLES" }
+# shown PAGE SECTION: each command after '$ ' in a section of a page prints the lines that follow it there, and 'cat FILE' shows the file that the
+# commands after it take. They are run in one folder, in order.
+shown() {
+    rm -rf "$work/shown"
+    mkdir "$work/shown" "$work/shown/files" || exit 1
+    awk -v section="## $2" -v work="$work/shown" '
+        /^## / { inside = $0 == section }
         /^```/ { block = !block; next }
-        inside && block && /^\$ / { n++; print substr($0, 3) > (work "/command-" n); printf "" > (work "/shown-" n); next }
-        inside && block { print > (work "/shown-" n) }
-    ' docs/COMMANDS.md
+        inside && block && /^\$ / { n++; print substr($0, 3) > (work "/command-" n); printf "" > (work "/text-" n); next }
+        inside && block { print > (work "/text-" n) }
+    ' "$1"
     n=1
-    while [ -f "$work/command-$n" ]; do
-        (cd "$work/manual" && PATH=$work/bin:$PATH && export PATH && sh "$work/command-$n") > "$work/out" 2>&1
-        cmp -s "$work/shown-$n" "$work/out" ||
-            fault "docs/COMMANDS.md: '$(cat "$work/command-$n")': $(first_difference "$work/shown-$n" "$work/out")"
+    while [ -f "$work/shown/command-$n" ]; do
+        command=$(cat "$work/shown/command-$n")
+        case $command in 'cat '*.c) cp "$work/shown/text-$n" "$work/shown/files/${command#cat }" ;; esac
+        (cd "$work/shown/files" && PATH=$work/bin:$PATH && export PATH && sh "$work/shown/command-$n") > "$work/out" 2>&1
+        cmp -s "$work/shown/text-$n" "$work/out" || fault "$1, '$2': '$command': $(first_difference "$work/shown/text-$n" "$work/out")"
         n=$((n + 1))
     done
-    [ "$n" -gt 1 ] || fault 'docs/COMMANDS.md has no examples'
+    [ "$n" -gt 1 ] || fault "$1 has no examples in '$2'"
+}
+
+# pages: the examples of the manual, and those on words and, where there is a clang for BPF, on C.
+pages() {
+    mkdir "$work/bin" || exit 1
+    ln -s "$BPFDB" "$work/bin/bpfdb" || exit 1
+    shown docs/COMMANDS.md EXAMPLES
+    if command -v xxd > /dev/null; then shown examples/README.md 'From words'; fi
+    if echo | clang -target bpf -x c -c -o /dev/null - 2> /dev/null; then shown examples/README.md 'From C'; fi
 }
 
 for folder in examples/*/; do
@@ -158,6 +168,6 @@ plain suite 0 0x1 ''
 plain wrong-byte 0 0x0 ''
 suite
 shell
-manual
+pages
 [ ! -s "$work/faults" ] || exit 1
 echo "tests/examples.sh: $count examples passed"
