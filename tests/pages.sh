@@ -1,7 +1,8 @@
 #!/bin/sh
 # What README.md and docs/ say of the repository, held against it: the tables made from the files, the files, functions,
 # clauses and definitions that a page names, the sessions that README and examples/README.md show, the C of docs/GDB.md, the commands and refusals of
-# the manual and its man page, the commands and options of help, the wrong bodies of must-fail/, and the toolchain that README and `bpfdb --version` name.
+# the manual and its man page, the commands and options of help, the commands of bpfdb-shell, the wrong bodies of must-fail/, and the toolchain
+# that README and `bpfdb --version` name.
 set -u
 cd "$(dirname "$0")/.." || exit 1
 work=$(mktemp -d) || exit 1
