@@ -1,7 +1,7 @@
 //! Addresses: which have a byte, and which the program may access. Expected values are those of docs/MACHINE.md.
 use crate::machines::{EXIT, entry_text, machine, step, with_maps};
-use crate::rows::{check_count, check_text, parts, stop_unless, three, two};
-use crate::tables::{Table, check};
+use crate::rows::{check_count, check_text, parts, row, stop_unless, three, two};
+use crate::tables::check;
 use bpf_machine::{ByteString, Cpu, Edit};
 use std::alloc::Global;
 use std::process::Abort;
@@ -9,80 +9,80 @@ use std::process::Abort;
 // A run of bytes; its address and how many bytes; whether it is present and whether the program may access it at depth 0.
 // The context has 8 bytes.
 const RUNS: &str = "\
-context, first byte; 0x100000000 1; yes yes
-context, the byte before; 0xffffffff 1; no no
-context, last byte; 0x100000007 1; yes yes
-context, the byte after; 0x100000008 1; no no
-context, whole; 0x100000000 8; yes yes
-context, one more; 0x100000000 9; no no
-context, whole and one before; 0xffffffff 9; no no
-context, first two; 0x100000000 2; yes yes
-context, first four; 0x100000000 4; yes yes
-context, first one and one before; 0xffffffff 2; no no
-context, first three and one before; 0xffffffff 4; no no
-context, first seven and one before; 0xffffffff 8; no no
-context, last two; 0x100000006 2; yes yes
-context, last four; 0x100000004 4; yes yes
-context, last three and one after; 0x100000005 4; no no
-context, last and one after; 0x100000007 2; no no
-context, 8 over the end; 0x100000001 8; no no
-context, 256 over the end; 0x100000000 256; no no
-frame 0, first byte; 0x200000000 1; yes yes
-frame 0, the byte before; 0x1ffffffff 1; no no
-frame 0, last byte; 0x2000001ff 1; yes yes
-frame 0, the byte after; 0x200000200 1; no no
-frame 0, whole; 0x200000000 512; yes yes
-frame 0, one more; 0x200000000 513; no no
-frame 0, whole and one before; 0x1ffffffff 513; no no
-frame 0, last two; 0x2000001fe 2; yes yes
-frame 0, last four; 0x2000001fc 4; yes yes
-frame 0, last eight; 0x2000001f8 8; yes yes
-frame 0, last one and one after; 0x2000001ff 2; no no
-frame 0, last three and one after; 0x2000001fd 4; no no
-frame 0, last seven and one after; 0x2000001f9 8; no no
-between frame 0 and frame 1; 0x2000003ff 1; no no
-frame 0 to frame 1; 0x200000000 1025; no no
-frame 0, first two; 0x200000000 2; yes yes
-frame 0, first four; 0x200000000 4; yes yes
-frame 0, first eight; 0x200000000 8; yes yes
-frame 0, first one and one before; 0x1ffffffff 2; no no
-frame 0, first three and one before; 0x1ffffffff 4; no no
-frame 0, first seven and one before; 0x1ffffffff 8; no no
-frame 1, first byte; 0x200000400 1; yes no
-frame 1, the byte before; 0x2000003ff 1; no no
-frame 1, last byte; 0x2000005ff 1; yes no
-frame 1, the byte after; 0x200000600 1; no no
-frame 7, first byte; 0x200001c00 1; yes no
-frame 7, the byte before; 0x200001bff 1; no no
-frame 7, first two; 0x200001c00 2; yes no
-frame 7, first four; 0x200001c00 4; yes no
-frame 7, first eight; 0x200001c00 8; yes no
-frame 7, first one and one before; 0x200001bff 2; no no
-frame 7, first three and one before; 0x200001bfd 4; no no
-frame 7, first seven and one before; 0x200001bf9 8; no no
-frame 7, last byte; 0x200001dff 1; yes no
-frame 7, last two; 0x200001dfe 2; yes no
-frame 7, last four; 0x200001dfc 4; yes no
-frame 7, last eight; 0x200001df8 8; yes no
-frame 7, last one and one after; 0x200001dff 2; no no
-frame 7, last three and one after; 0x200001dfd 4; no no
-frame 7, last seven and one after; 0x200001df9 8; no no
-frame 7, the byte after; 0x200001e00 1; no no
-frame 7, whole; 0x200001c00 512; yes no
-frame 7, one more; 0x200001c00 513; no no
-frame 8; 0x200002000 1; no no
-the byte before map 0; 0x2ffffffff 1; no no
-map 0; 0x300000000 1; no no
-token of map 0; 0x400000000 1; no no
-address 0; 0 1; no no
-address 8; 8 8; no no
-last address; -1 1; no no
-over the last address; -1 2; no no
-last eight addresses; -8 8; no no
-low half of the context's address; 0 8; no no
-context and frame; 0x100000000 0x100000001; no no
-all bytes from the context on; 0x100000000 -1; no no
-all bytes from frame 0 on; 0x200000000 -1; no no
+context, first byte | 0x100000000 1 | yes yes
+context, the byte before | 0xffffffff 1 | no no
+context, last byte | 0x100000007 1 | yes yes
+context, the byte after | 0x100000008 1 | no no
+context, whole | 0x100000000 8 | yes yes
+context, one more | 0x100000000 9 | no no
+context, whole and one before | 0xffffffff 9 | no no
+context, first two | 0x100000000 2 | yes yes
+context, first four | 0x100000000 4 | yes yes
+context, first one and one before | 0xffffffff 2 | no no
+context, first three and one before | 0xffffffff 4 | no no
+context, first seven and one before | 0xffffffff 8 | no no
+context, last two | 0x100000006 2 | yes yes
+context, last four | 0x100000004 4 | yes yes
+context, last three and one after | 0x100000005 4 | no no
+context, last and one after | 0x100000007 2 | no no
+context, 8 over the end | 0x100000001 8 | no no
+context, 256 over the end | 0x100000000 256 | no no
+frame 0, first byte | 0x200000000 1 | yes yes
+frame 0, the byte before | 0x1ffffffff 1 | no no
+frame 0, last byte | 0x2000001ff 1 | yes yes
+frame 0, the byte after | 0x200000200 1 | no no
+frame 0, whole | 0x200000000 512 | yes yes
+frame 0, one more | 0x200000000 513 | no no
+frame 0, whole and one before | 0x1ffffffff 513 | no no
+frame 0, last two | 0x2000001fe 2 | yes yes
+frame 0, last four | 0x2000001fc 4 | yes yes
+frame 0, last eight | 0x2000001f8 8 | yes yes
+frame 0, last one and one after | 0x2000001ff 2 | no no
+frame 0, last three and one after | 0x2000001fd 4 | no no
+frame 0, last seven and one after | 0x2000001f9 8 | no no
+between frame 0 and frame 1 | 0x2000003ff 1 | no no
+frame 0 to frame 1 | 0x200000000 1025 | no no
+frame 0, first two | 0x200000000 2 | yes yes
+frame 0, first four | 0x200000000 4 | yes yes
+frame 0, first eight | 0x200000000 8 | yes yes
+frame 0, first one and one before | 0x1ffffffff 2 | no no
+frame 0, first three and one before | 0x1ffffffff 4 | no no
+frame 0, first seven and one before | 0x1ffffffff 8 | no no
+frame 1, first byte | 0x200000400 1 | yes no
+frame 1, the byte before | 0x2000003ff 1 | no no
+frame 1, last byte | 0x2000005ff 1 | yes no
+frame 1, the byte after | 0x200000600 1 | no no
+frame 7, first byte | 0x200001c00 1 | yes no
+frame 7, the byte before | 0x200001bff 1 | no no
+frame 7, first two | 0x200001c00 2 | yes no
+frame 7, first four | 0x200001c00 4 | yes no
+frame 7, first eight | 0x200001c00 8 | yes no
+frame 7, first one and one before | 0x200001bff 2 | no no
+frame 7, first three and one before | 0x200001bfd 4 | no no
+frame 7, first seven and one before | 0x200001bf9 8 | no no
+frame 7, last byte | 0x200001dff 1 | yes no
+frame 7, last two | 0x200001dfe 2 | yes no
+frame 7, last four | 0x200001dfc 4 | yes no
+frame 7, last eight | 0x200001df8 8 | yes no
+frame 7, last one and one after | 0x200001dff 2 | no no
+frame 7, last three and one after | 0x200001dfd 4 | no no
+frame 7, last seven and one after | 0x200001df9 8 | no no
+frame 7, the byte after | 0x200001e00 1 | no no
+frame 7, whole | 0x200001c00 512 | yes no
+frame 7, one more | 0x200001c00 513 | no no
+frame 8 | 0x200002000 1 | no no
+the byte before map 0 | 0x2ffffffff 1 | no no
+map 0 | 0x300000000 1 | no no
+token of map 0 | 0x400000000 1 | no no
+address 0 | 0 1 | no no
+address 8 | 8 8 | no no
+last address | -1 1 | no no
+over the last address | -1 2 | no no
+last eight addresses | -8 8 | no no
+low half of the context's address | 0 8 | no no
+context and frame | 0x100000000 0x100000001 | no no
+all bytes from the context on | 0x100000000 -1 | no no
+all bytes from frame 0 on | 0x200000000 -1 | no no
 ";
 
 /// Whether a run of bytes is present. A run has no other length.
@@ -113,56 +113,55 @@ fn answers(rt: &impl Abort, cpu: &Cpu, numbers: &str) -> &'static str {
 }
 
 /// Whether a row of runs holds.
-pub fn run_holds(rt: &impl Abort, alloc: Global, row: &str) -> bool {
-    let (_, words) = parts(rt, row);
-    let (numbers, expected) = parts(rt, words);
-    answers(rt, &machine(rt, alloc, &[EXIT]), numbers) == expected
+fn run_holds(rt: &impl Abort, alloc: Global, line: &str) -> bool {
+    let row = row(rt, line);
+    answers(rt, &machine(rt, alloc, &[EXIT]), row.input) == row.expected
 }
 
 #[test]
 fn addresses(rt: HostRuntime) {
-    check(&rt, rt.alloc(), Table::Addresses, RUNS, 74);
+    check(&rt, RUNS, 74, |row| run_holds(&rt, rt.alloc(), row));
 }
 
 // The maps of a machine, a run of bytes, its address and how many bytes; whether it is present and whether the program may access it.
 const MAP_RUNS: &str = "\
-8x2; first byte; 0x300000000 1; yes yes
-8x2; the byte before; 0x2ffffffff 1; no no
-8x2; first two; 0x300000000 2; yes yes
-8x2; first four; 0x300000000 4; yes yes
-8x2; first eight; 0x300000000 8; yes yes
-8x2; first one and one before; 0x2ffffffff 2; no no
-8x2; first three and one before; 0x2ffffffff 4; no no
-8x2; first seven and one before; 0x2ffffffff 8; no no
-8x2; over two values; 0x300000004 8; yes yes
-8x2; last byte; 0x30000000f 1; yes yes
-8x2; the byte after; 0x300000010 1; no no
-8x2; last two; 0x30000000e 2; yes yes
-8x2; last four; 0x30000000c 4; yes yes
-8x2; last eight; 0x300000008 8; yes yes
-8x2; last one and one after; 0x30000000f 2; no no
-8x2; last three and one after; 0x30000000d 4; no no
-8x2; last seven and one after; 0x300000009 8; no no
-8x2; whole; 0x300000000 16; yes yes
-8x2; one more; 0x300000000 17; no no
-8x2; map 1; 0x300100000 1; no no
-8x2; token of map 0; 0x400000000 1; no no
-1x1; its byte; 0x300000000 1; yes yes
-1x1; the byte before; 0x2ffffffff 1; no no
-1x1; the byte after; 0x300000001 1; no no
-1x1; two bytes; 0x300000000 2; no no
-1x1; eight bytes; 0x300000000 8; no no
-8x2,1x1; the byte before map 1; 0x3000fffff 1; no no
-8x2,1x1; map 1, its byte; 0x300100000 1; yes yes
-8x2,1x1; map 1, the byte after; 0x300100001 1; no no
-8x2,1x1; map 0 to map 1; 0x300000000 0x100001; no no
-256x256; last byte; 0x30000ffff 1; yes yes
-256x256; the byte after; 0x300010000 1; no no
-256x256; whole; 0x300000000 65536; yes yes
-256x256; one more; 0x300000000 65537; no no
-16x4096; last byte; 0x30000ffff 1; yes yes
-16x4096; the byte after; 0x300010000 1; no no
-16x4096; all bytes from map 0 on; 0x300000000 -1; no no
+8x2 | first byte | 0x300000000 1 | yes yes
+8x2 | the byte before | 0x2ffffffff 1 | no no
+8x2 | first two | 0x300000000 2 | yes yes
+8x2 | first four | 0x300000000 4 | yes yes
+8x2 | first eight | 0x300000000 8 | yes yes
+8x2 | first one and one before | 0x2ffffffff 2 | no no
+8x2 | first three and one before | 0x2ffffffff 4 | no no
+8x2 | first seven and one before | 0x2ffffffff 8 | no no
+8x2 | over two values | 0x300000004 8 | yes yes
+8x2 | last byte | 0x30000000f 1 | yes yes
+8x2 | the byte after | 0x300000010 1 | no no
+8x2 | last two | 0x30000000e 2 | yes yes
+8x2 | last four | 0x30000000c 4 | yes yes
+8x2 | last eight | 0x300000008 8 | yes yes
+8x2 | last one and one after | 0x30000000f 2 | no no
+8x2 | last three and one after | 0x30000000d 4 | no no
+8x2 | last seven and one after | 0x300000009 8 | no no
+8x2 | whole | 0x300000000 16 | yes yes
+8x2 | one more | 0x300000000 17 | no no
+8x2 | map 1 | 0x300100000 1 | no no
+8x2 | token of map 0 | 0x400000000 1 | no no
+1x1 | its byte | 0x300000000 1 | yes yes
+1x1 | the byte before | 0x2ffffffff 1 | no no
+1x1 | the byte after | 0x300000001 1 | no no
+1x1 | two bytes | 0x300000000 2 | no no
+1x1 | eight bytes | 0x300000000 8 | no no
+8x2,1x1 | the byte before map 1 | 0x3000fffff 1 | no no
+8x2,1x1 | map 1, its byte | 0x300100000 1 | yes yes
+8x2,1x1 | map 1, the byte after | 0x300100001 1 | no no
+8x2,1x1 | map 0 to map 1 | 0x300000000 0x100001 | no no
+256x256 | last byte | 0x30000ffff 1 | yes yes
+256x256 | the byte after | 0x300010000 1 | no no
+256x256 | whole | 0x300000000 65536 | yes yes
+256x256 | one more | 0x300000000 65537 | no no
+16x4096 | last byte | 0x30000ffff 1 | yes yes
+16x4096 | the byte after | 0x300010000 1 | no no
+16x4096 | all bytes from map 0 on | 0x300000000 -1 | no no
 ";
 
 /// The same of a machine with these maps.
@@ -171,16 +170,15 @@ fn answers_with(rt: &impl Abort, alloc: Global, maps: &str, numbers: &str) -> &'
 }
 
 /// Whether a row of runs holds of a machine with the row's maps.
-pub fn map_run_holds(rt: &impl Abort, alloc: Global, row: &str) -> bool {
-    let (maps, rest) = parts(rt, row);
-    let (_, words) = parts(rt, rest);
-    let (numbers, expected) = parts(rt, words);
-    answers_with(rt, alloc, maps, numbers) == expected
+fn map_run_holds(rt: &impl Abort, alloc: Global, line: &str) -> bool {
+    let (maps, line) = parts(rt, line);
+    let row = row(rt, line);
+    answers_with(rt, alloc, maps, row.input) == row.expected
 }
 
 #[test]
 fn maps(rt: HostRuntime) {
-    check(&rt, rt.alloc(), Table::MapAddresses, MAP_RUNS, 37);
+    check(&rt, MAP_RUNS, 37, |row| map_run_holds(&rt, rt.alloc(), row));
 }
 
 // Map i has i + 1 bytes.

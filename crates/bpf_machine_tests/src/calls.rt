@@ -2,9 +2,9 @@
 use crate::machines::{
     opened, place_of, register, run, set, status_text, step_text, view_of, with_hex,
 };
-use crate::rows::{check_number, check_text, number, parts, slots, two};
+use crate::rows::{check_number, check_text, number, parts, row, slots, two};
 use crate::steps::{check_entries, check_view, program_of};
-use crate::tables::{Table, check};
+use crate::tables::check;
 use bpf_machine::{Cpu, laws};
 use std::alloc::Global;
 use std::cmp::max;
@@ -16,12 +16,12 @@ const NESTED: &str =
 
 // r1 at the beginning, the greatest depth, how many steps are taken, and the status at the end.
 const DEPTHS: &str = "\
-0; 1 4; exited
-1; 2 8; exited
-5; 6 24; exited
-6; 7 28; exited
-7; 7 22; depth
-100; 7 22; depth
+0 | 1 4 | exited
+1 | 2 8 | exited
+5 | 6 24 | exited
+6 | 7 28 | exited
+7 | 7 22 | depth
+100 | 7 22 | depth
 ";
 
 /// A machine with this program and the context 01 02 .. 08.
@@ -68,7 +68,7 @@ fn nested(rt: &impl Abort, alloc: Global, r1: u64, status: &str) -> (u64, u64, b
 }
 
 /// Whether a row of depths holds.
-pub fn nested_call_holds(rt: &impl Abort, alloc: Global, row: &str) -> bool {
+fn nested_call_holds(rt: &impl Abort, alloc: Global, row: &str) -> bool {
     let (r1, rest) = parts(rt, row);
     let (counts, status) = parts(rt, rest);
     let (depth, steps, is_end) = nested(rt, alloc, number(rt, r1), status);
@@ -77,7 +77,12 @@ pub fn nested_call_holds(rt: &impl Abort, alloc: Global, row: &str) -> bool {
 
 #[test]
 fn nested_calls(rt: HostRuntime) {
-    check(&rt, rt.alloc(), Table::NestedCalls, DEPTHS, 6);
+    check(
+        &rt,
+        DEPTHS,
+        6,
+        |row| nested_call_holds(&rt, rt.alloc(), row),
+    );
     laws::returns_give_back();
     laws::calls_clear_their_frame();
 }
@@ -142,19 +147,19 @@ fn a_frame_is_cleared(rt: HostRuntime) {
 
 // Numbers into r6 to r9; a function that changes r0 to r9; and the entry of each step, with r6 to r9 before the return.
 const SAVED: &str = "\
-b706000016000000; register at 0 r6 0x0
-b707000017000000; register at 1 r7 0x0
-b708000018000000; register at 2 r8 0x0
-b709000019000000; register at 3 r9 0x0
-8510000001000000; call at 4
-9500000000000000; register at 6 r0 0x0
-b700000020000000; register at 7 r5 0x0
-b705000025000000; register at 8 r6 0x16
-b706000026000000; register at 9 r7 0x17
-b707000027000000; register at 10 r8 0x18
-b708000028000000; register at 11 r9 0x19
-b709000029000000; return at 12 0x26 0x27 0x28 0x29
-9500000000000000; end
+b706000016000000 | register at 0 r6 0x0
+b707000017000000 | register at 1 r7 0x0
+b708000018000000 | register at 2 r8 0x0
+b709000019000000 | register at 3 r9 0x0
+8510000001000000 | call at 4
+9500000000000000 | register at 6 r0 0x0
+b700000020000000 | register at 7 r5 0x0
+b705000025000000 | register at 8 r6 0x16
+b706000026000000 | register at 9 r7 0x17
+b707000027000000 | register at 10 r8 0x18
+b708000028000000 | register at 11 r9 0x19
+b709000029000000 | return at 12 0x26 0x27 0x28 0x29
+9500000000000000 | end
 ";
 
 // r0 to r10 at the end.
@@ -184,12 +189,12 @@ fn saved_registers(rt: HostRuntime) {
 // A program and r0 at its end, or the fault: a function reads its caller's frame by r1, and its own; a frame that is entered again is
 // zero; a caller does not reach the frame of the function that it called.
 const FRAMES: &str = "\
-its caller's frame; 7a0af8ff2a000000 bfa1000000000000 8510000001000000 9500000000000000 7910f8ff00000000 9500000000000000; exited 0x2a
-its own frame is another; 7a0af8ff2a000000 8510000001000000 9500000000000000 79a0f8ff00000000 9500000000000000; exited 0x0
-its caller's frame, written; bfa1000000000000 8510000002000000 79a0f8ff00000000 9500000000000000 7a01f8ff2a000000 9500000000000000; exited 0x2a
-a frame that is entered again; 8510000002000000 8510000003000000 9500000000000000 7a0af8ff2a000000 9500000000000000 79a0f8ff00000000 9500000000000000; exited 0x0
-the frame of a function that returned; 8510000002000000 79a0f80300000000 9500000000000000 7a0af8ff2a000000 9500000000000000; access 0x2000005f8 0x0
-the frame below its own, by r10; 7a0af8ff2a000000 8510000001000000 9500000000000000 79a0f8fb00000000 9500000000000000; exited 0x2a
+its caller's frame | 7a0af8ff2a000000 bfa1000000000000 8510000001000000 9500000000000000 7910f8ff00000000 9500000000000000 | exited 0x2a
+its own frame is another | 7a0af8ff2a000000 8510000001000000 9500000000000000 79a0f8ff00000000 9500000000000000 | exited 0x0
+its caller's frame, written | bfa1000000000000 8510000002000000 79a0f8ff00000000 9500000000000000 7a01f8ff2a000000 9500000000000000 | exited 0x2a
+a frame that is entered again | 8510000002000000 8510000003000000 9500000000000000 7a0af8ff2a000000 9500000000000000 79a0f8ff00000000 9500000000000000 | exited 0x0
+the frame of a function that returned | 8510000002000000 79a0f80300000000 9500000000000000 7a0af8ff2a000000 9500000000000000 | access 0x2000005f8 0x0
+the frame below its own, by r10 | 7a0af8ff2a000000 8510000001000000 9500000000000000 79a0f8fb00000000 9500000000000000 | exited 0x2a
 ";
 
 /// The status and r0 at the end of a program.
@@ -201,13 +206,12 @@ fn end_of(rt: &impl Abort, alloc: Global, program: &str) -> String {
 }
 
 /// Whether a row of frames holds.
-pub fn frame_holds(rt: &impl Abort, alloc: Global, row: &str) -> bool {
-    let (_, rest) = parts(rt, row);
-    let (program, end) = parts(rt, rest);
-    end_of(rt, alloc, program).as_str() == end
+fn frame_holds(rt: &impl Abort, alloc: Global, line: &str) -> bool {
+    let row = row(rt, line);
+    end_of(rt, alloc, row.input).as_str() == row.expected
 }
 
 #[test]
 fn frames(rt: HostRuntime) {
-    check(&rt, rt.alloc(), Table::Frames, FRAMES, 6);
+    check(&rt, FRAMES, 6, |row| frame_holds(&rt, rt.alloc(), row));
 }

@@ -1,6 +1,6 @@
 //! Negations, moves, byte swaps and conditions at their edges. Expected values were worked out from RFC 9669, section 4.
 use crate::rows::{check_count, first_word, number, two};
-use crate::tables::{Table, check};
+use crate::tables::check;
 use crate::words::{result, stepped, word};
 use std::alloc::Global;
 use std::process::Abort;
@@ -120,7 +120,7 @@ fn made(rt: &impl Abort, alloc: Global, name: &str, a: u64, b: u64) -> u64 {
 }
 
 /// Whether a row of negations holds.
-pub fn negation_holds(rt: &impl Abort, alloc: Global, row: &str) -> bool {
+fn negation_holds(rt: &impl Abort, alloc: Global, row: &str) -> bool {
     let (bits, numbers) = first_word(rt, row);
     let (a, expected) = two(rt, numbers);
     made(rt, alloc, bits, a, 0) == expected
@@ -128,11 +128,16 @@ pub fn negation_holds(rt: &impl Abort, alloc: Global, row: &str) -> bool {
 
 #[test]
 fn negations(rt: HostRuntime) {
-    check(&rt, rt.alloc(), Table::Negations, NEGATIONS, 8);
+    check(
+        &rt,
+        NEGATIONS,
+        8,
+        |row| negation_holds(&rt, rt.alloc(), row),
+    );
 }
 
 /// Whether a row of moves holds.
-pub fn move_holds(rt: &impl Abort, alloc: Global, row: &str) -> bool {
+fn move_holds(rt: &impl Abort, alloc: Global, row: &str) -> bool {
     let (name, numbers) = first_word(rt, row);
     let (source, expected) = two(rt, numbers);
     made(rt, alloc, name, 7, source) == expected
@@ -140,18 +145,18 @@ pub fn move_holds(rt: &impl Abort, alloc: Global, row: &str) -> bool {
 
 #[test]
 fn moves(rt: HostRuntime) {
-    check(&rt, rt.alloc(), Table::Moves, MOVES, 25);
+    check(&rt, MOVES, 25, |row| move_holds(&rt, rt.alloc(), row));
 }
 
 /// Whether a row of swaps holds.
-pub fn swap_holds(rt: &impl Abort, alloc: Global, row: &str) -> bool {
+fn swap_holds(rt: &impl Abort, alloc: Global, row: &str) -> bool {
     let (name, expected) = first_word(rt, row);
     made(rt, alloc, name, 0x1122_3344_5566_7788, 0) == number(rt, expected)
 }
 
 #[test]
 fn swaps(rt: HostRuntime) {
-    check(&rt, rt.alloc(), Table::Swaps, SWAPS, 9);
+    check(&rt, SWAPS, 9, |row| swap_holds(&rt, rt.alloc(), row));
 }
 
 /// y where a word jumps with these two numbers, else n.
@@ -180,7 +185,7 @@ fn has_answers(rt: &impl Abort, alloc: Global, word: u64, expected: &str) -> boo
 }
 
 /// Whether a row of conditions holds, on 64 bits and on 32.
-pub fn condition_holds(rt: &impl Abort, alloc: Global, row: &str) -> bool {
+fn condition_holds(rt: &impl Abort, alloc: Global, row: &str) -> bool {
     let (name, expected) = first_word(rt, row);
     let word = word(rt, WORDS, name);
     let half = word.wrapping_add(0x0100_0000_0000_0000);
@@ -189,6 +194,11 @@ pub fn condition_holds(rt: &impl Abort, alloc: Global, row: &str) -> bool {
 
 #[test]
 fn conditions(rt: HostRuntime) {
-    check(&rt, rt.alloc(), Table::Conditions, CONDITIONS, 11);
+    check(
+        &rt,
+        CONDITIONS,
+        11,
+        |row| condition_holds(&rt, rt.alloc(), row),
+    );
     check_count(&rt, PAIRS, 6);
 }

@@ -4,7 +4,7 @@ use crate::machines::{
     view_of, with_hex, with_maps, with_register, with_word,
 };
 use crate::rows::{
-    check_count, check_number, check_text, first_word, parts, stop_unless, three, two,
+    check_count, check_number, check_text, first_word, row, stop_unless, three, two,
 };
 use bpf_isa::Reg;
 use bpf_machine::{ByteString, Cpu, Edit, EditFault};
@@ -25,79 +25,79 @@ const MAPS: &str = "8x2,1x1";
 // An edit: a register and its value, an address and how many bytes, a map and an index and how many bytes, or a pc and 0; and what
 // it answers. The context has 8 bytes, the program slots 0 to 4.
 const EDITS: &str = "\
-r0; register 0 0x1234; done
-r1; register 1 0; done
-r9; register 9 -1; done
-r10; register 10 0; read-only
-r10, its own value; register 10 0x200000200; read-only
-context, first byte; bytes 0x100000000 1; done
-context, the byte before; bytes 0xffffffff 1; absent
-context, last byte; bytes 0x100000007 1; done
-context, the byte after; bytes 0x100000008 1; absent
-context, whole; bytes 0x100000000 8; done
-context, whole and one before; bytes 0xffffffff 9; absent
-context, one more; bytes 0x100000000 9; absent
-context, last and one after; bytes 0x100000007 2; absent
-context, 256 bytes; bytes 0x100000000 256; absent
-frame 0, first byte; bytes 0x200000000 1; done
-frame 0, the byte before; bytes 0x1ffffffff 1; absent
-frame 0, last byte; bytes 0x2000001ff 1; done
-frame 0, the byte after; bytes 0x200000200 1; absent
-frame 0, first 256 bytes; bytes 0x200000000 256; done
-frame 0, last 256 bytes; bytes 0x200000100 256; done
-frame 0, last 255 bytes and one after; bytes 0x200000101 256; absent
-frame 0, last and 255 after; bytes 0x2000001ff 256; absent
-frame 1, first byte; bytes 0x200000400 1; done
-frame 7, last byte; bytes 0x200001dff 1; done
-frame 7, the byte after; bytes 0x200001e00 1; absent
-map 0, first byte; bytes 0x300000000 1; done
-map 0, the byte before; bytes 0x2ffffffff 1; absent
-map 0, the last byte of one value and the first of the next; bytes 0x300000007 2; done
-map 0, whole; bytes 0x300000000 16; done
-map 0, one more; bytes 0x300000000 17; absent
-map 0, last byte; bytes 0x30000000f 1; done
-map 0, the byte after; bytes 0x300000010 1; absent
-map 1, its byte; bytes 0x300100000 1; done
-map 1, one more; bytes 0x300100000 2; absent
-map 1, the byte before; bytes 0x3000fffff 1; absent
-map 2; bytes 0x300200000 1; absent
-token of map 0; bytes 0x400000000 1; absent
-first cell; cell 0 0 8; done
-last cell; cell 0 1 8; done
-past the last cell; cell 0 2 8; no cell
-one byte less; cell 0 1 7; no cell
-one byte more; cell 0 1 9; no cell
-both cells at once; cell 0 0 16; no cell
-cell of map 1; cell 1 0 1; done
-cell of map 1, one byte more; cell 1 0 2; no cell
-past the cell of map 1; cell 1 1 1; no cell
-past the last map; cell 2 0 8; no cell
-map 15; cell 15 0 1; no cell
-map 16; cell 16 0 8; no cell
-map 2^8; cell 0x100 0 8; no cell
-map 2^32; cell 0x100000000 0 8; no cell
-map 2^32 + 1; cell 0x100000001 0 1; no cell
-map 2^64 - 1; cell -1 0 8; no cell
-cell 2^16; cell 0 0x10000 8; no cell
-cell 2^32; cell 0 0x100000000 8; no cell
-cell 2^32 + 1; cell 0 0x100000001 8; no cell
-cell 2^63; cell 0 0x8000000000000000 8; no cell
-cell 2^64 - 1; cell 0 -1 8; no cell
-cell 2^64 - 1 of map 2^64 - 1; cell -1 -1 256; no cell
-address 0; bytes 0 1; absent
-last address; bytes -1 1; absent
-over the last address; bytes -1 256; absent
-first slot; pc 0 0; done
-wide instruction; pc 1 0; done
-second slot of the wide instruction; pc 2 0; no start
-the same slot; pc 3 0; done
-last slot; pc 4 0; done
-past the end; pc 5 0; no start
-2^16; pc 0x10000 0; no start
-2^16 + 1; pc 0x10001 0; no start
-2^32; pc 0x100000000 0; no start
-2^32 + 4; pc 0x100000004 0; no start
-2^64 - 1; pc -1 0; no start
+r0 | register 0 0x1234 | done
+r1 | register 1 0 | done
+r9 | register 9 -1 | done
+r10 | register 10 0 | read-only
+r10, its own value | register 10 0x200000200 | read-only
+context, first byte | bytes 0x100000000 1 | done
+context, the byte before | bytes 0xffffffff 1 | absent
+context, last byte | bytes 0x100000007 1 | done
+context, the byte after | bytes 0x100000008 1 | absent
+context, whole | bytes 0x100000000 8 | done
+context, whole and one before | bytes 0xffffffff 9 | absent
+context, one more | bytes 0x100000000 9 | absent
+context, last and one after | bytes 0x100000007 2 | absent
+context, 256 bytes | bytes 0x100000000 256 | absent
+frame 0, first byte | bytes 0x200000000 1 | done
+frame 0, the byte before | bytes 0x1ffffffff 1 | absent
+frame 0, last byte | bytes 0x2000001ff 1 | done
+frame 0, the byte after | bytes 0x200000200 1 | absent
+frame 0, first 256 bytes | bytes 0x200000000 256 | done
+frame 0, last 256 bytes | bytes 0x200000100 256 | done
+frame 0, last 255 bytes and one after | bytes 0x200000101 256 | absent
+frame 0, last and 255 after | bytes 0x2000001ff 256 | absent
+frame 1, first byte | bytes 0x200000400 1 | done
+frame 7, last byte | bytes 0x200001dff 1 | done
+frame 7, the byte after | bytes 0x200001e00 1 | absent
+map 0, first byte | bytes 0x300000000 1 | done
+map 0, the byte before | bytes 0x2ffffffff 1 | absent
+map 0, the last byte of one value and the first of the next | bytes 0x300000007 2 | done
+map 0, whole | bytes 0x300000000 16 | done
+map 0, one more | bytes 0x300000000 17 | absent
+map 0, last byte | bytes 0x30000000f 1 | done
+map 0, the byte after | bytes 0x300000010 1 | absent
+map 1, its byte | bytes 0x300100000 1 | done
+map 1, one more | bytes 0x300100000 2 | absent
+map 1, the byte before | bytes 0x3000fffff 1 | absent
+map 2 | bytes 0x300200000 1 | absent
+token of map 0 | bytes 0x400000000 1 | absent
+first cell | cell 0 0 8 | done
+last cell | cell 0 1 8 | done
+past the last cell | cell 0 2 8 | no cell
+one byte less | cell 0 1 7 | no cell
+one byte more | cell 0 1 9 | no cell
+both cells at once | cell 0 0 16 | no cell
+cell of map 1 | cell 1 0 1 | done
+cell of map 1, one byte more | cell 1 0 2 | no cell
+past the cell of map 1 | cell 1 1 1 | no cell
+past the last map | cell 2 0 8 | no cell
+map 15 | cell 15 0 1 | no cell
+map 16 | cell 16 0 8 | no cell
+map 2^8 | cell 0x100 0 8 | no cell
+map 2^32 | cell 0x100000000 0 8 | no cell
+map 2^32 + 1 | cell 0x100000001 0 1 | no cell
+map 2^64 - 1 | cell -1 0 8 | no cell
+cell 2^16 | cell 0 0x10000 8 | no cell
+cell 2^32 | cell 0 0x100000000 8 | no cell
+cell 2^32 + 1 | cell 0 0x100000001 8 | no cell
+cell 2^63 | cell 0 0x8000000000000000 8 | no cell
+cell 2^64 - 1 | cell 0 -1 8 | no cell
+cell 2^64 - 1 of map 2^64 - 1 | cell -1 -1 256 | no cell
+address 0 | bytes 0 1 | absent
+last address | bytes -1 1 | absent
+over the last address | bytes -1 256 | absent
+first slot | pc 0 0 | done
+wide instruction | pc 1 0 | done
+second slot of the wide instruction | pc 2 0 | no start
+the same slot | pc 3 0 | done
+last slot | pc 4 0 | done
+past the end | pc 5 0 | no start
+2^16 | pc 0x10000 0 | no start
+2^16 + 1 | pc 0x10001 0 | no start
+2^32 | pc 0x100000000 0 | no start
+2^32 + 4 | pc 0x100000004 0 | no start
+2^64 - 1 | pc -1 0 | no start
 ";
 
 /// An edit by its words.
@@ -294,15 +294,14 @@ fn is_refused(rt: &impl Abort, alloc: Global, cpu: &mut Cpu, edit: &Edit, answer
 }
 
 /// Whether a row of edits holds of a machine that stays at slot 3 with the instruction there.
-fn edit_holds(rt: &impl Abort, alloc: Global, last: u64, row: &str) -> bool {
-    let (_, rest) = parts(rt, row);
-    let (words, answer) = parts(rt, rest);
-    let edit = edit_of(rt, words);
+fn edit_holds(rt: &impl Abort, alloc: Global, last: u64, line: &str) -> bool {
+    let row = row(rt, line);
+    let edit = edit_of(rt, row.input);
     let mut cpu = machine_at_3(rt, alloc, last);
-    if answer == "done" {
+    if row.expected == "done" {
         is_made(rt, alloc, &mut cpu, &edit)
     } else {
-        is_refused(rt, alloc, &mut cpu, &edit, answer)
+        is_refused(rt, alloc, &mut cpu, &edit, row.expected)
     }
 }
 

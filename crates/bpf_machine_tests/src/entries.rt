@@ -1,32 +1,32 @@
 //! Entries and what they weigh in a journal. Expected values are those of docs/MACHINE.md.
 use crate::rows::{parts, two};
-use crate::tables::{Table, check};
+use crate::tables::check;
 use bpf_isa::Reg;
 use bpf_machine::{ByteString, Entry, FrameBytes, Status};
 use std::process::Abort;
 
 // A kind of entry, how many bytes it replaced where that varies, and its weight.
 const WEIGHTS: &str = "\
-register; 0 16
-jump; 0 7
-call; 0 519
-return; 0 39
-store; 1 17
-store; 2 18
-store; 4 20
-store; 8 24
-fetch; 4 29
-fetch; 8 33
-fetch; 256 281
-cell; 1 24
-cell; 8 31
-cell; 256 279
-trace; 0 15
-end; 0 5
-edit register; 0 14
-edit bytes; 1 14
-edit bytes; 256 269
-edit pc; 0 16
+register | 0 16
+jump | 0 7
+call | 0 519
+return | 0 39
+store | 1 17
+store | 2 18
+store | 4 20
+store | 8 24
+fetch | 4 29
+fetch | 8 33
+fetch | 256 281
+cell | 1 24
+cell | 8 31
+cell | 256 279
+trace | 0 15
+end | 0 5
+edit register | 0 14
+edit bytes | 1 14
+edit bytes | 256 269
+edit pc | 0 16
 ";
 
 /// Bytes that an entry replaced, of which there are 1 to 256.
@@ -105,7 +105,7 @@ fn entry_over(kind: &str, old: ByteString) -> Option<Entry> {
 }
 
 /// Whether a row of weights holds.
-pub fn weight_holds(rt: &impl Abort, row: &str) -> bool {
+fn weight_holds(rt: &impl Abort, row: &str) -> bool {
     let (kind, numbers) = parts(rt, row);
     let (n, weight) = two(rt, numbers);
     weights_of(rt, kind, n) == (weight, weight)
@@ -113,5 +113,5 @@ pub fn weight_holds(rt: &impl Abort, row: &str) -> bool {
 
 #[test]
 fn weights(rt: HostRuntime) {
-    check(&rt, rt.alloc(), Table::Weights, WEIGHTS, 20);
+    check(&rt, WEIGHTS, 20, |row| weight_holds(&rt, row));
 }

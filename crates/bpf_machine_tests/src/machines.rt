@@ -336,10 +336,5 @@ pub fn edit_of_pc(rt: &impl Abort, alloc: Global, pc: u16, status: Status) -> St
 
 /// Bytes, each in two hexadecimal digits.
 pub fn hexadecimal(rt: &impl Abort, alloc: Global, bytes: &[u8]) -> String {
-    let mut text = String::new(alloc);
-    for byte in bytes {
-        let digits = format!(in alloc; "{byte:02x}").ok().expect(rt, "no memory");
-        text.push_str(digits.as_str()).ok().expect(rt, "no memory");
-    }
-    text
+    hex::encode(alloc, bytes).ok().expect(rt, "no memory")
 }

@@ -1,8 +1,8 @@
 //! Machines at opening, and machines that aren't opened. Expected values are those of docs/MACHINE.md.
 use crate::machines::{EXIT, hexadecimal, opened, program, registers_of, run_of, view_of};
-use crate::rows::{check_number, check_text, number, stop_unless};
+use crate::rows::{check_number, check_text, number, parts, stop_unless};
 use crate::steps::check_view;
-use crate::tables::{Table, check};
+use crate::tables::check;
 use bpf_isa::MapTable;
 use bpf_machine::{Cpu, Memory, OpenFault};
 use std::alloc::Global;
@@ -36,10 +36,10 @@ fn opens(rt: HostRuntime) {
 
 // The length of a context, and r0 to r10.
 const CONTEXTS: &str = "\
-0; 0 0 0 0 0 0 0 0 0 0 8589935104
-1; 0 4294967296 1 0 0 0 0 0 0 0 8589935104
-65535; 0 4294967296 65535 0 0 0 0 0 0 0 8589935104
-65536; 0 4294967296 65536 0 0 0 0 0 0 0 8589935104
+0 | 0 0 0 0 0 0 0 0 0 0 8589935104
+1 | 0 4294967296 1 0 0 0 0 0 0 0 8589935104
+65535 | 0 4294967296 65535 0 0 0 0 0 0 0 8589935104
+65536 | 0 4294967296 65536 0 0 0 0 0 0 0 8589935104
 ";
 
 /// A machine with a context of so many bytes.
@@ -67,14 +67,15 @@ fn registers_with(rt: &impl Abort, alloc: Global, len: u64) -> String {
 }
 
 /// Whether a row of contexts holds.
-pub fn context_holds(rt: &impl Abort, alloc: Global, row: &str) -> bool {
-    let (len, expected) = row.split_once(';').expect(rt, "no registers");
-    registers_with(rt, alloc, number(rt, len)).as_str() == expected
+fn context_holds(rt: &impl Abort, alloc: Global, row: &str) -> bool {
+    let (len, expected) = parts(rt, row);
+    let found = registers_with(rt, alloc, number(rt, len));
+    found.as_str().trim_start() == expected
 }
 
 #[test]
 fn opens_with_contexts(rt: HostRuntime) {
-    check(&rt, rt.alloc(), Table::Contexts, CONTEXTS, 4);
+    check(&rt, CONTEXTS, 4, |row| context_holds(&rt, rt.alloc(), row));
 }
 
 /// Whether a byte is there and can be accessed.

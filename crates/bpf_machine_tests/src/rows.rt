@@ -1,11 +1,16 @@
-//! Reading the rows of the tests' tables. A row's parts stand between `; `, and the words of a part between blanks.
-//! A number is decimal, hexadecimal behind 0x, or negative behind -: then it is the two's complement.
+//! Reading the rows of the tests' tables, and what a test stops at. The words of a part stand between blanks.
+use bpf_testing::{Row, number_of, parts_of, row_of};
 use std::alloc::Global;
 use std::process::Abort;
 
-/// The text before the first `; `, and what follows.
-pub fn parts<'a>(rt: &impl Abort, row: &'a str) -> (&'a str, &'a str) {
-    row.split_once("; ").expect(rt, "one part")
+/// The parts of a row.
+pub fn row<'a>(rt: &impl Abort, line: &'a str) -> Row<'a> {
+    row_of(line).expect(rt, "no row")
+}
+
+/// The first part of a text, and what follows.
+pub fn parts<'a>(rt: &impl Abort, text: &'a str) -> (&'a str, &'a str) {
+    parts_of(text).expect(rt, "one part")
 }
 
 /// The text before the first blank, and what follows.
@@ -35,14 +40,7 @@ pub fn check_count(rt: &impl Abort, rows: &str, count: usize) {
 
 /// A number of 64 bits.
 pub fn number(rt: &impl Abort, word: &str) -> u64 {
-    let found = if let Some(digits) = word.strip_prefix("0x") {
-        u64::from_str_radix(digits, 16).ok()
-    } else if let Some(digits) = word.strip_prefix("-") {
-        u64::from_str_radix(digits, 10).ok().map(u64::wrapping_neg)
-    } else {
-        u64::from_str_radix(word, 10).ok()
-    };
-    found.expect(rt, "no number")
+    number_of(word).expect(rt, "no number")
 }
 
 /// A number of 32 bits: one below 2^32, or a negative one that fits.
