@@ -264,6 +264,24 @@ printf 'stepi\nstepi\n' >> script
 input 1 fail $debug
 : > script
 
+# Scripts whose first line is a line feed alone, the same without it, and one of a line feed alone, in pieces of one byte and of seven.
+for lines in 'stepi undo' ' stepi undo' ' '; do
+    begin_script
+    case $lines in ' '*) command '' '' ;; esac
+    case $lines in
+        *undo)
+            command 'stepi' '1 forward; done; at 1: callf L3\n'
+            command 'undo' '1 back; done; at 0: mov r0, 1\n' ;;
+    esac
+    status=0
+    for piece in 1 7; do
+        input $piece fail $debug
+        input $piece interrupted $debug
+        output $piece fail $debug
+    done
+done
+: > script
+
 # The output of the other subcommands, and of help.
 printf 'mov r0, 42\nexit\n' > program.s
 bytes answer b7 00 00 00 2a 00 00 00 EXIT
