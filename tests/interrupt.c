@@ -1,5 +1,5 @@
 /* Interrupts or fails reads and writes of a program that it is loaded into before the C library (LD_PRELOAD). INTERRUPTED: so many
-   calls that read, write or open are interrupted before each one that is made. SHORT: no call takes more bytes than that. FAILED: the
+   calls that read or write are interrupted before each one that is made. SHORT: no call takes more bytes than that. FAILED: the
    read of that number, from 1 on, of a file other than the standard ones fails. A program must have no more than one open at a time.
    Part of no program: tests/program.sh uses it. */
 typedef long ssize_t;
