@@ -1,5 +1,5 @@
 -- What is counted of entries when one comes or goes.
-use Rattle.std.proofs.Common.{◌≡◌, ℕ, ◌+◌, ◌-◌, ◌%◌, ◌≤◌, Bool, true, false, if◌then◌else◌, List, [], ◌∷◌, ◌++◌, length, refl, ap, ◌∙◌, arith}
+use Rattle.std.proofs.Common.{◌≡◌, ℕ, ◌+◌, ◌-◌, ◌%◌, ◌≤◌, Bool, true, false, if◌then◌else◌, List, [], ◌∷◌, ◌++◌, length, refl, sym, ap, ◌∙◌, arith}
 use Rattle.std.specs.Prelude.{cond, count_by, not, nat_le}
 use Rattle.std.proofs.lemmas.Bool.Decides.{nat_tests}
 use Rattle.std.proofs.lemmas.List.{length-append}
@@ -83,3 +83,32 @@ pub oldest_less : (old new : Counts) (ks : List Kept) (z : Kept) (t : ℕ) → C
     → Counted new ks
 oldest_less old new ks z t counted h =
     fewer old new ks z t (omega (arith, counted.entries, length-append ks (z ∷ []))) (omega (arith, counted.marks, sum_by_push marked ks z)) (omega (arith, counted.edits, sum_by_push edit ks z)) h
+
+-- The oldest less, an unmarked one of a step, by its tag.
+low_mark : (t : ℕ) → t ≤ 9 → nat_le 128 t ≡ false
+low_mark t low = grind (arith, nat_tests)
+
+low_kind : (t : ℕ) → t ≤ 9 → nat_le (t % 128) 9 ≡ true
+low_kind t low = grind (arith, nat_tests)
+
+pub step_less : (old new : Counts) (ks : List Kept) (z : Kept) (t : ℕ) → t ≤ 9 → Counted old (ks ++ z ∷ []) → t ≡ tag (kind z.0) z.1
+    → new.entries ≡ old.entries - 1 → new.marks ≡ old.marks → new.edits ≡ old.edits → Counted new ks
+step_less old new ks z t low counted h entries marks edits =
+    oldest_less old new ks z t counted h entries
+    (marks ∙ ap (λ b. if b then old.marks - 1 else old.marks) (sym (low_mark t low)))
+    (edits ∙ ap (λ b. if b then old.edits else old.edits - 1) (sym (low_kind t low)))
+
+-- One more, an unmarked one of a step.
+no_edit : (b : Bool) → true ≡ b → ◌≡◌ {A = ℕ} (cond (not b) 1 0) 0
+no_edit true h = refl
+no_edit false h = cc
+
+pub step_more : (old new : Counts) (ks : List Kept) (e : Entry) → Counted old ks → true ≡ is_of_step e
+    → new.entries ≡ old.entries + 1 → new.marks ≡ old.marks → new.edits ≡ old.edits → Counted new ((e, false) ∷ ks)
+step_more old new ks e counted of more marks edits =
+    let none : ◌≡◌ {A = ℕ} (edit (e, false)) 0 = no_edit (is_of_step e) of in
+    record {
+      entries = omega (arith, more, counted.entries);
+      marks = omega (arith, marks, counted.marks, sum_by-cons marked (e, false) ks);
+      edits = omega (arith, edits, counted.edits, sum_by-cons edit (e, false) ks, none);
+    }

@@ -8,7 +8,7 @@ ghost use Rattle.bpf_entries.specs.Texts.{kind, tag as tag_text};
 /// The counts of entries, of marked ones, and of those that are of edits.
 #[derive(Clone, Copy)]
 pub(crate) struct Counts {
-    entries: usize,
+    pub(crate) entries: usize,
     marks: usize,
     edits: usize,
 }
@@ -80,6 +80,18 @@ impl Counts {
         self.subtract_sorts(tag);
     }
 
+    /// The same counts of marks and of edits, with so many entries.
+    #[inline(always)]
+    pub(crate) fn with_entries(self, entries: usize) -> Counts
+        ensures { result ≡ record self { entries = entries } }
+    {
+        Counts {
+            entries,
+            marks: self.marks,
+            edits: self.edits,
+        }
+    }
+
     /// Counts one marked less where the tag is a marked one's, and one edit less where it is an edit's. Up to 9 it is neither's.
     #[inline(always)]
     fn subtract_sorts(&mut self, tag: u8)
@@ -106,6 +118,22 @@ impl Counts {
             self.edits = self.edits.saturating_sub(1);
         }
     }
+}
+
+/// One more, where a count is so low that there is one.
+#[inline(always)]
+pub(crate) fn one_more(count: usize) -> usize
+    ensures { count < 2 ^ 63 → result ≡ count + 1 }
+{
+    count.wrapping_add(1)
+}
+
+/// One less, and 0 for 0.
+#[inline(always)]
+pub(crate) fn one_less(count: usize) -> usize
+    ensures { result ≡ count - 1 }
+{
+    count.saturating_sub(1)
 }
 
 /// A count that is at least 1 and at most another.

@@ -461,7 +461,7 @@ impl EntryRing {
                 return taken + 1;
             }
             let reached = self.ring.run(cpu, self.counts, taken + 1, most, test);
-            self.counts = reached.span.counts;
+            self.counts = self.counts.with_entries(reached.span.entries);
             taken = reached.taken;
             if reached.is_over {
                 self.invariant();

@@ -15,6 +15,7 @@ ghost use Rattle.bpf_machine.specs.declared.moves.Move.{Move};
 ghost use Rattle.bpf_entries.specs.Keeping.{IsSize, Kept};
 ghost use Rattle.bpf_ring.specs.Held.{IsHeld};
 ghost use Rattle.bpf_ring.specs.Runs.{RunsTo, Running, kept_after, state_after};
+ghost use Rattle.bpf_ring.specs.Spans.{counts_of};
 
 use crate::block::{fill, place, record_in_place, write_around};
 use crate::counts::Counts;
@@ -175,14 +176,14 @@ impl Ring {
         ensures goes_on { (x : State) → Running (T.test test.now) x cpu.old taken → result.is_over ≡ false → Running (T.test test.now) x cpu.new result.taken }
         ensures over { (x : State) → Running (T.test test.now) x cpu.old taken → result.is_over ≡ true → RunsTo (T.test test.now) most x cpu.new result.taken }
         ensures held { (x : State) (ks : List Kept) → cpu.old ≡ state_after taken x → IsHeld self.old counts (kept_after self.old.size taken x ks) →
-            IsHeld self.new result.span.counts (kept_after self.old.size result.taken x ks) }
+            IsHeld self.new (counts_of counts result.span) (kept_after self.old.size result.taken x ks) }
     {
         let size = self.buffer.capacity();
         let span = Span {
             first: self.first,
             len: self.len,
             end: place(self.buffer.len(), self.first, self.len),
-            counts,
+            entries: counts.entries,
         };
         let block = self.buffer.make_contiguous();
         let reached = run_in_place(cpu, block, size, span, taken, most, test);

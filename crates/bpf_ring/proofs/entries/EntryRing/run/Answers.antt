@@ -1,6 +1,7 @@
 use Rattle.std.proofs.Common.{◌≡◌, ◌==◌, ◌+◌, ◌∙◌, refl, sym, subst}
 use Rattle.bpf_entries.specs.Keeping.{keep, kept_weight}
 use Rattle.bpf_machine.specs.Entries.{step_entry}
+use Rattle.bpf_ring.specs.declared.counts.Counts.{Counts}
 use Rattle.bpf_ring.specs.Held.{IsHeld}
 use Rattle.bpf_ring.specs.Runs.{Running, kept_after}
 use Rattle.bpf_ring.proofs.Runs.{kept_more, run_stops, running_more}
@@ -35,7 +36,7 @@ loop-taken-preserved g c =
     let size = c.args.self.now.ring.size in
     let mid = c.step.new.self in
     let new = c.run-reached.new.self in
-    let counts = c.run-reached.result.span.counts in
+    let counts = c.with_entries-self.result in
     let same : mid.ring.size ≡ size = c.step.ensures.size ∙ i.size in
     let on : Running (g.T.StopTest.test c.args.test.now) x c.step.new.cpu (k + 1) =
     running_more (g.T.StopTest.test c.args.test.now) k x c.loop-taken.cpu c.step.new.cpu i.running c.step.ensures.leads (sym c.if-step.false ∙ c.step.ensures.stops) in
@@ -49,5 +50,5 @@ loop-taken-preserved g c =
           subst (IsHeld mid.ring mid.counts) (kept_more size k x c.loop-taken.cpu (k == 0) ks i.running.state refl)
           (subst (λ n. IsHeld mid.ring mid.counts (keep kept_weight n (kept_after size k x ks) (step_entry c.loop-taken.cpu, k == 0))) i.size (c.step.ensures.held (kept_after size k x ks) (i.held ks held))) in
           subst (λ n. IsHeld new counts (kept_after n c.run-reached.result.taken x ks)) same
-          (c.run-reached.ensures.held x ks on.state (subst (λ n. IsHeld mid.ring mid.counts (kept_after n (k + 1) x ks)) (sym same) one));
+          (subst (λ (w : Counts). IsHeld new w (kept_after mid.ring.size c.run-reached.result.taken x ks)) (sym c.with_entries-self.ensures) (c.run-reached.ensures.held x ks on.state (subst (λ n. IsHeld mid.ring mid.counts (kept_after n (k + 1) x ks)) (sym same) one)));
     }
