@@ -1,5 +1,6 @@
 -- The newest entry goes to a ring while its move is taken back, where it is of a step.
 use Rattle.std.proofs.Common.{◌≡◌, ℕ, Bool, true, false, if◌then◌else◌, List, [], ◌∷◌, Option, Some, None, map, refl, sym, ap, subst, ◌∙◌}
+use Rattle.std.specs.Option.{option_map}
 use Rattle.std.specs.Prelude.{is_some, OnSome}
 use Rattle.bpf_entries.specs.declared.entry.Entry.{Entry}
 use Rattle.bpf_entries.specs.Fields.{FitsFields}
@@ -11,9 +12,11 @@ use Rattle.bpf_machine.specs.declared.moves.Move.TheVariants as move
 use Rattle.bpf_machine.specs.Fields.{EntriesFit}
 use Rattle.bpf_machine.specs.Moves.{Leads, overwritten}
 use Rattle.bpf_machine.specs.State.{State}
+use Rattle.bpf_ring.specs.Heads.{head_of}
+use Rattle.bpf_ring.specs.declared.entries.Head.{Head}
 use Rattle.bpf_journal.specs.declared.taken.Taken.{Taken}
 use Rattle.bpf_journal.specs.Handing.{Hands}
-use Rattle.bpf_journal.specs.Histories.{HasHistory, IsRun, Record, StandsFor, kept_of, newest}
+use Rattle.bpf_journal.specs.Histories.{HasHistory, IsRun, Record, StandsFor, kept_of, newest, older}
 use Rattle.bpf_journal.specs.TakingBack.{TakesBack, taken_by}
 use Rattle.bpf_journal.proofs.Histories.{history_left, of_move, told}
 
@@ -119,3 +122,21 @@ module _ {K : Type 0} (holds : K → List Kept → Type 0) (old new : K) where
     by : (b : Bool) → is_of_step k.0 ≡ b → (false ≡ is_of_step k.0) × held (if is_of_step k.0 then keep kept_weight size ls k else ls)
     by true step = let is : nothing ≡ Some (tag (kind k.0) k.1) = (some es k holding step).0 in absurd cc
     by false step = (sym step, subst (λ b. held (if b then keep kept_weight size ls k else ls)) (sym step) kept)
+
+-- what was read of the newest tells of its move
+module _ (holds : List Kept → Type 0) (head : Head) (next : Taken) (read : (es : List Kept) → holds es → Some head ≡ option_map head_of (newest es))
+    (told : (entry : Entry) (mark : Bool) → head.tag ≡ tag (kind entry) mark → next ≡ taken_by (entry, mark)) where
+  pub next_is : (es : List Kept) → holds es → Some next ≡ option_map taken_by (newest es)
+  next_is [] held = let none = read [] held in absurd cc
+  next_is (k ∷ es) held =
+      let some = read (k ∷ es) held in
+      let is : head ≡ head_of k = cc in
+      ap Some (told k.0 k.1 (ap (λ (h : Head). h.tag) is))
+
+  pub next_left : (left : List Kept → Type 0) → ((k : Kept) (es : List Kept) → holds (k ∷ es) → head ≡ head_of k → left es)
+      → (es : List Kept) → holds es → (Some next ≡ option_map taken_by (newest es)) × left (older es)
+  next_left left drops [] held = let none = read [] held in absurd cc
+  next_left left drops (k ∷ es) held =
+      let some = read (k ∷ es) held in
+      let is : head ≡ head_of k = cc in
+      (next_is (k ∷ es) held, drops k es held is)

@@ -227,15 +227,16 @@ impl<K: Keeper> Course<K> {
         ensures refused { K.refused self.new.keeper ≡ refusals_by result (K.refused self.old.keeper) }
         ensures room { K.room self.new.keeper ≡ K.room self.old.keeper }
     {
-        let Some(next) = self.redo.newest() else {
+        let Some(head) = self.redo.newest_head() else {
             return Ok(false);
         };
+        let next = Taken::of_tag(head.tag);
         if !next.is_step {
             return self.redo_by_entry();
         }
         match self.timeline.step(next.mark) {
             Ok(_) => {
-                self.redo.drop_newest();
+                self.redo.drop_head(head);
                 Ok(true)
             }
             Err(TimelineFault::Move(_)) => unreachable!(),

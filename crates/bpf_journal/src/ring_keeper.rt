@@ -1,9 +1,10 @@
 //! The keeper that keeps entries as their bytes, in one ring of the journal's size.
 ghost use Rattle.std.specs.Option.{option_map};
-ghost use Rattle.std.specs.Prelude.{◌≡◌, ◌≤◌, [], List, length, sum_by, is_some, None, IfOk, IfErr, OnOk, OnSome, slice_get};
+ghost use Rattle.std.specs.Prelude.{◌≡◌, ◌≤◌, [], ◌∷◌, List, length, sum_by, is_some, None, IfOk, IfErr, IfSome, OnOk, OnSome, slice_get};
 ghost use Rattle.bpf_entries.specs.Fields.{FitsFields};
 ghost use Rattle.bpf_entries.specs.Keeping.{IsSize, Kept, keep, kept_weight};
 ghost use Rattle.bpf_entries.specs.Rings.{AllFit, ring as ring_of};
+ghost use Rattle.bpf_ring.specs.Heads.{head_of};
 ghost use Rattle.bpf_journal.specs.Handing.{Hands};
 ghost use Rattle.bpf_journal.specs.Histories.{HasHistory, Record, StandsFor, newest, older};
 ghost use Rattle.bpf_journal.specs.Opening.{RefusesSize};
@@ -15,7 +16,7 @@ use crate::run::Run;
 use crate::size::is_size;
 use crate::taken::Taken;
 use bpf_machine::{Change, Cpu, Entry};
-use bpf_ring::{EntryRing, StopTest};
+use bpf_ring::{EntryRing, Head, StopTest};
 use circular_buffer::HeapCircularBuffer;
 use std::alloc::{AllocError, Global};
 
@@ -89,8 +90,27 @@ impl RingKeeper {
     pub fn newest(&self) -> Option<Taken>
         ensures { (es : List Kept) → ⟦<RingKeeper as Keeper>⟧.holds self.now es → result ≡ option_map taken_by (newest es) }
     {
-        let tag = self.entries.newest_tag()?;
-        Some(Taken::of_tag(tag))
+        let head = self.entries.newest()?;
+        Some(Taken::of_tag(head.tag))
+    }
+
+    /// What is read of the newest entry. None where none is held.
+    #[inline(always)]
+    pub(crate) fn newest_head(&self) -> Option<Head>
+        ensures head { (es : List Kept) → ⟦<RingKeeper as Keeper>⟧.holds self.now es → result ≡ option_map head_of (newest es) }
+        ensures within { IfSome result (λ head. head.len ≤ length self.now.entries.ring.bytes) }
+    {
+        self.entries.newest()
+    }
+
+    /// Lets the newest entry go, of which this was read.
+    #[inline(always)]
+    pub(crate) fn drop_head(&mut self, head: Head)
+        requires { head.len ≤ length self.old.entries.ring.bytes }
+        ensures room { ⟦<RingKeeper as Keeper>⟧.room self.new ≡ ⟦<RingKeeper as Keeper>⟧.room self.old }
+        ensures held { (k : Kept) (es : List Kept) → ⟦<RingKeeper as Keeper>⟧.holds self.old (k ∷ es) → head ≡ head_of k → ⟦<RingKeeper as Keeper>⟧.holds self.new es }
+    {
+        self.entries.drop_newest(head);
     }
 
     /// Lets the newest entry go, where one is held.

@@ -221,15 +221,12 @@ came_by content counts n count y way some len same = split way.ks way.held way.l
         come = record { entry = k.0; mark = k.1; come = led; fits = fits; held = told.1 };
       }
 
--- The newest dropped, by its tag.
-pub dropped_newest : (old new : Content) (before after : Counts) (n count t : ℕ) (ks : List Kept) (k : Kept) → IsHeld old before (k ∷ ks)
-    → ((w : ℕ) (before : List ℕ) → w < 2 ^ 16 → old.bytes ≡ before ++ little_bytes 2 w → n ≡ w)
-    → (1 ≤ n → n ≤ length old.bytes → count ≡ n)
-    → t ≡ tag (kind k.0) k.1
+-- The newest dropped, by its length and its tag.
+pub dropped_exact : (old new : Content) (before after : Counts) (count t : ℕ) (ks : List Kept) (k : Kept) → IsHeld old before (k ∷ ks)
+    → count ≡ weight k.0 → t ≡ tag (kind k.0) k.1
     → new.bytes ≡ take (length old.bytes - count) old.bytes → CountsNewest before after t → IsHeld new after ks
-dropped_newest old new before after n count t ks k held len same is bytes counts =
+dropped_exact old new before after count t ks k held exact is bytes counts =
     let fits : FitsFields k.0 = All-head (λ k. FitsFields k.0) k ks held.fit in
-    let exact : count ≡ weight k.0 = newest_count old before n count ks k held len same in
     let long : length (text k.0 k.1) ≡ weight k.0 = length-text k.0 k.1 fits in
     let sum : length old.bytes ≡ length (ring ks) + length (text k.0 k.1) = ap length held.bytes ∙ length-append (ring ks) (text k.0 k.1) in
     let place : length (ring ks) ≡ length old.bytes - count = omega (arith, sum, long, exact) in
@@ -238,6 +235,15 @@ dropped_newest old new before after n count t ks k held len same is bytes counts
       bytes = bytes ∙ ap (take (length old.bytes - count)) held.bytes ∙ take_at (ring ks) (text k.0 k.1) (length old.bytes - count) place;
       counted = counts ks k held.counted is;
     }
+
+-- The same, by what was read of its length.
+pub dropped_newest : (old new : Content) (before after : Counts) (n count t : ℕ) (ks : List Kept) (k : Kept) → IsHeld old before (k ∷ ks)
+    → ((w : ℕ) (before : List ℕ) → w < 2 ^ 16 → old.bytes ≡ before ++ little_bytes 2 w → n ≡ w)
+    → (1 ≤ n → n ≤ length old.bytes → count ≡ n)
+    → t ≡ tag (kind k.0) k.1
+    → new.bytes ≡ take (length old.bytes - count) old.bytes → CountsNewest before after t → IsHeld new after ks
+dropped_newest old new before after n count t ks k held len same is bytes counts =
+    dropped_exact old new before after count t ks k held (newest_count old before n count ks k held len same) is bytes counts
 
 -- The same, by what was read at its place.
 pub popped : (old new : Content) (before after : Counts) (n count t : ℕ) (ks : List Kept) (k : Kept) → IsHeld old before (k ∷ ks)

@@ -1,5 +1,6 @@
 pub mod Blocks
 pub mod Counted
+pub mod Heads
 pub mod Held
 pub mod Runs
 pub mod Spans

@@ -1,5 +1,5 @@
 //! The entries in a ring of bytes.
-ghost use Rattle.std.specs.Prelude.{◌≡◌, ◌≤◌, ◌<◌, ◌+◌, ◌-◌, ◌^◌, if◌then◌else◌, ◌∷◌, ◌++◌, [], List, length, sum_by, count_by, IfOk, None, Some, slice_get, is_some, ℕ, true, false, drop};
+ghost use Rattle.std.specs.Prelude.{◌≡◌, ◌≤◌, ◌<◌, ◌+◌, ◌-◌, ◌^◌, if◌then◌else◌, ◌∷◌, ◌++◌, [], List, length, sum_by, count_by, IfOk, IfSome, None, Some, slice_get, is_some, ℕ, true, false, drop};
 ghost use Rattle.bpf_entries.specs.Before.{byte_before as byte_before_by, depth_before as depth_before_by};
 ghost use Rattle.bpf_entries.specs.Fields.{FitsFields};
 ghost use Rattle.bpf_entries.specs.Keeping.{Kept, kept_weight, fit, keep};
@@ -16,6 +16,7 @@ ghost use Rattle.bpf_machine.specs.State.{State};
 ghost use Rattle.bpf_machine.specs.declared.moves.Move.{Move};
 ghost use Rattle.bpf_machine.specs.declared.moves.Move.TheVariants as move_of;
 ghost use Rattle.bpf_ring.specs.Counted.{Counted};
+ghost use Rattle.bpf_ring.specs.Heads.{head_of};
 ghost use Rattle.bpf_ring.specs.Held.{HoldsWay, IsHeld};
 ghost use Rattle.bpf_ring.specs.Runs.{RunsTo, kept_after};
 ghost use Rattle.bpf_ring.specs.Texts.{TakesText};
@@ -29,6 +30,15 @@ use bpf_machine::laws::entries_fit;
 use bpf_machine::{Change, Cpu, Ended};
 use circular_buffer::HeapCircularBuffer;
 use std::alloc::{AllocError, Global};
+
+/// What is read of an entry before it is let go.
+#[derive(Clone, Copy)]
+pub struct Head {
+    /// How many bytes it has.
+    len: usize,
+    /// Its kind, and whether it is marked.
+    pub tag: u8,
+}
 
 /// The newest entries and marks that fit a ring of bytes. Its memory is taken once, when it is opened: no other call takes any, so no
 /// push is ever refused.
@@ -152,18 +162,20 @@ impl EntryRing {
         Entry::read(&text[..count])
     }
 
-    /// The tag of the newest entry: its kind, and whether it is marked. None where none is held.
+    /// What is read of the newest entry: how many bytes it has, and its tag. None where none is held.
     #[inline(always)]
-    pub fn newest_tag(&self) -> Option<u8>
+    pub fn newest(&self) -> Option<Head>
         ensures none { IsHeld self.now.ring self.now.counts [] → result ≡ None }
-        ensures some { (ks : List Kept) (k : Kept) → IsHeld self.now.ring self.now.counts (k ∷ ks) → result ≡ Some (tag_of (kind k.0) k.1) }
+        ensures some { (ks : List Kept) (k : Kept) → IsHeld self.now.ring self.now.counts (k ∷ ks) → result ≡ Some (head_of k) }
+        ensures within { IfSome result (λ head. head.len ≤ length self.now.ring.bytes) }
     {
         let len = self.ring.len();
         if len < 5 {
             return None;
         }
-        let weight = within(self.ring.newest_len(), len);
-        Some(self.ring.tag_at(len - weight))
+        let count = within(self.ring.newest_len(), len);
+        let tag = self.ring.tag_at(len - count);
+        Some(Head { len: count, tag })
     }
 
     /// The place of the whole list: how many bytes it has.
@@ -350,14 +362,22 @@ impl EntryRing {
         ensures some { (ks : List Kept) (k : Kept) → IsHeld self.old.ring self.old.counts (k ∷ ks) → IsHeld self.new.ring self.new.counts ks }
     {
         self.invariant();
-        let len = self.ring.len();
-        if len < 5 {
-            return;
+        match self.newest() {
+            Some(head) => self.drop_newest(head),
+            None => {}
         }
-        let count = within(self.ring.newest_len(), len);
-        let tag = self.ring.tag_at(len - count);
-        self.ring.drop_newest(count);
-        self.counts.subtract(tag);
+    }
+
+    /// Drops the newest entry, whole, of which this was read.
+    #[inline(always)]
+    pub fn drop_newest(&mut self, head: Head)
+        requires { head.len ≤ length self.old.ring.bytes }
+        ensures size { self.new.ring.size ≡ self.old.ring.size }
+        ensures fits { length self.new.ring.bytes ≤ self.new.ring.size }
+        ensures held { (ks : List Kept) (k : Kept) → IsHeld self.old.ring self.old.counts (k ∷ ks) → head ≡ head_of k → IsHeld self.new.ring self.new.counts ks }
+    {
+        self.ring.drop_newest(head.len);
+        self.counts.subtract(head.tag);
         self.invariant();
     }
 

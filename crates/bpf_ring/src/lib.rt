@@ -7,6 +7,6 @@ mod entries;
 mod ring;
 mod run;
 
-pub use entries::EntryRing;
+pub use entries::{EntryRing, Head};
 pub use ring::Ring;
 pub use run::{StopTest, change_replaces_bytes};
