@@ -71,6 +71,28 @@ pub(crate) fn write_around(block: &mut [u8], first: usize, len: usize, bytes: &[
     }
 }
 
+/// Writes bytes behind the `len` ones from `first` on: in one piece, in front of the block's last byte. Where that is no room for them, all stays.
+#[inline(always)]
+pub(crate) fn write_in_place(block: &mut [u8], first: usize, len: usize, bytes: &[u8]) -> bool
+    requires short { length block.old < 2 ^ 63 }
+    requires first { first < length block.old }
+    requires fits { len + length bytes.now < 2 ^ 63 }
+    requires len { len ≤ length block.old }
+    ensures room { result ≡ nat_lt (behind (length block.old) first len + length bytes.now) (length block.old) }
+    ensures stays { result ≡ false → block.new ≡ block.old }
+    ensures len { length block.new ≡ length block.old }
+    ensures text { result ≡ true → len + length bytes.now ≤ length block.old → around block.new first (len + length bytes.now) ≡ around block.old first len ++ bytes.now }
+{
+    let size = block.len();
+    let end = place(size, first, len);
+    if end + bytes.len() < size {
+        copy(&mut block[end..end + bytes.len()], bytes);
+        true
+    } else {
+        false
+    }
+}
+
 /// Copies bytes. The arms are alike: those of a jump's entry and of a register's, which are the common ones, are each copied at once.
 #[inline(always)]
 fn copy(into: &mut [u8], bytes: &[u8])

@@ -17,7 +17,7 @@ ghost use Rattle.bpf_ring.specs.Held.{IsHeld};
 ghost use Rattle.bpf_ring.specs.Runs.{RunsTo, Running, kept_after, state_after};
 ghost use Rattle.bpf_ring.specs.Spans.{counts_of};
 
-use crate::block::{fill, place, record_in_place, write_around};
+use crate::block::{fill, place, record_in_place, write_around, write_in_place};
 use crate::counts::Counts;
 use crate::run::{Reached, Span, StopTest, run_in_place};
 use bpf_entries::weights::GREATEST;
@@ -123,7 +123,23 @@ impl Ring {
     }
 
     /// Appends bytes, for which there must be room. It takes no memory.
+    #[inline(always)]
     pub fn push(&mut self, bytes: &[u8])
+        requires { length self.old.bytes + length bytes.now ≤ self.old.size }
+        ensures size { self.new.size ≡ self.old.size }
+        ensures bytes { self.new.bytes ≡ self.old.bytes ++ bytes.now }
+    {
+        let block = self.buffer.make_contiguous();
+        if write_in_place(block, self.first, self.len, bytes) {
+            self.len += bytes.len();
+        } else {
+            self.push_apart(bytes);
+        }
+    }
+
+    /// The same, where the block may have to be filled on, or the bytes go around its end.
+    #[inline(never)]
+    fn push_apart(&mut self, bytes: &[u8])
         requires { length self.old.bytes + length bytes.now ≤ self.old.size }
         ensures size { self.new.size ≡ self.old.size }
         ensures bytes { self.new.bytes ≡ self.old.bytes ++ bytes.now }
@@ -207,7 +223,7 @@ impl Ring {
     {
         let mut scratch = [0u8; GREATEST];
         cpu.record(&change, &mut scratch, mark);
-        self.push(&scratch[..weight]);
+        self.push_apart(&scratch[..weight]);
     }
 
     /// Takes back the move whose entry's text the newest bytes are, so many: they are read where they lie, or from a copy where they go around

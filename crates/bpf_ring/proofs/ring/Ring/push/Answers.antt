@@ -1,17 +1,14 @@
-use Rattle.std.proofs.Common.{◌+◌, ◌∙◌, ◌++◌, length, ap}
+use Rattle.std.proofs.Common.{◌≡◌, ◌∙◌, ◌++◌, length, ap}
 use Rattle.bpf_ring.specs.Blocks.{Content, around}
 use Rattle.bpf_ring.proofs.ring.Ring.push.Goals as goal
-use Rattle.bpf_ring.proofs.Arounds.{around_filled}
 
-pub returns-clause-bytes : goal.returns-clause-bytes
-returns-clause-bytes c =
+pub returns-else-write_in_place-clause-bytes : goal.returns-else-write_in_place-clause-bytes
+returns-else-write_in_place-clause-bytes c =
     let inside = c.self.inside in
     let bytes = c.args.bytes.now in
-    let block = c.write_around.new.block in
     let lent = c.make_contiguous-block.ensures in
-    ap (λ l. around l inside.first (inside.len + length bytes)) (lent.same_len block (c.write_around.ensures.len ∙ ap length lent.value))
-    ∙ c.write_around.ensures.text
-    ∙ ap (λ l. around l inside.first inside.len ++ bytes) lent.value
-    ∙ ap (λ l. l ++ bytes)
-    (around_filled inside.buffer.items c.fill.new.buffer.items inside.first inside.len inside.buffer.capacity c.fill.ensures.items c.fill.ensures.fits c.self.invariant.filled c.self.invariant.within c.self.invariant.fits
-    ∙ ap (λ (j : Content). j.bytes) c.self.view_is)
+    let block = c.write_in_place.new.block in
+    let kept : block ≡ inside.buffer.items = c.write_in_place.ensures.stays c.if-write_in_place.false ∙ lent.value in
+    c.push_apart.ensures.bytes
+    ∙ ap (λ l. around l inside.first inside.len ++ bytes) (lent.same_len block (ap length kept) ∙ kept)
+    ∙ ap (λ l. l ++ bytes) (ap (λ (j : Content). j.bytes) c.self.view_is)

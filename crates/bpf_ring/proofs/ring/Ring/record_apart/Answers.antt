@@ -12,4 +12,4 @@ returns-clause-bytes c =
     let m = c.args.mark in
     let count : length (text entry m) ≡ w = length-text entry m c.requires.entry ∙ sym c.requires.weight in
     let written : take w c.record.new.room ≡ text entry m = ap (take w) c.record.ensures.text ∙ take_at (text entry m) _ w count in
-    c.push.ensures.bytes ∙ ap (λ t. c.args.self.now.bytes ++ t) written
+    c.push_apart.ensures.bytes ∙ ap (λ t. c.args.self.now.bytes ++ t) written
