@@ -4,4 +4,4 @@ pub mod Heads
 pub mod Held
 pub mod Runs
 pub mod Spans
-pub mod Texts
+pub mod Taking

@@ -19,7 +19,7 @@ ghost use Rattle.bpf_ring.specs.Counted.{Counted};
 ghost use Rattle.bpf_ring.specs.Heads.{head_of};
 ghost use Rattle.bpf_ring.specs.Held.{HoldsWay, IsHeld};
 ghost use Rattle.bpf_ring.specs.Runs.{RunsTo, kept_after};
-ghost use Rattle.bpf_ring.specs.Texts.{TakesText};
+ghost use Rattle.bpf_ring.specs.Taking.{TakesText};
 
 use crate::counts::{Counts, within};
 use crate::ring::Ring;

@@ -272,6 +272,21 @@ impl Ring {
         }
     }
 
+    /// The bytes from an index on, so many, where they lie in one piece; None where they go around the block's end.
+    #[inline(always)]
+    fn piece(&self, from: usize, count: usize) -> Option<&[u8]>
+        requires { from + count ≤ length self.now.bytes }
+        ensures { IfSome result (λ piece. piece.now ≡ take count (drop from self.now.bytes)) }
+    {
+        let at = place(self.buffer.len(), self.first, from);
+        let (block, _) = self.buffer.as_slices();
+        if at + count <= block.len() {
+            Some(&block[at..at + count])
+        } else {
+            None
+        }
+    }
+
     /// The byte at an address and the depth of calls before the move whose entry's text are so many bytes from an index on, where they are
     /// `after` and `depth` behind the move: the bytes are read where they lie, or from a copy where they go around the block's end.
     #[inline(always)]
@@ -437,8 +452,21 @@ impl Ring {
         }
     }
 
-    /// How many bytes an entry has that ends at a place, by the two bytes in front of the place.
+    /// How many bytes an entry has that ends at a place, by the two bytes in front of the place: they are read at once where they lie in one piece.
+    #[inline(always)]
     pub fn len_before(&self, place: usize) -> usize
+        requires { (2 ≤ place) × (place ≤ length self.now.bytes) }
+        ensures { (n : ℕ) (before rest : List ℕ) → n < 2 ^ 16 → self.now.bytes ≡ before ++ (little_bytes 2 n ++ rest) → place ≡ length before + 2 → result ≡ n }
+    {
+        match self.piece(place - 2, 2) {
+            Some(piece) => number(piece),
+            None => self.len_before_apart(place),
+        }
+    }
+
+    /// The same, a byte at a time.
+    #[inline(never)]
+    fn len_before_apart(&self, place: usize) -> usize
         requires { (2 ≤ place) × (place ≤ length self.now.bytes) }
         ensures { (n : ℕ) (before rest : List ℕ) → n < 2 ^ 16 → self.now.bytes ≡ before ++ (little_bytes 2 n ++ rest) → place ≡ length before + 2 → result ≡ n }
     {

@@ -1,6 +1,6 @@
 use Rattle.std.proofs.Common.{subst, sym}
 use Rattle.bpf_machine.specs.Moves.{HasComeBy}
-use Rattle.bpf_ring.specs.Texts.{TakesText}
+use Rattle.bpf_ring.specs.Taking.{TakesText}
 use Rattle.bpf_ring.proofs.entries.EntryRing.take_apart.Goals as goal
 
 pub take_text-requires : goal.take_text-requires
