@@ -12,7 +12,8 @@ use Rattle.bpf_journal.specs.Timelines.{record_of}
 use Rattle.bpf_session.specs.Points.{Point, Bounds, without_ahead}
 use Rattle.bpf_session.specs.Outcomes.{Outcome, refused, replied, unless_refused}
 use Rattle.bpf_session.specs.Stops.{has}
-use Rattle.bpf_session.specs.Forward.{state_after, kept, gone, still_ahead, stop, steps, least, reason, taken, cut, forward}
+use Rattle.bpf_ring.specs.Runs.{state_after}
+use Rattle.bpf_session.specs.Forward.{kept, gone, still_ahead, stop, steps, least, reason, taken, cut, forward}
 use Rattle.bpf_session.specs.Redo.{again, cut_again, redone, why_again}
 use Rattle.bpf_journal.specs.Lookups.{Test, latest, state_before}
 use Rattle.bpf_session.specs.Backward.{back, before_last, back_by, found, to_stop, marks, kept_steps}

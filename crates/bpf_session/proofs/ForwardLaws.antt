@@ -7,7 +7,8 @@ use Rattle.bpf_entries.specs.Status.{has_ended}
 use Rattle.bpf_session.specs.Points.{Point, Bounds}
 use Rattle.bpf_session.specs.Outcomes.{Outcome, refused, unless_refused}
 use Rattle.bpf_session.specs.Stops.{breaks_at, watch_differs}
-use Rattle.bpf_session.specs.Forward.{state_after, is_done, stop, least, steps, reason, taken, cut, forward}
+use Rattle.bpf_ring.specs.Runs.{state_after}
+use Rattle.bpf_session.specs.Forward.{is_done, stop, least, steps, reason, taken, cut, forward}
 use Rattle.bpf_session.specs.Redo.{again, cut_again, redone, why_again}
 use Rattle.bpf_session.specs.Refused.{refusals_of}
 use Rattle.bpf_session.specs.Meaning.{accepted, does}

@@ -4,7 +4,6 @@ use Rattle.std.proofs.lemmas.Bool.Decides.{nat_tests}
 use Rattle.std.specs.Prelude.{if◌then◌else◌, nat_lt, not, unwrap_or, IfOk, Result}
 use Rattle.std.specs.Str.{bytes_eq}
 use Rattle.bpf_machine.specs.State.{State, depth}
-use Rattle.bpf_machine.specs.Next.{next}
 use Rattle.bpf_machine.specs.Entries.{step_entry}
 use Rattle.bpf_machine.specs.Moves.{Leads}
 use Rattle.bpf_entries.specs.Past.{replaced}
@@ -15,8 +14,7 @@ use Rattle.bpf_journal.specs.Histories.{Record, record_weight}
 use Rattle.bpf_journal.specs.Runs.{Ends, history_after, refusals_by_run}
 use Rattle.bpf_journal.specs.Tracks.{Track, track_after, track_of}
 use Rattle.bpf_journal.proofs.Runs.{ends_state}
-use Rattle.bpf_ring.specs.Runs as run
-use Rattle.bpf_ring.specs.Runs.{AreSteps, stops_after}
+use Rattle.bpf_ring.specs.Runs.{AreSteps, state_after, stops_after}
 use Rattle.bpf_journal.specs.Replaced.{replaces_bytes}
 use Rattle.bpf_journal.proofs.Telling.{kept_bytes}
 use Rattle.bpf_journal.specs.Timelines.{record_of}
@@ -24,7 +22,7 @@ use Rattle.bpf_session.specs.Points.{Point}
 use Rattle.bpf_session.specs.Outcomes.{Outcome, refused, unless_refused}
 use Rattle.bpf_session.specs.Refused.{refusals_of, when}
 use Rattle.bpf_session.specs.Stops.{has, some_differs}
-use Rattle.bpf_session.specs.Forward.{state_after, kept, gone, still_ahead, is_done, stop, stop_in, least, steps, taken, forward}
+use Rattle.bpf_session.specs.Forward.{kept, gone, still_ahead, is_done, stop, stop_in, least, steps, taken, forward}
 use Rattle.bpf_session.specs.Halting.{floor_of, halts, most_of}
 use Rattle.bpf_session.specs.Watched.{bytes_at}
 use Rattle.bpf_session.proofs.Watching.{compares, compares_none}
@@ -109,16 +107,11 @@ module _ {K : Type 0} (holds : K → List Kept → Type 0) where
     past,
   )
 
--- a state and a history after so many steps are those of the run of the journal
-pub same_state : (k : ℕ) (x : State) → run.state_after k x ≡ state_after k x
-same_state zero x = refl
-same_state (suc k) x = ap next (same_state k x)
-
+-- a history after so many steps is that of the run of the journal
 same_history : (room k : ℕ) (p : Point) → history_after room k p.state p.history ≡ kept room k p
 same_history room zero p = refl
 same_history room (suc k) p =
-    ap (λ (x : State). keep record_weight room (history_after room k p.state p.history) (record_of x Step (k == 0))) (same_state k p.state)
-    ∙ ap (λ (h : List Record). keep record_weight room h (record_of (state_after k p.state) Step (k == 0))) (same_history room k p)
+    ap (λ (h : List Record). keep record_weight room h (record_of (state_after k p.state) Step (k == 0))) (same_history room k p)
 
 same_track : {K : Type 0} (room k : ℕ) (s : SessionValue K) (h : Track) → track_after room k s.moment.state h ≡ track_at (gone room k (point_of s h))
 same_track room zero s h = refl
@@ -212,22 +205,22 @@ seen_more watches seen x y false leads is saw quiet =
     let c = compares_none watches seen x y saw (λ a. kept_bytes x y Step leads (sym is) a) in
     (c.same refl, sym c.since)
 
-module _ (breaks watches seen : List ℕ) (floor : ℕ) (x : State) (n : ℕ) (saw : seen ≡ bytes_at watches x) (leads : (k : ℕ) → suc k < n → Leads (run.state_after k x) Step (run.state_after (suc k) x))
+module _ (breaks watches seen : List ℕ) (floor : ℕ) (x : State) (n : ℕ) (saw : seen ≡ bytes_at watches x) (leads : (k : ℕ) → suc k < n → Leads (state_after k x) Step (state_after (suc k) x))
     (quiet : (k : ℕ) → k < n → stops_after (halts breaks watches seen floor) x k ≡ false) where
   -- what a step tells that is not the last one
-  step_quiet : (k : ℕ) → suc k < n → (has_ended (run.state_after (suc k) x).status ≡ false) × (has breaks (run.state_after (suc k) x).pc ≡ false) × (nat_lt (depth (run.state_after (suc k) x)) floor ≡ false)
-      × ((if is_some (replaced 0 (step_entry (run.state_after k x))) then not (bytes_eq (bytes_at watches (run.state_after (suc k) x)) seen) else false) ≡ false)
-  step_quiet k low = goes_on (has_ended (run.state_after (suc k) x).status) (has breaks (run.state_after (suc k) x).pc) (nat_lt (depth (run.state_after (suc k) x)) floor)
-      (if is_some (replaced 0 (step_entry (run.state_after k x))) then not (bytes_eq (bytes_at watches (run.state_after (suc k) x)) seen) else false) (quiet (suc k) low)
+  step_quiet : (k : ℕ) → suc k < n → (has_ended (state_after (suc k) x).status ≡ false) × (has breaks (state_after (suc k) x).pc ≡ false) × (nat_lt (depth (state_after (suc k) x)) floor ≡ false)
+      × ((if is_some (replaced 0 (step_entry (state_after k x))) then not (bytes_eq (bytes_at watches (state_after (suc k) x)) seen) else false) ≡ false)
+  step_quiet k low = goes_on (has_ended (state_after (suc k) x).status) (has breaks (state_after (suc k) x).pc) (nat_lt (depth (state_after (suc k) x)) floor)
+      (if is_some (replaced 0 (step_entry (state_after k x))) then not (bytes_eq (bytes_at watches (state_after (suc k) x)) seen) else false) (quiet (suc k) low)
 
-  seen_still : (k : ℕ) → k < n → seen ≡ bytes_at watches (run.state_after k x)
+  seen_still : (k : ℕ) → k < n → seen ≡ bytes_at watches (state_after k x)
   seen_still zero low = saw
   seen_still (suc k) low =
-      (seen_more watches seen (run.state_after k x) (run.state_after (suc k) x) (is_some (replaced 0 (step_entry (run.state_after k x)))) (leads k low) refl (seen_still k (omega (arith, low))) (step_quiet k low).3).0
+      (seen_more watches seen (state_after k x) (state_after (suc k) x) (is_some (replaced 0 (step_entry (state_after k x)))) (leads k low) refl (seen_still k (omega (arith, low))) (step_quiet k low).3).0
 
-  same_watched : (k : ℕ) → suc k < n → some_differs watches (run.state_after k x) (run.state_after (suc k) x) ≡ false
+  same_watched : (k : ℕ) → suc k < n → some_differs watches (state_after k x) (state_after (suc k) x) ≡ false
   same_watched k low =
-      (seen_more watches seen (run.state_after k x) (run.state_after (suc k) x) (is_some (replaced 0 (step_entry (run.state_after k x)))) (leads k low) refl (seen_still k (omega (arith, low))) (step_quiet k low).3).1
+      (seen_more watches seen (state_after k x) (state_after (suc k) x) (is_some (replaced 0 (step_entry (state_after k x)))) (leads k low) refl (seen_still k (omega (arith, low))) (step_quiet k low).3).1
 
 -- the run of a command
 pub record Ran {K : Type 0} (holds : K → List Kept → Type 0) (refusals room : K → ℕ) (old new : SessionValue K) (goal : Goal) (seen : List ℕ) (n : ℕ) (cut : Bool) : Type 0 where
@@ -264,12 +257,8 @@ module _ {K : Type 0} (holds : K → List Kept → Type 0) (refusals room : K �
   abbrev test_of : Bool → State → Bool
   test_of = halts old.breaks old.watches seen (floor_of goal (depth old.moment.state))
 
-  -- why it stops, by the states of the journal's run
-  stop_of : (h : Track) (k : ℕ) → stop old.limit goal (point_of old h) (suc k) ≡ stop_in old.limit goal (point_of old h) (suc k) (run.state_after k old.moment.state) (run.state_after (suc k) old.moment.state)
-  stop_of h k = rw (same_state k old.moment.state) refl
-
   -- no smaller number of steps stops it
-  none_before : (n : ℕ) → n ≤ most_of goal old.limit → seen ≡ bytes_at old.watches old.moment.state → ((k : ℕ) → suc k < n → Leads (run.state_after k old.moment.state) Step (run.state_after (suc k) old.moment.state))
+  none_before : (n : ℕ) → n ≤ most_of goal old.limit → seen ≡ bytes_at old.watches old.moment.state → ((k : ℕ) → suc k < n → Leads (state_after k old.moment.state) Step (state_after (suc k) old.moment.state))
       → ((k : ℕ) → k < n → stops_after test_of old.moment.state k ≡ false)
       → (h : Track) (j : ℕ) → 1 ≤ j → j < n → is_some (stop old.limit goal (point_of old h) j) ≡ false
   none_before n within saw leads quiet h zero some low = absurd (omega arith)
@@ -277,14 +266,14 @@ module _ {K : Type 0} (holds : K → List Kept → Type 0) (refusals room : K �
       let x = old.moment.state in
       let q = step_quiet old.breaks old.watches seen (floor_of goal (depth x)) x n saw leads quiet k low in
       let w = same_watched old.breaks old.watches seen (floor_of goal (depth x)) x n saw leads quiet k low in
-      let d = not_done goal (depth x) (suc k) old.limit (run.state_after (suc k) x) q.2 (omega (arith, within, low)) in
-      let none : stop_in old.limit goal (point_of old h) (suc k) (run.state_after k x) (run.state_after (suc k) x) ≡ None = rw (q.0, q.1, w, d.0, d.1) refl in
-      ap is_some (stop_of h k ∙ none)
+      let d = not_done goal (depth x) (suc k) old.limit (state_after (suc k) x) q.2 (omega (arith, within, low)) in
+      let none : stop_in old.limit goal (point_of old h) (suc k) (state_after k x) (state_after (suc k) x) ≡ None = rw (q.0, q.1, w, d.0, d.1) refl in
+      ap is_some none
 
   -- where it stands
   stands_there : (n : ℕ) (cut : Bool) → Ran holds refusals room old new goal seen n cut → (h : Track) → HasPast holds old h → StandsAt holds new (gone (room old.moment.keeper) n (point_of old h))
   stands_there n cut r h st =
-      let state : new.moment.state ≡ state_after n old.moment.state = ends_state _ _ _ _ _ cut r.ends ∙ same_state n old.moment.state in
+      let state : new.moment.state ≡ state_after n old.moment.state = ends_state _ _ _ _ _ cut r.ends in
       stands_gone holds (room old.moment.keeper) n old new h r.only state
       (subst (HasPast holds new) (same_track (room old.moment.keeper) n old h) (r.kept h st))
 
@@ -299,15 +288,15 @@ module _ {K : Type 0} (holds : K → List Kept → Type 0) (refusals room : K �
   ran_to (suc k) r differs told why stops =
       let x = old.moment.state in
       let y = new.moment.state in
-      let a = run.state_after k x in
+      let a = state_after k x in
       let floor = floor_of goal (depth x) in
       let ends = r.ends in
-      let leads : (j : ℕ) → suc j < suc k → Leads (run.state_after j x) Step (run.state_after (suc j) x) = λ j low. ends.steps j (omega (arith, low)) in
+      let leads : (j : ℕ) → suc j < suc k → Leads (state_after j x) Step (state_after (suc j) x) = λ j low. ends.steps j (omega (arith, low)) in
       let saw : seen ≡ bytes_at old.watches a = seen_still old.breaks old.watches seen floor x (suc k) r.saw leads ends.before k (omega arith) in
-      let compared = compares old.watches seen a (run.state_after (suc k) x) (not (bytes_eq (bytes_at old.watches (run.state_after (suc k) x)) seen)) saw refl in
+      let compared = compares old.watches seen a (state_after (suc k) x) (not (bytes_eq (bytes_at old.watches (state_after (suc k) x)) seen)) saw refl in
       let now : differs ≡ some_differs new.watches a y = (compares new.watches seen a y differs (saw ∙ ap (λ (ws : List ℕ). bytes_at ws a) (sym r.only.watches)) told).since in
       let here : (h : Track) → stop_in new.limit goal (record (point_of new h) { state = x }) (suc k) a y ≡ stop old.limit goal (point_of old h) (suc k) = λ h. at_old h k r.only ends.state in
-      let some : (h : Track) → is_some (stop old.limit goal (point_of old h) (suc k)) ≡ true = λ h. ap is_some (stop_of h k) ∙ stopped k compared.since ends.last in
+      let some : (h : Track) → is_some (stop old.limit goal (point_of old h) (suc k)) ≡ true = λ h. stopped k compared.since ends.last in
       let is_why : (h : Track) → stop old.limit goal (point_of old h) (suc k) ≡ Some why = λ h. sym (some_is (stop old.limit goal (point_of old h) (suc k)) Limit (some h)) ∙ ap Some (sym (stops a h now ∙ ap (λ o. unwrap_or o Limit) (here h))) in
       let tells = none_told (suc k) why _ _ _ _ _ (sym (is_why (track_of []))) in
       let fresh = r.fresh in
@@ -327,20 +316,20 @@ module _ {K : Type 0} (holds : K → List Kept → Type 0) (refusals room : K �
         there = tt;
       }
     where
-      at_old : (h : Track) (k : ℕ) → OnlyMoment old new → new.moment.state ≡ run.state_after (suc k) old.moment.state → stop_in new.limit goal (record (point_of new h) { state = old.moment.state }) (suc k) (run.state_after k old.moment.state) new.moment.state ≡ stop old.limit goal (point_of old h) (suc k)
-      at_old h k only is = rw (only.limit, only.breaks, only.watches, is) (sym (stop_of h k))
+      at_old : (h : Track) (k : ℕ) → OnlyMoment old new → new.moment.state ≡ state_after (suc k) old.moment.state → stop_in new.limit goal (record (point_of new h) { state = old.moment.state }) (suc k) (state_after k old.moment.state) new.moment.state ≡ stop old.limit goal (point_of old h) (suc k)
+      at_old h k only is = rw (only.limit, only.breaks, only.watches, is) refl
 
       changed_if : (replaced b : Bool) → (if replaced then b else false) ≡ true → b ≡ true
       changed_if true b h = h
       changed_if false b h = cc
 
-      stopped : (k : ℕ) → not (bytes_eq (bytes_at old.watches (run.state_after (suc k) old.moment.state)) seen) ≡ some_differs old.watches (run.state_after k old.moment.state) (run.state_after (suc k) old.moment.state)
+      stopped : (k : ℕ) → not (bytes_eq (bytes_at old.watches (state_after (suc k) old.moment.state)) seen) ≡ some_differs old.watches (state_after k old.moment.state) (state_after (suc k) old.moment.state)
           → (stops_after test_of old.moment.state (suc k) ≡ true) ⊎ (suc k ≡ most_of goal old.limit)
-          → is_some (stop_in old.limit goal (point_of old (track_of [])) (suc k) (run.state_after k old.moment.state) (run.state_after (suc k) old.moment.state)) ≡ true
+          → is_some (stop_in old.limit goal (point_of old (track_of [])) (suc k) (state_after k old.moment.state) (state_after (suc k) old.moment.state)) ≡ true
       stopped k same (inl stops) =
-          stops_some _ _ _ _ _ _ _ (done_below goal (depth old.moment.state) (suc k) (run.state_after (suc k) old.moment.state))
-          (λ h. sym same ∙ changed_if (is_some (replaced 0 (step_entry (run.state_after k old.moment.state)))) _ h) stops
-      stopped k same (inr all) = ends_some _ _ _ _ _ (done_at_most goal (depth old.moment.state) (suc k) old.limit (run.state_after (suc k) old.moment.state) all)
+          stops_some _ _ _ _ _ _ _ (done_below goal (depth old.moment.state) (suc k) (state_after (suc k) old.moment.state))
+          (λ h. sym same ∙ changed_if (is_some (replaced 0 (step_entry (state_after k old.moment.state)))) _ h) stops
+      stopped k same (inr all) = ends_some _ _ _ _ _ (done_at_most goal (depth old.moment.state) (suc k) old.limit (state_after (suc k) old.moment.state) all)
 
   -- a run that the keeper cut short
   pub ran_cut : (n : ℕ) → Ran holds refusals room old new goal seen n true → Obeys holds refusals room old new Meaning (if n == 0 then Err OutOfMemory else Ok (replies.Forward n Memory))

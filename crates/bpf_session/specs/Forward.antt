@@ -1,10 +1,10 @@
 -- A forward command takes the least number of steps, at least one, after which a stop holds.
 use Rattle.std.specs.Prelude.{◌+◌, ℕ, zero, suc, Bool, false, List, [], Option, Some, None, is_some, unwrap_or, if◌then◌else◌, ◌==◌, nat_le, nat_lt}
-use Rattle.bpf_machine.specs.Next.{next}
 use Rattle.bpf_machine.specs.State.{State, depth}
 use Rattle.bpf_entries.specs.Status.{has_ended}
 use Rattle.bpf_machine.specs.declared.moves.Move.TheVariants.{Step}
 use Rattle.bpf_entries.specs.Keeping.{keep}
+use Rattle.bpf_ring.specs.Runs.{state_after}
 use Rattle.bpf_journal.specs.Histories.{Record, record_weight}
 use Rattle.bpf_journal.specs.Timelines.{record_of}
 use Rattle.bpf_session.specs.Points.{Point, Bounds}
@@ -16,11 +16,6 @@ use Rattle.bpf_session.specs.declared.reply.Reply.TheVariants.{Forward}
 use Rattle.bpfdb_commands.specs.declared.command.Goal.{Goal}
 use Rattle.bpfdb_commands.specs.declared.command.Goal.TheVariants.{Steps, Next, Continue, Finish}
 use Rattle.bpfdb_commands.specs.declared.refusal.Refusal.TheVariants.{OutOfMemory}
-
--- The state after so many steps.
-abbrev pub state_after : ℕ → State → State
-state_after zero x = x
-state_after (suc k) x = next (state_after k x)
 
 -- The history after so many steps from a point: each is kept in the journal's room, the first one with a mark.
 abbrev pub kept : ℕ → ℕ → Point → List Record

@@ -6,7 +6,8 @@ use Rattle.bpf_entries.specs.Status.{has_ended}
 use Rattle.bpf_entries.specs.declared.status.Status.{Status}
 use Rattle.bpf_entries.specs.declared.status.Status.TheVariants as status
 use Rattle.counted_io.specs.Writing.{hexadecimal}
-use Rattle.bpf_session.specs.Forward.{state_after, least}
+use Rattle.bpf_ring.specs.Runs.{state_after}
+use Rattle.bpf_session.specs.Forward.{least}
 use Rattle.bpf_session.specs.declared.plain.Ending.{Ending}
 use Rattle.bpf_session.specs.declared.plain.Ending.TheVariants.{Exited, Faulted, Limit}
 

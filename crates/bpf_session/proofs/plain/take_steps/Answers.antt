@@ -2,7 +2,8 @@ use Rattle.std.proofs.Common.{◌≡◌, ◌+◌, ◌-◌, ℕ, suc, Bool, true,
 use Rattle.bpf_machine.specs.Next.{next}
 use Rattle.bpf_machine.specs.State.{State}
 use Rattle.bpf_entries.specs.Status.{has_ended}
-use Rattle.bpf_session.specs.Forward.{state_after, least}
+use Rattle.bpf_ring.specs.Runs.{state_after}
+use Rattle.bpf_session.specs.Forward.{least}
 use Rattle.bpf_session.proofs.plain.take_steps.Goals as goal
 
 -- one of n numbers that doesn't pass is followed by the next

@@ -1,6 +1,7 @@
 use Rattle.std.proofs.Common.{◌≡◌, ◌-◌}
 use Rattle.bpf_entries.specs.Status.{has_ended}
-use Rattle.bpf_session.specs.Forward.{state_after, least}
+use Rattle.bpf_ring.specs.Runs.{state_after}
+use Rattle.bpf_session.specs.Forward.{least}
 use Rattle.bpf_session.specs.Plain.{plain_steps}
 use Rattle.bpf_session.proofs.plain.take_steps.Given as goal
 
