@@ -1,6 +1,6 @@
 -- What new moves, going back and making again make of the tracks that a course stands for.
 use Rattle.std.proofs.Common.{◌≡◌, ◌≤◌, ◌+◌, ℕ, Bool, true, false, List, [], ◌∷◌, Option, Some, None, map, refl, sym, ap, subst, ◌∙◌, arith}
-use Rattle.std.specs.Prelude.{sum_by, fold, length, if◌then◌else◌}
+use Rattle.std.specs.Prelude.{sum_by, if◌then◌else◌}
 use Rattle.std.specs.Option.{option_map}
 use Rattle.std.proofs.lemmas.List.Sums.{sum_by-cons}
 use Rattle.bpf_entries.specs.declared.entry.Entry.{Entry}
@@ -16,7 +16,7 @@ use Rattle.bpf_journal.specs.Again.{again_entry, again_of, move_again, seen_agai
 use Rattle.bpf_journal.specs.Courses.{MakesNew, StaysThere, GoesBackOne, MakesAgain}
 use Rattle.bpf_journal.specs.Handing.{Hands}
 use Rattle.bpf_journal.specs.Histories.{Record, HasHistory, IsRun, StandsFor, kept_of, newest, older, record_weight}
-use Rattle.bpf_journal.specs.TakingBack.{TakesBack, taken_by, taken_of}
+use Rattle.bpf_journal.specs.TakingBack.{TakesBack, taken_by}
 use Rattle.bpf_journal.specs.Timelines.{Makes, Stays, Moment, record_of}
 use Rattle.bpf_journal.specs.Tracks.{Track, CourseValue, Follows, IsAhead, IsCourse, RingHolds, ring_room, with_new, track_of}
 use Rattle.bpf_entries.specs.Fields.{FitsFields}
@@ -28,7 +28,7 @@ use Rattle.bpf_journal.specs.Reverting.{RefusesMove}
 use Rattle.bpf_journal.proofs.MadeAgain.{again_of_edit, again_step, again_weighs, same_again, seen_is, seen_step}
 use Rattle.bpf_journal.proofs.Fitting.{fit_within}
 use Rattle.bpf_journal.proofs.MoveLaws.{nowhere}
-use Rattle.bpf_journal.proofs.Histories.{of_move, weights_kept}
+use Rattle.bpf_journal.proofs.Histories.{weights_kept}
 
 -- what is kept of moves that were taken back weighs as much as their entries
 pub weights_again : (x : State) (f : List Record) → IsAhead x f → sum_by kept_weight (map again_of f) ≡ sum_by record_weight f

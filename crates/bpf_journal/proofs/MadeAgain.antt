@@ -1,9 +1,9 @@
 -- A move that was taken back is made again by what is kept of it: that is read off the state after it, weighs as much as the move's own
 -- entry, and leads to the same state with the same entry.
-use Rattle.std.proofs.Common.{◌≡◌, ◌≤◌, ◌<◌, ◌+◌, ℕ, Bool, true, false, List, Option, Some, None, length, refl, sym, ap, subst, ◌∙◌, arith}
+use Rattle.std.proofs.Common.{◌≡◌, ◌≤◌, ◌<◌, ◌+◌, ℕ, true, false, List, Option, Some, None, length, refl, sym, ap, subst, ◌∙◌, arith}
 use Rattle.std.proofs.lemmas.Grind.{elements}
 use Rattle.std.proofs.lemmas.Bool.Decides.{nat_tests}
-use Rattle.std.specs.Prelude.{IsSome, is_some, slice_set, slice_index, slice_range, unwrap_or, option_map, nat_lt}
+use Rattle.std.specs.Prelude.{IsSome, is_some, slice_set, slice_range, unwrap_or, option_map}
 use Rattle.std.specs.Option.{option_map_or}
 use Rattle.bpf_entries.specs.declared.entry.Entry.{Entry}
 use Rattle.bpf_entries.specs.declared.entry.Entry.TheVariants as entry

@@ -1,6 +1,6 @@
 -- What is kept of a move that was taken back, so that it can be made again: of a step its entry, of an edit the same form with the values
 -- that the edit wrote.
-use Rattle.std.specs.Prelude.{ℕ, List, length}
+use Rattle.std.specs.Prelude.{length}
 use Rattle.bpf_entries.specs.declared.entry.Entry.{Entry}
 use Rattle.bpf_entries.specs.declared.entry.Entry.TheVariants as entry
 use Rattle.bpf_entries.specs.declared.status.Status.TheVariants.{Running}

@@ -1,10 +1,9 @@
 -- The laws of refusals, of going back and forward again, and of scripts.
 use Rattle.std.proofs.Common.{◌≡◌, ◌+◌, ◌-◌, ◌^◌, ◌<◌, ◌≤◌, ℕ, zero, suc, Bool, true, false, List, [], ◌∷◌, ◌++◌, Option, Some, None, Ok, Err, is_some, unwrap_or, length, refl, sym, ap, ◌∙◌, arith}
-use Rattle.std.specs.Prelude.{if◌then◌else◌, nat_lt, nat_le, not, ◌==◌, min, map, count_by, cond, option_map, drop, slice_get}
+use Rattle.std.specs.Prelude.{if◌then◌else◌, nat_lt, nat_le, not, ◌==◌, min, map, count_by, cond, option_map, drop}
 use Rattle.std.proofs.lemmas.Bool.Decides.{nat_tests}
 use Rattle.bpf_machine.specs.State.{State, depth}
 use Rattle.bpf_entries.specs.Status.{has_ended}
-use Rattle.bpf_machine.specs.declared.edit.Edit.TheVariants as edit
 use Rattle.bpf_machine.specs.declared.moves.Move.TheVariants.{Step}
 use Rattle.bpf_entries.specs.Keeping.{fit, keep}
 use Rattle.bpf_journal.specs.Histories.{Record, is_step, record_weight}
@@ -41,7 +40,7 @@ use Rattle.bpf_session.specs.declared.reply.Reply.TheVariants.{Forward}
 use Rattle.bpfdb_replies.specs.declared.why.Why.{Why}
 use Rattle.bpfdb_replies.specs.declared.why.Why.TheVariants.{Limit, Memory}
 use Rattle.bpfdb_commands.specs.declared.refusal.Refusal.{Refusal}
-use Rattle.bpfdb_commands.specs.declared.refusal.Refusal.TheVariants.{MachineEnded, NoKeptStep, FewerCommands, AddressNotPresent, RegisterNotWritable, NoStart, OutermostFrame, TableFull, ThereOrNot, NothingToRedo, NoCell, OutOfMemory}
+use Rattle.bpfdb_commands.specs.declared.refusal.Refusal.TheVariants.{MachineEnded, NoKeptStep, FewerCommands, AddressNotPresent, NoStart, OutermostFrame, TableFull, ThereOrNot, NothingToRedo, OutOfMemory}
 
 -- ---- a refused command
 

@@ -14,7 +14,7 @@ use Rattle.bpf_journal.specs.Histories.{Record, record_weight}
 use Rattle.bpf_journal.specs.Runs.{Ends, history_after, refusals_by_run}
 use Rattle.bpf_journal.specs.Tracks.{Track, track_after, track_of}
 use Rattle.bpf_journal.proofs.Runs.{ends_state}
-use Rattle.bpf_ring.specs.Runs.{AreSteps, state_after, stops_after}
+use Rattle.bpf_ring.specs.Runs.{state_after, stops_after}
 use Rattle.bpf_journal.specs.Replaced.{replaces_bytes}
 use Rattle.bpf_journal.proofs.Telling.{kept_bytes}
 use Rattle.bpf_journal.specs.Timelines.{record_of}

@@ -1,6 +1,6 @@
 -- The laws of what was taken back: going back and making again lose no move, and making all again gives all back.
-use Rattle.std.specs.Prelude.{if◌then◌else◌, nat_lt, nat_le, ◌==◌, min, IsTrue}
-use Rattle.std.proofs.Common.{◌≡◌, ◌+◌, ◌<◌, ◌≤◌, ℕ, zero, suc, Bool, true, false, List, [], ◌∷◌, ◌++◌, Option, Some, None, length, take, drop, reverse, refl, sym, ap, subst, ◌∙◌, arith}
+use Rattle.std.specs.Prelude.{if◌then◌else◌, nat_lt, ◌==◌, min}
+use Rattle.std.proofs.Common.{◌≡◌, ℕ, zero, suc, Bool, true, false, List, [], ◌∷◌, ◌++◌, Option, Some, None, length, take, drop, reverse, refl, sym, ap, subst, ◌∙◌, arith}
 use Rattle.std.proofs.lemmas.Bool.Decides.{nat_tests}
 use Rattle.std.proofs.lemmas.List.{reverse-append, append_assoc}
 use Rattle.bpf_machine.specs.Moves.{Leads, moved}
@@ -10,9 +10,9 @@ use Rattle.bpf_journal.specs.Lookups.{state_before}
 use Rattle.bpf_journal.specs.Tracks.{IsAhead}
 use Rattle.bpf_session.specs.Backward.{back, back_by, found, to_stop}
 use Rattle.bpf_session.specs.Laws.{all_moves, last_state, IsPlaced, WalksLoseNothing, RedoGivesAllBack}
-use Rattle.bpf_session.specs.Meaning.{accepted, does}
+use Rattle.bpf_session.specs.Meaning.{accepted}
 use Rattle.bpf_session.specs.Outcomes.{Outcome, refused, unless_refused}
-use Rattle.bpf_session.specs.Points.{Point, Bounds}
+use Rattle.bpf_session.specs.Points.{Point}
 use Rattle.bpf_session.specs.Redo.{state_ahead, on_by, again, why_again, redone, cut_again}
 use Rattle.bpf_session.specs.Refused.{refusals_of, when}
 use Rattle.bpfdb_commands.specs.declared.command.Command.TheVariants as command

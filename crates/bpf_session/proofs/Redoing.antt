@@ -1,6 +1,6 @@
 -- The loop of `redo`: after k turns the session is at the state after the k-th move that was made again.
 use Rattle.std.specs.Prelude.{if◌then◌else◌, nat_lt, nat_le, min, Result, IfOk}
-use Rattle.std.proofs.Common.{◌≡◌, ◌≢◌, ◌+◌, ◌<◌, ◌≤◌, ◌==◌, ℕ, zero, suc, Bool, true, false, List, [], ◌∷◌, ◌++◌, Option, Some, None, Ok, Err, length, take, drop, reverse, refl, sym, ap, subst, ◌∙◌, arith, add-one}
+use Rattle.std.proofs.Common.{◌≡◌, ◌≢◌, ◌+◌, ◌<◌, ◌≤◌, ◌==◌, ℕ, zero, suc, Bool, true, false, List, [], ◌∷◌, ◌++◌, Some, None, Ok, Err, length, take, drop, reverse, refl, sym, ap, subst, ◌∙◌, arith, add-one}
 use Rattle.std.proofs.lemmas.Bool.Decides.{nat_tests}
 use Rattle.std.proofs.lemmas.List.{reverse-append}
 use Rattle.bpf_machine.specs.Moves.{moved}
@@ -12,10 +12,10 @@ use Rattle.bpf_journal.specs.Histories.{Record}
 use Rattle.bpf_journal.specs.Tracks.{Track}
 use Rattle.bpf_session.specs.Outcomes.{Outcome, refused, unless_refused}
 use Rattle.bpf_session.specs.Points.{Point}
-use Rattle.bpf_session.specs.Redo.{state_ahead, on_by, redone, cut_again, redo, again, why_again}
+use Rattle.bpf_session.specs.Redo.{state_ahead, on_by, redone, cut_again, redo, again}
 use Rattle.bpf_session.specs.Refused.{refusals_of, when}
 use Rattle.bpf_session.specs.Replies.{IsThere}
-use Rattle.bpf_session.specs.Sessions.{SessionValue, HasPast, StandsAt, Obeys, gap_of, point_of, bounds_of, track_at}
+use Rattle.bpf_session.specs.Sessions.{SessionValue, HasPast, StandsAt, Obeys, gap_of, point_of, track_at}
 use Rattle.bpf_session.specs.declared.reply.Reply.{Reply}
 use Rattle.bpf_session.specs.declared.reply.Reply.TheVariants as replies
 use Rattle.bpfdb_commands.specs.declared.command.Command.TheVariants as command

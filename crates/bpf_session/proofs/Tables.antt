@@ -1,23 +1,17 @@
 -- Edits are refused or made as their table says.
-use Rattle.std.proofs.Common.{◌≡◌, ◌<◌, ◌==◌, ℕ, Bool, true, false, not, List, [], ◌∷◌, Option, Some, None, Ok, Err, subst, IsSome, IsNone, is_some, length, refl, sym, ap, ◌∙◌, arith}
-use Rattle.std.proofs.lemmas.Bool.Decides.{nat_tests}
-use Rattle.bpf_isa.specs.Programs.{insn_at}
+use Rattle.std.proofs.Common.{◌≡◌, ℕ, true, false, List, [], ◌∷◌, Option, Some, None, Ok, Err, refl, ap, ◌∙◌}
 use Rattle.bpf_machine.specs.declared.edit.Edit.{Edit}
-use Rattle.bpf_machine.specs.declared.edit.Edit.TheVariants as edit_of
 use Rattle.bpf_machine.specs.declared.edit.EditFault.{EditFault}
 use Rattle.bpf_machine.specs.declared.edit.EditFault.TheVariants as fault
-use Rattle.bpf_machine.specs.Edits.{edit_fault}
-use Rattle.bpf_isa.specs.declared.maps.MapShape.{MapShape}
-use Rattle.bpf_machine.specs.Regions.{index_of}
 use Rattle.bpf_session.specs.Points.{Point}
 use Rattle.bpf_session.specs.Refused.{edit_refusals, fault_refusals, refusal_for, refusals_of}
 use Rattle.bpf_session.specs.Stops.{has}
 use Rattle.bpfdb_commands.specs.declared.command.Command.TheVariants.{Remove}
 use Rattle.bpfdb_commands.specs.declared.command.Stop.TheVariants.{Breakpoint}
 use Rattle.bpf_session.specs.declared.reply.Reply.TheVariants.{Ok as ok}
-use Rattle.bpfdb_commands.specs.declared.refusal.Refusal.TheVariants.{ThereOrNot, NoCell}
+use Rattle.bpfdb_commands.specs.declared.refusal.Refusal.TheVariants.{ThereOrNot}
 use Rattle.bpf_session.specs.EditRefusals.{answer_to}
-use Rattle.std.specs.Prelude.{Result, OnOk, IfErr, IfOk, ◌&&◌, nat_lt, slice_get}
+use Rattle.std.specs.Prelude.{Result, OnOk, IfErr, IfOk}
 use Rattle.bpf_machine.specs.State.{State}
 use Rattle.bpf_machine.specs.Edits.{edited}
 use Rattle.bpf_machine.specs.declared.moves.Move.TheVariants as move

@@ -1,5 +1,5 @@
 use Rattle.bpf_journal.specs.contracts.ring_keeper.RingKeeperKeeper.TheImpl as impl
-use Rattle.bpf_journal.proofs.Handing.{handed_over, none_over, taken_over}
+use Rattle.bpf_journal.proofs.Handing.{handed_over, taken_over}
 use Rattle.bpf_journal.proofs.RingKeeping.{holds_way}
 use Rattle.bpf_journal.proofs.ring_keeper.RingKeeperKeeper.hand_back.Goals as goal
 
