@@ -33,8 +33,8 @@ typed() {
 
 # At a terminal debug says what to do, and each line is read after a prompt; the end of input is one more. Other subcommands say nothing.
 compile terminal
-greeting="bpfdb: commands from the terminal. 'quit' ends them, 'bpfdb debug --help' has them all.\n"
-first_greeting="bpfdb debugs a program of its own, mov r0, 42 and exit. Yours: 'bpfdb debug FILE'. 'quit' ends it.\n"
+greeting="bpfdb reads commands from this terminal. 'bpfdb debug --help' lists them, 'quit' ends.\n"
+first_greeting="bpfdb debugs a small program that is built in: mov r0, 42 and exit. For yours: 'bpfdb debug FILE'.\n'bpfdb debug --help' lists the commands, 'quit' ends.\n"
 typed 'stepi\n\nfrob\n' 0 '1 forward; done; at 1: exit\nrefused Q1: unknown command\n' "$first_greeting> > > > "
 typed 'stepi\nquit\nstepi\n' 0 '1 forward; done; at 1: exit\n' "$first_greeting> > "
 typed 'stepi\n' 0 '1 forward; done; at 1: exit\n' "$greeting> > " debug --listing program.s

@@ -8,11 +8,12 @@ use std::io::{Read, Write};
 
 /// What is said first where FILE is debugged.
 pub const GREETING: &str =
-    "bpfdb: commands from the terminal. 'quit' ends them, 'bpfdb debug --help' has them all.\n";
+    "bpfdb reads commands from this terminal. 'bpfdb debug --help' lists them, 'quit' ends.\n";
 
 /// The same where there is none.
 pub const FIRST_GREETING: &str =
-    "bpfdb debugs a program of its own, mov r0, 42 and exit. Yours: 'bpfdb debug FILE'. 'quit' ends it.\n";
+    "bpfdb debugs a small program that is built in: mov r0, 42 and exit. For yours: 'bpfdb debug FILE'.
+'bpfdb debug --help' lists the commands, 'quit' ends.\n";
 
 /// The prompt.
 const PROMPT: &str = "> ";
