@@ -113,7 +113,7 @@ pub const LINK: &str = "Makes the words of a program from an ELF object";
 pub const LINK_LONG: &str = "Makes the words of a program from an ELF object.
 
 Reads the relocatable object FILE, as `clang -target bpf -c` writes it. Writes the words
-of one code section to standard output, 8 bytes a slot, and behind them those of .text
+of one code section to standard output, 8 bytes a slot, and after them those of .text
 where the section calls it: calls have their distances, and loads of maps the maps'
 numbers, 0 for the one that stands first in its section. Where the section maps defines
 each as an array, standard error tells their sizes, as --maps takes them. The first thing
