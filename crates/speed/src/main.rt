@@ -65,19 +65,31 @@ fn main(rt: HostRuntime) -> io::Result<()> {
         ("loop of atomics", ATOMICS.as_slice()),
         ("loop of lookups", LOOKUPS.as_slice()),
     ] {
-        let mut best = [u128::MAX; WAYS.len()];
-        for _ in 0..5 {
-            for (way, least) in WAYS.iter().zip(best.iter_mut()) {
-                let taken = timed(&rt, program, millions, *way, &mut sum)?;
-                *least = taken.min(*least);
-            }
-        }
-        for (way, least) in WAYS.iter().zip(best.iter()) {
-            show(&rt, name, way.name(), *least, best[0], millions)?;
-        }
+        time_program(&rt, name, program, millions, &mut sum)?;
     }
     time_sessions(&rt, 5, &mut sum)?;
     println!(rt; "sum {sum}")
+}
+
+/// Times a program in each way, in five rounds, and prints the best of each.
+fn time_program(
+    rt: &HostRuntime,
+    name: &str,
+    program: &[u8],
+    millions: u64,
+    sum: &mut u64,
+) -> io::Result<()> {
+    let mut best = [u128::MAX; WAYS.len()];
+    for _ in 0..5 {
+        for (way, least) in WAYS.iter().zip(best.iter_mut()) {
+            let taken = timed(rt, program, millions, *way, sum)?;
+            *least = taken.min(*least);
+        }
+    }
+    for (way, least) in WAYS.iter().zip(best.iter()) {
+        show(rt, name, way.name(), *least, best[0], millions)?;
+    }
+    Ok(())
 }
 
 /// Says on standard error why nothing can be timed. The program ends with the answer.
@@ -159,15 +171,23 @@ fn timed(
         return Err(failure(rt, "a machine can't be opened"));
     };
     let steps = millions.min(1000) * 1_000_000;
+    match way {
+        Way::Plain => {
+            let elapsed = time_plain(rt, &mut cpu, steps);
+            *sum = sum.wrapping_add(used(&cpu));
+            elapsed
+        }
+        Way::Kept(size) => run_kept(rt, cpu, size, steps, sum),
+        Way::Back => run_back(rt, cpu, steps, sum),
+    }
+}
+
+/// Nanoseconds of so many steps alone.
+fn time_plain(rt: &HostRuntime, cpu: &mut Cpu, steps: u64) -> io::Result<u128> {
     let start = Instant::now(rt)?;
-    let taken = match way {
-        Way::Plain => run_plain(&mut cpu, steps),
-        Way::Kept(size) => return run_kept(rt, cpu, size, steps, sum),
-        Way::Back => return run_back(rt, cpu, steps, sum),
-    };
+    let taken = run_plain(cpu, steps);
     let elapsed = start.elapsed(rt)?.as_nanos();
     check_steps(rt, taken, steps)?;
-    *sum = sum.wrapping_add(used(&cpu));
     Ok(elapsed)
 }
 
@@ -193,13 +213,36 @@ fn run_kept(
         return Err(failure(rt, "a journal can't be opened"));
     };
     let mut timeline = Timeline::open(cpu, keeper);
-    let start = Instant::now(rt)?;
-    let taken = forward(&mut timeline, steps);
-    let elapsed = start.elapsed(rt)?.as_nanos();
-    check_steps(rt, taken, steps)?;
+    let elapsed = time_forward(rt, &mut timeline, steps);
     *sum = sum
         .wrapping_add(used(timeline.cpu()))
         .wrapping_add(timeline.len() as u64);
+    elapsed
+}
+
+/// Nanoseconds of so many steps forward.
+fn time_forward(
+    rt: &HostRuntime,
+    timeline: &mut Timeline<RingKeeper>,
+    steps: u64,
+) -> io::Result<u128> {
+    let start = Instant::now(rt)?;
+    let taken = forward(timeline, steps);
+    let elapsed = start.elapsed(rt)?.as_nanos();
+    check_steps(rt, taken, steps)?;
+    Ok(elapsed)
+}
+
+/// Nanoseconds of so many steps back.
+fn time_back(
+    rt: &HostRuntime,
+    timeline: &mut Timeline<RingKeeper>,
+    steps: u64,
+) -> io::Result<u128> {
+    let start = Instant::now(rt)?;
+    let taken = back(timeline, steps);
+    let elapsed = start.elapsed(rt)?.as_nanos();
+    check_steps(rt, taken, steps)?;
     Ok(elapsed)
 }
 
@@ -209,14 +252,21 @@ fn run_back(rt: &HostRuntime, cpu: Cpu, steps: u64, sum: &mut u64) -> io::Result
         return Err(failure(rt, "a journal can't be opened"));
     };
     let mut timeline = Timeline::open(cpu, keeper);
+    let elapsed = time_strides(rt, &mut timeline, steps / STRIDE);
+    *sum = sum.wrapping_add(used(timeline.cpu()));
+    elapsed
+}
+
+/// Nanoseconds of going back, so many times over some thousands of steps.
+fn time_strides(
+    rt: &HostRuntime,
+    timeline: &mut Timeline<RingKeeper>,
+    strides: u64,
+) -> io::Result<u128> {
     let mut elapsed = 0u128;
-    for _ in 0..steps / STRIDE {
-        let taken = forward(&mut timeline, STRIDE);
-        let start = Instant::now(rt)?;
-        let taken_back = back(&mut timeline, taken);
-        elapsed = elapsed.wrapping_add(start.elapsed(rt)?.as_nanos());
-        check_steps(rt, taken_back, STRIDE)?;
-        *sum = sum.wrapping_add(used(timeline.cpu()));
+    for _ in 0..strides {
+        forward(timeline, STRIDE);
+        elapsed = elapsed.wrapping_add(time_back(rt, timeline, STRIDE)?);
     }
     Ok(elapsed)
 }

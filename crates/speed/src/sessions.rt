@@ -1,7 +1,7 @@
 //! How fast commands run through a session: `continue` with breakpoints and watches that it never meets and without, `last-write` and
 //! `reverse-continue` over what it left, and `redo` of what that took back, beside the same steps through a timeline.
 
-use crate::{back, check_steps, failure, forward, used};
+use crate::{check_steps, failure, time_back, time_forward, used};
 use bpf_isa::{MapTable, check};
 use bpf_journal::{RingKeeper, Timeline};
 use bpf_machine::Cpu;
@@ -136,7 +136,7 @@ fn show(rt: &HostRuntime, what: &str, nanoseconds: u128, beside: u128) -> io::Re
     )
 }
 
-/// A machine on a loop with 64 slots behind it, if memory suffices.
+/// A machine on a loop with 64 slots after it, if memory suffices.
 fn opened(alloc: Global, program: &[u8]) -> Option<Cpu> {
     let mut bytes = Vec::new(alloc);
     bytes.extend_from_slice(program).ok()?;
@@ -156,16 +156,20 @@ fn through_timeline(rt: &HostRuntime, sum: &mut u64) -> io::Result<(u128, u128)>
         return Err(failure(rt, "a journal can't be opened"));
     };
     let mut timeline = Timeline::start(cpu, keeper);
-    let start = Instant::now(rt)?;
-    let taken = forward(&mut timeline, STEPS);
-    let forward_time = start.elapsed(rt)?.as_nanos();
+    time_both_ways(rt, &mut timeline, sum)
+}
+
+/// Nanoseconds forward, and of the same steps back.
+fn time_both_ways(
+    rt: &HostRuntime,
+    timeline: &mut Timeline<RingKeeper>,
+    sum: &mut u64,
+) -> io::Result<(u128, u128)> {
+    let forward = time_forward(rt, timeline, STEPS)?;
     *sum = sum.wrapping_add(used(timeline.cpu()));
-    let start = Instant::now(rt)?;
-    let taken_back = back(&mut timeline, taken);
-    let back_time = start.elapsed(rt)?.as_nanos();
+    let back = time_back(rt, timeline, STEPS)?;
     *sum = sum.wrapping_add(used(timeline.cpu()));
-    check_steps(rt, taken_back, STEPS)?;
-    Ok((forward_time, back_time))
+    Ok((forward, back))
 }
 
 /// Nanoseconds of the commands of a session.
@@ -197,15 +201,24 @@ fn through_session(
     if !set_stops(&mut session, stops) {
         return Err(failure(rt, "a breakpoint or a watch was refused"));
     }
+    time_commands(rt, &mut session, sum)
+}
+
+/// Nanoseconds of each command of a session.
+fn time_commands(
+    rt: &HostRuntime,
+    session: &mut Session<RingKeeper>,
+    sum: &mut u64,
+) -> io::Result<Timed> {
     let Some(steps) = Count::new(STEPS) else {
         return Err(failure(rt, "so many steps can't be counted"));
     };
-    let forward = time(rt, &mut session, &Command::Forward(Goal::Continue))?;
+    let forward = time(rt, session, &Command::Forward(Goal::Continue))?;
     *sum = sum.wrapping_add(used(session.cpu()));
-    let last_write = time(rt, &mut session, &Command::Show(View::LastWrite(FRAME)))?;
-    let reverse = time(rt, &mut session, &Command::Back(Target::Continue))?;
+    let last_write = time(rt, session, &Command::Show(View::LastWrite(FRAME)))?;
+    let reverse = time(rt, session, &Command::Back(Target::Continue))?;
     *sum = sum.wrapping_add(used(session.cpu()));
-    let redo = time(rt, &mut session, &Command::Redo(steps))?;
+    let redo = time(rt, session, &Command::Redo(steps))?;
     *sum = sum.wrapping_add(used(session.cpu()));
     Ok(Timed {
         forward,
@@ -215,7 +228,7 @@ fn through_session(
     })
 }
 
-/// Sets what is never met: breakpoints behind the loop, or watches of bytes that it doesn't store to. Answers whether all of them
+/// Sets what is never met: breakpoints after the loop, or watches of bytes that it doesn't store to. Answers whether all of them
 /// are set.
 fn set_stops(session: &mut Session<RingKeeper>, stops: Stops) -> bool {
     let mut are_set = true;
@@ -243,19 +256,23 @@ fn time(
     session: &mut Session<RingKeeper>,
     command: &Command,
 ) -> io::Result<u128> {
-    let mut sink = Counted::new(io::sink());
     let start = Instant::now(rt)?;
-    let answer = session.apply(command);
-    if let Ok(reply) = &answer {
-        let _ = session.write_reply(reply, &mut sink);
-    }
+    let moves = obey(session, command);
     let elapsed = start.elapsed(rt)?.as_nanos();
-    let moves = match answer {
-        Ok(Reply::Forward { steps, .. }) => steps,
-        Ok(Reply::Back { moves, .. } | Reply::Redone { moves, .. }) => moves,
-        Ok(Reply::Shown(_)) => STEPS,
-        _ => 0,
-    };
     check_steps(rt, moves, STEPS)?;
     Ok(elapsed)
+}
+
+/// Obeys a command and writes its reply. Answers over how many moves it went; all of them, if it shows something.
+fn obey(session: &mut Session<RingKeeper>, command: &Command) -> u64 {
+    let Ok(reply) = session.apply(command) else {
+        return 0;
+    };
+    let _ = session.write_reply(&reply, &mut Counted::new(io::sink()));
+    match reply {
+        Reply::Forward { steps, .. } => steps,
+        Reply::Back { moves, .. } | Reply::Redone { moves, .. } => moves,
+        Reply::Shown(_) => STEPS,
+        _ => 0,
+    }
 }
