@@ -4,6 +4,8 @@
 #[cfg(test)]
 mod calls;
 #[cfg(test)]
+mod closing;
+#[cfg(test)]
 mod faults;
 #[cfg(test)]
 mod keepers;
@@ -29,7 +31,3 @@ mod scripts;
 mod shown;
 #[cfg(test)]
 mod stops;
-#[cfg(test)]
-mod walks;
-#[cfg(test)]
-mod ways;

@@ -1,35 +1,9 @@
 //! The same random scripts over a list and over a ring: both answer the same.
 use crate::play::{check_bytes, machine_on, printed, reopened, ring_session_over, session_over};
 use crate::rings::passed_on;
+use bpf_testing::Random;
 use std::alloc::{AllocError, Global};
 use std::process::Abort;
-
-/// A source of numbers, by splitmix64. A seed determines them.
-#[derive(Drop)]
-struct Random {
-    state: u64,
-}
-
-impl Random {
-    /// The next number.
-    fn next(&mut self) -> u64 {
-        self.state = self.state.wrapping_add(0x9e37_79b9_7f4a_7c15);
-        let mixed = self.state;
-        let mixed = (mixed ^ (mixed >> 30)).wrapping_mul(0xbf58_476d_1ce4_e5b9);
-        let mixed = (mixed ^ (mixed >> 27)).wrapping_mul(0x94d0_49bb_1331_11eb);
-        mixed ^ (mixed >> 31)
-    }
-
-    /// A number from 0 to one below another.
-    fn below(&mut self, most: u64) -> u64 {
-        self.next().checked_rem(most).unwrap_or(0)
-    }
-
-    /// A number from 1 to another.
-    fn up_to(&mut self, most: u64) -> u64 {
-        self.below(most).saturating_add(1)
-    }
-}
 
 /// A command.
 fn command(alloc: Global, random: &mut Random) -> Result<String, AllocError> {
@@ -120,7 +94,7 @@ fn script(rt: &impl Abort, alloc: Global, random: &mut Random, commands: usize) 
 }
 
 /// A loop whose steps make each kind of entry. A store to where r8 is goes wrong at first; at slot 24 it exits, once r9 is 5.
-pub const LOOP: &str = "\
+const LOOP: &str = "\
 0700000001000000bf060000000000007b0af8ff00000000636af4ff000000006b0af2ff00000000730af1ff00000000\
 7a0af8fe07000000db6af8ff01000000c36af4ff00000000851000000f00000045000100070000006308000000000000\
 bfa200000000000007020000e8ffffff620ae8ff0100000018510000000000000000000000000000bfa3000000000000\
@@ -128,7 +102,7 @@ bfa200000000000007020000e8ffffff620ae8ff0100000018510000000000000000000000000000
 9500000000000000b707000003000000737affff000000009500000000000000";
 
 /// The context.
-pub const CONTEXT: [u8; 8] = [1, 2, 3, 4, 5, 6, 7, 8];
+const CONTEXT: [u8; 8] = [1, 2, 3, 4, 5, 6, 7, 8];
 
 /// The most steps of a command.
 const LIMIT: u64 = 100;
@@ -143,7 +117,7 @@ fn check_scripts(
     scripts: usize,
     commands: usize,
 ) {
-    let mut random = Random { state: seed };
+    let mut random = Random::new(seed);
     let cpu = machine_on(rt, alloc, LOOP, "8x2", &CONTEXT);
     let mut list = session_over(rt, alloc, cpu, size, LIMIT);
     let cpu = machine_on(rt, alloc, LOOP, "8x2", &CONTEXT);
@@ -163,7 +137,7 @@ const SEEDS: u64 = 6;
 
 /// The same of each size and each of its seeds.
 fn check_sizes(rt: &impl Abort, alloc: Global, scripts: usize, commands: usize) {
-    let mut seeds = Random { state: 0 };
+    let mut seeds = Random::new(0);
     for size in 1_024usize..1_041 {
         for _ in 0..SEEDS {
             check_scripts(rt, alloc, size, seeds.next(), scripts, commands);
@@ -179,7 +153,7 @@ fn random_scripts_over_a_ring_and_over_a_list(rt: HostRuntime) {
 /// The first numbers of a seed are those that the generator's description has.
 #[test]
 fn numbers_of_a_seed(rt: HostRuntime) {
-    let mut random = Random { state: 1_234_567 };
+    let mut random = Random::new(1_234_567);
     assert!(rt; random.next() == 6_457_827_717_110_365_317);
     assert!(rt; random.next() == 3_203_168_211_198_807_973);
 }
