@@ -21,5 +21,6 @@ pub use connection::serve_job;
 pub use dispatch::tool;
 pub use fault::JobFault;
 pub use job::{Job, JobKind};
+pub use name::shown_name;
 pub use refusal::JobRefusal;
 pub use report::{give_up, tell_usage};

@@ -1,11 +1,43 @@
 //! Names of the command line, as standard error shows them.
-ghost use Rattle.std.specs.Prelude.{◌≡◌, ◌<◌, false};
+ghost use Rattle.std.specs.Prelude.{◌≡◌, ◌<◌, false, IfSome, string_bytes};
 ghost use Rattle.std.specs.Fmt.{digit_glyph};
-ghost use Rattle.counted_io.specs.Writing.{WritesAfter};
+ghost use Rattle.counted_io.specs.Writing.{Writes, WritesAfter};
 ghost use Rattle.bpfdb_jobs.specs.Faults.{shown, shown_byte, shown_text, shown_text_byte};
 
 use counted_io::{Counted, WriteFault, put};
+use std::alloc::Global;
 use std::io::Write;
+
+/// A name as it is shown, in a text of its own; None where memory ran out. (Names are UTF-8, and so is what is shown of them.)
+pub fn shown_name(alloc: Global, name: &str) -> Option<String>
+    ensures { IfSome result (λ text. string_bytes text ≡ shown name.now) }
+{
+    match shown_bytes(alloc, name.as_bytes()) {
+        Some(bytes) => match String::from_utf8(bytes) {
+            Ok(text) => Some(text),
+            Err(_) => None,
+        },
+        None => None,
+    }
+}
+
+/// The bytes of a name as it is shown; None where memory ran out.
+fn shown_bytes(alloc: Global, name: &[u8]) -> Option<Vec<u8>>
+    ensures { IfSome result (λ bytes. bytes.items ≡ shown name.now) }
+{
+    let mut writer = Counted::new(Vec::new(alloc));
+    match write_name(&mut writer, name) {
+        Ok(()) => Some(writer.into_inner()),
+        Err(WriteFault) => None,
+    }
+}
+
+/// Writes a name.
+fn write_name<W: Write>(writer: &mut Counted<W>, name: &[u8]) -> Result<(), WriteFault>
+    ensures { Writes W.contents writer.old writer.new result (shown name.now) }
+{
+    put_name(writer, Ok(()), name)
+}
 
 /// Writes a name, after what was written so far, unless that failed: each control byte as `\x` and two hexadecimal digits, so that it
 /// ends no line and steers no terminal.
