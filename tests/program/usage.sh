@@ -89,7 +89,6 @@ usage "unrecognized subcommand 'RUN'" RUN first
 usage "unrecognized subcommand ''" ''
 usage "unexpected argument '--frob' found" --frob
 usage "unexpected argument '\\\\x1b[31mred' found" run first "$(printf '\033[31mred')"
-usage "unrecognized subcommand 'b\\\\x07'" "$(printf 'b\007')"
 usage "unexpected argument '--steps' found" --steps 7 run first
 usage "unexpected argument '-x' found" run -x first
 usage "unexpected argument '--step' found" run --step 7 first
@@ -135,6 +134,27 @@ usage "invalid value '18446744073709551616' for '--journal <J>': number too larg
 usage "a value is required for '--journal <J>' but none was supplied" debug first --journal
 usage "the argument '--journal <J>' cannot be used multiple times" debug --journal 1024 --journal 1024 first
 refused 'the command line is not UTF-8 text' run "$(printf '\377')"
+
+# control TEXT WORD SHOWN ARGUMENT..: the command line, which ends with the word as printf's %b reads it, is none. Its control bytes are shown as
+# those of a name, line feeds too: the whole is what is said of the word that is typed as it is shown.
+control() {
+    text=$1 word=$(printf '%b.' "$2") shown=$3
+    shift 3
+    usage "$text" "$@" "$shown"
+    cp message typed
+    usage "$text" "$@" "${word%.}"
+    same "bpfdb $* $shown: the same where it is typed so" typed message
+}
+
+control "unrecognized subcommand 'b\\\\x07'" 'b\a' 'b\x07'
+control "unrecognized subcommand 'two\\\\x0alines\\\\x0a'" 'two\nlines\n' 'two\x0alines\x0a'
+control "unrecognized subcommand 'two\\\\x0alines'" 'two\nlines' 'two\x0alines' help
+control "unexpected argument '--two\\\\x0alines' found" '--two\nlines' '--two\x0alines'
+control "unexpected argument '--two\\\\x0alines' found" '--two\nlines' '--two\x0alines' run first
+control "unexpected argument '\\\\x0a\\\\x1b[31mred' found" '\n\033[31mred' '\x0a\x1b[31mred' run first
+control "invalid value '7\\\\x0a7' for '--steps <N>': invalid digit found in string" '7\n7' '7\x0a7' run first --steps
+control "invalid value '\\\\x0d\\\\x7f' for '--journal <J>': invalid digit found in string" '\r\0177' '\x0d\x7f' debug first --journal
+control 'a value is none of those that its option takes' 'x86\n' 'x86\x0a' gdb first --registers
 
 # help TEXT ARGUMENT..: the whole text of help is that of the file (tests/program/help.sh makes them).
 help() {

@@ -9,6 +9,7 @@ mod files;
 mod input;
 mod job;
 mod prompt;
+mod words;
 
 use bpfdb_cli::{Plan, PlanFault, Registers, Subcommand, plan};
 use bpfdb_files::Retrying;
@@ -21,9 +22,10 @@ use input::is_closed;
 use job::{do_plan, serve_plan};
 use prompt::{FIRST_GREETING, GREETING, Prompting};
 use std::alloc::Global;
-use std::io::{BufReader, BufWriter, ErrorKind, IsTerminal, Read, Stderr, Write};
+use std::io;
+use std::io::{BufReader, BufWriter, IsTerminal, Read, Stderr, Write};
 use std::process::ExitCode;
-use std::{env, io};
+use words::{shown_words, texts_of, words_of};
 
 /// Standard error.
 type Errors = Counted<BufWriter<Retrying<Stderr>>>;
@@ -69,54 +71,47 @@ fn obey(rt: &HostRuntime, errors: &mut Errors) -> u8 {
     if words.len() < 2 {
         return do_over_streams(rt, &FIRST_PLAN, FIRST_PROGRAM, &[], errors);
     }
-    let mut texts = Vec::new(rt.alloc());
-    for word in &words {
-        match texts.push(word.as_str()) {
-            Ok(()) => {}
-            Err(_) => return give_up(errors, &JobFault::Memory),
-        }
-    }
+    let Some(texts) = texts_of(rt.alloc(), words.as_slice()) else {
+        return give_up(errors, &JobFault::Memory);
+    };
     match plan(rt.alloc(), texts.as_slice()) {
         Ok(plan) => do_with_files(rt, &plan, errors),
-        Err(fault) => show(rt, &fault, errors),
+        Err(fault) => show(rt, words.as_slice(), &fault, errors),
     }
 }
 
-/// The words of the command line, the program's name first.
-fn words_of<'a>(rt: &HostRuntime) -> Result<Vec<String>, JobFault<'a>> {
-    let args = match env::args(rt) {
-        Ok(args) => args,
-        Err(error) => match error.kind() {
-            ErrorKind::OutOfMemory => return Err(JobFault::Memory),
-            _ => return Err(JobFault::NotText),
-        },
-    };
-    let mut words = Vec::new(rt.alloc());
-    for word in args {
-        match words.push(word) {
-            Ok(()) => {}
-            Err(_) => return Err(JobFault::Memory),
-        }
-    }
-    Ok(words)
-}
-
-/// Shows help on standard output, and what is wrong with a command line on standard error.
-fn show(rt: &HostRuntime, fault: &PlanFault, errors: &mut Errors) -> u8 {
+/// Shows help on standard output, and what is wrong with these words on standard error.
+fn show(rt: &HostRuntime, words: &[String], fault: &PlanFault, errors: &mut Errors) -> u8 {
     match fault {
         PlanFault::Memory => give_up(errors, &JobFault::Memory),
         PlanFault::Usage(text) => {
             if fault.status() == 0 {
                 show_help(rt, text, errors)
             } else {
-                show_mistake(rt, text, errors)
+                show_mistake(rt, words, text, errors)
             }
         }
     }
 }
 
+/// Shows what is wrong with words. It is said of the words as they are shown, so that none of them makes a line of its own; `text` says it
+/// of the words as they are, and comes where the others are a plan, which none were seen to be.
+fn show_mistake(rt: &HostRuntime, words: &[String], text: &Error, errors: &mut Errors) -> u8 {
+    let Some(shown) = shown_words(rt.alloc(), words) else {
+        return give_up(errors, &JobFault::Memory);
+    };
+    let Some(texts) = texts_of(rt.alloc(), shown.as_slice()) else {
+        return give_up(errors, &JobFault::Memory);
+    };
+    match plan(rt.alloc(), texts.as_slice()) {
+        Ok(_) => write_mistake(rt, text, errors),
+        Err(PlanFault::Usage(text)) => write_mistake(rt, &text, errors),
+        Err(PlanFault::Memory) => give_up(errors, &JobFault::Memory),
+    }
+}
+
 /// Writes what is wrong with a command line to standard error.
-fn show_mistake(rt: &HostRuntime, text: &Error, errors: &mut Errors) -> u8 {
+fn write_mistake(rt: &HostRuntime, text: &Error, errors: &mut Errors) -> u8 {
     match format!(in rt.alloc(); "{text}") {
         Ok(text) => tell_usage(errors, text.as_str()),
         Err(_) => give_up(errors, &JobFault::Memory),
