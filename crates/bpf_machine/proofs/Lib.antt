@@ -5,6 +5,7 @@ pub mod ByAddress
 pub mod Facts
 pub mod Loans
 pub mod Codes
+pub mod Sorts
 pub mod Fitting
 pub mod EntryParts
 pub mod Editable

@@ -1,6 +1,8 @@
 //! The machine: its state, and the doing of a change.
-ghost use Rattle.std.specs.Prelude.{◌≡◌, ◌<◌, ◌^◌, All, length, slice_set, false};
+ghost use Rattle.std.specs.Prelude.{◌≡◌, ◌≤◌, ◌<◌, ◌+◌, ◌^◌, ℕ, All, length, slice_set, false};
 ghost use Rattle.bpf_entries.specs.Status.{has_ended};
+ghost use Rattle.bpf_isa.specs.Programs.{IsStart};
+ghost use Rattle.bpf_isa.specs.Sizes.{size_len};
 
 mod atomic;
 mod edit;
@@ -20,7 +22,7 @@ use crate::memory::Memory;
 use crate::platform::TRACE_LIMIT;
 use arrayvec::ArrayVec;
 use bpf_entries::{ByteString, Status};
-use bpf_isa::{Program, Reg};
+use bpf_isa::{Program, Reg, Size};
 use std::marker::Model;
 
 /// A machine with its program.
@@ -120,12 +122,7 @@ impl Cpu {
                 value,
                 register,
                 next,
-            } => {
-                let old = self.memory.number(index, size);
-                self.memory.store(index, size, value);
-                self.write_register(register, old);
-                self.pc = next;
-            }
+            } => self.exchange(index, size, value, register, next),
             Change::Call { target } => self.enter(target),
             Change::Return => self.leave(),
             Change::Cell {
@@ -137,6 +134,21 @@ impl Cpu {
             Change::Trace { word, next } => self.append_word(word, next),
             Change::Stop { status } => self.status = status,
         }
+    }
+
+    /// Stores the low bytes of a number at an index of memory's bytes, and a register gets the number that stood there.
+    #[inline(always)]
+    #[tactic(auto, unfolding(crate::specs::Next::changed))]
+    fn exchange(&mut self, index: usize, size: Size, value: u64, register: Reg, next: u16)
+        requires register { register < 10 }
+        requires fits { index + size_len size ≤ length self.old.memory.bytes }
+        requires next { IsStart self.old.program next }
+        ensures { (address : ℕ) → self.new ≡ changed self.old (Change.Fetch address index size value register next) }
+    {
+        let old = self.memory.number(index, size);
+        self.memory.store(index, size, value);
+        self.write_register(register, old);
+        self.pc = next;
     }
 
     /// Puts a number into a register.
