@@ -264,8 +264,7 @@ impl EntryRing {
             return None;
         }
         let weight = within(self.ring.newest_len(), len);
-        let tag = self.ring.tag_at(len - weight);
-        self.ring.revert_newest(cpu, weight);
+        let tag = self.ring.revert_newest(cpu, weight);
         self.ring.drop_newest(weight);
         self.counts.subtract(tag);
         self.invariant();
@@ -541,7 +540,7 @@ fn counted(ring: &Ring) -> Counts
 
 /// How many bytes the text of an entry has that led to a machine's state.
 #[inline(always)]
-fn text_len(cpu: &Cpu, text: &[u8]) -> usize
+pub(crate) fn text_len(cpu: &Cpu, text: &[u8]) -> usize
     requires { HasComeBy cpu.now text.now }
     ensures value { result ≡ length text.now }
     ensures within { (5 ≤ result) × (result ≤ greatest_weight) }

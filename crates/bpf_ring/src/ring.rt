@@ -19,6 +19,7 @@ ghost use Rattle.bpf_ring.specs.Spans.{counts_of};
 
 use crate::block::{fill, place, record_in_place, write_around, write_in_place};
 use crate::counts::Counts;
+use crate::entries::text_len;
 use crate::run::{Reached, Span, StopTest, run_in_place};
 use bpf_entries::weights::GREATEST;
 use bpf_entries::{byte_before, depth_before};
@@ -227,34 +228,33 @@ impl Ring {
     }
 
     /// Takes back the move whose entry's text the newest bytes are, so many: they are read where they lie, or from a copy where they go around
-    /// the block's end. They stay.
+    /// the block's end. They stay. Answers the entry's tag.
     #[inline(always)]
-    pub fn revert_newest(&self, cpu: &mut Cpu, count: usize)
+    pub fn revert_newest(&self, cpu: &mut Cpu, count: usize) -> u8
         requires held { count ≤ length self.now.bytes }
         requires light { count ≤ greatest_weight }
         requires come { HasComeBy cpu.old (drop (length self.now.bytes - count) self.now.bytes) }
-        ensures { (x : State) (m : Move) (mark : Bool) → Leads x m cpu.old → FitsFields (overwritten x m) → drop (length self.now.bytes - count) self.now.bytes ≡ text (overwritten x m) mark → cpu.new ≡ x }
+        ensures back { (x : State) (m : Move) (mark : Bool) → Leads x m cpu.old → FitsFields (overwritten x m) → drop (length self.now.bytes - count) self.now.bytes ≡ text (overwritten x m) mark → cpu.new ≡ x }
+        ensures tag { (e : Entry) (mark : Bool) (before rest : List ℕ) → self.now.bytes ≡ before ++ (text e mark ++ rest) → length self.now.bytes - count ≡ length before → result ≡ tag (kind e) mark }
     {
-        let start = place(self.buffer.len(), self.first, self.len() - count);
-        let (block, _) = self.buffer.as_slices();
-        if start + count <= block.len() {
-            cpu.revert_text(&block[start..start + count]);
-        } else {
-            self.revert_apart(cpu, count);
+        match self.newest_piece(count) {
+            Some(piece) => revert(cpu, piece),
+            None => self.revert_apart(cpu, count),
         }
     }
 
     /// The same, by way of a copy of the bytes.
     #[inline(never)]
-    fn revert_apart(&self, cpu: &mut Cpu, count: usize)
+    fn revert_apart(&self, cpu: &mut Cpu, count: usize) -> u8
         requires held { count ≤ length self.now.bytes }
         requires light { count ≤ greatest_weight }
         requires come { HasComeBy cpu.old (drop (length self.now.bytes - count) self.now.bytes) }
-        ensures { (x : State) (m : Move) (mark : Bool) → Leads x m cpu.old → FitsFields (overwritten x m) → drop (length self.now.bytes - count) self.now.bytes ≡ text (overwritten x m) mark → cpu.new ≡ x }
+        ensures back { (x : State) (m : Move) (mark : Bool) → Leads x m cpu.old → FitsFields (overwritten x m) → drop (length self.now.bytes - count) self.now.bytes ≡ text (overwritten x m) mark → cpu.new ≡ x }
+        ensures tag { (e : Entry) (mark : Bool) (before rest : List ℕ) → self.now.bytes ≡ before ++ (text e mark ++ rest) → length self.now.bytes - count ≡ length before → result ≡ tag (kind e) mark }
     {
         let mut scratch = [0u8; GREATEST];
         self.copy_newest(count, &mut scratch);
-        cpu.revert_text(&scratch[..count]);
+        revert(cpu, &scratch[..count])
     }
 
     /// The newest bytes, so many, where they lie in one piece; None where they go around the block's end.
@@ -475,6 +475,18 @@ impl Ring {
             _ => 0,
         }
     }
+}
+
+/// Takes back the move whose entry has this text. Answers the entry's tag.
+#[inline(always)]
+fn revert(cpu: &mut Cpu, bytes: &[u8]) -> u8
+    requires { HasComeBy cpu.old bytes.now }
+    ensures back { (x : State) (m : Move) (mark : Bool) → Leads x m cpu.old → FitsFields (overwritten x m) → bytes.now ≡ text (overwritten x m) mark → cpu.new ≡ x }
+    ensures tag { (e : Entry) (mark : Bool) (rest : List ℕ) → bytes.now ≡ text e mark ++ rest → result ≡ tag (kind e) mark }
+{
+    let _len = text_len(cpu, bytes);
+    cpu.revert_text(bytes);
+    bytes[2]
 }
 
 /// The length that an entry's last two bytes are.

@@ -5,14 +5,14 @@ use Rattle.bpf_entries.specs.Texts.{text}
 use Rattle.bpf_ring.proofs.entries.EntryRing.take_back.Goals as goal
 use Rattle.bpf_ring.proofs.Held.{came_by, newest_tag, newest_text, popped, TagAt}
 
-pub revert_newest-requires-clause-light : goal.revert_newest-requires-clause-light
-revert_newest-requires-clause-light c =
+pub revert_newest-tag-requires-clause-light : goal.revert_newest-tag-requires-clause-light
+revert_newest-tag-requires-clause-light c =
     let now = c.args.self.now in
     (came_by now.ring now.counts c.newest_len.result c.within-weight.result c.args.cpu.now c.requires (omega (arith, c.if-len-lt5.false, c.len-len.ensures.value)) c.newest_len.ensures
     (λ a b. c.within-weight.ensures.same a (subst (λ n. c.newest_len.result ≤ n) (sym c.len-len.ensures.value) b))).light
 
-pub revert_newest-requires-clause-come : goal.revert_newest-requires-clause-come
-revert_newest-requires-clause-come c =
+pub revert_newest-tag-requires-clause-come : goal.revert_newest-tag-requires-clause-come
+revert_newest-tag-requires-clause-come c =
     let now = c.args.self.now in
     (came_by now.ring now.counts c.newest_len.result c.within-weight.result c.args.cpu.now c.requires (omega (arith, c.if-len-lt5.false, c.len-len.ensures.value)) c.newest_len.ensures
     (λ a b. c.within-weight.ensures.same a (subst (λ n. c.newest_len.result ≤ n) (sym c.len-len.ensures.value) b))).come
@@ -20,11 +20,10 @@ revert_newest-requires-clause-come c =
 pub returns-clause-some : goal.returns-clause-some
 returns-clause-some c = λ ks k held.
     let now = c.args.self.now in
-    let at = ap (λ n. n - c.within-weight.result) c.len-len.ensures.value in
     let same = λ (a : 1 ≤ c.newest_len.result) (b : c.newest_len.result ≤ length now.ring.bytes). c.within-weight.ensures.same a (subst (λ n. c.newest_len.result ≤ n) (sym c.len-len.ensures.value) b) in
-    let tags = subst (λ p. TagAt now.ring p c.tag_at-tag.result) at c.tag_at-tag.ensures in (
-      ap Some (newest_tag now.ring now.counts c.newest_len.result c.within-weight.result c.tag_at-tag.result ks k held c.newest_len.ensures same tags),
-      popped now.ring c.drop_newest.new.self now.counts c.subtract.new.self c.newest_len.result c.within-weight.result c.tag_at-tag.result ks k held c.newest_len.ensures same tags
+    let tags : TagAt now.ring (length now.ring.bytes - c.within-weight.result) c.revert_newest-tag.result = c.revert_newest-tag.ensures.tag in (
+      ap Some (newest_tag now.ring now.counts c.newest_len.result c.within-weight.result c.revert_newest-tag.result ks k held c.newest_len.ensures same tags),
+      popped now.ring c.drop_newest.new.self now.counts c.subtract.new.self c.newest_len.result c.within-weight.result c.revert_newest-tag.result ks k held c.newest_len.ensures same tags
           c.drop_newest.ensures.bytes c.subtract.ensures.newest,
     )
 
@@ -34,4 +33,4 @@ returns-clause-back c = λ ks k x m held leads is.
     let same = λ (a : 1 ≤ c.newest_len.result) (b : c.newest_len.result ≤ length now.ring.bytes). c.within-weight.ensures.same a (subst (λ n. c.newest_len.result ≤ n) (sym c.len-len.ensures.value) b) in
     let told = newest_text now.ring now.counts c.newest_len.result c.within-weight.result ks k _ held c.newest_len.ensures same refl in
     let fits = subst FitsFields (sym is) (All-head (λ k. FitsFields k.0) k ks held.fit) in
-    c.revert_newest.ensures x m k.1 leads fits (told.1 ∙ ap (λ e. text e k.1) (sym is))
+    c.revert_newest-tag.ensures.back x m k.1 leads fits (told.1 ∙ ap (λ e. text e k.1) (sym is))

@@ -1,23 +1,16 @@
-use Rattle.std.proofs.Common.{◌≡◌, ◌∙◌, ◌-◌, length, ap, sym, subst}
+use Rattle.std.proofs.Common.{◌-◌, ◌++◌, ◌∙◌, length, drop, ap, sym, subst}
+use Rattle.std.proofs.lemmas.List.{drop_at}
+use Rattle.bpf_entries.specs.Texts.{text}
 use Rattle.bpf_machine.specs.Moves.{HasComeBy}
-use Rattle.bpf_ring.specs.Blocks.{Content, behind}
 use Rattle.bpf_ring.proofs.ring.Ring.revert_newest.Goals as goal
-use Rattle.bpf_ring.proofs.Arounds.{newest_piece}
 
-pub revert_text-requires : goal.revert_text-requires
-revert_text-requires c =
-    let items = c.self.inside.buffer.items in
-    let bytes = c.args.self.now.bytes in
-    let at : c.place-start.result ≡ behind (length items) c.self.inside.first (length bytes - c.args.count) = rw (← c.len.ensures.len, ← c.len-2.ensures.value) c.place-start.ensures.value in
-    let read = newest_piece items c.as_slices.result.0.now c.as_slices.result.1.now bytes c.self.inside.first c.self.inside.len c.args.count c.place-start.result
-    (ap (λ (j : Content). j.bytes) c.self.view_is) at c.self.invariant.within c.self.invariant.fits c.requires.held c.as_slices.ensures c.if-start-count.true in
-    subst (HasComeBy c.args.cpu.now) (sym read) c.requires.come
+pub revert-requires : goal.revert-requires
+revert-requires c = subst (HasComeBy c.args.cpu.now) (sym c.in-Some.ensures) c.requires.come
 
-pub returns-then-start-count : goal.returns-then-start-count
-returns-then-start-count c = λ x m mark leads fits h.
-    let items = c.self.inside.buffer.items in
+pub returns-in-Some-clause-back : goal.returns-in-Some-clause-back
+returns-in-Some-clause-back c = λ x m mark leads fits h. c.revert.ensures.back x m mark leads fits (c.in-Some.ensures ∙ h)
+
+pub returns-in-Some-clause-tag : goal.returns-in-Some-clause-tag
+returns-in-Some-clause-tag c = λ e mark before rest is at.
     let bytes = c.args.self.now.bytes in
-    let at : c.place-start.result ≡ behind (length items) c.self.inside.first (length bytes - c.args.count) = rw (← c.len.ensures.len, ← c.len-2.ensures.value) c.place-start.ensures.value in
-    let read = newest_piece items c.as_slices.result.0.now c.as_slices.result.1.now bytes c.self.inside.first c.self.inside.len c.args.count c.place-start.result
-    (ap (λ (j : Content). j.bytes) c.self.view_is) at c.self.invariant.within c.self.invariant.fits c.requires.held c.as_slices.ensures c.if-start-count.true in
-    c.revert_text.ensures x m mark leads fits (read ∙ h)
+    c.revert.ensures.tag e mark rest (c.in-Some.ensures ∙ ap (drop (length bytes - c.args.count)) is ∙ drop_at before (text e mark ++ rest) (length bytes - c.args.count) (sym at))
