@@ -1,5 +1,5 @@
 //! The line of a fault.
-ghost use Rattle.std.specs.Prelude.{◌≡◌};
+ghost use Rattle.std.specs.Prelude.{◌≡◌, []};
 ghost use Rattle.counted_io.specs.Writing.{Writes, WritesAfter};
 ghost use Rattle.bpfdb_jobs.specs.Faults.{limit_line, line_of, placed, refusal_line, refusal_text, slot_of, slot_of_words, unreadable_line};
 
@@ -8,6 +8,7 @@ use crate::name::put_name;
 use crate::refusal::JobRefusal;
 use bpf_isa::LoadFault;
 use bpf_link::LinkFault;
+use bpf_text::AsmFault;
 use counted_io::{Counted, WriteFault, put, put_decimal};
 use std::io::Write;
 
@@ -76,72 +77,75 @@ fn put_refusal<E: Write>(
 {
     match refusal {
         JobRefusal::Maps(fault) => {
-            put_numbered(
-                errors,
-                so_far,
-                b"refused M",
-                fault.number(),
-                b"",
-                None,
-                fault.text(),
-            )
+            put_unplaced(errors, so_far, b"refused M", fault.number(), fault.text())
         }
-        JobRefusal::Listing(fault) => {
-            put_numbered(
-                errors,
-                so_far,
-                b"refused A",
-                fault.number(),
-                b" at line ",
-                fault.line(),
-                fault.text(),
-            )
-        }
-        JobRefusal::Load(fault) => {
-            put_numbered(
-                errors,
-                so_far,
-                b"refused C",
-                fault.number(),
-                b" at slot ",
-                slot_of(fault),
-                fault.text(),
-            )
-        }
+        JobRefusal::Listing(fault) => put_listing(errors, so_far, fault),
+        JobRefusal::Load(fault) => put_load(errors, so_far, fault),
         JobRefusal::Open(fault) => {
-            put_numbered(
-                errors,
-                so_far,
-                b"refused O",
-                fault.number(),
-                b"",
-                None,
-                fault.text(),
-            )
+            put_unplaced(errors, so_far, b"refused O", fault.number(), fault.text())
         }
         JobRefusal::Journal(fault) => {
-            put_numbered(
-                errors,
-                so_far,
-                b"refused J",
-                fault.number(),
-                b"",
-                None,
-                fault.text(),
-            )
+            put_unplaced(errors, so_far, b"refused J", fault.number(), fault.text())
         }
-        JobRefusal::Object(fault) => {
-            put_numbered(
-                errors,
-                so_far,
-                b"refused E",
-                fault.number(),
-                b" at slot ",
-                slot_of_words(fault),
-                fault.text(),
-            )
-        }
+        JobRefusal::Object(fault) => put_object(errors, so_far, fault),
     }
+}
+
+/// Writes the line of a listing's fault.
+fn put_listing<E: Write>(
+    errors: &mut Counted<E>,
+    so_far: Result<(), WriteFault>,
+    fault: &AsmFault,
+) -> Result<(), WriteFault>
+    ensures { WritesAfter E.contents errors.old so_far errors.new result (refusal_line (JobRefusal.Listing fault.now)) }
+{
+    put_numbered(
+        errors,
+        so_far,
+        b"refused A",
+        fault.number(),
+        b" at line ",
+        fault.line(),
+        fault.text(),
+    )
+}
+
+/// Writes the line of a program's fault.
+fn put_load<E: Write>(
+    errors: &mut Counted<E>,
+    so_far: Result<(), WriteFault>,
+    fault: &LoadFault,
+) -> Result<(), WriteFault>
+    ensures { WritesAfter E.contents errors.old so_far errors.new result (refusal_line (JobRefusal.Load fault.now)) }
+{
+    put_numbered(
+        errors,
+        so_far,
+        b"refused C",
+        fault.number(),
+        b" at slot ",
+        slot_of(fault),
+        fault.text(),
+    )
+}
+
+/// Writes the line of an object's fault.
+fn put_object<E: Write>(
+    errors: &mut Counted<E>,
+    so_far: Result<(), WriteFault>,
+    fault: &LinkFault,
+) -> Result<(), WriteFault>
+    ensures { WritesAfter E.contents errors.old so_far errors.new result (refusal_line (JobRefusal.Object fault.now)) }
+{
+    put_numbered(
+        errors,
+        so_far,
+        b"refused E",
+        fault.number(),
+        b" at slot ",
+        slot_of_words(fault),
+        fault.text(),
+    )
 }
 
 /// The slot of a program's fault, where it has one.
@@ -185,6 +189,19 @@ fn put_numbered<E: Write>(
     let parted = put(errors, placed, b": ");
     let said = put(errors, parted, text.as_bytes());
     put(errors, said, b"\n")
+}
+
+/// Writes a refusal that has no place.
+fn put_unplaced<E: Write>(
+    errors: &mut Counted<E>,
+    so_far: Result<(), WriteFault>,
+    family: &[u8],
+    number: u8,
+    text: &str,
+) -> Result<(), WriteFault>
+    ensures { WritesAfter E.contents errors.old so_far errors.new result (refusal_text family.now number [] text.now) }
+{
+    put_numbered(errors, so_far, family, number, b"", None, text)
 }
 
 /// Writes a place, where there is one.
