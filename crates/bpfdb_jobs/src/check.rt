@@ -1,5 +1,5 @@
 //! What a job of `check` does.
-ghost use Rattle.std.specs.Prelude.{◌≡◌, ◌≢◌, List, ℕ, Some, count_by, is_some};
+ghost use Rattle.std.specs.Prelude.{◌≡◌, ◌≢◌, ◌≤◌, List, ℕ, Some, count_by, is_some};
 ghost use Rattle.counted_io.specs.Writing.{Writes, WritesAfter};
 ghost use Rattle.bpfdb_jobs.specs.Jobs.{StopsShort, Completes, Needs, Spared, check_line};
 ghost use Rattle.bpfdb_jobs.specs.Unread.{TellsUnread};
@@ -29,6 +29,7 @@ pub fn check_job<W: Write, E: Write>(
     ensures spared { result ≢ 2 → Spared writer.old writer.new × Spared errors.old errors.new }
     ensures quiet { result ≡ 0 → errors.new ≡ errors.old }
     ensures never { result ≢ 1 }
+    ensures status { result ≤ 2 }
     ensures told { result ≡ 2 → TellsUnread E.contents Check job.now writer.old writer.new errors.old errors.new }
 {
     match program_of(alloc, job) {

@@ -1,5 +1,5 @@
 //! What a job of `gdb` does.
-ghost use Rattle.std.specs.Prelude.{◌≡◌, ◌≢◌, ◌⊎◌};
+ghost use Rattle.std.specs.Prelude.{◌≡◌, ◌≢◌, ◌≤◌, ◌⊎◌};
 ghost use Rattle.bpfdb_jobs.specs.Connections.{BreaksConnection, ServesConnection};
 ghost use Rattle.bpfdb_jobs.specs.Endings.{TellsFault};
 ghost use Rattle.bpfdb_jobs.specs.Jobs.{Needs, Spared};
@@ -43,6 +43,7 @@ pub fn serve_job<R: Read, W: Write, E: Write>(
     ensures spared { result ≢ 2 → Spared reader.old reader.new × Spared writer.old writer.new × Spared errors.old errors.new }
     ensures quiet { result ≡ 0 → errors.new ≡ errors.old }
     ensures never { result ≢ 1 }
+    ensures status { result ≤ 2 }
     ensures told { result ≡ 2 → TellsFault E.contents Debug job.now reader.old reader.new writer.old writer.new errors.old errors.new }
 {
     let mut session = match session_of(alloc, job) {

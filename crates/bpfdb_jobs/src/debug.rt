@@ -1,5 +1,5 @@
 //! What a job of `debug` does.
-ghost use Rattle.std.specs.Prelude.{◌≡◌, ◌≢◌, List, ℕ, Some};
+ghost use Rattle.std.specs.Prelude.{◌≡◌, ◌≢◌, ◌≤◌, List, ℕ, Some};
 ghost use Rattle.bpfdb_jobs.specs.Endings.{TellsFault};
 ghost use Rattle.bpfdb_jobs.specs.Jobs.{StopsShort, Completes, Needs, Spared};
 ghost use Rattle.bpfdb_jobs.specs.declared.job.JobKind.TheVariants.{Debug};
@@ -34,6 +34,7 @@ pub fn debug_job<R: Read, W: Write, E: Write>(
     ensures spared { result ≢ 2 → Spared reader.old reader.new × Spared writer.old writer.new × Spared errors.old errors.new }
     ensures quiet { result ≡ 0 → errors.new ≡ errors.old }
     ensures never { result ≢ 1 }
+    ensures status { result ≤ 2 }
     ensures told { result ≡ 2 → TellsFault E.contents Debug job.now reader.old reader.new writer.old writer.new errors.old errors.new }
 {
     let mut session = match session_of(alloc, job) {

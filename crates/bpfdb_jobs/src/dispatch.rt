@@ -1,7 +1,8 @@
 //! The program without its command line and its files: a job, done.
-ghost use Rattle.std.specs.Prelude.{◌≡◌, ◌≢◌, ◌⊎◌, List, ℕ, Some};
+ghost use Rattle.std.specs.Prelude.{◌≡◌, ◌≢◌, ◌≤◌, ◌⊎◌, List, ℕ, Some};
 ghost use Rattle.bpfdb_jobs.specs.Endings.{LosesLine, TellsDone, TellsFault, TellsStop};
 ghost use Rattle.bpfdb_jobs.specs.Jobs.{StopsShort, Completes, Needs, Spared};
+ghost use Rattle.bpfdb_jobs.specs.declared.job.JobKind.TheVariants.{Run};
 ghost use Rattle.bpfdb_limits.specs.Limits.{IsLimit};
 
 use crate::check::check_job;
@@ -36,6 +37,9 @@ pub fn tool<R: Read, W: Write, E: Write>(
     ensures refused { (Needs job.now.kind job.now → ⊥) → (result ≡ 2) × (reader.new ≡ reader.old) × (writer.new ≡ writer.old) }
     // Where anything failed the status is 2.
     ensures spared { result ≢ 2 → Spared reader.old reader.new × Spared writer.old writer.new × Spared errors.old errors.new }
+    // There is no other status, and `run` alone answers 1.
+    ensures status { result ≤ 2 }
+    ensures runs { result ≡ 1 → job.now.kind ≡ Run }
     // Nothing stands on standard error, or the maps of an object that was linked, or the line of a run that stopped, or that of the fault that
     // ended the job. Where no read and no write failed, status 2 leaves reader and writer as they were.
     ensures quiet { result ≡ 0 → TellsDone E.contents job.now.kind job.now errors.old errors.new }

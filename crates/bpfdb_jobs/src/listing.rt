@@ -1,5 +1,5 @@
 //! What the jobs of `asm` and `disasm` do.
-ghost use Rattle.std.specs.Prelude.{◌≡◌, ◌≢◌, List, ℕ, Some};
+ghost use Rattle.std.specs.Prelude.{◌≡◌, ◌≢◌, ◌≤◌, List, ℕ, Some};
 ghost use Rattle.bpfdb_jobs.specs.Jobs.{StopsShort, Completes, Needs, Spared};
 ghost use Rattle.bpfdb_jobs.specs.Unread.{TellsUnread};
 ghost use Rattle.bpfdb_jobs.specs.declared.job.JobKind.TheVariants.{Asm, Disasm};
@@ -29,6 +29,7 @@ pub fn asm_job<W: Write, E: Write>(
     ensures spared { result ≢ 2 → Spared writer.old writer.new × Spared errors.old errors.new }
     ensures quiet { result ≡ 0 → errors.new ≡ errors.old }
     ensures never { result ≢ 1 }
+    ensures status { result ≤ 2 }
     ensures told { result ≡ 2 → TellsUnread E.contents Asm job.now writer.old writer.new errors.old errors.new }
 {
     match assemble(alloc, job.file) {
@@ -55,6 +56,7 @@ pub fn disasm_job<W: Write, E: Write>(
     ensures spared { result ≢ 2 → Spared writer.old writer.new × Spared errors.old errors.new }
     ensures quiet { result ≡ 0 → errors.new ≡ errors.old }
     ensures never { result ≢ 1 }
+    ensures status { result ≤ 2 }
     ensures told { result ≡ 2 → TellsUnread E.contents Disasm job.now writer.old writer.new errors.old errors.new }
 {
     let program = match program_of(alloc, job) {

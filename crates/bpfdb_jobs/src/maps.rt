@@ -1,5 +1,5 @@
 //! The line that tells the maps of an object.
-ghost use Rattle.std.specs.Prelude.{◌≡◌, ◌≢◌, [], ◌++◌, flat_map, codes};
+ghost use Rattle.std.specs.Prelude.{◌≡◌, ◌≢◌, ◌≤◌, [], ◌++◌, flat_map, codes};
 ghost use Rattle.counted_io.specs.Writing.{Writes, WritesAfter};
 ghost use Rattle.bpfdb_jobs.specs.Endings.{Loses, TellsMaps};
 ghost use Rattle.bpfdb_jobs.specs.Jobs.{Spared};
@@ -13,6 +13,7 @@ use std::io::Write;
 /// 0, or 2 where standard error failed.
 pub fn tell_maps<E: Write>(errors: &mut Counted<E>, shapes: &[MapShape]) -> u8
     ensures status { result ≢ 2 → result ≡ 0 }
+    ensures few { result ≤ 2 }
     ensures quiet { result ≢ 2 → TellsMaps E.contents shapes.now errors.old errors.new }
     ensures spared { result ≢ 2 → Spared errors.old errors.new }
     ensures lost { result ≡ 2 → (shapes.now ≢ []) × Loses E.contents errors.old errors.new (maps_line shapes.now) }

@@ -1,5 +1,5 @@
 //! What a job of `link` does.
-ghost use Rattle.std.specs.Prelude.{◌≡◌, ◌≢◌, ◌⊎◌, List, ℕ, Some};
+ghost use Rattle.std.specs.Prelude.{◌≡◌, ◌≢◌, ◌≤◌, ◌⊎◌, List, ℕ, Some};
 ghost use Rattle.bpfdb_jobs.specs.Endings.{LosesMaps, TellsDone};
 ghost use Rattle.bpfdb_jobs.specs.Jobs.{StopsShort, Completes, Needs, Spared};
 ghost use Rattle.bpfdb_jobs.specs.Unread.{TellsUnread};
@@ -30,6 +30,7 @@ pub fn link_job<W: Write, E: Write>(
     ensures spared { result ≢ 2 → Spared writer.old writer.new × Spared errors.old errors.new }
     ensures quiet { result ≡ 0 → TellsDone E.contents Link job.now errors.old errors.new }
     ensures never { result ≢ 1 }
+    ensures status { result ≤ 2 }
     ensures told { result ≡ 2 → TellsUnread E.contents Link job.now writer.old writer.new errors.old errors.new
         ⊎ (LosesMaps E.contents job.now errors.old errors.new × Spared writer.old writer.new) }
 {

@@ -1,5 +1,5 @@
 //! What goes to standard output at once, and what goes to standard error.
-ghost use Rattle.std.specs.Prelude.{◌≡◌, ◌≢◌, ◌++◌, OnErr, OnOk, codes};
+ghost use Rattle.std.specs.Prelude.{◌≡◌, ◌≢◌, ◌≤◌, ◌++◌, OnErr, OnOk, codes};
 ghost use Rattle.counted_io.specs.Writing.{Writes};
 ghost use Rattle.bpfdb_replies.specs.Texts.{place};
 ghost use Rattle.bpfdb_jobs.specs.Endings.{Told};
@@ -116,6 +116,7 @@ pub fn ended<E: Write>(written: Result<(), WriteFault>, errors: &mut Counted<E>)
     ensures err { OnErr written (result ≡ 2) }
     ensures told { OnErr written (Told E.contents errors.old errors.new (line_of Output)) }
     ensures never { result ≢ 1 }
+    ensures status { result ≤ 2 }
 {
     match written {
         Ok(()) => 0,

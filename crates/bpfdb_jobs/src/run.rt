@@ -1,5 +1,5 @@
 //! What a job of `run` does.
-ghost use Rattle.std.specs.Prelude.{◌≡◌, ◌≢◌, ◌⊎◌, List, OnErr, OnOk, ℕ, Some};
+ghost use Rattle.std.specs.Prelude.{◌≡◌, ◌≢◌, ◌≤◌, ◌⊎◌, List, OnErr, OnOk, ℕ, Some};
 ghost use Rattle.bpfdb_jobs.specs.Endings.{LosesStop, TellsStop};
 ghost use Rattle.bpfdb_jobs.specs.Jobs.{StopsShort, Completes, Needs, Spared};
 ghost use Rattle.bpfdb_jobs.specs.Unread.{TellsUnread};
@@ -28,6 +28,7 @@ pub fn run_job<W: Write, E: Write>(
     ensures refused { (Needs Run job.now → ⊥) → (result ≡ 2) × (writer.new ≡ writer.old) }
     ensures spared { result ≢ 2 → Spared writer.old writer.new × Spared errors.old errors.new }
     ensures quiet { result ≡ 0 → errors.new ≡ errors.old }
+    ensures status { result ≤ 2 }
     ensures stopped { result ≡ 1 → TellsStop E.contents job.now errors.old errors.new × (writer.new ≡ writer.old) }
     ensures told { result ≡ 2 → TellsUnread E.contents Run job.now writer.old writer.new errors.old errors.new
         ⊎ (LosesStop E.contents job.now errors.old errors.new × (writer.new ≡ writer.old)) }
@@ -48,6 +49,7 @@ pub fn run_job<W: Write, E: Write>(
 fn stopped(told: Result<(), WriteFault>) -> u8
     ensures value { result ≢ 2 → result ≡ 1 }
     ensures never { result ≢ 0 }
+    ensures status { result ≤ 2 }
     ensures ok { OnOk told (result ≡ 1) }
     ensures err { OnErr told (result ≡ 2) }
 {
