@@ -1,10 +1,11 @@
 //! The job of a plan, done over any reader and writer.
-ghost use Rattle.std.specs.Prelude.{◌≡◌, ◌≢◌, ◌⊎◌, List, ℕ, Some};
+ghost use Rattle.std.specs.Prelude.{◌≡◌, ◌≢◌, ◌≤◌, ◌⊎◌, List, ℕ, Some};
 ghost use Rattle.bpfdb.specs.Jobs.{IsJobOf, kind_of, layout_of, section_of};
+ghost use Rattle.bpfdb_cli.specs.declared.plans.Subcommand.TheVariants.{Gdb};
 ghost use Rattle.bpfdb_jobs.specs.Connections.{BreaksConnection, ServesConnection};
 ghost use Rattle.bpfdb_jobs.specs.Endings.{LosesLine, TellsDone, TellsFault, TellsStop};
 ghost use Rattle.bpfdb_jobs.specs.Jobs.{Completes, Needs, Spared, StopsShort};
-ghost use Rattle.bpfdb_jobs.specs.declared.job.JobKind.TheVariants.{Debug};
+ghost use Rattle.bpfdb_jobs.specs.declared.job.JobKind.TheVariants.{Debug, Run};
 ghost use Rattle.bpfdb_limits.specs.Limits.{IsLimit};
 
 use bpf_journal::{Keeper, RingKeeper};
@@ -15,8 +16,33 @@ use counted_io::Counted;
 use std::alloc::Global;
 use std::io::{Read, Write};
 
+/// Serves gdb where the plan says so, and else does the plan's job. Answers the exit status: 0, 1 or 2.
+pub fn do_or_serve<R: Read, W: Write, E: Write>(
+    alloc: Global,
+    plan: &Plan<'_>,
+    file: &[u8],
+    context: &[u8],
+    reader: &mut Counted<R>,
+    writer: &mut Counted<W>,
+    errors: &mut Counted<E>,
+) -> u8
+    requires limit { IsLimit plan.now.limit }
+    ensures served { plan.now.subcommand ≡ Gdb → (job : Job) × IsJobOf plan.now file.now context.now job
+        × (result ≢ 2 → ServesConnection ⟦<RingKeeper as Keeper>⟧.holds ⟦<RingKeeper as Keeper>⟧.refused ⟦<RingKeeper as Keeper>⟧.room
+        R.remaining W.contents (layout_of plan.now.registers) job reader.old reader.new writer.old writer.new) }
+    ensures done { plan.now.subcommand ≢ Gdb → (job : Job) × IsJobOf plan.now file.now context.now job
+        × ((script told : List ℕ) → R.remaining reader.old.inner ≡ Some script → W.contents writer.old.inner ≡ Some told → result ≢ 2 →
+        Completes job.kind job (record { script = script; told = told; after = W.contents writer.new.inner; left = R.remaining reader.new.inner }) result) }
+    ensures status { result ≤ 2 }
+{
+    match plan.subcommand {
+        Subcommand::Gdb => serve_plan(alloc, plan, file, context, reader, writer, errors),
+        _ => do_plan(alloc, plan, file, context, reader, writer, errors),
+    }
+}
+
 /// Does the job of a plan with the bytes of FILE and of PATH, and answers the exit status: what `tool` promises of that job.
-pub fn do_plan<R: Read, W: Write, E: Write>(
+fn do_plan<R: Read, W: Write, E: Write>(
     alloc: Global,
     plan: &Plan<'_>,
     file: &[u8],
@@ -35,6 +61,8 @@ pub fn do_plan<R: Read, W: Write, E: Write>(
     ensures refused { (job : Job) × IsJobOf plan.now file.now context.now job
         × ((Needs job.kind job → ⊥) → (result ≡ 2) × (reader.new ≡ reader.old) × (writer.new ≡ writer.old)) }
     ensures spared { result ≢ 2 → Spared reader.old reader.new × Spared writer.old writer.new × Spared errors.old errors.new }
+    ensures status { result ≤ 2 }
+    ensures runs { result ≡ 1 → kind_of plan.now.subcommand ≡ Run }
     ensures quiet { (job : Job) × IsJobOf plan.now file.now context.now job
         × (result ≡ 0 → TellsDone E.contents job.kind job errors.old errors.new) }
     ensures stopped { (job : Job) × IsJobOf plan.now file.now context.now job
@@ -48,7 +76,7 @@ pub fn do_plan<R: Read, W: Write, E: Write>(
 }
 
 /// Serves gdb with the job of a plan, and answers the exit status: what `serve_job` promises of that job.
-pub fn serve_plan<R: Read, W: Write, E: Write>(
+fn serve_plan<R: Read, W: Write, E: Write>(
     alloc: Global,
     plan: &Plan<'_>,
     file: &[u8],
@@ -69,6 +97,8 @@ pub fn serve_plan<R: Read, W: Write, E: Write>(
         × ((Needs Debug job → ⊥) → (result ≡ 2) × (reader.new ≡ reader.old) × (writer.new ≡ writer.old)) }
     ensures spared { result ≢ 2 → Spared reader.old reader.new × Spared writer.old writer.new × Spared errors.old errors.new }
     ensures quiet { result ≡ 0 → errors.new ≡ errors.old }
+    ensures status { result ≤ 2 }
+    ensures never { result ≢ 1 }
     ensures told { (job : Job) × IsJobOf plan.now file.now context.now job
         × (result ≡ 2 → TellsFault E.contents Debug job reader.old reader.new writer.old writer.new errors.old errors.new) }
 {

@@ -1,8 +1,10 @@
 //! The program: a debugger that runs a BPF program (RFC 9669) forwards and backwards.
 #![tactic(auto)]
 
-ghost use Rattle.std.specs.Prelude.{IfErr};
+ghost use Rattle.std.specs.Prelude.{◌≡◌, ◌≢◌, ◌≤◌, IfErr, OnSome};
 ghost use Rattle.bpfdb.specs.Files.{Names, NamesGiven};
+ghost use Rattle.bpfdb_cli.specs.Plans.{status_of};
+ghost use Rattle.bpfdb_cli.specs.declared.plans.Subcommand.TheVariants.{Debug};
 ghost use Rattle.bpfdb_limits.specs.Limits.{IsLimit};
 
 mod files;
@@ -19,9 +21,8 @@ use clap::Error;
 use counted_io::Counted;
 use files::{context_at, program_at, source_at};
 use input::is_closed;
-use job::{do_plan, serve_plan};
+use job::do_or_serve;
 use prompt::{FIRST_GREETING, GREETING, Prompting};
-use std::alloc::Global;
 use std::io;
 use std::io::{BufReader, BufWriter, IsTerminal, Read, Stderr, Write};
 use std::process::ExitCode;
@@ -62,8 +63,10 @@ fn main(rt: HostRuntime) -> ExitCode {
     }
 }
 
-/// Does what the command line says. Answers the exit status, as all that follows.
-fn obey(rt: &HostRuntime, errors: &mut Errors) -> u8 {
+/// Does what the command line says. Answers the exit status, as all that follows: 0, 1 or 2.
+fn obey(rt: &HostRuntime, errors: &mut Errors) -> u8
+    ensures { result ≤ 2 }
+{
     let words = match words_of(rt) {
         Ok(words) => words,
         Err(fault) => return give_up(errors, &fault),
@@ -81,7 +84,10 @@ fn obey(rt: &HostRuntime, errors: &mut Errors) -> u8 {
 }
 
 /// Shows help on standard output, and what is wrong with these words on standard error.
-fn show(rt: &HostRuntime, words: &[String], fault: &PlanFault, errors: &mut Errors) -> u8 {
+fn show(rt: &HostRuntime, words: &[String], fault: &PlanFault, errors: &mut Errors) -> u8
+    ensures value { result ≢ 2 → result ≡ status_of fault.now }
+    ensures status { result ≤ 2 }
+{
     match fault {
         PlanFault::Memory => give_up(errors, &JobFault::Memory),
         PlanFault::Usage(text) => {
@@ -96,7 +102,9 @@ fn show(rt: &HostRuntime, words: &[String], fault: &PlanFault, errors: &mut Erro
 
 /// Shows what is wrong with words. It is said of the words as they are shown, so that none of them makes a line of its own; `text` says it
 /// of the words as they are, and comes where the others are a plan, which none were seen to be.
-fn show_mistake(rt: &HostRuntime, words: &[String], text: &Error, errors: &mut Errors) -> u8 {
+fn show_mistake(rt: &HostRuntime, words: &[String], text: &Error, errors: &mut Errors) -> u8
+    ensures { result ≡ 2 }
+{
     let Some(shown) = shown_words(rt.alloc(), words) else {
         return give_up(errors, &JobFault::Memory);
     };
@@ -111,7 +119,9 @@ fn show_mistake(rt: &HostRuntime, words: &[String], text: &Error, errors: &mut E
 }
 
 /// Writes what is wrong with a command line to standard error.
-fn write_mistake(rt: &HostRuntime, text: &Error, errors: &mut Errors) -> u8 {
+fn write_mistake(rt: &HostRuntime, text: &Error, errors: &mut Errors) -> u8
+    ensures { result ≡ 2 }
+{
     match format!(in rt.alloc(); "{text}") {
         Ok(text) => tell_usage(errors, text.as_str()),
         Err(_) => give_up(errors, &JobFault::Memory),
@@ -119,7 +129,10 @@ fn write_mistake(rt: &HostRuntime, text: &Error, errors: &mut Errors) -> u8 {
 }
 
 /// Writes help to standard output.
-fn show_help(rt: &HostRuntime, text: &Error, errors: &mut Errors) -> u8 {
+fn show_help(rt: &HostRuntime, text: &Error, errors: &mut Errors) -> u8
+    ensures value { result ≢ 2 → result ≡ 0 }
+    ensures status { result ≤ 2 }
+{
     let mut output = Retrying::new(io::writer(rt));
     match write!(output, "{text}") {
         Ok(()) => 0,
@@ -130,6 +143,7 @@ fn show_help(rt: &HostRuntime, text: &Error, errors: &mut Errors) -> u8 {
 /// Reads the files of a plan, FILE before PATH, and does its job.
 fn do_with_files(rt: &HostRuntime, plan: &Plan<'_>, errors: &mut Errors) -> u8
     requires limit { IsLimit plan.now.limit }
+    ensures { result ≤ 2 }
 {
     let file = match file_of(rt, plan) {
         Ok(file) => file,
@@ -182,6 +196,7 @@ fn do_over_streams(
     errors: &mut Errors,
 ) -> u8
     requires limit { IsLimit plan.now.limit }
+    ensures { result ≤ 2 }
 {
     let Ok(output) = BufWriter::new(rt.alloc(), Retrying::new(io::writer(rt))) else {
         return give_up(errors, &JobFault::Memory);
@@ -210,7 +225,9 @@ fn do_over_streams(
 }
 
 /// What is said first where commands are typed: the plan reads them, and standard input is a terminal.
-fn greeting_of(rt: &HostRuntime, plan: &Plan<'_>) -> Option<&'static str> {
+fn greeting_of(rt: &HostRuntime, plan: &Plan<'_>) -> Option<&'static str>
+    ensures { OnSome result (plan.now.subcommand ≡ Debug) }
+{
     match plan.subcommand {
         Subcommand::Debug => {
             if !rt.stdin().is_terminal() {
@@ -236,28 +253,11 @@ fn do_over_reader<R: Read + Drop, W: Write>(
     errors: &mut Errors,
 ) -> u8
     requires limit { IsLimit plan.now.limit }
+    ensures { result ≤ 2 }
 {
     let Ok(input) = BufReader::new(rt.alloc(), input) else {
         return give_up(errors, &JobFault::Memory);
     };
     let mut reader = Counted::new(input);
     do_or_serve(rt.alloc(), plan, file, context, &mut reader, writer, errors)
-}
-
-/// Serves gdb where the plan says so, and else does the plan's job.
-fn do_or_serve<R: Read, W: Write>(
-    alloc: Global,
-    plan: &Plan<'_>,
-    file: &[u8],
-    context: &[u8],
-    reader: &mut Counted<R>,
-    writer: &mut Counted<W>,
-    errors: &mut Errors,
-) -> u8
-    requires limit { IsLimit plan.now.limit }
-{
-    match plan.subcommand {
-        Subcommand::Gdb => serve_plan(alloc, plan, file, context, reader, writer, errors),
-        _ => do_plan(alloc, plan, file, context, reader, writer, errors),
-    }
 }
