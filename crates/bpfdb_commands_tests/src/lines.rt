@@ -1,5 +1,6 @@
 //! Lines and what they say, by the user's manual.
 use bpf_machine::Edit;
+use bpf_testing::{number_of, parts_of};
 use bpfdb_commands::{Command, Count, Goal, Refusal, Span, Stop, Target, View, parse_command};
 use std::process::Abort;
 
@@ -7,193 +8,193 @@ use std::process::Abort;
 // how many they are, a refusal by its number.
 type Said<'a> = (&'a str, u64, u64);
 
-// A row: the line, what it says, its numbers.
+// A row: the line, and what it says with its numbers.
 const COMMANDS: &str = "\
-|nothing|0 0
- \t\r |nothing|0 0
-stepi|stepi|1 0
-stepi 5|stepi|5 0
-continue|continue|0 0
-nexti|nexti|0 0
-finish|finish|0 0
-undo|undo|1 0
-undo 2|undo|2 0
-reverse-stepi|reverse-stepi|1 0
-reverse-stepi 3|reverse-stepi|3 0
-reverse-continue|reverse-continue|0 0
-rc|reverse-continue|0 0
-reverse-nexti|reverse-nexti|0 0
-reverse-finish|reverse-finish|0 0
-redo|redo|1 0
-redo 0x5|redo|5 0
-set reg r4 1|set reg|4 1
-set mem 0x100000004 0102030405060708|set mem|4294967300 8
-set pc 0x100000000|set pc|4294967296 0
-break 1|break|1 0
-delete 9|delete|9 0
-watch 0x100000000|watch|4294967296 0
-unwatch 18446744073709551615|unwatch|18446744073709551615 0
-last-write 0|last-write|0 0
-info regs|info regs|0 0
-info frames|info frames|0 0
-info breaks|info breaks|0 0
-info history|info history|0 0
-info trace|info trace|0 0
-x 0x300000000 16|x|12884901888 16
-disas 2 3|disas|2 3
-quit|quit|0 0
-\tinfo\tregs\r|info regs|0 0
-   info \t  regs  \r|info regs|0 0
-  quit  |quit|0 0
+stepi | stepi 1 0
+ \t\r  | nothing 0 0
+ | nothing 0 0
+stepi 5 | stepi 5 0
+continue | continue 0 0
+nexti | nexti 0 0
+finish | finish 0 0
+undo | undo 1 0
+undo 2 | undo 2 0
+reverse-stepi | reverse-stepi 1 0
+reverse-stepi 3 | reverse-stepi 3 0
+reverse-continue | reverse-continue 0 0
+rc | reverse-continue 0 0
+reverse-nexti | reverse-nexti 0 0
+reverse-finish | reverse-finish 0 0
+redo | redo 1 0
+redo 0x5 | redo 5 0
+set reg r4 1 | set reg 4 1
+set mem 0x100000004 0102030405060708 | set mem 4294967300 8
+set pc 0x100000000 | set pc 4294967296 0
+break 1 | break 1 0
+delete 9 | delete 9 0
+watch 0x100000000 | watch 4294967296 0
+unwatch 18446744073709551615 | unwatch 18446744073709551615 0
+last-write 0 | last-write 0 0
+info regs | info regs 0 0
+info frames | info frames 0 0
+info breaks | info breaks 0 0
+info history | info history 0 0
+info trace | info trace 0 0
+x 0x300000000 16 | x 12884901888 16
+disas 2 3 | disas 2 3
+quit | quit 0 0
+\tinfo\tregs\r | info regs 0 0
+   info \t  regs  \r | info regs 0 0
+  quit   | quit 0 0
 ";
 
 const COUNTS: &str = "\
-stepi 0|refused|2 0
-stepi 1|stepi|1 0
-stepi 1000000000|stepi|1000000000 0
-stepi 1000000001|refused|2 0
-stepi 18446744073709551615|refused|2 0
-stepi 18446744073709551616|refused|2 0
-stepi 18446744073709551617|refused|2 0
-stepi 0x10000000000000001|refused|2 0
-stepi 100000000000000000000000000007|refused|2 0
-stepi 000000000000000000000000000007|stepi|7 0
-stepi 0x00000000000000000000005|stepi|5 0
-stepi 005|stepi|5 0
-stepi 010|stepi|10 0
-stepi 08|stepi|8 0
-stepi 0x5|stepi|5 0
-stepi 0xaF|stepi|175 0
-stepi 0x3b9aca00|stepi|1000000000 0
-stepi 0x3b9aca01|refused|2 0
-stepi 0x|refused|2 0
-stepi 0X5|refused|2 0
-stepi 0x0x5|refused|2 0
-stepi +1|refused|2 0
-stepi -1|refused|2 0
-stepi a|refused|2 0
-stepi 0x5g|refused|2 0
-stepi 5z|refused|2 0
-stepi 5\0|refused|2 0
-stepi 1 2|refused|2 0
-stepi 1 x|refused|2 0
-stepi # one|refused|2 0
-stepi #one|refused|2 0
-undo 0|refused|2 0
-undo 1000000000|undo|1000000000 0
-undo 1000000001|refused|2 0
-undo 1 2|refused|2 0
-reverse-stepi 0|refused|2 0
-reverse-stepi 1000000001|refused|2 0
-reverse-stepi 1 2|refused|2 0
+stepi 0 | refused 2 0
+stepi 1 | stepi 1 0
+stepi 1000000000 | stepi 1000000000 0
+stepi 1000000001 | refused 2 0
+stepi 18446744073709551615 | refused 2 0
+stepi 18446744073709551616 | refused 2 0
+stepi 18446744073709551617 | refused 2 0
+stepi 0x10000000000000001 | refused 2 0
+stepi 100000000000000000000000000007 | refused 2 0
+stepi 000000000000000000000000000007 | stepi 7 0
+stepi 0x00000000000000000000005 | stepi 5 0
+stepi 005 | stepi 5 0
+stepi 010 | stepi 10 0
+stepi 08 | stepi 8 0
+stepi 0x5 | stepi 5 0
+stepi 0xaF | stepi 175 0
+stepi 0x3b9aca00 | stepi 1000000000 0
+stepi 0x3b9aca01 | refused 2 0
+stepi 0x | refused 2 0
+stepi 0X5 | refused 2 0
+stepi 0x0x5 | refused 2 0
+stepi +1 | refused 2 0
+stepi -1 | refused 2 0
+stepi a | refused 2 0
+stepi 0x5g | refused 2 0
+stepi 5z | refused 2 0
+stepi 5\0 | refused 2 0
+stepi 1 2 | refused 2 0
+stepi 1 x | refused 2 0
+stepi # one | refused 2 0
+stepi #one | refused 2 0
+undo 0 | refused 2 0
+undo 1000000000 | undo 1000000000 0
+undo 1000000001 | refused 2 0
+undo 1 2 | refused 2 0
+reverse-stepi 0 | refused 2 0
+reverse-stepi 1000000001 | refused 2 0
+reverse-stepi 1 2 | refused 2 0
 ";
 
 const NUMBERS: &str = "\
-x 0x100000000 0|refused|2 0
-x 0x100000000 1|x|4294967296 1
-x 0x100000000 256|x|4294967296 256
-x 0x100000000 257|refused|2 0
-x 0xFFFFFFFFFFFFFFFF 0x100|x|18446744073709551615 256
-x 18446744073709551616 1|refused|2 0
-x|refused|2 0
-x 1|refused|2 0
-x 1 2 3|refused|2 0
-x y 1|refused|2 0
-x 1 y|refused|2 0
-disas 0 0|refused|2 0
-disas 0 1|disas|0 1
-disas 0 256|disas|0 256
-disas 0 257|refused|2 0
-disas 0|refused|2 0
-disas 0 1 2|refused|2 0
-disas 010 0011|disas|10 11
-break|refused|2 0
-break 18446744073709551615|break|18446744073709551615 0
-break 18446744073709551616|refused|2 0
-break 1 2|refused|2 0
-break x|refused|2 0
-delete|refused|2 0
-delete 1 2|refused|2 0
-delete 0x|refused|2 0
+x 0x100000000 0 | refused 2 0
+x 0x100000000 1 | x 4294967296 1
+x 0x100000000 256 | x 4294967296 256
+x 0x100000000 257 | refused 2 0
+x 0xFFFFFFFFFFFFFFFF 0x100 | x 18446744073709551615 256
+x 18446744073709551616 1 | refused 2 0
+x | refused 2 0
+x 1 | refused 2 0
+x 1 2 3 | refused 2 0
+x y 1 | refused 2 0
+x 1 y | refused 2 0
+disas 0 0 | refused 2 0
+disas 0 1 | disas 0 1
+disas 0 256 | disas 0 256
+disas 0 257 | refused 2 0
+disas 0 | refused 2 0
+disas 0 1 2 | refused 2 0
+disas 010 0011 | disas 10 11
+break | refused 2 0
+break 18446744073709551615 | break 18446744073709551615 0
+break 18446744073709551616 | refused 2 0
+break 1 2 | refused 2 0
+break x | refused 2 0
+delete | refused 2 0
+delete 1 2 | refused 2 0
+delete 0x | refused 2 0
 ";
 
 const EDITS: &str = "\
-set reg r0 0|set reg|0 0
-set reg r9 18446744073709551615|set reg|9 18446744073709551615
-set reg r10 1|set reg|10 1
-set reg r11 1|refused|2 0
-set reg r 1|refused|2 0
-set reg R1 1|refused|2 0
-set reg r00 1|refused|2 0
-set reg r1 18446744073709551616|refused|2 0
-set reg r1 r2|refused|2 0
-set reg 1 1|refused|2 0
-set reg r1|refused|2 0
-set reg r1 0777|set reg|1 777
-set reg|refused|2 0
-set reg r1 1 1|refused|2 0
-set mem 0|refused|2 0
-set mem 0x100000000 0|refused|2 0
-set mem 0 00|set mem|0 1
-set mem 0 000|refused|2 0
-set mem 0 0g|refused|2 0
-set mem 0 g000|refused|2 0
-set mem 0 0x00|refused|2 0
-set mem r1 00|refused|2 0
-set mem 0x 00|refused|2 0
-set mem 18446744073709551616 00|refused|2 0
-set mem|refused|2 0
-set mem 0 00 00|refused|2 0
-set cell 0 1 0102030405060708|set cell|0 1
-set cell 18446744073709551615 0xffffffffffffffff 00|set cell|18446744073709551615 18446744073709551615
-set cell 18446744073709551616 0 00|refused|2 0
-set cell 0 18446744073709551616 00|refused|2 0
-set cell 0 0 0|refused|2 0
-set cell 0 0|refused|2 0
-set cell|refused|2 0
-set cell 0 0 00 00|refused|2 0
-set pc 0|set pc|0 0
-set pc|refused|2 0
-set pc x|refused|2 0
-set pc 0 0|refused|2 0
-set|refused|2 0
-set foo 1|refused|2 0
-set REG r1 1|refused|2 0
-set r1 1|refused|2 0
+set reg r0 0 | set reg 0 0
+set reg r9 18446744073709551615 | set reg 9 18446744073709551615
+set reg r10 1 | set reg 10 1
+set reg r11 1 | refused 2 0
+set reg r 1 | refused 2 0
+set reg R1 1 | refused 2 0
+set reg r00 1 | refused 2 0
+set reg r1 18446744073709551616 | refused 2 0
+set reg r1 r2 | refused 2 0
+set reg 1 1 | refused 2 0
+set reg r1 | refused 2 0
+set reg r1 0777 | set reg 1 777
+set reg | refused 2 0
+set reg r1 1 1 | refused 2 0
+set mem 0 | refused 2 0
+set mem 0x100000000 0 | refused 2 0
+set mem 0 00 | set mem 0 1
+set mem 0 000 | refused 2 0
+set mem 0 0g | refused 2 0
+set mem 0 g000 | refused 2 0
+set mem 0 0x00 | refused 2 0
+set mem r1 00 | refused 2 0
+set mem 0x 00 | refused 2 0
+set mem 18446744073709551616 00 | refused 2 0
+set mem | refused 2 0
+set mem 0 00 00 | refused 2 0
+set cell 0 1 0102030405060708 | set cell 0 1
+set cell 18446744073709551615 0xffffffffffffffff 00 | set cell 18446744073709551615 18446744073709551615
+set cell 18446744073709551616 0 00 | refused 2 0
+set cell 0 18446744073709551616 00 | refused 2 0
+set cell 0 0 0 | refused 2 0
+set cell 0 0 | refused 2 0
+set cell | refused 2 0
+set cell 0 0 00 00 | refused 2 0
+set pc 0 | set pc 0 0
+set pc | refused 2 0
+set pc x | refused 2 0
+set pc 0 0 | refused 2 0
+set | refused 2 0
+set foo 1 | refused 2 0
+set REG r1 1 | refused 2 0
+set r1 1 | refused 2 0
 ";
 
 const NAMES: &str = "\
-continue 1|refused|2 0
-continue # on|refused|2 0
-reverse-continue 1|refused|2 0
-rc 1|refused|2 0
-quit now|refused|2 0
-info|refused|2 0
-info foo|refused|2 0
-info REGS|refused|2 0
-info reg|refused|2 0
-info regs x|refused|2 0
-info frames x|refused|2 0
-info breaks x|refused|2 0
-info history x|refused|2 0
-info trace x|refused|2 0
-STEPI|refused|1 0
-# one|refused|1 0
-#|refused|1 0
-step|refused|1 0
-si|refused|1 0
-c|refused|1 0
-q|refused|1 0
-exit|refused|1 0
-help|refused|1 0
-stepi\0|refused|1 0
-reverse-step|refused|1 0
-frob|refused|1 0
-frob 0|refused|1 0
-reg r1 1|refused|1 0
-5|refused|1 0
-info\x0bregs|refused|1 0
-stepi\x0c|refused|1 0
+continue 1 | refused 2 0
+continue # on | refused 2 0
+reverse-continue 1 | refused 2 0
+rc 1 | refused 2 0
+quit now | refused 2 0
+info | refused 2 0
+info foo | refused 2 0
+info REGS | refused 2 0
+info reg | refused 2 0
+info regs x | refused 2 0
+info frames x | refused 2 0
+info breaks x | refused 2 0
+info history x | refused 2 0
+info trace x | refused 2 0
+STEPI | refused 1 0
+# one | refused 1 0
+# | refused 1 0
+step | refused 1 0
+si | refused 1 0
+c | refused 1 0
+q | refused 1 0
+exit | refused 1 0
+help | refused 1 0
+stepi\0 | refused 1 0
+reverse-step | refused 1 0
+frob | refused 1 0
+frob 0 | refused 1 0
+reg r1 1 | refused 1 0
+5 | refused 1 0
+info\x0bregs | refused 1 0
+stepi\x0c | refused 1 0
 ";
 
 fn said_by_edit(edit: &Edit) -> Said<'static> {
@@ -261,14 +262,14 @@ fn said_by_view(view: View) -> Said<'static> {
 }
 
 fn number(rt: &impl Abort, word: &str) -> u64 {
-    word.parse::<u64>().ok().expect(rt, "no number")
+    number_of(word).expect(rt, "no number")
 }
 
 // A row's line, and what it says.
 fn parts<'a>(rt: &impl Abort, row: &'a str) -> (&'a str, Said<'a>) {
-    let (line, says) = row.split_once('|').expect(rt, "no bar");
-    let (name, numbers) = says.split_once('|').expect(rt, "no second bar");
-    let (first, second) = numbers.split_once(' ').expect(rt, "one number");
+    let (line, says) = parts_of(row).expect(rt, "no answer");
+    let (says, second) = says.rsplit_once(' ').expect(rt, "no number");
+    let (name, first) = says.rsplit_once(' ').expect(rt, "one number");
     (line, (name, number(rt, first), number(rt, second)))
 }
 
@@ -340,16 +341,16 @@ fn bytes_have_a_length(rt: HostRuntime) {
 
 // The digits and the bytes that they write.
 const BYTES: &str = "\
-set mem 7 0102030405060708|0102030405060708
-set mem 7 00ff|00ff
-set mem 7 aBCdEf09|abcdef09
-set mem 7 F0|f0
+set mem 7 0102030405060708 | 0102030405060708
+set mem 7 00ff | 00ff
+set mem 7 aBCdEf09 | abcdef09
+set mem 7 F0 | f0
 ";
 
 #[test]
 fn digits_write_bytes(rt: HostRuntime) {
     for row in BYTES.lines() {
-        let (line, digits) = row.split_once('|').expect(&rt, "no bar");
+        let (line, digits) = parts_of(row).expect(&rt, "no digits");
         let Ok(Some(Command::Edit(Edit::Bytes { bytes, .. }))) = parse_command(line.as_bytes())
         else {
             panic!(rt; "{row}");
@@ -376,10 +377,10 @@ fn lines_have_a_length(rt: HostRuntime) {
 
 // A line, padded with blanks to the longest one.
 const PADDED: &str = "\
-stepi 7|stepi|7 0
-stepi 0|refused|2 0
-frob 0|refused|1 0
-quit|quit|0 0
+stepi 7 | stepi 7 0
+stepi 0 | refused 2 0
+frob 0 | refused 1 0
+quit | quit 0 0
 ";
 
 // What a line says with blanks behind it, so many bytes in all.
