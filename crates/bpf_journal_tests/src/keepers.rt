@@ -11,12 +11,12 @@ use std::process::Abort;
 
 // A journal's size, and how it is opened or why not.
 const SIZES: &str = "\
-0 -> J1: journal size out of range
-1023 -> J1: journal size out of range
-1024 -> 1024 bytes, 0 kept
-16777216 -> 16777216 bytes, 0 kept
-16777217 -> J1: journal size out of range
-18446744073709551615 -> J1: journal size out of range
+0 | J1: journal size out of range
+1023 | J1: journal size out of range
+1024 | 1024 bytes, 0 kept
+16777216 | 16777216 bytes, 0 kept
+16777217 | J1: journal size out of range
+18446744073709551615 | J1: journal size out of range
 ";
 
 /// What opening a journal of a size answers.
@@ -70,10 +70,10 @@ const LOOP: &str = "07000000010000000500feff00000000";
 // 1,024 bytes, and their answers. Of the long run 44 rounds of 23 bytes and the jump before them are kept, 1,019 bytes; the add before that
 // jump would make 1,035.
 const PLAYS: &str = "\
-07000000010000000500feff00000000; 11; jump 1; steps 9, step, steps 9, step, steps 9, step, steps 9, step, steps 9, step, steps 9, step, steps 9, step, steps 9, step, steps 9, step, steps 9, step, counts, all back, back, counts -> 9 steps, ok, 9 steps, ok, 9 steps, ok, 9 steps, ok, 9 steps, ok, 9 steps, ok, 9 steps, ok, 9 steps, ok, 9 steps, ok, 9 steps, ok, 89 kept 9 marked 1019 of 1024 0 refused, 89 back, none, 0 kept 0 marked 0 of 1024 0 refused
-07000000010000000500feff00000000; 10; register 0 r0 5; steps 9, step, last, last, counts -> 9 steps, ok, jump 1; 7 marked, jump 1; 7 marked, 10 kept 1 marked 115 of 1024 0 refused
-07000000010000000500feff00000000; 0; register 0 r0 0; step, reg 3 7, steps 1, back, back, back, back -> ok, ok, 1 steps, step, marked edit, marked step, none
-9500000000000000; 1; ended; step, step, counts -> ok, ended, 1 kept 1 marked 5 of 1024 0 refused
+07000000010000000500feff00000000; 11; jump 1; steps 9, step, steps 9, step, steps 9, step, steps 9, step, steps 9, step, steps 9, step, steps 9, step, steps 9, step, steps 9, step, steps 9, step, counts, all back, back, counts | 9 steps, ok, 9 steps, ok, 9 steps, ok, 9 steps, ok, 9 steps, ok, 9 steps, ok, 9 steps, ok, 9 steps, ok, 9 steps, ok, 9 steps, ok, 89 kept 9 marked 1019 of 1024 0 refused, 89 back, none, 0 kept 0 marked 0 of 1024 0 refused
+07000000010000000500feff00000000; 10; register 0 r0 5; steps 9, step, last, last, counts | 9 steps, ok, jump 1; 7 marked, jump 1; 7 marked, 10 kept 1 marked 115 of 1024 0 refused
+07000000010000000500feff00000000; 0; register 0 r0 0; step, reg 3 7, steps 1, back, back, back, back | ok, ok, 1 steps, step, marked edit, marked step, none
+9500000000000000; 1; ended; step, step, counts | ok, ended, 1 kept 1 marked 5 of 1024 0 refused
 ";
 
 /// Stops at a row whose moves answer something else.

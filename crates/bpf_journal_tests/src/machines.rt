@@ -2,12 +2,18 @@
 use bpf_isa::{MapTable, check};
 use bpf_journal::{ListKeeper, RingKeeper, Timeline};
 use bpf_machine::Cpu;
+use bpf_testing::{Row, bytes_of, parts_of, row_of};
 use std::alloc::Global;
 use std::process::Abort;
 
-/// What a row asks, and what is to be answered: an arrow stands between.
+/// The parts of a row.
+pub fn row<'a>(rt: &impl Abort, line: &'a str) -> Row<'a> {
+    row_of(line).expect(rt, "no row")
+}
+
+/// What a row without a name asks, and what is to be answered.
 pub fn parts<'a>(rt: &impl Abort, row: &'a str) -> (&'a str, &'a str) {
-    row.split_once(" -> ").expect(rt, "no arrow")
+    parts_of(row).expect(rt, "no answer")
 }
 
 /// The text before the first `; `, and what follows.
@@ -33,8 +39,8 @@ pub fn count(rt: &impl Abort, digits: &str) -> usize {
 }
 
 /// Bytes in hexadecimal digits.
-pub fn bytes_of(rt: &impl Abort, alloc: Global, digits: &str) -> Vec<u8> {
-    hex::decode(alloc, digits).ok().expect(rt, "no digits")
+pub fn bytes(rt: &impl Abort, alloc: Global, digits: &str) -> Vec<u8> {
+    bytes_of(alloc, digits).expect(rt, "no digits")
 }
 
 /// Stops unless what is found is what is wanted of a row.
@@ -49,8 +55,8 @@ pub fn machine(rt: &impl Abort, alloc: Global, program: &str, context: &str) -> 
 
 /// The same with the maps of a text.
 pub fn machine_on(rt: &impl Abort, alloc: Global, program: &str, maps: &str, context: &str) -> Cpu {
-    let program = bytes_of(rt, alloc, program);
-    let context = bytes_of(rt, alloc, context);
+    let program = bytes(rt, alloc, program);
+    let context = bytes(rt, alloc, context);
     let maps = MapTable::parse(maps.as_bytes()).ok().expect(rt, "no maps");
     let program = check(alloc, &program, &maps).ok().expect(rt, "refused");
     Cpu::open(alloc, program, &context)

@@ -1,6 +1,6 @@
 //! Moves by their words: `step`, `reg 3 7`, `bytes 200000000 0102`, `cell 0 1 ee*8`, `pc 1`. Numbers are hexadecimal; behind a byte and
 //! a star stands how often it comes, in decimal.
-use crate::machines::{bytes_of, cut_word, number};
+use crate::machines::{bytes, cut_word, number};
 use crate::seen::{add, entry_text, kept, refusal, state_text};
 use bpf_isa::Reg;
 use bpf_journal::{Move, MoveFault, Reversible};
@@ -56,7 +56,7 @@ fn cell_edit(rt: &impl Abort, alloc: Global, map: u64, words: &str) -> Edit {
 fn byte_string(rt: &impl Abort, alloc: Global, word: &str) -> ByteString {
     let bytes = match word.split_once('*') {
         Some((byte, count)) => repeated(rt, alloc, byte, count),
-        None => bytes_of(rt, alloc, word),
+        None => bytes(rt, alloc, word),
     };
     ByteString::new(&bytes).expect(rt, "not 1 to 256 bytes")
 }

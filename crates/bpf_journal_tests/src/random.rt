@@ -1,40 +1,9 @@
-//! Random numbers by splitmix64, and random moves. A seed determines them.
+//! Random moves by their words, and the first random numbers of a seed.
 use crate::machines::check_found;
 use crate::seen::{add, kept};
+use bpf_testing::Random;
 use std::alloc::Global;
 use std::process::Abort;
-
-/// A source of numbers.
-#[derive(Drop)]
-pub struct Random {
-    state: u64,
-}
-
-impl Random {
-    /// The source of a seed.
-    pub fn new(seed: u64) -> Random {
-        Random { state: seed }
-    }
-
-    /// The next number.
-    pub fn next(&mut self) -> u64 {
-        self.state = self.state.wrapping_add(0x9e37_79b9_7f4a_7c15);
-        let mixed = self.state;
-        let mixed = (mixed ^ (mixed >> 30)).wrapping_mul(0xbf58_476d_1ce4_e5b9);
-        let mixed = (mixed ^ (mixed >> 27)).wrapping_mul(0x94d0_49bb_1331_11eb);
-        mixed ^ (mixed >> 31)
-    }
-
-    /// A number from 0 to one below another.
-    pub fn below(&mut self, most: u64) -> u64 {
-        self.next().checked_rem(most).unwrap_or(0)
-    }
-
-    /// A number from 1 to another.
-    pub fn up_to(&mut self, most: u64) -> u64 {
-        self.below(most).saturating_add(1)
-    }
-}
 
 /// The words of a random move of a machine: steps, edits, and moves back.
 pub fn random_words(rt: &impl Abort, alloc: Global, random: &mut Random) -> String {

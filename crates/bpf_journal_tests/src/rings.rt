@@ -1,14 +1,15 @@
 //! A ring and a list that keep the same moves: what the ring holds is what the list holds, and the ring's bytes are the texts of that.
 ghost use Rattle.bpf_journal.specs.Histories.{HasHistory};
 
-use crate::machines::{check_found, count, cut, machine_on, ring_timeline, timeline};
+use crate::machines::{check_found, count, cut, machine_on, ring_timeline, row, timeline};
 use crate::play::played;
-use crate::random::{Random, random_words};
+use crate::random::random_words;
 use crate::seen::kept;
 use crate::texts::{cuts_from_back, cuts_from_front, journal_of};
 use crate::walks::entries;
 use bpf_journal::{Keeper, ListKeeper, RingKeeper, Timeline};
 use bpf_machine::Cpu;
+use bpf_testing::Random;
 use std::alloc::Global;
 use std::process::Abort;
 
@@ -80,28 +81,28 @@ fn both(rt: &impl Abort, alloc: Global, pair: &mut Pair, moves: &str, row: &str)
     check_found(rt, difference(rt, alloc, pair), "", row);
 }
 
-// A name; a program without its last `exit`; moves that come first; the move whose entry goes around the end; the entry's weight.
+// A name; a program without its last `exit`, moves that come first, and the move whose entry goes around the end; the entry's weight.
 const ENTRIES: &str = "\
-register; 0700000001000000; place; step; 16
-jump; 0500000000000000; place; step; 7
-call; 85100000010000009500000000000000b706000005000000; place; step; 519
-return; 85100000010000009500000000000000b706000005000000; steps 2; step; 39
-a store of 8 bytes; 7b11000000000000; place; step; 24
-a store of 4 bytes; 6201040001000000; place; step; 20
-a store of 2 bytes; 6a01060001000000; place; step; 18
-a store of a byte; 7201030007000000; place; step; 17
-an addition of 8 bytes; db11000000000000; place; step; 24
-a fetch of 8 bytes; db11000001000000; place; step; 33
-a fetch of 4 bytes; c3210000e1000000; place; step; 29
-trace; 8500000040000000; place; step; 15
-exit; ; place; step; 5
-a fault; 7a0a000007000000; place; step; 5
-an edit of a register; ; place; reg 3 7; 14
-an edit of a byte; ; place; bytes 100000000 ee*1; 14
-an edit of pc; ; place; pc 0; 16
-an edit of pc after a fault; 7a0a000007000000; step; pc 0; 16
-an edit of a cell; ; place; cell 0 1 ee*256; 269
-an update; 8500000002000000; reg 1 400000000, reg 2 2000001f8, reg 3 2000000f0; step; 279
+register | 0700000001000000; place; step | 16
+jump | 0500000000000000; place; step | 7
+call | 85100000010000009500000000000000b706000005000000; place; step | 519
+return | 85100000010000009500000000000000b706000005000000; steps 2; step | 39
+a store of 8 bytes | 7b11000000000000; place; step | 24
+a store of 4 bytes | 6201040001000000; place; step | 20
+a store of 2 bytes | 6a01060001000000; place; step | 18
+a store of a byte | 7201030007000000; place; step | 17
+an addition of 8 bytes | db11000000000000; place; step | 24
+a fetch of 8 bytes | db11000001000000; place; step | 33
+a fetch of 4 bytes | c3210000e1000000; place; step | 29
+trace | 8500000040000000; place; step | 15
+exit | ; place; step | 5
+a fault | 7a0a000007000000; place; step | 5
+an edit of a register | ; place; reg 3 7 | 14
+an edit of a byte | ; place; bytes 100000000 ee*1 | 14
+an edit of pc | ; place; pc 0 | 16
+an edit of pc after a fault | 7a0a000007000000; step; pc 0 | 16
+an edit of a cell | ; place; cell 0 1 ee*256 | 269
+an update | 8500000002000000; reg 1 400000000, reg 2 2000001f8, reg 3 2000000f0; step | 279
 ";
 
 /// How many bytes the next entry of those has that fill so many, each of 14 to 269.
@@ -132,19 +133,18 @@ fn fill(rt: &impl Abort, alloc: Global, pair: &mut Pair, most: usize, row: &str)
 }
 
 /// Makes the move of a row where so many bytes are left before the end of the block, and takes it back.
-fn goes_around(rt: &impl Abort, alloc: Global, row: &str, size: usize, gap: usize) {
-    let (_, rest) = cut(rt, row);
-    let (program, rest) = cut(rt, rest);
-    let (first, rest) = cut(rt, rest);
-    let (moved, _) = cut(rt, rest);
+fn goes_around(rt: &impl Abort, alloc: Global, line: &str, size: usize, gap: usize) {
+    let row = row(rt, line);
+    let (program, rest) = cut(rt, row.input);
+    let (first, moved) = cut(rt, rest);
     let program = kept(rt, format!(in alloc; "{program}9500000000000000"));
     let mut pair = opened(rt, alloc, &program, size);
     let _list = played(rt, alloc, &mut pair.list, first);
     let _ring = played(rt, alloc, &mut pair.ring, first);
-    fill(rt, alloc, &mut pair, size.saturating_sub(gap), row);
-    both(rt, alloc, &mut pair, moved, row);
-    check_newest(rt, alloc, &pair, row);
-    both(rt, alloc, &mut pair, "back", row);
+    fill(rt, alloc, &mut pair, size.saturating_sub(gap), line);
+    both(rt, alloc, &mut pair, moved, line);
+    check_newest(rt, alloc, &pair, line);
+    both(rt, alloc, &mut pair, "back", line);
 }
 
 /// The weight of the newest entry of a ring.
@@ -156,17 +156,16 @@ fn newest_weight(keeper: &RingKeeper) -> usize {
 }
 
 /// Stops unless the newest entry of the ring has the weight of a row.
-fn check_newest(rt: &impl Abort, alloc: Global, pair: &Pair, row: &str) {
+fn check_newest(rt: &impl Abort, alloc: Global, pair: &Pair, line: &str) {
     let found = newest_weight(pair.ring.keeper());
     let found = kept(rt, format!(in alloc; "weight {found}"));
-    let wanted = kept(rt, format!(in alloc; "weight {}", weight_of(rt, row)));
-    check_found(rt, found.as_str(), wanted.as_str(), row);
+    let wanted = kept(rt, format!(in alloc; "weight {}", weight_of(rt, line)));
+    check_found(rt, found.as_str(), wanted.as_str(), line);
 }
 
 /// The weight of the entry of a row.
-fn weight_of(rt: &impl Abort, row: &str) -> usize {
-    let (_, weight) = row.rsplit_once("; ").expect(rt, "no weight");
-    count(rt, weight)
+fn weight_of(rt: &impl Abort, line: &str) -> usize {
+    count(rt, row(rt, line).expected)
 }
 
 /// The same of each row, and of each place at which its entry can be cut by the end, and of both its edges.
