@@ -48,7 +48,7 @@ prove() {
 
 part 'tests/pages.sh' sh tests/pages.sh
 alone
-echo 'rt ci: every proof from nothing, the must-fail edits, each test and program (about 80 minutes on four cores)'
+echo 'rt ci: every proof from nothing, the must-fail edits, each test and program (80 to 110 minutes on four cores)'
 part 'rt ci' prove
 part 'tests/program.sh' sh tests/program.sh
 part 'tests/examples.sh' sh tests/examples.sh
