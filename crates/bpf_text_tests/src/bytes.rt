@@ -1,7 +1,8 @@
 //! Each of the 256 bytes at the places where its class matters.
+use crate::stops::{before, check_number, stop_unless};
 use bpf_text::assemble;
-use std::alloc::{AllocError, Global};
-use std::test::Fail;
+use std::alloc::Global;
+use std::process::Abort;
 
 // From a byte to a byte, the number of the fault (0 for none), and the listing, with ? for the byte:
 // outside comments, first and later in a label, as a digit, as a hexadecimal digit, first and later
@@ -101,62 +102,66 @@ const BYTES: &str = "\
 123 126 2 ja a?\n\
 127 255 6 ja a?";
 
-// A row: its bytes, the number, and the text before and after the byte.
-#[derive(Clone, Copy)]
-struct Row<'a> {
-    from: u8,
-    to: u8,
-    number: u8,
-    front: &'a str,
-    back: &'a str,
+/// A number of a row, and what follows.
+fn number<'a>(rt: &impl Abort, row: &'a str) -> (u8, &'a str) {
+    let (word, rest) = before(rt, row, ' ');
+    (word.parse().ok().expect(rt, "no number"), rest)
 }
 
-fn row_of(row: &str) -> Option<Row<'_>> {
-    let (from, others) = row.split_once(' ')?;
-    let (to, others) = others.split_once(' ')?;
-    let (number, text) = others.split_once(' ')?;
-    let (front, back) = text.split_once('?')?;
-    Some(Row {
-        from: from.parse().ok()?,
-        to: to.parse().ok()?,
-        number: number.parse().ok()?,
-        front,
-        back,
-    })
+/// A text with a byte in place of its `?`.
+fn with_byte(rt: &impl Abort, alloc: Global, text: &str, byte: u8) -> Vec<u8> {
+    let (front, back) = before(rt, text, '?');
+    let mut bytes = Vec::new(alloc);
+    append(rt, &mut bytes, front.as_bytes());
+    append(rt, &mut bytes, &[byte]);
+    append(rt, &mut bytes, back.as_bytes());
+    bytes
 }
 
-// The fault's number, or 0.
-fn fault_number(alloc: Global, front: &str, byte: u8, back: &str) -> Result<u8, AllocError> {
-    let mut text = Vec::new(alloc);
-    text.extend_from_slice(front.as_bytes())?;
-    text.push(byte)?;
-    text.extend_from_slice(back.as_bytes())?;
-    match assemble(alloc, text.as_slice()) {
-        Ok(_) => Ok(0),
-        Err(fault) => Ok(fault.number()),
+/// Puts bytes behind others.
+fn append(rt: &impl Abort, bytes: &mut Vec<u8>, others: &[u8]) {
+    bytes.extend_from_slice(others).ok().expect(rt, "no memory");
+}
+
+/// The fault's number, or 0.
+fn fault_number(alloc: Global, text: &[u8]) -> u8 {
+    match assemble(alloc, text) {
+        Ok(_) => 0,
+        Err(fault) => fault.number(),
     }
 }
 
-// How many of a row's bytes have its number.
-fn known(alloc: Global, row: Row<'_>) -> Result<u32, AllocError> {
-    let mut count = 0u32;
-    for byte in row.from..=row.to {
-        if fault_number(alloc, row.front, byte, row.back)? == row.number {
-            count = count.saturating_add(1);
+/// Whether a text with each of these bytes in place of its `?` has a fault of this number.
+fn are_known(rt: &impl Abort, alloc: Global, text: &str, from: u8, to: u8, number: u8) -> bool {
+    for byte in from..=to {
+        if fault_number(alloc, &with_byte(rt, alloc, text, byte)) != number {
+            return false;
         }
     }
-    Ok(count)
+    true
+}
+
+/// How many bytes a row has. Stops unless each of them has the row's number.
+fn known(rt: &impl Abort, alloc: Global, row: &str) -> u64 {
+    let (from, rest) = number(rt, row);
+    let (to, rest) = number(rt, rest);
+    let (fault, text) = number(rt, rest);
+    let holds = from <= to && are_known(rt, alloc, text, from, to, fault);
+    stop_unless(rt, holds, row);
+    u64::from(to.saturating_sub(from)).saturating_add(1)
+}
+
+/// How many bytes the rows of a table have. Stops at a row that doesn't hold.
+fn known_of(rt: &impl Abort, alloc: Global, table: &str) -> u64 {
+    let mut count = 0u64;
+    for row in table.lines() {
+        count = count.saturating_add(known(rt, alloc, row));
+    }
+    count
 }
 
 #[test]
-fn knows_each_byte(rt: HostRuntime) -> Result<(), Fail> {
-    let mut count = 0u32;
-    for line in BYTES.lines() {
-        let row = row_of(line).ok_or("no row")?;
-        let length = u32::from(row.to.saturating_sub(row.from)).saturating_add(1);
-        assert_eq!(rt; known(rt.alloc(), row)?, length, "{line}");
-        count = count.saturating_add(length);
-    }
-    assert_eq!(rt; count, 7 * 256);
-    Ok(())
+fn knows_each_byte(rt: HostRuntime) {
+    let count = known_of(&rt, rt.alloc(), BYTES);
+    check_number(&rt, count, 7 * 256);
 }

@@ -12,4 +12,6 @@ mod passing;
 #[cfg(test)]
 mod rows;
 #[cfg(test)]
+mod stops;
+#[cfg(test)]
 mod texts;

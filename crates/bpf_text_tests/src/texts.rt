@@ -1,14 +1,15 @@
 //! Texts of numbers, instructions and faults.
+use crate::answers::{append_insn, lines_of};
+use crate::stops::{check_bytes, check_text, parts, stop_unless};
 use bpf_isa::{Insn, Reg, WideValue};
-use bpf_text::{AsmFault, LineFault, assemble, write_insn};
+use bpf_text::{AsmFault, LineFault, assemble};
 use counted_io::{Counted, put, put_decimal, put_hexadecimal, put_signed, write_text};
-use std::alloc::{AllocError, Global};
-use std::test::Fail;
+use std::alloc::Global;
+use std::process::Abort;
 
-#[test]
-fn writes_numbers(rt: HostRuntime) -> Result<(), Fail> {
-    let mut text = Vec::new(rt.alloc());
-    let mut writer = Counted::new(&mut text);
+/// Whether numbers were written behind others: the greatest, the least with a sign, and two in hexadecimal.
+fn append_numbers(text: &mut Vec<u8>) -> bool {
+    let mut writer = Counted::new(text);
     let result = write_text(&mut writer, b"a ");
     let result = put_decimal(&mut writer, result, u64::MAX);
     let result = put(&mut writer, result, b" ");
@@ -16,23 +17,26 @@ fn writes_numbers(rt: HostRuntime) -> Result<(), Fail> {
     let result = put(&mut writer, result, b" ");
     let result = put_hexadecimal(&mut writer, result, 0);
     let result = put(&mut writer, result, b" ");
-    let result = put_hexadecimal(&mut writer, result, 0xfedc_ba98_7654_3210);
-    assert!(rt; result.is_ok());
-    let wanted = "a 18446744073709551615 -9223372036854775808 0x0 0xfedcba9876543210";
-    assert_eq!(rt; text.as_slice(), wanted.as_bytes());
-    Ok(())
+    put_hexadecimal(&mut writer, result, 0xfedc_ba98_7654_3210).is_ok()
 }
 
 #[test]
-fn writes_instructions(rt: HostRuntime) -> Result<(), Fail> {
-    let dst = Reg::new(3).ok_or("r3")?;
+fn writes_numbers(rt: HostRuntime) {
     let mut text = Vec::new(rt.alloc());
-    let mut writer = Counted::new(&mut text);
-    assert!(rt; write_insn(&mut writer, 65530, Insn::Jump { offset: 4 }).is_ok());
+    let is_written = append_numbers(&mut text);
+    stop_unless(&rt, is_written, "not written");
+    let wanted = "a 18446744073709551615 -9223372036854775808 0x0 0xfedcba9876543210";
+    check_bytes(&rt, &text, wanted.as_bytes(), "numbers");
+}
+
+#[test]
+fn writes_instructions(rt: HostRuntime) {
+    let dst = Reg::new(3).expect(&rt, "r3");
     let value = WideValue::Map(9);
-    assert!(rt; write_insn(&mut writer, 0, Insn::LoadWide { dst, value }).is_ok());
-    assert_eq!(rt; text.as_slice(), b"ja L65535ldmap r3, 9".as_slice());
-    Ok(())
+    let mut text = Vec::new(rt.alloc());
+    append_insn(&rt, &mut text, 65530, Insn::Jump { offset: 4 });
+    append_insn(&rt, &mut text, 0, Insn::LoadWide { dst, value });
+    check_bytes(&rt, &text, b"ja L65535ldmap r3, 9", "instructions");
 }
 
 // A listing, and the number, the line and the text of its fault.
@@ -44,34 +48,48 @@ a:|a: => 4 2 label defined twice\n\
 exit|exit|ja a => 5 3 unknown label\n\
 |\u{7f} => 6 2 byte outside ASCII text";
 
-// A row with the fault that was found in place of the one that it has.
-fn faulted(alloc: Global, row: &str) -> Result<String, Fail> {
-    let text = row.split_once(" => ").ok_or("no arrow")?.0;
-    let listing = text.replace(alloc, '|', "\n")?;
-    let fault = assemble(alloc, listing.as_bytes()).err().ok_or("no fault")?;
-    let shown = shown(alloc, fault)?;
-    Ok(format!(in alloc; "{text} => {shown}")?)
-}
-
-fn shown(alloc: Global, fault: AsmFault) -> Result<String, AllocError> {
+/// The number, the line and the text of a fault.
+fn shown(rt: &impl Abort, alloc: Global, fault: AsmFault) -> String {
     let (number, line) = (fault.number(), fault.line().unwrap_or(0));
-    format!(in alloc; "{number} {line} {}", fault.text())
+    let text = fault.text();
+    format!(in alloc; "{number} {line} {text}")
+        .ok()
+        .expect(rt, "no memory")
 }
 
-#[test]
-fn names_faults(rt: HostRuntime) -> Result<(), Fail> {
-    for row in FAULTS.split('\n') {
-        let found = faulted(rt.alloc(), row)?;
-        assert_eq!(rt; found.as_str(), row);
+/// The fault of a listing.
+fn fault_of(rt: &impl Abort, alloc: Global, listing: &str) -> AsmFault {
+    let fault = assemble(alloc, listing.as_bytes()).err();
+    fault.expect(rt, "no fault")
+}
+
+/// Stops unless the listing of a row has the row's fault.
+fn check_fault(rt: &impl Abort, alloc: Global, row: &str) {
+    let (text, wanted) = parts(rt, row);
+    let fault = fault_of(rt, alloc, lines_of(rt, alloc, text).as_str());
+    check_text(rt, shown(rt, alloc, fault).as_str(), wanted, row);
+}
+
+/// The same of each row.
+fn check_faults(rt: &impl Abort, alloc: Global, table: &str) {
+    for row in table.split('\n') {
+        check_fault(rt, alloc, row);
     }
-    Ok(())
 }
 
 #[test]
-fn names_other_faults(rt: HostRuntime) -> Result<(), Fail> {
-    let memory = shown(rt.alloc(), AsmFault::Memory)?;
-    assert_eq!(rt; memory.as_str(), "7 0 out of memory");
-    let full = shown(rt.alloc(), AsmFault::Line(LineFault::TooManySlots, 65536))?;
-    assert_eq!(rt; full.as_str(), "8 65536 too many slots");
-    Ok(())
+fn names_faults(rt: HostRuntime) {
+    check_faults(&rt, rt.alloc(), FAULTS);
+}
+
+/// Stops unless a fault is shown like this.
+fn check_shown(rt: &impl Abort, alloc: Global, fault: AsmFault, wanted: &str) {
+    check_text(rt, shown(rt, alloc, fault).as_str(), wanted, wanted);
+}
+
+#[test]
+fn names_other_faults(rt: HostRuntime) {
+    check_shown(&rt, rt.alloc(), AsmFault::Memory, "7 0 out of memory");
+    let full = AsmFault::Line(LineFault::TooManySlots, 65536);
+    check_shown(&rt, rt.alloc(), full, "8 65536 too many slots");
 }
