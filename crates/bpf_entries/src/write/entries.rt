@@ -27,13 +27,9 @@ impl Entry {
             Entry::Jump { pc } => put_jump(room, *pc, mark),
             Entry::Call { pc, old } => put_call(room, *pc, old.as_slice(), mark),
             Entry::Return { pc, saved } => put_return(room, *pc, saved, mark),
-            Entry::Store { pc, address, old } => put_store(
-                room,
-                *pc,
-                *address,
-                old.as_slice(),
-                mark,
-            ),
+            Entry::Store { pc, address, old } => {
+                put_store(room, *pc, *address, old.as_slice(), mark)
+            }
             Entry::Fetch {
                 pc,
                 register,
@@ -49,15 +45,12 @@ impl Entry {
             } => put_cell(room, *pc, *r0, *address, old.as_slice(), mark),
             Entry::Trace { pc, r0 } => put_trace(room, *pc, *r0, mark),
             Entry::End => put_end(room, mark),
-            Entry::EditRegister { register, value } => put_edit_register(
-                room, *register, *value, mark,
-            ),
-            Entry::EditBytes { address, old } => put_edit_bytes(
-                room,
-                *address,
-                old.as_slice(),
-                mark,
-            ),
+            Entry::EditRegister { register, value } => {
+                put_edit_register(room, *register, *value, mark)
+            }
+            Entry::EditBytes { address, old } => {
+                put_edit_bytes(room, *address, old.as_slice(), mark)
+            }
             Entry::EditPc { pc, status } => put_edit_pc(room, *pc, *status, mark),
         }
         self.weight()
