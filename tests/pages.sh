@@ -235,10 +235,12 @@ libraries() {
     done
 }
 
-# toolchain: README.md and `bpfdb --version` name the one that `rt version` does, and `bpfdb --version` the changelog's version.
+# toolchain: README.md and `bpfdb --version` name the same one, and `bpfdb --version` the changelog's version. What proofs rest on is its logic: that is the one
+# that `rt version` names, in whichever kit it comes.
 toolchain() {
-    kit=$(rt version)
-    grep -q -F "\`$kit\`" README.md || fault "README.md doesn't name the toolchain, $kit"
+    kit=$(sed -n 's/.*`\(rattle-kit-[^ `]* logic [^`]*\)`.*/\1/p' README.md | head -n 1)
+    here=$(rt version)
+    [ "${kit#* }" = "${here#* }" ] || fault "README.md names the toolchain '$kit', and here is $here"
     version=$(sed -n 's/^## \([0-9][0-9.]*\).*/\1/p' CHANGELOG.md | head -n 1)
     grep -q -F "\"$version ($kit)\"" crates/bpfdb_cli/src/help.rt ||
         fault "crates/bpfdb_cli/src/help.rt tells another version than $version ($kit)"

@@ -1,7 +1,7 @@
 //! The texts of help. `clap` adds the usage line, the lists of commands and options, and the defaults; it doesn't wrap lines.
 
 /// The version, and the toolchain that proved it.
-pub const VERSION: &str = "0.9.0 (rattle-kit-13b logic dac8208d650f15bf)";
+pub const VERSION: &str = "0.9.0 (rattle-kit-13f logic dac8208d650f15bf)";
 
 /// What bpfdb is.
 pub const BPFDB: &str = "Runs BPF programs (RFC 9669) forwards and backwards";
