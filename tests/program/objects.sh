@@ -76,6 +76,27 @@ refused 'refused E7: section name longer than 255 bytes' link --section "${long_
 { head -c 64 text.o; printf '\377'; tail -c +66 text.o; } > unknown.o
 refused 'refused E25 at slot 0: unknown instruction' link unknown.o
 
+# A code section of 65,536 instructions, which lies at the end of the object: its header's offset and size are changed. And a table of symbols, there too,
+# with 17 maps: the object's own two, and one of them fifteen times more.
+{
+    head -c 344 text.o
+    printf '\300\001\0\0\0\0\0\0\0\0\010\0\0\0\0\0'
+    tail -c +361 text.o
+    head -c 524280 /dev/zero
+    printf '\225\0\0\0\0\0\0\0'
+} > long.o
+refused 'refused E11: program too long' link long.o
+{
+    head -c 856 maps.o
+    printf '\200\003\0\0\0\0\0\0\370\001\0\0\0\0\0\0'
+    tail -c +873 maps.o
+    tail -c +201 maps.o | head -c 144
+    for _ in 1 2 3 4 5 6 7 8 9 10 11 12 13 14 15; do
+        tail -c +321 maps.o | head -c 24
+    done
+} > many.o
+refused 'refused E15: more than 16 maps' link many.o
+
 # A file of C, where there is a clang for BPF: the sum of the context's bytes, by a function of its own.
 cat > sum.c <<'C'
 __attribute__((noinline)) unsigned long sum(const unsigned char *bytes, unsigned long count) {
@@ -102,6 +123,13 @@ C
     for key in 001 002 377; do
         printf "\\$key\\000\\000\\000" > context
         result "$([ $key = 001 ] && echo 0x3 || echo 0x2)\n" run $(cat told) -m context keys
+    done
+    # Data that is no map: zeros at the start, and constants.
+    echo 'static int count; __attribute__((section("prog"))) int entry(void) { return ++count; }' > zeros.c
+    echo 'static const char names[] = "bpfdb"; __attribute__((section("prog"))) int entry(const void *at, unsigned long size) { return names[size & 3]; }' > constants.c
+    for name in zeros constants; do
+        clang -O1 -target bpf -c -o $name.o $name.c
+        refused 'refused E23: reference to data that is no map' link $name.o
     done
 else
     echo 'objects: there is no clang for BPF here, so no file of C is compiled'

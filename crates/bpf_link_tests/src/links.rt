@@ -268,8 +268,10 @@ fn check_lengths(rt: &impl Abort, alloc: Global, object: &[u8]) {
 
 #[test]
 fn lengths(rt: HostRuntime) {
-    let object = bytes(&rt, rt.alloc(), CALLS);
-    check_lengths(&rt, rt.alloc(), &object);
+    for name in ["calls", "maps", "arrays"] {
+        let object = bytes(&rt, rt.alloc(), object_named(name));
+        check_lengths(&rt, rt.alloc(), &object);
+    }
 }
 
 /// How many of the objects that differ from one in a byte are linked.
@@ -278,7 +280,7 @@ fn linked_flips(alloc: Global, object: &mut [u8]) -> usize {
     for at in 0..object.len() {
         let byte = object[at];
         object[at] = byte ^ 0xff;
-        if fault_of(alloc, object, b"prog") == 0 {
+        if fault_of(alloc, object, b"") == 0 {
             linked = linked.saturating_add(1);
         }
         object[at] = byte;
@@ -286,16 +288,19 @@ fn linked_flips(alloc: Global, object: &mut [u8]) -> usize {
     linked
 }
 
+/// Stops unless an object is linked, and of those that differ from it in a byte some are linked and some are refused.
+fn check_flips(rt: &impl Abort, alloc: Global, object: &mut [u8]) {
+    let linked = linked_flips(alloc, object);
+    stop_unless(rt, linked > 0 && linked < object.len(), "flips");
+    stop_unless(rt, fault_of(alloc, object, b"") == 0, "as it was");
+}
+
 #[test]
 fn flips(rt: HostRuntime) {
-    let mut object = bytes(&rt, rt.alloc(), CALLS);
-    let linked = linked_flips(rt.alloc(), &mut object);
-    stop_unless(&rt, linked > 0 && linked < object.len(), "flips");
-    stop_unless(
-        &rt,
-        fault_of(rt.alloc(), &object, b"prog") == 0,
-        "as it was",
-    );
+    for name in ["calls", "maps", "arrays"] {
+        let mut object = bytes(&rt, rt.alloc(), object_named(name));
+        check_flips(&rt, rt.alloc(), &mut object);
+    }
 }
 
 #[test]
