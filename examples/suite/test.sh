@@ -6,6 +6,7 @@ bpfdb=${BPFDB:-bpfdb}
 here=$(dirname "$0")
 program=${1:-$here/program.s}
 context=$here/context.bin
+maps=
 work=$(mktemp -d) || exit 1
 trap 'rm -rf "$work"' EXIT
 status=0
@@ -49,7 +50,7 @@ expect 'a time to live of 1 is dropped' '0x0, status 0' "$(result "$work/last")"
 replies_to() {
     for command in "$@"; do
         printf '%s\n-\n' "$command"
-    done | "$bpfdb" debug --listing -m "$context" "$program" | {
+    done | "$bpfdb" debug --listing ${maps:+--maps "$maps"} -m "$context" "$program" | {
         for command in "$@"; do
             printf '%s:' "$command"
             while read -r line && [ "$line" != 'refused Q1: unknown command' ]; do
@@ -81,5 +82,14 @@ expect 'a refused command' 'set reg r10 1: refused Q7: register not writable' "$
 expect 'the exit status of debug' 0 $?
 cmp -s "$here/replies" "$work/replies"
 expect 'the replies to the script are as in replies' 0 $?
+
+# The same with a map: a counter of the example counters that is set by hand stays where the machine goes back to before its first step.
+context=$here/../counters/context.bin program=$here/../counters/program.s maps=8x4
+wanted='set cell 0 2 2900000000000000: ok
+continue: 12 forward; end; exited at 12: r0 0x2a
+reverse-stepi 1000000000: 12 back; start; at 0: ldxb r6, [r1+0]
+x 0x300000010 8: 0x300000010: 2900000000000000'
+found=$(replies_to 'set cell 0 2 2900000000000000' continue 'reverse-stepi 1000000000' 'x 0x300000010 8')
+expect 'a counter that begins at 41' "$wanted" "$found"
 
 exit $status
