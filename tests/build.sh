@@ -62,7 +62,7 @@ makefile() {
 
 count=$(rules "$crate" | wc -l)
 checks=$(room)
-echo "Proving $count crates once, and building $crate. From nothing that takes 25 to 50 minutes on four processors, about an hour on two."
+echo "Proving $count crates once, and building $crate. From nothing that takes 25 to 55 minutes on four processors, about an hour on two."
 rules "$crate" | makefile "$count" > "$logs/makefile"
 MAKEFLAGS='' make --no-print-directory -f "$logs/makefile" -j "$checks" "$crate" 2> "$logs/make" || {
     cat "$logs/failed" 2> /dev/null || cat "$logs/make"

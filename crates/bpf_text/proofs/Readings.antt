@@ -13,7 +13,7 @@ use Rattle.bpf_text.specs.Mnemonics.{name_of}
 use Rattle.bpf_text.proofs.Grammar.{AreOperands}
 use Rattle.bpf_text.specs.Scaffolding.Instructions.{forms_of, insn_with, target_in}
 
--- What stands behind a label: blanks alone; an instruction of a mnemonic, its operands and numbers in their ranges; or what is
+-- What stands after a label: blanks alone; an instruction of a mnemonic, its operands and numbers in their ranges; or what is
 -- wrong with it.
 abbrev pub IsStatement : List ℕ → LineReading (Option Statement) → Type 0
 IsStatement s (Ok None) = list_all is_blank s ≡ true

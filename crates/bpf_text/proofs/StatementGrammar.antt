@@ -1,4 +1,4 @@
--- What is read behind a label is what may be written there.
+-- What is read after a label is what may be written there.
 use Rattle.std.proofs.Common.{ℕ, ℤ, pos, negsuc, ◌≡◌, ◌+◌, ◌-ℤ◌, ◌^◌, Bool, true, false, List, refl, ap, sym, ◌∙◌, subst, arith, inl, inr, Option, Some, None, Ok, Err, if◌then◌else◌}
 use Rattle.std.proofs.lemmas.Bool.Decides.{nat_tests}
 use Rattle.bpf_isa.specs.declared.instruction.Insn.{Insn}

@@ -1,4 +1,4 @@
--- What stands behind a label: an instruction, or what is wrong with it. bpfdb's own choice.
+-- What stands after a label: an instruction, or what is wrong with it. bpfdb's own choice.
 use Rattle.std.specs.Prelude.{ℕ, ℤ, pos, ◌≡◌, ◌^◌, ◌⊎◌, true, List, Ok, Err}
 use Rattle.std.specs.List.{list_all}
 use Rattle.bpf_isa.specs.declared.instruction.Insn.{Insn}
