@@ -11,7 +11,7 @@ use borrow.Author.Count.{below_more}
 use Rattle.bpf_isa.specs.declared.maps.MapShape.{MapShape}
 use Rattle.bpf_isa.specs.declared.fault.MapFault.{MapFault}
 use Rattle.bpf_isa.specs.declared.fault.MapFault.TheVariants.{ValueSize, Entries, Total, Full, Malformed}
-use Rattle.bpf_isa.specs.Faults.{map_fault_number}
+use Rattle.bpf_isa.specs.Faults.{map_fault}
 use Rattle.bpf_isa.specs.Maps.{IsShape, AreMaps, HasMapFault, IsLeastMapFault, IsItem, shape_of, items_of, IsMapList, IsFirstBadMap, IsListFault}
 
 -- a number that is cut to 32 bits has the same faults
@@ -22,10 +22,10 @@ same_count : (v w m : ℕ) → w ≡ min v m → 4096 < m → w ≤ 4096 → v �
 same_count v w m e large small = omega arith
 
 module _ (table : List MapShape) (v e w x m : ℕ) (cut_v : w ≡ min v m) (cut_e : x ≡ min e m) (large : 4096 < m) where
-  value_same : (n : ℕ) → 1 < n → ((other : MapFault) → HasMapFault table w x other → n ≤ map_fault_number other) → v ≡ w
+  value_same : (n : ℕ) → 1 < n → ((other : MapFault) → HasMapFault table w x other → n ≤ (map_fault other).0) → v ≡ w
   value_same n above least = elim (cases_lt 256 w) [ inl over ↦ absurd (omega (arith, least ValueSize (inr over))) | inr within ↦ same_number v w m cut_v (omega arith) within ]
 
-  entries_same : (n : ℕ) → 2 < n → ((other : MapFault) → HasMapFault table w x other → n ≤ map_fault_number other) → e ≡ x
+  entries_same : (n : ℕ) → 2 < n → ((other : MapFault) → HasMapFault table w x other → n ≤ (map_fault other).0) → e ≡ x
   entries_same n above least = elim (cases_lt 4096 x) [ inl over ↦ absurd (omega (arith, least Entries (inr over))) | inr within ↦ same_count e x m cut_e large within ]
 
   value_fault : HasMapFault table v e ValueSize → HasMapFault table w x ValueSize
@@ -37,14 +37,14 @@ module _ (table : List MapShape) (v e w x m : ℕ) (cut_v : w ≡ min v m) (cut_
   entries_fault_back : HasMapFault table w x Entries → HasMapFault table v e Entries
   entries_fault_back has = grind arith
 
-  from_one : (other : MapFault) → HasMapFault table v e other → 1 ≤ map_fault_number other
+  from_one : (other : MapFault) → HasMapFault table v e other → 1 ≤ (map_fault other).0
   from_one ValueSize has = lit≤ tt
   from_one Entries has = lit≤ tt
   from_one Total has = lit≤ tt
   from_one Full has = lit≤ tt
   from_one Malformed has = lit≤ tt
 
-  from_two : ((other : MapFault) → HasMapFault table w x other → 2 ≤ map_fault_number other) → (other : MapFault) → HasMapFault table v e other → 2 ≤ map_fault_number other
+  from_two : ((other : MapFault) → HasMapFault table w x other → 2 ≤ (map_fault other).0) → (other : MapFault) → HasMapFault table v e other → 2 ≤ (map_fault other).0
   from_two least ValueSize has = least ValueSize (value_fault has)
   from_two least Entries has = lit≤ tt
   from_two least Total has = lit≤ tt

@@ -16,7 +16,7 @@ use Rattle.bpf_isa.specs.declared.fields.Fields.{Fields}
 use Rattle.bpf_isa.specs.declared.row.Row.{Row}
 use Rattle.bpf_isa.specs.declared.fault.WordFault.{WordFault}
 use Rattle.bpf_isa.specs.declared.fault.WordFault.TheVariants.{UnknownInstruction, RegisterAboveTen, UnusedField, CutOff}
-use Rattle.bpf_isa.specs.Faults.{word_fault_number}
+use Rattle.bpf_isa.specs.Faults.{word_fault}
 use Rattle.bpf_isa.specs.Mnemonics.{mnemonic_of, insn_kind}
 use Rattle.bpf_isa.specs.WordFaults.{HasWordFault, IsLeastWordFault}
 use Rattle.bpf_isa.specs.Words.{row, row_of, fields_of, HasCodes, HasRegisters, HasParts, IsClean, ReadsAs, IsWord}
@@ -52,7 +52,7 @@ pub one_reading : (i j : Insn) (f : Fields) → ReadsAs f i → ReadsAs f j → 
 one_reading i j f read_i read_j same = grind arith
 
 -- a register field is above 10
-least_five : (bytes : List ℕ) (insn : Insn) → ReadsAs (fields_of bytes) insn → (other : WordFault) → HasWordFault bytes other → 5 ≤ word_fault_number other
+least_five : (bytes : List ℕ) (insn : Insn) → ReadsAs (fields_of bytes) insn → (other : WordFault) → HasWordFault bytes other → 5 ≤ (word_fault other).0
 least_five bytes insn reads UnknownInstruction has = absurd (has insn reads)
 least_five bytes insn reads RegisterAboveTen has = omega arith
 least_five bytes insn reads UnusedField has = omega arith

@@ -9,7 +9,7 @@ use Rattle.bpf_isa.specs.declared.fault.PieceFault.{PieceFault}
 use Rattle.bpf_isa.specs.declared.fault.PieceFault.TheVariants.{Word, WritesFramePointer, NoTarget, RunsOff, UnknownHelper, NoMap}
 use Rattle.bpf_isa.specs.declared.fault.LoadFault.{LoadFault}
 use Rattle.bpf_isa.specs.declared.fault.LoadFault.TheVariants.{Empty, TooLong, Ragged, At, Memory}
-use Rattle.bpf_isa.specs.Faults.{IsLeast, piece_fault_number}
+use Rattle.bpf_isa.specs.Faults.{IsLeast, piece_fault}
 use Rattle.bpf_isa.specs.WideLoads.{wide_opcode}
 use Rattle.bpf_isa.specs.Insns.{FallsThrough, target_of, written_of}
 use Rattle.bpf_isa.specs.Words.{fields_of, ReadsAs}
@@ -96,7 +96,7 @@ pub record HasNoFault (bytes : List ℕ) (maps : List MapShape) (p : ℕ) : Type
 
 -- Of the faults of the piece at a slot, the one with the least number.
 abbrev pub IsLeastFault : List ℕ → List MapShape → ℕ → PieceFault → Type 0
-IsLeastFault bytes maps p = IsLeast piece_fault_number (HasFault bytes maps p)
+IsLeastFault bytes maps p = IsLeast piece_fault (HasFault bytes maps p)
 
 -- The most slots of a program.
 abbrev pub most_slots : ℕ

@@ -5,7 +5,7 @@ use Rattle.std.specs.Str.Parse.{IsNumeral, digits_value}
 use Rattle.bpf_isa.specs.declared.maps.MapShape.{MapShape}
 use Rattle.bpf_isa.specs.declared.fault.MapFault.{MapFault}
 use Rattle.bpf_isa.specs.declared.fault.MapFault.TheVariants.{ValueSize, Entries, Total, Full, Malformed}
-use Rattle.bpf_isa.specs.Faults.{IsLeast, map_fault_number}
+use Rattle.bpf_isa.specs.Faults.{IsLeast, map_fault}
 
 -- The shape of a map: 1 to 256 bytes a value, 1 to 4,096 entries, at most 65,536 bytes in all.
 pub record IsShape (shape : MapShape) : Type 0 where
@@ -29,7 +29,7 @@ HasMapFault maps value entries Malformed = ⊥
 
 -- Of those faults, the one with the least number.
 abbrev pub IsLeastMapFault : List MapShape → ℕ → ℕ → MapFault → Type 0
-IsLeastMapFault maps value entries = IsLeast map_fault_number (HasMapFault maps value entries)
+IsLeastMapFault maps value entries = IsLeast map_fault (HasMapFault maps value entries)
 
 -- The letter x.
 abbrev pub is_x : ℕ → Bool

@@ -3,7 +3,7 @@ use Rattle.std.specs.Prelude.{◌≡◌, List, ℕ, Option, Some, None, ◌++◌
 use Rattle.bpf_isa.specs.declared.fault.WordFault.{WordFault}
 use Rattle.bpf_isa.specs.declared.fault.WordFault.TheVariants.{UnknownInstruction, RegisterAboveTen, UnusedField, CutOff}
 use Rattle.bpf_isa.specs.declared.instruction.Insn.{Insn}
-use Rattle.bpf_isa.specs.Faults.{IsLeast, word_fault_number}
+use Rattle.bpf_isa.specs.Faults.{IsLeast, word_fault}
 use Rattle.bpf_isa.specs.WideLoads.{wide_opcode}
 use Rattle.bpf_isa.specs.Words.{row_of, fields_of, IsClean, HasRegisters, ReadsAs}
 
@@ -20,7 +20,7 @@ HasWordFault bytes CutOff = (slice_index bytes 0 ≡ wide_opcode) × (length byt
 
 -- The fault with the least number.
 unfoldable pub IsLeastWordFault : List ℕ → WordFault → Type 0
-IsLeastWordFault bytes = IsLeast word_fault_number (HasWordFault bytes)
+IsLeastWordFault bytes = IsLeast word_fault (HasWordFault bytes)
 
 -- No fault applies.
 pub record HasNoWordFault (bytes : List ℕ) : Type 0 where

@@ -2,7 +2,7 @@
 ghost use Rattle.std.specs.Prelude.{◌≡◌, ◌≤◌, ◌<◌, ◌⊎◌, ◌*◌, ◌↔◌, IsTrue, IfSome, IfNone, IfOk, OnOk, IfErr, List, ℕ, length, slice_index};
 ghost use Rattle.bpf_isa.specs.Checker.{IsStartIn, AreSlots, piece_at, after_piece, HasFault, HasNoFault, IsLeastFault, IsFirstFault, IsAccepted, IsRefused};
 ghost use Rattle.bpf_isa.specs.Scaffolding.Checking.{AreStarts, AreInsns, Breaks, IsPiece, IsSound};
-ghost use Rattle.bpf_isa.specs.Faults.{IsLeast, piece_fault_number};
+ghost use Rattle.bpf_isa.specs.Faults.{IsLeast, piece_fault};
 ghost use Rattle.bpf_isa.specs.WideLoads.{wide_opcode};
 ghost use Rattle.bpf_isa.specs.declared.maps.MapShape.{MapShape};
 
@@ -59,7 +59,7 @@ fn broken_rule(draft: &Draft<'_>, slot: usize, insn: &Insn) -> Option<PieceFault
     requires start { IsStartIn draft.now.bytes.now slot }
     requires flags { AreStarts draft.now.bytes.now draft.now.starts.now }
     ensures found { IfSome result
-        (IsLeast piece_fault_number (Breaks draft.now.bytes.now draft.now.maps.now slot insn.now)) }
+        (IsLeast piece_fault (Breaks draft.now.bytes.now draft.now.maps.now slot insn.now)) }
     ensures none { IfNone result (IsSound draft.now.bytes.now draft.now.maps.now slot insn.now) }
 {
     if insn.writes_ten() {

@@ -3,7 +3,7 @@ ghost use Rattle.std.specs.Prelude.{◌≡◌, ◌≤◌, ◌⊎◌, ◌↔◌, 
 ghost use Rattle.bpf_isa.specs.Mnemonics.{mnemonic_of, kind_of, wide_kind_of};
 ghost use Rattle.bpf_isa.specs.Words.{row, row_of, HasRegisters, HasSource, HasAddress, HasWideValue, HasParts, IsWord};
 ghost use Rattle.bpf_isa.specs.Scaffolding.Codec.{IsRead};
-ghost use Rattle.bpf_isa.specs.Faults.{word_fault_number};
+ghost use Rattle.bpf_isa.specs.Faults.{word_fault};
 ghost use Rattle.bpf_isa.specs.WideLoads.{wide_opcode};
 ghost use Rattle.bpf_isa.specs.WordFaults.{HasWordFault, HasNoWordFault, IsLeastWordFault, joined};
 ghost use Rattle.bpf_isa.specs.declared.fault.WordFault.TheVariants.{CutOff};
@@ -121,7 +121,7 @@ pub(crate) fn read_insn(bytes: &[u8]) -> Result<Insn, WordFault>
     requires { (length bytes.now ≡ 8) ⊎ (length bytes.now ≡ 16) }
     ensures ok { IfOk result (IsRead bytes.now) }
     ensures fault { IfErr result (IsLeastWordFault bytes.now) }
-    ensures early { IfErr result (λ fault. word_fault_number fault ≤ 6) }
+    ensures early { IfErr result (λ fault. (word_fault fault).0 ≤ 6) }
     ensures only { (insn : Insn) → IsWord insn bytes.now → result ≡ Ok insn }
 {
     let fields = read(bytes);

@@ -62,12 +62,11 @@ pub enum MapFault {
 }
 
 impl WordFault {
-    ghost use Rattle.bpf_isa.specs.Faults.{word_fault_number};
-    ghost use Rattle.bpf_isa.specs.Faults.{word_fault_text};
+    ghost use Rattle.bpf_isa.specs.Faults.{word_fault};
 
     /// The number that is printed after C.
     pub fn number(self) -> u8
-        ensures { result ≡ word_fault_number self }
+        ensures { result ≡ (word_fault self).0 }
     {
         match self {
             WordFault::UnknownInstruction => 4,
@@ -79,7 +78,7 @@ impl WordFault {
 
     /// The text that is printed after the number.
     pub fn text(self) -> &'static str
-        ensures { result.now ≡ word_fault_text self }
+        ensures { result.now ≡ (word_fault self).1 }
     {
         match self {
             WordFault::UnknownInstruction => "unknown instruction",
@@ -91,12 +90,11 @@ impl WordFault {
 }
 
 impl PieceFault {
-    ghost use Rattle.bpf_isa.specs.Faults.{piece_fault_number};
-    ghost use Rattle.bpf_isa.specs.Faults.{piece_fault_text};
+    ghost use Rattle.bpf_isa.specs.Faults.{piece_fault};
 
     /// The number that is printed after C.
     pub fn number(self) -> u8
-        ensures { result ≡ piece_fault_number self }
+        ensures { result ≡ (piece_fault self).0 }
     {
         match self {
             PieceFault::Word(fault) => fault.number(),
@@ -110,7 +108,7 @@ impl PieceFault {
 
     /// The text that is printed after the number.
     pub fn text(self) -> &'static str
-        ensures { result.now ≡ piece_fault_text self }
+        ensures { result.now ≡ (piece_fault self).1 }
     {
         match self {
             PieceFault::Word(fault) => fault.text(),
@@ -124,12 +122,11 @@ impl PieceFault {
 }
 
 impl LoadFault {
-    ghost use Rattle.bpf_isa.specs.Faults.{load_fault_number};
-    ghost use Rattle.bpf_isa.specs.Faults.{load_fault_text};
+    ghost use Rattle.bpf_isa.specs.Faults.{load_fault};
 
     /// The number that is printed after C.
     pub fn number(self) -> u8
-        ensures { result ≡ load_fault_number self }
+        ensures { result ≡ (load_fault self).0 }
     {
         match self {
             LoadFault::Empty => 1,
@@ -142,7 +139,7 @@ impl LoadFault {
 
     /// The text that is printed after the number.
     pub fn text(self) -> &'static str
-        ensures { result.now ≡ load_fault_text self }
+        ensures { result.now ≡ (load_fault self).1 }
     {
         match self {
             LoadFault::Empty => "empty program",
@@ -155,12 +152,11 @@ impl LoadFault {
 }
 
 impl MapFault {
-    ghost use Rattle.bpf_isa.specs.Faults.{map_fault_number};
-    ghost use Rattle.bpf_isa.specs.Faults.{map_fault_text};
+    ghost use Rattle.bpf_isa.specs.Faults.{map_fault};
 
     /// The number that is printed after M.
     pub fn number(self) -> u8
-        ensures { result ≡ map_fault_number self }
+        ensures { result ≡ (map_fault self).0 }
     {
         match self {
             MapFault::ValueSize => 1,
@@ -173,7 +169,7 @@ impl MapFault {
 
     /// The text that is printed after the number.
     pub fn text(self) -> &'static str
-        ensures { result.now ≡ map_fault_text self }
+        ensures { result.now ≡ (map_fault self).1 }
     {
         match self {
             MapFault::ValueSize => "value size not 1 to 256",

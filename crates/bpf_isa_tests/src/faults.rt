@@ -27,7 +27,7 @@ M5 malformed map list\n\
 ";
 
 /// The fault of a piece by its number.
-fn piece_fault(number: usize) -> PieceFault {
+fn numbered_fault(number: usize) -> PieceFault {
     match number {
         4 => PieceFault::Word(WordFault::UnknownInstruction),
         5 => PieceFault::Word(WordFault::RegisterAboveTen),
@@ -49,7 +49,7 @@ fn fault_line(alloc: Global, line: usize) -> Result<String, AllocError> {
         3 => LoadFault::Ragged,
         4..=12 => LoadFault::At {
             slot: 7,
-            fault: piece_fault(line),
+            fault: numbered_fault(line),
         },
         13 => LoadFault::Memory,
         _ => return map_fault_line(alloc, line),
@@ -79,7 +79,7 @@ fn check_fault(rt: &impl Abort, alloc: Global, line: usize, want: &str) {
     let text = fault_line(alloc, line).ok().expect(rt, "no memory");
     check_text(rt, text.as_str(), want, want);
     if line >= 4 && line <= 12 {
-        let text = piece_line(alloc, piece_fault(line));
+        let text = piece_line(alloc, numbered_fault(line));
         let text = text.ok().expect(rt, "no memory");
         check_text(rt, text.as_str(), want, want);
     }

@@ -1,6 +1,6 @@
 -- Faults: their numbers, which are printed after E, and their texts. bpfdb's own choice.
 use Rattle.std.specs.Prelude.{ℕ, List, codes}
-use Rattle.bpf_isa.specs.Faults.{load_fault_text}
+use Rattle.bpf_isa.specs.Faults.{load_fault}
 use Rattle.bpf_link.specs.declared.fault.LinkFault.{LinkFault}
 use Rattle.bpf_link.specs.declared.fault.LinkFault.TheVariants.{NotElf, Class, Order, Kind, Machine, SectionTable, LongName, NoSection, ManySections, Section, TooLong, RunsOff, SymbolTable, ManyMapSections, TooManyMaps, RelocationTable, Place, Symbol, Extern, RelocationKind, CallTarget, NoCall, Data, NoLoad, Program, Memory}
 
@@ -57,5 +57,5 @@ link_fault_text CallTarget = codes "call of no function of the program"
 link_fault_text NoCall = codes "relocation of a call at no call"
 link_fault_text Data = codes "reference to data that is no map"
 link_fault_text NoLoad = codes "relocation of a map at no empty wide load"
-link_fault_text (Program fault) = load_fault_text fault
+link_fault_text (Program fault) = (load_fault fault).1
 link_fault_text Memory = codes "out of memory"

@@ -1,7 +1,7 @@
 -- Why a job isn't done, as a line on standard error. bpfdb's own choice.
 use Rattle.std.specs.Prelude.{ℕ, ◌/◌, ◌%◌, ◌==◌, ◌||◌, nat_lt, if◌then◌else◌, false, List, [], ◌∷◌, ◌++◌, Option, Some, None, flat_map, codes, decimal}
 use Rattle.std.specs.Fmt.{digit_glyph}
-use Rattle.bpf_isa.specs.Faults.{load_fault_number, load_fault_text, map_fault_number, map_fault_text}
+use Rattle.bpf_isa.specs.Faults.{load_fault, map_fault}
 use Rattle.bpf_isa.specs.declared.fault.LoadFault.{LoadFault}
 use Rattle.bpf_isa.specs.declared.fault.LoadFault.TheVariants as load
 use Rattle.bpf_link.specs.Faults.{link_fault_number, link_fault_text}
@@ -58,9 +58,9 @@ slot_of_words (linking.Program fault) = slot_of fault
 slot_of_words fault = None
 
 abbrev pub refusal_line : JobRefusal → List ℕ
-refusal_line (Maps fault) = refusal_text (codes "refused M") (map_fault_number fault) [] (map_fault_text fault)
+refusal_line (Maps fault) = refusal_text (codes "refused M") (map_fault fault).0 [] (map_fault fault).1
 refusal_line (Listing fault) = refusal_text (codes "refused A") (fault_number fault) (placed (codes " at line ") (fault_line fault)) (fault_text fault)
-refusal_line (Load fault) = refusal_text (codes "refused C") (load_fault_number fault) (placed (codes " at slot ") (slot_of fault)) (load_fault_text fault)
+refusal_line (Load fault) = refusal_text (codes "refused C") (load_fault fault).0 (placed (codes " at slot ") (slot_of fault)) (load_fault fault).1
 refusal_line (Open fault) = refusal_text (codes "refused O") (opening.number_of fault) [] (opening.text_of fault)
 refusal_line (Journal fault) = refusal_text (codes "refused J") (journal.number_of fault) [] (journal.text_of fault)
 refusal_line (Object fault) = refusal_text (codes "refused E") (link_fault_number fault) (placed (codes " at slot ") (slot_of_words fault)) (link_fault_text fault)
