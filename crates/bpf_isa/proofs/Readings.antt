@@ -1,5 +1,5 @@
 -- What fields read as: a row whose codes stand in them gives an instruction, and one alone.
-use Rattle.std.proofs.Common.{◌≡◌, ◌≤◌, ◌<◌, ◌+◌, ◌*◌, ℕ, List, Some, Result, Ok, arith, sym, ◌∙◌, subst, ap}
+use Rattle.std.proofs.Common.{◌≡◌, ◌≤◌, ◌<◌, ◌+◌, ◌*◌, ℕ, List, None, Some, Result, Ok, arith, sym, ◌∙◌, subst, ap}
 use Rattle.std.specs.Prelude.{All}
 use Rattle.std.specs.Int.{w16, w32, cast_signed}
 use Rattle.bpf_isa.specs.declared.instruction.Insn.{Insn}
@@ -17,10 +17,10 @@ use Rattle.bpf_isa.specs.declared.row.Row.{Row}
 use Rattle.bpf_isa.specs.declared.fault.WordFault.{WordFault}
 use Rattle.bpf_isa.specs.declared.fault.WordFault.TheVariants.{UnknownInstruction, RegisterAboveTen, UnusedField, CutOff}
 use Rattle.bpf_isa.specs.Faults.{word_fault}
-use Rattle.bpf_isa.specs.Mnemonics.{mnemonic_of, insn_kind}
+use Rattle.bpf_isa.specs.Mnemonics.{mnemonic_of}
 use Rattle.bpf_isa.specs.WordFaults.{HasWordFault, IsLeastWordFault}
-use Rattle.bpf_isa.specs.Words.{row, row_of, fields_of, HasCodes, HasRegisters, HasParts, IsClean, ReadsAs, IsWord}
-use Rattle.bpf_isa.specs.Scaffolding.Codec.{IsOnly, IsLaid, IsRead}
+use Rattle.bpf_isa.specs.Words.{row_of, fields_of, HasCodes, HasRegisters, HasParts, IsClean, ReadsAs, IsWord}
+use Rattle.bpf_isa.specs.Scaffolding.Codec.{row, insn_kind, IsOnly, IsLaid, IsRead}
 
 abbrev operand : SourceKind → Fields → Source
 operand Immediate f = source.Immediate (cast_signed w32 f.imm)
@@ -47,9 +47,34 @@ reading (LoadWide MapValue) kind f = insn.LoadWide f.dst (value.MapValue f.imm f
 reads_as : (mnemonic : Mnemonic) (kind : SourceKind) (f : Fields) → HasCodes (row mnemonic kind) f → ReadsAs f (reading mnemonic kind f)
 reads_as mnemonic kind f codes = grind arith
 
+-- an instruction's row is that of its mnemonic in its form
+row_is : (i : Insn) → row (mnemonic_of i) (insn_kind i) ≡ row_of i
+row_is i = grind arith
+
 -- two instructions of one mnemonic that the fields read as are one
 pub one_reading : (i j : Insn) (f : Fields) → ReadsAs f i → ReadsAs f j → mnemonic_of i ≡ mnemonic_of j → i ≡ j
 one_reading i j f read_i read_j same = grind arith
+
+-- what bytes read as has its mnemonic's codes in their fields
+codes_of : (bytes : List ℕ) (f : Fields) → f ≡ fields_of bytes → (insn : Insn) → ReadsAs (fields_of bytes) insn → HasCodes (row (mnemonic_of insn) (insn_kind insn)) f
+codes_of bytes f e insn read = subst (λ r. HasCodes r f) (sym (row_is insn)) (subst (HasCodes (row_of insn)) (sym e) read.codes)
+
+-- no mnemonic has its codes in the fields
+not_some : {A : Type 0} {x : A} → None ≡ Some x → ⊥
+not_some e = cc
+
+pub reads_none : (bytes : List ℕ) (f : Fields) → f ≡ fields_of bytes → IsOnly f None → (insn : Insn) → ReadsAs (fields_of bytes) insn → ⊥
+reads_none bytes f e only insn read = not_some (only (mnemonic_of insn) (insn_kind insn) (codes_of bytes f e insn read))
+
+least_four : (bytes : List ℕ) (other : WordFault) → HasWordFault bytes other → 4 ≤ (word_fault other).0
+least_four bytes UnknownInstruction has = omega arith
+least_four bytes RegisterAboveTen has = omega arith
+least_four bytes UnusedField has = omega arith
+least_four bytes CutOff has = omega arith
+
+pub unknown_fault : (bytes : List ℕ) (f : Fields) → f ≡ fields_of bytes → IsOnly f None → IsLeastWordFault bytes UnknownInstruction
+unfolding IsLeastWordFault
+unknown_fault bytes f e only = record { applies = reads_none bytes f e only; least = least_four bytes }
 
 -- a register field is above 10
 least_five : (bytes : List ℕ) (insn : Insn) → ReadsAs (fields_of bytes) insn → (other : WordFault) → HasWordFault bytes other → 5 ≤ (word_fault other).0
@@ -68,18 +93,30 @@ register_fault bytes f mnemonic kind e codes above =
 same_of : (i j : Mnemonic) → Some i ≡ Some j → j ≡ i
 same_of i j e = cc
 
+same_reading : (bytes : List ℕ) (f : Fields) (mnemonic : Mnemonic) (i : Insn) → f ≡ fields_of bytes → IsOnly f (Some mnemonic) → mnemonic_of i ≡ mnemonic → ReadsAs (fields_of bytes) i → (other : Insn) → ReadsAs (fields_of bytes) other → other ≡ i
+same_reading bytes f mnemonic i e only named reads other read =
+    one_reading other i (fields_of bytes) read reads (same_of _ _ (only (mnemonic_of other) (insn_kind other) (codes_of bytes f e other read)) ∙ sym named)
+
+reads_here : (bytes : List ℕ) (f : Fields) (mnemonic : Mnemonic) (kind : SourceKind) (i : Insn) → f ≡ fields_of bytes → HasCodes (row mnemonic kind) f → row_of i ≡ row mnemonic kind → HasParts i f → ReadsAs (fields_of bytes) i
+reads_here bytes f mnemonic kind i e codes at parts =
+    subst (λ (g : Fields). ReadsAs g i) e (record { codes = subst (λ r. HasCodes r f) (sym at) codes; parts = parts })
+
 pub is_read : (bytes : List ℕ) (f : Fields) (mnemonic : Mnemonic) (kind : SourceKind) (i : Insn) → f ≡ fields_of bytes → All (λ byte. byte < 256) bytes → HasCodes (row mnemonic kind) f → IsOnly f (Some mnemonic) → mnemonic_of i ≡ mnemonic → row_of i ≡ row mnemonic kind → HasParts i f → HasRegisters f → IsClean (row mnemonic kind) f → IsRead bytes i
 is_read bytes f mnemonic kind i e small codes only named at parts registers clean =
-    let reads : ReadsAs f i = record { codes = subst (λ r. HasCodes r f) (sym at) codes; parts = parts } in
-    let reads_here : ReadsAs (fields_of bytes) i = subst (λ (g : Fields). ReadsAs g i) e reads in
-    let codes_of : (other : Insn) → ReadsAs (fields_of bytes) other → HasCodes (row_of other) f = λ other read. subst (HasCodes (row_of other)) (sym e) read.codes in
+    let reads = reads_here bytes f mnemonic kind i e codes at parts in
     record {
       small = small;
-      reads = reads_here;
+      reads = reads;
       clean = subst (IsClean (row_of i)) e (subst (λ r. IsClean r f) (sym at) clean);
       registers = subst HasRegisters e registers;
-      only = λ other read. one_reading other i (fields_of bytes) read reads_here (same_of _ _ (only (mnemonic_of other) (insn_kind other) (codes_of other read)) ∙ sym named);
+      only = same_reading bytes f mnemonic i e only named reads;
     }
+
+-- where it leaves something over, no word is read
+pub no_word : (bytes : List ℕ) (f : Fields) (mnemonic : Mnemonic) (kind : SourceKind) (i : Insn) → f ≡ fields_of bytes → HasCodes (row mnemonic kind) f → IsOnly f (Some mnemonic) → mnemonic_of i ≡ mnemonic → row_of i ≡ row mnemonic kind → HasParts i f → (IsClean (row mnemonic kind) f → ⊥) → (other : Insn) → IsWord other bytes → ⊥
+no_word bytes f mnemonic kind i e codes only named at parts dirty other whole =
+    let same = same_reading bytes f mnemonic i e only named (reads_here bytes f mnemonic kind i e codes at parts) other whole.reads in
+    dirty (subst (λ r. IsClean r f) at (subst (λ (j : Insn). IsClean (row_of j) f) same (subst (IsClean (row_of other)) (sym e) whole.clean)))
 
 -- it is the only one
 pub ok_reading : (bytes : List ℕ) (i other : Insn) → IsRead bytes i → IsWord other bytes → ◌≡◌ {A = Result Insn WordFault} (Ok i) (Ok other)
@@ -94,10 +131,13 @@ laid_registers i parts f laid codes clean registers = grind arith
 
 module _ (i : Insn) (mnemonic : Mnemonic) (kind : SourceKind) (r : Row) (named : mnemonic ≡ mnemonic_of i) (form : kind ≡ insn_kind i) (is_row : r ≡ row mnemonic kind) (parts f : Fields) (codes : HasCodes r f) (laid : IsLaid r parts f) where
   at : r ≡ row_of i
-  at = is_row ∙ ap (λ m. row m kind) named ∙ ap (row _) form
+  at = is_row ∙ ap (λ m. row m kind) named ∙ ap (row _) form ∙ row_is i
 
   pub laid_reads : HasParts i parts → ReadsAs f i
   laid_reads has = record { codes = subst (λ (q : Row). HasCodes q f) at codes; parts = laid_parts i parts f (subst (λ (q : Row). IsLaid q parts f) at laid) has }
+
+  pub laid_clean : IsClean r f → IsClean (row_of i) f
+  laid_clean clean = subst (λ (q : Row). IsClean q f) at clean
 
   pub laid_in_range : IsClean r f → HasRegisters parts → HasRegisters f
   laid_in_range clean = laid_registers i parts f (subst (λ (q : Row). IsLaid q parts f) at laid) (subst (λ (q : Row). HasCodes q f) at codes) (subst (λ (q : Row). IsClean q f) at clean)

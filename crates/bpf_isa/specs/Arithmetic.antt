@@ -44,13 +44,9 @@ abbrev pub binary_row : BinaryOp → Width → SourceKind → Row
 binary_row op width source = record { opcode = binary_opcode op width source; dst = Used; src = src_of source; offset = binary_offset op source; imm = imm_of source; next = Unused }
 
 -- NEG uses dst alone.
-abbrev pub negate_opcode : Width → ℕ
-negate_opcode Bits32 = 0x84
-negate_opcode Bits64 = 0x87
-
--- The row of NEG.
 abbrev pub negate_row : Width → Row
-negate_row width = record { opcode = negate_opcode width; dst = Used; src = Unused; offset = Unused; imm = Unused; next = Unused }
+negate_row Bits32 = record { opcode = 0x84; dst = Used; src = Unused; offset = Unused; imm = Unused; next = Unused }
+negate_row Bits64 = record { opcode = 0x87; dst = Used; src = Unused; offset = Unused; imm = Unused; next = Unused }
 
 -- MOVSX: an opcode, and in offset how many low bits of src count.
 abbrev pub extension_row : Extension → Row

@@ -13,7 +13,6 @@ use Rattle.bpf_isa.specs.declared.instruction.AtomicOp.{AtomicOp}
 use Rattle.bpf_isa.specs.declared.instruction.AtomicOp.TheVariants.{Add, Or, And, Xor, FetchAdd, FetchOr, FetchAnd, FetchXor, Exchange, CompareExchange}
 use Rattle.bpf_isa.specs.declared.row.Field.TheVariants.{Unused, Code, Used}
 use Rattle.bpf_isa.specs.declared.row.Row.{Row}
-use Rattle.bpf_isa.specs.Rows.{imm_of, src_of}
 
 -- The opcodes of the sizes W, H, B, DW.
 abbrev pub sizes : ℕ → ℕ → ℕ → ℕ → Size → ℕ
@@ -33,14 +32,10 @@ load_opcode (Signed SignedByte) = 0x91
 abbrev pub load_row : LoadSize → Row
 load_row size = record { opcode = load_opcode size; dst = Used; src = Used; offset = Used; imm = Unused; next = Unused }
 
--- MEM in class ST (form K) and in class STX (form X).
-abbrev pub store_opcode : Size → SourceKind → ℕ
-store_opcode size Immediate = sizes 0x62 0x6a 0x72 0x7a size
-store_opcode size Register = sizes 0x63 0x6b 0x73 0x7b size
-
--- imm or src is stored at dst + offset.
+-- MEM in class ST stores imm at dst + offset, and in class STX src.
 abbrev pub store_row : Size → SourceKind → Row
-store_row size kind = record { opcode = store_opcode size kind; dst = Used; src = src_of kind; offset = Used; imm = imm_of kind; next = Unused }
+store_row size Immediate = record { opcode = sizes 0x62 0x6a 0x72 0x7a size; dst = Used; src = Unused; offset = Used; imm = Used; next = Unused }
+store_row size Register = record { opcode = sizes 0x63 0x6b 0x73 0x7b size; dst = Used; src = Used; offset = Used; imm = Unused; next = Unused }
 
 -- ATOMIC in class STX, of 4 and 8 bytes.
 abbrev pub atomic_opcode : Width → ℕ

@@ -39,9 +39,3 @@ mnemonic_of (insn.Load size dst from) = Load size
 mnemonic_of (insn.Store size to source) = Store size (kind_of source)
 mnemonic_of (insn.Atomic op width to src) = Atomic op width
 mnemonic_of (insn.LoadWide dst value) = LoadWide (wide_kind_of value)
-
--- The form of an instruction where its mnemonic leaves it open, else K.
-abbrev pub insn_kind : Insn → SourceKind
-insn_kind (insn.Binary op width dst source) = kind_of source
-insn_kind (insn.JumpIf condition width dst source offset) = kind_of source
-insn_kind _ = Immediate

@@ -9,15 +9,13 @@ use Rattle.bpf_isa.specs.declared.instruction.SourceKind.TheVariants.{Immediate,
 
 -- Whether a number may stand in a field, as far as the row's own numbers go.
 abbrev pub HasCode : Field → ℕ → Type 0
-HasCode Unused n = Unit {0}
 HasCode (Code k) n = n ≡ k
-HasCode Used n = Unit {0}
+HasCode _ n = Unit {0}
 
 -- Whether a number may stand in a field, as far as unused fields go.
 abbrev pub IsClear : Field → ℕ → Type 0
 IsClear Unused n = n ≡ 0
-IsClear (Code k) n = Unit {0}
-IsClear Used n = Unit {0}
+IsClear _ n = Unit {0}
 
 -- The four opcodes of a row of arithmetic: K32, X32, K64, X64.
 abbrev pub alu : ℕ → ℕ → ℕ → ℕ → Width → SourceKind → ℕ

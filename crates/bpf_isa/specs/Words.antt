@@ -8,9 +8,6 @@ use Rattle.bpf_isa.specs.declared.instruction.Address.{Address}
 use Rattle.bpf_isa.specs.declared.instruction.WideValue.{WideValue}
 use Rattle.bpf_isa.specs.declared.instruction.WideValue.TheVariants.{Number, Map, MapValue}
 use Rattle.bpf_isa.specs.declared.instruction.Source.TheVariants.{Immediate, Register}
-use Rattle.bpf_isa.specs.declared.instruction.SourceKind.{SourceKind}
-use Rattle.bpf_isa.specs.declared.mnemonic.Mnemonic.{Mnemonic}
-use Rattle.bpf_isa.specs.declared.mnemonic.Mnemonic.TheVariants as mnemonic
 use Rattle.bpf_isa.specs.declared.fields.Fields.{Fields}
 use Rattle.bpf_isa.specs.declared.row.Row.{Row}
 use Rattle.bpf_isa.specs.Rows.{HasCode, IsClear}
@@ -19,29 +16,25 @@ use Rattle.bpf_isa.specs.Swaps.{swap_row}
 use Rattle.bpf_isa.specs.Jumps.{jump_row, jump_long_row, condition_row, call_row, exit_row}
 use Rattle.bpf_isa.specs.Memory.{load_row, store_row, atomic_row}
 use Rattle.bpf_isa.specs.WideLoads.{wide_row}
-use Rattle.bpf_isa.specs.Mnemonics.{mnemonic_of, insn_kind}
+use Rattle.bpf_isa.specs.Mnemonics.{kind_of, wide_kind_of}
 use Rattle.bpf_isa.specs.Insns.{slots_of}
 
--- The row of a mnemonic in form K or X. Those without a choice have one row.
-abbrev pub row : Mnemonic → SourceKind → Row
-row (mnemonic.Binary op width) source = binary_row op width source
-row (mnemonic.Negate width) source = negate_row width
-row (mnemonic.SignExtend extension) source = extension_row extension
-row (mnemonic.SwapBytes order width) source = swap_row order width
-row (mnemonic.JumpIf condition width) source = condition_row condition width source
-row mnemonic.Jump source = jump_row
-row mnemonic.JumpLong source = jump_long_row
-row mnemonic.CallHelper source = call_row 0
-row mnemonic.CallLocal source = call_row 1
-row mnemonic.Exit source = exit_row
-row (mnemonic.Load size) source = load_row size
-row (mnemonic.Store size kind) source = store_row size kind
-row (mnemonic.Atomic op width) source = atomic_row op width
-row (mnemonic.LoadWide kind) source = wide_row kind
-
--- The row of an instruction.
+-- The row of an instruction. Where a line of the tables has the forms K and X, its second operand chooses.
 abbrev pub row_of : Insn → Row
-row_of insn = row (mnemonic_of insn) (insn_kind insn)
+row_of (Binary op width dst source) = binary_row op width (kind_of source)
+row_of (Negate width dst) = negate_row width
+row_of (SignExtend extension dst src) = extension_row extension
+row_of (SwapBytes order width dst) = swap_row order width
+row_of (JumpIf condition width dst source offset) = condition_row condition width (kind_of source)
+row_of (Jump offset) = jump_row
+row_of (JumpLong distance) = jump_long_row
+row_of (CallHelper helper) = call_row 0
+row_of (CallLocal distance) = call_row 1
+row_of Exit = exit_row
+row_of (Load size dst from) = load_row size
+row_of (Store size to source) = store_row size (kind_of source)
+row_of (Atomic op width to src) = atomic_row op width
+row_of (LoadWide dst value) = wide_row (wide_kind_of value)
 
 -- Two bytes as a number, the low one first.
 abbrev pub u16_at : List ℕ → ℕ → ℕ

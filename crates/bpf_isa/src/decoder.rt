@@ -1,8 +1,8 @@
 //! From words to instructions.
 ghost use Rattle.std.specs.Prelude.{◌≡◌, ◌≤◌, ◌⊎◌, ◌↔◌, IsTrue, IfOk, OnOk, IfErr, Ok, ◌++◌, length, slice_index};
 ghost use Rattle.bpf_isa.specs.Mnemonics.{mnemonic_of, kind_of, wide_kind_of};
-ghost use Rattle.bpf_isa.specs.Words.{row, row_of, HasRegisters, HasSource, HasAddress, HasWideValue, HasParts, IsWord};
-ghost use Rattle.bpf_isa.specs.Scaffolding.Codec.{IsRead};
+ghost use Rattle.bpf_isa.specs.Words.{row_of, HasRegisters, HasSource, HasAddress, HasWideValue, HasParts, IsWord};
+ghost use Rattle.bpf_isa.specs.Scaffolding.Codec.{row, IsRead};
 ghost use Rattle.bpf_isa.specs.Faults.{word_fault};
 ghost use Rattle.bpf_isa.specs.WideLoads.{wide_opcode};
 ghost use Rattle.bpf_isa.specs.WordFaults.{HasWordFault, HasNoWordFault, IsLeastWordFault, joined};

@@ -1,6 +1,6 @@
 //! From instructions to words.
 ghost use Rattle.std.specs.Prelude.{◌≡◌};
-ghost use Rattle.bpf_isa.specs.Mnemonics.{insn_kind};
+ghost use Rattle.bpf_isa.specs.Scaffolding.Codec.{insn_kind};
 ghost use Rattle.bpf_isa.specs.Words.{row_of, IsClean, HasRegisters, HasSource, HasOffset, HasWideValue, HasParts, ReadsAs, IsWord};
 
 use crate::fields::Fields;

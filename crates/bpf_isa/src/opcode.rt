@@ -4,8 +4,8 @@ mod jumps;
 mod memory;
 
 ghost use Rattle.std.specs.Prelude.{◌≡◌, ◌/◌, ◌*◌, ◌%◌, IfSome};
-ghost use Rattle.bpf_isa.specs.Words.{row, HasCodes};
-ghost use Rattle.bpf_isa.specs.Scaffolding.Codec.{IsOnly, source_bit_of};
+ghost use Rattle.bpf_isa.specs.Words.{HasCodes};
+ghost use Rattle.bpf_isa.specs.Scaffolding.Codec.{row, IsOnly, source_bit_of};
 
 use crate::fields::Fields;
 use crate::instruction::{SourceKind, Width};

@@ -9,8 +9,8 @@ ghost use Rattle.bpf_isa.specs.Rows.{HasCode, IsClear};
 ghost use Rattle.bpf_isa.specs.Swaps.{swap_row};
 ghost use Rattle.bpf_isa.specs.declared.row.Field.TheVariants.{Unused};
 ghost use Rattle.bpf_isa.specs.WideLoads.{wide_row};
-ghost use Rattle.bpf_isa.specs.Words.{row, HasCodes, IsClean};
-ghost use Rattle.bpf_isa.specs.Scaffolding.Codec.{IsKept, IsLaid};
+ghost use Rattle.bpf_isa.specs.Words.{HasCodes, IsClean};
+ghost use Rattle.bpf_isa.specs.Scaffolding.Codec.{row, IsKept, IsLaid};
 
 use crate::fields::Fields;
 use crate::instruction::{

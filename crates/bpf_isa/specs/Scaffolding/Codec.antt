@@ -1,4 +1,4 @@
--- Scaffolding: no public contract cites this. The parts of an opcode (RFC 9669, sections 3.1 and 4), and what the decoder and the encoder ask of their own functions.
+-- Scaffolding: no public contract cites this. The parts of an opcode (RFC 9669, sections 3.1 and 4), the row of a mnemonic, and what the decoder and the encoder ask of their own functions.
 use Rattle.std.specs.Prelude.{◌≡◌, ◌<◌, ℕ, List, Option, Some, All}
 use Rattle.bpf_isa.specs.declared.fields.Fields.{Fields}
 use Rattle.bpf_isa.specs.declared.instruction.Width.{Width}
@@ -6,11 +6,19 @@ use Rattle.bpf_isa.specs.declared.instruction.Width.TheVariants.{Bits32, Bits64}
 use Rattle.bpf_isa.specs.declared.instruction.SourceKind.{SourceKind}
 use Rattle.bpf_isa.specs.declared.instruction.SourceKind.TheVariants.{Immediate, Register}
 use Rattle.bpf_isa.specs.declared.instruction.Insn.{Insn}
+use Rattle.bpf_isa.specs.declared.instruction.Insn.TheVariants as insn
 use Rattle.bpf_isa.specs.declared.mnemonic.Mnemonic.{Mnemonic}
+use Rattle.bpf_isa.specs.declared.mnemonic.Mnemonic.TheVariants.{Binary, Negate, SignExtend, SwapBytes, JumpIf, Jump, JumpLong, CallHelper, CallLocal, Exit, Load, Store, Atomic, LoadWide}
 use Rattle.bpf_isa.specs.declared.row.Field.{Field}
 use Rattle.bpf_isa.specs.declared.row.Field.TheVariants.{Used}
 use Rattle.bpf_isa.specs.declared.row.Row.{Row}
-use Rattle.bpf_isa.specs.Words.{row, row_of, fields_of, HasCodes, IsClean, HasRegisters, ReadsAs}
+use Rattle.bpf_isa.specs.Arithmetic.{binary_row, negate_row, extension_row}
+use Rattle.bpf_isa.specs.Swaps.{swap_row}
+use Rattle.bpf_isa.specs.Jumps.{jump_row, jump_long_row, condition_row, call_row, exit_row}
+use Rattle.bpf_isa.specs.Memory.{load_row, store_row, atomic_row}
+use Rattle.bpf_isa.specs.WideLoads.{wide_row}
+use Rattle.bpf_isa.specs.Mnemonics.{kind_of}
+use Rattle.bpf_isa.specs.Words.{row_of, fields_of, HasCodes, IsClean, HasRegisters, ReadsAs}
 
 -- The source bit: K is 0, X is 1, in the place of 8.
 abbrev pub source_bit_of : SourceKind → ℕ
@@ -31,6 +39,29 @@ jump_class_of Bits64 = 5
 abbrev pub store_class_of : SourceKind → ℕ
 store_class_of Immediate = 2
 store_class_of Register = 3
+
+-- The row of a mnemonic in form K or X. Those without a choice have one row.
+abbrev pub row : Mnemonic → SourceKind → Row
+row (Binary op width) source = binary_row op width source
+row (Negate width) source = negate_row width
+row (SignExtend extension) source = extension_row extension
+row (SwapBytes order width) source = swap_row order width
+row (JumpIf condition width) source = condition_row condition width source
+row Jump source = jump_row
+row JumpLong source = jump_long_row
+row CallHelper source = call_row 0
+row CallLocal source = call_row 1
+row Exit source = exit_row
+row (Load size) source = load_row size
+row (Store size kind) source = store_row size kind
+row (Atomic op width) source = atomic_row op width
+row (LoadWide kind) source = wide_row kind
+
+-- The form of an instruction where its mnemonic leaves it open, else K.
+abbrev pub insn_kind : Insn → SourceKind
+insn_kind (insn.Binary op width dst source) = kind_of source
+insn_kind (insn.JumpIf condition width dst source offset) = kind_of source
+insn_kind _ = Immediate
 
 -- Of all mnemonics, in either form, only the one found has its row's codes in the fields.
 abbrev pub IsOnly : Fields → Option Mnemonic → Type 0

@@ -1,7 +1,7 @@
 //! The mnemonics of arithmetic and byte swaps (RFC 9669, sections 4.1 and 4.2).
 ghost use Rattle.std.specs.Prelude.{◌≡◌, ◌/◌, ◌%◌, ◌*◌, ◌+◌, IfSome};
-ghost use Rattle.bpf_isa.specs.Words.{row, HasCodes};
-ghost use Rattle.bpf_isa.specs.Scaffolding.Codec.{IsOnly, class_of, source_bit_of};
+ghost use Rattle.bpf_isa.specs.Words.{HasCodes};
+ghost use Rattle.bpf_isa.specs.Scaffolding.Codec.{row, IsOnly, class_of, source_bit_of};
 
 use crate::fields::Fields;
 use crate::instruction::{BinaryOp, ByteOrder, Extension, SourceKind, SwapWidth, Width};

@@ -1,7 +1,7 @@
 //! The mnemonics of jumps, calls and exit (RFC 9669, section 4.3).
 ghost use Rattle.std.specs.Prelude.{◌≡◌, ◌/◌, ◌%◌, ◌*◌, ◌+◌, IfSome};
-ghost use Rattle.bpf_isa.specs.Words.{row, HasCodes};
-ghost use Rattle.bpf_isa.specs.Scaffolding.Codec.{IsOnly, jump_class_of, source_bit_of};
+ghost use Rattle.bpf_isa.specs.Words.{HasCodes};
+ghost use Rattle.bpf_isa.specs.Scaffolding.Codec.{row, IsOnly, jump_class_of, source_bit_of};
 
 use crate::fields::Fields;
 use crate::instruction::{Condition, SourceKind, Width};

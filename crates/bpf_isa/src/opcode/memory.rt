@@ -1,8 +1,8 @@
 //! The mnemonics of loads, stores, atomic operations and wide loads (RFC 9669, section 5).
 ghost use Rattle.std.specs.Prelude.{◌≡◌, ◌%◌, IfSome};
-ghost use Rattle.bpf_isa.specs.Words.{row, HasCodes};
+ghost use Rattle.bpf_isa.specs.Words.{HasCodes};
 ghost use Rattle.bpf_isa.specs.Memory.{atomic_opcode};
-ghost use Rattle.bpf_isa.specs.Scaffolding.Codec.{IsOnly, store_class_of};
+ghost use Rattle.bpf_isa.specs.Scaffolding.Codec.{row, IsOnly, store_class_of};
 
 use crate::fields::Fields;
 use crate::instruction::{AtomicOp, LoadSize, SignedSize, Size, SourceKind, Width};

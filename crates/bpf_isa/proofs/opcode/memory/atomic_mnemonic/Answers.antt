@@ -6,7 +6,8 @@ use Rattle.bpf_isa.specs.declared.fields.Fields.{Fields}
 use Rattle.bpf_isa.specs.declared.mnemonic.Mnemonic.{Mnemonic}
 use Rattle.bpf_isa.specs.declared.mnemonic.Mnemonic.TheVariants.{Atomic}
 use Rattle.bpf_isa.specs.Memory.{atomic_opcode, atomic_code}
-use Rattle.bpf_isa.specs.Words.{row, HasCodes}
+use Rattle.bpf_isa.specs.Scaffolding.Codec.{row}
+use Rattle.bpf_isa.specs.Words.{HasCodes}
 use Rattle.bpf_isa.proofs.opcode.memory.atomic_mnemonic.Goals as goal
 
 -- an atomic opcode is that of an atomic operation
