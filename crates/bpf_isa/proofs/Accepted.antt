@@ -1,5 +1,5 @@
 -- What the checker's passes found makes a program.
-use Rattle.std.proofs.Common.{◌≡◌, ◌≢◌, ◌<◌, ◌⊎◌, inl, inr, ℕ, ℤ, pos, negsuc, ◌+◌, ◌*◌, Bool, true, false, List, Option, Some, None, length, get_or, take, drop, refl, sym, ap, ◌∙◌, subst, arith, add-one, lit<, get_or-take, get_or-drop}
+use Rattle.std.proofs.Common.{◌≡◌, ◌≢◌, ◌<◌, ◌⊎◌, inl, inr, ℕ, ℤ, pos, ◌+◌, ◌*◌, Bool, true, false, List, Option, Some, None, length, get_or, take, drop, refl, sym, ap, ◌∙◌, subst, arith, add-one, lit<, get_or-take, get_or-drop}
 use Rattle.std.specs.Prelude.{◌↔◌, IsTrue, IsSome, is_some, IfSome, not, ◌&&◌, unwrap_or, slice_get, if◌then◌else◌}
 use Rattle.std.proofs.lemmas.Option.{slice_get_past}
 use Rattle.std.proofs.lemmas.Bool.{cases_lt}
@@ -9,7 +9,7 @@ use Rattle.bpf_isa.specs.declared.maps.MapShape.{MapShape}
 use Rattle.bpf_isa.specs.Insns.{slots_of, FallsThrough, target_of, written_of}
 use Rattle.bpf_isa.specs.Maps.{AreMaps}
 use Rattle.bpf_isa.specs.Words.{row_of, IsWord}
-use Rattle.bpf_isa.specs.Checker.{is_wide_at, is_start, IsStartIn, piece_at, after_piece, AreSlots, IsAccepted, IsTarget}
+use Rattle.bpf_isa.specs.Checker.{is_wide_at, is_start, IsStartIn, piece_at, AreSlots, IsAccepted}
 use Rattle.bpf_isa.specs.Scaffolding.Checking.{IsPiece, IsInsnAt, AreInsns}
 use Rattle.bpf_isa.specs.Programs.{IsStartAt, IsProgram}
 use Rattle.bpf_isa.proofs.Spelling.{wide_or_not}
@@ -32,6 +32,9 @@ narrow_at : (bytes : List ℕ) (p : ℕ) → get_or bytes (8 * p) 0 ≢ 24 → i
 narrow_at bytes p e = grind (arith, nat_tests)
 
 -- a piece is followed by the slot after its instruction's slots
+abbrev after_piece : List ℕ → ℕ → ℕ
+after_piece bytes p = if is_wide_at bytes p then p + 2 else p + 1
+
 after_by : (b : Bool) (p n : ℕ) → ((b ≡ true) × (n ≡ 2)) ⊎ ((b ≡ false) × (n ≡ 1)) → (if b then p + 2 else p + 1) ≡ p + n
 after_by b p n h = grind arith
 
@@ -74,6 +77,9 @@ entry_piece bytes maps p o insn here e = subst (IsInsnAt bytes maps p) e here
 spared : (o : Option ℕ) (r : ℕ) → IfSome o (λ x. x < 10) → o ≡ Some r → r < 10
 spared o r h e = subst (λ (v : Option ℕ). IfSome v (λ x. x < 10)) e h
 
+abbrev IsTarget : List ℕ → ℤ → Type 0
+IsTarget bytes t = (q : ℕ) × (t ≡ pos q) × IsStartIn bytes q
+
 landed : (bytes : List ℕ) (o : Option ℤ) (t : ℤ) → IfSome o (IsTarget bytes) → o ≡ Some t → IsTarget bytes t
 landed bytes o t h e = subst (λ (v : Option ℤ). IfSome v (IsTarget bytes)) e h
 
@@ -105,13 +111,11 @@ module _ (bytes : List ℕ) (insns : List (Option Insn)) (maps : List MapShape) 
   fallen p i here falls =
       let next = after_slots bytes p i here.1.whole in
       let within = here.1.sound.falls falls in
-      let within_here : 8 * (p + slots_of i) < length bytes = subst (λ q. 8 * q < length bytes) next within in
       let start : is_start bytes (p + slots_of i) ≡ true = subst (λ q. is_start bytes q ≡ true) next (start_after bytes p here.0) in
-      from_start (p + slots_of i) (within_here, start)
+      from_start (p + slots_of i) (within, start)
 
   to_land : (t : ℤ) → IsTarget bytes t → IsStartAt (record { bytes = bytes; insns = insns; maps = maps }) t
-  to_land (pos q) h = from_start q h
-  to_land (negsuc q) h = h
+  to_land t h = subst (IsStartAt (record { bytes = bytes; insns = insns; maps = maps })) (sym h.1) (from_start h.0 h.2)
 
   pub all_clear : IsAccepted bytes maps
   all_clear = record { slots = slots; clear = λ p start. (let within = start.0 in kept.clear p (omega arith) start) }

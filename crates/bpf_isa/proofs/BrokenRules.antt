@@ -10,7 +10,7 @@ use Rattle.bpf_isa.specs.Faults.{IsLeast, word_fault, piece_fault}
 use Rattle.bpf_isa.specs.WordFaults.{IsLeastWordFault}
 use Rattle.bpf_isa.specs.Words.{row_of, fields_of, IsClean}
 use Rattle.bpf_isa.specs.Scaffolding.Codec.{IsRead}
-use Rattle.bpf_isa.specs.Checker.{piece_at, HasFault, HasNoFault, IsLeastFault}
+use Rattle.bpf_isa.specs.Checker.{piece_at, HasFault, HasNoFault}
 use Rattle.bpf_isa.specs.Scaffolding.Checking.{Breaks, IsSound}
 
 module _ (bytes : List ℕ) (maps : List MapShape) (p : ℕ) (insn : Insn) (read : IsRead (piece_at bytes p) insn) where
@@ -36,7 +36,7 @@ module _ (bytes : List ℕ) (maps : List MapShape) (p : ℕ) (insn : Insn) (read
   from_fault UnknownHelper has = subst (λ i. Breaks bytes maps p i UnknownHelper) (read.only has.0 has.1) has.2
   from_fault NoMap has = subst (λ i. Breaks bytes maps p i NoMap) (read.only has.0 has.1) has.2
 
-  pub least_fault : (fault : PieceFault) → IsLeast piece_fault (Breaks bytes maps p insn) fault → IsLeastFault bytes maps p fault
+  pub least_fault : (fault : PieceFault) → IsLeast piece_fault (Breaks bytes maps p insn) fault → IsLeast piece_fault (HasFault bytes maps p) fault
   least_fault fault broken = record { applies = to_fault fault broken.applies; least = λ other has. broken.least other (from_fault other has) }
 
   unbroken : IsSound bytes maps p insn → (fault : PieceFault) → Breaks bytes maps p insn fault → ⊥
@@ -54,6 +54,6 @@ early_least bytes maps p n early least RunsOff has = omega (arith, early)
 early_least bytes maps p n early least UnknownHelper has = omega (arith, early)
 early_least bytes maps p n early least NoMap has = omega (arith, early)
 
-pub early_fault : (bytes : List ℕ) (maps : List MapShape) (p : ℕ) (fault : WordFault) → (word_fault fault).0 ≤ 6 → IsLeastWordFault (piece_at bytes p) fault → IsLeastFault bytes maps p (Word fault)
+pub early_fault : (bytes : List ℕ) (maps : List MapShape) (p : ℕ) (fault : WordFault) → (word_fault fault).0 ≤ 6 → IsLeastWordFault (piece_at bytes p) fault → IsLeast piece_fault (HasFault bytes maps p) (Word fault)
 unfolding IsLeastWordFault
 early_fault bytes maps p fault early h = record { applies = h.applies; least = early_least bytes maps p (word_fault fault).0 early h.least }

@@ -11,8 +11,11 @@ use borrow.Author.Count.{below_more}
 use Rattle.bpf_isa.specs.declared.maps.MapShape.{MapShape}
 use Rattle.bpf_isa.specs.declared.fault.MapFault.{MapFault}
 use Rattle.bpf_isa.specs.declared.fault.MapFault.TheVariants.{ValueSize, Entries, Total, Full, Malformed}
-use Rattle.bpf_isa.specs.Faults.{map_fault}
-use Rattle.bpf_isa.specs.Maps.{IsShape, AreMaps, HasMapFault, IsLeastMapFault, IsItem, shape_of, items_of, IsMapList, IsFirstBadMap, IsListFault}
+use Rattle.bpf_isa.specs.Faults.{IsLeast, map_fault}
+use Rattle.bpf_isa.specs.Maps.{IsShape, AreMaps, HasMapFault, IsItem, shape_of, items_of, IsMapList, IsFirstBadMap, IsListFault}
+
+abbrev IsLeastMapFault : List MapShape → ℕ → ℕ → MapFault → Type 0
+IsLeastMapFault maps value entries = IsLeast map_fault (HasMapFault maps value entries)
 
 -- a number that is cut to 32 bits has the same faults
 same_number : (v w m : ℕ) → w ≡ min v m → 256 < m → w ≤ 256 → v ≡ w

@@ -1,5 +1,5 @@
 -- The checker: which bytes are a program. What RFC 9669 leaves to a platform (helpers, maps, r10) is bpfdb's own choice.
-use Rattle.std.specs.Prelude.{◌≡◌, ◌≢◌, ◌<◌, ◌≤◌, ◌⊎◌, ℕ, zero, suc, ℤ, pos, negsuc, ◌+◌, ◌*◌, ◌/◌, ◌%◌, Bool, true, not, ◌&&◌, ◌==◌, if◌then◌else◌, IsTrue, List, Some, IfSome, MatchOption, length, map, take, drop, slice_index, slice_get}
+use Rattle.std.specs.Prelude.{◌≡◌, ◌≢◌, ◌<◌, ◌≤◌, ◌⊎◌, ℕ, zero, suc, pos, ◌+◌, ◌*◌, ◌/◌, ◌%◌, Bool, true, not, ◌&&◌, ◌==◌, if◌then◌else◌, IsTrue, List, Some, IfSome, MatchOption, length, map, take, drop, slice_index, slice_get}
 use Rattle.std.specs.List.{concat, filter, range_with_len}
 use Rattle.bpf_isa.specs.declared.instruction.Insn.{Insn}
 use Rattle.bpf_isa.specs.declared.instruction.Insn.TheVariants.{CallHelper, LoadWide}
@@ -11,7 +11,7 @@ use Rattle.bpf_isa.specs.declared.fault.LoadFault.{LoadFault}
 use Rattle.bpf_isa.specs.declared.fault.LoadFault.TheVariants.{Empty, TooLong, Ragged, At, Memory}
 use Rattle.bpf_isa.specs.Faults.{IsLeast, piece_fault}
 use Rattle.bpf_isa.specs.WideLoads.{wide_opcode}
-use Rattle.bpf_isa.specs.Insns.{FallsThrough, target_of, written_of}
+use Rattle.bpf_isa.specs.Insns.{slots_of, FallsThrough, target_of, written_of}
 use Rattle.bpf_isa.specs.Words.{fields_of, ReadsAs}
 use Rattle.bpf_isa.specs.WordFaults.{HasWordFault}
 
@@ -32,26 +32,13 @@ IsStartIn bytes p = (8 * p < length bytes) × IsTrue (is_start bytes p)
 abbrev pub piece_at : List ℕ → ℕ → List ℕ
 piece_at bytes p = take (if is_wide_at bytes p then 16 else 8) (drop (8 * p) bytes)
 
--- The starts, in order.
-abbrev pub starts_in : List ℕ → List ℕ
-starts_in bytes = filter (is_start bytes) (range_with_len 0 (length bytes / 8))
-
 -- The pieces at the starts, put together in order, are the bytes: the cut loses none and takes none twice.
 abbrev pub PiecesAreTheBytes : Type 0
-PiecesAreTheBytes = (bytes : List ℕ) → length bytes % 8 ≡ 0 → concat (map (piece_at bytes) (starts_in bytes)) ≡ bytes
-
--- The slot after a piece.
-abbrev pub after_piece : List ℕ → ℕ → ℕ
-after_piece bytes p = if is_wide_at bytes p then p + 2 else p + 1
-
--- A whole number that is a start.
-abbrev pub IsTarget : List ℕ → ℤ → Type 0
-IsTarget bytes (pos p) = IsStartIn bytes p
-IsTarget bytes (negsuc n) = ⊥
+PiecesAreTheBytes = (bytes : List ℕ) → length bytes % 8 ≡ 0 → let starts = filter (is_start bytes) (range_with_len 0 (length bytes / 8)) in concat (map (piece_at bytes) starts) ≡ bytes
 
 -- What a jump or local call names is a start.
 abbrev pub Lands : List ℕ → ℕ → Insn → Type 0
-Lands bytes p insn = IfSome (target_of p insn) (IsTarget bytes)
+Lands bytes p insn = IfSome (target_of p insn) (λ target. (q : ℕ) × (target ≡ pos q) × IsStartIn bytes q)
 
 -- The numbers of the helpers.
 abbrev pub lookup_helper : ℕ
@@ -86,17 +73,13 @@ abbrev pub HasFault : List ℕ → List MapShape → ℕ → PieceFault → Type
 HasFault bytes maps p (Word fault) = HasWordFault (piece_at bytes p) fault
 HasFault bytes maps p WritesFramePointer = ReadsSome bytes p (λ insn. written_of insn ≡ Some 10)
 HasFault bytes maps p NoTarget = ReadsSome bytes p (λ insn. Lands bytes p insn → ⊥)
-HasFault bytes maps p RunsOff = ReadsSome bytes p (λ insn. FallsThrough insn × (length bytes ≤ 8 * after_piece bytes p))
+HasFault bytes maps p RunsOff = ReadsSome bytes p (λ insn. FallsThrough insn × (length bytes ≤ 8 * (p + slots_of insn)))
 HasFault bytes maps p UnknownHelper = ReadsSome bytes p (λ insn. HelperExists insn → ⊥)
 HasFault bytes maps p NoMap = ReadsSome bytes p (λ insn. MapExists maps insn → ⊥)
 
 -- The piece at a slot has no fault.
 pub record HasNoFault (bytes : List ℕ) (maps : List MapShape) (p : ℕ) : Type 0 where
   pub none : (fault : PieceFault) → HasFault bytes maps p fault → ⊥
-
--- Of the faults of the piece at a slot, the one with the least number.
-abbrev pub IsLeastFault : List ℕ → List MapShape → ℕ → PieceFault → Type 0
-IsLeastFault bytes maps p = IsLeast piece_fault (HasFault bytes maps p)
 
 -- The most slots of a program.
 abbrev pub most_slots : ℕ
@@ -117,7 +100,7 @@ pub record IsAccepted (bytes : List ℕ) (maps : List MapShape) : Type 0 where
 pub record IsFirstFault (bytes : List ℕ) (maps : List MapShape) (p : ℕ) (fault : PieceFault) : Type 0 where
   pub slots : AreSlots bytes
   pub start : IsStartIn bytes p
-  pub least : IsLeastFault bytes maps p fault
+  pub least : IsLeast piece_fault (HasFault bytes maps p) fault
   pub before : (q : ℕ) → q < p → IsStartIn bytes q → HasNoFault bytes maps q
 
 -- Why bytes are refused. Out of memory may be answered in place of a piece's fault.

@@ -27,10 +27,6 @@ HasMapFault maps value entries Total = 65536 < value * entries
 HasMapFault maps value entries Full = 16 ≤ length maps
 HasMapFault maps value entries Malformed = ⊥
 
--- Of those faults, the one with the least number.
-abbrev pub IsLeastMapFault : List MapShape → ℕ → ℕ → MapFault → Type 0
-IsLeastMapFault maps value entries = IsLeast map_fault (HasMapFault maps value entries)
-
 -- The letter x.
 abbrev pub is_x : ℕ → Bool
 is_x byte = byte == 120
@@ -59,7 +55,7 @@ pub record IsFirstBadMap (maps : List MapShape) (fault : MapFault) : Type 0 wher
   pub shape : MapShape
   pub found : slice_get maps at ≡ Some shape
   pub before : AreMaps (take at maps)
-  pub least : IsLeastMapFault (take at maps) shape.value_size shape.entries fault
+  pub least : IsLeast map_fault (HasMapFault (take at maps) shape.value_size shape.entries) fault
 
 -- Why a text is refused: first for its form, then for its maps.
 abbrev pub IsListFault : List ℕ → MapFault → Type 0

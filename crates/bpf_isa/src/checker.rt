@@ -1,8 +1,9 @@
 //! The checker: the first fault of the bytes, or a program.
-ghost use Rattle.std.specs.Prelude.{◌≡◌, ◌≤◌, ◌<◌, ◌⊎◌, ◌*◌, ◌↔◌, IsTrue, IfSome, IfNone, IfOk, OnOk, IfErr, List, ℕ, length, slice_index};
-ghost use Rattle.bpf_isa.specs.Checker.{IsStartIn, AreSlots, piece_at, after_piece, HasFault, HasNoFault, IsLeastFault, IsFirstFault, IsAccepted, IsRefused};
+ghost use Rattle.std.specs.Prelude.{◌≡◌, ◌≤◌, ◌<◌, ◌⊎◌, ◌+◌, ◌*◌, ◌↔◌, IsTrue, IfSome, IfNone, IfOk, OnOk, IfErr, List, ℕ, length, slice_index};
+ghost use Rattle.bpf_isa.specs.Checker.{IsStartIn, AreSlots, piece_at, HasFault, HasNoFault, IsFirstFault, IsAccepted, IsRefused};
 ghost use Rattle.bpf_isa.specs.Scaffolding.Checking.{AreStarts, AreInsns, Breaks, IsPiece, IsSound};
 ghost use Rattle.bpf_isa.specs.Faults.{IsLeast, piece_fault};
+ghost use Rattle.bpf_isa.specs.Insns.{slots_of};
 ghost use Rattle.bpf_isa.specs.WideLoads.{wide_opcode};
 ghost use Rattle.bpf_isa.specs.declared.maps.MapShape.{MapShape};
 
@@ -31,18 +32,13 @@ fn piece_of(bytes: &[u8], slot: usize) -> &[u8]
     &bytes[from..to]
 }
 
-/// Whether no piece follows the one at a start.
-fn is_last(bytes: &[u8], slot: usize) -> bool
+/// Whether no slot follows those of an instruction at a start.
+fn is_last(bytes: &[u8], slot: usize, insn: &Insn) -> bool
     requires slots { AreSlots bytes.now }
     requires start { IsStartIn bytes.now slot }
-    ensures { IsTrue result ↔ (length bytes.now ≤ 8 * after_piece bytes.now slot) }
+    ensures { IsTrue result ↔ (length bytes.now ≤ 8 * (slot + slots_of insn.now)) }
 {
-    let after = if bytes[8 * slot] == WIDE_OPCODE {
-        slot + 2
-    } else {
-        slot + 1
-    };
-    bytes.len() <= 8 * after
+    bytes.len() <= 8 * (slot + insn.slots())
 }
 
 /// What the checker looks at: the bytes of a program, its starts, one flag a slot, and its maps.
@@ -71,7 +67,7 @@ fn broken_rule(draft: &Draft<'_>, slot: usize, insn: &Insn) -> Option<PieceFault
     if is_cut_off(piece_of(draft.bytes, slot)) {
         return Some(PieceFault::Word(WordFault::CutOff));
     }
-    if insn.falls_through() && is_last(draft.bytes, slot) {
+    if insn.falls_through() && is_last(draft.bytes, slot, insn) {
         return Some(PieceFault::RunsOff);
     }
     if !insn.helper_exists() {
@@ -90,7 +86,7 @@ fn piece(draft: &Draft<'_>, slot: usize) -> Result<Insn, PieceFault>
     requires flags { AreStarts draft.now.bytes.now draft.now.starts.now }
     ensures ok { IfOk result (IsPiece draft.now.bytes.now draft.now.maps.now slot) }
     ensures clear { OnOk result (HasNoFault draft.now.bytes.now draft.now.maps.now slot) }
-    ensures fault { IfErr result (IsLeastFault draft.now.bytes.now draft.now.maps.now slot) }
+    ensures fault { IfErr result (IsLeast piece_fault (HasFault draft.now.bytes.now draft.now.maps.now slot)) }
 {
     let piece = piece_of(draft.bytes, slot);
     let insn = match read_insn(piece) {

@@ -1,7 +1,8 @@
 //! Map tables.
 ghost use Rattle.std.specs.Prelude.{◌≡◌, ◌↔◌, [], ◌∷◌, ◌++◌, IfErr, IfOk, IfNone, IfSome, IsSome, IsTrue, OnSome, OnErr, OnOk, length, map, min, position, slice_get};
 ghost use Rattle.std.specs.Str.Parse.{IsNumeral, digits_value};
-ghost use Rattle.bpf_isa.specs.Maps.{AreMaps, IsLeastMapFault, is_x, IsItem, shape_of, items_of, IsMapList, IsListFault};
+ghost use Rattle.bpf_isa.specs.Faults.{IsLeast, map_fault};
+ghost use Rattle.bpf_isa.specs.Maps.{AreMaps, HasMapFault, is_x, IsItem, shape_of, items_of, IsMapList, IsListFault};
 
 use crate::fault::MapFault;
 use arrayvec::ArrayVec;
@@ -76,7 +77,7 @@ impl MapTable {
         ensures ok { OnOk result (self.new
             ≡ self.old ++ record { value_size = value_size; entries = entries } ∷ []) }
         ensures fits { OnOk result (AreMaps self.new) }
-        ensures fault { IfErr result (IsLeastMapFault self.old value_size entries) }
+        ensures fault { IfErr result (IsLeast map_fault (HasMapFault self.old value_size entries)) }
         ensures same { OnErr result (self.new ≡ self.old) }
     {
         if value_size == 0 || value_size > 256 {

@@ -1,14 +1,14 @@
 -- Scaffolding: no public contract cites this. What the checker keeps of a program, slot by slot, and what it asks of an instruction by itself.
-use Rattle.std.specs.Prelude.{◌≡◌, ◌<◌, ◌≤◌, ℕ, ◌*◌, Bool, true, false, List, Option, Some, None, IfSome, length, unwrap_or, slice_get}
+use Rattle.std.specs.Prelude.{◌≡◌, ◌<◌, ◌≤◌, ℕ, ◌+◌, ◌*◌, Bool, true, false, List, Option, Some, None, IfSome, length, unwrap_or, slice_get}
 use Rattle.bpf_isa.specs.declared.instruction.Insn.{Insn}
 use Rattle.bpf_isa.specs.declared.maps.MapShape.{MapShape}
 use Rattle.bpf_isa.specs.declared.fault.PieceFault.{PieceFault}
 use Rattle.bpf_isa.specs.declared.fault.PieceFault.TheVariants.{Word, WritesFramePointer, NoTarget, RunsOff, UnknownHelper, NoMap}
 use Rattle.bpf_isa.specs.declared.fault.WordFault.TheVariants.{CutOff}
-use Rattle.bpf_isa.specs.Insns.{FallsThrough, written_of}
+use Rattle.bpf_isa.specs.Insns.{slots_of, FallsThrough, written_of}
 use Rattle.bpf_isa.specs.Words.{IsWord}
 use Rattle.bpf_isa.specs.WordFaults.{HasWordFault}
-use Rattle.bpf_isa.specs.Checker.{is_start, IsStartIn, piece_at, after_piece, HasNoFault, Lands, HelperExists, MapExists}
+use Rattle.bpf_isa.specs.Checker.{is_start, IsStartIn, piece_at, HasNoFault, Lands, HelperExists, MapExists}
 
 -- The flags are the starts.
 pub record AreStarts (bytes : List ℕ) (starts : List Bool) : Type 0 where
@@ -25,7 +25,7 @@ Breaks bytes maps p insn (Word CutOff) = HasWordFault (piece_at bytes p) CutOff
 Breaks bytes maps p insn (Word _) = ⊥
 Breaks bytes maps p insn WritesFramePointer = written_of insn ≡ Some 10
 Breaks bytes maps p insn NoTarget = Lands bytes p insn → ⊥
-Breaks bytes maps p insn RunsOff = FallsThrough insn × (length bytes ≤ 8 * after_piece bytes p)
+Breaks bytes maps p insn RunsOff = FallsThrough insn × (length bytes ≤ 8 * (p + slots_of insn))
 Breaks bytes maps p insn UnknownHelper = HelperExists insn → ⊥
 Breaks bytes maps p insn NoMap = MapExists maps insn → ⊥
 
@@ -34,7 +34,7 @@ pub record IsSound (bytes : List ℕ) (maps : List MapShape) (p : ℕ) (insn : I
   pub spares : SparesTen insn
   pub lands : Lands bytes p insn
   pub whole : HasWordFault (piece_at bytes p) CutOff → ⊥
-  pub falls : FallsThrough insn → 8 * after_piece bytes p < length bytes
+  pub falls : FallsThrough insn → 8 * (p + slots_of insn) < length bytes
   pub helper : HelperExists insn
   pub names : MapExists maps insn
 
