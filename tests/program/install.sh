@@ -4,32 +4,41 @@
 if [ -n "${BPFDB:-}" ]; then
     echo 'tests/program/install.sh: BPFDB names the program, so make install is not tested'
 else
-    root=$PWD/root
-    installed=$root/usr/local
-    env -u MAKEFLAGS make -s -C "$top" install DESTDIR="$root" > found/out 2> found/err
-    echo $? > found/status
-    check 'make install' 0 "installed $installed/bin/bpfdb, bpfdb-shell and bpfdb-symbols beside it, and the man page; in gdb: source $installed/share/bpfdb/bpfdb-gdb.py\n" ''
-    (cd "$installed" && find . -type f -printf '%m %P\n' | sort) > found/files
-    cat > wanted/files <<'FILES'
+    # installed DESTDIR PREFIX: is installed there, works, and leaves nothing when it is taken away.
+    installed() {
+        installed=$1$2
+        env -u MAKEFLAGS make -s -C "$top" install DESTDIR="$1" PREFIX="$2" > found/out 2> found/err
+        echo $? > found/status
+        check "make install PREFIX=$2" 0 "installed $installed/bin/bpfdb, bpfdb-shell and bpfdb-symbols beside it, the man page, and pages in $installed/share/doc/bpfdb; in gdb: source $installed/share/bpfdb/bpfdb-gdb.py\n" ''
+        (cd "$installed" && find . -type f -printf '%m %P\n' | sort) > found/files
+        cat > wanted/files <<'FILES'
 644 share/bpfdb/bpfdb-gdb.py
+644 share/doc/bpfdb/COMMANDS.md
+644 share/doc/bpfdb/GDB.md
+644 share/doc/bpfdb/JOURNAL.md
+644 share/doc/bpfdb/LISTING.md
+644 share/doc/bpfdb/MACHINE.md
 644 share/man/man1/bpfdb.1
 755 bin/bpfdb
 755 bin/bpfdb-shell
 755 bin/bpfdb-symbols
 FILES
-    same 'make install: files and their modes' wanted/files found/files
-    cp "$top/crates/bpfdb/stdin" script
-    "$installed/bin/bpfdb" < script > found/out 2> found/err
-    same 'the installed program' "$top/crates/bpfdb/stdout" found/out
-    printf 'c\nq\n' > script
-    BPFDB=$installed/bin/bpfdb "$installed/bin/bpfdb-shell" "$top/examples/checksum/program.bin" < script > found/out 2> found/err
-    printf '%s\n' "$(printf 'continue\n' | "$program" debug "$top/examples/checksum/program.bin")" > wanted/out
-    same 'the installed shell' wanted/out found/out
-    env -u MAKEFLAGS make -s -C "$top" uninstall DESTDIR="$root" > found/out 2> found/err
-    echo $? > found/status
-    check 'make uninstall' 0 '' ''
-    find "$root" -type f > found/files
-    : > wanted/files
-    same 'make uninstall leaves no file' wanted/files found/files
-    [ ! -e "$installed/share/bpfdb" ] || complain 'make uninstall leaves its folder'
+        same "make install PREFIX=$2: files and their modes" wanted/files found/files
+        cp "$top/crates/bpfdb/stdin" script
+        "$installed/bin/bpfdb" < script > found/out 2> found/err
+        same 'the installed program' "$top/crates/bpfdb/stdout" found/out
+        printf 'c\nq\n' > script
+        BPFDB=$installed/bin/bpfdb "$installed/bin/bpfdb-shell" "$top/examples/checksum/program.bin" < script > found/out 2> found/err
+        printf '%s\n' "$(printf 'continue\n' | "$program" debug "$top/examples/checksum/program.bin")" > wanted/out
+        same 'the installed shell' wanted/out found/out
+        env -u MAKEFLAGS make -s -C "$top" uninstall DESTDIR="$1" PREFIX="$2" > found/out 2> found/err
+        echo $? > found/status
+        check "make uninstall PREFIX=$2" 0 '' ''
+        find "$installed" -type f > found/files
+        : > wanted/files
+        same 'make uninstall leaves no file' wanted/files found/files
+        [ ! -e "$installed/share/bpfdb" ] && [ ! -e "$installed/share/doc/bpfdb" ] || complain 'make uninstall leaves a folder'
+    }
+    installed "$PWD/root" /usr/local
+    installed '' "$PWD/opt/bpfdb"
 fi

@@ -63,7 +63,7 @@ Reads FILE, the context, and from standard input a script, one command a line:
 
 Writes the reply to each command to standard output. A refused command gets a reply,
 changes nothing, and the session continues. The exit status is 0 then too, and where the
-program faulted. The manual, docs/COMMANDS.md, describes each command.";
+program faulted. `man bpfdb` describes each command.";
 
 pub const DEBUG_EXAMPLE: &str = "Example:
   $ printf 'break 1\\ncontinue\\nundo\\n' | bpfdb debug --journal 1048576 count.bin
