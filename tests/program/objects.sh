@@ -76,26 +76,66 @@ refused 'refused E7: section name longer than 255 bytes' link --section "${long_
 { head -c 64 text.o; printf '\377'; tail -c +66 text.o; } > unknown.o
 refused 'refused E25 at slot 0: unknown instruction' link unknown.o
 
-# A code section of 65,536 instructions, which lies at the end of the object: its header's offset and size are changed. And a table of symbols, there too,
-# with 17 maps: the object's own two, and one of them fifteen times more.
-{
-    head -c 344 text.o
-    printf '\300\001\0\0\0\0\0\0\0\0\010\0\0\0\0\0'
-    tail -c +361 text.o
-    head -c 524280 /dev/zero
-    printf '\225\0\0\0\0\0\0\0'
-} > long.o
+# What is linked at a limit, and refused beyond it. What grows stands behind the object, at its end, and the header of its section has another offset and size.
+
+# moved NAME PLACE BYTES: the object NAME with these bytes, as printf has them, for an offset and a size at a place of it.
+moved() {
+    head -c "$2" "$1.o"
+    printf "$3"
+    tail -c +$(($2 + 17)) "$1.o"
+}
+
+# exits COUNT: so many instructions `exit`.
+exits() {
+    yes "$(printf '\225\1\1\1\1\1\1')" | tr '\1\n' '\0\0' | head -c $((8 * $1))
+}
+
+# linked NAME OBJECT: the link of an object gives what is in the file `words`, and says nothing.
+linked() {
+    cp words wanted/out
+    : > wanted/err
+    echo 0 > wanted/status
+    : > script
+    run link "$2"
+    compare "$1"
+}
+
+# A code section of 65,535 slots, and of one more.
+exits 65535 > words
+{ moved text 344 '\300\001\0\0\0\0\0\0\370\377\007\0\0\0\0\0'; exits 65535; } > long.o
+linked 'link of a section of 65,535 slots' long.o
+{ moved text 344 '\300\001\0\0\0\0\0\0\0\0\010\0\0\0\0\0'; exits 65536; } > long.o
 refused 'refused E11: program too long' link long.o
-{
-    head -c 856 maps.o
-    printf '\200\003\0\0\0\0\0\0\370\001\0\0\0\0\0\0'
-    tail -c +873 maps.o
+
+# The same with those of `.text`, 65,531 behind the four of the section that calls it, and one more: its own six, and `exit`.
+tail -c +65 calls.o | head -c 48 > six
+bytes four 85 10 00 00 06 00 00 00 bf 01 00 00 00 00 00 00 85 10 00 00 01 00 00 00 EXIT
+{ cat four six; exits 65525; } > words
+{ moved calls 536 '\0\003\0\0\0\0\0\0\330\377\007\0\0\0\0\0'; cat six; exits 65525; } > long.o
+linked 'link of 65,535 slots, of which 65,531 are of .text' long.o
+{ moved calls 536 '\0\003\0\0\0\0\0\0\340\377\007\0\0\0\0\0'; cat six; exits 65526; } > long.o
+refused 'refused E11: program too long' link long.o
+
+# 16 maps: the object's own two, and the one at place 0 fourteen times more, so that there are 15 before the other one. And one more.
+# symbols COUNT: the object's symbols, and the fifth so many times more.
+symbols() {
     tail -c +201 maps.o | head -c 144
-    for _ in 1 2 3 4 5 6 7 8 9 10 11 12 13 14 15; do
-        tail -c +321 maps.o | head -c 24
+    for _ in $(seq "$1"); do
+        tail -c +297 maps.o | head -c 24
     done
-} > many.o
+}
+bytes words $(printf '%s' 'bf16000000000000 1851000000000000 0000000000000000 bf62000000000000 8500000001000000 bf07000000000000 185100000f000000 0000000000000000 bf62000000000000 8500000001000000 bf01000000000000 b700000001000000 1d17010000000000 b700000000000000 9500000000000000' | tr -d ' ' | sed 's/../& /g')
+{ moved maps 856 '\200\003\0\0\0\0\0\0\340\001\0\0\0\0\0\0'; symbols 14; } > many.o
+linked 'link of 16 maps' many.o
+{ moved maps 856 '\200\003\0\0\0\0\0\0\370\001\0\0\0\0\0\0'; symbols 15; } > many.o
 refused 'refused E15: more than 16 maps' link many.o
+
+# A table of 0xfeff sections, and of 0xff00, a number that names no section. The object's own four are followed by empty ones.
+bytes words b7 00 00 00 07 00 00 00 EXIT
+{ head -c 60 text.o; printf '\377\376'; tail -c +63 text.o; head -c $((64 * (0xfeff - 4))) /dev/zero; } > sections.o
+linked 'link of an object of 65,279 sections' sections.o
+{ head -c 60 text.o; printf '\000\377'; tail -c +63 text.o; head -c $((64 * (0xff00 - 4))) /dev/zero; } > sections.o
+refused 'refused E6: malformed section table' link sections.o
 
 # A file of C, where there is a clang for BPF: the sum of the context's bytes, by a function of its own.
 cat > sum.c <<'C'
