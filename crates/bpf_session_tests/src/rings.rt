@@ -2,9 +2,10 @@
 ghost use Rattle.bpf_journal.specs.Histories.{HasHistory};
 
 use crate::play::{
-    check_bytes, command_of, commands_of, plays, printed, replies_of, ring_for, ring_session,
+    check_bytes, command_of, commands_of, plays, printed, reopened, replies_of, ring_for,
+    ring_session, session,
 };
-use crate::scripts::{Row, WITHOUT_BREAKPOINTS};
+use crate::scripts::{Row, WITHOUT_BREAKPOINTS, play_rows};
 use bpf_journal::{Keeper, RingKeeper};
 use bpf_machine::Cpu;
 use bpf_session::Session;
@@ -24,10 +25,13 @@ const FETCHED: [u8; 33] = [
 /// add r0, 1; ja -2.
 const ENDLESS: &str = "07000000010000000500feff00000000";
 
+/// How a session of it begins in the smallest journal.
+const BEGINS: &str = "stepi 100|100 forward; done; at 0: add r0, 1\n";
+
 /// What the ring begins with where the oldest entries were dropped: a jump's.
 const DROPPED: [u8; 7] = [7, 0, 2, 1, 0, 7, 0];
 
-/// How the session goes on.
+/// How the session goes on, closed and opened again.
 const GOES_ON: &str = "\
 stepi|1 forward; done; at 1: ja L0
 info history|88 moves, 1 commands, 1012 of 1024 bytes
@@ -40,7 +44,12 @@ info regs|r0=0x31 r1=0x0 r2=0x0 r3=0x0 r4=0x0 r5=0x0 r6=0x0 r7=0x0 r8=0x0 r9=0x0
 
 /// How a ring of 16,384 bytes grows, is full and goes around its end. Of 2,000 steps the newest 1,424 and the jump before them are kept,
 /// 712 rounds of 23 bytes and 7 bytes; before that jump 288 sums were made.
-const GROWS: &str = "\
+const GROWS: Row = (
+    ENDLESS,
+    &[],
+    16_384,
+    1_000_000,
+    "\
 stepi 1000|1000 forward; done; at 0: add r0, 1
 info history|1000 moves, 1 commands, 11500 of 16384 bytes
 stepi 1000|1000 forward; done; at 0: add r0, 1
@@ -48,7 +57,8 @@ info history|1425 moves, 1 commands, 16383 of 16384 bytes
 reverse-stepi 1425|1425 back; done; at 1: ja L0
 info regs|r0=0x120 r1=0x0 r2=0x0 r3=0x0 r4=0x0 r5=0x0 r6=0x0 r7=0x0 r8=0x0 r9=0x0 r10=0x200000200
 |at 1: ja L0
-";
+",
+);
 
 /// The oldest bytes of a ring, at most so many.
 fn oldest(rt: &impl Abort, alloc: Global, keeper: &RingKeeper, most: usize) -> Vec<u8> {
@@ -128,13 +138,7 @@ fn a_fetch_leaves_its_bytes(rt: HostRuntime) {
 fn a_ring_goes_on(rt: HostRuntime) {
     let alloc = rt.alloc();
     let mut session = ring_session(&rt, alloc, ENDLESS, &[], 1_024, 1_000_000);
-    plays(
-        &rt,
-        alloc,
-        &mut session,
-        "stepi 100|100 forward; done; at 0: add r0, 1\n",
-        7,
-    );
+    plays(&rt, alloc, &mut session, BEGINS, 7);
     let (cpu, keeper) = session.close();
     check_bytes(&rt, &oldest(&rt, alloc, &keeper, 7), &DROPPED, ENDLESS);
     let keeper = put_back(&cpu, keeper);
@@ -144,10 +148,17 @@ fn a_ring_goes_on(rt: HostRuntime) {
 }
 
 #[test]
-fn a_ring_grows_and_goes_around(rt: HostRuntime) {
+fn a_list_goes_on(rt: HostRuntime) {
     let alloc = rt.alloc();
-    let mut session = ring_session(&rt, alloc, ENDLESS, &[], 16_384, 1_000_000);
-    plays(&rt, alloc, &mut session, GROWS, 7);
+    let mut listed = session(&rt, alloc, ENDLESS, &[], 1_024, 1_000_000);
+    plays(&rt, alloc, &mut listed, BEGINS, 7);
+    let mut listed = reopened(&rt, alloc, listed, 1_000_000);
+    plays(&rt, alloc, &mut listed, GOES_ON, 7);
+}
+
+#[test]
+fn a_ring_grows_and_goes_around(rt: HostRuntime) {
+    play_rows(&rt, rt.alloc(), &[GROWS], 7);
 }
 
 #[test]

@@ -1,5 +1,7 @@
 //! Worked sessions. The expected replies were worked out by hand from what each command means; none is bpfdb's own output.
 use crate::play::{check_bytes, plays, printed, ring_session, session};
+use bpf_journal::Keeper;
+use bpf_session::Session;
 use std::alloc::Global;
 use std::process::Abort;
 
@@ -279,10 +281,24 @@ fn append(rt: &impl Abort, bytes: &mut Vec<u8>, others: &[u8]) {
     bytes.extend_from_slice(others).ok().expect(rt, "no memory");
 }
 
-/// Stops unless a script prints this in a session of its own.
+/// Stops unless a script prints this in a session of its own, over either keeper.
 fn check_printed(rt: &impl Abort, alloc: Global, script: &[u8], step: usize, wanted: &[u8]) {
-    let mut session = session(rt, alloc, ANSWER, &[], 65_536, 1_000_000);
-    let told = printed(rt, alloc, &mut session, script, step);
+    let mut listed = session(rt, alloc, ANSWER, &[], 65_536, 1_000_000);
+    check_told(rt, alloc, &mut listed, script, step, wanted);
+    let mut ringed = ring_session(rt, alloc, ANSWER, &[], 65_536, 1_000_000);
+    check_told(rt, alloc, &mut ringed, script, step, wanted);
+}
+
+/// Stops unless a script prints this in a session.
+fn check_told<K: Keeper>(
+    rt: &impl Abort,
+    alloc: Global,
+    session: &mut Session<K>,
+    script: &[u8],
+    step: usize,
+    wanted: &[u8],
+) {
+    let told = printed(rt, alloc, session, script, step);
     check_bytes(rt, &told, wanted, "a script");
 }
 
