@@ -213,12 +213,89 @@ info frames|depth 0
 ",
 );
 
-const ROWS: [Row; 12] = [
-    ANSWERED, LOAD, FAULT, DROPPED, REFUSED, BREAKS, PART, DOUBLED, EDITS, TABLES, STILL, STORE,
+// atomic_fetch_add64 [r1+0], r1; exit: 1 and 0x100000000 make a sum, and r1 is 1 then. Bytes are edited behind it.
+const FETCH: Row = (
+    "db110000010000009500000000000000",
+    &[1, 0, 0, 0, 0, 0, 0, 0],
+    65_536,
+    1_000_000,
+    "\
+stepi|1 forward; done; at 1: exit
+x 0x100000000 8|0x100000000: 0100000001000000
+info regs|r0=0x0 r1=0x1 r2=0x8 r3=0x0 r4=0x0 r5=0x0 r6=0x0 r7=0x0 r8=0x0 r9=0x0 r10=0x200000200
+|at 1: exit
+info history|1 moves, 1 commands, 33 of 65536 bytes
+set mem 0x100000000 ffff|ok
+info history|2 moves, 2 commands, 48 of 65536 bytes
+undo|1 back; done; at 1: exit
+x 0x100000000 8|0x100000000: 0100000001000000
+undo|1 back; done; at 0: atomic_fetch_add64 [r1+0], r1
+x 0x100000000 8|0x100000000: 0100000000000000
+info regs|r0=0x0 r1=0x100000000 r2=0x8 r3=0x0 r4=0x0 r5=0x0 r6=0x0 r7=0x0 r8=0x0 r9=0x0 r10=0x200000200
+|at 0: atomic_fetch_add64 [r1+0], r1
+",
+);
+
+// atomic_cmpxchg32 [r1+0], r2; exit: r0 is 0 and doesn't match what stands there, which it gets.
+const NO_MATCH: Row = (
+    "c3210000f10000009500000000000000",
+    &[0xff; 4],
+    65_536,
+    1_000_000,
+    "\
+stepi|1 forward; done; at 1: exit
+info regs|r0=0xffffffff r1=0x100000000 r2=0x4 r3=0x0 r4=0x0 r5=0x0 r6=0x0 r7=0x0 r8=0x0 r9=0x0 r10=0x200000200
+|at 1: exit
+x 0x100000000 4|0x100000000: ffffffff
+info history|1 moves, 1 commands, 16 of 65536 bytes
+",
+);
+
+// callf -1; exit: seven calls of 519 bytes, and the end of 5, since the eighth has no frame.
+const EIGHTH_CALL: Row = (
+    "85100000ffffffff9500000000000000",
+    &[],
+    65_536,
+    1_000_000,
+    "\
+continue|8 forward; end; fault depth at 0
+info history|8 moves, 1 commands, 3638 of 65536 bytes
+reverse-stepi|1 back; done; at 0: callf L0
+undo|7 back; done; at 0: callf L0
+undo|refused Q5: fewer kept commands
+",
+);
+
+const ROWS: [Row; 15] = [
+    ANSWERED,
+    LOAD,
+    FAULT,
+    DROPPED,
+    REFUSED,
+    BREAKS,
+    PART,
+    DOUBLED,
+    EDITS,
+    TABLES,
+    STILL,
+    STORE,
+    FETCH,
+    NO_MATCH,
+    EIGHTH_CALL,
 ];
 
 /// Those that set no breakpoints and go on to their end.
-pub const WITHOUT_BREAKPOINTS: [Row; 7] = [LOAD, FAULT, DROPPED, REFUSED, PART, DOUBLED, EDITS];
+pub const WITHOUT_BREAKPOINTS: [Row; 9] = [
+    LOAD,
+    FAULT,
+    DROPPED,
+    REFUSED,
+    PART,
+    DOUBLED,
+    EDITS,
+    FETCH,
+    EIGHTH_CALL,
+];
 
 /// Plays the transcript of a row over either keeper, in pieces of `step` bytes.
 fn play_row(rt: &impl Abort, alloc: Global, row: Row, step: usize) {
