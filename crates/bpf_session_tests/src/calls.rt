@@ -5,7 +5,7 @@ use std::alloc::Global;
 use std::process::Abort;
 
 /// A row: the program in hexadecimal digits, the context, the journal's size, the transcript.
-type Row = (&'static str, &'static [u8], usize, &'static str);
+pub type Row = (&'static str, &'static [u8], usize, &'static str);
 
 /// callf 1; exit; mov r6, 5; exit.
 const CALL: &str = "85100000010000009500000000000000b7060000050000009500000000000000";
@@ -395,6 +395,18 @@ const ROWS: [Row; 20] = [
     DROPPED,
     CLEARED,
     CLEARED_BYTE,
+    FULL_OF_CALLS,
+    DEEP,
+    TOO_DEEP,
+    EACH_DEPTH,
+];
+
+/// Those that set no breakpoints and no watches: what they do is in the journal alone.
+pub const WITHOUT_STOPS: [Row; 8] = [
+    CALLED,
+    SAVED,
+    TRACED,
+    CLEARED,
     FULL_OF_CALLS,
     DEEP,
     TOO_DEEP,

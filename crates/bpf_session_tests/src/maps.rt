@@ -1,7 +1,7 @@
 //! Worked sessions of programs with maps. The expected replies were worked out by hand from what each command means; none is bpfdb's own
 //! output.
 use crate::play::{machine_on, plays, ring_session_over, session_over};
-use bpf_journal::ListKeeper;
+use bpf_journal::{ListKeeper, RingKeeper};
 use bpf_session::Session;
 use std::alloc::Global;
 use std::process::Abort;
@@ -61,12 +61,17 @@ pub fn update_session(rt: &impl Abort, alloc: Global) -> Session<ListKeeper> {
     session_over(rt, alloc, cpu, 65_536, 1_000_000)
 }
 
+/// The same over a ring of bytes.
+pub fn update_ring_session(rt: &impl Abort, alloc: Global) -> Session<RingKeeper> {
+    let cpu = machine_on(rt, alloc, UPDATE, "8x2", &[]);
+    ring_session_over(rt, alloc, cpu, 65_536, 1_000_000)
+}
+
 /// Plays a transcript in a session of its own, over either keeper.
 fn play(rt: &impl Abort, alloc: Global, transcript: &str) {
     let mut listed = update_session(rt, alloc);
     plays(rt, alloc, &mut listed, transcript, 10_000);
-    let cpu = machine_on(rt, alloc, UPDATE, "8x2", &[]);
-    let mut ringed = ring_session_over(rt, alloc, cpu, 65_536, 1_000_000);
+    let mut ringed = update_ring_session(rt, alloc);
     plays(rt, alloc, &mut ringed, transcript, 10_000);
 }
 

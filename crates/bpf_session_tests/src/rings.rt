@@ -1,6 +1,8 @@
 //! The bytes of rings, and rings that are taken out of a session and put back.
 ghost use Rattle.bpf_journal.specs.Histories.{HasHistory};
 
+use crate::calls;
+use crate::maps::{SESSIONS, update_ring_session};
 use crate::play::{
     check_bytes, command_of, commands_of, plays, printed, reopened, replies_of, ring_for,
     ring_session, session,
@@ -95,10 +97,15 @@ pub fn passed_on(
     Session::open(cpu, keeper, redo, limit.get())
 }
 
-/// Plays a row, and passes the ring on after each command.
-fn plays_in_turns(rt: &impl Abort, alloc: Global, row: &Row) {
-    let (program, context, size, limit, transcript) = *row;
-    let mut session = ring_session(rt, alloc, program, context, size, limit);
+/// Plays a transcript, and passes the ring on after each command.
+fn plays_in_turns(
+    rt: &impl Abort,
+    alloc: Global,
+    first: Session<RingKeeper>,
+    limit: u64,
+    transcript: &str,
+) {
+    let mut session = first;
     let mut told = Vec::new(alloc);
     for line in transcript.lines() {
         let command = command_of(line);
@@ -110,6 +117,32 @@ fn plays_in_turns(rt: &impl Abort, alloc: Global, row: &Row) {
         }
     }
     check_bytes(rt, &told, &replies_of(rt, alloc, transcript), transcript);
+}
+
+/// The same of the transcript of each row.
+fn rows_in_turns(rt: &impl Abort, alloc: Global, rows: &[Row]) {
+    for row in rows {
+        let (program, context, size, limit, transcript) = *row;
+        let first = ring_session(rt, alloc, program, context, size, limit);
+        plays_in_turns(rt, alloc, first, limit, transcript);
+    }
+}
+
+/// The same of rows with calls.
+fn calls_in_turns(rt: &impl Abort, alloc: Global, rows: &[calls::Row]) {
+    for row in rows {
+        let (program, context, size, transcript) = *row;
+        let first = ring_session(rt, alloc, program, context, size, 1_000_000);
+        plays_in_turns(rt, alloc, first, 1_000_000, transcript);
+    }
+}
+
+/// The same of transcripts with maps.
+fn updates_in_turns(rt: &impl Abort, alloc: Global, transcripts: &[&str]) {
+    for transcript in transcripts {
+        let first = update_ring_session(rt, alloc);
+        plays_in_turns(rt, alloc, first, 1_000_000, transcript);
+    }
 }
 
 #[test]
@@ -163,7 +196,7 @@ fn a_ring_grows_and_goes_around(rt: HostRuntime) {
 
 #[test]
 fn rings_are_passed_on_after_each_command(rt: HostRuntime) {
-    for row in &WITHOUT_BREAKPOINTS {
-        plays_in_turns(&rt, rt.alloc(), row);
-    }
+    rows_in_turns(&rt, rt.alloc(), &WITHOUT_BREAKPOINTS);
+    calls_in_turns(&rt, rt.alloc(), &calls::WITHOUT_STOPS);
+    updates_in_turns(&rt, rt.alloc(), &SESSIONS);
 }
