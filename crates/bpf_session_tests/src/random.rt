@@ -5,35 +5,35 @@ use bpf_testing::Random;
 use std::alloc::{AllocError, Global};
 use std::process::Abort;
 
-/// A command.
-fn command(alloc: Global, random: &mut Random) -> Result<String, AllocError> {
+/// A command, with counts up to `most`.
+fn command(alloc: Global, random: &mut Random, most: u64) -> Result<String, AllocError> {
     match random.below(7) {
         0 => edit(alloc, random),
-        1 | 2 => back(alloc, random),
-        3 => format!(in alloc; "redo {}", random.up_to(12)),
+        1 | 2 => back(alloc, random, most),
+        3 => format!(in alloc; "redo {}", random.up_to(most)),
         4 => shown(alloc, random),
-        _ => forward(alloc, random),
+        _ => forward(alloc, random, most),
     }
 }
 
 /// A command that goes forward.
-fn forward(alloc: Global, random: &mut Random) -> Result<String, AllocError> {
+fn forward(alloc: Global, random: &mut Random, most: u64) -> Result<String, AllocError> {
     match random.below(8) {
         0 => format!(in alloc; "continue"),
         1 => format!(in alloc; "nexti"),
         2 => format!(in alloc; "finish"),
-        _ => format!(in alloc; "stepi {}", random.up_to(20)),
+        _ => format!(in alloc; "stepi {}", random.up_to(most)),
     }
 }
 
 /// A command that goes back.
-fn back(alloc: Global, random: &mut Random) -> Result<String, AllocError> {
+fn back(alloc: Global, random: &mut Random, most: u64) -> Result<String, AllocError> {
     match random.below(8) {
         0 => format!(in alloc; "reverse-continue"),
         1 => format!(in alloc; "reverse-nexti"),
         2 => format!(in alloc; "reverse-finish"),
         3 | 4 => format!(in alloc; "undo {}", random.up_to(3)),
-        _ => format!(in alloc; "reverse-stepi {}", random.up_to(12)),
+        _ => format!(in alloc; "reverse-stepi {}", random.up_to(most)),
     }
 }
 
@@ -79,11 +79,11 @@ fn address(random: &mut Random) -> u64 {
     }
 }
 
-/// A script of so many commands. Each of them is followed by a look at the history.
-fn script(rt: &impl Abort, alloc: Global, random: &mut Random, commands: usize) -> String {
+/// A script of 60 commands. Each of them is followed by a look at the history.
+fn script(rt: &impl Abort, alloc: Global, random: &mut Random, most: u64) -> String {
     let mut lines = String::new(alloc);
-    for _ in 0..commands {
-        let line = command(alloc, random).ok().expect(rt, "no memory");
+    for _ in 0..60 {
+        let line = command(alloc, random, most).ok().expect(rt, "no memory");
         lines.push_str(&line).ok().expect(rt, "no memory");
         lines
             .push_str("\ninfo history\n")
@@ -104,31 +104,21 @@ bfa200000000000007020000e8ffffff620ae8ff0100000018510000000000000000000000000000
 /// The context.
 const CONTEXT: [u8; 8] = [1, 2, 3, 4, 5, 6, 7, 8];
 
-/// The most steps of a command.
-const LIMIT: u64 = 100;
-
-/// Plays so many random scripts of so many commands with journals of a size. Between two of them both sessions are closed and opened again, the
-/// ring's over a ring that was taken out and put back.
-fn check_scripts(
-    rt: &impl Abort,
-    alloc: Global,
-    size: usize,
-    seed: u64,
-    scripts: usize,
-    commands: usize,
-) {
+/// Plays four random scripts with journals of a size, with counts up to `most`, and with that limit of steps. Between two of them both sessions are
+/// closed and opened again, the ring's over a ring that was taken out and put back.
+fn check_scripts(rt: &impl Abort, alloc: Global, size: usize, most: u64, limit: u64, seed: u64) {
     let mut random = Random::new(seed);
     let cpu = machine_on(rt, alloc, LOOP, "8x2", &CONTEXT);
-    let mut list = session_over(rt, alloc, cpu, size, LIMIT);
+    let mut list = session_over(rt, alloc, cpu, size, limit);
     let cpu = machine_on(rt, alloc, LOOP, "8x2", &CONTEXT);
-    let mut ring = ring_session_over(rt, alloc, cpu, size, LIMIT);
-    for _ in 0..scripts {
-        let lines = script(rt, alloc, &mut random, commands);
+    let mut ring = ring_session_over(rt, alloc, cpu, size, limit);
+    for _ in 0..4 {
+        let lines = script(rt, alloc, &mut random, most);
         let wanted = printed(rt, alloc, &mut list, lines.as_bytes(), 1_024);
         let found = printed(rt, alloc, &mut ring, lines.as_bytes(), 1_024);
         check_bytes(rt, &found, &wanted, &lines);
-        list = reopened(rt, alloc, list, LIMIT);
-        ring = passed_on(rt, alloc, ring, LIMIT);
+        list = reopened(rt, alloc, list, limit);
+        ring = passed_on(rt, alloc, ring, limit);
     }
 }
 
@@ -136,18 +126,26 @@ fn check_scripts(
 const SEEDS: u64 = 6;
 
 /// The same of each size and each of its seeds.
-fn check_sizes(rt: &impl Abort, alloc: Global, scripts: usize, commands: usize) {
+fn check_sizes(rt: &impl Abort, alloc: Global, most: u64, limit: u64) {
     let mut seeds = Random::new(0);
     for size in 1_024usize..1_041 {
         for _ in 0..SEEDS {
-            check_scripts(rt, alloc, size, seeds.next(), scripts, commands);
+            check_scripts(rt, alloc, size, most, limit, seeds.next());
         }
     }
 }
 
 #[test]
 fn random_scripts_over_a_ring_and_over_a_list(rt: HostRuntime) {
-    check_sizes(&rt, rt.alloc(), 4, 60);
+    check_sizes(&rt, rt.alloc(), 20, 100);
+}
+
+// A ring's block is given 4,096 bytes more each time that it is full, up to the journal's size. A round of the loop leaves entries of some
+// 970 bytes.
+#[test]
+fn random_scripts_while_a_block_grows(rt: HostRuntime) {
+    check_scripts(&rt, rt.alloc(), 8_192, 400, 1_000, 1);
+    check_scripts(&rt, rt.alloc(), 65_536, 400, 1_000, 2);
 }
 
 /// The first numbers of a seed are those that the generator's description has.
