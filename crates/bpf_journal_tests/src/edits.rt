@@ -1,6 +1,6 @@
 //! Edits at the first, the last and one past the last byte of each region, in every status. Expected values were worked out from
 //! where the platform puts its regions, and from the weights of entries.
-use crate::machines::{check_found, cut, machine_after, parts, row, timeline};
+use crate::machines::{check_found, course, cut, machine_after, parts, row};
 use crate::moves::answer;
 use crate::play::played;
 use crate::seen::state_text;
@@ -105,10 +105,10 @@ const ANSWERS: &str =
 fn check_taken_back(rt: &impl Abort, alloc: Global, machine: &str) {
     let cpu = machine_of(rt, alloc, machine);
     let before = state_text(rt, alloc, &cpu);
-    let mut timeline = timeline(rt, alloc, cpu, 1_024);
-    let found = played(rt, alloc, &mut timeline, EDITS_MADE);
+    let mut course = course(rt, alloc, cpu, 1_024);
+    let found = played(rt, alloc, &mut course, EDITS_MADE);
     check_found(rt, found.as_str(), ANSWERS, machine);
-    let after = state_text(rt, alloc, timeline.cpu());
+    let after = state_text(rt, alloc, course.cpu());
     check_found(rt, after.as_str(), before.as_str(), machine);
 }
 

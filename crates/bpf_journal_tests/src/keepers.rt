@@ -1,10 +1,10 @@
 //! What a keeper holds of a long run, and which sizes a journal has. Expected values were worked out from the weights of entries.
-use crate::machines::{check_found, count, cut, machine, machine_after, parts, timeline};
+use crate::machines::{check_found, count, course, cut, machine, machine_after, parts};
 use crate::moves::answer;
 use crate::play::played;
 use crate::seen::{add, kept, state_text};
 use crate::walks::entries;
-use bpf_journal::{JournalFault, Keeper, ListKeeper, Timeline, laws};
+use bpf_journal::{Course, JournalFault, Keeper, ListKeeper, laws};
 use bpf_machine::Cpu;
 use std::alloc::Global;
 use std::process::Abort;
@@ -73,6 +73,9 @@ const PLAYS: &str = "\
 07000000010000000500feff00000000; 11; jump 1; steps 9, step, steps 9, step, steps 9, step, steps 9, step, steps 9, step, steps 9, step, steps 9, step, steps 9, step, steps 9, step, steps 9, step, counts, all back, back, counts | 9 steps, ok, 9 steps, ok, 9 steps, ok, 9 steps, ok, 9 steps, ok, 9 steps, ok, 9 steps, ok, 9 steps, ok, 9 steps, ok, 9 steps, ok, 89 kept 9 marked 1019 of 1024 0 refused, 89 back, none, 0 kept 0 marked 0 of 1024 0 refused
 07000000010000000500feff00000000; 10; register 0 r0 5; steps 9, step, last, last, counts | 9 steps, ok, jump 1; 7 marked, jump 1; 7 marked, 10 kept 1 marked 115 of 1024 0 refused
 07000000010000000500feff00000000; 0; register 0 r0 0; step, reg 3 7, steps 1, back, back, back, back | ok, ok, 1 steps, step, marked edit, marked step, none
+07000000010000000500feff00000000; 10; register 0 r0 5; run 9, run 1, back, back, ahead, redo, redo, redo, counts | 9 run, 1 run, marked step, step, 2 ahead, again, again, none, 10 kept 2 marked 115 of 1024 0 refused
+07000000010000000500feff00000000; 11; jump 1; run 100, counts, all back, counts | 100 run, 89 kept 0 marked 1019 of 1024 0 refused, 89 back, 0 kept 0 marked 0 of 1024 0 refused
+9500000000000000; 1; ended; run 2, run 2, counts | 1 run, 0 run, 1 kept 1 marked 5 of 1024 0 refused
 9500000000000000; 1; ended; step, step, counts | ok, ended, 1 kept 1 marked 5 of 1024 0 refused
 ";
 
@@ -96,9 +99,9 @@ fn played_row(rt: &impl Abort, alloc: Global, row: &str) -> String {
     let (steps, rest) = cut(rt, rest);
     let (next, moves) = cut(rt, rest);
     let cpu = machine(rt, alloc, program, "0102030405060708");
-    let mut timeline = timeline(rt, alloc, cpu, 1_024);
-    let mut text = played(rt, alloc, &mut timeline, moves);
-    let (mut cpu, _keeper) = timeline.close();
+    let mut course = course(rt, alloc, cpu, 1_024);
+    let mut text = played(rt, alloc, &mut course, moves);
+    let (mut cpu, _keeper) = course.close();
     let same = machine_after(rt, alloc, program, "0102030405060708", steps);
     if !is_in_state(rt, alloc, &cpu, &same) {
         add(rt, &mut text, ", and another state");
@@ -120,9 +123,9 @@ fn steps_to(rt: &impl Abort, alloc: Global, cpu: &mut Cpu, next: &str) -> bool {
 }
 
 /// The weights of what is kept, from the newest to the oldest, by walking back.
-fn weights<K: Keeper>(rt: &impl Abort, alloc: Global, timeline: &Timeline<K>) -> String {
+fn weights<K: Keeper>(rt: &impl Abort, alloc: Global, course: &Course<K>) -> String {
     let mut text = String::new(alloc);
-    for kept in entries(rt, alloc, timeline).iter() {
+    for kept in entries(rt, alloc, course).iter() {
         add_number(rt, alloc, &mut text, kept.0.weight());
     }
     text
@@ -142,20 +145,20 @@ const WEIGHTS: &str = "\
 #[test]
 fn walking_back_meets_each_entry(rt: HostRuntime) {
     let cpu = machine(&rt, rt.alloc(), LOOP, "");
-    let mut timeline = timeline(&rt, rt.alloc(), cpu, 1_024);
-    let _steps = played(&rt, rt.alloc(), &mut timeline, "steps 100");
-    let found = weights(&rt, rt.alloc(), &timeline);
+    let mut course = course(&rt, rt.alloc(), cpu, 1_024);
+    let _steps = played(&rt, rt.alloc(), &mut course, "steps 100");
+    let found = weights(&rt, rt.alloc(), &course);
     check_found(&rt, found.as_str(), WEIGHTS, "steps 100");
 }
 
 /// Takes a hundred steps, and tells how many were refused. Where a refused one changed something it tells that.
-fn refused_steps(rt: &impl Abort, alloc: Global, timeline: &mut Timeline<ListKeeper>) -> String {
+fn refused_steps(rt: &impl Abort, alloc: Global, course: &mut Course<ListKeeper>) -> String {
     let mut refused = 0u64;
     for _ in 0..100 {
-        let (len, pc) = (timeline.len(), timeline.cpu().pc());
-        if timeline.step(false).is_err() {
+        let (len, pc) = (course.len(), course.cpu().pc());
+        if course.step(false).is_err() {
             refused = refused.saturating_add(1);
-            if timeline.len() != len || timeline.cpu().pc() != pc {
+            if course.len() != len || course.cpu().pc() != pc {
                 return kept(rt, format!(in alloc; "a refused step changed something"));
             }
         }
@@ -167,9 +170,9 @@ fn refused_steps(rt: &impl Abort, alloc: Global, timeline: &mut Timeline<ListKee
 #[test]
 fn a_refused_push_changes_nothing(rt: HostRuntime) {
     let cpu = machine(&rt, rt.alloc(), LOOP, "");
-    let mut timeline = timeline(&rt, rt.alloc(), cpu, 16_777_216);
-    let found = refused_steps(&rt, rt.alloc(), &mut timeline);
-    let refusals = timeline.keeper().refusals();
+    let mut course = course(&rt, rt.alloc(), cpu, 16_777_216);
+    let found = refused_steps(&rt, rt.alloc(), &mut course);
+    let refusals = course.keeper().refusals();
     let wanted = kept(&rt, format!(in rt.alloc(); "{refusals}"));
     check_found(&rt, found.as_str(), wanted.as_str(), "refused steps");
 }

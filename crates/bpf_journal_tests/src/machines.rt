@@ -1,6 +1,9 @@
 //! Machines with journals that the tests' rows are about.
+ghost use Rattle.std.specs.Prelude.{◌≡◌, []};
+ghost use Rattle.bpf_journal.specs.Tracks.{RingHolds, ring_room};
+
 use bpf_isa::{MapTable, check};
-use bpf_journal::{ListKeeper, RingKeeper, Timeline};
+use bpf_journal::{Course, Keeper, ListKeeper, RingKeeper, Timeline};
 use bpf_machine::Cpu;
 use bpf_testing::{Row, bytes_of, parts_of, row_of};
 use std::alloc::Global;
@@ -87,15 +90,35 @@ pub fn timeline(rt: &impl Abort, alloc: Global, cpu: Cpu, size: usize) -> Timeli
     }
 }
 
+/// The same, where the moves that are taken back can be made again.
+pub fn course(rt: &impl Abort, alloc: Global, cpu: Cpu, size: usize) -> Course<ListKeeper> {
+    match ListKeeper::open(alloc, size) {
+        Ok(keeper) => {
+            let redo = ring_for(rt, alloc, &keeper);
+            Course::open(cpu, keeper, redo)
+        }
+        Err(_) => panic!(rt; "no journal"),
+    }
+}
+
 /// The same with a ring of so many bytes.
-pub fn ring_timeline(
-    rt: &impl Abort,
-    alloc: Global,
-    cpu: Cpu,
-    size: usize,
-) -> Timeline<RingKeeper> {
+pub fn ring_course(rt: &impl Abort, alloc: Global, cpu: Cpu, size: usize) -> Course<RingKeeper> {
     match RingKeeper::open(alloc, size) {
-        Ok(keeper) => Timeline::start(cpu, keeper),
+        Ok(keeper) => {
+            let redo = ring_for(rt, alloc, &keeper);
+            Course::open(cpu, keeper, redo)
+        }
+        Err(_) => panic!(rt; "no ring"),
+    }
+}
+
+/// An empty ring for the moves that will be taken back from a keeper.
+pub fn ring_for<K: Keeper>(rt: &impl Abort, alloc: Global, keeper: &K) -> RingKeeper
+    ensures empty { RingHolds result [] }
+    ensures size { ring_room result ≡ K.room keeper.now }
+{
+    match RingKeeper::open(alloc, keeper.capacity()) {
+        Ok(ring) => ring,
         Err(_) => panic!(rt; "no ring"),
     }
 }

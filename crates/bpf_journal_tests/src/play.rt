@@ -1,17 +1,33 @@
-//! Moves that are made in a timeline, and what each of them answers.
+//! Moves that are made, taken back and made again, and what each of them answers.
 use crate::machines::count;
 use crate::moves::move_of;
 use crate::seen::{add, entry_text, kept, place_text, refusal};
-use bpf_journal::{Keeper, MoveFault, Taken, Timeline, TimelineFault};
+use bpf_journal::{Course, Keeper, Move, MoveFault, StopTest, Taken, TimelineFault};
+use bpf_machine::Cpu;
 use std::alloc::Global;
 use std::process::Abort;
 
+/// A test by which no run stops.
+#[derive(Clone, Copy)]
+struct Never {}
+
+impl StopTest for Never {
+    ghost use Rattle.std.specs.Prelude.{false};
+
+    ghost test = { λ never replaced y. false };
+
+    fn holds(&self, _cpu: &Cpu, _replaced: bool) -> bool {
+        false
+    }
+}
+
 /// What some moves and shows answer, which are parted by commas. `step` and the edits are made and marked, `steps 8` takes so many unmarked
-/// steps, `back` goes back by one and `all back` as far as it can; `place`, `counts` and `last` show where the machine stands and what is kept.
+/// steps, and `run 8` so many in one run, which marks the first one. `back` goes back by one and `all back` as far as it can, and `redo` makes a
+/// move again. `place`, `counts`, `ahead` and `last` show where the machine stands, what is kept and what can be made again.
 pub fn played<K: Keeper>(
     rt: &impl Abort,
     alloc: Global,
-    timeline: &mut Timeline<K>,
+    course: &mut Course<K>,
     moves: &str,
 ) -> String {
     let mut text = String::new(alloc);
@@ -19,7 +35,7 @@ pub fn played<K: Keeper>(
         if !text.is_empty() {
             add(rt, &mut text, ", ");
         }
-        add(rt, &mut text, &answer(rt, alloc, timeline, words));
+        add(rt, &mut text, &answer(rt, alloc, course, words));
     }
     text
 }
@@ -28,41 +44,54 @@ pub fn played<K: Keeper>(
 fn answer<K: Keeper>(
     rt: &impl Abort,
     alloc: Global,
-    timeline: &mut Timeline<K>,
+    course: &mut Course<K>,
     words: &str,
 ) -> String {
     match words {
-        "back" => kept(rt, format!(in alloc; "{}", taken(timeline.back()))),
-        "all back" => kept(rt, format!(in alloc; "{} back", all_back(timeline))),
-        "place" => place_text(rt, alloc, timeline.cpu()),
-        "counts" => counts(rt, alloc, timeline),
-        "last" => last(rt, alloc, timeline),
-        _ => made_text(rt, alloc, timeline, words),
+        "back" => kept(rt, format!(in alloc; "{}", taken(course.back()))),
+        "redo" => kept(rt, format!(in alloc; "{}", again(course.redo()))),
+        "all back" => kept(rt, format!(in alloc; "{} back", all_back(course))),
+        "place" => place_text(rt, alloc, course.cpu()),
+        "counts" => counts(rt, alloc, course),
+        "ahead" => kept(rt, format!(in alloc; "{} ahead", course.ahead())),
+        "last" => last(rt, alloc, course),
+        _ => moved_text(rt, alloc, course, words),
     }
 }
 
-/// What a move answers that is made.
-fn made_text<K: Keeper>(
+/// What steps, a run or a move answer.
+fn moved_text<K: Keeper>(
     rt: &impl Abort,
     alloc: Global,
-    timeline: &mut Timeline<K>,
+    course: &mut Course<K>,
     words: &str,
 ) -> String {
-    match words.strip_prefix("steps ") {
-        Some(many) => {
-            let made = steps(timeline, count(rt, many));
-            kept(rt, format!(in alloc; "{made} steps"))
-        }
-        None => {
-            let answer = timeline.make(&move_of(rt, alloc, words), true);
-            kept(rt, format!(in alloc; "{}", made(answer)))
-        }
+    if let Some(many) = words.strip_prefix("steps ") {
+        let made = steps(course, count(rt, many));
+        return kept(rt, format!(in alloc; "{made} steps"));
+    }
+    if let Some(many) = words.strip_prefix("run ") {
+        let made = run(course, count(rt, many));
+        return kept(rt, format!(in alloc; "{made} run"));
+    }
+    let answer = make(course, &move_of(rt, alloc, words));
+    kept(rt, format!(in alloc; "{}", made(answer)))
+}
+
+/// Makes a move with a mark.
+fn make<K: Keeper>(course: &mut Course<K>, change: &Move) -> Result<(), TimelineFault> {
+    match change {
+        Move::Step => match course.step(true) {
+            Ok(_) => Ok(()),
+            Err(fault) => Err(fault),
+        },
+        Move::Edit(edit) => course.edit(edit, true),
     }
 }
 
 /// The newest entry that is kept.
-fn last<K: Keeper>(rt: &impl Abort, alloc: Global, timeline: &Timeline<K>) -> String {
-    match timeline.keeper().last() {
+fn last<K: Keeper>(rt: &impl Abort, alloc: Global, course: &Course<K>) -> String {
+    match course.keeper().last() {
         Some((entry, mark)) => {
             let mut text = entry_text(rt, alloc, &entry);
             add(rt, &mut text, if mark { " marked" } else { "" });
@@ -73,19 +102,27 @@ fn last<K: Keeper>(rt: &impl Abort, alloc: Global, timeline: &Timeline<K>) -> St
 }
 
 /// Takes so many unmarked steps, and answers how many were made.
-fn steps<K: Keeper>(timeline: &mut Timeline<K>, count: usize) -> usize {
+fn steps<K: Keeper>(course: &mut Course<K>, count: usize) -> usize {
     for k in 0..count {
-        if timeline.step(false).is_err() {
+        if course.step(false).is_err() {
             return k;
         }
     }
     count
 }
 
+/// Takes so many steps in one run, or up to the machine's end, and answers how many were made.
+fn run<K: Keeper>(course: &mut Course<K>, count: usize) -> u64 {
+    if count == 0 || course.cpu().status().has_ended() {
+        return 0;
+    }
+    course.run(count as u64, &Never {}).steps
+}
+
 /// Goes back as far as it can, and answers by how many moves.
-fn all_back<K: Keeper>(timeline: &mut Timeline<K>) -> u64 {
+fn all_back<K: Keeper>(course: &mut Course<K>) -> u64 {
     for k in 0..1_000 {
-        if timeline.back().is_none() {
+        if course.back().is_none() {
             return k;
         }
     }
@@ -99,6 +136,15 @@ fn made(answer: Result<(), TimelineFault>) -> &'static str {
         Err(TimelineFault::Move(MoveFault::Ended)) => "ended",
         Err(TimelineFault::Move(MoveFault::Edit(fault))) => refusal(fault),
         Err(TimelineFault::OutOfMemory) => "out of memory",
+    }
+}
+
+/// What making a move again tells.
+fn again(answer: Result<bool, TimelineFault>) -> &'static str {
+    match answer {
+        Ok(true) => "again",
+        Ok(false) => "none",
+        Err(_) => "out of memory",
     }
 }
 
@@ -116,8 +162,8 @@ fn taken(answer: Option<Taken>) -> &'static str {
 }
 
 /// How much is kept.
-fn counts<K: Keeper>(rt: &impl Abort, alloc: Global, timeline: &Timeline<K>) -> String {
-    let keeper = timeline.keeper();
+fn counts<K: Keeper>(rt: &impl Abort, alloc: Global, course: &Course<K>) -> String {
+    let keeper = course.keeper();
     let (len, marked, weight) = (keeper.len(), keeper.marked(), keeper.weight());
     let (capacity, refusals) = (keeper.capacity(), keeper.refusals());
     kept(

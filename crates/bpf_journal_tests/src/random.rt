@@ -5,15 +5,18 @@ use bpf_testing::Random;
 use std::alloc::Global;
 use std::process::Abort;
 
-/// The words of a random move of a machine: steps, edits, and moves back.
-pub fn random_words(rt: &impl Abort, alloc: Global, random: &mut Random) -> String {
-    let words = match random.below(16) {
+/// The words of random moves of a machine: steps, runs of `most` steps at most, edits, and moves back and again.
+pub fn random_words(rt: &impl Abort, alloc: Global, random: &mut Random, most: u64) -> String {
+    let words = match random.below(20) {
         0 => register_words(alloc, random),
         1 | 2 => bytes_words(alloc, random),
         3 => cell_words(alloc, random),
         4 | 5 => format!(in alloc; "pc {:x}", random.below(30)),
         6 | 7 => format!(in alloc; "back"),
-        8 | 9 => format!(in alloc; "steps {}", random.up_to(5)),
+        8 => format!(in alloc; "back, back, back, redo, redo"),
+        9 => format!(in alloc; "redo"),
+        10 | 11 => format!(in alloc; "steps {}", random.up_to(5)),
+        12..=15 => format!(in alloc; "run {}", random.up_to(most)),
         _ => format!(in alloc; "step"),
     };
     kept(rt, words)

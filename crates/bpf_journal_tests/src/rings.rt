@@ -1,13 +1,13 @@
 //! A ring and a list that keep the same moves: what the ring holds is what the list holds, and the ring's bytes are the texts of that.
 ghost use Rattle.bpf_journal.specs.Histories.{HasHistory};
 
-use crate::machines::{check_found, count, cut, machine_on, ring_timeline, row, timeline};
+use crate::machines::{check_found, count, course, cut, machine_on, ring_course, ring_for, row};
 use crate::play::played;
 use crate::random::random_words;
 use crate::seen::kept;
 use crate::texts::{cuts_from_back, cuts_from_front, journal_of};
 use crate::walks::entries;
-use bpf_journal::{Keeper, ListKeeper, RingKeeper, Timeline};
+use bpf_journal::{Course, Keeper, ListKeeper, RingKeeper, Timeline};
 use bpf_machine::Cpu;
 use bpf_testing::Random;
 use std::alloc::Global;
@@ -16,8 +16,8 @@ use std::process::Abort;
 /// A machine with its moves in a list, and the same with its moves in a ring.
 #[derive(Drop)]
 struct Pair {
-    list: Timeline<ListKeeper>,
-    ring: Timeline<RingKeeper>,
+    list: Course<ListKeeper>,
+    ring: Course<RingKeeper>,
 }
 
 /// Two machines with a program, a map of two values of 256 bytes, a context of 8 bytes, and empty journals of so many bytes.
@@ -26,8 +26,8 @@ fn opened(rt: &impl Abort, alloc: Global, program: &str, size: usize) -> Pair {
     let list = machine_on(rt, alloc, program, "256x2", context);
     let ring = machine_on(rt, alloc, program, "256x2", context);
     Pair {
-        list: timeline(rt, alloc, list, size),
-        ring: ring_timeline(rt, alloc, ring, size),
+        list: course(rt, alloc, list, size),
+        ring: ring_course(rt, alloc, ring, size),
     }
 }
 
@@ -74,7 +74,7 @@ fn cut_otherwise(bytes: &[u8], entries: usize) -> &'static str {
 
 /// Makes moves with both. Stops unless the ring answers as the list does, and then holds the same.
 fn both(rt: &impl Abort, alloc: Global, pair: &mut Pair, moves: &str, row: &str) {
-    let moves = kept(rt, format!(in alloc; "{moves}, place, counts, last"));
+    let moves = kept(rt, format!(in alloc; "{moves}, place, counts, ahead, last"));
     let wanted = played(rt, alloc, &mut pair.list, &moves);
     let found = played(rt, alloc, &mut pair.ring, &moves);
     check_found(rt, found.as_str(), wanted.as_str(), row);
@@ -132,7 +132,7 @@ fn fill(rt: &impl Abort, alloc: Global, pair: &mut Pair, most: usize, row: &str)
     check_found(rt, found.as_str(), wanted.as_str(), row);
 }
 
-/// Makes the move of a row where so many bytes are left before the end of the block, and takes it back.
+/// Makes the moves of a row where so many bytes are left before the end of the block, takes the last one back and makes it again.
 fn goes_around(rt: &impl Abort, alloc: Global, line: &str, size: usize, gap: usize) {
     let row = row(rt, line);
     let (program, rest) = cut(rt, row.input);
@@ -145,6 +145,7 @@ fn goes_around(rt: &impl Abort, alloc: Global, line: &str, size: usize, gap: usi
     both(rt, alloc, &mut pair, moved, line);
     check_newest(rt, alloc, &pair, line);
     both(rt, alloc, &mut pair, "back", line);
+    both(rt, alloc, &mut pair, "redo", line);
 }
 
 /// The weight of the newest entry of a ring.
@@ -191,14 +192,26 @@ fn put_back(cpu: &Cpu, keeper: RingKeeper) -> RingKeeper
     RingKeeper::from_ring(keeper.into_ring())
 }
 
-/// The same machines, with the ring taken out and put back.
-fn passed_on(pair: Pair) -> Pair {
+/// The course of a machine and a keeper whose newest move a timeline takes back. No move of it can be made again.
+fn opened_again<K: Keeper>(rt: &impl Abort, alloc: Global, cpu: Cpu, keeper: K) -> Course<K>
+    requires { HasHistory K.holds keeper cpu }
+{
+    let mut timeline = Timeline::open(cpu, keeper);
+    let _taken = timeline.back();
+    let (cpu, keeper) = timeline.close();
+    let redo = ring_for(rt, alloc, &keeper);
+    Course::open(cpu, keeper, redo)
+}
+
+/// The same machines a move before, with the ring taken out and put back. What was taken back is forgotten.
+fn passed_on(rt: &impl Abort, alloc: Global, pair: Pair) -> Pair {
     let Pair { list, ring } = pair;
+    let (list_cpu, list) = list.close();
     let (cpu, keeper) = ring.close();
     let keeper = put_back(&cpu, keeper);
     Pair {
-        list,
-        ring: Timeline::open(cpu, keeper),
+        list: opened_again(rt, alloc, list_cpu, list),
+        ring: opened_again(rt, alloc, cpu, keeper),
     }
 }
 
@@ -211,15 +224,15 @@ bfa200000000000007020000e8ffffff620ae8ff0100000018510000000000000000000000000000
 07030000e8feffffb7040000000000008500000002000000bf0100000000000085000000400000005509e8ff05000000\
 9500000000000000b707000003000000737affff000000009500000000000000";
 
-/// Makes random moves in journals of so many bytes, and now and then takes the ring out and puts it back.
-fn check_moves(rt: &impl Abort, alloc: Global, size: usize, seed: u64, moves: usize) {
+/// Makes random moves in journals of so many bytes, runs of `most` steps at most, and now and then takes the ring out and puts it back.
+fn check_moves(rt: &impl Abort, alloc: Global, size: usize, most: u64, seed: u64, moves: usize) {
     let mut random = Random::new(seed);
     let mut pair = opened(rt, alloc, LOOP, size);
     for _ in 0..moves {
-        let words = random_words(rt, alloc, &mut random);
+        let words = random_words(rt, alloc, &mut random, most);
         both(rt, alloc, &mut pair, &words, &words);
         if random.below(16) == 0 {
-            pair = passed_on(pair);
+            pair = passed_on(rt, alloc, pair);
             both(rt, alloc, &mut pair, "place", "put back");
         }
     }
@@ -233,7 +246,7 @@ const SEEDS: u64 = 8;
 fn check_sizes(rt: &impl Abort, alloc: Global, moves: usize) {
     for size in 1_024usize..1_041 {
         for seed in 1..=SEEDS {
-            check_moves(rt, alloc, size, seed, moves);
+            check_moves(rt, alloc, size, 60, seed, moves);
         }
     }
 }

@@ -1,5 +1,5 @@
 //! What a keeper holds, read by walking back.
-use bpf_journal::{Keeper, Timeline};
+use bpf_journal::{Course, Keeper};
 use bpf_machine::Entry;
 use std::alloc::Global;
 use std::process::Abort;
@@ -8,10 +8,10 @@ use std::process::Abort;
 pub fn entries<K: Keeper>(
     rt: &impl Abort,
     alloc: Global,
-    timeline: &Timeline<K>,
+    course: &Course<K>,
 ) -> Vec<(Entry, bool)> {
-    timeline.invariant();
-    let keeper = timeline.keeper();
+    course.invariant();
+    let keeper = course.keeper();
     let mut entries = Vec::new(alloc);
     let mut at = keeper.end();
     for _ in 0..keeper.len().saturating_add(1) {

@@ -1,8 +1,8 @@
 //! Worked rows: programs with their registers, bytes and weights. Expected values were worked out from RFC 9669 and docs/MACHINE.md.
-use crate::machines::{check_found, count, cut, machine, row, timeline};
+use crate::machines::{check_found, count, course, cut, machine, row};
 use crate::play::played;
 use crate::seen::{add, digits, kept, place_text, register, state_text};
-use bpf_journal::{Keeper, ListKeeper, Timeline};
+use bpf_journal::{Course, Keeper, ListKeeper};
 use std::alloc::Global;
 use std::process::Abort;
 
@@ -48,27 +48,23 @@ fn played_row(rt: &impl Abort, alloc: Global, input: &str) -> String {
     let program = kept(rt, format!(in alloc; "{program}9500000000000000"));
     let cpu = machine(rt, alloc, &program, context);
     let before = state_text(rt, alloc, &cpu);
-    let mut timeline = timeline(rt, alloc, cpu, 65_536);
-    let mut text = played(rt, alloc, &mut timeline, moves);
+    let mut course = course(rt, alloc, cpu, 65_536);
+    let mut text = played(rt, alloc, &mut course, moves);
     add(rt, &mut text, "; ");
-    add(
-        rt,
-        &mut text,
-        &seen(rt, alloc, &timeline, context.len() / 2),
-    );
-    if timeline.len() != count(rt, kept_moves) {
+    add(rt, &mut text, &seen(rt, alloc, &course, context.len() / 2));
+    if course.len() != count(rt, kept_moves) {
         add(rt, &mut text, ", and another number of moves");
     }
-    let _back = played(rt, alloc, &mut timeline, "all back");
-    if state_text(rt, alloc, timeline.cpu()).as_str() != before.as_str() {
+    let _back = played(rt, alloc, &mut course, "all back");
+    if state_text(rt, alloc, course.cpu()).as_str() != before.as_str() {
         add(rt, &mut text, ", and another state");
     }
     text
 }
 
 /// What is seen of a machine and its journal.
-fn seen(rt: &impl Abort, alloc: Global, timeline: &Timeline<ListKeeper>, context: usize) -> String {
-    let cpu = timeline.cpu();
+fn seen(rt: &impl Abort, alloc: Global, course: &Course<ListKeeper>, context: usize) -> String {
+    let cpu = course.cpu();
     let mut text = place_text(rt, alloc, cpu);
     add(rt, &mut text, ":");
     for number in [0, 1, 6, 10] {
@@ -80,7 +76,7 @@ fn seen(rt: &impl Abort, alloc: Global, timeline: &Timeline<ListKeeper>, context
         let run = cpu.peek(0x1_0000_0000, context).expect(rt, "no context");
         add(rt, &mut text, &digits(rt, alloc, run));
     }
-    let weight = timeline.keeper().weight();
+    let weight = course.keeper().weight();
     add(rt, &mut text, &kept(rt, format!(in alloc; ", {weight}")));
     text
 }

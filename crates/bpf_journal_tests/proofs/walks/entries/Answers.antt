@@ -6,8 +6,8 @@ use Rattle.bpf_journal_tests.proofs.walks.entries.Goals as goal
 pub loop-init : goal.loop-init
 loop-init g c =
     let i = c.invariant.ensures in
-    let held = subst (λ k. g.K.Keeper.holds k (map kept_of i.history)) (sym c.keeper-keeper.ensures) i.stands.0 in
-    place_of_all g.K.Keeper.holds g.K.Keeper.place _ (map kept_of i.history) _ held (c.end-at.ensures _ held)
+    let held = subst (λ k. g.K.Keeper.holds k (map kept_of i.track.history)) (sym c.keeper-keeper.ensures) i.follows.history.0 in
+    place_of_all g.K.Keeper.holds g.K.Keeper.place _ (map kept_of i.track.history) _ held (c.end-at.ensures _ held)
 
 pub loop-preserved : goal.loop-preserved
 loop-preserved g c =
