@@ -169,18 +169,43 @@ fn weight_of(rt: &impl Abort, line: &str) -> usize {
     count(rt, row(rt, line).expected)
 }
 
-/// The same of each row, and of each place at which its entry can be cut by the end, and of both its edges.
-fn check_entries(rt: &impl Abort, alloc: Global, table: &str, size: usize) {
+/// The same of each row, and of each place at which its entry can be cut by the end, and of those behind it. In front of it so many bytes
+/// are written by its moves.
+fn check_entries(rt: &impl Abort, alloc: Global, table: &str, size: usize, front: usize) {
     for row in table.lines() {
-        for gap in 0..weight_of(rt, row).saturating_add(1) {
-            goes_around(rt, alloc, row, size, gap);
+        for gap in 0..weight_of(rt, row).saturating_add(3) {
+            goes_around(rt, alloc, row, size, gap.saturating_add(front));
         }
     }
 }
 
 #[test]
 fn each_entry_goes_around_the_end(rt: HostRuntime) {
-    check_entries(&rt, rt.alloc(), ENTRIES, 1_024);
+    check_entries(&rt, rt.alloc(), ENTRIES, 1_024, 0);
+}
+
+// The same rows of steps, where the step is the second one of a run: in front of it goes a jump, whose entry has 7 bytes.
+const RUNS: &str = "\
+register | 05000000000000000700000001000000; place; run 2 | 16
+jump | 05000000000000000500000000000000; place; run 2 | 7
+call | 050000000000000085100000010000009500000000000000b706000005000000; place; run 2 | 519
+return | 85100000010000009500000000000000b7060000050000000500000000000000; steps 2; run 2 | 39
+a store of 8 bytes | 05000000000000007b11000000000000; place; run 2 | 24
+a store of 4 bytes | 05000000000000006201040001000000; place; run 2 | 20
+a store of 2 bytes | 05000000000000006a01060001000000; place; run 2 | 18
+a store of a byte | 05000000000000007201030007000000; place; run 2 | 17
+an addition of 8 bytes | 0500000000000000db11000000000000; place; run 2 | 24
+a fetch of 8 bytes | 0500000000000000db11000001000000; place; run 2 | 33
+a fetch of 4 bytes | 0500000000000000c3210000e1000000; place; run 2 | 29
+trace | 05000000000000008500000040000000; place; run 2 | 15
+exit | 0500000000000000; place; run 2 | 5
+a fault | 05000000000000007a0a000007000000; place; run 2 | 5
+an update | 05000000000000008500000002000000; reg 1 400000000, reg 2 2000001f8, reg 3 2000000f0; run 2 | 279
+";
+
+#[test]
+fn each_step_of_a_run_goes_around_the_end(rt: HostRuntime) {
+    check_entries(&rt, rt.alloc(), RUNS, 1_024, 7);
 }
 
 /// A keeper of the ring that another one gives up.
