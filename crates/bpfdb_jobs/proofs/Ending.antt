@@ -48,7 +48,7 @@ ends-unread kind job reader writer writer' NotText p = absurd p
 ends-unread kind job reader writer writer' (Refused refusal) p = (p.0, refl, p.1)
 ends-unread kind job reader writer writer' Input p = absurd p
 ends-unread kind job reader writer writer' Output p = (refl, p)
-ends-unread kind job reader writer writer' Memory p = (refl, p)
+ends-unread kind job reader writer writer' Memory p = (p.0, p.1, refl, p.2)
 ends-unread kind job reader writer writer' (StepLimit limit slot) p = absurd p
 
 -- an output that ends a job with status 2 wasn't written

@@ -11,14 +11,14 @@ use Rattle.counted_io.specs.Writing.{AppendsBeginning}
 use Rattle.bpf_machine.specs.State.{State, initial}
 use Rattle.bpf_session.specs.Plain.{plain_end}
 use Rattle.bpfdb_jobs.specs.Faults.{line_of, stop_line}
-use Rattle.bpfdb_jobs.specs.Jobs.{Opens, Spared}
+use Rattle.bpfdb_jobs.specs.Jobs.{Needs, Opens, Spared}
 use Rattle.bpfdb_jobs.specs.MapLines.{maps_line}
 use Rattle.bpfdb_jobs.specs.Refusals.{RefusesAs}
 use Rattle.bpfdb_jobs.specs.declared.fault.JobFault.{JobFault}
 use Rattle.bpfdb_jobs.specs.declared.fault.JobFault.TheVariants.{Refused, Input, Output, Memory}
 use Rattle.bpfdb_jobs.specs.declared.job.Job.{Job}
 use Rattle.bpfdb_jobs.specs.declared.job.JobKind.{JobKind}
-use Rattle.bpfdb_jobs.specs.declared.job.JobKind.TheVariants.{Run, Link}
+use Rattle.bpfdb_jobs.specs.declared.job.JobKind.TheVariants.{Run, Disasm, Link}
 
 -- A reader, a writer or standard error counted one failure.
 abbrev pub FailedOnce : {T : Type 0} → Tally T → Tally T → Type 0
@@ -33,10 +33,11 @@ abbrev pub Told : {T : Type 0} → (T → Option (List ℕ)) → Tally T → Tal
 Told contents old new line = (Appends (contents old.inner) (contents new.inner) line × Spared old new) ⊎ Loses contents old new line
 
 -- Which fault ends a job, by what it leaves of reader and writer: a refusal and want of memory leave both as they were, so nothing was
--- read and nothing written; else the read or the write that failed was counted.
+-- read and nothing written; else the read or the write that failed was counted. `disasm` alone, of a program that it has, ends by a want of
+-- memory that is no refusal.
 abbrev pub EndsBy : {R W : Type 0} → JobKind → Job → Tally R → Tally R → Tally W → Tally W → JobFault → Type 0
 EndsBy kind job reader reader' writer writer' (Refused refusal) = RefusesAs kind job refusal × (reader' ≡ reader) × (writer' ≡ writer)
-EndsBy kind job reader reader' writer writer' Memory = (reader' ≡ reader) × (writer' ≡ writer)
+EndsBy kind job reader reader' writer writer' Memory = (kind ≡ Disasm) × Needs kind job × (reader' ≡ reader) × (writer' ≡ writer)
 EndsBy kind job reader reader' writer writer' Input = FailedOnce reader reader' × Spared writer writer'
 EndsBy kind job reader reader' writer writer' Output = Spared reader reader' × FailedOnce writer writer'
 EndsBy kind job reader reader' writer writer' fault = ⊥
