@@ -1,11 +1,8 @@
 //! The job of a plan, done over any reader and writer.
-ghost use Rattle.std.specs.Prelude.{◌≡◌, ◌≢◌, ◌≤◌, ◌⊎◌, List, ℕ, Some};
+ghost use Rattle.std.specs.Prelude.{◌≡◌, ◌≢◌, ◌≤◌};
+ghost use Rattle.bpfdb.specs.Done.{DoesJob, ServesJob};
 ghost use Rattle.bpfdb.specs.Jobs.{IsJobOf, kind_of, layout_of, section_of};
 ghost use Rattle.bpfdb_cli.specs.declared.plans.Subcommand.TheVariants.{Gdb};
-ghost use Rattle.bpfdb_jobs.specs.Connections.{BreaksConnection, ServesConnection};
-ghost use Rattle.bpfdb_jobs.specs.Endings.{LosesLine, TellsDone, TellsFault, TellsStop};
-ghost use Rattle.bpfdb_jobs.specs.Jobs.{Completes, Needs, Spared, StopsShort};
-ghost use Rattle.bpfdb_jobs.specs.declared.job.JobKind.TheVariants.{Debug, Run};
 ghost use Rattle.bpfdb_limits.specs.Limits.{IsLimit};
 
 use bpf_journal::{Keeper, RingKeeper};
@@ -28,11 +25,10 @@ pub fn do_or_serve<R: Read, W: Write, E: Write>(
 ) -> u8
     requires limit { IsLimit plan.now.limit }
     ensures served { plan.now.subcommand ≡ Gdb → (job : Job) × IsJobOf plan.now file.now context.now job
-        × (result ≢ 2 → ServesConnection ⟦<RingKeeper as Keeper>⟧.holds ⟦<RingKeeper as Keeper>⟧.refused ⟦<RingKeeper as Keeper>⟧.room
-        R.remaining W.contents (layout_of plan.now.registers) job reader.old reader.new writer.old writer.new) }
+        × ServesJob ⟦<RingKeeper as Keeper>⟧.holds ⟦<RingKeeper as Keeper>⟧.refused ⟦<RingKeeper as Keeper>⟧.room R.remaining W.contents E.contents
+        (layout_of plan.now.registers) job reader.old reader.new writer.old writer.new errors.old errors.new result }
     ensures done { plan.now.subcommand ≢ Gdb → (job : Job) × IsJobOf plan.now file.now context.now job
-        × ((script told : List ℕ) → R.remaining reader.old.inner ≡ Some script → W.contents writer.old.inner ≡ Some told → result ≢ 2 →
-        Completes job.kind job (record { script = script; told = told; after = W.contents writer.new.inner; left = R.remaining reader.new.inner }) result) }
+        × DoesJob R.remaining W.contents E.contents job reader.old reader.new writer.old writer.new errors.old errors.new result }
     ensures status { result ≤ 2 }
 {
     match plan.subcommand {
@@ -53,23 +49,8 @@ fn do_plan<R: Read, W: Write, E: Write>(
 ) -> u8
     requires limit { IsLimit plan.now.limit }
     ensures value { (job : Job) × IsJobOf plan.now file.now context.now job
-        × ((script told : List ℕ) → R.remaining reader.old.inner ≡ Some script → W.contents writer.old.inner ≡ Some told → result ≢ 2 →
-        Completes job.kind job (record { script = script; told = told; after = W.contents writer.new.inner; left = R.remaining reader.new.inner }) result) }
-    ensures broken { (job : Job) × IsJobOf plan.now file.now context.now job
-        × ((script told : List ℕ) → R.remaining reader.old.inner ≡ Some script → W.contents writer.old.inner ≡ Some told → result ≡ 2 →
-        StopsShort job.kind job (record { script = script; told = told; after = W.contents writer.new.inner; left = R.remaining reader.new.inner })) }
-    ensures refused { (job : Job) × IsJobOf plan.now file.now context.now job
-        × ((Needs job.kind job → ⊥) → (result ≡ 2) × (reader.new ≡ reader.old) × (writer.new ≡ writer.old)) }
-    ensures spared { result ≢ 2 → Spared reader.old reader.new × Spared writer.old writer.new × Spared errors.old errors.new }
+        × DoesJob R.remaining W.contents E.contents job reader.old reader.new writer.old writer.new errors.old errors.new result }
     ensures status { result ≤ 2 }
-    ensures runs { result ≡ 1 → kind_of plan.now.subcommand ≡ Run }
-    ensures quiet { (job : Job) × IsJobOf plan.now file.now context.now job
-        × (result ≡ 0 → TellsDone E.contents job.kind job errors.old errors.new) }
-    ensures stopped { (job : Job) × IsJobOf plan.now file.now context.now job
-        × (result ≡ 1 → TellsStop E.contents job errors.old errors.new × (reader.new ≡ reader.old) × (writer.new ≡ writer.old)) }
-    ensures told { (job : Job) × IsJobOf plan.now file.now context.now job
-        × (result ≡ 2 → TellsFault E.contents job.kind job reader.old reader.new writer.old writer.new errors.old errors.new
-        ⊎ (LosesLine E.contents job.kind job writer.old writer.new errors.old errors.new × (reader.new ≡ reader.old))) }
 {
     let job = job_of(plan, file, context);
     tool(alloc, &job, reader, writer, errors)
@@ -87,20 +68,9 @@ fn serve_plan<R: Read, W: Write, E: Write>(
 ) -> u8
     requires limit { IsLimit plan.now.limit }
     ensures value { (job : Job) × IsJobOf plan.now file.now context.now job
-        × (result ≢ 2 → ServesConnection ⟦<RingKeeper as Keeper>⟧.holds ⟦<RingKeeper as Keeper>⟧.refused ⟦<RingKeeper as Keeper>⟧.room
-        R.remaining W.contents (layout_of plan.now.registers) job reader.old reader.new writer.old writer.new) }
-    ensures broken { (job : Job) × IsJobOf plan.now file.now context.now job
-        × (result ≡ 2 → ((reader.new ≡ reader.old) × (writer.new ≡ writer.old))
-        ⊎ BreaksConnection ⟦<RingKeeper as Keeper>⟧.holds ⟦<RingKeeper as Keeper>⟧.refused ⟦<RingKeeper as Keeper>⟧.room
-        R.remaining W.contents (layout_of plan.now.registers) job reader.old reader.new writer.old writer.new) }
-    ensures refused { (job : Job) × IsJobOf plan.now file.now context.now job
-        × ((Needs Debug job → ⊥) → (result ≡ 2) × (reader.new ≡ reader.old) × (writer.new ≡ writer.old)) }
-    ensures spared { result ≢ 2 → Spared reader.old reader.new × Spared writer.old writer.new × Spared errors.old errors.new }
-    ensures quiet { result ≡ 0 → errors.new ≡ errors.old }
+        × ServesJob ⟦<RingKeeper as Keeper>⟧.holds ⟦<RingKeeper as Keeper>⟧.refused ⟦<RingKeeper as Keeper>⟧.room R.remaining W.contents E.contents
+        (layout_of plan.now.registers) job reader.old reader.new writer.old writer.new errors.old errors.new result }
     ensures status { result ≤ 2 }
-    ensures never { result ≢ 1 }
-    ensures told { (job : Job) × IsJobOf plan.now file.now context.now job
-        × (result ≡ 2 → TellsFault E.contents Debug job reader.old reader.new writer.old writer.new errors.old errors.new) }
 {
     let job = job_of(plan, file, context);
     serve_job(

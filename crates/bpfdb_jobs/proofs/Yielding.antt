@@ -10,7 +10,7 @@ use Rattle.bpf_machine.specs.State.{State, initial}
 use Rattle.counted_io.specs.Lines.{lines}
 use Rattle.bpf_session.specs.Plain.{plain_end}
 use Rattle.bpf_session.specs.Runs.{Exchange, WroteBetween}
-use Rattle.bpfdb_jobs.specs.Jobs.{Completes, Opens, StopsShort, Unread, Yield, Yields, run_yield}
+use Rattle.bpfdb_jobs.specs.Jobs.{Completes, Opens, StopsShort, StopsUnread, Unread, Yield, Yields, run_yield}
 use Rattle.bpfdb_jobs.specs.declared.job.Job.{Job}
 use Rattle.bpfdb_jobs.specs.declared.job.JobKind.{JobKind}
 use Rattle.bpfdb_jobs.specs.declared.job.JobKind.TheVariants.{Run}
@@ -56,14 +56,17 @@ completes-too s t job script told after left status is unread p =
     subst (λ (o : Option (List ℕ)). Completes s job (record { script = script; told = told; after = after; left = o }) status) (sym unread)
     (subst (λ (u : JobKind). Completes u job (unread_exchange script told after) status) (sym is) p)
 
-pub completes-debug : (s t : JobKind) (job : Job) (x : Exchange) (status : ℕ) → s ≡ t → Completes t job x status → Completes s job x status
-completes-debug s t job x status is p = subst (λ (u : JobKind). Completes u job x status) (sym is) p
+pub completes-as : (s t : JobKind) (job : Job) (x : Exchange) (status : ℕ) → s ≡ t → Completes t job x status → Completes s job x status
+completes-as s t job x status is p = subst (λ (u : JobKind). Completes u job x status) (sym is) p
 
-pub stops-short : (s t : JobKind) (job : Job) (script told : List ℕ) (after left : Option (List ℕ)) → s ≡ t → left ≡ Some script → StopsShort t job (unread_exchange script told after) → StopsShort s job (record { script = script; told = told; after = after; left = left })
-stops-short s t job script told after left is unread p =
-    subst (λ (o : Option (List ℕ)). StopsShort s job (record { script = script; told = told; after = after; left = o })) (sym unread)
-    (subst (λ (u : JobKind). StopsShort u job (unread_exchange script told after)) (sym is) p)
+pub stops-short : {R W : Type 0} (s t : JobKind) (job : Job) (script told : List ℕ) (after left : Option (List ℕ)) (reader reader' : Tally R) (writer writer' : Tally W) → s ≡ t → left ≡ Some script → StopsShort t job (unread_exchange script told after) reader reader' writer writer' → StopsShort s job (record { script = script; told = told; after = after; left = left }) reader reader' writer writer'
+stops-short s t job script told after left reader reader' writer writer' is unread p =
+    subst (λ (o : Option (List ℕ)). StopsShort s job (record { script = script; told = told; after = after; left = o }) reader reader' writer writer') (sym unread)
+    (subst (λ (u : JobKind). StopsShort u job (unread_exchange script told after) reader reader' writer writer') (sym is) p)
 
 -- the same of `debug`, which reads
-pub stops-short-debug : (s t : JobKind) (job : Job) (x : Exchange) → s ≡ t → StopsShort t job x → StopsShort s job x
-stops-short-debug s t job x is p = subst (λ (u : JobKind). StopsShort u job x) (sym is) p
+pub stops-short-debug : {R W : Type 0} (s t : JobKind) (job : Job) (x : Exchange) (reader reader' : Tally R) (writer writer' : Tally W) → s ≡ t → StopsShort t job x reader reader' writer writer' → StopsShort s job x reader reader' writer writer'
+stops-short-debug s t job x reader reader' writer writer' is p = subst (λ (u : JobKind). StopsShort u job x reader reader' writer writer') (sym is) p
+
+pub stops-unread : (s t : JobKind) (job : Job) (x : Exchange) → s ≡ t → StopsUnread t job x → StopsUnread s job x
+stops-unread s t job x is p = subst (λ (u : JobKind). StopsUnread u job x) (sym is) p

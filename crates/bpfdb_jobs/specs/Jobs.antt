@@ -16,7 +16,7 @@ use Rattle.counted_io.specs.Lines.{lines}
 use Rattle.bpf_session.specs.Output.{Walk}
 use Rattle.bpf_session.specs.Plain.{ending_of, plain_end, text_of_ending}
 use Rattle.bpf_session.specs.Points.{opening}
-use Rattle.bpf_session.specs.Runs.{BreaksOff, Exchange, Leaves, Standing, Wrote, WroteBetween, whole_walk}
+use Rattle.bpf_session.specs.Runs.{BreaksOff, Exchange, FailsBy, Leaves, Standing, Wrote, WroteBetween, whole_walk}
 use Rattle.bpf_session.specs.declared.fault.RunFault.{RunFault}
 use Rattle.bpf_session.specs.declared.plain.Ending.{Ending}
 use Rattle.bpf_session.specs.declared.plain.Ending.TheVariants.{Exited, Faulted, Limit}
@@ -114,15 +114,28 @@ Completes kind job x status = (a : Yield) × Yields kind job x.script a × (stat
 abbrev pub Unread : Exchange → Type 0
 Unread x = x.left ≡ Some x.script
 
--- A beginning of the answer was written: of `debug`, what its session did until a read or a write failed, with no move refused.
-abbrev pub Begins : JobKind → Job → Exchange → Type 0
-Begins Debug job x = (code : Checked) × Opens job code × IsSize job.journal
-    × (why : RunFault) × (to : Standing) × (to.refusals ≡ 0) × BreaksOff why (start_of job code) to x
-Begins kind job x = (a : Yield) × Yields kind job x.script a × WroteBetween x [] a.out × Unread x
+-- A beginning of the answer was written, and nothing was read.
+abbrev pub BeginsUnread : JobKind → Job → Exchange → Type 0
+BeginsUnread kind job x = (a : Yield) × Yields kind job x.script a × WroteBetween x [] a.out × Unread x
+
+-- A beginning of the answer was written: of `debug`, what its session did until the read or the write failed that was counted, with no
+-- move refused.
+abbrev pub Begins : {R W : Type 0} → JobKind → Job → Exchange → Tally R → Tally R → Tally W → Tally W → Type 0
+Begins Debug job x reader reader' writer writer' = (code : Checked) × Opens job code × IsSize job.journal
+    × (why : RunFault) × FailsBy why reader reader' writer writer' × (to : Standing) × (to.refusals ≡ 0) × BreaksOff why (start_of job code) to x
+Begins kind job x reader reader' writer writer' = BeginsUnread kind job x
+
+-- Nothing was read and written.
+abbrev pub NotBegun : Exchange → Type 0
+NotBegun x = (x.after ≡ Some x.told) × Unread x
 
 -- A call that broke off: nothing was read and written, or a beginning of the answer was.
-abbrev pub StopsShort : JobKind → Job → Exchange → Type 0
-StopsShort kind job x = ((x.after ≡ Some x.told) × Unread x) ⊎ Begins kind job x
+abbrev pub StopsShort : {R W : Type 0} → JobKind → Job → Exchange → Tally R → Tally R → Tally W → Tally W → Type 0
+StopsShort kind job x reader reader' writer writer' = NotBegun x ⊎ Begins kind job x reader reader' writer writer'
+
+-- The same of a kind of job that reads nothing.
+abbrev pub StopsUnread : JobKind → Job → Exchange → Type 0
+StopsUnread kind job x = NotBegun x ⊎ BeginsUnread kind job x
 
 -- A reader, a writer or standard error counted no failure.
 abbrev pub Spared : {T : Type 0} → Tally T → Tally T → Type 0

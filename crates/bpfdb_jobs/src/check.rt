@@ -1,7 +1,7 @@
 //! What a job of `check` does.
 ghost use Rattle.std.specs.Prelude.{◌≡◌, ◌≢◌, ◌≤◌, List, ℕ, Some, count_by, is_some};
 ghost use Rattle.counted_io.specs.Writing.{Writes, WritesAfter};
-ghost use Rattle.bpfdb_jobs.specs.Jobs.{StopsShort, Completes, Needs, Spared, check_line};
+ghost use Rattle.bpfdb_jobs.specs.Jobs.{StopsUnread, Completes, Needs, Spared, check_line};
 ghost use Rattle.bpfdb_jobs.specs.Unread.{TellsUnread};
 ghost use Rattle.bpfdb_jobs.specs.declared.job.JobKind.TheVariants.{Check};
 
@@ -24,7 +24,7 @@ pub fn check_job<W: Write, E: Write>(
     ensures value { (script told : List ℕ) → W.contents writer.old.inner ≡ Some told → result ≢ 2 →
         Completes Check job.now (record { script = script; told = told; after = W.contents writer.new.inner; left = Some script }) result }
     ensures broken { (script told : List ℕ) → W.contents writer.old.inner ≡ Some told → result ≡ 2 →
-        StopsShort Check job.now (record { script = script; told = told; after = W.contents writer.new.inner; left = Some script }) }
+        StopsUnread Check job.now (record { script = script; told = told; after = W.contents writer.new.inner; left = Some script }) }
     ensures refused { (Needs Check job.now → ⊥) → (result ≡ 2) × (writer.new ≡ writer.old) }
     ensures spared { result ≢ 2 → Spared writer.old writer.new × Spared errors.old errors.new }
     ensures quiet { result ≡ 0 → errors.new ≡ errors.old }

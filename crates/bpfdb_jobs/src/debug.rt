@@ -29,7 +29,8 @@ pub fn debug_job<R: Read, W: Write, E: Write>(
     ensures value { (script told : List ℕ) → R.remaining reader.old.inner ≡ Some script → W.contents writer.old.inner ≡ Some told → result ≢ 2 →
         Completes Debug job.now (record { script = script; told = told; after = W.contents writer.new.inner; left = R.remaining reader.new.inner }) result }
     ensures broken { (script told : List ℕ) → R.remaining reader.old.inner ≡ Some script → W.contents writer.old.inner ≡ Some told → result ≡ 2 →
-        StopsShort Debug job.now (record { script = script; told = told; after = W.contents writer.new.inner; left = R.remaining reader.new.inner }) }
+        StopsShort Debug job.now (record { script = script; told = told; after = W.contents writer.new.inner; left = R.remaining reader.new.inner })
+        reader.old reader.new writer.old writer.new }
     ensures refused { (Needs Debug job.now → ⊥) → (result ≡ 2) × (reader.new ≡ reader.old) × (writer.new ≡ writer.old) }
     ensures spared { result ≢ 2 → Spared reader.old reader.new × Spared writer.old writer.new × Spared errors.old errors.new }
     ensures quiet { result ≡ 0 → errors.new ≡ errors.old }

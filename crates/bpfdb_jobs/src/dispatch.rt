@@ -1,8 +1,8 @@
 //! The program without its command line and its files: a job, done.
 ghost use Rattle.std.specs.Prelude.{◌≡◌, ◌≢◌, ◌≤◌, ◌⊎◌, List, ℕ, Some};
 ghost use Rattle.bpfdb_jobs.specs.Endings.{LosesLine, TellsDone, TellsFault, TellsStop};
-ghost use Rattle.bpfdb_jobs.specs.Jobs.{StopsShort, Completes, Needs, Spared};
-ghost use Rattle.bpfdb_jobs.specs.declared.job.JobKind.TheVariants.{Run};
+ghost use Rattle.bpfdb_jobs.specs.Jobs.{StopsShort, StopsUnread, Completes, Needs, Spared};
+ghost use Rattle.bpfdb_jobs.specs.declared.job.JobKind.TheVariants.{Debug, Run};
 ghost use Rattle.bpfdb_limits.specs.Limits.{IsLimit};
 
 use crate::check::check_job;
@@ -32,7 +32,14 @@ pub fn tool<R: Read, W: Write, E: Write>(
         Completes job.now.kind job.now (record { script = script; told = told; after = W.contents writer.new.inner; left = R.remaining reader.new.inner }) result }
     // Nothing was written, or a beginning of the answer to what was read.
     ensures broken { (script told : List ℕ) → R.remaining reader.old.inner ≡ Some script → W.contents writer.old.inner ≡ Some told → result ≡ 2 →
-        StopsShort job.now.kind job.now (record { script = script; told = told; after = W.contents writer.new.inner; left = R.remaining reader.new.inner }) }
+        StopsShort job.now.kind job.now (record { script = script; told = told; after = W.contents writer.new.inner; left = R.remaining reader.new.inner })
+        reader.old reader.new writer.old writer.new }
+    // A job of another kind than `debug` reads nothing. So it owes the same over a reader that doesn't tell its bytes.
+    ensures unread { job.now.kind ≢ Debug → reader.new ≡ reader.old }
+    ensures whole { job.now.kind ≢ Debug → (script told : List ℕ) → W.contents writer.old.inner ≡ Some told → result ≢ 2 →
+        Completes job.now.kind job.now (record { script = script; told = told; after = W.contents writer.new.inner; left = Some script }) result }
+    ensures begun { job.now.kind ≢ Debug → (script told : List ℕ) → W.contents writer.old.inner ≡ Some told → result ≡ 2 →
+        StopsUnread job.now.kind job.now (record { script = script; told = told; after = W.contents writer.new.inner; left = Some script }) }
     // A job that lacks what its kind needs leaves the reader and the writer untouched.
     ensures refused { (Needs job.now.kind job.now → ⊥) → (result ≡ 2) × (reader.new ≡ reader.old) × (writer.new ≡ writer.old) }
     // Where anything failed the status is 2.

@@ -1,7 +1,7 @@
 //! What a job of `run` does.
 ghost use Rattle.std.specs.Prelude.{◌≡◌, ◌≢◌, ◌≤◌, ◌⊎◌, List, OnErr, OnOk, ℕ, Some};
 ghost use Rattle.bpfdb_jobs.specs.Endings.{LosesStop, TellsStop};
-ghost use Rattle.bpfdb_jobs.specs.Jobs.{StopsShort, Completes, Needs, Spared};
+ghost use Rattle.bpfdb_jobs.specs.Jobs.{StopsUnread, Completes, Needs, Spared};
 ghost use Rattle.bpfdb_jobs.specs.Unread.{TellsUnread};
 ghost use Rattle.bpfdb_jobs.specs.declared.job.JobKind.TheVariants.{Run};
 
@@ -24,7 +24,7 @@ pub fn run_job<W: Write, E: Write>(
     ensures value { (script told : List ℕ) → W.contents writer.old.inner ≡ Some told → result ≢ 2 →
         Completes Run job.now (record { script = script; told = told; after = W.contents writer.new.inner; left = Some script }) result }
     ensures broken { (script told : List ℕ) → W.contents writer.old.inner ≡ Some told → result ≡ 2 →
-        StopsShort Run job.now (record { script = script; told = told; after = W.contents writer.new.inner; left = Some script }) }
+        StopsUnread Run job.now (record { script = script; told = told; after = W.contents writer.new.inner; left = Some script }) }
     ensures refused { (Needs Run job.now → ⊥) → (result ≡ 2) × (writer.new ≡ writer.old) }
     ensures spared { result ≢ 2 → Spared writer.old writer.new × Spared errors.old errors.new }
     ensures quiet { result ≡ 0 → errors.new ≡ errors.old }

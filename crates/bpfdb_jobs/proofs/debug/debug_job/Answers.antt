@@ -22,13 +22,13 @@ pub returns-in-Err-Read-clause-broken : goal.returns-in-Err-Read-clause-broken
 returns-in-Err-Read-clause-broken g c = λ script told left held two.
     let o = c.in-Ok.ensures.ok in
     let r = c.in-Err-Read.ensures.broken (start_of c.args.job.now o.code) script told o.stands left held in
-    inr (o.code, o.opens, o.sized, c.in-Err-Read.field-0, r.0, sym r.1.refusals, r.2)
+    inr (o.code, o.opens, o.sized, c.in-Err-Read.field-0, c.in-Err-Read.ensures.err, r.0, sym r.1.refusals, r.2)
 
 pub returns-clause-broken : goal.returns-clause-broken
 returns-clause-broken g c = λ script told left held two.
     let o = c.in-Ok.ensures.ok in
     let r = c.in-Err-Write.ensures.broken (start_of c.args.job.now o.code) script told o.stands left held in
-    inr (o.code, o.opens, o.sized, c.in-Err-Write.field-0, r.0, sym r.1.refusals, r.2)
+    inr (o.code, o.opens, o.sized, c.in-Err-Write.field-0, c.in-Err-Write.ensures.err, r.0, sym r.1.refusals, r.2)
 
 pub returns-in-Err-Read-clause-told : goal.returns-in-Err-Read-clause-told
 returns-in-Err-Read-clause-told g c = λ two.
