@@ -1,8 +1,9 @@
 //! The program: a debugger that runs a BPF program (RFC 9669) forwards and backwards.
 #![tactic(auto)]
 
-ghost use Rattle.std.specs.Prelude.{◌≡◌, ◌≢◌, ◌≤◌, IfErr, OnSome};
+ghost use Rattle.std.specs.Prelude.{◌≡◌, ◌≢◌, ◌≤◌, IfErr, OnSome, map, string_bytes};
 ghost use Rattle.bpfdb.specs.Files.{Names, NamesGiven};
+ghost use Rattle.bpfdb.specs.Words.{IsStatusOf};
 ghost use Rattle.bpfdb_cli.specs.Plans.{status_of};
 ghost use Rattle.bpfdb_cli.specs.declared.plans.Subcommand.TheVariants.{Debug};
 ghost use Rattle.bpfdb_limits.specs.Limits.{IsLimit};
@@ -71,15 +72,23 @@ fn obey(rt: &HostRuntime, errors: &mut Errors) -> u8
         Ok(words) => words,
         Err(fault) => return give_up(errors, &fault),
     };
+    obey_words(rt, words.as_slice(), errors)
+}
+
+/// Does what these words say, the program's name first. Where no other follows, the program that is built in is debugged.
+fn obey_words(rt: &HostRuntime, words: &[String], errors: &mut Errors) -> u8
+    ensures value { result ≢ 2 → IsStatusOf (map string_bytes words.now) result }
+    ensures status { result ≤ 2 }
+{
     if words.len() < 2 {
         return do_over_streams(rt, &FIRST_PLAN, FIRST_PROGRAM, &[], errors);
     }
-    let Some(texts) = texts_of(rt.alloc(), words.as_slice()) else {
+    let Some(texts) = texts_of(rt.alloc(), words) else {
         return give_up(errors, &JobFault::Memory);
     };
     match plan(rt.alloc(), texts.as_slice()) {
         Ok(plan) => do_with_files(rt, &plan, errors),
-        Err(fault) => show(rt, words.as_slice(), &fault, errors),
+        Err(fault) => show(rt, words, &fault, errors),
     }
 }
 

@@ -1,0 +1,9 @@
+-- What the words of a command line come to.
+use Rattle.std.specs.Prelude.{ℕ, ◌≡◌, ◌<◌, ◌⊎◌, List, length}
+use Rattle.bpfdb_cli.specs.Plans.{IsFaultOf, IsPlan, status_of}
+use Rattle.bpfdb_cli.specs.declared.plans.Plan.{Plan}
+use Rattle.bpfdb_cli.specs.declared.plans.PlanFault.{PlanFault}
+
+-- Where the exit status isn't 2, no word follows the program's name, or the words are a plan, or it is that of a fault that the words have.
+abbrev pub IsStatusOf : List (List ℕ) → ℕ → Type 0
+IsStatusOf words status = (length words < 2) ⊎ ((plan : Plan) × IsPlan words plan) ⊎ ((fault : PlanFault) × IsFaultOf words fault × (status ≡ status_of fault))
