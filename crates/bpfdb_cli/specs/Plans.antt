@@ -1,5 +1,5 @@
 -- What a plan says, by what `clap`'s exact matches give for the words.
-use Rattle.std.specs.Prelude.{◌≡◌, ◌⊎◌, ◌<◌, ◌^◌, ℕ, Bool, false, List, Option, Some, None, option_map, codes}
+use Rattle.std.specs.Prelude.{◌≡◌, ◌⊎◌, ◌<◌, ◌^◌, ℕ, Bool, false, List, [], Option, Some, None, option_map, codes}
 use Rattle.std.specs.Option.{option_map_or}
 use Rattle.std.specs.Str.{bytes_eq}
 use Rattle.std.specs.Str.Parse.{IsNumeral, digits_value, without_leading_plus}
@@ -70,12 +70,13 @@ pub record IsPlanOf (name : Text) (rows : List Row) (plan : Plan) : Type 0 where
   pub steps : IsNumber (first_of (codes "steps") rows)
   pub limit : IsLimit plan.limit
 
--- A plan says what the words say, the program's name first.
+-- A plan says what the words say, the program's name first, and `clap` finds no fault in these words.
 pub record IsPlan (words : List Text) (plan : Plan) : Type 0 where
   pub name : Text
   pub rows : List Row
   pub met : subcommand_of command_app words ≡ Some (name, rows)
   pub says : Says name rows plan
+  pub clear : fault_of command_app words ≡ []
 
 -- No plan says what the words say.
 abbrev pub HasNoPlan : List Text → Type 0

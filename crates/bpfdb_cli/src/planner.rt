@@ -13,7 +13,7 @@ use clap::{ArgMatches, Command, Error};
 use std::alloc::Global;
 
 /// What is said of a name that `--registers` doesn't take. It would be said of a number, too, that `clap` lets pass out of its range: it lets
-/// none pass, which its contract doesn't say.
+/// none pass, which isn't drawn from its contract here.
 const BAD_VALUE: &str = "a value is none of those that its option takes";
 
 /// The plan of a command line, of which the first word is the program's name.

@@ -1,4 +1,4 @@
-use Rattle.std.proofs.Common.{◌≡◌, ◌∙◌, refl, sym, subst, true, List, map, inl, inr, ⊎_elim, ap}
+use Rattle.std.proofs.Common.{◌≡◌, ◌∙◌, [], refl, sym, subst, true, List, map, inl, inr, ⊎_elim, ap}
 use Rattle.clap.specs.Words.{App, HasKind, HasMatchesOf, IsAmong, Text, app_of, fault_of, is_simple, is_simple_and_free, kind_of, subcommand_of, subcommand_rows_of}
 use Rattle.clap.specs.declared.error.Error.{Error}
 use Rattle.clap.specs.declared.error.kind.ErrorKind.TheVariants.{ValueValidation}
@@ -24,8 +24,11 @@ met a words m is has = sym ((subst (λ (b : App). HasMatchesOf b words m) is has
 pub returns-in-Some-clause-value : goal.returns-in-Some-clause-value
 returns-in-Some-clause-value c =
     let v = c.in-Some.ensures.value in
-    let m = met (app_of c.in-Ok.command) _ c.in-Ok-try_get_matches_from_mut.matches c.in-Ok.ensures c.in-Ok-try_get_matches_from_mut.ensures.ok.2 in
-    record { name = v.0; rows = v.1; met = m ∙ v.2; says = v.3 }
+    let words = map (λ word. word.now) c.args.words.now in
+    let line : app_of c.in-Ok.command ≡ command_app = c.in-Ok.ensures in
+    let m = met (app_of c.in-Ok.command) _ c.in-Ok-try_get_matches_from_mut.matches line c.in-Ok-try_get_matches_from_mut.ensures.ok.2 in
+    let clear = c.in-Ok-try_get_matches_from_mut.ensures.kinds (ap is_simple_and_free line ∙ simple_and_free) in
+    record { name = v.0; rows = v.1; met = m ∙ v.2; says = v.3; clear = subst (λ app. fault_of app words ≡ []) line clear }
 
 -- An error of `clap` that is told.
 told : (words : List Text) (error : Error) (fault : PlanFault) → Tells error fault → HasKind (fault_of command_app words) error → IsFaultOf words fault
