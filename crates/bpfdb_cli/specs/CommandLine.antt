@@ -69,21 +69,15 @@ abbrev pub link_app : App
 link_app = with_rule (with_rule (new_app (codes "link")) section_rule) file_rule
 
 -- `gdb` opens a session as `debug` does.
-abbrev pub gdb_session_app : App
-gdb_session_app = with_rule (with_rule (with_rule (with_rule (with_rule (with_rule (new_app (codes "gdb"))
-    mem_rule) maps_rule) journal_rule) steps_rule) listing_rule) file_rule
-
 abbrev pub gdb_app : App
-gdb_app = with_rule gdb_session_app registers_rule
+gdb_app = with_rule (with_rule (with_rule (with_rule (with_rule (with_rule (with_rule (new_app (codes "gdb"))
+    mem_rule) maps_rule) journal_rule) steps_rule) listing_rule) registers_rule) file_rule
 
 -- The command without its subcommands: it can't stand without one, and it tells its version.
 abbrev pub bare_app : App
 bare_app = record (new_app (codes "bpfdb")) { top = record (new_app (codes "bpfdb")).top { subcommand_required = true; has_version = true } }
 
--- The command with the subcommands that run a program, and then with all.
-unfoldable pub running_app : App
-running_app = with_subcommand (with_subcommand (with_subcommand bare_app run_app.top) debug_app.top) gdb_app.top
-
+-- The command with its subcommands.
 unfoldable pub command_app : App
-command_app = with_subcommand (with_subcommand (with_subcommand (with_subcommand running_app
-    asm_app.top) disasm_app.top) check_app.top) link_app.top
+command_app = with_subcommand (with_subcommand (with_subcommand (with_subcommand (with_subcommand (with_subcommand (with_subcommand bare_app
+    run_app.top) debug_app.top) gdb_app.top) asm_app.top) disasm_app.top) check_app.top) link_app.top

@@ -6,6 +6,7 @@ mod command_line;
 mod help;
 mod planner;
 mod plans;
+mod subcommands;
 
 pub use planner::plan;
 pub use plans::{Plan, PlanFault, Registers, Subcommand};

@@ -3,7 +3,7 @@ use Rattle.clap.specs.Words.{App, HasKind, HasMatchesOf, IsAmong, Text, app_of, 
 use Rattle.clap.specs.declared.error.Error.{Error}
 use Rattle.clap.specs.declared.error.kind.ErrorKind.TheVariants.{ValueValidation}
 use Rattle.clap.specs.declared.parser.matches.ArgMatches.{ArgMatches}
-use Rattle.bpfdb_cli.specs.CommandLine.{command_app, running_app}
+use Rattle.bpfdb_cli.specs.CommandLine.{command_app}
 use Rattle.bpfdb_cli.specs.Plans.{HasKindIfTold, HasNoPlan, IsFaultOf, Tells}
 use Rattle.bpfdb_cli.specs.declared.plans.PlanFault.{PlanFault}
 use Rattle.bpfdb_cli.specs.declared.plans.PlanFault.TheVariants.{Usage, Memory}
@@ -11,11 +11,11 @@ use Rattle.bpfdb_cli.proofs.planner.plan.Goals as goal
 
 -- the command line is one of those whose matches are known exactly
 simple : is_simple command_app ≡ true
-unfolding command_app running_app
+unfolding command_app
 simple = refl
 
 simple_and_free : is_simple_and_free command_app ≡ true
-unfolding command_app running_app
+unfolding command_app
 simple_and_free = refl
 
 met : (a : App) (words : List Text) (m : ArgMatches) → a ≡ command_app → HasMatchesOf a words m → subcommand_of command_app words ≡ subcommand_rows_of m

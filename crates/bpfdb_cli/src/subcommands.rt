@@ -1,0 +1,110 @@
+//! The subcommands, as a table.
+use crate::help;
+
+/// An option that some of the subcommands take.
+#[derive(Clone, Copy)]
+pub(crate) enum CliOption {
+    /// `-m PATH`, `--mem PATH`.
+    Mem,
+    /// `--maps VxN,VxN`.
+    Maps,
+    /// `--journal J`.
+    Journal,
+    /// `--steps N`.
+    Steps,
+    /// `--listing`.
+    Listing,
+    /// `--registers NAME`.
+    Registers,
+    /// `--section NAME`.
+    Section,
+}
+
+/// A subcommand: its texts of help, and the options that it takes besides FILE.
+pub(crate) struct CliSubcommand<'a> {
+    pub(crate) name: &'a str,
+    pub(crate) about: &'a str,
+    pub(crate) long_about: &'a str,
+    pub(crate) example: &'a str,
+    pub(crate) options: &'a [CliOption],
+    /// What FILE is.
+    pub(crate) file: &'a str,
+}
+
+/// The subcommands, as help lists them.
+pub(crate) const SUBCOMMANDS: [CliSubcommand<'static>; 7] = [
+    CliSubcommand {
+        name: "run",
+        about: help::RUN,
+        long_about: help::RUN_LONG,
+        example: help::RUN_EXAMPLE,
+        options: &[
+            CliOption::Mem,
+            CliOption::Maps,
+            CliOption::Steps,
+            CliOption::Listing,
+        ],
+        file: help::PROGRAM,
+    },
+    CliSubcommand {
+        name: "debug",
+        about: help::DEBUG,
+        long_about: help::DEBUG_LONG,
+        example: help::DEBUG_EXAMPLE,
+        options: &[
+            CliOption::Mem,
+            CliOption::Maps,
+            CliOption::Journal,
+            CliOption::Steps,
+            CliOption::Listing,
+        ],
+        file: help::PROGRAM,
+    },
+    CliSubcommand {
+        name: "gdb",
+        about: help::GDB,
+        long_about: help::GDB_LONG,
+        example: help::GDB_EXAMPLE,
+        options: &[
+            CliOption::Mem,
+            CliOption::Maps,
+            CliOption::Journal,
+            CliOption::Steps,
+            CliOption::Listing,
+            CliOption::Registers,
+        ],
+        file: help::PROGRAM,
+    },
+    CliSubcommand {
+        name: "asm",
+        about: help::ASM,
+        long_about: help::ASM_LONG,
+        example: help::ASM_EXAMPLE,
+        options: &[],
+        file: help::LISTING_FILE,
+    },
+    CliSubcommand {
+        name: "disasm",
+        about: help::DISASM,
+        long_about: help::DISASM_LONG,
+        example: help::DISASM_EXAMPLE,
+        options: &[CliOption::Maps, CliOption::Listing],
+        file: help::PROGRAM,
+    },
+    CliSubcommand {
+        name: "check",
+        about: help::CHECK,
+        long_about: help::CHECK_LONG,
+        example: help::CHECK_EXAMPLE,
+        options: &[CliOption::Maps, CliOption::Listing],
+        file: help::PROGRAM,
+    },
+    CliSubcommand {
+        name: "link",
+        about: help::LINK,
+        long_about: help::LINK_LONG,
+        example: help::LINK_EXAMPLE,
+        options: &[CliOption::Section],
+        file: help::OBJECT_FILE,
+    },
+];
