@@ -128,6 +128,23 @@ ROWS
 yes exit | head -n 65536 > long.s
 refused 'refused A8 at line 65536: too many slots' asm long.s
 on_all 'refused A8 at line 65536: too many slots' --listing long.s
+
+# That there are too many slots is told of a line only where nothing else is wrong with it, but before later lines and labels that no line has. Each line has
+# the answer, a first line, how many lines `exit` follow, and a last line.
+while IFS='|' read -r answer first lines last; do
+    { [ -z "$first" ] || echo "$first"; yes exit | head -n "$lines"; printf '%b' "$last"; } > long.s
+    refused "refused A$answer" asm long.s
+done <<'ROWS'
+6 at line 65536: byte outside ASCII text||65535|exit \0177
+4 at line 65537: label defined twice|x:|65535|x: exit
+1 at line 65536: unknown mnemonic||65535|frob
+2 at line 65536: wrong operands||65535|mov r0
+3 at line 65536: number out of range||65535|mov r0, 4294967296
+3 at line 65535: number out of range||65534|lddw r0, 18446744073709551616
+8 at line 65535: too many slots||65534|lddw r0, 0
+8 at line 65536: too many slots|ja far|65535|
+8 at line 65536: too many slots||65536|frob
+ROWS
 { echo 'ja far'; yes exit | head -n 32768; echo 'far: exit'; } > far.s
 refused 'refused A3 at line 1: number out of range' asm far.s
 on_all 'refused A6 at line 1: byte outside ASCII text' --listing program
