@@ -2,8 +2,12 @@
 #![tactic(auto)]
 
 #[cfg(test)]
+mod keepers;
+#[cfg(test)]
 mod play;
 #[cfg(test)]
 mod requests;
+#[cfg(test)]
+mod shown;
 #[cfg(test)]
 mod streams;

@@ -1,20 +1,22 @@
 //! Connections that are played. Each row of a table is the body of a packet and that of its answer, with a bar between, and before the
 //! answer the line that gdb shows, if there is one; a row that begins with `> ` is a line of a script and its reply.
 use bpf_isa::{MapTable, check};
-use bpf_journal::RingKeeper;
+use bpf_journal::{Keeper, RingKeeper};
 use bpf_machine::Cpu;
 use bpf_remote::{Layout, serve};
 use bpf_session::{Count, Counted, Session};
 use std::alloc::Global;
 use std::process::Abort;
 
-/// The machine of a program in hexadecimal digits, without a context.
-fn machine(rt: &impl Abort, alloc: Global, program: &[u8]) -> Cpu {
+/// The machine of a program in hexadecimal digits and a context.
+pub fn machine(rt: &impl Abort, alloc: Global, program: &[u8], context: &[u8]) -> Cpu {
     let bytes = hex::decode(alloc, program).ok().expect(rt, "no digits");
     let program = check(alloc, &bytes, &MapTable::empty())
         .ok()
         .expect(rt, "refused");
-    Cpu::open(alloc, program, &[]).ok().expect(rt, "not opened")
+    Cpu::open(alloc, program, context)
+        .ok()
+        .expect(rt, "not opened")
 }
 
 /// A session over a machine, with an empty journal and a limit of steps.
@@ -38,25 +40,36 @@ pub fn session_of(
     program: &[u8],
     limit: u64,
 ) -> Session<RingKeeper> {
-    session_over(rt, alloc, machine(rt, alloc, program), limit)
+    session_over(rt, alloc, machine(rt, alloc, program, &[]), limit)
+}
+
+/// The session of a program in hexadecimal digits that works on a context.
+pub fn session_on(
+    rt: &impl Abort,
+    alloc: Global,
+    program: &str,
+    context: &[u8],
+) -> Session<RingKeeper> {
+    let cpu = machine(rt, alloc, program.as_bytes(), context);
+    session_over(rt, alloc, cpu, 1000)
 }
 
 /// What is told to a stream, of a gdb that knows BPF.
-pub fn told(
+pub fn told<K: Keeper>(
     rt: &impl Abort,
     alloc: Global,
-    session: &mut Session<RingKeeper>,
+    session: &mut Session<K>,
     stream: &[u8],
 ) -> Vec<u8> {
     told_as(rt, alloc, Layout::Bpf, session, stream)
 }
 
 /// What is told to a stream, of a gdb that takes the machine for another.
-fn told_as(
+pub fn told_as<K: Keeper>(
     rt: &impl Abort,
     alloc: Global,
     gdb: Layout,
-    session: &mut Session<RingKeeper>,
+    session: &mut Session<K>,
     stream: &[u8],
 ) -> Vec<u8> {
     let mut told = Vec::new(alloc);
@@ -72,7 +85,7 @@ pub fn append(rt: &impl Abort, text: &mut Vec<u8>, more: &[u8]) {
 }
 
 /// Puts the packet of a body behind others.
-fn append_packet(rt: &impl Abort, packets: &mut Vec<u8>, body: &[u8]) {
+pub fn append_packet(rt: &impl Abort, packets: &mut Vec<u8>, body: &[u8]) {
     append(rt, packets, b"$");
     append(rt, packets, body);
     append(rt, packets, b"#");
@@ -138,16 +151,16 @@ fn append_line(rt: &impl Abort, alloc: Global, packets: &mut Vec<u8>, line: &str
 }
 
 /// Plays a table's rows to a session, a connection a row, of a gdb that knows BPF.
-pub fn plays(rt: &impl Abort, alloc: Global, session: &mut Session<RingKeeper>, table: &str) {
+pub fn plays<K: Keeper>(rt: &impl Abort, alloc: Global, session: &mut Session<K>, table: &str) {
     plays_as(rt, alloc, Layout::Bpf, session, table);
 }
 
 /// Plays a table's rows to a session, of a gdb that takes the machine for another.
-pub fn plays_as(
+pub fn plays_as<K: Keeper>(
     rt: &impl Abort,
     alloc: Global,
     gdb: Layout,
-    session: &mut Session<RingKeeper>,
+    session: &mut Session<K>,
     table: &str,
 ) {
     for row in table.lines() {
@@ -158,11 +171,11 @@ pub fn plays_as(
 }
 
 /// Plays a row.
-fn play_row(
+fn play_row<K: Keeper>(
     rt: &impl Abort,
     alloc: Global,
     gdb: Layout,
-    session: &mut Session<RingKeeper>,
+    session: &mut Session<K>,
     request: &str,
     answer: &str,
 ) {
