@@ -103,7 +103,7 @@ definitions() {
 
 # session: README's session has the commands of tests/session/script and the replies of tests/session/replies.
 session() {
-    awk '/^\$ make run$/ { inside = 1; next } /^```$/ { inside = 0 } inside' README.md > "$work/session"
+    awk '/^\$ make try$/ { inside = 1; next } /^```$/ { inside = 0 } inside' README.md > "$work/session"
     sed -n 's/^> //p' "$work/session" | cmp -s - tests/session/script || fault "README.md's session has other commands than tests/session/script"
     grep -v '^> ' "$work/session" | cmp -s - tests/session/replies || fault "README.md's session has other replies than tests/session/replies"
 }
@@ -258,7 +258,7 @@ edits() {
             close(path)
             return text
         }
-        FNR == 1 { split("", texts); folder = FILENAME; sub(/must-fail\/.*/, "", folder) }
+        FNR == 1 { split("", texts); folder = FILENAME; sub(/(must-fail|wrong-bodies)\/.*/, "", folder) }
         /^file: / { path = folder substr($0, 7); if (!(path in texts)) texts[path] = text_of(path) }
         /^old: / { old = substr($0, 6) }
         /^new: / {
@@ -267,7 +267,7 @@ edits() {
             if (at && !index(rest, old)) texts[path] = substr(texts[path], 1, at - 1) substr($0, 6) rest
             else print FILENAME
         }
-    ' crates/*/must-fail/*.edit | sort -u | while read -r edit; do
+    ' crates/*/must-fail/*.edit crates/*/wrong-bodies/*.edit | sort -u | while read -r edit; do
         fault "$edit can't be made: a text that it names does not stand exactly once in its file"
     done
 }
