@@ -1,40 +1,53 @@
-# bpfdb: run, test, install, uninstall, pages and fmt. The toolchain's command is rt; docs/WORKING.md lists what else is called.
-.PHONY: run test install uninstall pages fmt
+# bpfdb: try, run, check, test, wrong-bodies, dist, install, uninstall, pages and fmt. The toolchain's command is rt; docs/WORKING.md lists what
+# else is called.
+.PHONY: try run check test wrong-bodies dist install uninstall pages fmt
 
 PREFIX = /usr/local
 DESTDIR =
-BIN = $(DESTDIR)$(PREFIX)/bin
-MAN = $(DESTDIR)$(PREFIX)/share/man/man1
-SHARE = $(DESTDIR)$(PREFIX)/share/bpfdb
-DOC = $(DESTDIR)$(PREFIX)/share/doc/bpfdb
+BIN = $(PREFIX)/bin
+MAN = $(PREFIX)/share/man/man1
+SHARE = $(PREFIX)/share/bpfdb
+DOC = $(PREFIX)/share/doc/bpfdb
 PAGES = COMMANDS LISTING MACHINE JOURNAL GDB
+
+# A first look without proofs, in a minute or two: the session of tests/session/script, or with FILE=FILE (and JOB, OPTIONS) `bpfdb JOB OPTIONS FILE`.
+JOB = debug
+try:
+	@sh tests/try.sh $(if $(FILE),$(JOB) $(OPTIONS) "$(FILE)")
 
 # Proves and builds the debugger, where that is not done yet, and shows the session of tests/session/script.
 run:
 	@sh tests/session.sh
+
+# The tests of the built program alone, or of the one that BPFDB names.
+check:
+	@sh tests/check.sh
 
 # The whole gate: the pages, rt ci (every proof from nothing, the must-fail edits, the crates' tests), and the built
 # program from outside.
 test:
 	@sh tests/gate.sh
 
-# Installs the program, its shell for a terminal, its man page, the pages for those who use it and what belongs to gdb, below DESTDIR. It proves and builds the program where that is not done yet.
+# Tries each wrong body of crates/*/must-fail and crates/*/wrong-bodies, or those of CRATES.
+wrong-bodies:
+	@sh tests/wrong-bodies.sh $(CRATES)
+
+# An archive and a Debian package of the built program, in out/dist.
+dist:
+	@sh tests/dist.sh
+
+# Installs the program, its shell for a terminal, its man page, the pages and examples for those who use it and what belongs to gdb, below DESTDIR. It
+# proves and builds the program where that is not done yet.
 install:
 	@sh tests/build.sh
-	@mkdir -p "$(BIN)" "$(MAN)" "$(SHARE)" "$(DOC)"
-	@cp crates/bpfdb/out/bpfdb share/bpfdb-shell share/bpfdb-symbols "$(BIN)"
-	@chmod 755 "$(BIN)/bpfdb" "$(BIN)/bpfdb-shell" "$(BIN)/bpfdb-symbols"
-	@cp docs/bpfdb.1 "$(MAN)"
-	@cp share/bpfdb-gdb.py "$(SHARE)"
-	@chmod 644 "$(MAN)/bpfdb.1" "$(SHARE)/bpfdb-gdb.py"
-	@for page in $(PAGES); do cp "docs/$$page.md" "$(DOC)" && chmod 644 "$(DOC)/$$page.md" || exit 1; done
-	@echo "installed $(BIN)/bpfdb, bpfdb-shell and bpfdb-symbols beside it, the man page, and pages in $(DOC); in gdb: source $(SHARE)/bpfdb-gdb.py"
+	@sh tests/install.sh "$(DESTDIR)" "$(PREFIX)" $(PAGES)
 
 # Takes them away again.
 uninstall:
-	@rm -f "$(BIN)/bpfdb" "$(BIN)/bpfdb-shell" "$(BIN)/bpfdb-symbols" "$(MAN)/bpfdb.1" "$(SHARE)/bpfdb-gdb.py"
-	@for page in $(PAGES); do rm -f "$(DOC)/$$page.md"; done
-	@for folder in "$(SHARE)" "$(DOC)"; do [ ! -d "$$folder" ] || rmdir "$$folder" || exit 1; done
+	@rm -f "$(DESTDIR)$(BIN)/bpfdb" "$(DESTDIR)$(BIN)/bpfdb-shell" "$(DESTDIR)$(BIN)/bpfdb-symbols"
+	@rm -f "$(DESTDIR)$(MAN)/bpfdb.1" "$(DESTDIR)$(SHARE)/bpfdb-gdb.py"
+	@rm -rf "$(DESTDIR)$(DOC)"
+	@[ ! -d "$(DESTDIR)$(SHARE)" ] || rmdir "$(DESTDIR)$(SHARE)"
 
 # Makes the tables of the pages anew, and holds the pages against the repository.
 pages:

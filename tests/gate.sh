@@ -1,20 +1,18 @@
 #!/bin/sh
-# The gate: each part in turn, with a line that says how it ended and how long it took. The first part that fails ends it.
-# Its last line, where all passed, is that of rt ci.
+# The gate: each part in turn, with a line that says how it ended, how long it took and how much of the processors. The first part that fails
+# ends it. Its last line, where all passed, is that of rt ci. Of a tree that is a commit, out/passed then has the commit and that line.
 set -u
 cd "$(dirname "$0")/.." || exit 1
 . tests/machine.sh
 exec < /dev/null
 mkdir -p out || exit 1
 log=out/ci.log
+rm -f out/passed
 
-# duration SECONDS: as '34 min 12 s'.
-duration() {
-    if [ "$1" -ge 60 ]; then
-        echo "$(($1 / 60)) min $(($1 % 60)) s"
-    else
-        echo "$1 s"
-    fi
+# processor: the processor seconds that what has ended took up to now. (The last line of `times` is that of the children: 12m3.45s 0m6.78s.)
+processor() {
+    times > out/times
+    tail -n 1 out/times | sed 's/[ms]/ /g' | awk '{ printf "%d", $1 * 60 + $2 + $3 * 60 + $4 }'
 }
 
 # part NAME COMMAND..: runs a part; one that fails ends the gate.
@@ -22,18 +20,13 @@ part() {
     name=$1
     shift
     started=$(date +%s)
+    processor > out/before
     outcome=passed
     "$@" || outcome=FAILED
-    echo "$name: $outcome in $(duration $(($(date +%s) - started)))"
+    processor > out/after
+    took=$(duration $(($(date +%s) - started)))
+    echo "$name: $outcome in $took; $(duration $(($(cat out/after) - $(cat out/before)))) of a processor"
     [ "$outcome" = passed ] || exit 1
-}
-
-# alone: rt ci sets more memory aside for a check than it takes, and then leaves processors idle. Where there is room for a check a
-# processor, each processor is to have one.
-alone() {
-    [ "$(room)" -eq "$(nproc)" ] || return
-    RT_JOBS=$(nproc)
-    export RT_JOBS
 }
 
 # prove: rt ci, with its words as they come and in the log. It passed where its status and its last line say so.
@@ -46,10 +39,25 @@ prove() {
     [ "$(cat out/ci.status)" = 0 ] && tail -n 1 "$log" | grep -q -x '[1-9][0-9]* passed, 0 failed'
 }
 
+# proved: rt ci, and after it how much of the processors went into crates, tests and wrong bodies (tests/minutes.sh).
+proved() {
+    sh tests/minutes.sh out/minutes &
+    sampler=$!
+    prove
+    outcome=$?
+    kill "$sampler" 2> /dev/null
+    wait "$sampler" 2> /dev/null
+    sh tests/minutes.sh --told out/minutes
+    return "$outcome"
+}
+
 part 'tests/pages.sh' sh tests/pages.sh
 alone
-echo 'rt ci: every proof from nothing, the must-fail edits, each test and program (80 to 110 minutes on four cores)'
-part 'rt ci' prove
+echo 'rt ci: every proof from nothing, the must-fail edits, each test and program (35 to 60 minutes on four cores)'
+part 'rt ci' proved
 part 'tests/program.sh' sh tests/program.sh
 part 'tests/examples.sh' sh tests/examples.sh
+if [ -z "$(git status --porcelain 2>&1)" ]; then
+    { git rev-parse HEAD; tail -n 1 "$log"; } > out/passed
+fi
 tail -n 1 "$log"

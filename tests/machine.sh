@@ -1,4 +1,4 @@
-# What this machine has room for: read by '.' in tests/gate.sh and tests/build.sh.
+# What this machine has room for, and which crates a program stands on: read by '.' in other scripts of this folder.
 
 # memory: the gigabytes that are free, and no more than this process may take.
 memory() {
@@ -17,4 +17,37 @@ room() {
     [ "$(($(memory) / 4))" -ge "$checks" ] || checks=$(($(memory) / 4))
     [ "$checks" -ge 1 ] || checks=1
     echo "$checks"
+}
+
+# alone: rt ci sets more memory aside for a check than it takes, and then leaves processors idle. Where there is room for a check a
+# processor, each processor is to have one.
+alone() {
+    [ "$(room)" -eq "$(nproc)" ] || return
+    RT_JOBS=$(nproc)
+    export RT_JOBS
+}
+
+# duration SECONDS: as '34 min 12 s'.
+duration() {
+    if [ "$1" -ge 60 ]; then
+        echo "$(($1 / 60)) min $(($1 % 60)) s"
+    else
+        echo "$1 s"
+    fi
+}
+
+# below CRATE: the crate and each of the repository that it stands on, a line each, in the order of crates.txt, which is lowest first.
+below() {
+    sed 's/#.*//' crates.txt | awk -v crate="$1" -F: '
+        NF > 1 { split($1, words, " "); order[++count] = words[1]; uses[words[1]] = $2 }
+        END {
+            wanted[crate] = 1
+            for (i = count; i >= 1; i--) {
+                if (!wanted[order[i]]) continue
+                n = split(uses[order[i]], names, " ")
+                for (j = 1; j <= n; j++) wanted[names[j]] = 1
+            }
+            for (i = 1; i <= count; i++) if (wanted[order[i]]) print order[i]
+        }
+    '
 }

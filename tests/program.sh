@@ -2,7 +2,7 @@
 # Tests of the built program (or of the one whose whole path is BPFDB) from outside: its output, its standard error and its exit
 # status, with input and output that fail, with each request for memory refused in turn, at its limits, and with programs that are
 # made to hurt or at random, and how it is built. A test that passes prints nothing; one that fails names itself and shows what differs. The tests stand in
-# tests/program/, a file a part; with the names of parts (session, usage, ..) these alone are run. Expected texts are written out
+# tests/program/, a file a part; with the names of parts (session, usage, ..) these alone are run, else all, one a processor. Expected texts are written out
 # there, by the manual, or stand in crates/bpfdb/stdout and tests/session/; the texts of help stand in tests/program/help/.
 set -u
 cd "$(dirname "$0")/.." || exit 1
@@ -21,8 +21,36 @@ leave() {
 trap leave EXIT
 trap 'exit 130' HUP INT TERM
 
+# all_parts: each part, those that take longest first.
+all_parts() {
+    printf '%s\n' fuzz faults memory hostile limits calls gdb objects session usage refusals results remote symbols install dist files streams build
+}
+
+# total: the last lines of the parts, added up. Fails where a test failed, or a part has no such line.
+total() {
+    all_parts | while read -r part; do
+        tail -n 1 "$work/$part"
+    done | awk -v parts="$(all_parts | wc -l)" '
+        /^tests of the program: [0-9]+, of which [0-9]+ failed$/ { ended++; count += $5; failed += $8 }
+        END {
+            printf "tests of the program: %d, of which %d failed\n", count, failed
+            if (ended < parts) printf "FAILED: %d parts came to no end\n", parts - ended
+            exit failed > 0 || ended < parts
+        }
+    '
+}
+
+if [ $# -eq 0 ]; then
+    # (work has no quotes: mktemp made it)
+    all_parts | xargs -P "$(nproc)" -I PART sh -c "sh tests/program.sh PART > '$work/PART' 2>&1"
+    all_parts | while read -r part; do
+        grep -v -x 'tests of the program: [0-9]*, of which [0-9]* failed' "$work/$part"
+    done
+    total
+    exit
+fi
+
 . "$parts/harness.sh"
-[ $# -gt 0 ] || set -- session usage refusals results objects remote symbols gdb install files streams calls memory faults limits hostile fuzz build
 for part in "$@"; do
     begin "$part"
 done

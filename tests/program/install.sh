@@ -1,7 +1,7 @@
 # make install and make uninstall, below a folder of their own. They take the program of this repository, so where BPFDB names another one
 # they aren't tested.
 
-if [ -n "${BPFDB:-}" ]; then
+if [ -n "${BPFDB:-}" ] && [ "$BPFDB" != "$top/crates/bpfdb/out/bpfdb" ]; then
     echo 'tests/program/install.sh: BPFDB names the program, so make install is not tested'
 else
     # installed DESTDIR PREFIX: is installed there, works, and leaves nothing when it is taken away.
@@ -9,13 +9,16 @@ else
         installed=$1$2
         env -u MAKEFLAGS make -s -C "$top" install DESTDIR="$1" PREFIX="$2" > found/out 2> found/err
         echo $? > found/status
-        check "make install PREFIX=$2" 0 "installed $installed/bin/bpfdb, bpfdb-shell and bpfdb-symbols beside it, the man page, and pages in $installed/share/doc/bpfdb; in gdb: source $installed/share/bpfdb/bpfdb-gdb.py\n" ''
+        check "make install PREFIX=$2" 0 "installed $2/bin/bpfdb, bpfdb-shell and bpfdb-symbols beside it, the man page, and pages and examples in $2/share/doc/bpfdb; in gdb: source $2/share/bpfdb/bpfdb-gdb.py\n" ''
         (cd "$installed" && find . -type f -printf '%m %P\n' | sort) > found/files
-        cat > wanted/files <<'FILES'
+        {
+            cat <<'FILES'
 644 share/bpfdb/bpfdb-gdb.py
+644 share/doc/bpfdb/CHANGELOG.md
 644 share/doc/bpfdb/COMMANDS.md
 644 share/doc/bpfdb/GDB.md
 644 share/doc/bpfdb/JOURNAL.md
+644 share/doc/bpfdb/LICENSE
 644 share/doc/bpfdb/LISTING.md
 644 share/doc/bpfdb/MACHINE.md
 644 share/man/man1/bpfdb.1
@@ -23,6 +26,8 @@ else
 755 bin/bpfdb-shell
 755 bin/bpfdb-symbols
 FILES
+            (cd "$top" && find examples -type f -printf '644 share/doc/bpfdb/%p\n')
+        } | sort > wanted/files
         same "make install PREFIX=$2: files and their modes" wanted/files found/files
         cp "$top/crates/bpfdb/stdin" script
         "$installed/bin/bpfdb" < script > found/out 2> found/err

@@ -148,7 +148,11 @@ wants "$plain$c13$o2$j2" 0 \
     '10000 forward; done; at 0: ja L0\n9362 moves, 0 commands, 65534 of 65536 bytes\n9362 back; done; at 0: ja L0\n9362 redone; all; at 0: ja L0\n' '' debug endless
 
 # The calls of the libraries, in crates/memory_calls: each answers by its own number, or by `out of memory` where it has none.
-sh "$top/tests/build.sh" memory_calls || exit 1
+# `rt ci` builds that program too.
+if ! [ -x "$top/crates/memory_calls/out/memory_calls" ]; then
+    echo 'tests/program/memory.sh: crates/memory_calls is not built, so the calls of the libraries are not tested'
+    return
+fi
 tool=$program
 program=$top/crates/memory_calls/out/memory_calls
 name=memory_calls

@@ -1,0 +1,73 @@
+#!/bin/sh
+# `make dist`: what is handed on of a built program, in the folder out/dist (or the one that is named): an archive, a Debian package where there is
+# dpkg-deb, and their SHA256SUMS. In it are the program, its shell, the tools for gdb, the man page, the pages for users, the examples, the
+# license, the changelog, and a file BUILD with the commit and the last line of the gate, which `make test` leaves in out/passed. A tree
+# that differs from its commit, or whose commit the gate hasn't passed, gives none. The same commit gives the same bytes.
+set -u
+cd "$(dirname "$0")/.." || exit 1
+to=${1:-out/dist}
+work=$(mktemp -d) || exit 1
+trap 'rm -rf "$work"' EXIT
+trap 'exit 130' HUP INT TERM
+
+# fail TEXT: ends this with a line.
+fail() {
+    echo "FAILED: $1"
+    exit 1
+}
+
+commit=$(git rev-parse HEAD 2> /dev/null) || fail 'this is no clone of the repository, so there is no commit to name'
+[ -z "$(git status --porcelain)" ] || fail "the tree differs from its commit: $(git status --porcelain | head -n 1)"
+[ "$(sed -n 1p out/passed 2> /dev/null)" = "$commit" ] || fail "the gate hasn't passed at this commit: make test"
+program=crates/bpfdb/out/bpfdb
+[ -x "$program" ] || fail "there is no $program: make run"
+version=$(sed -n 's/^## \([0-9][0-9.]*\).*/\1/p' CHANGELOG.md | head -n 1)
+name=bpfdb-$version-x86_64-linux
+SOURCE_DATE_EPOCH=$(git show -s --format=%ct HEAD)
+export SOURCE_DATE_EPOCH
+
+# told: what the file BUILD says.
+told() {
+    echo "commit $commit"
+    echo "gate: $(sed -n 2p out/passed)"
+    "$program" --version
+}
+
+# package: the Debian package of the tree $work/deb.
+package() {
+    mkdir "$work/deb/DEBIAN"
+    cat > "$work/deb/DEBIAN/control" << CONTROL
+Package: bpfdb
+Version: $version
+Architecture: amd64
+Maintainer: the bpfdb authors <bpfdb@localhost>
+Section: devel
+Priority: optional
+Depends: libc6 (>= 2.34)
+Recommends: python3
+Suggests: gdb, rlwrap, clang
+Description: runs BPF programs forwards and backwards
+ A debugger for BPF programs (RFC 9669) that goes back exactly, with a checker,
+ an assembler, a disassembler, a linker and an interpreter. Its code is proved.
+CONTROL
+    dpkg-deb --root-owner-group -Zxz --build "$work/deb" "$to/bpfdb_${version}_amd64.deb" > "$work/said" 2>&1 || {
+        cat "$work/said"
+        fail 'dpkg-deb makes no package'
+    }
+}
+
+rm -rf "$to"
+mkdir -p "$to" || exit 1
+make -s install DESTDIR="$work/tree" PREFIX="/$name" > /dev/null || fail 'make install'
+told > "$work/tree/$name/share/doc/bpfdb/BUILD"
+tar -c --sort=name --mtime="@$SOURCE_DATE_EPOCH" --owner=0 --group=0 --numeric-owner -C "$work/tree" "$name" | gzip -n > "$to/$name.tar.gz" || fail 'tar'
+if command -v dpkg-deb > /dev/null; then
+    make -s install DESTDIR="$work/deb" PREFIX=/usr > /dev/null || fail 'make install'
+    told > "$work/deb/usr/share/doc/bpfdb/BUILD"
+    package
+else
+    echo 'There is no dpkg-deb here, so no Debian package is made.'
+fi
+(cd "$to" && sha256sum bpfdb[-_]* > SHA256SUMS)
+echo "In $to, of commit $commit:"
+cat "$to/SHA256SUMS"

@@ -1,0 +1,55 @@
+# make dist, over a copy of the repository with a commit of its own. It takes the program of this repository, so where BPFDB names another one
+# it isn't tested.
+
+# handed_on: what make dist made works where it is unpacked.
+handed_on() {
+    name=$(cd made && echo bpfdb-*-x86_64-linux.tar.gz)
+    name=${name%.tar.gz}
+    tar -x -z -f "made/$name.tar.gz"
+    BPFDB=$PWD/$name/bin/bpfdb sh "$name/share/doc/bpfdb/examples/suite/test.sh" > found/out 2> found/err
+    echo $? > found/status
+    check 'make dist: the suite of the archive' 0 '' ''
+    "$name/bin/bpfdb" --version > found/out
+    { echo "commit $commit"; echo 'gate: 7 passed, 0 failed'; cat found/out; } > wanted/build
+    same 'make dist: what was built' wanted/build "$name/share/doc/bpfdb/BUILD"
+    (cd made && sha256sum -c --quiet SHA256SUMS) > found/out 2>&1 || complain 'make dist: SHA256SUMS'
+    if command -v dpkg-deb > /dev/null; then
+        dpkg-deb -x made/bpfdb_*_amd64.deb deb
+        BPFDB=$PWD/deb/usr/bin/bpfdb sh deb/usr/share/doc/bpfdb/examples/suite/test.sh > found/out 2> found/err
+        echo $? > found/status
+        check 'make dist: the suite of the Debian package' 0 '' ''
+    fi
+}
+
+# dist FOLDER: make dist into a folder; what it says last is found.
+dist() {
+    (cd copy && sh tests/dist.sh "$1") > told 2> found/err
+    echo $? > found/status
+    tail -n 1 told > found/out
+}
+
+if [ -n "${BPFDB:-}" ] && [ "$BPFDB" != "$top/crates/bpfdb/out/bpfdb" ]; then
+    echo 'tests/program/dist.sh: BPFDB names the program, so make dist is not tested'
+elif ! git -C "$top" rev-parse HEAD > /dev/null 2>&1; then
+    echo 'tests/program/dist.sh: this is no clone, so make dist is not tested'
+else
+    mkdir copy
+    git -C "$top" ls-files -z | (cd "$top" && xargs -0 tar -c -f - --ignore-failed-read 2> /dev/null) | tar -x -f - -C copy
+    (
+        cd copy && git init -q . && git add -A &&
+            git -c user.name=tests -c user.email=tests@localhost commit -q -m 'for a test' && mkdir -p out crates/bpfdb/out
+    ) || complain 'make dist: no copy'
+    cp "$program" copy/crates/bpfdb/out
+    commit=$(git -C copy rev-parse HEAD)
+    dist "$PWD/made"
+    check 'make dist before the gate has passed' 1 "FAILED: the gate hasn't passed at this commit: make test\n" ''
+    printf '%s\n7 passed, 0 failed\n' "$commit" > copy/out/passed
+    dist "$PWD/made"
+    [ "$(cat found/status)" = 0 ] || { complain 'make dist'; cat told found/err; }
+    handed_on
+    dist "$PWD/again"
+    same 'make dist, twice' made/SHA256SUMS again/SHA256SUMS
+    echo >> copy/README.md
+    dist "$PWD/made"
+    check 'make dist of a tree that differs' 1 'FAILED: the tree differs from its commit:  M README.md\n' ''
+fi

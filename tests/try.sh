@@ -1,0 +1,60 @@
+#!/bin/sh
+# bpfdb without proofs, for a first look: `rt try` compiles it with checks and runs it once, in a minute or two. Nothing is proved by that.
+# Without words it plays the session of tests/session/script, which README shows, each command behind '> '. With words it is bpfdb's own
+# command line: a word that names a file is that file, standard input is the script (of `debug` at a terminal: up to Ctrl-D), and what is
+# printed comes when it has ended. Its status is bpfdb's.
+set -u
+from=$PWD
+cd "$(dirname "$0")/.." || exit 1
+command -v rt > /dev/null || { echo "FAILED: there is no 'rt', the command of the Rattle toolchain (README.md says where it comes from)." >&2; exit 1; }
+work=$(mktemp -d) || exit 1
+trap 'rm -rf "$work"' EXIT
+trap 'exit 130' HUP INT TERM
+
+# tried WORD..: the command line, by `rt try`. What `rt try` itself says of its run is left out, unless the run gave no answer.
+tried() {
+    (cd crates/bpfdb && rt try "$@") 2> "$work/err"
+    status=$?
+    grep -q '^run=ended' "$work/err" || { cat "$work/err" >&2; return "$status"; }
+    grep -v -E '^(checked: |run=|interpreted: |rt: |note: )' "$work/err" >&2
+    return "$status"
+}
+
+echo 'Compiling bpfdb without its proofs: a minute or two. `make run` proves it.' >&2
+# named WORD NUMBER: the name under which the program finds a file: its own, unless that stands for another file already or has a blank.
+named() {
+    name=$(basename "$1")
+    case $name in *' '*) name=$2 ;; esac
+    [ ! -e "$work/files/$name" ] || name=$2-$name
+}
+
+if [ $# -gt 0 ]; then
+    mkdir "$work/files" || exit 1
+    count=$#
+    data=''
+    number=0
+    while [ "$number" -lt "$count" ]; do
+        number=$((number + 1))
+        word=$1
+        shift
+        case $word in
+        /*) path=$word ;;
+        *) path=$from/$word ;;
+        esac
+        if [ -f "$path" ]; then
+            named "$word" "$number"
+            cp "$path" "$work/files/$name" || exit 1
+            data="$data --data $name=$work/files/$name"
+            word=$name
+        fi
+        set -- "$@" "$word"
+    done
+    # (each of these is a word without blanks)
+    # shellcheck disable=SC2086
+    tried $data -- "$@"
+    exit
+fi
+
+# (The program echoes no command. Each of this session is answered by one line.)
+tried < tests/session/script > "$work/replies" || exit
+paste -d '\n' tests/session/script "$work/replies" | sed '1~2s/^/> /'
