@@ -1,5 +1,5 @@
 //! The command line: from its words to a plan, or to help or a fault in the words of `clap`.
-//! Its tests stand in `bpfdb_jobs_tests`.
+//! Its tests are those of the built program: `tests/program/usage.sh` and `tests/program/jobs.sh`.
 #![tactic(auto)]
 
 mod command_line;
