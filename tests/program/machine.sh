@@ -438,7 +438,8 @@ function access(address, letter) {
     want("stepi", "place", $1 < 7 ? "running 0" : "depth 0")
 }' -m zeros --maps 8x2
 
-# A byte of its own for each region, written to all of its bytes one by one: then each region has its own.
+# A byte of its own for each region, written to all of its bytes one by one: then each region has its own, and
+# no byte behind it.
 rows regions 12
 play '
 BEGIN { place(EXIT) }
@@ -455,6 +456,7 @@ END {
         row = asks[n]
         for (i = 0; i < length_of[n]; i += 256)
             bytes(moved(from[n], i), many(padded(n, 2), length_of[n] - i < 256 ? length_of[n] - i : 256))
+        want("x " moved(from[n], length_of[n]) " 1", "reply", "refused Q6: address not present")
     }
 }' -m zeros --maps 8x2,1x1,3x5
 

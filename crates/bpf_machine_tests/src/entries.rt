@@ -1,6 +1,5 @@
 //! Entries and what they weigh in a journal. Expected values are those of docs/MACHINE.md.
-use crate::rows::{parts, two};
-use crate::tables::check;
+use crate::rows::{check_number, parts, stop_unless, two};
 use bpf_isa::Reg;
 use bpf_machine::{ByteString, Entry, FrameBytes, Status};
 use std::process::Abort;
@@ -111,7 +110,15 @@ fn weight_holds(rt: &impl Abort, row: &str) -> bool {
     weights_of(rt, kind, n) == (weight, weight)
 }
 
+/// Stops at a row that doesn't hold.
+fn check_weights(rt: &impl Abort, rows: &str) {
+    for row in rows.lines() {
+        stop_unless(rt, weight_holds(rt, row), row);
+    }
+}
+
 #[test]
 fn weights(rt: HostRuntime) {
-    check(&rt, WEIGHTS, 20, |row| weight_holds(&rt, row));
+    check_weights(&rt, WEIGHTS);
+    check_number(&rt, WEIGHTS.lines().count() as u64, 20);
 }
