@@ -24,6 +24,8 @@ play() {
 $plan" rows > plan || complain "$table: awk"
     bytes program $(cat slots)
     cut -f 1 plan > script
+    cut -f 3 plan | sort -u > asked
+    ! grep -v -x -F -f asked rows || complain "$table: these rows aren't asked"
     "$program" debug "$@" program < script > replies 2> errors
     [ $? -eq 0 ] && [ ! -s errors ] || complain "$table: the session ended with: $(cat errors)"
     awk -v table="$table" -f "$parts/machine/judge.awk" plan > told || complain "$table: awk"
