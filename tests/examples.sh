@@ -93,6 +93,19 @@ shell() {
         '1 back; done; at 8: ldxdw r1, [r10-8]' 'refused Q1: unknown command' > "$work/wanted-out"
     printf '> > > > > > ' > "$work/wanted-err"
     expect 'share/bpfdb-shell' 0 "$work/wanted-out" "$work/wanted-err"
+    (printf 'c\r\n\r\nq now\r\nrs 2' | sh share/bpfdb-shell --listing -m examples/fault/context.bin examples/fault/program.s) > "$work/out" 2> "$work/err"
+    status=$?
+    printf '%s\n' '55 forward; end; fault access 0x100000083 at 9' 'refused Q3: the machine has ended' 'refused Q2: wrong argument' \
+        '2 back; done; at 8: ldxdw r1, [r10-8]' > "$work/wanted-out"
+    printf '> > > > > ' > "$work/wanted-err"
+    expect 'share/bpfdb-shell, lines that end in a carriage return, and a last one without a line feed' 0 "$work/wanted-out" "$work/wanted-err"
+    if [ -c /dev/full ]; then
+        printf 'stepi\nstepi\n' | sh share/bpfdb-shell > /dev/full 2> "$work/err"
+        status=$?
+        : > "$work/out"
+        printf '> cannot write output\n' > "$work/wanted-err"
+        expect 'share/bpfdb-shell, and the output is full' 2 /dev/null "$work/wanted-err"
+    fi
     sh share/bpfdb-shell missing < /dev/null > "$work/out" 2> "$work/err"
     status=$?
     echo 'cannot read missing' > "$work/wanted-err"
