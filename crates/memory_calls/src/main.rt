@@ -2,11 +2,14 @@
 //!
 //! The argument names the call; without one all are made, each followed by its name and its status. What comes of a call goes to
 //! standard output, and a refusal to standard error as bpfdb tells it, with status 2. Status 3: the call wasn't reached.
+//!
+//! One more call takes arguments and a script, `session` (`sessions.rt`); it isn't among all.
 #![tactic(auto)]
 
 mod files;
 mod programs;
 mod scripts;
+mod sessions;
 mod telling;
 
 use counted_io::{Counted, put, put_decimal};
@@ -51,13 +54,23 @@ fn obey<W: Write, E: Write>(
     output: &mut Counted<W>,
     errors: &mut Counted<E>,
 ) -> u8 {
-    let Ok(words) = env::args(rt) else {
+    let Some(words) = words_of(rt) else {
         return NOT_REACHED;
     };
-    match words.skip(1).next() {
+    match words.first() {
+        Some(name) if name.as_str() == "session" => sessions::play(rt, &words, output, errors),
         Some(name) => made(rt, name.as_str(), output, errors),
         None => all_made(rt, output, errors),
     }
+}
+
+/// The words of the command line behind the program's name; none where memory runs out.
+fn words_of(rt: &HostRuntime) -> Option<Vec<String>> {
+    let mut words = Vec::new(rt.alloc());
+    for word in env::args(rt).ok()?.skip(1) {
+        words.push(word).ok()?;
+    }
+    Some(words)
 }
 
 /// Makes each call. Answers the exit status: 0 where all of it was written.
