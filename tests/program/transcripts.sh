@@ -110,7 +110,7 @@ divide() {
 
 # hold NAME: the last run came to the replies of the transcript. Else it is told which row is the first that differs.
 hold() {
-    compare "$file, transcript $number ($title): $1" && return
+    compare "$table.txt, transcript $number ($title): $1" && return
     awk -v rows="$number.rows" '
         { found[NR] = $0 }
         END {
@@ -163,10 +163,10 @@ play() {
 
 echo 0 > wanted/status
 : > wanted/err
-for file in sessions calls redo shown stops maps journals lines refusals; do
+for table in sessions calls redo shown stops maps journals lines refusals; do
     : > list
-    divide "$parts/transcripts/$file.txt"
-    [ -s list ] || complain "$file.txt: there are no transcripts"
+    divide "$parts/transcripts/$table.txt"
+    [ -s list ] || complain "$table.txt: there are no transcripts"
     while read -r number maps journal steps before again rows title; do
         play
     done < list

@@ -11,28 +11,14 @@ use std::io::{Error, ErrorKind, Write};
 use std::process::Abort;
 
 /// mov r0, 42; exit.
-pub const ANSWER: &str = "b70000002a0000009500000000000000";
-
-pub const SCRIPT: &str = "stepi\nreverse-stepi\nfrob\nstepi 2\n";
+const ANSWER: &str = "b70000002a0000009500000000000000";
 
 const PRINTED: &str = "1 forward; done; at 1: exit\n\
      1 back; done; at 0: mov r0, 42\n\
-     refused Q1: unknown command\n\
-     2 forward; end; exited at 1: r0 0x2a\n";
-
-// How many bytes the first replies have, by the bytes of the script that are read before a read fails.
-pub fn told_before(good: usize) -> usize {
-    match good {
-        0..6 => 0,
-        6..20 => 28,
-        20..25 => 59,
-        25..33 => 87,
-        _ => 124,
-    }
-}
+     refused Q1: unknown command\n";
 
 // The first so many bytes of what is printed.
-pub fn first(rt: &impl Abort, count: usize) -> &'static [u8] {
+fn first(rt: &impl Abort, count: usize) -> &'static [u8] {
     PRINTED.as_bytes().get(..count).expect(rt, "fewer bytes")
 }
 
@@ -71,7 +57,7 @@ fn new_noting(alloc: Global, good: u64) -> Noting {
 }
 
 /// The fault with which a run ends.
-pub fn fault_of(answer: Result<(), RunFault>) -> &'static str {
+fn fault_of(answer: Result<(), RunFault>) -> &'static str {
     match answer {
         Ok(()) => "none",
         Err(RunFault::Read) => "read",
@@ -86,7 +72,7 @@ fn check_fault(rt: &impl Abort, answer: Result<(), RunFault>, failures: u64, fau
 }
 
 /// A session of the program above.
-pub fn answering(rt: &impl Abort, alloc: Global) -> Session<ListKeeper> {
+fn answering(rt: &impl Abort, alloc: Global) -> Session<ListKeeper> {
     session(rt, alloc, ANSWER, &[], 65_536, 1_000_000)
 }
 

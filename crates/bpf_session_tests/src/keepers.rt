@@ -1,9 +1,8 @@
-//! Keepers that have room for a few entries alone, and for many.
+//! Keepers that have room for a few entries alone.
 ghost use Rattle.std.specs.Prelude.{◌≡◌, ◌<◌, ◌^◌, OnOk};
 ghost use Rattle.bpf_journal.specs.Keepers.{refusals_after};
 
 use crate::play::{machine, plays, ring_for, stop_unless};
-use crate::scripts;
 use bpf_journal::{Keeper, ListKeeper};
 use bpf_machine::Entry;
 use bpf_session::Session;
@@ -100,15 +99,8 @@ impl<K: Keeper> Keeper for Narrow<K> {
 /// add r0, 1; ja -2.
 const ENDLESS: &str = "07000000010000000500feff00000000";
 
-/// A row: how many entries there is room for, how many pushes are taken, how many refusals are counted, and the transcript.
-type Row = (usize, usize, u64, &'static str);
-
-const ROWS: [Row; 5] = [
-    (
-        0,
-        100,
-        3,
-        "\
+// No entry is kept.
+const NO_ENTRY: &str = "\
 stepi 8|refused Q15: out of memory
 continue|refused Q15: out of memory
 set reg r0 1|refused Q15: out of memory
@@ -119,26 +111,20 @@ set mem 0 00|refused Q6: address not present
 set reg r10 1|refused Q7: register not writable
 set pc 2|refused Q8: no instruction starts there
 set cell 0 0 00|refused Q14: no such cell or wrong length
-",
-    ),
-    (
-        1,
-        100,
-        3,
-        "\
+";
+
+// One entry is kept at most.
+const ONE_ENTRY: &str = "\
 stepi 8|1 forward; memory; at 1: ja L0
 stepi 8|refused Q15: out of memory
 reverse-stepi|1 back; done; at 0: add r0, 1
 stepi|1 forward; done; at 1: ja L0
 set reg r0 1|refused Q15: out of memory
 undo|1 back; done; at 0: add r0, 1
-",
-    ),
-    (
-        5,
-        100,
-        3,
-        "\
+";
+
+// Five entries are kept at most.
+const FIVE_ENTRIES: &str = "\
 stepi 8|5 forward; memory; at 1: ja L0
 info regs|r0=0x3 r1=0x0 r2=0x0 r3=0x0 r4=0x0 r5=0x0 r6=0x0 r7=0x0 r8=0x0 r9=0x0 r10=0x200000200
 |at 1: ja L0
@@ -146,14 +132,11 @@ reverse-stepi 3|3 back; done; at 0: add r0, 1
 continue|3 forward; memory; at 1: ja L0
 continue|refused Q15: out of memory
 undo 2|5 back; done; at 0: add r0, 1
-",
-    ),
-    // Moves that are made again are kept again, and that may be refused. What is refused stays, also behind a new move that is refused.
-    (
-        100,
-        5,
-        7,
-        "\
+";
+
+// Five pushes are taken. Moves that are made again are kept again, and that may be refused. What is refused stays, also behind a new
+// move that is refused.
+const FIVE_PUSHES: &str = "\
 stepi 3|3 forward; done; at 1: ja L0
 undo|3 back; done; at 0: add r0, 1
 redo 3|2 redone; memory; at 0: add r0, 1
@@ -169,13 +152,10 @@ redo|refused Q15: out of memory
 set reg r0 1|refused Q15: out of memory
 redo 2|refused Q15: out of memory
 info history|0 moves, 0 commands, 0 of 65536 bytes
-",
-    ),
-    (
-        100,
-        6,
-        1,
-        "\
+";
+
+// Six pushes are taken.
+const SIX_PUSHES: &str = "\
 stepi 2|2 forward; done; at 0: add r0, 1
 set reg r0 7|ok
 undo 2|3 back; done; at 0: add r0, 1
@@ -183,9 +163,7 @@ redo 2|2 redone; done; at 0: add r0, 1
 reverse-stepi|1 back; done; at 1: ja L0
 redo 9|1 redone; memory; at 0: add r0, 1
 info history|2 moves, 1 commands, 23 of 65536 bytes
-",
-    ),
-];
+";
 
 /// A session whose keeper keeps so many entries at most, and takes so many pushes.
 fn narrow_session(
@@ -207,45 +185,25 @@ fn narrow_session(
     Session::open(machine(rt, alloc, ENDLESS, &[]), keeper, redo, 1_000_000)
 }
 
-/// Plays the transcript of a row, and stops unless so many refusals are counted.
-fn play_row(rt: &impl Abort, alloc: Global, row: Row) {
-    let (most, left, refusals, transcript) = row;
+/// Plays a transcript over such a keeper, and stops unless so many refusals are counted.
+fn play_narrow(
+    rt: &impl Abort,
+    alloc: Global,
+    most: usize,
+    left: usize,
+    refusals: u64,
+    transcript: &str,
+) {
     let mut session = narrow_session(rt, alloc, most, left);
     plays(rt, alloc, &mut session, transcript, 10_000);
     stop_unless(rt, session.keeper().refusals() == refusals, transcript);
 }
 
-/// Plays the transcript of each row.
-fn play_rows(rt: &impl Abort, alloc: Global, rows: &[Row]) {
-    for row in rows {
-        play_row(rt, alloc, *row);
-    }
-}
-
-/// As many entries as a list or a ring of the greatest size is asked to keep: 50,000 of 16 bytes, and as many of 7.
-const MANY: scripts::Row = (
-    ENDLESS,
-    &[],
-    16_777_216,
-    1_000_000,
-    "\
-stepi 100000|100000 forward; done; at 0: add r0, 1
-info history|100000 moves, 1 commands, 1150000 of 16777216 bytes
-undo|100000 back; done; at 0: add r0, 1
-info history|0 moves, 0 commands, 0 of 16777216 bytes
-redo 100000|100000 redone; done; at 0: add r0, 1
-info history|100000 moves, 1 commands, 1150000 of 16777216 bytes
-info regs|r0=0xc350 r1=0x0 r2=0x0 r3=0x0 r4=0x0 r5=0x0 r6=0x0 r7=0x0 r8=0x0 r9=0x0 r10=0x200000200
-|at 0: add r0, 1
-",
-);
-
-#[test]
-fn many_entries_are_kept(rt: HostRuntime) {
-    scripts::play_rows(&rt, rt.alloc(), &[MANY], 10_000);
-}
-
 #[test]
 fn refused_entries_stop_a_command(rt: HostRuntime) {
-    play_rows(&rt, rt.alloc(), &ROWS);
+    play_narrow(&rt, rt.alloc(), 0, 100, 3, NO_ENTRY);
+    play_narrow(&rt, rt.alloc(), 1, 100, 3, ONE_ENTRY);
+    play_narrow(&rt, rt.alloc(), 5, 100, 3, FIVE_ENTRIES);
+    play_narrow(&rt, rt.alloc(), 100, 5, 7, FIVE_PUSHES);
+    play_narrow(&rt, rt.alloc(), 100, 6, 1, SIX_PUSHES);
 }

@@ -1,18 +1,11 @@
-//! Tests of whole sessions: scripts that are run, and what they print.
+//! Tests of sessions that take the library's own functions: keepers that refuse, the bytes of rings, readers and writers that fail, and
+//! runs without history. (Transcripts stand in tests/program/transcripts, and are played from outside.)
 #![tactic(auto)]
 
-#[cfg(test)]
-mod calls;
-#[cfg(test)]
-mod closing;
 #[cfg(test)]
 mod faults;
 #[cfg(test)]
 mod keepers;
-#[cfg(test)]
-mod maps;
-#[cfg(test)]
-mod pieces;
 #[cfg(test)]
 mod plain;
 #[cfg(test)]
@@ -20,14 +13,4 @@ mod play;
 #[cfg(test)]
 mod random;
 #[cfg(test)]
-mod redo;
-#[cfg(test)]
-mod refusals;
-#[cfg(test)]
 mod rings;
-#[cfg(test)]
-mod scripts;
-#[cfg(test)]
-mod shown;
-#[cfg(test)]
-mod stops;

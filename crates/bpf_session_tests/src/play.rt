@@ -75,7 +75,7 @@ pub fn session_over(
     }
 }
 
-/// The same session over a ring of bytes.
+/// The same over a ring of bytes.
 pub fn ring_session(
     rt: &impl Abort,
     alloc: Global,
@@ -153,7 +153,7 @@ fn append_line(rt: &impl Abort, lines: &mut Vec<u8>, line: &str) {
 }
 
 /// The command of a row.
-pub fn command_of(row: &str) -> &str {
+fn command_of(row: &str) -> &str {
     match row.split_once('|') {
         Some((command, _)) => command,
         None => row,
@@ -161,7 +161,7 @@ pub fn command_of(row: &str) -> &str {
 }
 
 /// The commands of a transcript, a line each.
-pub fn commands_of(rt: &impl Abort, alloc: Global, transcript: &str) -> Vec<u8> {
+fn commands_of(rt: &impl Abort, alloc: Global, transcript: &str) -> Vec<u8> {
     let mut script = Vec::new(alloc);
     for row in transcript.lines() {
         let command = command_of(row);
@@ -173,7 +173,7 @@ pub fn commands_of(rt: &impl Abort, alloc: Global, transcript: &str) -> Vec<u8> 
 }
 
 /// The replies of a transcript, a line each.
-pub fn replies_of(rt: &impl Abort, alloc: Global, transcript: &str) -> Vec<u8> {
+fn replies_of(rt: &impl Abort, alloc: Global, transcript: &str) -> Vec<u8> {
     let mut replies = Vec::new(alloc);
     for row in transcript.lines() {
         if let Some((_, reply)) = row.split_once('|') {
