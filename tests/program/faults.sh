@@ -128,6 +128,13 @@ files() {
     [ "$number" -gt "$reads" ] || complain "$name: there are but $((number - 1)) reads"
 }
 
+# flushed: the last sweep, over the output in whole pieces, met a write for each reply: each is flushed, refusals too, and a line without
+# one isn't. (The reply to a last line without a line feed is in no row of `ends`.)
+flushed() {
+    replies=$(awk -v size="$(wc -c < stated)" '$2 > told { told = $2; replies++ } END { print replies + (size > told) }' ends)
+    [ "$number" -eq $((replies + 1)) ] || complain "$name: $((number - 1)) writes, for $replies replies"
+}
+
 # The program that the script works on: every kind of place, and of what is shown. (call 1 is the helper lookup.)
 bytes program b7 00 00 00 01 00 00 00 85 10 00 00 01 00 00 00 EXIT 72 0a ff ff 07 00 00 00 EXIT \
     71 30 00 00 00 00 00 00 85 00 00 00 01 00 00 00 EXIT
@@ -225,6 +232,7 @@ for all in '' all; do
     input 7 fail $debug
     input 0 fail $debug
     output 0 fail $debug
+    [ -n "$all" ] || flushed
     output 7 none $debug
     output 0 none $debug
 done
@@ -279,6 +287,8 @@ for lines in 'stepi undo' ' stepi undo' ' '; do
         input $piece interrupted $debug
         output $piece fail $debug
     done
+    output 0 fail $debug
+    flushed
 done
 : > script
 

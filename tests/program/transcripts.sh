@@ -172,3 +172,100 @@ for table in sessions calls redo shown stops maps journals lines refusals; do
     done < list
 done
 [ ! -e faults ] || complain "$(cat faults)"
+
+# random_script SEED MOST: 240 random commands with counts up to MOST, each followed by a look at the history. A seed determines them.
+random_script() {
+    awk -v seed="$1" -v most="$2" '
+        # (the generator of Park and Miller, whose products a double holds)
+        function below(bound) {
+            seed = seed * 16807 % 2147483647
+            return int(seed / 2147483647 * bound)
+        }
+        function up_to(greatest) { return 1 + below(greatest) }
+        # An address that the program writes to, one that edits alone change, or one that is not there.
+        function address() { return addresses[up_to(8)] }
+        # Some bytes, mostly eight.
+        function digits(text, i) {
+            for (i = below(8) ? 8 : up_to(7); i > 0; i--) text = text sprintf("%02x", below(256))
+            return text
+        }
+        function forward(kind) {
+            kind = below(8)
+            return kind < 3 ? goals[kind + 1] : "stepi " up_to(most)
+        }
+        function back(kind) {
+            kind = below(8)
+            if (kind < 3) return targets[kind + 1]
+            return kind < 5 ? "undo " up_to(3) : "reverse-stepi " up_to(most)
+        }
+        # An edit of a register, of bytes, of a cell or of pc. Now and then there is no such place.
+        function edit(kind) {
+            kind = below(6)
+            if (kind == 0) return "set reg r" below(11) " " below(8)
+            if (kind == 1) return "set reg r8 0x100000000"
+            if (kind == 2) return "set mem " address() " " digits()
+            if (kind == 3) return "set cell 0 " below(3) " " digits()
+            return "set pc " below(30)
+        }
+        # What shows something, or sets or removes a stop.
+        function shown(kind) {
+            kind = below(12)
+            if (kind < 2) return (kind ? "delete " : "break ") below(28)
+            if (kind < 4) return (kind == 2 ? "watch " : "unwatch ") address()
+            if (kind < 7) return "info " views[kind - 3]
+            if (kind == 7) return "x " address() " " up_to(16)
+            return kind < 10 ? "last-write " address() : "info history"
+        }
+        BEGIN {
+            split("0x100000000 0x100000004 0x2000001f8 0x2000001f4 0x2000005ff 0x300000000 0x300000008 0x400000000", addresses, " ")
+            split("continue nexti finish", goals, " ")
+            split("reverse-continue reverse-nexti reverse-finish", targets, " ")
+            split("regs frames trace", views, " ")
+            for (i = 0; i < 240; i++) {
+                kind = below(7)
+                if (kind == 0) print edit()
+                else if (kind < 3) print back()
+                else if (kind == 3) print "redo " up_to(most)
+                else if (kind == 4) print shown()
+                else print forward()
+                print "info history"
+            }
+        }
+    '
+}
+
+# agrees JOURNAL STEPS SEED MOST: a random script is answered alike over a ring and over a list, also where the session is closed after each
+# command and opened again.
+agrees() {
+    journal=$1 steps=$2
+    random_script "$3" "$4" > script
+    for way in '' -again; do
+        for keeper in list ring; do
+            "$calls" session "$keeper$way" program context 8x2 "$journal" "$steps" < script > found/$keeper 2> found/err ||
+                complain "memory_calls session $keeper$way: status $?, $(cat found/err)"
+        done
+        same "random script $3 with counts up to $4, a journal of $journal and --steps $steps: list$way and ring$way" found/list found/ring
+        [ -n "$way" ] || mv found/ring found/first
+    done
+    run debug -m context --maps 8x2 --journal "$journal" --steps "$steps" program
+    same "random script $3 with counts up to $4, a journal of $journal and --steps $steps: bpfdb and memory_calls" found/out found/first
+    [ "$(wc -l < found/first)" -ge 480 ] || complain "random script $3: fewer replies than commands"
+}
+
+# A loop whose steps make each kind of entry. A store to where r8 is goes wrong at first; at slot 24 it exits, once r9 is 5. A round leaves
+# entries of some 970 bytes: so a small journal holds one, and the block of a greater ring, which is given 4,096 bytes more each time that it is
+# full, grows.
+bytes program 07 00 00 00 01 00 00 00 bf 06 00 00 00 00 00 00 7b 0a f8 ff 00 00 00 00 63 6a f4 ff 00 00 00 00 6b 0a f2 ff 00 00 00 00 \
+    73 0a f1 ff 00 00 00 00 7a 0a f8 fe 07 00 00 00 db 6a f8 ff 01 00 00 00 c3 6a f4 ff 00 00 00 00 85 10 00 00 0f 00 00 00 \
+    45 00 01 00 07 00 00 00 63 08 00 00 00 00 00 00 bf a2 00 00 00 00 00 00 07 02 00 00 e8 ff ff ff 62 0a e8 ff 01 00 00 00 \
+    18 51 00 00 00 00 00 00 00 00 00 00 00 00 00 00 bf a3 00 00 00 00 00 00 07 03 00 00 e8 fe ff ff b7 04 00 00 00 00 00 00 \
+    85 00 00 00 02 00 00 00 bf 01 00 00 00 00 00 00 85 00 00 00 40 00 00 00 55 09 e8 ff 05 00 00 00 EXIT \
+    b7 07 00 00 03 00 00 00 73 7a ff ff 00 00 00 00 EXIT
+bytes context 01 02 03 04 05 06 07 08
+if [ -x "$calls" ]; then
+    for seed in $(seq 102); do
+        agrees $((1024 + seed % 17)) 100 "$seed" 20
+    done
+    agrees 8192 1000 1001 400
+    agrees 65536 1000 1002 400
+fi
