@@ -2,7 +2,7 @@
 ghost use Rattle.std.specs.Prelude.{◌≡◌, ◌<◌, ◌^◌, OnOk};
 ghost use Rattle.bpf_journal.specs.Keepers.{refusals_after};
 
-use crate::play::{machine, plays, ring_for, stop_unless};
+use crate::play::{LIMIT, machine, plays, ring_for, stop_unless};
 use bpf_journal::{Keeper, ListKeeper};
 use bpf_machine::Entry;
 use bpf_session::Session;
@@ -182,7 +182,7 @@ fn narrow_session(
         Err(_) => panic!(rt; "no journal"),
     };
     let redo = ring_for(rt, alloc, &keeper);
-    Session::open(machine(rt, alloc, ENDLESS, &[]), keeper, redo, 1_000_000)
+    Session::open(machine(rt, alloc, ENDLESS, &[]), keeper, redo, LIMIT)
 }
 
 /// Plays a transcript over such a keeper, and stops unless so many refusals are counted.
@@ -195,7 +195,7 @@ fn play_narrow(
     transcript: &str,
 ) {
     let mut session = narrow_session(rt, alloc, most, left);
-    plays(rt, alloc, &mut session, transcript, 10_000);
+    plays(rt, alloc, &mut session, transcript);
     stop_unless(rt, session.keeper().refusals() == refusals, transcript);
 }
 

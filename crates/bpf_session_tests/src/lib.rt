@@ -11,6 +11,4 @@ mod plain;
 #[cfg(test)]
 mod play;
 #[cfg(test)]
-mod random;
-#[cfg(test)]
 mod rings;

@@ -7,69 +7,37 @@ use bpf_isa::{MapTable, check};
 use bpf_journal::{Keeper, ListKeeper, RingKeeper};
 use bpf_machine::Cpu;
 use bpf_session::{Session, run};
-use bpfdb_commands::Count;
 use counted_io::Counted;
-use paced_io::Paced;
 use std::alloc::Global;
 use std::process::Abort;
 
 /// The machine of a program in hexadecimal digits and a context, without maps.
 pub fn machine(rt: &impl Abort, alloc: Global, program: &str, context: &[u8]) -> Cpu {
-    machine_with(rt, alloc, program, &MapTable::empty(), context)
-}
-
-/// The same with the maps of a text.
-pub fn machine_on(
-    rt: &impl Abort,
-    alloc: Global,
-    program: &str,
-    maps: &str,
-    context: &[u8],
-) -> Cpu {
-    let maps = MapTable::parse(maps.as_bytes()).ok().expect(rt, "no maps");
-    machine_with(rt, alloc, program, &maps, context)
-}
-
-/// The same with these maps.
-fn machine_with(
-    rt: &impl Abort,
-    alloc: Global,
-    program: &str,
-    maps: &MapTable,
-    context: &[u8],
-) -> Cpu {
     let bytes = hex::decode(alloc, program).ok().expect(rt, "no digits");
-    let program = check(alloc, &bytes, maps).ok().expect(rt, "refused");
+    let program = check(alloc, &bytes, &MapTable::empty())
+        .ok()
+        .expect(rt, "refused");
     Cpu::open(alloc, program, context)
         .ok()
         .expect(rt, "not opened")
 }
 
-/// A session over such a machine, with a journal of so many bytes and a limit of steps.
+/// The most steps of a command.
+pub const LIMIT: u64 = 1_000_000;
+
+/// A session over a list and such a machine, with an empty journal of so many bytes.
 pub fn session(
     rt: &impl Abort,
     alloc: Global,
     program: &str,
     context: &[u8],
     size: usize,
-    limit: u64,
 ) -> Session<ListKeeper> {
-    session_over(rt, alloc, machine(rt, alloc, program, context), size, limit)
-}
-
-/// A session over a machine, with an empty journal of so many bytes and a limit of steps.
-pub fn session_over(
-    rt: &impl Abort,
-    alloc: Global,
-    cpu: Cpu,
-    size: usize,
-    limit: u64,
-) -> Session<ListKeeper> {
-    let limit = Count::new(limit).expect(rt, "no limit");
+    let cpu = machine(rt, alloc, program, context);
     match ListKeeper::open(alloc, size) {
         Ok(keeper) => {
             let redo = ring_for(rt, alloc, &keeper);
-            Session::open(cpu, keeper, redo, limit.get())
+            Session::open(cpu, keeper, redo, LIMIT)
         }
         Err(_) => panic!(rt; "no journal"),
     }
@@ -82,40 +50,15 @@ pub fn ring_session(
     program: &str,
     context: &[u8],
     size: usize,
-    limit: u64,
 ) -> Session<RingKeeper> {
-    ring_session_over(rt, alloc, machine(rt, alloc, program, context), size, limit)
-}
-
-/// The same over a machine.
-pub fn ring_session_over(
-    rt: &impl Abort,
-    alloc: Global,
-    cpu: Cpu,
-    size: usize,
-    limit: u64,
-) -> Session<RingKeeper> {
-    let limit = Count::new(limit).expect(rt, "no limit");
+    let cpu = machine(rt, alloc, program, context);
     match RingKeeper::open(alloc, size) {
         Ok(keeper) => {
             let redo = ring_for(rt, alloc, &keeper);
-            Session::open(cpu, keeper, redo, limit.get())
+            Session::open(cpu, keeper, redo, LIMIT)
         }
         Err(_) => panic!(rt; "no journal"),
     }
-}
-
-/// The session that closing one and opening another over what it gave makes.
-pub fn reopened<K: Keeper>(
-    rt: &impl Abort,
-    alloc: Global,
-    session: Session<K>,
-    limit: u64,
-) -> Session<K> {
-    let limit = Count::new(limit).expect(rt, "no limit");
-    let (cpu, keeper) = session.close();
-    let redo = ring_for(rt, alloc, &keeper);
-    Session::open(cpu, keeper, redo, limit.get())
 }
 
 /// An empty ring for the moves that will be taken back from a keeper.
@@ -129,16 +72,15 @@ pub fn ring_for<K: Keeper>(rt: &impl Abort, alloc: Global, keeper: &K) -> RingKe
     }
 }
 
-/// What a script prints that comes in pieces of `step` bytes.
-pub fn printed<K: Keeper>(
+/// What a script prints.
+fn printed<K: Keeper>(
     rt: &impl Abort,
     alloc: Global,
     session: &mut Session<K>,
     script: &[u8],
-    step: usize,
 ) -> Vec<u8> {
     let mut printed = Vec::new(alloc);
-    let mut reader = Counted::new(Paced::new(script, step));
+    let mut reader = Counted::new(script);
     let mut writer = Counted::new(&mut printed);
     assert!(rt; run(session, &mut reader, &mut writer).is_ok());
     printed
@@ -183,17 +125,16 @@ fn replies_of(rt: &impl Abort, alloc: Global, transcript: &str) -> Vec<u8> {
     replies
 }
 
-/// Plays a transcript, which comes in pieces of `step` bytes.
+/// Plays a transcript.
 pub fn plays<K: Keeper>(
     rt: &impl Abort,
     alloc: Global,
     session: &mut Session<K>,
     transcript: &str,
-    step: usize,
 ) {
     let script = commands_of(rt, alloc, transcript);
     let wanted = replies_of(rt, alloc, transcript);
-    let told = printed(rt, alloc, session, &script, step);
+    let told = printed(rt, alloc, session, &script);
     check_bytes(rt, &told, &wanted, transcript);
 }
 

@@ -1,11 +1,6 @@
-//! The bytes of rings, and rings that are taken out of a session and put back.
-ghost use Rattle.bpf_journal.specs.Histories.{HasHistory};
-
-use crate::play::{check_bytes, plays, ring_for, ring_session};
-use bpf_journal::{Keeper, RingKeeper};
-use bpf_machine::Cpu;
-use bpf_session::Session;
-use bpfdb_commands::Count;
+//! The bytes of rings.
+use crate::play::{check_bytes, plays, ring_session};
+use bpf_journal::RingKeeper;
 use std::alloc::Global;
 use std::process::Abort;
 
@@ -39,46 +34,15 @@ fn oldest(rt: &impl Abort, alloc: Global, keeper: &RingKeeper, most: usize) -> V
     bytes
 }
 
-/// A keeper of the ring that another one gives up.
-fn put_back(cpu: &Cpu, keeper: RingKeeper) -> RingKeeper
-    requires { HasHistory ⟦<RingKeeper as Keeper>⟧.holds keeper cpu.now }
-    ensures { HasHistory ⟦<RingKeeper as Keeper>⟧.holds result cpu.now }
-{
-    let _cpu = cpu;
-    RingKeeper::from_ring(keeper.into_ring())
-}
-
-/// A session over the machine and the ring of another one.
-pub fn passed_on(
-    rt: &impl Abort,
-    alloc: Global,
-    session: Session<RingKeeper>,
-    limit: u64,
-) -> Session<RingKeeper> {
-    let limit = Count::new(limit).expect(rt, "no limit");
-    let (cpu, keeper) = session.close();
-    let keeper = put_back(&cpu, keeper);
-    let redo = ring_for(rt, alloc, &keeper);
-    Session::open(cpu, keeper, redo, limit.get())
-}
-
 #[test]
 fn a_fetch_leaves_its_bytes(rt: HostRuntime) {
     let alloc = rt.alloc();
-    let mut session = ring_session(
-        &rt,
-        alloc,
-        FETCH,
-        &[1, 0, 0, 0, 0, 0, 0, 0],
-        65_536,
-        1_000_000,
-    );
+    let mut session = ring_session(&rt, alloc, FETCH, &[1, 0, 0, 0, 0, 0, 0, 0], 65_536);
     plays(
         &rt,
         alloc,
         &mut session,
         "stepi|1 forward; done; at 1: exit\n",
-        7,
     );
     let (_, keeper) = session.close();
     check_bytes(&rt, &oldest(&rt, alloc, &keeper, 64), &FETCHED, FETCH);
@@ -87,8 +51,8 @@ fn a_fetch_leaves_its_bytes(rt: HostRuntime) {
 #[test]
 fn dropped_entries_leave_no_bytes(rt: HostRuntime) {
     let alloc = rt.alloc();
-    let mut session = ring_session(&rt, alloc, ENDLESS, &[], 1_024, 1_000_000);
-    plays(&rt, alloc, &mut session, BEGINS, 7);
+    let mut session = ring_session(&rt, alloc, ENDLESS, &[], 1_024);
+    plays(&rt, alloc, &mut session, BEGINS);
     let (_, keeper) = session.close();
     check_bytes(&rt, &oldest(&rt, alloc, &keeper, 7), &DROPPED, ENDLESS);
 }
