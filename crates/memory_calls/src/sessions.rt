@@ -164,10 +164,9 @@ fn run_ring<W: Write>(
     Some(run(&mut session, &mut Counted::new(rt.reader()), output))
 }
 
-/// The whole script as a text.
-fn script(rt: &HostRuntime) -> Option<String> {
-    let bytes = read_source(rt.alloc(), &mut Counted::new(rt.reader())).ok()??;
-    String::from_utf8(bytes).ok()
+/// The bytes of the whole script.
+fn script(rt: &HostRuntime) -> Option<Vec<u8>> {
+    read_source(rt.alloc(), &mut Counted::new(rt.reader())).ok()?
 }
 
 /// The session over the machine and the list of another one.
@@ -208,7 +207,8 @@ fn run_list_again<W: Write>(
     limit: Count,
     output: &mut Counted<W>,
 ) -> Option<Result<(), RunFault>> {
-    let text = script(rt)?;
+    let bytes = script(rt)?;
+    let text = str::from_utf8(&bytes).ok()?;
     let mut session = list_session(rt.alloc(), cpu, size, limit)?;
     for line in text.lines() {
         if let Err(fault) = run(&mut session, &mut Counted::new(line.as_bytes()), output) {
@@ -227,7 +227,8 @@ fn run_ring_again<W: Write>(
     limit: Count,
     output: &mut Counted<W>,
 ) -> Option<Result<(), RunFault>> {
-    let text = script(rt)?;
+    let bytes = script(rt)?;
+    let text = str::from_utf8(&bytes).ok()?;
     let mut session = ring_session(rt.alloc(), cpu, size, limit)?;
     for line in text.lines() {
         if let Err(fault) = run(&mut session, &mut Counted::new(line.as_bytes()), output) {
