@@ -55,6 +55,8 @@ part 'tests/pages.sh' sh tests/pages.sh
 alone
 echo 'rt ci: every proof from nothing, the must-fail edits, each test and program (35 to 60 minutes on four cores)'
 part 'rt ci' proved
+# (where it isn't there, tests/program.sh leaves out what it is for)
+part 'crates/memory_calls' test -x crates/memory_calls/out/memory_calls
 part 'tests/program.sh' sh tests/program.sh
 part 'tests/examples.sh' sh tests/examples.sh
 if [ -z "$(git status --porcelain 2>&1)" ]; then

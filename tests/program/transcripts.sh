@@ -17,7 +17,6 @@
 # a list (crates/memory_calls/src/sessions.rt), and what bpfdb has no word for over a ring, too.
 
 calls=${MEMORY_CALLS:-$top/crates/memory_calls/out/memory_calls}
-[ -n "${BPFDB:-}${MEMORY_CALLS:-}" ] || sh "$top/tests/build.sh" memory_calls || exit 1
 [ -x "$calls" ] || echo "transcripts: lists are left out, since there is no $calls"
 kit=$(dirname "$(rt doc)")
 "$kit/toolchain/bin/clang" -fuse-ld=lld -shared -fPIC -O1 -nostdlib -o interrupt.so "$top/tests/interrupt.c" ||
