@@ -391,3 +391,31 @@ for piece in 1 0; do
     files $piece interrupted run -m context program
     mv kept program
 done
+
+# asks PACKET ANSWER: one more packet of what gdb sends, and what it is answered.
+asks() {
+    printf '%s' "$1" >> script
+    printf '%s' "$2" >> stated
+    echo "$(wc -c < script) $(wc -c < stated)" >> ends
+}
+
+# A step, what gdb understands, the rest of the program, and the way back: what is read before a read fails is answered, and a beginning of the
+# answers comes before a failed write.
+begin_script
+asks '$s#73' '+$T05#b9'
+asks '$qSupported:swbreak+#8b' '+$PacketSize=4000;ReverseStep+;ReverseContinue+;swbreak+;vContSupported+;QStartNoAckMode+#fa'
+asks '$c#63' '+$O65786974656420617420313a20723020307832610a#25$T05replaylog:end;#34'
+asks '$bs#d5' '+$T05#b9'
+status=0
+gdb='gdb --registers bpf answer'
+# (the words of $gdb are without blanks)
+for all in '' all; do
+    for piece in 1 0; do
+        input $piece fail $gdb
+        output $piece fail $gdb
+        output $piece none $gdb
+    done
+done
+all=''
+input 1 interrupted $gdb
+output 1 interrupted $gdb

@@ -1,25 +1,9 @@
-# gdb: packets, as gdb sends them, and the answers; connections that end, and that fail.
+# gdb: packets, as gdb sends them, and the answers; connections that end, and that fail. Most rows stand in tests/program/packets/.
+. "$parts/packets.sh"
 
 # packet BODY: the packet of a body.
 packet() {
     printf '$%s#%02x' "$1" "$(printf '%s' "$1" | od -An -v -tu1 | awk '{ for (i = 1; i <= NF; i++) sum += $i } END { print sum % 256 }')"
-}
-
-# requests NAME ARGUMENT..: a connection that is asked what the lines of standard input have before a bar, is answered what they have behind it.
-# What stands behind a further bar is a line that gdb is to show before.
-requests() {
-    name=$1
-    shift
-    : > script
-    : > wanted/packets
-    while IFS='|' read -r request answer line; do
-        packet "$request" >> script
-        printf '+' >> wanted/packets
-        [ -z "$line" ] || packet "O$(printf '%s\n' "$line" | od -An -v -tx1 | tr -d ' \n')" >> wanted/packets
-        packet "$answer" >> wanted/packets
-    done
-    run "$@"
-    check "$name" 0 "$(cat wanted/packets)" ''
 }
 
 # answered NAME STATUS OUTPUT ERRORS: holds what a connection is answered that has no rows, and whose status is the last one.
@@ -49,6 +33,14 @@ check 'a packet that is too long' 0 '-+$T05#b9' ''
 printf 'frob\n' > wrong.s
 row 'a refused listing' 2 '$?#3f' '' 'refused A1 at line 1: unknown mnemonic\n' gdb --listing wrong.s
 row 'a refused journal' 2 '$?#3f' '' 'refused J1: journal size out of range\n' gdb --journal 1 --listing answer.s
+
+# The tables: sessions, streams of bytes, beginnings of a stream, and descriptions of machines.
+for name in requests statuses stops watches lengths machines; do
+    play_blocks "$parts/packets/$name.txt"
+done
+streams_of "$parts/packets/streams.txt"
+cuts_of "$parts/packets/cuts.txt" '$s#73$qSupported:swbreak+#8b$c#63$bs#d5'
+registers_of "$parts/packets/descriptions.txt"
 
 # The numbers of errors are those of refusals, in hexadecimal, 02 where a request's arguments are wrong.
 requests 'registers' gdb --registers bpf --listing answer.s <<'ROWS'
