@@ -157,9 +157,9 @@ hold='
         }
         return 0
     }
-    # has_word(text, word): whether one of the words is so.
+    # has_word(text, word): whether one of the words of the first line is so.
     function has_word(text, word) {
-        gsub(/\n/, " ", text)
+        sub(/\n.*/, "", text)
         return index(" " text " ", " " word " ") > 0
     }
     # is_more(text, wanted): whether so much more is kept than in another answer. A dash is any number of commands.
@@ -351,6 +351,22 @@ table 'worked rows' '
         want("as", history(), kept)
     }
 ' "$tables-worked.txt"
+
+# The weights of what is kept, by going back over it.
+table weights '
+    {
+        split($1, asked, "; ")
+        open(asked[1], "", "--journal " asked[3])
+        want("begins", ask("stepi " asked[2]), asked[2] " forward; ")
+        many = split($2, weights, " ")
+        for (k = 1; k <= many; k++) {
+            kept = history()
+            want("begins", ask("reverse-stepi"), "1 back; done; ")
+            more(history(), kept, -1, "-", -weights[k])
+        }
+        want("is", ask("reverse-stepi"), "refused Q4: no kept step")
+    }
+' "$tables-weights.txt"
 
 # Which sizes a journal has.
 printf 'mov r0, 42\nexit\n' > answer.s

@@ -3,16 +3,17 @@ ghost use Rattle.std.specs.Prelude.{◌≡◌, ◌<◌, ◌^◌, [], OnOk};
 ghost use Rattle.bpf_journal.specs.Keepers.{refusals_after};
 ghost use Rattle.bpf_journal.specs.Tracks.{RingHolds, ring_room};
 
-use crate::play::{machine, plays};
+use bpf_isa::{MapTable, check};
 use bpf_journal::{Keeper, ListKeeper, RingKeeper};
 use bpf_machine::{Cpu, Entry};
-use bpf_session::Session;
+use bpf_remote::{Layout, serve};
+use bpf_session::{Counted, Session};
 use std::alloc::{AllocError, Global};
 use std::process::Abort;
 
 /// A keeper that takes so many pushes in all, and counts the refused ones.
 #[derive(Drop)]
-struct Scarce<K: Keeper> {
+pub struct Scarce<K: Keeper> {
     kept: K,
     left: usize,
     refusals: u64,
@@ -96,42 +97,44 @@ impl<K: Keeper> Keeper for Scarce<K> {
     }
 }
 
-/// add r0, 1; ja -2.
-const ENDLESS: &str = "07000000010000000500feff00000000";
+/// add r0, 1; ja -2: a program without end.
+const ENDLESS: &[u8] = b"\x07\x00\x00\x00\x01\x00\x00\x00\x05\x00\xfe\xff\x00\x00\x00\x00";
 
-/// There is memory for four moves. What is refused, for want of memory (Q15), is answered by that number; a command that is cut short by it, and
-/// gdb doesn't go on by itself, as at the limit of steps.
-const REFUSED: &str = "P1=0700000000000000|OK
-c|T02
-p0|0200000000000000
-pb|0800000000000000
-?|T05
-c|E0f
-s|E0f
-vCont;c|E0f
-P0=0000000000000000|E0f
-Pb=0000000000000000|E0f
-M200000000,1:01|E0f
-m200000000,1|00
-p0|0200000000000000
-pb|0800000000000000
-Z0,0,1|OK
-Z2,200000000,1|OK
-> stepi|refused Q15: out of memory
-bs|T05
-pb|0000000000000000
-> redo|refused Q15: out of memory
-s|E0f
-pb|0000000000000000
+/// Packets and what is told to each, in a session that has memory for four moves. What is refused, for want of memory (Q15), is answered by that
+/// number; a command that is cut short by it, and gdb doesn't go on by itself, as at the limit of steps. The lines of a script are `stepi` and
+/// `redo`, and their reply is `refused Q15: out of memory`.
+const REFUSED: &str = "$P1=0700000000000000#c5|+$OK#9a
+$c#63|+$T02#b6
+$p0#a0|+$0200000000000000#02
+$pb#d2|+$0800000000000000#08
+$?#3f|+$T05#b9
+$c#63|+$E0f#db
+$s#73|+$E0f#db
+$vCont;c#a8|+$E0f#db
+$P0=0000000000000000#bd|+$E0f#db
+$Pb=0000000000000000#ef|+$E0f#db
+$M200000000,1:01#f7|+$E0f#db
+$m200000000,1#7c|+$00#60
+$p0#a0|+$0200000000000000#02
+$pb#d2|+$0800000000000000#08
+$Z0,0,1#43|+$OK#9a
+$Z2,200000000,1#c7|+$OK#9a
+$qRcmd,7374657069#39|+$72656675736564205131353a206f7574206f66206d656d6f72790a#59
+$bs#d5|+$T05#b9
+$pb#d2|+$0000000000000000#00
+$qRcmd,7265646f#fd|+$72656675736564205131353a206f7574206f66206d656d6f72790a#59
+$s#73|+$E0f#db
+$pb#d2|+$0000000000000000#00
 ";
 
-/// A session over a machine whose keeper takes so many pushes.
-fn scarce_session(
+/// A session over the machine of a program, whose keeper takes so many pushes.
+pub fn scarce_session(
     rt: &impl Abort,
     alloc: Global,
-    cpu: Cpu,
+    program: &[u8],
     left: usize,
 ) -> Session<Scarce<ListKeeper>> {
+    let cpu = machine(rt, alloc, program);
     let keeper = match ListKeeper::open(alloc, 4096) {
         Ok(kept) => Scarce {
             kept,
@@ -142,6 +145,17 @@ fn scarce_session(
     };
     let redo = ring_for(rt, alloc, &keeper);
     Session::open(cpu, keeper, redo, 1000)
+}
+
+/// The machine of a program.
+fn machine(rt: &impl Abort, alloc: Global, program: &[u8]) -> Cpu {
+    match check(alloc, program, &MapTable::empty()) {
+        Ok(program) => match Cpu::open(alloc, program, &[]) {
+            Ok(cpu) => cpu,
+            Err(_) => panic!(rt; "not opened"),
+        },
+        Err(_) => panic!(rt; "refused"),
+    }
 }
 
 /// An empty ring for the moves that will be taken back from a keeper.
@@ -155,9 +169,32 @@ fn ring_for<K: Keeper>(rt: &impl Abort, alloc: Global, keeper: &K) -> RingKeeper
     }
 }
 
+/// Whether a session answers a row as it says.
+fn answers<K: Keeper>(alloc: Global, session: &mut Session<K>, row: &str) -> bool {
+    let Some((stream, wanted)) = row.split_once('|') else {
+        return false;
+    };
+    let mut told = Vec::new(alloc);
+    let mut reader = Counted::new(stream.as_bytes());
+    let mut writer = Counted::new(&mut told);
+    let served = serve(Layout::Bpf, session, &mut reader, &mut writer);
+    served.is_ok() && told.as_slice() == wanted.as_bytes()
+}
+
+/// Stops at a row that is answered otherwise.
+fn check_rows(rt: &impl Abort, alloc: Global, table: &str) {
+    let mut session = scarce_session(rt, alloc, ENDLESS, 4);
+    for row in table.lines() {
+        stop_unless(rt, answers(alloc, &mut session, row), row);
+    }
+}
+
+/// Stops where something does not hold.
+pub fn stop_unless(rt: &impl Abort, holds: bool, what: &str) {
+    assert!(rt; holds, "{what}");
+}
+
 #[test]
 fn want_of_memory_is_told(rt: HostRuntime) {
-    let cpu = machine(&rt, rt.alloc(), ENDLESS.as_bytes(), &[]);
-    let mut session = scarce_session(&rt, rt.alloc(), cpu, 4);
-    plays(&rt, rt.alloc(), &mut session, REFUSED);
+    check_rows(&rt, rt.alloc(), REFUSED);
 }
