@@ -1,7 +1,8 @@
 # journal: tables of moves and of what is kept of them, asked by scripts of `bpfdb debug`.
 #
-# The rows stand in tests/program/tables/journal-NAME.txt. A row is put as questions, each one line of a script or more, and each is followed by
-# a line `mark`, whose refusal parts the answers. What is wanted of an answer is a line of the session's file of wants: row, kind, answer, text.
+# The rows stand in tests/program/tables/journal-NAME.txt. A row is put as questions, each one line of a script or more,
+# and each is followed by a line `mark`, whose refusal parts the answers. What is wanted of an answer is a line of the
+# session's file of wants: row, kind, answer, text.
 
 asking='
     # prepare(): the values of digits.
@@ -44,14 +45,14 @@ asking='
     }
     # look(): asks for all that the rows change of a state.
     function look() {
-        return ask("info regs\ninfo frames\ninfo trace\nx 0x100000000 4\nx 0x100000004 4\nx 0x200000000 256\nx 0x200000100 256\n" \
-            "x 0x200000400 256\nx 0x200000500 256\nx 0x300000000 8\nx 0x300000008 8")
+        return ask("info regs\ninfo frames\ninfo trace\nx 0x100000000 4\nx 0x100000004 4\nx 0x200000000 256\n" \
+            "x 0x200000100 256\nx 0x200000400 256\nx 0x200000500 256\nx 0x300000000 8\nx 0x300000008 8")
     }
     # history(): asks how much is kept.
     function history() {
         return ask("info history")
     }
-    # place(answer, pc, status, fault): wants that a machine stands there; a fault has the number of an address or a token.
+    # place(answer, pc, status, fault): wants that a machine stands there; a fault has an address or a token.
     function place(answer, pc, status, fault) {
         if (status == "running") want("line", answer, "at " pc ": ")
         else if (status == "exited") want("line", answer, "exited at " pc ": r0 ")
@@ -82,24 +83,24 @@ asking='
         if (word[1] == "cell") return "set cell 0x" word[2] " 0x" word[3] " " run_of(word[4])
         return "set pc 0x" word[2]
     }
-    # old(answer, entry): wants that the state shows what the entry keeps.
-    function old(answer, entry,   word, many) {
+    # old(answer, entry, bytes): wants that the state shows what the entry keeps; so many bytes are written.
+    function old(answer, entry, bytes,   word, many) {
         many = split(entry, word, " ")
         if (word[1] == "edit" && word[2] == "register") want("has", answer, word[3] "=0x" word[4])
-        else if (word[1] == "edit" && word[2] == "bytes") old_bytes(word[3], substr(entry, index(entry, word[3]) + length(word[3]) + 1))
+        else if (word[1] == "edit" && word[2] == "bytes") old_bytes(word[3], substr(entry, index(entry, word[3]) + length(word[3]) + 1), bytes)
         else if (word[1] == "edit") place(answer, word[3], word[4], word[5])
         else old_step(answer, word, many)
     }
-    # old_bytes(address, text): asks for bytes, and wants those that the entry has.
-    function old_bytes(address, text) {
-        want("is", ask("x 0x" address " " length(zeros(text)) / 2), "0x" address ": " zeros(text))
+    # old_bytes(address, text, bytes): asks for so many bytes, and wants those that the entry has.
+    function old_bytes(address, text, bytes) {
+        want("is", ask("x 0x" address " " bytes), "0x" address ": " zeros(text))
     }
     # old_step(answer, word, many): the same of the entry of a step, by its words.
     function old_step(answer, word, many) {
         if (many > 1) place(answer, word[2], "running")
         if (word[1] == "register" || word[1] == "fetch") want("has", answer, word[3] "=0x" word[4])
         if (word[1] == "trace") want("has", answer, "r0=0x" word[3])
-        if (word[1] == "store" || word[1] == "fetch") old_bytes(word[many - 1], word[many])
+        if (word[1] == "store" || word[1] == "fetch") old_bytes(word[many - 1], word[many], length(word[many]) / 2)
     }
     BEGIN {
         prepare()
@@ -112,11 +113,11 @@ asking='
 # (an edit of each machine is one session, whose state each edit leaves)
 edits='
     # edit(words, wanted): makes an edit, takes it back, and wants its entry and its weight, or its refusal.
-    function edit(words, wanted,   before, kept, parts) {
+    function edit(words, wanted,   before, kept, parts, word) {
         before = look()
         kept = history()
         if (split(wanted, parts, "; ") == 2) {
-            old(before, parts[1])
+            old(before, parts[1], length(run_of(word[split(words, word, " ")])) / 2)
             want("is", ask(command(words)), "ok")
             more(history(), kept, 1, 1, parts[2])
             want("begins", ask("undo"), "1 back; done; ")

@@ -1,10 +1,12 @@
 # What the part `remote` stands on: rows of packets and their answers, played to `bpfdb gdb`.
 #
-# A row is the body of a packet, the body of its answer, and the line that gdb is to show before, if there is one, with bars between. A row that
-# begins with `> ` is a line of a script (gdb's `monitor`) and its reply of one line, or OK. `{07*8192}` stands for as many times 07.
-# In a file of tests/program/packets/ a line `block NAME` begins a session of its own; lines without a bar say what it is opened with: `program` and
-# `context`, in hexadecimal digits, and `registers`, `steps`, `journal` with their values. A line `rows NAME` begins rows that play where a block
-# has the line `same NAME`. Lines that begin with `# ` are comments.
+# A row is the body of a packet, the body of its answer, and the line that gdb is to show before, if there is one, with
+# bars between. A row that begins with `> ` is a line of a script (gdb's `monitor`) and its reply of one line, or OK.
+# `{07*8192}` stands for as many times 07.
+# In a file of tests/program/packets/ a line `block NAME` begins a session of its own; lines without a bar say what it
+# is opened with: `program` and `context`, in hexadecimal digits, and `registers`, `steps`, `journal` with their values.
+# A line `rows NAME` begins rows that play where a block has the line `same NAME`. Lines that begin with `# ` are
+# comments.
 
 # Functions of awk.
 packets='
@@ -50,7 +52,9 @@ packets='
     # next_answer(): what is told to the next packet, cut off the front of the text `left`.
     function next_answer(   n, found) {
         n = left ~ /^[+-]/
-        while (substr(left, n + 1, 1) == "$" && index(substr(left, n + 1), "#")) n += index(substr(left, n + 1), "#") + 2
+        while (substr(left, n + 1, 1) == "$" && index(substr(left, n + 1), "#")) {
+            n += index(substr(left, n + 1), "#") + 2
+        }
         if (n == 0) n = length(left)
         found = substr(left, 1, n)
         left = substr(left, n + 1)
@@ -58,14 +62,18 @@ packets='
     }
     # spelled(digits): the text that they spell.
     function spelled(digits,   text, k) {
-        for (k = 1; k < length(digits); k += 2) text = text sprintf("%c", 16 * value[substr(digits, k, 1)] + value[substr(digits, k + 1, 1)])
+        for (k = 1; k < length(digits); k += 2) {
+            text = text sprintf("%c", 16 * value[substr(digits, k, 1)] + value[substr(digits, k + 1, 1)])
+        }
         return text
     }
     # readable(told): its first bytes, and the text of the lines in it.
-    function readable(told,   text) {
+    function readable(told,   text, digits) {
         text = length(told) > 200 ? substr(told, 1, 200) " .. (" length(told) " bytes)" : told
         while (match(told, /\$O?[0-9a-f]*0a#/)) {
-            text = text " (" spelled(substr(told, RSTART + 1 + (substr(told, RSTART + 1, 1) == "O"), RLENGTH - 4 - (substr(told, RSTART + 1, 1) == "O"))) ")"
+            digits = substr(told, RSTART + 1, RLENGTH - 4)
+            sub(/^O/, "", digits)
+            text = text " (" spelled(digits) ")"
             told = substr(told, RSTART + RLENGTH)
         }
         return text
@@ -109,7 +117,8 @@ requests() {
     play "$@"
 }
 
-# blocks FILE: writes of each block its rows, its settings, and the bytes of its program and its context, as printf's %b reads them.
+# blocks FILE: writes of each block its rows, its settings, and the bytes of its program and its context, as printf's %b
+# reads them.
 blocks() {
     LC_ALL=C awk "$packets"'
         # octal(digits): the bytes, as printf reads them.
@@ -155,10 +164,10 @@ play_blocks() {
         block=${named%.name}
         mv "$block.rows" rows
         printf '%b' "$(cat "$block.program")" > program
+        : > context
         [ ! -e "$block.context" ] || printf '%b' "$(cat "$block.context")" > context
         # (the settings are words without blanks)
-        play "$(cat "$named")" gdb $(setting registers bpf) $(setting steps 1000) $(setting journal 4096) \
-            $([ -e "$block.context" ] && echo -m context) program
+        play "$(cat "$named")" gdb $(setting registers bpf) $(setting steps 1000) $(setting journal 4096) -m context program
     done
 }
 

@@ -1,4 +1,5 @@
-# gdb: packets, as gdb sends them, and the answers; connections that end, and that fail. Most rows stand in tests/program/packets/.
+# gdb: packets, as gdb sends them, and the answers; connections that end, and that fail. Most rows stand in
+# tests/program/packets/.
 . "$parts/packets.sh"
 
 # packet BODY: the packet of a body.
