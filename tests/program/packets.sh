@@ -2,7 +2,7 @@
 #
 # A row is the body of a packet, the body of its answer, and the line that gdb is to show before, if there is one, with
 # bars between. A row that begins with `> ` is a line of a script (gdb's `monitor`) and its reply of one line, or OK.
-# `{07*8192}` stands for as many times 07.
+# `{07*8192}` stands for as many times 07, `\n` in an answer for a line feed.
 # In a file of tests/program/packets/ a line `block NAME` begins a session of its own; lines without a bar say what it
 # is opened with: `program` and `context`, in hexadecimal digits, and `registers`, `steps`, `journal` with their values.
 # A line `rows NAME` begins rows that play where a block has the line `same NAME`. Lines that begin with `# ` are
@@ -47,6 +47,7 @@ packets='
     function answer_of(row,   parts, body) {
         split(row, parts, "|")
         body = parts[1] ~ /^> / && parts[2] != "OK" ? hex(parts[2]) "0a" : expand(parts[2])
+        gsub(/\\n/, "\n", body)
         return "+" (parts[3] == "" ? "" : packet("O" hex(parts[3]) "0a")) packet(body)
     }
     # next_answer(): what is told to the next packet, cut off the front of the text `left`.

@@ -52,6 +52,23 @@ session 'a journal of 1,024 bytes' \
     "100 forward; done; at 0: add r0, 1\n89 moves, 0 commands, 1019 of 1024 bytes\nrefused Q5: fewer kept commands\n\
 89 back; start; at 1: ja L0\nr0=0x6 $others\nat 1: ja L0\nrefused Q4: no kept step\n" debug --journal 1024 count
 
+# What is kept is the longest end of the history that fits, at each size: of 200 steps, by turns of 16 and 7 bytes, the newest of 7.
+for size in 1024 1025 1026 1027 1028 1029 1030 1031 1032 1033 1034 1035 1036 1037 1038 1039 1040; do
+    kept=$(awk -v size="$size" 'BEGIN {
+        for (moves = 0; sum + (moves % 2 ? 16 : 7) <= size; moves++) sum += moves % 2 ? 16 : 7
+        print moves " moves, 0 commands, " sum " of " size " bytes"
+    }')
+    session "a journal of $size bytes is used to the last byte" 'stepi 200\ninfo history\nreverse-stepi 1000\ninfo history\n' \
+        "200 forward; done; at 0: add r0, 1\n$kept\n${kept%% *} back; start; at $((${kept%% *} % 2)): $([ $((${kept%% *} % 2)) = 0 ] && echo 'add r0, 1' || echo 'ja L0')\n0 moves, 0 commands, 0 of $size bytes\n" \
+        debug --journal "$size" count
+done
+
+# Counts and slots above 255: a limit of steps at a far slot, and a write 301 moves ago.
+{ echo 'stb [r10-8], 7'; yes 'mov r0, 1' | head -n 300; echo exit; } > far.s
+stopped 'step limit 299 reached at 299' run --listing --steps 299 far.s
+session 'a write 301 moves ago' 'stepi 301\nlast-write 0x2000001f8\n' \
+    '301 forward; done; at 301: exit\nchanged 301 moves back: 0x0 to 0x7\n' debug --listing far.s
+
 # Moves that are made again: in pieces up to the last one, until a new move; behind refused commands; a new pc in a machine that has
 # faulted; across moves that were dropped; past a breakpoint and a watch.
 bytes three 07 00 00 00 01 00 00 00 a5 00 fe ff 03 00 00 00 EXIT
