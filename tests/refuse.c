@@ -1,13 +1,23 @@
 /* Refuses requests for memory of a program that it is loaded into before the C library (LD_PRELOAD): the one whose number
-   REFUSED gives, from 1 on, and where REFUSED_ALL is set each later one too. Part of no program: tests/program.sh uses it. */
+   REFUSED gives, from 1 on, and where REFUSED_ALL is set each later one too. Where REQUESTS names a file, how many there were is written to it at the end.
+   Part of no program: tests/program.sh uses it. */
 extern void *__libc_malloc(unsigned long size);
 extern void *__libc_calloc(unsigned long count, unsigned long size);
 extern void *__libc_realloc(void *old, unsigned long size);
 extern void *__libc_memalign(unsigned long alignment, unsigned long size);
 extern char *getenv(const char *name);
 extern int atoi(const char *text);
+extern int creat(const char *path, unsigned mode);
+extern int dprintf(int file, const char *format, ...);
 
 static int requests;
+
+__attribute__((destructor)) static void tell(void) {
+    const char *path = getenv("REQUESTS");
+    int made = requests;
+    if (path)
+        dprintf(creat(path, 0644), "%d\n", made);
+}
 
 static int refused(void) {
     const char *number = getenv("REFUSED");

@@ -147,6 +147,63 @@ printf 'stepi 10000\ninfo history\nreverse-stepi 9362\nredo 9363\n' > script
 wants "$plain$c13$o2$j2" 0 \
     '10000 forward; done; at 0: ja L0\n9362 moves, 0 commands, 65534 of 65536 bytes\n9362 back; done; at 0: ja L0\n9362 redone; all; at 0: ja L0\n' '' debug endless
 
+# A session takes no memory after its opening: as many requests with every command, refusals, lines that are too long and moves that are dropped, as with
+# no command, whatever the journal's size; and the same of packets.
+
+# requests FILE ARGUMENT..: how many requests for memory a run over this input makes.
+requests() {
+    input=$1
+    shift
+    REQUESTS=requests LD_PRELOAD=./refuse.so "$program" "$@" < "$input" > found/out 2> found/err
+    cat requests
+}
+
+# same_requests NAME MOST ARGUMENT..: the inputs `none` and `all` make as many requests, some and at most so many, and `all` is answered.
+same_requests() {
+    name_of_row=$1 at_most=$2
+    shift 2
+    fewest=$(requests none "$@")
+    found_requests=$(requests all "$@")
+    count=$((count + 1))
+    [ "$fewest" = "$found_requests" ] && [ "$fewest" -gt 0 ] && [ "$fewest" -le "$at_most" ] && [ -s found/out ] ||
+        complain "$name_of_row: $found_requests requests for memory, and $fewest without any input"
+}
+
+printf '%s\n' 'ldmap r1, 0' 'mov r2, r10' 'add r2, -8' 'mov r6, 3' 'loop: call 1' 'stxdw [r10-8], r6' 'callf f' 'atomic_fetch_add64 [r10-8], r6' 'add r6, -1' \
+    'jne r6, 0, loop' 'mov r1, 7' 'call 64' 'exit' 'f: mov r0, 1' 'stb [r10-1], 1' 'exit' > each.s
+{
+    printf '%s\n' 'stepi 9' nexti finish 'break 2' 'break 2' continue 'watch 0x2000001f8' continue 'unwatch 0x2000001f8' 'delete 2' continue 'info regs' 'info frames' \
+        'info breaks' 'info history' 'info trace' 'x 0x200000000 256' 'disas 0 256' 'last-write 0x2000001f8' reverse-stepi reverse-nexti rc reverse-continue reverse-finish \
+        'redo 5' 'redo 1000' undo 'redo 1000' 'undo 3' 'set reg r3 7' 'set mem 0x200000000 0102' 'set cell 0 1 0102030405060708' 'set pc 4' 'undo 2' 'redo 2' frob 'stepi 0' 'set reg r10 1'
+    head -c 5000 /dev/zero | tr '\0' z
+    echo
+    yes 'stepi 40
+reverse-stepi 30
+redo 20
+set pc 4' | head -n 2000
+    printf 'info history\nquit\n'
+} > all
+: > none
+for size in 1024 65536; do
+    same_requests "debug --journal $size" "$most" debug --listing --maps 8x2 --journal "$size" each.s
+    cp found/out replies
+    for word in forward back redone ok refused changed commands; do
+        grep -q "$word" replies || complain "debug --journal $size: no reply has '$word'"
+    done
+done
+{
+    for body in '?' g s bs c bc p0 pb 'P0=0700000000000000' 'm2000001f8,8' 'M2000001f8,2:0102' 'Z0,10,1' 'Z2,2000001f8,4' c 'z2,2000001f8,4' 'z0,10,1' 'vCont?' 'vCont;s:1' \
+        'qSupported:swbreak+' 'qXfer:features:read:target.xml:0,fff' Hg0 qAttached 'qRcmd,7374657069' 'qRcmd,756e646f' 'qRcmd,7265646f' 'qRcmd,66726f62' nothing; do
+        printf '$%s#%02x' "$body" "$(printf '%s' "$body" | od -An -v -tu1 | awk '{ for (i = 1; i <= NF; i++) sum += $i } END { print sum % 256 }')"
+    done
+    printf '$D#44'
+} > packets
+mv packets all
+for size in 1024 65536; do
+    same_requests "gdb --journal $size" "$most" gdb --listing --maps 8x2 --journal "$size" each.s
+done
+: > script
+
 # The calls of the libraries, in crates/memory_calls: each answers by its own number, or by `out of memory` where it has none.
 # `rt ci` builds that program too.
 if ! [ -x "$top/crates/memory_calls/out/memory_calls" ]; then
