@@ -1,8 +1,7 @@
-//! Tests of the journal: worked moves, edits at the edges of memory, what a keeper holds of a long run, and a ring beside a list.
+//! Tests of the journal: what a keeper holds of a long run, and a ring beside a list. Tables of steps, edits, runs and worked programs are asked of
+//! the built program (`tests/program/journal.sh`).
 #![tactic(auto)]
 
-#[cfg(test)]
-mod edits;
 #[cfg(test)]
 mod keepers;
 #[cfg(test)]
@@ -18,10 +17,6 @@ mod rings;
 #[cfg(test)]
 mod seen;
 #[cfg(test)]
-mod steps;
-#[cfg(test)]
 mod texts;
 #[cfg(test)]
 mod walks;
-#[cfg(test)]
-mod worked;

@@ -2,31 +2,16 @@
 ghost use Rattle.std.specs.Prelude.{◌≡◌, []};
 ghost use Rattle.bpf_journal.specs.Tracks.{RingHolds, ring_room};
 
-use bpf_isa::{MapTable, check};
-use bpf_journal::{Course, Keeper, ListKeeper, RingKeeper, Timeline};
+use bpf_isa::{MapTable, Program, check};
+use bpf_journal::{Course, Keeper, ListKeeper, RingKeeper};
 use bpf_machine::Cpu;
-use bpf_testing::{Row, bytes_of, parts_of, row_of};
+use bpf_testing::bytes_of;
 use std::alloc::Global;
 use std::process::Abort;
 
-/// The parts of a row.
-pub fn row<'a>(rt: &impl Abort, line: &'a str) -> Row<'a> {
-    row_of(line).expect(rt, "no row")
-}
-
-/// What a row without a name asks, and what is to be answered.
-pub fn parts<'a>(rt: &impl Abort, row: &'a str) -> (&'a str, &'a str) {
-    parts_of(row).expect(rt, "no answer")
-}
-
-/// The text before the first `; `, and what follows.
-pub fn cut<'a>(rt: &impl Abort, text: &'a str) -> (&'a str, &'a str) {
-    text.split_once("; ").expect(rt, "one part")
-}
-
-/// The word before the first blank, and the words that follow.
-pub fn cut_word<'a>(rt: &impl Abort, words: &'a str) -> (&'a str, &'a str) {
-    words.split_once(' ').expect(rt, "one word")
+/// The text before the first mark, and what follows.
+pub fn cut<'a>(rt: &impl Abort, text: &'a str, mark: &str) -> (&'a str, &'a str) {
+    text.split_once(mark).expect(rt, "one part")
 }
 
 /// A number in hexadecimal digits.
@@ -51,6 +36,11 @@ pub fn check_found(rt: &impl Abort, found: &str, wanted: &str, row: &str) {
     assert_eq!(rt; found, wanted, "{row}");
 }
 
+/// Stops where something does not hold.
+pub fn stop_unless(rt: &impl Abort, holds: bool, what: &str) {
+    assert!(rt; holds, "{what}");
+}
+
 /// A machine with a program and a context, both in hexadecimal digits, and a map of two values of 8 bytes.
 pub fn machine(rt: &impl Abort, alloc: Global, program: &str, context: &str) -> Cpu {
     machine_on(rt, alloc, program, "8x2", context)
@@ -58,13 +48,18 @@ pub fn machine(rt: &impl Abort, alloc: Global, program: &str, context: &str) -> 
 
 /// The same with the maps of a text.
 pub fn machine_on(rt: &impl Abort, alloc: Global, program: &str, maps: &str, context: &str) -> Cpu {
-    let program = bytes(rt, alloc, program);
+    let program = checked(rt, alloc, program, maps);
     let context = bytes(rt, alloc, context);
-    let maps = MapTable::parse(maps.as_bytes()).ok().expect(rt, "no maps");
-    let program = check(alloc, &program, &maps).ok().expect(rt, "refused");
     Cpu::open(alloc, program, &context)
         .ok()
         .expect(rt, "not opened")
+}
+
+/// A program in hexadecimal digits that is checked.
+fn checked(rt: &impl Abort, alloc: Global, program: &str, maps: &str) -> Program {
+    let program = bytes(rt, alloc, program);
+    let maps = MapTable::parse(maps.as_bytes()).ok().expect(rt, "no maps");
+    check(alloc, &program, &maps).ok().expect(rt, "refused")
 }
 
 /// The same after so many steps.
@@ -82,15 +77,7 @@ pub fn machine_after(
     cpu
 }
 
-/// A machine with an empty journal of so many bytes.
-pub fn timeline(rt: &impl Abort, alloc: Global, cpu: Cpu, size: usize) -> Timeline<ListKeeper> {
-    match ListKeeper::open(alloc, size) {
-        Ok(keeper) => Timeline::start(cpu, keeper),
-        Err(_) => panic!(rt; "no journal"),
-    }
-}
-
-/// The same, where the moves that are taken back can be made again.
+/// A machine with an empty journal of so many bytes. The moves that are taken back can be made again.
 pub fn course(rt: &impl Abort, alloc: Global, cpu: Cpu, size: usize) -> Course<ListKeeper> {
     match ListKeeper::open(alloc, size) {
         Ok(keeper) => {

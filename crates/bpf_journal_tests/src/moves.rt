@@ -1,7 +1,8 @@
 //! Moves by their words: `step`, `reg 3 7`, `bytes 200000000 0102`, `cell 0 1 ee*8`, `pc 1`. Numbers are hexadecimal; behind a byte and
 //! a star stands how often it comes, in decimal.
-use crate::machines::{bytes, cut_word, number};
-use crate::seen::{add, entry_text, kept, refusal, state_text};
+use crate::machines::{bytes, cut, number};
+use crate::seen::{add, kept, refusal, state_text};
+use crate::texts::digits_of;
 use bpf_isa::Reg;
 use bpf_journal::{Move, MoveFault, Reversible};
 use bpf_machine::{ByteString, Cpu, Edit, Entry};
@@ -23,7 +24,7 @@ fn edit_of(rt: &impl Abort, alloc: Global, kind: &str, words: &str) -> Edit {
             slot: number(rt, words),
         };
     }
-    let (place, rest) = cut_word(rt, words);
+    let (place, rest) = cut(rt, words, " ");
     let place = number(rt, place);
     match kind {
         "reg" => register_edit(rt, place, number(rt, rest)),
@@ -44,7 +45,7 @@ fn register_edit(rt: &impl Abort, place: u64, value: u64) -> Edit {
 
 /// An edit of a cell of a map.
 fn cell_edit(rt: &impl Abort, alloc: Global, map: u64, words: &str) -> Edit {
-    let (index, rest) = cut_word(rt, words);
+    let (index, rest) = cut(rt, words, " ");
     Edit::Cell {
         map,
         index: number(rt, index),
@@ -79,11 +80,11 @@ fn there_and_back<R: Reversible>(it: &mut R, change: &Move) -> Result<Entry, Mov
     }
 }
 
-/// What a move answers that is made and taken back: its entry with its weight, or why it is refused. Says so where another state is left.
+/// What a move answers that is made and taken back: its entry's bytes, or why it is refused. Says so where another state is left.
 pub fn answer(rt: &impl Abort, alloc: Global, cpu: &mut Cpu, words: &str) -> String {
     let before = state_text(rt, alloc, cpu);
     let mut text = match there_and_back(cpu, &move_of(rt, alloc, words)) {
-        Ok(entry) => entry_text(rt, alloc, &entry),
+        Ok(entry) => digits_of(rt, alloc, &entry, false),
         Err(fault) => kept(rt, format!(in alloc; "{}", move_refusal(fault))),
     };
     if state_text(rt, alloc, cpu).as_str() != before.as_str() {

@@ -1,7 +1,8 @@
 //! Moves that are made, taken back and made again, and what each of them answers.
 use crate::machines::count;
 use crate::moves::move_of;
-use crate::seen::{add, entry_text, kept, place_text, refusal};
+use crate::seen::{add, kept, place_text, refusal};
+use crate::texts::digits_of;
 use bpf_journal::{Course, Keeper, Move, MoveFault, StopTest, Taken, TimelineFault};
 use bpf_machine::Cpu;
 use std::alloc::Global;
@@ -89,14 +90,10 @@ fn make<K: Keeper>(course: &mut Course<K>, change: &Move) -> Result<(), Timeline
     }
 }
 
-/// The newest entry that is kept.
+/// The bytes of the newest entry that is kept.
 fn last<K: Keeper>(rt: &impl Abort, alloc: Global, course: &Course<K>) -> String {
     match course.keeper().last() {
-        Some((entry, mark)) => {
-            let mut text = entry_text(rt, alloc, &entry);
-            add(rt, &mut text, if mark { " marked" } else { "" });
-            text
-        }
+        Some((entry, mark)) => digits_of(rt, alloc, &entry, mark),
         None => kept(rt, format!(in alloc; "none")),
     }
 }
@@ -151,13 +148,19 @@ fn again(answer: Result<bool, TimelineFault>) -> &'static str {
 /// What going back tells.
 fn taken(answer: Option<Taken>) -> &'static str {
     match answer {
-        Some(taken) => match (taken.is_step, taken.mark) {
-            (true, true) => "marked step",
-            (true, false) => "step",
-            (false, true) => "marked edit",
-            (false, false) => "edit",
-        },
+        Some(taken) => taken_words(taken.is_step, taken.mark),
         None => "none",
+    }
+}
+
+/// What was taken back.
+fn taken_words(is_step: bool, mark: bool) -> &'static str {
+    if is_step {
+        if mark { "marked step" } else { "step" }
+    } else if mark {
+        "marked edit"
+    } else {
+        "edit"
     }
 }
 

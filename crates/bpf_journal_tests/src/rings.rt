@@ -1,11 +1,13 @@
 //! A ring and a list that keep the same moves: what the ring holds is what the list holds, and the ring's bytes are the texts of that.
 ghost use Rattle.bpf_journal.specs.Histories.{HasHistory};
 
-use crate::machines::{check_found, count, course, cut, machine_on, ring_course, ring_for, row};
+use crate::machines::{
+    check_found, count, course, cut, machine_on, ring_course, ring_for, stop_unless,
+};
 use crate::play::played;
 use crate::random::random_words;
 use crate::seen::kept;
-use crate::texts::{cuts_from_back, cuts_from_front, journal_of};
+use crate::texts::{cuts_from_back, cuts_from_front, newest_first};
 use crate::walks::entries;
 use bpf_journal::{Course, Keeper, ListKeeper, RingKeeper, Timeline};
 use bpf_machine::Cpu;
@@ -22,13 +24,15 @@ struct Pair {
 
 /// Two machines with a program, a map of two values of 256 bytes, a context of 8 bytes, and empty journals of so many bytes.
 fn opened(rt: &impl Abort, alloc: Global, program: &str, size: usize) -> Pair {
-    let context = "0102030405060708";
-    let list = machine_on(rt, alloc, program, "256x2", context);
-    let ring = machine_on(rt, alloc, program, "256x2", context);
     Pair {
-        list: course(rt, alloc, list, size),
-        ring: ring_course(rt, alloc, ring, size),
+        list: course(rt, alloc, machine(rt, alloc, program), size),
+        ring: ring_course(rt, alloc, machine(rt, alloc, program), size),
     }
+}
+
+/// One of these machines.
+fn machine(rt: &impl Abort, alloc: Global, program: &str) -> Cpu {
+    machine_on(rt, alloc, program, "256x2", "0102030405060708")
 }
 
 /// The bytes of a ring, the oldest first.
@@ -45,20 +49,20 @@ fn ring_bytes(rt: &impl Abort, alloc: Global, keeper: &RingKeeper) -> Vec<u8> {
 
 /// What the ring holds otherwise than the list, nothing where all is the same.
 fn difference(rt: &impl Abort, alloc: Global, pair: &Pair) -> &'static str {
-    let kept = entries(rt, alloc, &pair.list);
-    let journal = journal_of(rt, alloc, &kept);
-    let walked = journal_of(rt, alloc, &entries(rt, alloc, &pair.ring));
-    if walked.as_slice() != journal.as_slice() {
+    let wanted = entries(rt, alloc, &pair.list);
+    let found = entries(rt, alloc, &pair.ring);
+    if found.as_slice() != wanted.as_slice() {
         return "other entries";
     }
     let bytes = ring_bytes(rt, alloc, pair.ring.keeper());
-    if bytes.as_slice() != journal.as_slice() {
+    let cut = newest_first(rt, alloc, &bytes);
+    if cut.as_slice() != wanted.as_slice() {
         return "other bytes";
     }
     if pair.list.steps_up_to(u64::MAX) != pair.ring.steps_up_to(u64::MAX) {
         return "another number of steps";
     }
-    cut_otherwise(&bytes, kept.len())
+    cut_otherwise(&bytes, pair.list.len())
 }
 
 /// Tells where bytes are not cut into so many entries.
@@ -107,10 +111,10 @@ an update | 8500000002000000; reg 1 400000000, reg 2 2000001f8, reg 3 2000000f0;
 
 /// How many bytes the next entry of those has that fill so many, each of 14 to 269.
 fn next_weight(left: usize) -> usize {
-    if left >= 283 {
+    if left > 282 {
         269
     } else if left > 269 {
-        left.saturating_sub(14)
+        left - 14
     } else {
         left
     }
@@ -127,23 +131,21 @@ fn fill(rt: &impl Abort, alloc: Global, pair: &mut Pair, most: usize, row: &str)
             let _ring = played(rt, alloc, &mut pair.ring, &moves);
         }
     }
-    let found = kept(rt, format!(in alloc; "{} bytes", pair.ring.weight()));
-    let wanted = kept(rt, format!(in alloc; "{most} bytes"));
-    check_found(rt, found.as_str(), wanted.as_str(), row);
+    stop_unless(rt, pair.ring.weight() == most, row);
 }
 
 /// Makes the moves of a row where so many bytes are left before the end of the block, takes the last one back and makes it again.
 fn goes_around(rt: &impl Abort, alloc: Global, line: &str, size: usize, gap: usize) {
-    let row = row(rt, line);
-    let (program, rest) = cut(rt, row.input);
-    let (first, moved) = cut(rt, rest);
+    let (question, weight) = parts(rt, line);
+    let (program, rest) = cut(rt, question, "; ");
+    let (first, moved) = cut(rt, rest, "; ");
     let program = kept(rt, format!(in alloc; "{program}9500000000000000"));
     let mut pair = opened(rt, alloc, &program, size);
     let _list = played(rt, alloc, &mut pair.list, first);
     let _ring = played(rt, alloc, &mut pair.ring, first);
     fill(rt, alloc, &mut pair, size.saturating_sub(gap), line);
     both(rt, alloc, &mut pair, moved, line);
-    check_newest(rt, alloc, &pair, line);
+    stop_unless(rt, newest_weight(pair.ring.keeper()) == weight, line);
     both(rt, alloc, &mut pair, "back", line);
     both(rt, alloc, &mut pair, "redo", line);
 }
@@ -156,24 +158,18 @@ fn newest_weight(keeper: &RingKeeper) -> usize {
     }
 }
 
-/// Stops unless the newest entry of the ring has the weight of a row.
-fn check_newest(rt: &impl Abort, alloc: Global, pair: &Pair, line: &str) {
-    let found = newest_weight(pair.ring.keeper());
-    let found = kept(rt, format!(in alloc; "weight {found}"));
-    let wanted = kept(rt, format!(in alloc; "weight {}", weight_of(rt, line)));
-    check_found(rt, found.as_str(), wanted.as_str(), line);
-}
-
-/// The weight of the entry of a row.
-fn weight_of(rt: &impl Abort, line: &str) -> usize {
-    count(rt, row(rt, line).expected)
+/// What a row asks, and the weight of its entry.
+fn parts<'a>(rt: &impl Abort, line: &'a str) -> (&'a str, usize) {
+    let (_, rest) = cut(rt, line, " | ");
+    let (question, weight) = cut(rt, rest, " | ");
+    (question, count(rt, weight))
 }
 
 /// The same of each row, and of each place at which its entry can be cut by the end, and of those behind it. In front of it so many bytes
 /// are written by its moves.
 fn check_entries(rt: &impl Abort, alloc: Global, table: &str, size: usize, front: usize) {
     for row in table.lines() {
-        for gap in 0..weight_of(rt, row).saturating_add(3) {
+        for gap in 0..parts(rt, row).1.saturating_add(3) {
             goes_around(rt, alloc, row, size, gap.saturating_add(front));
         }
     }

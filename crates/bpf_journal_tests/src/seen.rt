@@ -1,6 +1,6 @@
-//! What can be read of machines and of entries, as text.
+//! What can be read of machines, as text.
 use bpf_isa::Reg;
-use bpf_machine::{ByteString, Cpu, EditFault, Entry, Fault, Status};
+use bpf_machine::{Cpu, EditFault, Fault, Status};
 use std::alloc::{AllocError, Global};
 use std::process::Abort;
 
@@ -88,102 +88,6 @@ pub fn status_text(rt: &impl Abort, alloc: Global, status: Status) -> String {
         Status::Faulted(Fault::Depth) => format!(in alloc; "depth"),
     };
     kept(rt, text)
-}
-
-/// An entry, field by field, and its weight.
-pub fn entry_text(rt: &impl Abort, alloc: Global, entry: &Entry) -> String {
-    let mut text = match entry {
-        Entry::EditRegister { .. } | Entry::EditBytes { .. } | Entry::EditPc { .. } => {
-            edit_text(rt, alloc, entry)
-        }
-        Entry::Store { .. } | Entry::Fetch { .. } | Entry::Cell { .. } => {
-            memory_text(rt, alloc, entry)
-        }
-        _ => step_text(rt, alloc, entry),
-    };
-    let weight = entry.weight();
-    add(rt, &mut text, &kept(rt, format!(in alloc; "; {weight}")));
-    text
-}
-
-/// The entry of an edit.
-fn edit_text(rt: &impl Abort, alloc: Global, entry: &Entry) -> String {
-    let text = match entry {
-        Entry::EditRegister { register, value } => {
-            format!(in alloc; "edit register r{} {value:x}", register.number())
-        }
-        Entry::EditBytes { address, old } => {
-            let old = bytes_text(rt, alloc, old);
-            format!(in alloc; "edit bytes {address:x} {old}")
-        }
-        Entry::EditPc { pc, status } => {
-            let status = status_text(rt, alloc, *status);
-            format!(in alloc; "edit pc {pc} {status}")
-        }
-        _ => format!(in alloc; "no edit"),
-    };
-    kept(rt, text)
-}
-
-/// The entry of a step that changed memory.
-fn memory_text(rt: &impl Abort, alloc: Global, entry: &Entry) -> String {
-    let text = match entry {
-        Entry::Store { pc, address, old } => {
-            let old = bytes_text(rt, alloc, old);
-            format!(in alloc; "store {pc} {address:x} {old}")
-        }
-        Entry::Fetch {
-            pc,
-            register,
-            value,
-            address,
-            old,
-        } => {
-            let (number, old) = (register.number(), bytes_text(rt, alloc, old));
-            format!(in alloc; "fetch {pc} r{number} {value:x} {address:x} {old}")
-        }
-        Entry::Cell {
-            pc,
-            r0,
-            address,
-            old,
-        } => {
-            let old = bytes_text(rt, alloc, old);
-            format!(in alloc; "cell {pc} {r0:x} {address:x} {old}")
-        }
-        _ => format!(in alloc; "no memory changed"),
-    };
-    kept(rt, text)
-}
-
-/// The entry of another step.
-fn step_text(rt: &impl Abort, alloc: Global, entry: &Entry) -> String {
-    let text = match entry {
-        Entry::Register {
-            pc,
-            register,
-            value,
-        } => format!(in alloc; "register {pc} r{} {value:x}", register.number()),
-        Entry::Jump { pc } => format!(in alloc; "jump {pc}"),
-        Entry::Call { pc, old: _ } => format!(in alloc; "call {pc}"),
-        Entry::Return { pc, saved } => {
-            let [r6, r7, r8, r9] = *saved;
-            format!(in alloc; "return {pc} {r6:x} {r7:x} {r8:x} {r9:x}")
-        }
-        Entry::Trace { pc, r0 } => format!(in alloc; "trace {pc} {r0:x}"),
-        Entry::End => format!(in alloc; "end"),
-        _ => format!(in alloc; "no such step"),
-    };
-    kept(rt, text)
-}
-
-/// Bytes in hexadecimal digits; more than 8 zeros by their number.
-fn bytes_text(rt: &impl Abort, alloc: Global, bytes: &ByteString) -> String {
-    let bytes = bytes.as_slice();
-    if bytes.len() > 8 && bytes.iter().all(|byte| *byte == 0) {
-        return kept(rt, format!(in alloc; "{} zeros", bytes.len()));
-    }
-    digits(rt, alloc, bytes)
 }
 
 /// Why an edit is refused.

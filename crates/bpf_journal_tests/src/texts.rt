@@ -1,23 +1,18 @@
 //! The bytes of a journal as docs/JOURNAL.md has them: of each entry its length, its tag, its parts, and the length again.
+use crate::seen::digits;
 use bpf_machine::{Entry, Fault, Status};
 use std::alloc::Global;
 use std::process::Abort;
 
-/// The bytes of entries, which are given with their marks from the newest to the oldest.
-pub fn journal_of(rt: &impl Abort, alloc: Global, entries: &[(Entry, bool)]) -> Vec<u8> {
-    let mut journal = Vec::new(alloc);
-    for kept in entries.iter().rev() {
-        put(rt, &mut journal, &text_of(rt, alloc, &kept.0, kept.1));
-    }
-    journal
+/// The bytes of an entry, in hexadecimal digits.
+pub fn digits_of(rt: &impl Abort, alloc: Global, entry: &Entry, mark: bool) -> String {
+    digits(rt, alloc, &text_of(rt, alloc, entry, mark))
 }
 
 /// The bytes of an entry.
-fn text_of(rt: &impl Abort, alloc: Global, entry: &Entry, mark: bool) -> Vec<u8> {
+pub fn text_of(rt: &impl Abort, alloc: Global, entry: &Entry, mark: bool) -> Vec<u8> {
     let parts = parts_of(rt, alloc, entry);
-    let len = u16::try_from(parts.len().saturating_add(5))
-        .ok()
-        .expect(rt, "too long");
+    let len = u16::try_from(parts.len().saturating_add(5)).unwrap_or(0);
     let mut text = Vec::new(alloc);
     put(rt, &mut text, &len.to_le_bytes());
     put(rt, &mut text, &[tag_of(entry, mark)]);
@@ -27,7 +22,7 @@ fn text_of(rt: &impl Abort, alloc: Global, entry: &Entry, mark: bool) -> Vec<u8>
 }
 
 /// Puts bytes behind others.
-fn put(rt: &impl Abort, text: &mut Vec<u8>, bytes: &[u8]) {
+pub fn put(rt: &impl Abort, text: &mut Vec<u8>, bytes: &[u8]) {
     text.extend_from_slice(bytes).expect(rt, "no memory");
 }
 
@@ -140,7 +135,7 @@ fn put_memory(rt: &impl Abort, parts: &mut Vec<u8>, entry: &Entry) {
 
 /// Puts the count of a run in a byte, and its bytes.
 fn put_run(rt: &impl Abort, parts: &mut Vec<u8>, run: &[u8]) {
-    let count = u8::try_from(run.len()).ok().expect(rt, "long run");
+    let count = u8::try_from(run.len()).unwrap_or(0);
     put(rt, parts, &[count]);
     put(rt, parts, run);
 }
@@ -220,4 +215,20 @@ fn without_last(journal: &[u8]) -> Option<&[u8]> {
         return None;
     }
     Some(&journal[..end - len])
+}
+
+/// The bytes of a journal with its newest entry first, as the last two bytes of each cut it.
+pub fn newest_first(rt: &impl Abort, alloc: Global, journal: &[u8]) -> Vec<u8> {
+    let mut text = Vec::new(alloc);
+    let mut left = journal;
+    for _ in 0..journal.len() {
+        match without_last(left) {
+            Some(rest) => {
+                put(rt, &mut text, left.get(rest.len()..).unwrap_or(&[]));
+                left = rest;
+            }
+            None => return text,
+        }
+    }
+    text
 }

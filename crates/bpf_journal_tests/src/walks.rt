@@ -1,27 +1,23 @@
 //! What a keeper holds, read by walking back.
+use crate::texts::{put, text_of};
 use bpf_journal::{Course, Keeper};
-use bpf_machine::Entry;
 use std::alloc::Global;
 use std::process::Abort;
 
-/// The entries that are kept with their marks, from the newest to the oldest. A walk that goes on past their number shows by one more.
-pub fn entries<K: Keeper>(
-    rt: &impl Abort,
-    alloc: Global,
-    course: &Course<K>,
-) -> Vec<(Entry, bool)> {
+/// The bytes of the entries that are kept, the newest entry first. A walk that goes on past their number shows by one more.
+pub fn entries<K: Keeper>(rt: &impl Abort, alloc: Global, course: &Course<K>) -> Vec<u8> {
     course.invariant();
     let keeper = course.keeper();
-    let mut entries = Vec::new(alloc);
+    let mut text = Vec::new(alloc);
     let mut at = keeper.end();
     for _ in 0..keeper.len().saturating_add(1) {
         match keeper.walk_back(at) {
             Some((entry, mark, before)) => {
-                entries.push((entry, mark)).ok().expect(rt, "no memory");
+                put(rt, &mut text, &text_of(rt, alloc, &entry, mark));
                 at = before;
             }
-            None => return entries,
+            None => return text,
         }
     }
-    entries
+    text
 }
