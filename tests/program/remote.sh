@@ -36,7 +36,7 @@ row 'a refused listing' 2 '$?#3f' '' 'refused A1 at line 1: unknown mnemonic\n' 
 row 'a refused journal' 2 '$?#3f' '' 'refused J1: journal size out of range\n' gdb --journal 1 --listing answer.s
 
 # The tables: sessions, streams of bytes, beginnings of a stream, and descriptions of machines.
-for name in requests statuses stops watches lengths machines; do
+for name in requests refusals numbers statuses stops watches lengths machines; do
     play_blocks "$parts/packets/$name.txt"
 done
 streams_of "$parts/packets/streams.txt"
