@@ -91,6 +91,14 @@ e26='refused E26: out of memory\n'
 wants "$plain$c13$o2" 0 '0x2a\n' '' run -m context --maps 8x2 program
 wants "$plain$a7$c13$o2" 0 '0x2a\n' '' run --listing program.s
 wants "$plain$c13$o2$j2" 0 '' '' debug -m context --maps 8x2 --journal 1024 --steps 7 program
+for size in 2097152 16777216; do
+    wants "$plain$c13$o2$j2" 0 '' '' debug --maps 8x2 --journal "$size" program
+done
+head -c 4096 /dev/zero > page
+head -c 65536 /dev/zero > whole
+for bytes_of_context in page whole; do
+    wants "$plain$c13$o2$j2" 0 '' '' debug -m "$bytes_of_context" --maps 256x64 program
+done
 wants "$plain$a7$c13$o2$j2" 0 '' '' debug --listing program.s
 wants "$plain$a7" 0 "$words" '' asm program.s
 wants "$plain$c13" 0 'mov r0, 42\nexit\n' '' disasm --maps 8x2 program

@@ -137,6 +137,29 @@ linked 'link of an object of 65,279 sections' sections.o
 { head -c 60 text.o; printf '\000\377'; tail -c +63 text.o; head -c $((64 * (0xff00 - 4))) /dev/zero; } > sections.o
 refused 'refused E6: malformed section table' link sections.o
 
+# Twenty calls of the first slot of `.text`, each with a relocation of its own: call I, of slot I, is 20 - I slots before it.
+twenty=$(seq 0 19)
+{
+    for _ in $twenty; do printf '\205\020\0\0\377\377\377\377'; done
+    exits 1
+} > called
+for i in $twenty; do
+    printf '%b' "\\0$(printf '%o' $((8 * i)))\\0\\0\\0\\0\\0\\0\\0\\012\\0\\0\\0\\02\\0\\0\\0"
+done > relocations
+{
+    for i in $twenty; do printf '%b' "\\0205\\020\\0\\0\\0$(printf '%o' $((20 - i)))\\0\\0\\0"; done
+    exits 1
+    cat six
+} > words
+moved calls 600 '\0\003\0\0\0\0\0\0\250\0\0\0\0\0\0\0' > one.o
+{ moved one 664 '\250\003\0\0\0\0\0\0\100\001\0\0\0\0\0\0'; cat called relocations; } > twenty.o
+linked 'link of twenty relocations' twenty.o
+
+# An object of a megabyte: what stands behind its tables is passed over.
+bytes words b7 00 00 00 07 00 00 00 EXIT
+{ cat text.o; head -c 1000000 /dev/zero; } > large.o
+linked 'link of an object of a megabyte' large.o
+
 # A file of C, where there is a clang for BPF: the sum of the context's bytes, by a function of its own.
 cat > sum.c <<'C'
 __attribute__((noinline)) unsigned long sum(const unsigned char *bytes, unsigned long count) {
