@@ -216,3 +216,13 @@ feed 'stepi\n' | obey debug program | {
 }
 check 'a reader that leaves after the first reply' 2 '1 forward; done; at 1: exit\n' "$unwritten"
 : > found/out
+
+# A limit on the size of files ends a program by a signal; where that is ignored, a write beyond it is one that fails.
+yes exit | head -n 500 > many.s
+(
+    trap '' XFSZ
+    ulimit -f 1
+    "$program" asm many.s > cut 2> found/err
+    echo $? > found/status
+)
+check 'an output beyond the limit on the size of files' 2 '' "$unwritten"
