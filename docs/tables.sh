@@ -1,5 +1,5 @@
 #!/bin/sh
-# The tables of crates and files in docs/ARCHITECTURE.md, made from crates.txt and from the first sentence of each file, and
+# The table of crates in docs/ARCHITECTURE.md and those of files in docs/FILES.md, made from crates.txt and from the first sentence of each file, and
 # the code in docs/CALLING.md with the crates that it uses. 'docs/tables.sh' writes them anew; 'docs/tables.sh --check' fails where a
 # page and the files differ.
 #
@@ -161,7 +161,7 @@ page() {
 list_crates > "$work/crates"
 { echo; list_files; } > "$work/files"
 stands_apart
-for file in docs/ARCHITECTURE.md docs/CALLING.md; do
+for file in docs/ARCHITECTURE.md docs/FILES.md docs/CALLING.md; do
     page "$file" > "$work/page"
     if [ "${1:-}" = --check ]; then
         diff "$file" "$work/page" > "$work/diff" && continue
