@@ -1,16 +1,16 @@
 #!/bin/sh
-# Where the processor minutes of rt ci go. `minutes.sh FILE` looks every three seconds at the prover's processes until it is ended, and writes each one's
+# Where the processor minutes of rt ci go. `minutes.sh FILE` looks every three seconds at the prover's processes in its own session until it is ended, and writes each one's
 # seconds, kind and crate to FILE; what a process takes after the last look is not seen, so the sums are a little low. `minutes.sh --told FILE`
 # prints the sums.
 set -u
 
 # looked: of each process of the prover its number, its processor seconds, the crate, and what it proves.
 looked() {
-    ps -eo pid=,cputimes=,args= 2> /dev/null | awk '
-        $3 ~ /rattle$/ && / (build|check) --crate-name / {
+    ps -eo pid=,sid=,cputimes=,args= 2> /dev/null | awk -v session="$session" '
+        $2 == session && $4 ~ /rattle$/ && / (build|check) --crate-name / {
             kind = / --test( |$)/ ? "tests" : / check / && !/rt-proved/ ? "wrong" : "crates"
             match($0, /--crate-name [a-z_0-9]+/)
-            print $1, $2, substr($0, RSTART + 13, RLENGTH - 13), kind
+            print $1, $3, substr($0, RSTART + 13, RLENGTH - 13), kind
         }
     '
 }
@@ -29,6 +29,7 @@ if [ "$1" = --told ]; then
     exit
 fi
 : > "$1"
+session=$(ps -o sid= -p $$ 2> /dev/null | tr -d ' ')
 while :; do
     looked >> "$1"
     sleep 3
