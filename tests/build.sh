@@ -55,7 +55,7 @@ progress() {
 
 make_copy || { echo "FAILED: the sources can't be copied to $copy."; exit 1; }
 alone
-echo "Proving $(echo "$crates" | wc -l) crates once, and building $crate. From nothing that takes 20 to 40 minutes on four processors, about an hour on two."
+echo "Proving $(echo "$crates" | wc -l) crates once, and building $crate. From nothing that takes 25 to 50 minutes on four processors, about an hour on two."
 {
     (cd "$copy" && rt ci 2>&1)
     echo $? > "$logs/status"
