@@ -44,11 +44,11 @@ proved() {
     sh tests/minutes.sh out/minutes &
     sampler=$!
     prove
-    outcome=$?
+    ended=$?
     kill "$sampler" 2> /dev/null
     wait "$sampler" 2> /dev/null
     sh tests/minutes.sh --told out/minutes
-    return "$outcome"
+    return "$ended"
 }
 
 part 'tests/pages.sh' sh tests/pages.sh
