@@ -30,33 +30,33 @@ after_ok (Err fault) next v e = absurd (clash fault v e)
 
 call_to_at : (target : Part) (value imm slot : ℕ) (patch : Patch) → call_to target value imm slot ≡ Ok patch → patch.at ≡ 8 * slot
 call_to_at target value imm slot patch e =
-    let a = provided_ok (value % 8 == 0) CallTarget _ _ e in
-    let b = provided_ok (nat_lt (value / 8) target.slots.count) CallTarget _ _ a.1 in
-    let c = provided_ok (nat_lt ((value / 8 + imm + 1) % 4294967296) target.slots.count) CallTarget _ _ b.1 in
+    let a = provided_ok (value % 8 == 0) (CallTarget slot) _ _ e in
+    let b = provided_ok (nat_lt (value / 8) target.slots.count) (CallTarget slot) _ _ a.1 in
+    let c = provided_ok (nat_lt ((value / 8 + imm + 1) % 4294967296) target.slots.count) (CallTarget slot) _ _ b.1 in
     sym (ap (λ (p : Patch). p.at) (ok_same (record { at = 8 * slot; registers = 0x10; imm = (4294967296 + (target.first + (value / 8 + imm + 1) % 4294967296) - (slot + 1)) % 4294967296 }) patch c.1))
 
 call_at : (object : List ℕ) (plan : Plan) (symbol : SymbolEntry) (at slot : ℕ) (patch : Patch) → call_patch object plan symbol at slot ≡ Ok patch → patch.at ≡ 8 * slot
 call_at object plan symbol at slot patch e =
-    let a = provided_ok (is_call object at) NoCall _ _ e in
-    let b = after_ok (part_with plan symbol.section) (λ target. call_to target symbol.value (u32_at object (at + 4)) slot) patch a.1 in
+    let a = provided_ok (is_call object at) (NoCall slot) _ _ e in
+    let b = after_ok (part_with plan symbol.section slot) (λ target. call_to target symbol.value (u32_at object (at + 4)) slot) patch a.1 in
     call_to_at b.0 symbol.value (u32_at object (at + 4)) slot patch b.2
 
 map_at : (object : List ℕ) (plan : Plan) (maps : List ℕ) (symbol : SymbolEntry) (at slot : ℕ) (patch : Patch) → map_patch object plan maps symbol at slot ≡ Ok patch → patch.at ≡ 8 * slot
 map_at object plan maps symbol at slot patch e =
-    let a = provided_ok (is_map plan.maps symbol) Data _ _ e in
-    let b = provided_ok (is_empty_load object at) NoLoad _ _ a.1 in
+    let a = provided_ok (is_map plan.maps symbol) (Data slot) _ _ e in
+    let b = provided_ok (is_empty_load object at) (NoLoad slot) _ _ a.1 in
     sym (ap (λ (p : Patch). p.at) (ok_same (record { at = 8 * slot; registers = slice_index object (at + 1) + 0x50; imm = map_number maps symbol.value }) patch b.1))
 
 kind_at : (object : List ℕ) (plan : Plan) (maps : List ℕ) (symbol : SymbolEntry) (at slot : ℕ) (patch : Patch) (call map room : Bool)
-    → (if call then call_patch object plan symbol at slot else (if map then provided room NoLoad (map_patch object plan maps symbol at slot) else Err RelocationKind)) ≡ Ok patch → patch.at ≡ 8 * slot
+    → (if call then call_patch object plan symbol at slot else (if map then provided room (NoLoad slot) (map_patch object plan maps symbol at slot) else Err (RelocationKind slot))) ≡ Ok patch → patch.at ≡ 8 * slot
 kind_at object plan maps symbol at slot patch true map room e = call_at object plan symbol at slot patch e
-kind_at object plan maps symbol at slot patch false true room e = map_at object plan maps symbol at slot patch (provided_ok room NoLoad (map_patch object plan maps symbol at slot) patch e).1
-kind_at object plan maps symbol at slot patch false false room e = absurd (clash RelocationKind patch e)
+kind_at object plan maps symbol at slot patch false true room e = map_at object plan maps symbol at slot patch (provided_ok room (NoLoad slot) (map_patch object plan maps symbol at slot) patch e).1
+kind_at object plan maps symbol at slot patch false false room e = absurd (clash (RelocationKind slot) patch e)
 
 with_at : (object : List ℕ) (plan : Plan) (maps : List ℕ) (part : Part) (relocation : RelocationEntry) (symbol : SymbolEntry) (patch : Patch)
     → patch_with object plan maps part relocation symbol ≡ Ok patch → patch.at ≡ 8 * (part.first + relocation.offset / 8)
 with_at object plan maps part relocation symbol patch e =
-    let a = provided_ok (not (symbol.section == 0)) Extern _ _ e in
+    let a = provided_ok (not (symbol.section == 0)) (Extern (part.first + relocation.offset / 8)) _ _ e in
     kind_at object plan maps symbol (part.slots.at + relocation.offset) (part.first + relocation.offset / 8) patch
     (relocation.kind == 10) (relocation.kind == 1) (nat_lt (relocation.offset / 8 + 1) part.slots.count) a.1
 
@@ -78,7 +78,7 @@ names_slot object plan maps part i patch e =
     let a = provided_ok (is_next object part.relocations i) Place _ _ e in
     let b = provided_ok (relocation.offset % 8 == 0) Place _ _ a.1 in
     let c = provided_ok (nat_lt (relocation.offset / 8) part.slots.count) Place _ _ b.1 in
-    let d = provided_ok (nat_lt relocation.symbol plan.symbols.count) Symbol _ _ c.1 in
+    let d = provided_ok (nat_lt relocation.symbol plan.symbols.count) (Symbol (part.first + relocation.offset / 8)) _ _ c.1 in
     record {
       at = with_at object plan maps part relocation (symbol_at object plan.symbols relocation.symbol) patch d.1;
       whole = is_zero (relocation.offset % 8) b.0;

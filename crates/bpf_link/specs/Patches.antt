@@ -16,25 +16,25 @@ use Rattle.bpf_link.specs.Plans.{after, relocation_at, symbol_at}
 abbrev pub is_call : List ℕ → ℕ → Bool
 is_call object at = (slice_index object at == 0x85) && (slice_index object (at + 1) == 0x10)
 
--- The part of the program in which a symbol's section lies.
-abbrev pub part_with : Plan → ℕ → Result Part LinkFault
-part_with plan section =
+-- The part of the program in which a symbol's section lies, for a call in a slot.
+abbrev pub part_with : Plan → ℕ → ℕ → Result Part LinkFault
+part_with plan section slot =
     if section == plan.code.section then Ok plan.code
-    else (if section == plan.text.section then Ok plan.text else Err CallTarget)
+    else (if section == plan.text.section then Ok plan.text else Err (CallTarget slot))
 
 -- A call in a slot of the program of what lies at a value in a part, with what stood in imm: the slot of the function is value / 8 + imm + 1,
 -- and imm becomes its distance from the slot after the call. Both numbers are of 32 bits in two's complement.
 abbrev pub call_to : Part → ℕ → ℕ → ℕ → Result Patch LinkFault
 call_to target value imm slot =
-    provided (value % 8 == 0) CallTarget
-    (provided (nat_lt (value / 8) target.slots.count) CallTarget
-    (provided (nat_lt ((value / 8 + imm + 1) % 4294967296) target.slots.count) CallTarget
+    provided (value % 8 == 0) (CallTarget slot)
+    (provided (nat_lt (value / 8) target.slots.count) (CallTarget slot)
+    (provided (nat_lt ((value / 8 + imm + 1) % 4294967296) target.slots.count) (CallTarget slot)
     (Ok (record { at = 8 * slot; registers = 0x10; imm = (4294967296 + (target.first + (value / 8 + imm + 1) % 4294967296) - (slot + 1)) % 4294967296 }))))
 
 abbrev pub call_patch : List ℕ → Plan → SymbolEntry → ℕ → ℕ → Result Patch LinkFault
 call_patch object plan symbol at slot =
-    provided (is_call object at) NoCall
-    (after (part_with plan symbol.section) (λ target. call_to target symbol.value (u32_at object (at + 4)) slot))
+    provided (is_call object at) (NoCall slot)
+    (after (part_with plan symbol.section slot) (λ target. call_to target symbol.value (u32_at object (at + 4)) slot))
 
 -- A symbol names a map: an object, STT_OBJECT, in the section of maps.
 abbrev pub is_map : ℕ → SymbolEntry → Bool
@@ -52,18 +52,18 @@ map_number maps value = count_by (λ other. nat_lt other value) maps
 -- A wide load of a map by its number (RFC 9669, section 5.4): 5 for src, and the number in imm.
 abbrev pub map_patch : List ℕ → Plan → List ℕ → SymbolEntry → ℕ → ℕ → Result Patch LinkFault
 map_patch object plan maps symbol at slot =
-    provided (is_map plan.maps symbol) Data
-    (provided (is_empty_load object at) NoLoad
+    provided (is_map plan.maps symbol) (Data slot)
+    (provided (is_empty_load object at) (NoLoad slot)
     (Ok (record { at = 8 * slot; registers = slice_index object (at + 1) + 0x50; imm = map_number maps symbol.value })))
 
 -- What a relocation against a symbol makes of the slot that it names. One of a wide load names the first of two slots.
 abbrev pub patch_with : List ℕ → Plan → List ℕ → Part → RelocationEntry → SymbolEntry → Result Patch LinkFault
 patch_with object plan maps part relocation symbol =
-    provided (not (symbol.section == 0)) Extern
+    provided (not (symbol.section == 0)) (Extern (part.first + relocation.offset / 8))
     (if relocation.kind == 10 then call_patch object plan symbol (part.slots.at + relocation.offset) (part.first + relocation.offset / 8)
     else (if relocation.kind == 1
-    then provided (nat_lt (relocation.offset / 8 + 1) part.slots.count) NoLoad (map_patch object plan maps symbol (part.slots.at + relocation.offset) (part.first + relocation.offset / 8))
-    else Err RelocationKind))
+    then provided (nat_lt (relocation.offset / 8 + 1) part.slots.count) (NoLoad (part.first + relocation.offset / 8)) (map_patch object plan maps symbol (part.slots.at + relocation.offset) (part.first + relocation.offset / 8))
+    else Err (RelocationKind (part.first + relocation.offset / 8))))
 
 -- A relocation is the first of its table, or its slot follows that of the one before.
 abbrev pub is_next : List ℕ → Entries → ℕ → Bool
@@ -73,7 +73,7 @@ abbrev pub patch_at : List ℕ → Plan → List ℕ → Part → RelocationEntr
 patch_at object plan maps part relocation =
     provided (relocation.offset % 8 == 0) Place
     (provided (nat_lt (relocation.offset / 8) part.slots.count) Place
-    (provided (nat_lt relocation.symbol plan.symbols.count) Symbol
+    (provided (nat_lt relocation.symbol plan.symbols.count) (Symbol (part.first + relocation.offset / 8))
     (patch_with object plan maps part relocation (symbol_at object plan.symbols relocation.symbol))))
 
 -- What a relocation of a part makes of its slot.

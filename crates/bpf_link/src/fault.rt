@@ -5,6 +5,8 @@ ghost use Rattle.bpf_isa.specs.declared.fault.LoadFault.{LoadFault};
 use bpf_isa::LoadFault;
 
 /// Why no program is made of an object.
+///
+/// A number in it is a slot of the program that would come out, the one that a relocation is of: slots of `.text` count behind those of the section.
 #[derive(Clone, Copy)]
 pub enum LinkFault {
     /// The bytes aren't an ELF file.
@@ -42,19 +44,19 @@ pub enum LinkFault {
     /// A relocation names no slot of its section, or not one after the slot of the relocation before.
     Place,
     /// A relocation names no symbol of the table.
-    Symbol,
+    Symbol(usize),
     /// A symbol that isn't defined in the object: a function or a variable of the kernel, or a missing one.
-    Extern,
+    Extern(usize),
     /// Neither a call nor a wide load.
-    RelocationKind,
+    RelocationKind(usize),
     /// A call of what is no function of the section or of `.text`.
-    CallTarget,
+    CallTarget(usize),
     /// The relocation of a call is at another instruction.
-    NoCall,
+    NoCall(usize),
     /// A wide load of the address of data, or of what is no map.
-    Data,
+    Data(usize),
     /// The relocation of a map is at another instruction, or at one that has a number.
-    NoLoad,
+    NoLoad(usize),
     /// The words are no program.
     Program(LoadFault),
     /// Memory ran out.
@@ -86,13 +88,13 @@ impl LinkFault {
             LinkFault::TooManyMaps => 15,
             LinkFault::RelocationTable => 16,
             LinkFault::Place => 17,
-            LinkFault::Symbol => 18,
-            LinkFault::Extern => 19,
-            LinkFault::RelocationKind => 20,
-            LinkFault::CallTarget => 21,
-            LinkFault::NoCall => 22,
-            LinkFault::Data => 23,
-            LinkFault::NoLoad => 24,
+            LinkFault::Symbol(_) => 18,
+            LinkFault::Extern(_) => 19,
+            LinkFault::RelocationKind(_) => 20,
+            LinkFault::CallTarget(_) => 21,
+            LinkFault::NoCall(_) => 22,
+            LinkFault::Data(_) => 23,
+            LinkFault::NoLoad(_) => 24,
             LinkFault::Program(_) => 25,
             LinkFault::Memory => 26,
         }
@@ -120,13 +122,13 @@ impl LinkFault {
             LinkFault::TooManyMaps => "more than 16 maps",
             LinkFault::RelocationTable => "malformed relocation table",
             LinkFault::Place => "relocation at no slot, or out of order",
-            LinkFault::Symbol => "relocation against no symbol",
-            LinkFault::Extern => "symbol is not defined in the object",
-            LinkFault::RelocationKind => "unknown relocation",
-            LinkFault::CallTarget => "call of no function of the program",
-            LinkFault::NoCall => "relocation of a call at no call",
-            LinkFault::Data => "reference to data that is no map",
-            LinkFault::NoLoad => "relocation of a map at no empty wide load",
+            LinkFault::Symbol(_) => "relocation against no symbol",
+            LinkFault::Extern(_) => "symbol is not defined in the object",
+            LinkFault::RelocationKind(_) => "unknown relocation",
+            LinkFault::CallTarget(_) => "call of no function of the program",
+            LinkFault::NoCall(_) => "relocation of a call at no call",
+            LinkFault::Data(_) => "reference to data that is no map",
+            LinkFault::NoLoad(_) => "relocation of a map at no empty wide load",
             LinkFault::Program(fault) => fault.text(),
             LinkFault::Memory => "out of memory",
         }

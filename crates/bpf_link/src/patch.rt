@@ -26,9 +26,9 @@ fn is_call(object: &[u8], at: usize) -> bool
     object[at] == 0x85 && object[at + 1] == 0x10
 }
 
-/// The part of the program that a section is.
-fn part_with(plan: &Plan, section: usize) -> Result<Part, LinkFault>
-    ensures { result ≡ part_with plan.now section }
+/// The part of the program that a section is, for a call in a slot.
+fn part_with(plan: &Plan, section: usize, slot: usize) -> Result<Part, LinkFault>
+    ensures { result ≡ part_with plan.now section slot }
 {
     if section == plan.code.section {
         return Ok(plan.code);
@@ -36,7 +36,7 @@ fn part_with(plan: &Plan, section: usize) -> Result<Part, LinkFault>
     if section == plan.text.section {
         return Ok(plan.text);
     }
-    Err(LinkFault::CallTarget)
+    Err(LinkFault::CallTarget(slot))
 }
 
 /// A call in a slot of what lies at a value in a part, with what stood in imm.
@@ -47,16 +47,16 @@ fn call_to(target: &Part, value: u64, imm: u32, slot: usize) -> Result<Patch, Li
     ensures at { IfOk result (λ patch. patch.at ≡ 8 * slot) }
 {
     if value % 8 != 0 {
-        return Err(LinkFault::CallTarget);
+        return Err(LinkFault::CallTarget(slot));
     }
     let from = value / 8;
     let count = target.slots.count as u64;
     if from >= count {
-        return Err(LinkFault::CallTarget);
+        return Err(LinkFault::CallTarget(slot));
     }
     let index = (from + u64::from(imm) + 1) % 4_294_967_296;
     if index >= count {
-        return Err(LinkFault::CallTarget);
+        return Err(LinkFault::CallTarget(slot));
     }
     let distance = (4_294_967_296 + (target.first as u64 + index) - (slot as u64 + 1))
         % 4_294_967_296;
@@ -82,9 +82,9 @@ fn call_patch(
     ensures at { IfOk result (λ patch. patch.at ≡ 8 * slot) }
 {
     if !is_call(object, at) {
-        return Err(LinkFault::NoCall);
+        return Err(LinkFault::NoCall(slot));
     }
-    let target = part_with(plan, usize::from(symbol.section))?;
+    let target = part_with(plan, usize::from(symbol.section), slot)?;
     call_to(&target, symbol.value, u32_at(object, at + 4), slot)
 }
 
@@ -135,10 +135,10 @@ fn map_patch(
     ensures at { IfOk result (λ patch. patch.at ≡ 8 * slot) }
 {
     if !is_map(plan.maps, symbol) {
-        return Err(LinkFault::Data);
+        return Err(LinkFault::Data(slot));
     }
     if !is_empty_load(object, at) {
-        return Err(LinkFault::NoLoad);
+        return Err(LinkFault::NoLoad(slot));
     }
     Ok(Patch {
         at: 8 * slot,
@@ -164,22 +164,22 @@ fn patch_with(
     ensures value { result ≡ patch_with object.now plan.now maps.now part.now relocation.now symbol.now }
     ensures at { IfOk result (λ patch. patch.at ≡ 8 * (part.now.first + relocation.now.offset / 8)) }
 {
-    if symbol.section == 0 {
-        return Err(LinkFault::Extern);
-    }
     let offset = relocation.offset as usize;
     let at = part.slots.at + offset;
     let slot = part.first + offset / 8;
+    if symbol.section == 0 {
+        return Err(LinkFault::Extern(slot));
+    }
     if relocation.kind == 10 {
         return call_patch(object, plan, symbol, at, slot);
     }
     if relocation.kind == 1 {
         if offset / 8 + 1 >= part.slots.count {
-            return Err(LinkFault::NoLoad);
+            return Err(LinkFault::NoLoad(slot));
         }
         return map_patch(object, plan, maps, symbol, at, slot);
     }
-    Err(LinkFault::RelocationKind)
+    Err(LinkFault::RelocationKind(slot))
 }
 
 /// Whether the slot of a relocation follows that of the one before.
@@ -216,7 +216,7 @@ fn patch_at(
     }
     let symbol = relocation.symbol as usize;
     if symbol >= plan.symbols.count {
-        return Err(LinkFault::Symbol);
+        return Err(LinkFault::Symbol(part.first + relocation.offset as usize / 8));
     }
     let symbol = symbol_at(object, &plan.symbols, symbol);
     patch_with(object, plan, maps, part, relocation, &symbol)

@@ -52,8 +52,15 @@ slot_of load.TooLong = None
 slot_of load.Ragged = None
 slot_of load.Memory = None
 
--- The slot of an object's fault, where the words that are linked have one.
+-- The slot of an object's fault, where the words that are linked have one, or a relocation.
 abbrev pub slot_of_words : LinkFault → Option ℕ
+slot_of_words (linking.Symbol slot) = Some slot
+slot_of_words (linking.Extern slot) = Some slot
+slot_of_words (linking.RelocationKind slot) = Some slot
+slot_of_words (linking.CallTarget slot) = Some slot
+slot_of_words (linking.NoCall slot) = Some slot
+slot_of_words (linking.Data slot) = Some slot
+slot_of_words (linking.NoLoad slot) = Some slot
 slot_of_words (linking.Program fault) = slot_of fault
 slot_of_words fault = None
 

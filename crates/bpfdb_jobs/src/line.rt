@@ -161,11 +161,18 @@ fn slot_of(fault: &LoadFault) -> Option<usize>
     }
 }
 
-/// The slot of an object's fault, where the words that are linked have one.
+/// The slot of an object's fault, where the words that are linked have one, or a relocation.
 fn slot_of_words(fault: &LinkFault) -> Option<usize>
     ensures { result ≡ slot_of_words fault.now }
 {
     match fault {
+        LinkFault::Symbol(slot) => Some(*slot),
+        LinkFault::Extern(slot) => Some(*slot),
+        LinkFault::RelocationKind(slot) => Some(*slot),
+        LinkFault::CallTarget(slot) => Some(*slot),
+        LinkFault::NoCall(slot) => Some(*slot),
+        LinkFault::Data(slot) => Some(*slot),
+        LinkFault::NoLoad(slot) => Some(*slot),
         LinkFault::Program(fault) => slot_of(fault),
         _ => None,
     }
