@@ -20,7 +20,7 @@ pub(crate) fn entry_again(cpu: &Cpu, entry: &Entry) -> Entry
     again
 }
 
-/// The same: of an edit's entry its form with what the state shows.
+/// The move of an edit, to be made again: the entry's form, with what the state shows in its place.
 fn seen_again(cpu: &Cpu, entry: &Entry) -> Entry
     ensures { result ≡ seen_again cpu.now entry.now }
 {

@@ -199,7 +199,7 @@ impl<K: Keeper> Course<K> {
         }
     }
 
-    /// The same, by way of the entry.
+    /// Takes the newest move back by way of its entry, as a value.
     #[inline(never)]
     fn back_by_entry(&mut self) -> Option<Taken>
         ensures back { (t : Track) → Follows K.holds self.old t → GoesBackOne K.holds result t.history t.ahead self.old self.new }
@@ -244,7 +244,7 @@ impl<K: Keeper> Course<K> {
         }
     }
 
-    /// The same, by way of the entry that is kept of it.
+    /// Makes the oldest move again that was taken back, by way of the entry that is kept of it.
     #[inline(never)]
     fn redo_by_entry(&mut self) -> Result<bool, TimelineFault>
         ensures ok { IfOk result (λ made. (t : Track) → Follows K.holds self.old t → MakesAgain K.holds made t.history t.ahead self.old self.new) }

@@ -234,7 +234,8 @@ impl<K: Keeper> Timeline<K> {
         self.keeper.take_back(&mut self.cpu)
     }
 
-    /// The same where the newest move is a step: a ring keeps its entry then, with its mark. None where none is kept, or an edit is the newest,
+    /// Takes the newest move back where it is a step, and moves its entry with its mark to this ring. None where no move is kept, or
+    /// an edit is the newest,
     /// and then nothing changes.
     #[inline(always)]
     pub(crate) fn hand_back(&mut self, ring: &mut RingKeeper) -> Option<Taken>

@@ -26,7 +26,7 @@ pub enum Change {
         value: u64,
         next: u16,
     },
-    /// The same, and a register gets the number that stood there.
+    /// A number replaces that at an address, and a register gets the number that stood there.
     Fetch {
         address: u64,
         index: usize,

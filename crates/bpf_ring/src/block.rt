@@ -142,7 +142,7 @@ pub(crate) fn record_in_place(
     }
 }
 
-/// The same where the place behind those bytes is known, and there is room for the entry.
+/// Makes a change, and writes its entry to the block at a place that has room for it.
 #[inline(always)]
 pub(crate) fn record_at(
     cpu: &mut Cpu,

@@ -80,7 +80,7 @@ impl Counts {
         self.subtract_sorts(tag);
     }
 
-    /// The same counts of marks and of edits, with so many entries.
+    /// These counts of marks and of edits, with so many entries.
     #[inline(always)]
     pub(crate) fn with_entries(self, entries: usize) -> Counts
         ensures { result ≡ record self { entries = entries } }
@@ -104,7 +104,7 @@ impl Counts {
         }
     }
 
-    /// The same, for a tag that is a marked one's or an edit's.
+    /// Counts an entry off whose tag is a marked one's or an edit's.
     #[inline(never)]
     fn subtract_rare(&mut self, tag: u8)
         ensures entries { self.new.entries ≡ self.old.entries }

@@ -306,7 +306,8 @@ impl EntryRing {
         }
     }
 
-    /// The same of the newest bytes of a ring, so many, which stay there: they are read where they lie, or from a copy where they go around the
+    /// Takes the move back whose entry is the newest so many bytes of a ring. They stay there: they are read where they lie, or from a
+    /// copy where they go around the
     /// block's end.
     #[inline(always)]
     fn take_newest_of(&mut self, ring: &Ring, cpu: &mut Cpu, count: usize) -> Option<u8>
@@ -321,7 +322,7 @@ impl EntryRing {
         }
     }
 
-    /// The same, by way of a copy of the bytes.
+    /// Takes that move back by way of a copy of the bytes.
     #[inline(never)]
     fn take_apart(&mut self, ring: &Ring, cpu: &mut Cpu, count: usize) -> Option<u8>
         requires held { count ≤ length ring.now.bytes }
@@ -334,7 +335,7 @@ impl EntryRing {
         self.take_text(cpu, &scratch[..count])
     }
 
-    /// The same of the text of an entry.
+    /// Takes the move back whose entry has this text.
     #[inline(always)]
     fn take_text(&mut self, cpu: &mut Cpu, text: &[u8]) -> Option<u8>
         requires { HasComeBy cpu.old text.now }
@@ -444,7 +445,7 @@ impl EntryRing {
         }
     }
 
-    /// The same of a change.
+    /// Makes a change, and keeps its entry.
     #[inline(always)]
     fn record_change(&mut self, cpu: &mut Cpu, change: &Change, mark: bool)
         requires runs { has_ended cpu.old.status ≡ false }

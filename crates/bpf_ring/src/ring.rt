@@ -138,7 +138,7 @@ impl Ring {
         }
     }
 
-    /// The same, where the block may have to be filled on, or the bytes go around its end.
+    /// Appends bytes where the block may have to be filled on, or they go around its end.
     #[inline(never)]
     fn push_apart(&mut self, bytes: &[u8])
         requires { length self.old.bytes + length bytes.now ≤ self.old.size }
@@ -209,7 +209,7 @@ impl Ring {
         reached
     }
 
-    /// The same as `record`, by way of a copy of the entry.
+    /// Makes a change and keeps its entry, as `record` does, by way of a copy of the entry.
     #[inline(never)]
     fn record_apart(&mut self, cpu: &mut Cpu, change: Change, weight: usize, mark: bool)
         requires runs { has_ended cpu.old.status ≡ false }
@@ -243,7 +243,7 @@ impl Ring {
         }
     }
 
-    /// The same, by way of a copy of the bytes.
+    /// Takes the move back whose entry is the newest so many bytes, by way of a copy of them.
     #[inline(never)]
     fn revert_apart(&self, cpu: &mut Cpu, count: usize) -> u8
         requires held { count ≤ length self.now.bytes }
@@ -312,7 +312,7 @@ impl Ring {
         }
     }
 
-    /// The same, by way of a copy of the bytes.
+    /// The byte that an address had before the moves of a front of the ring, by way of a copy of the entry's bytes.
     #[inline(never)]
     fn byte_before_apart(
         &self,
@@ -464,7 +464,7 @@ impl Ring {
         }
     }
 
-    /// The same, a byte at a time.
+    /// The length that stands in the two bytes in front of a place, read a byte at a time.
     #[inline(never)]
     fn len_before_apart(&self, place: usize) -> usize
         requires { (2 ≤ place) × (place ≤ length self.now.bytes) }

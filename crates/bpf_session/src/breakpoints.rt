@@ -71,7 +71,7 @@ impl Breakpoints {
         self.table[place_of(slot)] && self.is_among(slot)
     }
 
-    /// The same, by a look at each of them.
+    /// Whether a breakpoint stands at a slot, by a look at each of them.
     #[inline(never)]
     fn is_among(&self, slot: u16) -> bool
         ensures { result ≡ has self.now slot }

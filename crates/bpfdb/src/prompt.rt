@@ -10,7 +10,7 @@ use std::io::{Read, Write};
 pub const GREETING: &str =
     "bpfdb reads commands from this terminal. 'bpfdb debug --help' lists them, 'quit' ends.\n";
 
-/// The same where there is none.
+/// What is said first where no FILE is named.
 pub const FIRST_GREETING: &str =
     "bpfdb debugs a small program that is built in: mov r0, 42 and exit. For yours: 'bpfdb debug FILE'.
 'bpfdb debug --help' lists the commands, 'quit' ends.\n";

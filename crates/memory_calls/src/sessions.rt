@@ -96,7 +96,7 @@ fn first_machine(rt: &HostRuntime, words: &[String]) -> Option<Cpu> {
     Cpu::open(rt.alloc(), program, &context).ok()
 }
 
-/// The same after the steps that the words name.
+/// The machine that the words name, after the steps that they name.
 fn machine(rt: &HostRuntime, words: &[String]) -> Option<Cpu> {
     let mut cpu = first_machine(rt, words)?;
     for _ in 0..number(words, 7).unwrap_or(0) {

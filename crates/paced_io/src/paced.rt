@@ -53,7 +53,8 @@ impl<T> Paced<T> {
         }
     }
 
-    /// The same, but where that call is a write it takes no byte, and answers no error.
+    /// Passes at most `step` bytes a call, at least one, and the call with this number, from 1 on, fails: a read answers an error, a
+    /// write takes no byte and answers none.
     pub fn refusing(inner: T, step: usize, fails_at: u64) -> Paced<T>
         ensures { result ≡ record { inner = inner; step = step; calls = 0; fails_at = fails_at; takes_nothing = true } }
     {

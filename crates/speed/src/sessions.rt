@@ -181,7 +181,7 @@ struct Timed {
     redo: u128,
 }
 
-/// The same as commands: `continue`, `last-write` of a byte that never changed, `reverse-continue`, `redo`.
+/// Times the commands of a session: `continue`, `last-write` of a byte that never changed, `reverse-continue`, `redo`.
 fn through_session(
     rt: &HostRuntime,
     program: &[u8],

@@ -26,7 +26,7 @@ impl Cpu {
         }
     }
 
-    /// The same, where the number and its index are known.
+    /// The change that an atomic instruction makes where the number stands at this index.
     fn atomic_at(
         &self,
         op: AtomicOp,

@@ -55,7 +55,7 @@ impl Cpu {
         }
     }
 
-    /// The same, where the map and the key are known.
+    /// The change that an update of a map makes where the map and the key are known.
     fn update_of(&self, map: u64, shape: &MapShape, key: u64) -> Change
         requires start { IsStart self.now.program (self.now.pc + 1) }
         requires map { map < 16 }

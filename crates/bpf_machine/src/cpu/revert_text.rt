@@ -45,7 +45,7 @@ impl Cpu {
         }
     }
 
-    /// The same of a step that replaced one register.
+    /// Takes a step back that replaced one register, by the bytes of its entry.
     #[inline(always)]
     fn undo_register_text(&mut self, bytes: &[u8])
         requires { RestoresText self.old 1 bytes.now }
@@ -55,7 +55,7 @@ impl Cpu {
         self.undo_register(slot_in(bytes), register_by(bytes[5]), value);
     }
 
-    /// The same of a jump.
+    /// Takes a jump back, by the bytes of its entry.
     #[inline(always)]
     fn undo_jump_text(&mut self, bytes: &[u8])
         requires { RestoresText self.old 2 bytes.now }
@@ -64,7 +64,7 @@ impl Cpu {
         self.undo_jump(slot_in(bytes));
     }
 
-    /// The same of a local call.
+    /// Takes a local call back, by the bytes of its entry.
     #[inline(never)]
     fn undo_call_text(&mut self, bytes: &[u8])
         requires { RestoresText self.old 3 bytes.now }
@@ -73,7 +73,7 @@ impl Cpu {
         self.undo_call(slot_in(bytes), &bytes[5..517]);
     }
 
-    /// The same of a return from a local call.
+    /// Takes a return from a local call back, by the bytes of its entry.
     #[inline(never)]
     fn undo_return_text(&mut self, bytes: &[u8])
         requires { RestoresText self.old 4 bytes.now }
@@ -82,7 +82,7 @@ impl Cpu {
         self.undo_return(slot_in(bytes), &saved_in(bytes));
     }
 
-    /// The same of a store.
+    /// Takes a store back, by the bytes of its entry.
     #[inline(always)]
     fn undo_store_text(&mut self, bytes: &[u8])
         requires { RestoresText self.old 5 bytes.now }
@@ -93,7 +93,7 @@ impl Cpu {
         self.undo_store(slot_in(bytes), address, &bytes[14..14 + count]);
     }
 
-    /// The same of a store that also fetched into a register.
+    /// Takes a store back that also fetched into a register, by the bytes of its entry.
     #[inline(never)]
     fn undo_fetch_text(&mut self, bytes: &[u8])
         requires { RestoresText self.old 6 bytes.now }
@@ -105,7 +105,7 @@ impl Cpu {
         self.undo_fetch(slot_in(bytes), register_by(bytes[5]), value, address, old);
     }
 
-    /// The same of an update of a map's cell.
+    /// Takes an update of a map's cell back, by the bytes of its entry.
     #[inline(never)]
     fn undo_cell_text(&mut self, bytes: &[u8])
         requires { RestoresText self.old 7 bytes.now }
@@ -116,7 +116,7 @@ impl Cpu {
         self.undo_cell(slot_in(bytes), r0, address, &bytes[21..bytes.len() - 2]);
     }
 
-    /// The same of a word appended to the trace.
+    /// Takes a word off the trace, by the bytes of the entry of its step.
     #[inline(never)]
     fn undo_trace_text(&mut self, bytes: &[u8])
         requires { RestoresText self.old 8 bytes.now }
@@ -126,7 +126,7 @@ impl Cpu {
         self.undo_trace(slot_in(bytes), r0);
     }
 
-    /// The same of an edit of a register.
+    /// Takes an edit of a register back, by the bytes of its entry.
     #[inline(never)]
     fn undo_edit_register_text(&mut self, bytes: &[u8])
         requires { RestoresText self.old 10 bytes.now }
@@ -136,7 +136,7 @@ impl Cpu {
         self.undo_edit_register(register_by(bytes[3]), value);
     }
 
-    /// The same of an edit of bytes.
+    /// Takes an edit of bytes back, by the bytes of its entry.
     #[inline(never)]
     fn undo_edit_bytes_text(&mut self, bytes: &[u8])
         requires { RestoresText self.old 11 bytes.now }
@@ -146,7 +146,7 @@ impl Cpu {
         self.undo_edit_bytes(address, &bytes[11..bytes.len() - 2]);
     }
 
-    /// The same of an edit of pc.
+    /// Takes an edit of pc back, by the bytes of its entry.
     #[inline(never)]
     fn undo_edit_pc_text(&mut self, bytes: &[u8])
         requires { RestoresText self.old 12 bytes.now }
