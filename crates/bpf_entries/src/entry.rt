@@ -101,10 +101,11 @@ impl Entry {
         }
     }
 
-    /// The address and the old bytes of the run that its move replaced, by the depth of calls after the move; None where the move left memory
-    /// as it was.
+    /// The address and the old bytes of the run that its move replaced, by the depth of calls after
+    /// the move; None where the move left memory as it was.
     pub fn replaced(&self, depth: u32) -> Option<(u64, &[u8])>
-        ensures { option_map (λ run. record { address = run.0; bytes = run.1.now }) result ≡ replaced_by depth self.now }
+        ensures { option_map (λ run. record { address = run.0; bytes = run.1.now }) result
+            ≡ replaced_by depth self.now }
     {
         match self {
             Entry::Call { old, .. } => Some((frame_base(depth), old.as_slice())),
@@ -116,7 +117,8 @@ impl Entry {
         }
     }
 
-    /// The byte at an address before its move, where it is `after` behind the move, at the depth of calls there.
+    /// The byte at an address before its move, where it is `after` behind the move, at the depth of
+    /// calls there.
     pub fn byte_before(&self, depth: u32, address: u64, after: u8) -> u8
         ensures { result ≡ byte_before_by depth self.now address after }
     {

@@ -17,8 +17,8 @@ pub fn a_ring_is_of_one_list()
     ensures { OneList }
 {}
 
-/// A journal's text is cut from the back, where the newest entry stands: its last two bytes say how many bytes of it are that entry's.
-/// In front stands the oldest.
+/// A journal's text is cut from the back, where the newest entry stands: its last two bytes say how
+/// many bytes of it are that entry's. In front stands the oldest.
 #[tactic(none)]
 pub fn a_ring_is_cut_from_the_back()
     ensures weight { EndsInWeight }
@@ -26,10 +26,14 @@ pub fn a_ring_is_cut_from_the_back()
     ensures oldest { BeginsWithOldest }
 {}
 
-/// Three texts, byte for byte: the marked end, the first step of `mov r0, 42`, and a fetch of eight bytes.
+/// Three texts, byte for byte: the marked end, the first step of `mov r0, 42`, and a fetch of eight
+/// bytes.
 #[tactic(none)]
 pub fn worked_texts()
     ensures end { text entry.End true ≡ 5 ∷ 0 ∷ 137 ∷ 5 ∷ 0 ∷ [] }
-    ensures register { text (entry.Register 0 0 0) true ≡ 16 ∷ 0 ∷ 129 ∷ 0 ∷ 0 ∷ 0 ∷ 0 ∷ 0 ∷ 0 ∷ 0 ∷ 0 ∷ 0 ∷ 0 ∷ 0 ∷ 16 ∷ 0 ∷ [] }
-    ensures fetch { text (entry.Fetch 0 1 4294967296 4294967296 (1 ∷ 0 ∷ 0 ∷ 0 ∷ 0 ∷ 0 ∷ 0 ∷ 0 ∷ [])) true ≡ 33 ∷ 0 ∷ 134 ∷ 0 ∷ 0 ∷ 1 ∷ 0 ∷ 0 ∷ 0 ∷ 0 ∷ 1 ∷ 0 ∷ 0 ∷ 0 ∷ 0 ∷ 0 ∷ 0 ∷ 0 ∷ 1 ∷ 0 ∷ 0 ∷ 0 ∷ 8 ∷ 1 ∷ 0 ∷ 0 ∷ 0 ∷ 0 ∷ 0 ∷ 0 ∷ 0 ∷ 33 ∷ 0 ∷ [] }
+    ensures register { text (entry.Register 0 0 0) true
+        ≡ 16 ∷ 0 ∷ 129 ∷ 0 ∷ 0 ∷ 0 ∷ 0 ∷ 0 ∷ 0 ∷ 0 ∷ 0 ∷ 0 ∷ 0 ∷ 0 ∷ 16 ∷ 0 ∷ [] }
+    ensures fetch { text (entry.Fetch 0 1 4294967296 4294967296
+        (1 ∷ 0 ∷ 0 ∷ 0 ∷ 0 ∷ 0 ∷ 0 ∷ 0 ∷ [])) true
+        ≡ 33 ∷ 0 ∷ 134 ∷ 0 ∷ 0 ∷ 1 ∷ 0 ∷ 0 ∷ 0 ∷ 0 ∷ 1 ∷ 0 ∷ 0 ∷ 0 ∷ 0 ∷ 0 ∷ 0 ∷ 0 ∷ 1 ∷ 0 ∷ 0 ∷ 0 ∷ 8 ∷ 1 ∷ 0 ∷ 0 ∷ 0 ∷ 0 ∷ 0 ∷ 0 ∷ 0 ∷ 33 ∷ 0 ∷ [] }
 {}

@@ -1,4 +1,5 @@
-//! Entries: what a move of the machine replaced, as a value, by its parts, and as the bytes that a journal keeps.
+//! Entries: what a move of the machine replaced, as a value, by its parts, and as the bytes that a
+//! journal keeps.
 #![tactic(auto)]
 
 mod byte_string;

@@ -1,5 +1,6 @@
-//! What an entry of each kind weighs in a journal, in bytes, without the old bytes of its run: its length at both ends and its tag are
-//! 5 bytes, a slot 2, a number or an address 8, a register, a status and a count of bytes 1.
+//! What an entry of each kind weighs in a journal, in bytes, without the old bytes of its run: its
+//! length at both ends and its tag are 5 bytes, a slot 2, a number or an address 8, a register, a
+//! status and a count of bytes 1.
 
 use crate::frames::FRAME_LEN;
 

@@ -1,4 +1,5 @@
-//! Entries written into bytes: a function for each kind, into the beginning of a slice. What stands behind the entry stays.
+//! Entries written into bytes: a function for each kind, into the beginning of a slice. What stands
+//! behind the entry stays.
 mod entries;
 mod fixed;
 mod runs;

@@ -86,7 +86,8 @@ fn piece(draft: &Draft<'_>, slot: usize) -> Result<Insn, PieceFault>
     requires flags { AreStarts draft.now.bytes.now draft.now.starts.now }
     ensures ok { IfOk result (IsPiece draft.now.bytes.now draft.now.maps.now slot) }
     ensures clear { OnOk result (HasNoFault draft.now.bytes.now draft.now.maps.now slot) }
-    ensures fault { IfErr result (IsLeast piece_fault (HasFault draft.now.bytes.now draft.now.maps.now slot)) }
+    ensures fault { IfErr result
+        (IsLeast piece_fault (HasFault draft.now.bytes.now draft.now.maps.now slot)) }
 {
     let piece = piece_of(draft.bytes, slot);
     let insn = match read_insn(piece) {

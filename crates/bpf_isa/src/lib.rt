@@ -1,4 +1,5 @@
-//! The instruction set of BPF (RFC 9669): words, their decoder and encoder, the checker of programs.
+//! The instruction set of BPF (RFC 9669): words, their decoder and encoder, the checker of
+//! programs.
 #![tactic(auto)]
 
 mod checker;

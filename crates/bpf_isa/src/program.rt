@@ -79,7 +79,8 @@ impl Program {
 
 /// The fault of a length that no program has.
 fn length_fault(bytes: &[u8]) -> Option<LoadFault>
-    ensures found { IfSome result (λ fault. (maps : List MapShape) → IsRefused bytes.now maps fault) }
+    ensures found { IfSome result (λ fault. (maps : List MapShape) →
+        IsRefused bytes.now maps fault) }
     ensures none { IfNone result (AreSlots bytes.now) }
 {
     if bytes.is_empty() {

@@ -192,7 +192,14 @@ fn wide_row(kind: WideKind) -> Row
 impl Row {
     /// A row of one slot: the opcode, and what dst, src, offset and imm hold.
     fn new(opcode: u8, dst: Field, src: Field, offset: Field, imm: Field) -> Row
-        ensures { result ≡ record { opcode = opcode; dst = dst; src = src; offset = offset; imm = imm; next = Unused } }
+        ensures { result ≡ record {
+          opcode = opcode;
+          dst = dst;
+          src = src;
+          offset = offset;
+          imm = imm;
+          next = Unused;
+        } }
     {
         Row {
             opcode,

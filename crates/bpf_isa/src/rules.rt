@@ -33,7 +33,8 @@ impl Insn {
         }
     }
 
-    /// The register that it replaces itself; none for a plain atomic operation, a store, a jump, a local call and `exit`.
+    /// The register that it replaces itself; none for a plain atomic operation, a store, a jump, a
+    /// local call and `exit`.
     pub fn destination(&self) -> Option<Reg>
         ensures { result ≡ written_of self.now }
     {

@@ -28,7 +28,8 @@ impl Words {
     /// The bytes of the fields.
     pub(crate) fn of(fields: Fields) -> Words
         requires registers { (fields.dst < 16) × (fields.src < 16) }
-        requires narrow { (fields.opcode ≡ wide_opcode) ⊎ ((fields.next ≡ 0) × (fields.reserved ≡ 0)) }
+        requires narrow { (fields.opcode ≡ wide_opcode)
+            ⊎ ((fields.next ≡ 0) × (fields.reserved ≡ 0)) }
         ensures value { fields_of result ≡ fields }
         ensures within { All (λ byte. byte < 256) result }
         ensures wide { fields.opcode ≡ wide_opcode → length result ≡ 16 }

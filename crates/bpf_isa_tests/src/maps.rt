@@ -1,4 +1,5 @@
-//! Lists of maps, and tables that maps are added to. Expected values are worked out from the definitions of the faults.
+//! Lists of maps, and tables that maps are added to. Expected values are worked out from the
+//! definitions of the faults.
 use crate::stops::{check_text, stop_unless};
 use bpf_isa::MapTable;
 use bpf_testing::parts_of;

@@ -1,4 +1,5 @@
-//! Programs in hexadecimal, and what the checker says of them, by RFC 9669 and the definitions of the faults.
+//! Programs in hexadecimal, and what the checker says of them, by RFC 9669 and the definitions of
+//! the faults.
 
 /// A name, the program with its maps if it has some, and the answer.
 pub const PROGRAMS: &str = "\

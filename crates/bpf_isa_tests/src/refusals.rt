@@ -1,6 +1,7 @@
 //! Slots that spell no instruction, by RFC 9669 (sections 3 to 5) and the numbers of the faults.
 
-/// What is wrong with one or two slots, the slots in hexadecimal, and the fault with the least number.
+/// What is wrong with one or two slots, the slots in hexadecimal, and the fault with the least
+/// number.
 pub const REFUSALS: &str = "\
 no opcode 00 | 0000000000000000 | C4
 division with offset 2 | 3700020000000000 | C4

@@ -1,5 +1,5 @@
-//! Words: what the instruction of each does, which words are refused, and how many opcodes there are. (What each says is in its text:
-//! `bpf_text_tests` holds the same words against their texts.)
+//! Words: what the instruction of each does, which words are refused, and how many opcodes there
+//! are. (What each says is in its text: `bpf_text_tests` holds the same words against their texts.)
 use crate::refusals::REFUSALS;
 use crate::stops::{bytes, check_text, row, stop_unless};
 use bpf_isa::{Insn, Reg, SignedSize, Size, decode};
@@ -7,7 +7,8 @@ use bpf_testing::{EDGES, INSTRUCTIONS};
 use std::alloc::{AllocError, Global};
 use std::process::Abort;
 
-/// Words in slot 0 that lead as far as they can, and one with a slot behind it that is no part of it.
+/// Words in slot 0 that lead as far as they can, and one with a slot behind it that is no part of
+/// it.
 const FAR: &str = "\
 a condition, 32767 slots on | 2d21ff7f00000000 | to 32768
 a condition, 32768 slots back | 2d21008000000000 | to -32767

@@ -8,7 +8,8 @@ ghost use Rattle.bpf_journal.specs.Again.{move_again as again, seen_again};
 use crate::fields::{edit_fits, is_of_step};
 use bpf_machine::{ByteString, Cpu, Edit, Entry, Move, Status};
 
-/// What is kept of the move with this entry that led here: of a step the entry, of an edit the same form with the values that it wrote.
+/// What is kept of the move with this entry that led here: of a step the entry, of an edit the same
+/// form with the values that it wrote.
 pub(crate) fn entry_again(cpu: &Cpu, entry: &Entry) -> Entry
     ensures value { result ≡ seen_again cpu.now entry.now }
     ensures fits { of_step result ≡ false → FitsFields result }

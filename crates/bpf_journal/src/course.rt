@@ -1,4 +1,5 @@
-//! A machine with the keeper of the moves that led to its state, and with those that were taken back.
+//! A machine with the keeper of the moves that led to its state, and with those that were taken
+//! back.
 ghost use Rattle.std.specs.Prelude.{◌≡◌, ◌≤◌, List, [], length, min, count_by, sum_by, OnOk, IfOk, IfErr, false};
 ghost use Rattle.bpf_entries.specs.Status.{has_ended};
 ghost use Rattle.bpf_machine.specs.declared.moves.Move.TheVariants as move_of;
@@ -24,8 +25,9 @@ use bpf_machine::{Cpu, Edit};
 use bpf_ring::StopTest;
 use std::marker::Model;
 
-/// A machine and a keeper, and the moves that were taken back since the latest new one. What is kept of these lies in a ring of the
-/// journal's size, so that to make them again takes no memory of its own.
+/// A machine and a keeper, and the moves that were taken back since the latest new one. What is
+/// kept of these lies in a ring of the journal's size, so that to make them again takes no memory
+/// of its own.
 #[derive(Drop)]
 pub struct Course<K: Keeper> {
     timeline: Timeline<K>,
@@ -43,14 +45,15 @@ impl<K: Keeper> Model for Course<K> {
 }
 
 impl<K: Keeper> Course<K> {
-    /// A machine with a keeper that holds the entries of some history that leads to the machine's state, and an empty ring of the keeper's
-    /// capacity.
+    /// A machine with a keeper that holds the entries of some history that leads to the machine's
+    /// state, and an empty ring of the keeper's capacity.
     pub fn open(cpu: Cpu, keeper: K, redo: RingKeeper) -> Course<K>
         requires past { HasHistory K.holds keeper cpu }
         requires empty { RingHolds redo [] }
         requires size { ring_room redo ≡ K.room keeper }
         ensures value { result ≡ record { state = cpu; keeper = keeper; redo = redo } }
-        ensures stands { (h : List Record) → StandsFor K.holds keeper cpu h → Follows K.holds result (track_of h) }
+        ensures stands { (h : List Record) → StandsFor K.holds keeper cpu h →
+            Follows K.holds result (track_of h) }
     {
         Course {
             timeline: Timeline::open(cpu, keeper),
@@ -97,21 +100,24 @@ impl<K: Keeper> Course<K> {
 
     /// How many of them are marked.
     pub fn marked(&self) -> usize
-        ensures { (t : Track) → Follows K.holds self.now t → result ≡ count_by (λ r. r.mark) t.history }
+        ensures { (t : Track) → Follows K.holds self.now t →
+            result ≡ count_by (λ r. r.mark) t.history }
     {
         self.timeline.marked()
     }
 
     /// The sum of their weights in bytes, at most the journal's size.
     pub fn weight(&self) -> usize
-        ensures { (t : Track) → Follows K.holds self.now t → result ≡ sum_by record_weight t.history }
+        ensures { (t : Track) → Follows K.holds self.now t →
+            result ≡ sum_by record_weight t.history }
     {
         self.timeline.weight()
     }
 
     /// How many of them are steps, counted up to `most`.
     pub fn steps_up_to(&self, most: u64) -> u64
-        ensures { (t : Track) → Follows K.holds self.now t → result ≡ min most (count_by (λ r. is_step r.move) t.history) }
+        ensures { (t : Track) → Follows K.holds self.now t →
+            result ≡ min most (count_by (λ r. is_step r.move) t.history) }
     {
         self.timeline.steps_up_to(most)
     }
@@ -123,22 +129,26 @@ impl<K: Keeper> Course<K> {
         self.redo.len()
     }
 
-    /// The latest kept move, a step or an edit, that changed the value of the byte at an address, which is `value` now. None where no
-    /// kept move changed it.
+    /// The latest kept move, a step or an edit, that changed the value of the byte at an address,
+    /// which is `value` now. None where no kept move changed it.
     pub fn last_change(&self, address: u64, value: u8) -> Option<ByteChange>
         requires { value ≡ byte self.now.state address }
-        ensures { (t : Track) → Follows K.holds self.now t → result ≡ last_change address t.history self.now.state }
+        ensures { (t : Track) → Follows K.holds self.now t →
+            result ≡ last_change address t.history self.now.state }
     {
         self.timeline.last_change(address, value)
     }
 
-    /// Takes a step, a new move, and keeps it. Answers whether it replaced bytes of memory. Nothing changes where the machine has ended, or
-    /// where the keeper refuses.
+    /// Takes a step, a new move, and keeps it. Answers whether it replaced bytes of memory. Nothing
+    /// changes where the machine has ended, or where the keeper refuses.
     pub fn step(&mut self, mark: bool) -> Result<bool, TimelineFault>
-        ensures ok { OnOk result (MakesNew K.holds (K.room self.old.keeper) move_of.Step mark self.old self.new) }
+        ensures ok { OnOk result
+            (MakesNew K.holds (K.room self.old.keeper) move_of.Step mark self.old self.new) }
         ensures err { IfErr result (FailsThere K.holds move_of.Step self.old self.new) }
-        ensures bytes { IfOk result (λ replaced. replaced ≡ replaces_bytes (step_entry self.old.state)) }
-        ensures refused { K.refused self.new.keeper ≡ refusals_by result (K.refused self.old.keeper) }
+        ensures bytes { IfOk result (λ replaced. replaced
+            ≡ replaces_bytes (step_entry self.old.state)) }
+        ensures refused { K.refused self.new.keeper
+            ≡ refusals_by result (K.refused self.old.keeper) }
         ensures room { K.room self.new.keeper ≡ K.room self.old.keeper }
     {
         match self.timeline.step(mark) {
@@ -150,15 +160,20 @@ impl<K: Keeper> Course<K> {
         }
     }
 
-    /// Takes steps from a running machine, new moves, and keeps each, the first one with a mark: until the machine has ended, a test holds of the last
-    /// step, or `most` are taken, at least one. Where the keeper refuses a step the run is cut short before it; where that is the first one,
-    /// nothing changes.
+    /// Takes steps from a running machine, new moves, and keeps each, the first one with a mark:
+    /// until the machine has ended, a test holds of the last step, or `most` are taken, at least
+    /// one. Where the keeper refuses a step the run is cut short before it; where that is the first
+    /// one, nothing changes.
     pub fn run<T: StopTest>(&mut self, most: u64, test: &T) -> Run
         requires runs { has_ended self.old.state.status ≡ false }
         requires some { 1 ≤ most }
-        ensures ends { Ends (T.test test.now) most self.old.state self.new.state result.steps result.is_cut }
-        ensures kept { (t : Track) → Follows K.holds self.old t → Follows K.holds self.new (track_after (K.room self.old.keeper) result.steps self.old.state t) }
-        ensures refused { K.refused self.new.keeper ≡ refusals_by_run result.is_cut (K.refused self.old.keeper) }
+        ensures ends { Ends (T.test test.now)
+            most self.old.state self.new.state result.steps result.is_cut }
+        ensures kept { (t : Track) → Follows K.holds self.old t →
+            Follows K.holds self.new
+            (track_after (K.room self.old.keeper) result.steps self.old.state t) }
+        ensures refused { K.refused self.new.keeper
+            ≡ refusals_by_run result.is_cut (K.refused self.old.keeper) }
         ensures room { K.room self.new.keeper ≡ K.room self.old.keeper }
     {
         let run = self.timeline.run(most, test);
@@ -169,11 +184,15 @@ impl<K: Keeper> Course<K> {
         run
     }
 
-    /// Makes an edit, a new move, and keeps it. Nothing changes where the edit is refused, or where the keeper refuses.
+    /// Makes an edit, a new move, and keeps it. Nothing changes where the edit is refused, or where
+    /// the keeper refuses.
     pub fn edit(&mut self, edit: &Edit, mark: bool) -> Result<(), TimelineFault>
-        ensures ok { OnOk result (MakesNew K.holds (K.room self.old.keeper) (move_of.Edit edit.now) mark self.old self.new) }
+        ensures ok { OnOk result
+            (MakesNew K.holds (K.room self.old.keeper) (move_of.Edit edit.now)
+            mark self.old self.new) }
         ensures err { IfErr result (FailsThere K.holds (move_of.Edit edit.now) self.old self.new) }
-        ensures refused { K.refused self.new.keeper ≡ refusals_by result (K.refused self.old.keeper) }
+        ensures refused { K.refused self.new.keeper
+            ≡ refusals_by result (K.refused self.old.keeper) }
         ensures room { K.room self.new.keeper ≡ K.room self.old.keeper }
     {
         match self.timeline.edit(edit, mark) {
@@ -185,11 +204,12 @@ impl<K: Keeper> Course<K> {
         }
     }
 
-    /// Goes back by one move, to the state before it: the move can be made again. Answers what move it was, None where none is kept. Of a step
-    /// its entry is handed over as it is kept.
+    /// Goes back by one move, to the state before it: the move can be made again. Answers what move
+    /// it was, None where none is kept. Of a step its entry is handed over as it is kept.
     #[inline(always)]
     pub fn back(&mut self) -> Option<Taken>
-        ensures back { (t : Track) → Follows K.holds self.old t → GoesBackOne K.holds result t.history t.ahead self.old self.new }
+        ensures back { (t : Track) → Follows K.holds self.old t →
+            GoesBackOne K.holds result t.history t.ahead self.old self.new }
         ensures refused { K.refused self.new.keeper ≡ K.refused self.old.keeper }
         ensures room { K.room self.new.keeper ≡ K.room self.old.keeper }
     {
@@ -202,7 +222,8 @@ impl<K: Keeper> Course<K> {
     /// Takes the newest move back by way of its entry, as a value.
     #[inline(never)]
     fn back_by_entry(&mut self) -> Option<Taken>
-        ensures back { (t : Track) → Follows K.holds self.old t → GoesBackOne K.holds result t.history t.ahead self.old self.new }
+        ensures back { (t : Track) → Follows K.holds self.old t →
+            GoesBackOne K.holds result t.history t.ahead self.old self.new }
         ensures refused { K.refused self.new.keeper ≡ K.refused self.old.keeper }
         ensures room { K.room self.new.keeper ≡ K.room self.old.keeper }
     {
@@ -218,13 +239,16 @@ impl<K: Keeper> Course<K> {
         }
     }
 
-    /// Makes the next one of the moves again that were taken back. Answers whether there was one. A refusal, for want of memory for its
-    /// entry, changes nothing.
+    /// Makes the next one of the moves again that were taken back. Answers whether there was one. A
+    /// refusal, for want of memory for its entry, changes nothing.
     #[inline(always)]
     pub fn redo(&mut self) -> Result<bool, TimelineFault>
-        ensures ok { IfOk result (λ made. (t : Track) → Follows K.holds self.old t → MakesAgain K.holds made t.history t.ahead self.old self.new) }
-        ensures err { IfErr result (λ fault. (fault ≡ TimelineFault.OutOfMemory) × StaysThere K.holds self.old self.new) }
-        ensures refused { K.refused self.new.keeper ≡ refusals_by result (K.refused self.old.keeper) }
+        ensures ok { IfOk result (λ made. (t : Track) → Follows K.holds self.old t →
+            MakesAgain K.holds made t.history t.ahead self.old self.new) }
+        ensures err { IfErr result (λ fault. (fault ≡ TimelineFault.OutOfMemory)
+            × StaysThere K.holds self.old self.new) }
+        ensures refused { K.refused self.new.keeper
+            ≡ refusals_by result (K.refused self.old.keeper) }
         ensures room { K.room self.new.keeper ≡ K.room self.old.keeper }
     {
         let Some(head) = self.redo.newest_head() else {
@@ -247,9 +271,12 @@ impl<K: Keeper> Course<K> {
     /// Makes the oldest move again that was taken back, by way of the entry that is kept of it.
     #[inline(never)]
     fn redo_by_entry(&mut self) -> Result<bool, TimelineFault>
-        ensures ok { IfOk result (λ made. (t : Track) → Follows K.holds self.old t → MakesAgain K.holds made t.history t.ahead self.old self.new) }
-        ensures err { IfErr result (λ fault. (fault ≡ TimelineFault.OutOfMemory) × StaysThere K.holds self.old self.new) }
-        ensures refused { K.refused self.new.keeper ≡ refusals_by result (K.refused self.old.keeper) }
+        ensures ok { IfOk result (λ made. (t : Track) → Follows K.holds self.old t →
+            MakesAgain K.holds made t.history t.ahead self.old self.new) }
+        ensures err { IfErr result (λ fault. (fault ≡ TimelineFault.OutOfMemory)
+            × StaysThere K.holds self.old self.new) }
+        ensures refused { K.refused self.new.keeper
+            ≡ refusals_by result (K.refused self.old.keeper) }
         ensures room { K.room self.new.keeper ≡ K.room self.old.keeper }
     {
         let Some((entry, mark)) = self.redo.last() else {

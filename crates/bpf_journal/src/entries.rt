@@ -82,7 +82,8 @@ impl Entries {
 
     /// Takes the newest off.
     pub fn pop(&mut self) -> Option<Item>
-        ensures { MatchOption result ((self.old ≡ []) × (self.new ≡ [])) (λ item. self.old ≡ kept_item item ∷ self.new) }
+        ensures { MatchOption result ((self.old ≡ [])
+            × (self.new ≡ [])) (λ item. self.old ≡ kept_item item ∷ self.new) }
     {
         match self.items.pop_back() {
             Some(item) => {
@@ -96,7 +97,8 @@ impl Entries {
 
     /// Takes the oldest off.
     fn pop_oldest(&mut self) -> Option<Item>
-        ensures { MatchOption result (self.old ≡ []) (λ item. self.old ≡ self.new ++ kept_item item ∷ []) }
+        ensures { MatchOption result (self.old ≡ []) (λ item. self.old
+            ≡ self.new ++ kept_item item ∷ []) }
     {
         match self.items.pop_front() {
             Some(item) => {
@@ -138,7 +140,8 @@ impl Entries {
 
     /// The entry that has so many older ones.
     pub fn item(&self, older: usize) -> Option<&Item>
-        ensures { (newer rest : List Kept) (k : Kept) → self.now ≡ newer ++ k ∷ rest → length rest ≡ older →
+        ensures { (newer rest : List Kept) (k : Kept) → self.now ≡ newer ++ k ∷ rest →
+            length rest ≡ older →
             MatchOption result ⊥ (λ item. kept_item item.now ≡ k) }
     {
         self.items.get(older)

@@ -22,8 +22,9 @@ use bpf_machine::{Change, Cpu, Ended, Entry};
 use bpf_ring::{EntryRing, StopTest, change_replaces_bytes};
 use std::alloc::AllocError;
 
-/// Keeps the newest entries of moves, in a journal of some size. Its content is a list of entries and marks, the newest first, and it
-/// is known by the lists that it holds: what a call says, it says of each of them.
+/// Keeps the newest entries of moves, in a journal of some size. Its content is a list of entries
+/// and marks, the newest first, and it is known by the lists that it holds: what a call says, it
+/// says of each of them.
 pub trait Keeper {
     /// Whether it holds this list.
     ghost holds: { Self → List Kept → Type 0 };
@@ -37,21 +38,24 @@ pub trait Keeper {
     /// The place of a front: of the part of a list that is left without some of its newest.
     ghost place: { Self → List Kept → ℕ };
 
-    /// Keeps one more entry, and drops the fewest oldest ones that make room for it. A refusal, for want of memory, changes nothing
-    /// that is held.
+    /// Keeps one more entry, and drops the fewest oldest ones that make room for it. A refusal, for
+    /// want of memory, changes nothing that is held.
     fn push(&mut self, entry: &Entry, mark: bool) -> Result<(), AllocError>
         requires { FitsFields entry.now }
-        ensures ok { OnOk result ((es : List Kept) → holds self.old es → holds self.new (keep kept_weight (room self.old) es (entry.now, mark))) }
+        ensures ok { OnOk result ((es : List Kept) → holds self.old es →
+            holds self.new (keep kept_weight (room self.old) es (entry.now, mark))) }
         ensures err { OnErr result ((es : List Kept) → holds self.old es → holds self.new es) }
         ensures refused { refused self.new ≡ refusals_after result (refused self.old) }
         ensures room { room self.new ≡ room self.old };
 
-    /// Lets a machine take the step that `look` answered of it, and keeps the entry of that step, as `push` does. Where the entry is refused
-    /// the machine stays as well. A keeper that writes an entry where it is kept writes this anew; by itself it makes the entry and pushes it.
+    /// Lets a machine take the step that `look` answered of it, and keeps the entry of that step,
+    /// as `push` does. Where the entry is refused the machine stays as well. A keeper that writes
+    /// an entry where it is kept writes this anew; by itself it makes the entry and pushes it.
     fn record(&mut self, cpu: &mut Cpu, change: &Change, mark: bool) -> Result<(), AllocError>
         requires runs { has_ended cpu.old.status ≡ false }
         requires looked { change.now ≡ change_of cpu.old }
-        ensures ok { OnOk result ((es : List Kept) → holds self.old es → holds self.new (keep kept_weight (room self.old) es (step_entry cpu.old, mark))) }
+        ensures ok { OnOk result ((es : List Kept) → holds self.old es →
+            holds self.new (keep kept_weight (room self.old) es (step_entry cpu.old, mark))) }
         ensures stepped { OnOk result (cpu.new ≡ next cpu.old) }
         ensures err { OnErr result ((es : List Kept) → holds self.old es → holds self.new es) }
         ensures stays { OnErr result (cpu.new ≡ cpu.old) }
@@ -70,14 +74,16 @@ pub trait Keeper {
         }
     }
 
-    /// Takes steps and keeps each, as `record` does, the first one with a mark: until the machine has ended, a test holds of the last step, or
-    /// `most` are taken, at least one. Where a step is refused the run is cut short before it. A keeper that writes entries where they are kept
+    /// Takes steps and keeps each, as `record` does, the first one with a mark: until the machine
+    /// has ended, a test holds of the last step, or `most` are taken, at least one. Where a step is
+    /// refused the run is cut short before it. A keeper that writes entries where they are kept
     /// writes this anew; by itself it takes a step at a time.
     fn run<T: StopTest>(&mut self, cpu: &mut Cpu, most: u64, test: &T) -> Run
         requires runs { has_ended cpu.old.status ≡ false }
         requires some { 1 ≤ most }
         ensures ends { Ends (T.test test.now) most cpu.old cpu.new result.steps result.is_cut }
-        ensures held { (es : List Kept) → holds self.old es → holds self.new (kept_after (room self.old) result.steps cpu.old es) }
+        ensures held { (es : List Kept) → holds self.old es →
+            holds self.new (kept_after (room self.old) result.steps cpu.old es) }
         ensures refused { refused self.new ≡ refusals_by_run result.is_cut (refused self.old) }
         ensures room { room self.new ≡ room self.old }
     {
@@ -124,11 +130,13 @@ pub trait Keeper {
         ensures refused { refused self.new ≡ refused self.old }
         ensures room { room self.new ≡ room self.old };
 
-    /// Takes the newest entry off and takes its move back: the machine is as it was before that move. Answers what move it was, None where
-    /// nothing is held. A keeper that reads an entry where it is kept writes this anew; by itself it pops the entry and reverts it.
+    /// Takes the newest entry off and takes its move back: the machine is as it was before that
+    /// move. Answers what move it was, None where nothing is held. A keeper that reads an entry
+    /// where it is kept writes this anew; by itself it pops the entry and reverts it.
     fn take_back(&mut self, cpu: &mut Cpu) -> Option<Taken>
         requires way { HasHistory holds self.old cpu.old }
-        ensures back { (h : List Record) → StandsFor holds self.old cpu.old h → TakesBack holds result h cpu.old self.new cpu.new }
+        ensures back { (h : List Record) → StandsFor holds self.old cpu.old h →
+            TakesBack holds result h cpu.old self.new cpu.new }
         ensures refused { refused self.new ≡ refused self.old }
         ensures room { room self.new ≡ room self.old }
     {
@@ -141,17 +149,22 @@ pub trait Keeper {
         }
     }
 
-    /// Takes the newest entry off and takes its move back, as `take_back` does, where it is of a step: a ring keeps it then, with its mark. Answers
-    /// what move it was; None where nothing is held, or an edit is the newest, and then nothing changes. A keeper of bytes copies them as they
-    /// lie; by itself it reads the entry whole.
+    /// Takes the newest entry off and takes its move back, as `take_back` does, where it is of a
+    /// step: a ring keeps it then, with its mark. Answers what move it was; None where nothing is
+    /// held, or an edit is the newest, and then nothing changes. A keeper of bytes copies them as
+    /// they lie; by itself it reads the entry whole.
     fn hand_back(&mut self, cpu: &mut Cpu, ring: &mut EntryRing) -> Option<Taken>
         requires way { HasHistory holds self.old cpu.old }
-        ensures hands { (es ls : List Kept) → holds self.old es → IsHeld ring.old.ring ring.old.counts ls →
+        ensures hands { (es ls : List Kept) → holds self.old es →
+            IsHeld ring.old.ring ring.old.counts ls →
             Hands (is_some result) es ls ring.old.ring.size (IsHeld ring.new.ring ring.new.counts) }
-        ensures back { OnSome result ((h : List Record) → StandsFor holds self.old cpu.old h → TakesBack holds result h cpu.old self.new cpu.new) }
-        ensures stays { result ≡ None → (self.new ≡ self.old) × (cpu.new ≡ cpu.old) × (ring.new ≡ ring.old) }
+        ensures back { OnSome result ((h : List Record) → StandsFor holds self.old cpu.old h →
+            TakesBack holds result h cpu.old self.new cpu.new) }
+        ensures stays { result ≡ None → (self.new ≡ self.old) × (cpu.new ≡ cpu.old)
+            × (ring.new ≡ ring.old) }
         ensures size { ring.new.ring.size ≡ ring.old.ring.size }
-        ensures fits { length ring.old.ring.bytes ≤ ring.old.ring.size → length ring.new.ring.bytes ≤ ring.new.ring.size }
+        ensures fits { length ring.old.ring.bytes ≤ ring.old.ring.size →
+            length ring.new.ring.bytes ≤ ring.new.ring.size }
         ensures refused { refused self.new ≡ refused self.old }
         ensures room { room self.new ≡ room self.old }
     {
@@ -176,10 +189,12 @@ pub trait Keeper {
     fn marked(&self) -> usize
         ensures { (es : List Kept) → holds self.now es → result ≡ count_by (λ k. k.1) es };
 
-    /// How many of them are of steps, and not of edits. By itself a keeper walks over all that it holds.
+    /// How many of them are of steps, and not of edits. By itself a keeper walks over all that it
+    /// holds.
     fn steps(&self) -> usize
         requires { HoldsSome holds self.now }
-        ensures { (es : List Kept) → holds self.now es → result ≡ count_by (λ k. is_of_step k.0) es }
+        ensures { (es : List Kept) → holds self.now es →
+            result ≡ count_by (λ k. is_of_step k.0) es }
     {
         let mut at = self.end();
         let mut steps = 0;
@@ -205,14 +220,16 @@ pub trait Keeper {
     fn end(&self) -> usize
         ensures { (es : List Kept) → holds self.now es → result ≡ place self.now es };
 
-    /// The newest entry of the front at a place, its mark, and the place of the front without it; None for the front without entries.
+    /// The newest entry of the front at a place, its mark, and the place of the front without it;
+    /// None for the front without entries.
     fn walk_back(&self, at: usize) -> Option<(Entry, bool, usize)>
         requires { IsPlace holds place self.now at }
         ensures { WalksBack holds place self.now at result };
 
-    /// What the byte at an address and the depth of calls were before the newest entry's move of the front at a place, where they are `after`
-    /// and `depth` behind that move, and the place of the front without that entry; None for the front without entries. A keeper that reads
-    /// an entry where it is kept writes this anew; by itself it reads the entry whole.
+    /// What the byte at an address and the depth of calls were before the newest entry's move of
+    /// the front at a place, where they are `after` and `depth` behind that move, and the place of
+    /// the front without that entry; None for the front without entries. A keeper that reads an
+    /// entry where it is kept writes this anew; by itself it reads the entry whole.
     fn byte_before(
         &self,
         at: usize,

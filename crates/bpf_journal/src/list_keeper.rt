@@ -12,8 +12,9 @@ use crate::size::is_size;
 use bpf_machine::Entry;
 use std::alloc::{AllocError, Global};
 
-/// Keeps entries in a growing list. A push takes memory now and then, and moves no entry but the one that it keeps; each entry that
-/// it drops was pushed once, so that many pushes cost as much each whatever the journal's size is.
+/// Keeps entries in a growing list. A push takes memory now and then, and moves no entry but the
+/// one that it keeps; each entry that it drops was pushed once, so that many pushes cost as much
+/// each whatever the journal's size is.
 #[derive(Drop)]
 pub struct ListKeeper {
     alloc: Global,
@@ -28,14 +29,15 @@ pub struct ListKeeper {
 impl ListKeeper {
     ghost use Rattle.bpf_journal.specs.Items.{kept_item};
 
-    /// A keeper for a journal of this many bytes, 1,024 to 16,777,216, that holds nothing and has refused nothing. It takes no
-    /// memory yet.
+    /// A keeper for a journal of this many bytes, 1,024 to 16,777,216, that holds nothing and has
+    /// refused nothing. It takes no memory yet.
     pub fn open(alloc: Global, size: usize) -> Result<ListKeeper, JournalFault>
         ensures size { OnOk result (IsSize size) }
         ensures room { IfOk result (λ keeper. ⟦<ListKeeper as Keeper>⟧.room keeper ≡ size) }
         ensures empty { IfOk result (λ keeper. ⟦<ListKeeper as Keeper>⟧.holds keeper []) }
         ensures refused { IfOk result (λ keeper. ⟦<ListKeeper as Keeper>⟧.refused keeper ≡ 0) }
-        ensures err { IfErr result (λ fault. (fault ≡ JournalFault.SizeOutOfRange) × (¬ IsSize size)) }
+        ensures err { IfErr result (λ fault. (fault ≡ JournalFault.SizeOutOfRange)
+            × (¬ IsSize size)) }
     {
         if !is_size(size) {
             return Err(JournalFault::SizeOutOfRange);
@@ -51,7 +53,8 @@ impl ListKeeper {
     /// Keeps one more item, and drops the oldest that don't fit.
     fn keep(&mut self, item: Item) -> Result<(), AllocError>
         requires { kept_weight (kept_item item) < 2 ^ 32 }
-        ensures ok { OnOk result (self.new.entries ≡ keep kept_weight self.old.size self.old.entries (kept_item item)) }
+        ensures ok { OnOk result (self.new.entries
+            ≡ keep kept_weight self.old.size self.old.entries (kept_item item)) }
         ensures err { OnErr result (self.new.entries ≡ self.old.entries) }
         ensures refused { self.new.refusals ≡ refusals_after result self.old.refusals }
         ensures size { self.new.size ≡ self.old.size }

@@ -26,10 +26,12 @@ pub trait Reversible {
         ensures err { IfErr result (refuses self.old change.now) }
         ensures same { OnErr result (self.new ≡ self.old) };
 
-    /// Puts back the entry of the move that led here, which gives what was before the move. Works from the entry and what is here alone.
+    /// Puts back the entry of the move that led here, which gives what was before the move. Works
+    /// from the entry and what is here alone.
     fn revert(&mut self, entry: &Entry)
         requires { HasComeBy leads entry_by self.old entry.now }
-        ensures { (x : Self) (m : Move) → leads x m self.old → entry_by x m ≡ entry.now → self.new ≡ x };
+        ensures { (x : Self) (m : Move) → leads x m self.old → entry_by x m ≡ entry.now →
+            self.new ≡ x };
 }
 
 impl Reversible for Cpu {

@@ -20,7 +20,8 @@ use bpf_ring::{EntryRing, Head, StopTest};
 use circular_buffer::HeapCircularBuffer;
 use std::alloc::{AllocError, Global};
 
-/// Keeps entries in one ring of bytes, one entry after another. It takes all its memory when it is opened, so that no push is ever refused.
+/// Keeps entries in one ring of bytes, one entry after another. It takes all its memory when it is
+/// opened, so that no push is ever refused.
 #[derive(Drop)]
 pub struct RingKeeper {
     entries: EntryRing,
@@ -29,7 +30,8 @@ pub struct RingKeeper {
 }
 
 impl RingKeeper {
-    /// A keeper for a journal of this many bytes, 1,024 to 16,777,216, that holds nothing. It takes all the memory that it will ever need.
+    /// A keeper for a journal of this many bytes, 1,024 to 16,777,216, that holds nothing. It takes
+    /// all the memory that it will ever need.
     pub fn open(alloc: Global, size: usize) -> Result<RingKeeper, JournalFault>
         ensures size { OnOk result (IsSize size) }
         ensures room { IfOk result (λ keeper. ⟦<RingKeeper as Keeper>⟧.room keeper ≡ size) }
@@ -48,37 +50,49 @@ impl RingKeeper {
         }
     }
 
-    /// A keeper of a ring that `into_ring` gave, or of any other whose bytes are the text of a list of entries: it is for a journal of the ring's
-    /// capacity, and holds that list. It takes no memory.
+    /// A keeper of a ring that `into_ring` gave, or of any other whose bytes are the text of a list
+    /// of entries: it is for a journal of the ring's capacity, and holds that list. It takes no
+    /// memory.
     pub fn from_ring(ring: HeapCircularBuffer<u8>) -> RingKeeper
         requires { IsSize ring.capacity }
         ensures room { ⟦<RingKeeper as Keeper>⟧.room result ≡ ring.capacity }
-        ensures held { (es : List Kept) → AllFit es → ring.items ≡ ring_of es → ⟦<RingKeeper as Keeper>⟧.holds result es }
+        ensures held { (es : List Kept) → AllFit es → ring.items ≡ ring_of es →
+            ⟦<RingKeeper as Keeper>⟧.holds result es }
     {
         let entries = EntryRing::from_buffer(ring);
         entries.invariant();
         RingKeeper { entries }
     }
 
-    /// Keeps one more entry, and drops the fewest oldest ones that make room for it. It takes no memory.
+    /// Keeps one more entry, and drops the fewest oldest ones that make room for it. It takes no
+    /// memory.
     pub fn add(&mut self, entry: &Entry, mark: bool)
         requires { FitsFields entry.now }
-        ensures room { ⟦<RingKeeper as Keeper>⟧.room self.new ≡ ⟦<RingKeeper as Keeper>⟧.room self.old }
-        ensures held { (es : List Kept) → ⟦<RingKeeper as Keeper>⟧.holds self.old es → ⟦<RingKeeper as Keeper>⟧.holds self.new (keep kept_weight (⟦<RingKeeper as Keeper>⟧.room self.old) es (entry.now, mark)) }
+        ensures room { ⟦<RingKeeper as Keeper>⟧.room self.new
+            ≡ ⟦<RingKeeper as Keeper>⟧.room self.old }
+        ensures held { (es : List Kept) → ⟦<RingKeeper as Keeper>⟧.holds self.old es →
+            ⟦<RingKeeper as Keeper>⟧.holds self.new
+            (keep kept_weight (⟦<RingKeeper as Keeper>⟧.room self.old) es (entry.now, mark)) }
     {
         self.entries.push(entry, mark);
     }
 
-    /// Takes back the newest move that another keeper holds, which led to a machine's state, where it is a step, and keeps its entry, with its
-    /// mark. Answers what move it was; None where none is held, or an edit is the newest, and then nothing changes. It takes no memory.
+    /// Takes back the newest move that another keeper holds, which led to a machine's state, where
+    /// it is a step, and keeps its entry, with its mark. Answers what move it was; None where none
+    /// is held, or an edit is the newest, and then nothing changes. It takes no memory.
     #[inline(always)]
     pub fn take_over<K: Keeper>(&mut self, other: &mut K, cpu: &mut Cpu) -> Option<Taken>
         requires way { HasHistory K.holds other.old cpu.old }
-        ensures hands { (es ls : List Kept) → K.holds other.old es → ⟦<RingKeeper as Keeper>⟧.holds self.old ls →
-            Hands (is_some result) es ls (⟦<RingKeeper as Keeper>⟧.room self.old) (⟦<RingKeeper as Keeper>⟧.holds self.new) }
-        ensures back { OnSome result ((h : List Record) → StandsFor K.holds other.old cpu.old h → TakesBack K.holds result h cpu.old other.new cpu.new) }
-        ensures stays { result ≡ None → (other.new ≡ other.old) × (cpu.new ≡ cpu.old) × (self.new ≡ self.old) }
-        ensures room { ⟦<RingKeeper as Keeper>⟧.room self.new ≡ ⟦<RingKeeper as Keeper>⟧.room self.old }
+        ensures hands { (es ls : List Kept) → K.holds other.old es →
+            ⟦<RingKeeper as Keeper>⟧.holds self.old ls →
+            Hands (is_some result) es ls (⟦<RingKeeper as Keeper>⟧.room self.old)
+            (⟦<RingKeeper as Keeper>⟧.holds self.new) }
+        ensures back { OnSome result ((h : List Record) → StandsFor K.holds other.old cpu.old h →
+            TakesBack K.holds result h cpu.old other.new cpu.new) }
+        ensures stays { result ≡ None → (other.new ≡ other.old) × (cpu.new ≡ cpu.old)
+            × (self.new ≡ self.old) }
+        ensures room { ⟦<RingKeeper as Keeper>⟧.room self.new
+            ≡ ⟦<RingKeeper as Keeper>⟧.room self.old }
         ensures other_refused { K.refused other.new ≡ K.refused other.old }
         ensures other_room { K.room other.new ≡ K.room other.old }
     {
@@ -88,7 +102,8 @@ impl RingKeeper {
     /// What move the newest entry is of, and whether it is marked. None where none is held.
     #[inline(always)]
     pub fn newest(&self) -> Option<Taken>
-        ensures { (es : List Kept) → ⟦<RingKeeper as Keeper>⟧.holds self.now es → result ≡ option_map taken_by (newest es) }
+        ensures { (es : List Kept) → ⟦<RingKeeper as Keeper>⟧.holds self.now es →
+            result ≡ option_map taken_by (newest es) }
     {
         let head = self.entries.newest()?;
         Some(Taken::of_tag(head.tag))
@@ -97,7 +112,8 @@ impl RingKeeper {
     /// What is read of the newest entry. None where none is held.
     #[inline(always)]
     pub(crate) fn newest_head(&self) -> Option<Head>
-        ensures head { (es : List Kept) → ⟦<RingKeeper as Keeper>⟧.holds self.now es → result ≡ option_map head_of (newest es) }
+        ensures head { (es : List Kept) → ⟦<RingKeeper as Keeper>⟧.holds self.now es →
+            result ≡ option_map head_of (newest es) }
         ensures within { IfSome result (λ head. head.len ≤ length self.now.entries.ring.bytes) }
     {
         self.entries.newest()
@@ -107,8 +123,11 @@ impl RingKeeper {
     #[inline(always)]
     pub(crate) fn drop_head(&mut self, head: Head)
         requires { head.len ≤ length self.old.entries.ring.bytes }
-        ensures room { ⟦<RingKeeper as Keeper>⟧.room self.new ≡ ⟦<RingKeeper as Keeper>⟧.room self.old }
-        ensures held { (k : Kept) (es : List Kept) → ⟦<RingKeeper as Keeper>⟧.holds self.old (k ∷ es) → head ≡ head_of k → ⟦<RingKeeper as Keeper>⟧.holds self.new es }
+        ensures room { ⟦<RingKeeper as Keeper>⟧.room self.new
+            ≡ ⟦<RingKeeper as Keeper>⟧.room self.old }
+        ensures held { (k : Kept) (es : List Kept) →
+            ⟦<RingKeeper as Keeper>⟧.holds self.old (k ∷ es) → head ≡ head_of k →
+            ⟦<RingKeeper as Keeper>⟧.holds self.new es }
     {
         self.entries.drop_newest(head);
     }
@@ -116,15 +135,18 @@ impl RingKeeper {
     /// Lets the newest entry go, where one is held.
     #[inline(always)]
     pub fn drop_newest(&mut self)
-        ensures room { ⟦<RingKeeper as Keeper>⟧.room self.new ≡ ⟦<RingKeeper as Keeper>⟧.room self.old }
-        ensures held { (es : List Kept) → ⟦<RingKeeper as Keeper>⟧.holds self.old es → ⟦<RingKeeper as Keeper>⟧.holds self.new (older es) }
+        ensures room { ⟦<RingKeeper as Keeper>⟧.room self.new
+            ≡ ⟦<RingKeeper as Keeper>⟧.room self.old }
+        ensures held { (es : List Kept) → ⟦<RingKeeper as Keeper>⟧.holds self.old es →
+            ⟦<RingKeeper as Keeper>⟧.holds self.new (older es) }
     {
         self.entries.drop_last();
     }
 
     /// Lets all that it holds go. It takes no memory.
     pub fn clear(&mut self)
-        ensures room { ⟦<RingKeeper as Keeper>⟧.room self.new ≡ ⟦<RingKeeper as Keeper>⟧.room self.old }
+        ensures room { ⟦<RingKeeper as Keeper>⟧.room self.new
+            ≡ ⟦<RingKeeper as Keeper>⟧.room self.old }
         ensures empty { ⟦<RingKeeper as Keeper>⟧.holds self.new [] }
     {
         self.entries.clear();
@@ -133,16 +155,19 @@ impl RingKeeper {
 
     /// The byte at an index, the oldest first; None at and after the end.
     pub fn byte(&self, index: usize) -> Option<u8>
-        ensures { (es : List Kept) → ⟦<RingKeeper as Keeper>⟧.holds self.now es → result ≡ slice_get (ring_of es) index }
+        ensures { (es : List Kept) → ⟦<RingKeeper as Keeper>⟧.holds self.now es →
+            result ≡ slice_get (ring_of es) index }
     {
         self.entries.byte(index)
     }
 
-    /// Gives the ring up as a circular buffer of the journal's size with the same bytes. It takes no memory.
+    /// Gives the ring up as a circular buffer of the journal's size with the same bytes. It takes
+    /// no memory.
     pub fn into_ring(self) -> HeapCircularBuffer<u8>
         ensures size { result.capacity ≡ ⟦<RingKeeper as Keeper>⟧.room self }
         ensures sized { IsSize result.capacity }
-        ensures bytes { (es : List Kept) → ⟦<RingKeeper as Keeper>⟧.holds self es → AllFit es × (result.items ≡ ring_of es) }
+        ensures bytes { (es : List Kept) → ⟦<RingKeeper as Keeper>⟧.holds self es → AllFit es
+            × (result.items ≡ ring_of es) }
     {
         let RingKeeper { entries } = self;
         entries.into_buffer()

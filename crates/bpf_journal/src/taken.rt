@@ -34,7 +34,8 @@ impl Taken {
     /// The move whose entry's text has this tag.
     #[inline(always)]
     pub fn of_tag(tag: u8) -> Taken
-        ensures { (entry : Entry) (mark : Bool) → tag ≡ tag_of (kind entry) mark → result ≡ taken_by (entry, mark) }
+        ensures { (entry : Entry) (mark : Bool) → tag ≡ tag_of (kind entry) mark →
+            result ≡ taken_by (entry, mark) }
     {
         let kind = tag % 128;
         Taken {

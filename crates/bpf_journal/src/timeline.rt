@@ -59,7 +59,8 @@ impl<K: Keeper> Model for Timeline<K> {
 }
 
 impl<K: Keeper> Timeline<K> {
-    /// A machine with a keeper that holds the entries of some history that leads to the machine's state.
+    /// A machine with a keeper that holds the entries of some history that leads to the machine's
+    /// state.
     pub fn open(cpu: Cpu, keeper: K) -> Timeline<K>
         requires { HasHistory K.holds keeper cpu }
         ensures state { result.state ≡ cpu }
@@ -109,38 +110,44 @@ impl<K: Keeper> Timeline<K> {
 
     /// How many moves are kept.
     pub fn len(&self) -> usize
-        ensures { (h : List Record) → StandsFor K.holds self.now.keeper self.now.state h → result ≡ length h }
+        ensures { (h : List Record) → StandsFor K.holds self.now.keeper self.now.state h →
+            result ≡ length h }
     {
         self.keeper.len()
     }
 
     /// How many of them are marked.
     pub fn marked(&self) -> usize
-        ensures { (h : List Record) → StandsFor K.holds self.now.keeper self.now.state h → result ≡ count_by (λ r. r.mark) h }
+        ensures { (h : List Record) → StandsFor K.holds self.now.keeper self.now.state h →
+            result ≡ count_by (λ r. r.mark) h }
     {
         self.keeper.marked()
     }
 
     /// The sum of their weights in bytes, at most the journal's size.
     pub fn weight(&self) -> usize
-        ensures { (h : List Record) → StandsFor K.holds self.now.keeper self.now.state h → result ≡ sum_by record_weight h }
+        ensures { (h : List Record) → StandsFor K.holds self.now.keeper self.now.state h →
+            result ≡ sum_by record_weight h }
     {
         self.keeper.weight()
     }
 
     /// How many of them are steps, counted up to `most`.
     pub fn steps_up_to(&self, most: u64) -> u64
-        ensures { (h : List Record) → StandsFor K.holds self.now.keeper self.now.state h → result ≡ min most (count_by (λ r. is_step r.move) h) }
+        ensures { (h : List Record) → StandsFor K.holds self.now.keeper self.now.state h →
+            result ≡ min most (count_by (λ r. is_step r.move) h) }
     {
         let steps = self.keeper.steps() as u64;
         if steps < most { steps } else { most }
     }
 
-    /// The latest kept move, a step or an edit, that changed the value of the byte at an address, which is `value` now. The machine isn't
-    /// moved: each entry tells what the byte was. None where no kept move changed it. Looks at the entries from the newest to that one.
+    /// The latest kept move, a step or an edit, that changed the value of the byte at an address,
+    /// which is `value` now. The machine isn't moved: each entry tells what the byte was. None
+    /// where no kept move changed it. Looks at the entries from the newest to that one.
     pub fn last_change(&self, address: u64, value: u8) -> Option<ByteChange>
         requires { value ≡ byte self.now.state address }
-        ensures { (h : List Record) → StandsFor K.holds self.now.keeper self.now.state h → result ≡ last_change address h self.now.state }
+        ensures { (h : List Record) → StandsFor K.holds self.now.keeper self.now.state h →
+            result ≡ last_change address h self.now.state }
     {
         self.cpu.invariant();
         change_among(&self.keeper, self.cpu.depth() as u32, address, value)
@@ -148,18 +155,22 @@ impl<K: Keeper> Timeline<K> {
 
     /// The entry of the newest move that is kept, and its mark; None where none is kept. It stays.
     pub fn last(&self) -> Option<(Entry, bool)>
-        ensures { (h : List Record) → StandsFor K.holds self.now.keeper self.now.state h → result ≡ newest (map kept_of h) }
+        ensures { (h : List Record) → StandsFor K.holds self.now.keeper self.now.state h →
+            result ≡ newest (map kept_of h) }
     {
         self.keeper.last()
     }
 
-    /// Takes a step and keeps it. Answers whether it replaced bytes of memory. Nothing changes where the machine has ended, or where the
-    /// keeper refuses.
+    /// Takes a step and keeps it. Answers whether it replaced bytes of memory. Nothing changes
+    /// where the machine has ended, or where the keeper refuses.
     pub fn step(&mut self, mark: bool) -> Result<bool, TimelineFault>
-        ensures ok { OnOk result (Makes K.holds (K.room self.old.keeper) move_of.Step mark self.old self.new) }
+        ensures ok { OnOk result
+            (Makes K.holds (K.room self.old.keeper) move_of.Step mark self.old self.new) }
         ensures err { IfErr result (Fails K.holds move_of.Step self.old self.new) }
-        ensures bytes { IfOk result (λ replaced. replaced ≡ replaces_bytes (step_entry self.old.state)) }
-        ensures refused { K.refused self.new.keeper ≡ refusals_by result (K.refused self.old.keeper) }
+        ensures bytes { IfOk result (λ replaced. replaced
+            ≡ replaces_bytes (step_entry self.old.state)) }
+        ensures refused { K.refused self.new.keeper
+            ≡ refusals_by result (K.refused self.old.keeper) }
         ensures room { K.room self.new.keeper ≡ K.room self.old.keeper }
     {
         self.cpu.invariant();
@@ -174,24 +185,33 @@ impl<K: Keeper> Timeline<K> {
         Ok(change_replaces_bytes(&change))
     }
 
-    /// Takes steps from a running machine and keeps each, the first one with a mark: until the machine has ended, a test holds of the last step, or
-    /// `most` are taken, at least one. Where the keeper refuses a step the run is cut short before it.
+    /// Takes steps from a running machine and keeps each, the first one with a mark: until the
+    /// machine has ended, a test holds of the last step, or `most` are taken, at least one. Where
+    /// the keeper refuses a step the run is cut short before it.
     pub fn run<T: StopTest>(&mut self, most: u64, test: &T) -> Run
         requires runs { has_ended self.old.state.status ≡ false }
         requires some { 1 ≤ most }
-        ensures ends { Ends (T.test test.now) most self.old.state self.new.state result.steps result.is_cut }
-        ensures kept { (h : List Record) → StandsFor K.holds self.old.keeper self.old.state h → StandsFor K.holds self.new.keeper self.new.state (history_after (K.room self.old.keeper) result.steps self.old.state h) }
-        ensures refused { K.refused self.new.keeper ≡ refusals_by_run result.is_cut (K.refused self.old.keeper) }
+        ensures ends { Ends (T.test test.now)
+            most self.old.state self.new.state result.steps result.is_cut }
+        ensures kept { (h : List Record) → StandsFor K.holds self.old.keeper self.old.state h →
+            StandsFor K.holds self.new.keeper self.new.state
+            (history_after (K.room self.old.keeper) result.steps self.old.state h) }
+        ensures refused { K.refused self.new.keeper
+            ≡ refusals_by_run result.is_cut (K.refused self.old.keeper) }
         ensures room { K.room self.new.keeper ≡ K.room self.old.keeper }
     {
         self.keeper.run(&mut self.cpu, most, test)
     }
 
-    /// Makes an edit and keeps it. Nothing changes where the edit is refused; where the keeper refuses, it is taken back.
+    /// Makes an edit and keeps it. Nothing changes where the edit is refused; where the keeper
+    /// refuses, it is taken back.
     pub fn edit(&mut self, edit: &Edit, mark: bool) -> Result<(), TimelineFault>
-        ensures ok { OnOk result (Makes K.holds (K.room self.old.keeper) (move_of.Edit edit.now) mark self.old self.new) }
+        ensures ok { OnOk result
+            (Makes K.holds (K.room self.old.keeper) (move_of.Edit edit.now)
+            mark self.old self.new) }
         ensures err { IfErr result (Fails K.holds (move_of.Edit edit.now) self.old self.new) }
-        ensures refused { K.refused self.new.keeper ≡ refusals_by result (K.refused self.old.keeper) }
+        ensures refused { K.refused self.new.keeper
+            ≡ refusals_by result (K.refused self.old.keeper) }
         ensures room { K.room self.new.keeper ≡ K.room self.old.keeper }
     {
         self.cpu.invariant();
@@ -209,11 +229,14 @@ impl<K: Keeper> Timeline<K> {
         }
     }
 
-    /// Makes a move and keeps it. Nothing changes where the move can't be made, or where the keeper refuses.
+    /// Makes a move and keeps it. Nothing changes where the move can't be made, or where the keeper
+    /// refuses.
     pub fn make(&mut self, change: &Move, mark: bool) -> Result<(), TimelineFault>
-        ensures ok { OnOk result (Makes K.holds (K.room self.old.keeper) change.now mark self.old self.new) }
+        ensures ok { OnOk result
+            (Makes K.holds (K.room self.old.keeper) change.now mark self.old self.new) }
         ensures err { IfErr result (Fails K.holds change.now self.old self.new) }
-        ensures refused { K.refused self.new.keeper ≡ refusals_by result (K.refused self.old.keeper) }
+        ensures refused { K.refused self.new.keeper
+            ≡ refusals_by result (K.refused self.old.keeper) }
         ensures room { K.room self.new.keeper ≡ K.room self.old.keeper }
     {
         match change {
@@ -225,22 +248,26 @@ impl<K: Keeper> Timeline<K> {
         }
     }
 
-    /// Goes back by one move, to the state before it. Answers what move it was, None where none is kept.
+    /// Goes back by one move, to the state before it. Answers what move it was, None where none is
+    /// kept.
     pub fn back(&mut self) -> Option<Taken>
-        ensures back { (h : List Record) → StandsFor K.holds self.old.keeper self.old.state h → GoesBack K.holds result h self.old self.new }
+        ensures back { (h : List Record) → StandsFor K.holds self.old.keeper self.old.state h →
+            GoesBack K.holds result h self.old self.new }
         ensures refused { K.refused self.new.keeper ≡ K.refused self.old.keeper }
         ensures room { K.room self.new.keeper ≡ K.room self.old.keeper }
     {
         self.keeper.take_back(&mut self.cpu)
     }
 
-    /// Takes the newest move back where it is a step, and moves its entry with its mark to this ring. None where no move is kept, or
-    /// an edit is the newest,
-    /// and then nothing changes.
+    /// Takes the newest move back where it is a step, and moves its entry with its mark to this
+    /// ring. None where no move is kept, or an edit is the newest, and then nothing changes.
     #[inline(always)]
     pub(crate) fn hand_back(&mut self, ring: &mut RingKeeper) -> Option<Taken>
-        ensures hands { (es ls : List Kept) → K.holds self.old.keeper es → RingHolds ring.old ls → Hands (is_some result) es ls (ring_room ring.old) (RingHolds ring.new) }
-        ensures back { OnSome result ((h : List Record) → StandsFor K.holds self.old.keeper self.old.state h → GoesBack K.holds result h self.old self.new) }
+        ensures hands { (es ls : List Kept) → K.holds self.old.keeper es → RingHolds ring.old ls →
+            Hands (is_some result) es ls (ring_room ring.old) (RingHolds ring.new) }
+        ensures back { OnSome result ((h : List Record) →
+            StandsFor K.holds self.old.keeper self.old.state h →
+            GoesBack K.holds result h self.old self.new) }
         ensures stays { result ≡ None → (self.new ≡ self.old) × (ring.new ≡ ring.old) }
         ensures ring_room { ring_room ring.new ≡ ring_room ring.old }
         ensures refused { K.refused self.new.keeper ≡ K.refused self.old.keeper }
@@ -250,7 +277,8 @@ impl<K: Keeper> Timeline<K> {
     }
 }
 
-/// The latest change of a byte among the entries that a keeper holds, which lead to this depth of calls and this value.
+/// The latest change of a byte among the entries that a keeper holds, which lead to this depth of
+/// calls and this value.
 fn change_among<K: Keeper>(keeper: &K, depth: u32, address: u64, value: u8) -> Option<ByteChange>
     requires some { HoldsSome K.holds keeper.now }
     requires shallow { depth < frame_count }

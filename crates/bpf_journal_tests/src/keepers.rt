@@ -11,9 +11,10 @@ use std::process::Abort;
 /// add r0, 1; ja -2: entries of 16 and 7 bytes.
 const LOOP: &str = "07000000010000000500feff00000000";
 
-// A program; after how many steps its machine stands as at the end of the moves, and what a step then answers: its entry's bytes; the moves, in
-// a journal of 1,024 bytes, and their answers. Of the long run 44 rounds of 23 bytes and the jump before them are kept, 1,019 bytes; the add before that
-// jump would make 1,035.
+// A program; after how many steps its machine stands as at the end of the moves, and what a step
+// then answers: its entry's bytes; the moves, in a journal of 1,024 bytes, and their answers. Of
+// the long run 44 rounds of 23 bytes and the jump before them are kept, 1,019 bytes; the add before
+// that jump would make 1,035.
 const PLAYS: &str = "\
 07000000010000000500feff00000000; 11; 07000201000700; steps 9, step, steps 9, step, steps 9, step, steps 9, step, steps 9, step, steps 9, step, steps 9, step, steps 9, step, steps 9, step, steps 9, step, counts, all back, back, counts | 9 steps, ok, 9 steps, ok, 9 steps, ok, 9 steps, ok, 9 steps, ok, 9 steps, ok, 9 steps, ok, 9 steps, ok, 9 steps, ok, 9 steps, ok, 89 kept 9 marked 1019 of 1024 0 refused, 89 back, none, 0 kept 0 marked 0 of 1024 0 refused
 07000000010000000500feff00000000; 10; 10000100000005000000000000001000; steps 9, step, last, last, counts | 9 steps, ok, 07008201000700, 07008201000700, 10 kept 1 marked 115 of 1024 0 refused
@@ -80,7 +81,8 @@ fn is_refused(course: &mut Course<ListKeeper>) -> Option<bool> {
     }
 }
 
-/// Takes a hundred steps, and tells how many were refused. None where a refused one changed something.
+/// Takes a hundred steps, and tells how many were refused. None where a refused one changed
+/// something.
 fn refused_steps(course: &mut Course<ListKeeper>) -> Option<u64> {
     let mut refused = 0u64;
     for _ in 0..100 {
@@ -93,7 +95,8 @@ fn refused_steps(course: &mut Course<ListKeeper>) -> Option<u64> {
     Some(refused)
 }
 
-// With a request for memory refused (`rt try --test --fail-alloc N`) one step is refused, and the next is kept again.
+// With a request for memory refused (`rt try --test --fail-alloc N`) one step is refused, and the
+// next is kept again.
 #[test]
 fn a_refused_push_changes_nothing(rt: HostRuntime) {
     let cpu = machine(&rt, rt.alloc(), LOOP, "");

@@ -1,5 +1,6 @@
-//! Tests of the journal: what a keeper holds of a long run, and a ring beside a list. Tables of steps, edits, runs and worked programs are asked of
-//! the built program (`tests/program/journal.sh`).
+//! Tests of the journal: what a keeper holds of a long run, and a ring beside a list. Tables of
+//! steps, edits, runs and worked programs are asked of the built program
+//! (`tests/program/journal.sh`).
 #![tactic(auto)]
 
 #[cfg(test)]

@@ -41,7 +41,8 @@ pub fn stop_unless(rt: &impl Abort, holds: bool, what: &str) {
     assert!(rt; holds, "{what}");
 }
 
-/// A machine with a program and a context, both in hexadecimal digits, and a map of two values of 8 bytes.
+/// A machine with a program and a context, both in hexadecimal digits, and a map of two values of 8
+/// bytes.
 pub fn machine(rt: &impl Abort, alloc: Global, program: &str, context: &str) -> Cpu {
     machine_on(rt, alloc, program, "8x2", context)
 }
@@ -77,7 +78,8 @@ pub fn machine_after(
     cpu
 }
 
-/// A machine with an empty journal of so many bytes. The moves that are taken back can be made again.
+/// A machine with an empty journal of so many bytes. The moves that are taken back can be made
+/// again.
 pub fn course(rt: &impl Abort, alloc: Global, cpu: Cpu, size: usize) -> Course<ListKeeper> {
     match ListKeeper::open(alloc, size) {
         Ok(keeper) => {

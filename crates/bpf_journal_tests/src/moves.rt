@@ -1,5 +1,5 @@
-//! Moves by their words: `step`, `reg 3 7`, `bytes 200000000 0102`, `cell 0 1 ee*8`, `pc 1`. Numbers are hexadecimal; behind a byte and
-//! a star stands how often it comes, in decimal.
+//! Moves by their words: `step`, `reg 3 7`, `bytes 200000000 0102`, `cell 0 1 ee*8`, `pc 1`.
+//! Numbers are hexadecimal; behind a byte and a star stands how often it comes, in decimal.
 use crate::machines::{bytes, cut, number};
 use crate::seen::{add, kept, refusal, state_text};
 use crate::texts::digits_of;
@@ -80,7 +80,8 @@ fn there_and_back<R: Reversible>(it: &mut R, change: &Move) -> Result<Entry, Mov
     }
 }
 
-/// What a move answers that is made and taken back: its entry's bytes, or why it is refused. Says so where another state is left.
+/// What a move answers that is made and taken back: its entry's bytes, or why it is refused. Says
+/// so where another state is left.
 pub fn answer(rt: &impl Abort, alloc: Global, cpu: &mut Cpu, words: &str) -> String {
     let before = state_text(rt, alloc, cpu);
     let mut text = match there_and_back(cpu, &move_of(rt, alloc, words)) {

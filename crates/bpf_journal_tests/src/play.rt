@@ -22,9 +22,11 @@ impl StopTest for Never {
     }
 }
 
-/// What some moves and shows answer, which are parted by commas. `step` and the edits are made and marked, `steps 8` takes so many unmarked
-/// steps, and `run 8` so many in one run, which marks the first one. `back` goes back by one and `all back` as far as it can, and `redo` makes a
-/// move again. `place`, `counts`, `ahead` and `last` show where the machine stands, what is kept and what can be made again.
+/// What some moves and shows answer, which are parted by commas. `step` and the edits are made and
+/// marked, `steps 8` takes so many unmarked steps, and `run 8` so many in one run, which marks the
+/// first one. `back` goes back by one and `all back` as far as it can, and `redo` makes a move
+/// again. `place`, `counts`, `ahead` and `last` show where the machine stands, what is kept and
+/// what can be made again.
 pub fn played<K: Keeper>(
     rt: &impl Abort,
     alloc: Global,

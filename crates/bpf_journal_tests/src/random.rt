@@ -5,7 +5,8 @@ use bpf_testing::Random;
 use std::alloc::Global;
 use std::process::Abort;
 
-/// The words of random moves of a machine: steps, runs of `most` steps at most, edits, and moves back and again.
+/// The words of random moves of a machine: steps, runs of `most` steps at most, edits, and moves
+/// back and again.
 pub fn random_words(rt: &impl Abort, alloc: Global, random: &mut Random, most: u64) -> String {
     let words = match random.below(20) {
         0 => register_words(alloc, random),
@@ -22,7 +23,8 @@ pub fn random_words(rt: &impl Abort, alloc: Global, random: &mut Random, most: u
     kept(rt, words)
 }
 
-/// An edit of a register, now and then of r10: to a number that the program asks for, an address, or any number.
+/// An edit of a register, now and then of r10: to a number that the program asks for, an address,
+/// or any number.
 fn register_words(alloc: Global, random: &mut Random) -> Result<String, std::alloc::AllocError> {
     let register = random.below(11);
     let value = match random.below(4) {

@@ -1,4 +1,5 @@
-//! A ring and a list that keep the same moves: what the ring holds is what the list holds, and the ring's bytes are the texts of that.
+//! A ring and a list that keep the same moves: what the ring holds is what the list holds, and the
+//! ring's bytes are the texts of that.
 ghost use Rattle.bpf_journal.specs.Histories.{HasHistory};
 
 use crate::machines::{
@@ -22,7 +23,8 @@ struct Pair {
     ring: Course<RingKeeper>,
 }
 
-/// Two machines with a program, a map of two values of 256 bytes, a context of 8 bytes, and empty journals of so many bytes.
+/// Two machines with a program, a map of two values of 256 bytes, a context of 8 bytes, and empty
+/// journals of so many bytes.
 fn opened(rt: &impl Abort, alloc: Global, program: &str, size: usize) -> Pair {
     Pair {
         list: course(rt, alloc, machine(rt, alloc, program), size),
@@ -85,7 +87,8 @@ fn both(rt: &impl Abort, alloc: Global, pair: &mut Pair, moves: &str, row: &str)
     check_found(rt, difference(rt, alloc, pair), "", row);
 }
 
-// A name; a program without its last `exit`, moves that come first, and the move whose entry goes around the end; the entry's weight.
+// A name; a program without its last `exit`, moves that come first, and the move whose entry goes
+// around the end; the entry's weight.
 const ENTRIES: &str = "\
 register | 0700000001000000; place; step | 16
 jump | 0500000000000000; place; step | 7
@@ -134,7 +137,8 @@ fn fill(rt: &impl Abort, alloc: Global, pair: &mut Pair, most: usize, row: &str)
     stop_unless(rt, pair.ring.weight() == most, row);
 }
 
-/// Makes the moves of a row where so many bytes are left before the end of the block, takes the last one back and makes it again.
+/// Makes the moves of a row where so many bytes are left before the end of the block, takes the
+/// last one back and makes it again.
 fn goes_around(rt: &impl Abort, alloc: Global, line: &str, size: usize, gap: usize) {
     let (question, weight) = parts(rt, line);
     let (program, rest) = cut(rt, question, "; ");
@@ -165,8 +169,8 @@ fn parts<'a>(rt: &impl Abort, line: &'a str) -> (&'a str, usize) {
     (question, count(rt, weight))
 }
 
-/// The same of each row, and of each place at which its entry can be cut by the end, and of those behind it. In front of it so many bytes
-/// are written by its moves.
+/// The same of each row, and of each place at which its entry can be cut by the end, and of those
+/// behind it. In front of it so many bytes are written by its moves.
 fn check_entries(rt: &impl Abort, alloc: Global, table: &str, size: usize, front: usize) {
     for row in table.lines() {
         for gap in 0..parts(rt, row).1.saturating_add(3) {
@@ -180,7 +184,8 @@ fn each_entry_goes_around_the_end(rt: HostRuntime) {
     check_entries(&rt, rt.alloc(), ENTRIES, 1_024, 0);
 }
 
-// The same rows of steps, where the step is the second one of a run: in front of it goes a jump, whose entry has 7 bytes.
+// The same rows of steps, where the step is the second one of a run: in front of it goes a jump,
+// whose entry has 7 bytes.
 const RUNS: &str = "\
 register | 05000000000000000700000001000000; place; run 2 | 16
 jump | 05000000000000000500000000000000; place; run 2 | 7
@@ -213,7 +218,8 @@ fn put_back(cpu: &Cpu, keeper: RingKeeper) -> RingKeeper
     RingKeeper::from_ring(keeper.into_ring())
 }
 
-/// The course of a machine and a keeper whose newest move a timeline takes back. No move of it can be made again.
+/// The course of a machine and a keeper whose newest move a timeline takes back. No move of it can
+/// be made again.
 fn opened_again<K: Keeper>(rt: &impl Abort, alloc: Global, cpu: Cpu, keeper: K) -> Course<K>
     requires { HasHistory K.holds keeper cpu }
 {
@@ -224,7 +230,8 @@ fn opened_again<K: Keeper>(rt: &impl Abort, alloc: Global, cpu: Cpu, keeper: K) 
     Course::open(cpu, keeper, redo)
 }
 
-/// The same machines a move before, with the ring taken out and put back. What was taken back is forgotten.
+/// The same machines a move before, with the ring taken out and put back. What was taken back is
+/// forgotten.
 fn passed_on(rt: &impl Abort, alloc: Global, pair: Pair) -> Pair {
     let Pair { list, ring } = pair;
     let (list_cpu, list) = list.close();
@@ -236,8 +243,9 @@ fn passed_on(rt: &impl Abort, alloc: Global, pair: Pair) -> Pair {
     }
 }
 
-// A loop whose steps make each kind of entry: sums, stores of each width, a fetch and a sum in memory, a call and a return, an update of a
-// cell, a trace and a jump. A store to where r8 is goes wrong at first; at slot 24 it exits, once r9 is 5.
+// A loop whose steps make each kind of entry: sums, stores of each width, a fetch and a sum in
+// memory, a call and a return, an update of a cell, a trace and a jump. A store to where r8 is goes
+// wrong at first; at slot 24 it exits, once r9 is 5.
 const LOOP: &str = "\
 0700000001000000bf060000000000007b0af8ff00000000636af4ff000000006b0af2ff00000000730af1ff00000000\
 7a0af8fe07000000db6af8ff01000000c36af4ff00000000851000000f00000045000100070000006308000000000000\
@@ -245,7 +253,8 @@ bfa200000000000007020000e8ffffff620ae8ff0100000018510000000000000000000000000000
 07030000e8feffffb7040000000000008500000002000000bf0100000000000085000000400000005509e8ff05000000\
 9500000000000000b707000003000000737affff000000009500000000000000";
 
-/// Makes random moves in journals of so many bytes, runs of `most` steps at most, and now and then takes the ring out and puts it back.
+/// Makes random moves in journals of so many bytes, runs of `most` steps at most, and now and then
+/// takes the ring out and puts it back.
 fn check_moves(rt: &impl Abort, alloc: Global, size: usize, most: u64, seed: u64, moves: usize) {
     let mut random = Random::new(seed);
     let mut pair = opened(rt, alloc, LOOP, size);

@@ -1,4 +1,5 @@
-//! The bytes of a journal as docs/JOURNAL.md has them: of each entry its length, its tag, its parts, and the length again.
+//! The bytes of a journal as docs/JOURNAL.md has them: of each entry its length, its tag, its
+//! parts, and the length again.
 use crate::seen::digits;
 use bpf_machine::{Entry, Fault, Status};
 use std::alloc::Global;
@@ -168,7 +169,8 @@ fn put_status(rt: &impl Abort, parts: &mut Vec<u8>, status: Status) {
     put(rt, parts, &number.to_le_bytes());
 }
 
-/// Into how many entries a journal is cut from the front, by the first two bytes of each. None where the last cut isn't its end.
+/// Into how many entries a journal is cut from the front, by the first two bytes of each. None
+/// where the last cut isn't its end.
 pub fn cuts_from_front(journal: &[u8]) -> Option<usize> {
     let mut left = journal;
     for count in 0..journal.len().saturating_add(1) {

@@ -4,7 +4,8 @@ use bpf_journal::{Course, Keeper};
 use std::alloc::Global;
 use std::process::Abort;
 
-/// The bytes of the entries that are kept, the newest entry first. A walk that goes on past their number shows by one more.
+/// The bytes of the entries that are kept, the newest entry first. A walk that goes on past their
+/// number shows by one more.
 pub fn entries<K: Keeper>(rt: &impl Abort, alloc: Global, course: &Course<K>) -> Vec<u8> {
     course.invariant();
     let keeper = course.keeper();

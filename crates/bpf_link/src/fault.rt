@@ -6,7 +6,8 @@ use bpf_isa::LoadFault;
 
 /// Why no program is made of an object.
 ///
-/// A number in it is a slot of the program that would come out, the one that a relocation is of: slots of `.text` count behind those of the section.
+/// A number in it is a slot of the program that would come out, the one that a relocation is of:
+/// slots of `.text` count behind those of the section.
 #[derive(Clone, Copy)]
 pub enum LinkFault {
     /// The bytes aren't an ELF file.
@@ -39,13 +40,16 @@ pub enum LinkFault {
     ManyMapSections,
     /// There are more than 16 maps.
     TooManyMaps,
-    /// A table of relocations isn't of this layout, doesn't lie in the file, or stands beside another one of its section.
+    /// A table of relocations isn't of this layout, doesn't lie in the file, or stands beside
+    /// another one of its section.
     RelocationTable,
-    /// A relocation names no slot of its section, or not one after the slot of the relocation before.
+    /// A relocation names no slot of its section, or not one after the slot of the relocation
+    /// before.
     Place,
     /// A relocation names no symbol of the table.
     Symbol(usize),
-    /// A symbol that isn't defined in the object: a function or a variable of the kernel, or a missing one.
+    /// A symbol that isn't defined in the object: a function or a variable of the kernel, or a
+    /// missing one.
     Extern(usize),
     /// Neither a call nor a wide load.
     RelocationKind(usize),

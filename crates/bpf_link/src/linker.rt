@@ -22,9 +22,11 @@ use std::alloc::Global;
 pub struct Linked {
     /// Its words.
     pub words: Vec<u8>,
-    /// How many maps the object has, at most 16. Their numbers follow their places in the section of maps.
+    /// How many maps the object has, at most 16. Their numbers follow their places in the section
+    /// of maps.
     pub maps: usize,
-    /// Their shapes, in the order of their numbers: those that the object's section `maps` gives them, of any size. None unless it defines each as an array.
+    /// Their shapes, in the order of their numbers: those that the object's section `maps` gives
+    /// them, of any size. None unless it defines each as an array.
     pub shapes: ArrayVec<MapShape, 16>,
 }
 
@@ -62,7 +64,8 @@ fn planned(object: &[u8], name: &[u8]) -> Result<Plan, LinkFault>
 /// The words of a plan, how many maps there are, and their shapes.
 fn program_of(alloc: Global, object: &[u8], plan: &Plan) -> Result<Linked, LinkFault>
     requires { LiesPlan object.now plan.now }
-    ensures ok { IfOk result (λ program. program_of object.now plan.now ≡ Ok (program.words.items, program.maps)) }
+    ensures ok { IfOk result (λ program. program_of object.now plan.now
+        ≡ Ok (program.words.items, program.maps)) }
     ensures err { IfErr result (MemoryOr (program_of object.now plan.now)) }
     ensures laid { IfOk result (λ program. IsLaid object.now plan.now program.words.items) }
     ensures few { IfOk result (λ program. program.maps ≤ 16) }
@@ -84,17 +87,22 @@ fn program_of(alloc: Global, object: &[u8], plan: &Plan) -> Result<Linked, LinkF
 
 /// The program of a code section of a relocatable ELF object for BPF (64 bits, little-endian).
 ///
-/// `section` is the section's name, at most 255 bytes; where it is empty, the section is the only one with code besides `.text`, or else `.text`.
-/// The words are those of the section, whose first slot is the entry, and after them those of `.text`, if the section calls it. Calls get
-/// their distances, and wide loads of maps the maps' numbers: 0 for the one that stands first in the section `maps` or `.maps`. The words
-/// pass the checker, for maps that have at least one byte. Takes time in proportion to the length of the object.
+/// `section` is the section's name, at most 255 bytes; where it is empty, the section is the only
+/// one with code besides `.text`, or else `.text`. The words are those of the section, whose first
+/// slot is the entry, and after them those of `.text`, if the section calls it. Calls get their
+/// distances, and wide loads of maps the maps' numbers: 0 for the one that stands first in the
+/// section `maps` or `.maps`. The words pass the checker, for maps that have at least one byte.
+/// Takes time in proportion to the length of the object.
 pub fn link(alloc: Global, object: &[u8], section: &[u8]) -> Result<Linked, LinkFault>
-    ensures ok { IfOk result (λ program. linked object.now section.now ≡ Ok (program.words.items, program.maps)) }
+    ensures ok { IfOk result (λ program. linked object.now section.now
+        ≡ Ok (program.words.items, program.maps)) }
     ensures laid { IfOk result (λ program. (plan : Plan)
         × (planned object.now section.now ≡ Ok plan) × IsLaid object.now plan program.words.items) }
     ensures shapes { IfOk result (λ program. (plan : Plan)
-        × (planned object.now section.now ≡ Ok plan) × HasShapes object.now plan program.shapes.items) }
-    ensures accepted { IfOk result (λ program. IsAccepted program.words.items (plain_maps program.maps)) }
+        × (planned object.now section.now ≡ Ok plan)
+        × HasShapes object.now plan program.shapes.items) }
+    ensures accepted { IfOk result
+        (λ program. IsAccepted program.words.items (plain_maps program.maps)) }
     ensures err { IfErr result (IsLinkFault object.now section.now) }
 {
     let plan = match planned(object, section) {

@@ -161,8 +161,10 @@ fn patch_with(
     requires maps { length maps.now ≤ 16 }
     requires whole { relocation.now.offset % 8 ≡ 0 }
     requires inside { relocation.now.offset / 8 < part.now.slots.count }
-    ensures value { result ≡ patch_with object.now plan.now maps.now part.now relocation.now symbol.now }
-    ensures at { IfOk result (λ patch. patch.at ≡ 8 * (part.now.first + relocation.now.offset / 8)) }
+    ensures value { result ≡ patch_with object.now plan.now maps.now part.now relocation.now
+        symbol.now }
+    ensures at { IfOk result (λ patch. patch.at
+        ≡ 8 * (part.now.first + relocation.now.offset / 8)) }
 {
     let offset = relocation.offset as usize;
     let at = part.slots.at + offset;

@@ -233,7 +233,8 @@ fn is_call_of(
 fn calls(object: &[u8], symbols: &Entries, relocations: &Entries, section: usize) -> bool
     requires symbols { Lies object.now 24 symbols.now }
     requires relocations { Lies object.now 16 relocations.now }
-    ensures { result ≡ calls_below object.now symbols.now relocations.now section relocations.now.count }
+    ensures { result ≡ calls_below object.now symbols.now relocations.now section
+        relocations.now.count }
 {
     let mut calls = false;
     for i in 0..relocations.count {
@@ -256,7 +257,8 @@ fn text_in(
     requires found { FoundBelow sections.now.count found }
     requires symbols { Lies object.now 24 symbols.now }
     requires code { LiesPart object.now code.now }
-    ensures value { result ≡ text_in object.now sections.now symbols_section symbols.now code.now found }
+    ensures value { result ≡ text_in object.now sections.now symbols_section symbols.now code.now
+        found }
     ensures fits { IfOk result (LiesPart object.now) }
     ensures first { IfOk result (λ part. part.first ≤ code.now.slots.count) }
     ensures joins { IfOk result (λ part. 0 < part.slots.count → part.first ≡ code.now.slots.count) }
@@ -354,7 +356,8 @@ fn plan_with(
     })
 }
 
-/// What the program of a section is put together from. `unnamed` says that no name was given for it.
+/// What the program of a section is put together from. `unnamed` says that no name was given for
+/// it.
 pub fn plan_of(
     object: &[u8],
     sections: &Sections,

@@ -117,7 +117,8 @@ fn is_relocations(target: usize, section: &SectionHeader) -> bool
     (section.kind == 9 || section.kind == 4) && section.info as usize == target
 }
 
-/// The sections that belong to the one that is asked for: that of the name, or, where the name is empty, the only one.
+/// The sections that belong to the one that is asked for: that of the name, or, where the name is
+/// empty, the only one.
 pub fn roles_of(object: &[u8], sections: &Sections, name: &[u8]) -> Roles
     requires { HasTable object.now sections.now }
     ensures value { result ≡ roles_below object.now sections.now name.now sections.now.count }
@@ -149,10 +150,13 @@ fn roles_with(
     section: &SectionHeader,
 ) -> Roles
     requires { HasTable object.now sections.now }
-    ensures chosen { result.chosen ≡ found_with roles.chosen (is_chosen object.now sections.now name.now section.now) i }
-    ensures text { result.text ≡ found_with roles.text (is_text object.now sections.now section.now) i }
+    ensures chosen { result.chosen
+        ≡ found_with roles.chosen (is_chosen object.now sections.now name.now section.now) i }
+    ensures text { result.text
+        ≡ found_with roles.text (is_text object.now sections.now section.now) i }
     ensures symbols { result.symbols ≡ found_with roles.symbols (is_symbols section.now) i }
-    ensures maps { result.maps ≡ found_with roles.maps (is_maps object.now sections.now section.now) i }
+    ensures maps { result.maps
+        ≡ found_with roles.maps (is_maps object.now sections.now section.now) i }
 {
     Roles {
         chosen: roles

@@ -79,7 +79,8 @@ fn in_order(places: &[u64]) -> ArrayVec<u64, 16>
     ordered
 }
 
-/// The shapes of maps that stand at places of the section, in the order of their numbers. None unless each is an array.
+/// The shapes of maps that stand at places of the section, in the order of their numbers. None
+/// unless each is an array.
 pub fn shapes_of(object: &[u8], definitions: &Entries, maps: &[u64]) -> ArrayVec<MapShape, 16>
     requires lies { Lies object.now 1 definitions.now }
     requires few { length maps.now ≤ 16 }

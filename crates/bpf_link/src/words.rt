@@ -52,9 +52,12 @@ fn relocate(
     requires short { part.now.first + part.now.slots.count ≤ 65535 }
     requires maps { length maps.now ≤ 16 }
     requires words { 8 * (part.now.first + part.now.slots.count) ≤ length words.old }
-    ensures ok { OnOk result (relocated object.now plan.now maps.now part.now words.old part.now.relocations.count ≡ Ok words.new) }
+    ensures ok { OnOk result
+        (relocated object.now plan.now maps.now part.now words.old part.now.relocations.count
+        ≡ Ok words.new) }
     ensures err { IfErr result (λ fault.
-        relocated object.now plan.now maps.now part.now words.old part.now.relocations.count ≡ Err fault) }
+        relocated object.now plan.now maps.now part.now words.old part.now.relocations.count
+        ≡ Err fault) }
 {
     for i in 0..part.relocations.count {
         match patch_of(object, plan, maps, part, i) {

@@ -6,9 +6,10 @@ use bpf_testing::{bytes_of, row_of};
 use std::alloc::{AllocError, Global};
 use std::process::Abort;
 
-/// An object; the section that is asked for, `-` for none, and what is changed of the object, as places and bytes; and the answer: how many
-/// maps, after a colon their shapes where the object gives them, and the words; or the fault's number. Places, shapes and words are worked out from what
-/// `llvm-readelf -Ssr`, `llvm-objdump -s -j maps` and `llvm-objdump -dr` print of the objects.
+/// An object; the section that is asked for, `-` for none, and what is changed of the object, as
+/// places and bytes; and the answer: how many maps, after a colon their shapes where the object
+/// gives them, and the words; or the fault's number. Places, shapes and words are worked out from
+/// what `llvm-readelf -Ssr`, `llvm-objdump -s -j maps` and `llvm-objdump -dr` print of the objects.
 const ROWS: &str = "\
 calls | - | 0 8510000006000000 bf01000000000000 8510000001000000 9500000000000000 bf10000000000000 0700000001000000 9500000000000000 bf10000000000000 \
 2700000003000000 9500000000000000
@@ -277,7 +278,8 @@ fn fault_of(alloc: Global, object: &[u8], section: &[u8]) -> u8 {
     }
 }
 
-/// Stops unless each shorter beginning of an object is refused: its table of sections lies at the end.
+/// Stops unless each shorter beginning of an object is refused: its table of sections lies at the
+/// end.
 fn check_lengths(rt: &impl Abort, alloc: Global, object: &[u8]) {
     for len in 0..object.len() {
         let wanted = if len < 64 { 1 } else { 6 };
@@ -311,7 +313,8 @@ fn linked_flips(alloc: Global, object: &mut [u8]) -> usize {
     linked
 }
 
-/// Stops unless an object is linked, and of those that differ from it in a byte some are linked and some are refused.
+/// Stops unless an object is linked, and of those that differ from it in a byte some are linked and
+/// some are refused.
 fn check_flips(rt: &impl Abort, alloc: Global, object: &mut [u8]) {
     let linked = linked_flips(alloc, object);
     stop_unless(rt, linked > 0 && linked < object.len(), "flips");

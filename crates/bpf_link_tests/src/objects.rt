@@ -1,4 +1,5 @@
-//! Objects in hexadecimal, each with the C that it was made of: `clang -O2 -target bpf -fno-addrsig -fno-asynchronous-unwind-tables -c`, clang 14.
+//! Objects in hexadecimal, each with the C that it was made of:
+//! `clang -O2 -target bpf -fno-addrsig -fno-asynchronous-unwind-tables -c`, clang 14.
 
 // static __attribute__((noinline)) int thrice(int x) { return x * 3; }
 // __attribute__((noinline)) int next(int x) { return x + 1; }
@@ -18,10 +19,9 @@ bf1000000000000007000000010000009500000000000000bf100000000000002700000003000000
 32000000020000000000000000000000000000000000000090000000000000009000000000000000010000000400000008000000000000001800000000000000\
 ";
 
-// struct map { int (*type)[2]; };
-// __attribute__((section(".maps"))) struct map first, second;
-// static long (*lookup)(void *, const void *) = (void *)1;
-// __attribute__((section("prog"))) int entry(void *ctx) { return lookup(&second, ctx) == lookup(&first, ctx); }
+// struct map { int (*type)[2]; }; __attribute__((section(".maps"))) struct map first, second;
+// static long (*lookup)(void *, const void *) = (void *)1; __attribute__((section("prog"))) int
+// entry(void *ctx) { return lookup(&second, ctx) == lookup(&first, ctx); }
 pub const MAPS: &str = "\
 7f454c460201010000000000000000000100f7000100000000000000000000000000000000000000c00100000000000000000000400000000000400007000100\
 bf1600000000000018010000000000000000000000000000bf620000000000008500000001000000bf0700000000000018010000000000000000000000000000\
@@ -40,9 +40,10 @@ bf620000000000008500000001000000bf01000000000000b7000000010000001d17010000000000
 ";
 
 // struct bpf_map_def { unsigned int type, key_size, value_size, max_entries, map_flags; };
-// __attribute__((section("maps"))) struct bpf_map_def counts = { 2, 4, 8, 2, 0 }, names = { 2, 4, 16, 256, 0 };
-// static void *(*lookup)(void *, const void *) = (void *)1;
-// __attribute__((section("prog"))) int entry(void *ctx) { return lookup(&names, ctx) == lookup(&counts, ctx); }
+// __attribute__((section("maps"))) struct bpf_map_def counts = { 2, 4, 8, 2, 0 }, names = { 2, 4,
+// 16, 256, 0 }; static void *(*lookup)(void *, const void *) = (void *)1;
+// __attribute__((section("prog"))) int entry(void *ctx) { return lookup(&names, ctx) ==
+// lookup(&counts, ctx); }
 pub const ARRAYS: &str = "\
 7f454c460201010000000000000000000100f7000100000000000000000000000000000000000000d80100000000000000000000400000000000400007000100\
 bf1600000000000018010000000000000000000000000000bf620000000000008500000001000000bf0700000000000018010000000000000000000000000000\

@@ -18,7 +18,8 @@ pub enum Change {
     Go {
         next: u16,
     },
-    /// The low bytes of a number are stored at an address, whose bytes begin at this index of memory's bytes.
+    /// The low bytes of a number are stored at an address, whose bytes begin at this index of
+    /// memory's bytes.
     Store {
         address: u64,
         index: usize,
@@ -35,13 +36,16 @@ pub enum Change {
         register: Reg,
         next: u16,
     },
-    /// A frame is pushed and its bytes become zero, and the instruction at `target` is the next to run.
+    /// A frame is pushed and its bytes become zero, and the instruction at `target` is the next to
+    /// run.
     Call {
         target: u16,
     },
-    /// The innermost frame is popped: it says what is in r6 to r9 and which instruction is the next to run.
+    /// The innermost frame is popped: it says what is in r6 to r9 and which instruction is the next
+    /// to run.
     Return,
-    /// The cell at an address gets the `length` bytes, 1 to 256, from an index of memory's bytes on, and r0 gets 0.
+    /// The cell at an address gets the `length` bytes, 1 to 256, from an index of memory's bytes
+    /// on, and r0 gets 0.
     Cell {
         address: u64,
         source: usize,

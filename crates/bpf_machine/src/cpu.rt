@@ -136,14 +136,16 @@ impl Cpu {
         }
     }
 
-    /// Stores the low bytes of a number at an index of memory's bytes, and a register gets the number that stood there.
+    /// Stores the low bytes of a number at an index of memory's bytes, and a register gets the
+    /// number that stood there.
     #[inline(always)]
     #[tactic(auto, unfolding(crate::specs::Next::changed))]
     fn exchange(&mut self, index: usize, size: Size, value: u64, register: Reg, next: u16)
         requires register { register < 10 }
         requires fits { index + size_len size ≤ length self.old.memory.bytes }
         requires next { IsStart self.old.program next }
-        ensures { (address : ℕ) → self.new ≡ changed self.old (Change.Fetch address index size value register next) }
+        ensures { (address : ℕ) →
+            self.new ≡ changed self.old (Change.Fetch address index size value register next) }
     {
         let old = self.memory.number(index, size);
         self.memory.store(index, size, value);
@@ -154,7 +156,8 @@ impl Cpu {
     /// Puts a number into a register.
     fn write_register(&mut self, register: Reg, value: u64)
         requires { register < 10 }
-        ensures { self.new ≡ record self.old { registers = slice_set self.old.registers register value } }
+        ensures { self.new ≡ record
+            self.old { registers = slice_set self.old.registers register value } }
     {
         self.registers[usize::from(register.number())] = value;
     }
@@ -171,7 +174,8 @@ impl Cpu {
         self.pc = next;
     }
 
-    /// Copies bytes of memory to a cell. They are taken out before, so that it does not matter how the two runs overlap.
+    /// Copies bytes of memory to a cell. They are taken out before, so that it does not matter how
+    /// the two runs overlap.
     #[inline(never)]
     #[tactic(auto, unfolding(crate::specs::Next::changed))]
     fn write_cell(&mut self, address: u64, source: usize, length: u16, next: u16)

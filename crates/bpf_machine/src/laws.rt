@@ -16,8 +16,9 @@ pub fn memory_by_address()
     ensures opened { OpenedByAddress }
 {}
 
-/// Steps are local: a step changes the register that its instruction names, the one run of its entry, pc and the status; a call and
-/// a return besides the frames with r10, a return r6 to r9, a trace the trace list; and one that ends the machine the status alone.
+/// Steps are local: a step changes the register that its instruction names, the one run of its
+/// entry, pc and the status; a call and a return besides the frames with r10, a return r6 to r9, a
+/// trace the trace list; and one that ends the machine the status alone.
 #[tactic(none)]
 pub fn steps_are_local()
     ensures registers { StepsKeepRegisters }
@@ -26,8 +27,8 @@ pub fn steps_are_local()
     ensures ends { EndsKeepAllElse }
 {}
 
-/// A function begins with a frame of zeros, whatever stood there: two states that differ in that frame alone lead to one state. In the last
-/// frame a call changes the status alone.
+/// A function begins with a frame of zeros, whatever stood there: two states that differ in that
+/// frame alone lead to one state. In the last frame a call changes the status alone.
 #[tactic(none)]
 pub fn calls_clear_their_frame()
     ensures zeros { CallsFindZeros }
@@ -35,7 +36,8 @@ pub fn calls_clear_their_frame()
     ensures last { LastFrameCallsNone }
 {}
 
-/// Local calls: r10 follows the depth, a call goes one deeper, and the return to its frame gives r6 to r9 and the depth back.
+/// Local calls: r10 follows the depth, a call goes one deeper, and the return to its frame gives r6
+/// to r9 and the depth back.
 #[tactic(none)]
 pub fn returns_give_back()
     ensures pointer { PointerFollowsDepth }

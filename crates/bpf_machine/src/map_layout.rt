@@ -9,7 +9,8 @@ use arrayvec::ArrayVec;
 use bpf_isa::{MapShape, MapTable};
 use std::marker::Model;
 
-/// A map's shape, the index of its first byte among the bytes of all maps, and how many bytes it has.
+/// A map's shape, the index of its first byte among the bytes of all maps, and how many bytes it
+/// has.
 #[derive(Clone, Copy, Default)]
 pub struct MapSpan {
     pub shape: MapShape,

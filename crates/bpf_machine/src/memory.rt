@@ -66,12 +66,13 @@ impl Memory {
         are_bytes(&self.bytes);
     }
 
-    /// Where the run of n bytes at this address begins, None where some of them aren't present or lie in a frame from
-    /// `frames` on.
+    /// Where the run of n bytes at this address begins, None where some of them aren't present or
+    /// lie in a frame from `frames` on.
     pub(crate) fn index(&self, address: u64, n: usize, frames: usize) -> Option<usize>
         requires only { 1 ≤ n }
         requires within { frames ≤ frame_count }
-        ensures value { result ≡ (if is_from_frame frames address then None else index_of self.now address n) }
+        ensures value { result ≡
+            (if is_from_frame frames address then None else index_of self.now address n) }
         ensures fits { IfSome result (λ at. at + n ≤ length self.now.bytes) }
     {
         if address < FRAME_BASE {
@@ -236,7 +237,8 @@ pub fn region_index(base: u64, len: usize, address: u64, n: usize) -> Option<usi
     }
 }
 
-/// Where the run of n bytes at an address from frame 0 on begins in the frames below frame `frames`.
+/// Where the run of n bytes at an address from frame 0 on begins in the frames below frame
+/// `frames`.
 fn frame_index(frames: usize, address: u64, n: usize) -> Option<usize>
     requires only { 1 ≤ n }
     requires within { frames ≤ frame_count }

@@ -1,4 +1,5 @@
-//! Tests of the machine: what only its library can be asked. What a program can be asked stands in `tests/program/machine.sh`.
+//! Tests of the machine: what only its library can be asked. What a program can be asked stands in
+//! `tests/program/machine.sh`.
 #![tactic(auto)]
 
 #[cfg(test)]

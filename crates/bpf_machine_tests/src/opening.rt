@@ -1,4 +1,5 @@
-//! Machines that aren't opened, and the longest context. Expected values are those of docs/MACHINE.md.
+//! Machines that aren't opened, and the longest context. Expected values are those of
+//! docs/MACHINE.md.
 use crate::machines::{EXIT, machine, program};
 use crate::rows::{check_number, check_text, stop_unless};
 use bpf_isa::MapTable;

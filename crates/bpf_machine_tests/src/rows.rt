@@ -1,4 +1,5 @@
-//! Reading the rows of the tests' tables, and what a test stops at. The words of a part stand between blanks.
+//! Reading the rows of the tests' tables, and what a test stops at. The words of a part stand
+//! between blanks.
 use bpf_testing::{number_of, parts_of};
 use std::process::Abort;
 

@@ -1,12 +1,14 @@
-//! Long runs of bytes: whether they are present, and whether the program may access them. Expected values are those of docs/MACHINE.md.
+//! Long runs of bytes: whether they are present, and whether the program may access them. Expected
+//! values are those of docs/MACHINE.md.
 use crate::machines::{EXIT, machine};
 use crate::rows::{check_number, parts, stop_unless, two};
 use bpf_machine::Cpu;
 use std::alloc::Global;
 use std::process::Abort;
 
-// The maps of a machine; a run of bytes; its address and how many bytes; whether it is present and whether the program may access it
-// at depth 0. The context has 8 bytes. (Runs of 1, 2, 4 and 8 bytes stand in tests/program/tables/, where the program is asked.)
+// The maps of a machine; a run of bytes; its address and how many bytes; whether it is present and
+// whether the program may access it at depth 0. The context has 8 bytes. (Runs of 1, 2, 4 and 8
+// bytes stand in tests/program/tables/, where the program is asked.)
 const RUNS: &str = "\
 none | context, one more | 0x100000000 9 | no no
 none | context, whole and one before | 0xffffffff 9 | no no

@@ -35,7 +35,8 @@ pub enum Halt {
 pub enum Answer {
     /// `OK`.
     Done,
-    /// `E` and a number of two digits: that of a refusal, or 16 where an answer is too long for a packet.
+    /// `E` and a number of two digits: that of a refusal, or 16 where an answer is too long for a
+    /// packet.
     Error(u8),
     /// `T` and why the machine stands still.
     Halted(Halt),
@@ -90,7 +91,8 @@ fn halt_of(why: Why, status: Status) -> Halt
     }
 }
 
-/// How a machine stands still behind a command that moved it, with the watched byte that has changed since before it.
+/// How a machine stands still behind a command that moved it, with the watched byte that has
+/// changed since before it.
 fn answer_of_why(why: Why, status: Status, changed: Option<u64>) -> Answer
     ensures { result ≡ answer_of_why why status changed }
 {
@@ -130,7 +132,8 @@ pub(crate) fn answer_of_set<A>(answer: &Result<A, Refusal>) -> Answer
 
 /// Writes an answer behind a body.
 pub(crate) fn append_answer(answer: Answer, cpu: &Cpu, manners: Manners, body: &mut Body)
-    ensures { (text : List ℕ) → Holds body.old text → Holds body.new (text ++ text_of manners cpu.now answer) }
+    ensures { (text : List ℕ) → Holds body.old text →
+        Holds body.new (text ++ text_of manners cpu.now answer) }
 {
     match answer {
         Answer::Done => body.append(b"OK"),
@@ -167,7 +170,8 @@ fn text_of_halt(halt: Halt, swbreak: bool) -> &'static str
 
 /// Writes the address of a watched byte that has changed behind a body.
 fn append_watched(address: u64, body: &mut Body)
-    ensures { (text : List ℕ) → Holds body.old text → Holds body.new (text ++ watched_text address) }
+    ensures { (text : List ℕ) → Holds body.old text →
+        Holds body.new (text ++ watched_text address) }
 {
     body.append(b"T05watch:");
     body.append_address(address);
@@ -190,7 +194,8 @@ fn supported_text(layout: Layout) -> &'static str
 
 /// Writes so many bytes of a machine's description behind a body, from an offset on.
 fn append_description(layout: Layout, offset: u64, count: u64, body: &mut Body)
-    ensures { (text : List ℕ) → Holds body.old text → Holds body.new (text ++ description_text layout offset count) }
+    ensures { (text : List ℕ) → Holds body.old text →
+        Holds body.new (text ++ description_text layout offset count) }
 {
     append_part(
         behind_offset(described(layout).as_bytes(), offset),
@@ -212,7 +217,8 @@ fn behind_offset(text: &[u8], offset: u64) -> &[u8]
 
 /// Writes the first so many bytes behind a body, and before them whether they are all.
 fn append_part(rest: &[u8], count: u64, body: &mut Body)
-    ensures { (text : List ℕ) → Holds body.old text → Holds body.new (text ++ part_of rest.now count) }
+    ensures { (text : List ℕ) → Holds body.old text →
+        Holds body.new (text ++ part_of rest.now count) }
 {
     if rest.len() as u64 <= count {
         body.append(b"l");
@@ -233,7 +239,8 @@ pub(crate) fn append_error(number: u8, body: &mut Body)
 
 /// Writes the values of r0 to r10 and pc behind a body, and those that gdb is told of once more.
 fn append_registers(cpu: &Cpu, layout: Layout, body: &mut Body)
-    ensures { (text : List ℕ) → Holds body.old text → Holds body.new (text ++ registers_text layout cpu.now) }
+    ensures { (text : List ℕ) → Holds body.old text →
+        Holds body.new (text ++ registers_text layout cpu.now) }
 {
     let count = 12 + described_again(layout);
     for n in 0..count {
@@ -262,7 +269,8 @@ fn register_of(n: u8) -> u8
 
 /// Writes the value of a register behind a body.
 fn append_register(cpu: &Cpu, n: u64, body: &mut Body)
-    ensures { (text : List ℕ) → Holds body.old text → Holds body.new (text ++ register_text cpu.now n) }
+    ensures { (text : List ℕ) → Holds body.old text →
+        Holds body.new (text ++ register_text cpu.now n) }
 {
     if n <= 22 {
         body.append_word(value_of(cpu, n as u8));
@@ -273,7 +281,8 @@ fn append_register(cpu: &Cpu, n: u64, body: &mut Body)
 
 /// Writes bytes from an address on behind a body, up to the first that isn't there.
 fn append_memory(cpu: &Cpu, address: u64, count: u64, body: &mut Body)
-    ensures { (text : List ℕ) → Holds body.old text → Holds body.new (text ++ memory_text cpu.now address count) }
+    ensures { (text : List ℕ) → Holds body.old text →
+        Holds body.new (text ++ memory_text cpu.now address count) }
 {
     let n = count.min(MOST_BYTES);
     if has_memory(cpu, address, n) {
@@ -312,7 +321,8 @@ fn byte_at(cpu: &Cpu, address: u64) -> Option<&[u8]>
 /// Writes the bytes that are there behind a body.
 fn append_present(cpu: &Cpu, address: u64, count: u64, body: &mut Body)
     requires { address + count < 2 ^ 64 }
-    ensures { (text : List ℕ) → Holds body.old text → Holds body.new (text ++ hex_text (present cpu.now address count)) }
+    ensures { (text : List ℕ) → Holds body.old text →
+        Holds body.new (text ++ hex_text (present cpu.now address count)) }
 {
     for k in 0..count {
         match byte_at(cpu, address + k) {

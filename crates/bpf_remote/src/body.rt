@@ -66,7 +66,8 @@ impl Body {
 
     /// Adds bytes as two lower-case digits each.
     pub(crate) fn append_hex(&mut self, bytes: &[u8])
-        ensures { (body : List ℕ) → Holds self.old body → Holds self.new (body ++ hex_text bytes.now) }
+        ensures { (body : List ℕ) → Holds self.old body →
+            Holds self.new (body ++ hex_text bytes.now) }
     {
         for byte in bytes {
             self.append(&two_digits(*byte));
@@ -84,7 +85,8 @@ impl Body {
     /// Adds the eight bytes of an address, the highest first.
     #[tactic(auto, unfolding(crate::specs::Numbers::address_text))]
     pub(crate) fn append_address(&mut self, address: u64)
-        ensures { (body : List ℕ) → Holds self.old body → Holds self.new (body ++ address_text address) }
+        ensures { (body : List ℕ) → Holds self.old body →
+            Holds self.new (body ++ address_text address) }
     {
         self.append_hex(&address_bytes(address));
     }
@@ -92,7 +94,8 @@ impl Body {
     /// Its bytes, None where there are more than 16,384.
     pub fn bytes(&self) -> Option<&[u8]>
         ensures short { IsSome result → self.now.is_long ≡ false }
-        ensures value { (body : List ℕ) → Holds self.now body → MatchOption result (longest_body < length body)
+        ensures value { (body : List ℕ) → Holds self.now body →
+            MatchOption result (longest_body < length body)
             (λ bytes. (bytes.now ≡ body) × (length body ≤ longest_body)) }
     {
         if self.is_long {

@@ -1,5 +1,6 @@
-//! The descriptions of machines that gdb knows, in its XML. The numbers of registers are those of `g`, `p` and `P`: r0 to r10 and pc,
-//! from 12 on r0 and so on once more, and behind them registers that have no value.
+//! The descriptions of machines that gdb knows, in its XML. The numbers of registers are those of
+//! `g`, `p` and `P`: r0 to r10 and pc, from 12 on r0 and so on once more, and behind them registers
+//! that have no value.
 
 /// x86-64. gdb wants all registers of its feature `core`.
 pub(crate) const X86_XML: &str = r#"<?xml version="1.0"?>

@@ -4,8 +4,9 @@ ghost use Rattle.bpf_remote.specs.Layouts.{described, described_again};
 
 use crate::description::{RISCV_XML, X86_XML};
 
-/// Which machine gdb takes this one for. Few gdbs know BPF, so they are told of a machine that they know, with r0 to r10 where debug
-/// information for BPF looks for them, and once more under their own names where that machine has other ones.
+/// Which machine gdb takes this one for. Few gdbs know BPF, so they are told of a machine that they
+/// know, with r0 to r10 where debug information for BPF looks for them, and once more under their
+/// own names where that machine has other ones.
 #[derive(Clone, Copy)]
 pub enum Layout {
     /// One for BPF.

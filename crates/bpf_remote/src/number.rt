@@ -9,7 +9,8 @@ ghost use Rattle.bpf_remote.specs.Numbers.{before, behind, cut, number, pair, wo
 
 use byteorder::{ByteOrder, LittleEndian};
 
-/// The number that hexadecimal digits of either case are, None from 2^64 on and where they are none.
+/// The number that hexadecimal digits of either case are, None from 2^64 on and where they are
+/// none.
 pub(crate) fn number(text: &[u8]) -> Option<u64>
     ensures { result ≡ number text.now }
 {

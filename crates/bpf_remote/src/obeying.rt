@@ -24,7 +24,8 @@ use bpf_session::{Command, Refusal, Reply, Session, parse_command};
 use bpfdb_replies::{put_refusal, write_place};
 use counted_io::{Counted, WriteFault, put};
 
-/// The longest text of a reply that fits a packet, in bytes, and the longest line that a packet spells.
+/// The longest text of a reply that fits a packet, in bytes, and the longest line that a packet
+/// spells.
 const LONGEST_TEXT: usize = LONGEST_BODY / 2;
 
 /// Obeys a request, and says how it is answered.
@@ -122,7 +123,8 @@ fn place_text(cpu: &Cpu) -> Result<Text, WriteFault>
     }
 }
 
-/// Writes a line PLACE into an empty body, as gdb shows it to its user. Answers whether it is there.
+/// Writes a line PLACE into an empty body, as gdb shows it to its user. Answers whether it is
+/// there.
 pub(crate) fn append_place(cpu: &Cpu, body: &mut Body) -> bool
     requires { Holds body.old [] }
     ensures { result ≡ true → Holds body.new (console_text cpu.now) }
@@ -154,7 +156,8 @@ fn line_of(digits: &[u8]) -> Option<Result<Option<Command>, Refusal>>
 pub(crate) fn obey_line<K: Keeper>(session: &mut Session<K>, digits: &[u8], body: &mut Body)
     requires short { length digits.now ≤ longest_body }
     requires empty { Holds body.old [] }
-    ensures { (text : List ℕ) × Holds body.new text × ObeysLine K.holds K.refused K.room session.old session.new (line_of digits.now) text }
+    ensures { (text : List ℕ) × Holds body.new text
+        × ObeysLine K.holds K.refused K.room session.old session.new (line_of digits.now) text }
 {
     match line_of(digits) {
         None => append_error(2, body),
@@ -167,7 +170,9 @@ pub(crate) fn obey_line<K: Keeper>(session: &mut Session<K>, digits: &[u8], body
 /// Obeys a command, and writes what it prints into an empty body.
 fn obey_command<K: Keeper>(session: &mut Session<K>, command: &Command, body: &mut Body)
     requires { Holds body.old [] }
-    ensures { (text : List ℕ) × Holds body.new text × ObeysCommand K.holds K.refused K.room session.old session.new command.now (is_quit command.now) text }
+    ensures { (text : List ℕ) × Holds body.new text
+        × ObeysCommand K.holds K.refused K.room session.old session.new command.now
+        (is_quit command.now) text }
 {
     if is_quit(command) {
         body.append(b"OK");
@@ -216,7 +221,8 @@ fn answer_text<K: Keeper>(
 ) -> Result<Text, WriteFault>
     requires there { IfOk said.now (λ reply. IsThere reply session.now.moment.state) }
     ensures { IfOk result (λ text. (t : Track) → HasPast K.holds session.now t →
-        text.items ≡ text_of_answer (bounds_of K.room session.now) said.now (point_of session.now t)) }
+        text.items ≡ text_of_answer (bounds_of K.room session.now) said.now
+        (point_of session.now t)) }
 {
     let reply = match said {
         Ok(reply) => reply,
@@ -232,7 +238,8 @@ fn answer_text<K: Keeper>(
 /// Writes a text into an empty body, in hexadecimal; an error where it is too long.
 fn append_text(text: Result<Text, WriteFault>, body: &mut Body)
     requires { Holds body.old [] }
-    ensures { MatchResult text (λ text. Holds body.new (hex_text text.items)) (λ _. Holds body.new (error_text 16)) }
+    ensures { MatchResult text (λ text. Holds body.new (hex_text text.items))
+        (λ _. Holds body.new (error_text 16)) }
 {
     match text {
         Ok(text) => body.append_hex(text.as_slice()),

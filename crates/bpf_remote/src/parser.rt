@@ -258,7 +258,8 @@ fn unwatch(rest: &[u8]) -> Request
     }
 }
 
-/// The first action of a thread, before a semicolon, and before a colon and the thread that it names.
+/// The first action of a thread, before a semicolon, and before a colon and the thread that it
+/// names.
 fn actions(rest: &[u8]) -> Request
     ensures { result ≡ actions rest.now }
 {

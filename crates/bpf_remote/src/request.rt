@@ -5,7 +5,8 @@ use bpf_session::{Command, Run};
 /// What a packet asks for.
 #[derive(Drop)]
 pub enum Request {
-    /// `s`, `c`, `S`, `C`, `vCont;`, `bs`, `bc`: a command that moves. It is answered by where it stopped.
+    /// `s`, `c`, `S`, `C`, `vCont;`, `bs`, `bc`: a command that moves. It is answered by where it
+    /// stopped.
     Move(Command),
     /// `P`, `M`, `Z0`, `z0`: a command that changes something. It is answered by `OK`.
     Set(Command),

@@ -26,8 +26,9 @@ use bpf_session::{RunFault, Session};
 use counted_io::{Counted, WriteFault, write_text};
 use std::io::{Read, Write};
 
-/// Serves a connection: answers each packet of a stream, up to its end or until gdb leaves. The writer is flushed after each
-/// answer. It takes no memory. `gdb` is the machine that gdb is told of.
+/// Serves a connection: answers each packet of a stream, up to its end or until gdb leaves. The
+/// writer is flushed after each answer. It takes no memory. `gdb` is the machine that gdb is told
+/// of.
 pub fn serve<K: Keeper, R: Read, W: Write>(
     gdb: Layout,
     session: &mut Session<K>,
@@ -35,9 +36,25 @@ pub fn serve<K: Keeper, R: Read, W: Write>(
     writer: &mut Counted<W>,
 ) -> Result<(), RunFault>
     ensures ok { OnOk result (Serves K.holds K.refused K.room R.remaining W.contents
-        (record { gdb = gdb; from = session.old; to = session.new; reader = reader.old; reader' = reader.new; writer = writer.old; writer' = writer.new })) }
+        (record {
+          gdb = gdb;
+          from = session.old;
+          to = session.new;
+          reader = reader.old;
+          reader' = reader.new;
+          writer = writer.old;
+          writer' = writer.new;
+        })) }
     ensures err { IfErr result (λ why. Breaks K.holds K.refused K.room R.remaining W.contents why
-        (record { gdb = gdb; from = session.old; to = session.new; reader = reader.old; reader' = reader.new; writer = writer.old; writer' = writer.new })) }
+        (record {
+          gdb = gdb;
+          from = session.old;
+          to = session.new;
+          reader = reader.old;
+          reader' = reader.new;
+          writer = writer.old;
+          writer' = writer.new;
+        })) }
 {
     let mut manners = Manners {
         acknowledges: true,
@@ -73,9 +90,20 @@ fn take_turn<K: Keeper, W: Write>(
     answer: &mut Body,
     writer: &mut Counted<W>,
 ) -> Result<bool, WriteFault>
-    ensures { (on : Bool) × IfOk result (λ more. more ≡ on) × TakesTurn K.holds K.refused K.room W.contents
-        (record { session = session.old; manners = manners.old; answer = answer.old; writer = writer.old })
-        (record { session = session.new; manners = manners.new; answer = answer.new; writer = writer.new }) result on item request.now }
+    ensures { (on : Bool) × IfOk result (λ more. more ≡ on)
+        × TakesTurn K.holds K.refused K.room W.contents
+        (record {
+          session = session.old;
+          manners = manners.old;
+          answer = answer.old;
+          writer = writer.old;
+        })
+        (record {
+          session = session.new;
+          manners = manners.new;
+          answer = answer.new;
+          writer = writer.new;
+        }) result on item request.now }
 {
     let (told, on) = answer_item(session, manners, item, request, answer, writer);
     flush(writer, told, on)
@@ -87,7 +115,9 @@ fn flush<W: Write>(
     told: Result<(), WriteFault>,
     on: bool,
 ) -> Result<bool, WriteFault>
-    ensures written { (first : Tally W) (text : List ℕ) → Writes W.contents first writer.old told text → Writes W.contents first writer.new result text }
+    ensures written { (first : Tally W) (text : List ℕ) →
+        Writes W.contents first writer.old told text →
+        Writes W.contents first writer.new result text }
     ensures ok { IfOk result (λ more. more ≡ on) }
 {
     match told {
@@ -110,8 +140,18 @@ fn answer_item<K: Keeper, W: Write>(
     writer: &mut Counted<W>,
 ) -> (Result<(), WriteFault>, bool)
     ensures { TakesTurn K.holds K.refused K.room W.contents
-        (record { session = session.old; manners = manners.old; answer = answer.old; writer = writer.old })
-        (record { session = session.new; manners = manners.new; answer = answer.new; writer = writer.new }) result.0 result.1 item request.now }
+        (record {
+          session = session.old;
+          manners = manners.old;
+          answer = answer.old;
+          writer = writer.old;
+        })
+        (record {
+          session = session.new;
+          manners = manners.new;
+          answer = answer.new;
+          writer = writer.new;
+        }) result.0 result.1 item request.now }
 {
     match item {
         Item::Packet => match request.bytes() {
@@ -134,8 +174,18 @@ fn answer_body<K: Keeper, W: Write>(
 ) -> (Result<(), WriteFault>, bool)
     requires { length body.now ≤ longest_body }
     ensures { AnswersBody K.holds K.refused K.room W.contents
-        (record { session = session.old; manners = manners.old; answer = answer.old; writer = writer.old })
-        (record { session = session.new; manners = manners.new; answer = answer.new; writer = writer.new }) result.0 result.1 body.now }
+        (record {
+          session = session.old;
+          manners = manners.old;
+          answer = answer.old;
+          writer = writer.old;
+        })
+        (record {
+          session = session.new;
+          manners = manners.new;
+          answer = answer.new;
+          writer = writer.new;
+        }) result.0 result.1 body.now }
 {
     match behind("qRcmd,", body) {
         Some(digits) => (answer_line(session, *manners, digits, answer, writer), true),
@@ -153,8 +203,18 @@ fn answer_line<K: Keeper, W: Write>(
 ) -> Result<(), WriteFault>
     requires { length digits.now ≤ longest_body }
     ensures { AnswersLine K.holds K.refused K.room W.contents
-        (record { session = session.old; manners = manners; answer = answer.old; writer = writer.old })
-        (record { session = session.new; manners = manners; answer = answer.new; writer = writer.new }) result digits.now }
+        (record {
+          session = session.old;
+          manners = manners;
+          answer = answer.old;
+          writer = writer.old;
+        })
+        (record {
+          session = session.new;
+          manners = manners;
+          answer = answer.new;
+          writer = writer.new;
+        }) result digits.now }
 {
     let begun = acknowledge(manners, writer);
     answer.clear();
@@ -171,8 +231,18 @@ fn answer_request<K: Keeper, W: Write>(
     writer: &mut Counted<W>,
 ) -> (Result<(), WriteFault>, bool)
     ensures { AnswersRequest K.holds K.refused K.room W.contents
-        (record { session = session.old; manners = manners.old; answer = answer.old; writer = writer.old })
-        (record { session = session.new; manners = manners.new; answer = answer.new; writer = writer.new }) result.0 result.1 body.now }
+        (record {
+          session = session.old;
+          manners = manners.old;
+          answer = answer.old;
+          writer = writer.old;
+        })
+        (record {
+          session = session.new;
+          manners = manners.new;
+          answer = answer.new;
+          writer = writer.new;
+        }) result.0 result.1 body.now }
 {
     let begun = acknowledge(*manners, writer);
     let request = request_of(body);
@@ -193,7 +263,8 @@ fn put_console<W: Write>(
     cpu: &Cpu,
     body: &mut Body,
 ) -> Result<(), WriteFault>
-    ensures { (text : List ℕ) × IsConsole (tells_place request.now cpu.now) cpu.now text × WritesAfter W.contents writer.old so_far writer.new result text }
+    ensures { (text : List ℕ) × IsConsole (tells_place request.now cpu.now) cpu.now text
+        × WritesAfter W.contents writer.old so_far writer.new result text }
 {
     if !tells_place(request, cpu) {
         return so_far;
@@ -226,7 +297,8 @@ fn put_answer<W: Write>(
     answer: &Body,
     is_answered: bool,
 ) -> Result<(), WriteFault>
-    ensures { (text : List ℕ) → Holds answer.now text → WritesAfter W.contents writer.old so_far writer.new result (packet is_answered text) }
+    ensures { (text : List ℕ) → Holds answer.now text →
+        WritesAfter W.contents writer.old so_far writer.new result (packet is_answered text) }
 {
     if is_answered {
         put_sent(writer, so_far, answer)
@@ -241,7 +313,8 @@ fn put_sent<W: Write>(
     so_far: Result<(), WriteFault>,
     answer: &Body,
 ) -> Result<(), WriteFault>
-    ensures { (text : List ℕ) → Holds answer.now text → WritesAfter W.contents writer.old so_far writer.new result (framed (sent text)) }
+    ensures { (text : List ℕ) → Holds answer.now text →
+        WritesAfter W.contents writer.old so_far writer.new result (framed (sent text)) }
 {
     match answer.bytes() {
         Some(bytes) => put_packet(writer, so_far, bytes),

@@ -100,9 +100,10 @@ impl<K: Keeper> Keeper for Scarce<K> {
 /// add r0, 1; ja -2: a program without end.
 const ENDLESS: &[u8] = b"\x07\x00\x00\x00\x01\x00\x00\x00\x05\x00\xfe\xff\x00\x00\x00\x00";
 
-/// Packets and what is told to each, in a session that has memory for four moves. What is refused, for want of memory (Q15), is answered by that
-/// number; a command that is cut short by it, and gdb doesn't go on by itself, as at the limit of steps. The lines of a script are `stepi` and
-/// `redo`, and their reply is `refused Q15: out of memory`.
+/// Packets and what is told to each, in a session that has memory for four moves. What is refused,
+/// for want of memory (Q15), is answered by that number; a command that is cut short by it, and gdb
+/// doesn't go on by itself, as at the limit of steps. The lines of a script are `stepi` and `redo`,
+/// and their reply is `refused Q15: out of memory`.
 const REFUSED: &str = "$P1=0700000000000000#c5|+$OK#9a
 $c#63|+$T02#b6
 $p0#a0|+$0200000000000000#02

@@ -1,4 +1,5 @@
-//! Where a machine stands after a connection that failed. What is told before is held by `tests/program/faults.sh`.
+//! Where a machine stands after a connection that failed. What is told before is held by
+//! `tests/program/faults.sh`.
 use crate::keepers::{scarce_session, stop_unless};
 use bpf_remote::{Layout, serve};
 use bpf_session::{Counted, RunFault};
@@ -9,10 +10,12 @@ use std::process::Abort;
 /// mov r0, 42; exit.
 const ANSWER: &[u8] = b"\xb7\x00\x00\x00\x2a\x00\x00\x00\x95\x00\x00\x00\x00\x00\x00\x00";
 
-/// A step, what gdb understands, the rest of the program, and the way back: packets of 5, 23, 5 and 6 bytes.
+/// A step, what gdb understands, the rest of the program, and the way back: packets of 5, 23, 5 and
+/// 6 bytes.
 const CUT: &[u8] = b"$s#73$qSupported:swbreak+#8b$c#63$bs#d5";
 
-/// Where the machine stands if the read after so many bytes fails; none where the connection ends otherwise.
+/// Where the machine stands if the read after so many bytes fails; none where the connection ends
+/// otherwise.
 fn pc_after(rt: &impl Abort, alloc: Global, stream: &[u8], count: u64) -> Option<u16> {
     let mut session = scarce_session(rt, alloc, ANSWER, 1000);
     let mut told = Vec::new(alloc);
@@ -24,7 +27,8 @@ fn pc_after(rt: &impl Abort, alloc: Global, stream: &[u8], count: u64) -> Option
     }
 }
 
-/// Stops unless the machine stands at slot 0 before the whole first packet is read, and at slot 1 from then on.
+/// Stops unless the machine stands at slot 0 before the whole first packet is read, and at slot 1
+/// from then on.
 fn check_reads(rt: &impl Abort, alloc: Global, stream: &[u8]) {
     for count in 0..=stream.len() as u64 {
         let wanted = if count < 5 { 0u16 } else { 1 };

@@ -11,13 +11,14 @@ ghost use Rattle.bpf_ring.specs.Blocks.{around, behind};
 use bpf_machine::{Change, Cpu};
 use circular_buffer::HeapCircularBuffer;
 
-/// Fills a buffer with zeros so that it has so many bytes, or until it is full: 4,096 at a time. Where it then goes around its end, it
-/// is filled on to twice that, since all of it will be moved.
+/// Fills a buffer with zeros so that it has so many bytes, or until it is full: 4,096 at a time.
+/// Where it then goes around its end, it is filled on to twice that, since all of it will be moved.
 pub(crate) fn fill(buffer: &mut HeapCircularBuffer<u8>, count: usize)
     ensures capacity { buffer.new.capacity ≡ buffer.old.capacity }
     ensures items { take (length buffer.old.items) buffer.new.items ≡ buffer.old.items }
     ensures fits { length buffer.new.items ≤ buffer.old.capacity }
-    ensures filled { length buffer.new.items < buffer.old.capacity → count ≤ length buffer.new.items }
+    ensures filled { length buffer.new.items < buffer.old.capacity →
+        count ≤ length buffer.new.items }
 {
     if count > buffer.len() {
         fill_on(buffer, count);
@@ -32,7 +33,8 @@ fn fill_on(buffer: &mut HeapCircularBuffer<u8>, count: usize)
     ensures capacity { buffer.new.capacity ≡ buffer.old.capacity }
     ensures items { take (length buffer.old.items) buffer.new.items ≡ buffer.old.items }
     ensures fits { length buffer.new.items ≤ buffer.old.capacity }
-    ensures filled { length buffer.new.items < buffer.old.capacity → count ≤ length buffer.new.items }
+    ensures filled { length buffer.new.items < buffer.old.capacity →
+        count ≤ length buffer.new.items }
 {
     let end = count.min(buffer.capacity());
     while buffer.len() < end {
@@ -58,7 +60,8 @@ pub(crate) fn write_around(block: &mut [u8], first: usize, len: usize, bytes: &[
     requires first { first < length block.old }
     requires fits { len + length bytes.now ≤ length block.old }
     ensures len { length block.new ≡ length block.old }
-    ensures text { around block.new first (len + length bytes.now) ≡ around block.old first len ++ bytes.now }
+    ensures text { around block.new first (len + length bytes.now)
+        ≡ around block.old first len ++ bytes.now }
 {
     let size = block.len();
     let end = place(size, first, len);
@@ -71,17 +74,20 @@ pub(crate) fn write_around(block: &mut [u8], first: usize, len: usize, bytes: &[
     }
 }
 
-/// Writes bytes behind the `len` ones from `first` on: in one piece, in front of the block's last byte. Where that is no room for them, all stays.
+/// Writes bytes behind the `len` ones from `first` on: in one piece, in front of the block's last
+/// byte. Where that is no room for them, all stays.
 #[inline(always)]
 pub(crate) fn write_in_place(block: &mut [u8], first: usize, len: usize, bytes: &[u8]) -> bool
     requires short { length block.old < 2 ^ 63 }
     requires first { first < length block.old }
     requires fits { len + length bytes.now < 2 ^ 63 }
     requires len { len ≤ length block.old }
-    ensures room { result ≡ nat_lt (behind (length block.old) first len + length bytes.now) (length block.old) }
+    ensures room { result ≡ nat_lt (behind (length block.old) first len + length bytes.now)
+        (length block.old) }
     ensures stays { result ≡ false → block.new ≡ block.old }
     ensures len { length block.new ≡ length block.old }
-    ensures text { result ≡ true → len + length bytes.now ≤ length block.old → around block.new first (len + length bytes.now) ≡ around block.old first len ++ bytes.now }
+    ensures text { result ≡ true → len + length bytes.now ≤ length block.old →
+        around block.new first (len + length bytes.now) ≡ around block.old first len ++ bytes.now }
 {
     let size = block.len();
     let end = place(size, first, len);
@@ -93,7 +99,8 @@ pub(crate) fn write_in_place(block: &mut [u8], first: usize, len: usize, bytes: 
     }
 }
 
-/// Copies bytes. The arms are alike: those of a jump's entry and of a register's, which are the common ones, are each copied at once.
+/// Copies bytes. The arms are alike: those of a jump's entry and of a register's, which are the
+/// common ones, are each copied at once.
 #[inline(always)]
 fn copy(into: &mut [u8], bytes: &[u8])
     requires { length into.old ≡ length bytes.now }
@@ -106,8 +113,9 @@ fn copy(into: &mut [u8], bytes: &[u8])
     }
 }
 
-/// Lets a machine do what `look` answered of it, and writes the entry of that, which has so many bytes, behind the `len` ones from `first`
-/// on: in one piece, in front of the block's last byte. Where that is no room for it, all stays.
+/// Lets a machine do what `look` answered of it, and writes the entry of that, which has so many
+/// bytes, behind the `len` ones from `first` on: in one piece, in front of the block's last byte.
+/// Where that is no room for it, all stays.
 #[inline(always)]
 pub(crate) fn record_in_place(
     cpu: &mut Cpu,
@@ -126,11 +134,14 @@ pub(crate) fn record_in_place(
     requires short { length block.old < 2 ^ 63 }
     requires first { first < length block.old }
     requires len { len ≤ length block.old }
-    ensures room { result ≡ nat_lt (behind (length block.old) first len + weight) (length block.old) }
+    ensures room { result ≡ nat_lt (behind (length block.old) first len + weight)
+        (length block.old) }
     ensures stays { result ≡ false → (cpu.new ≡ cpu.old) × (block.new ≡ block.old) }
     ensures next { result ≡ true → cpu.new ≡ next cpu.old }
     ensures len { length block.new ≡ length block.old }
-    ensures text { result ≡ true → len + weight ≤ length block.old → around block.new first (len + weight) ≡ around block.old first len ++ text (step_entry cpu.old) mark }
+    ensures text { result ≡ true → len + weight ≤ length block.old →
+        around block.new first (len + weight)
+        ≡ around block.old first len ++ text (step_entry cpu.old) mark }
 {
     let size = block.len();
     let end = place(size, first, len);
@@ -165,7 +176,9 @@ pub(crate) fn record_at(
     requires short { length block.old < 2 ^ 63 }
     ensures next { cpu.new ≡ next cpu.old }
     ensures len { length block.new ≡ length block.old }
-    ensures text { len + weight ≤ length block.old → around block.new first (len + weight) ≡ around block.old first len ++ text (step_entry cpu.old) mark }
+    ensures text { len + weight ≤ length block.old →
+        around block.new first (len + weight)
+        ≡ around block.old first len ++ text (step_entry cpu.old) mark }
 {
     cpu.record(change, &mut block[end..end + weight], mark);
 }

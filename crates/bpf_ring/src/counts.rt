@@ -44,7 +44,8 @@ impl Counts {
     /// How many are of steps.
     #[tactic(auto, using(crate::proofs::Counted::steps_left))]
     pub(crate) fn steps(&self) -> usize
-        ensures { (ks : List Kept) → Counted self.now ks → result ≡ count_by (λ k. is_of_step k.0) ks }
+        ensures { (ks : List Kept) → Counted self.now ks →
+            result ≡ count_by (λ k. is_of_step k.0) ks }
     {
         self.entries.saturating_sub(self.edits)
     }
@@ -52,7 +53,8 @@ impl Counts {
     /// Counts one more.
     #[inline(always)]
     pub(crate) fn add(&mut self, mark: bool, is_step: bool)
-        ensures { (ks : List Kept) (e : Entry) → Counted self.old ks → length ks < 2 ^ 63 → is_step ≡ is_of_step e → Counted self.new ((e, mark) ∷ ks) }
+        ensures { (ks : List Kept) (e : Entry) → Counted self.old ks → length ks < 2 ^ 63 →
+            is_step ≡ is_of_step e → Counted self.new ((e, mark) ∷ ks) }
     {
         self.entries = self.entries.wrapping_add(1);
         if mark {
@@ -65,7 +67,8 @@ impl Counts {
 
     /// Counts one more, which has this tag.
     pub(crate) fn add_by_tag(&mut self, tag: u8)
-        ensures { (ks : List Kept) (k : Kept) → Counted self.old ks → length ks < 2 ^ 63 → tag ≡ tag_text (kind k.0) k.1 → Counted self.new (k ∷ ks) }
+        ensures { (ks : List Kept) (k : Kept) → Counted self.old ks → length ks < 2 ^ 63 →
+            tag ≡ tag_text (kind k.0) k.1 → Counted self.new (k ∷ ks) }
     {
         self.add(tag >= 128, tag % 128 <= 9);
     }
@@ -73,8 +76,10 @@ impl Counts {
     /// Counts one less, the one with this tag.
     #[inline(always)]
     pub(crate) fn subtract(&mut self, tag: u8)
-        ensures newest { (ks : List Kept) (k : Kept) → Counted self.old (k ∷ ks) → tag ≡ tag_text (kind k.0) k.1 → Counted self.new ks }
-        ensures oldest { (ks : List Kept) (z : Kept) → Counted self.old (ks ++ z ∷ []) → tag ≡ tag_text (kind z.0) z.1 → Counted self.new ks }
+        ensures newest { (ks : List Kept) (k : Kept) → Counted self.old (k ∷ ks) →
+            tag ≡ tag_text (kind k.0) k.1 → Counted self.new ks }
+        ensures oldest { (ks : List Kept) (z : Kept) → Counted self.old (ks ++ z ∷ []) →
+            tag ≡ tag_text (kind z.0) z.1 → Counted self.new ks }
     {
         self.entries = self.entries.saturating_sub(1);
         self.subtract_sorts(tag);
@@ -92,12 +97,15 @@ impl Counts {
         }
     }
 
-    /// Counts one marked less where the tag is a marked one's, and one edit less where it is an edit's. Up to 9 it is neither's.
+    /// Counts one marked less where the tag is a marked one's, and one edit less where it is an
+    /// edit's. Up to 9 it is neither's.
     #[inline(always)]
     fn subtract_sorts(&mut self, tag: u8)
         ensures entries { self.new.entries ≡ self.old.entries }
-        ensures marks { self.new.marks ≡ (if nat_le 128 tag then self.old.marks - 1 else self.old.marks) }
-        ensures edits { self.new.edits ≡ (if nat_le (tag % 128) 9 then self.old.edits else self.old.edits - 1) }
+        ensures marks { self.new.marks
+            ≡ (if nat_le 128 tag then self.old.marks - 1 else self.old.marks) }
+        ensures edits { self.new.edits
+            ≡ (if nat_le (tag % 128) 9 then self.old.edits else self.old.edits - 1) }
     {
         if tag > 9 {
             self.subtract_rare(tag);
@@ -108,8 +116,10 @@ impl Counts {
     #[inline(never)]
     fn subtract_rare(&mut self, tag: u8)
         ensures entries { self.new.entries ≡ self.old.entries }
-        ensures marks { self.new.marks ≡ (if nat_le 128 tag then self.old.marks - 1 else self.old.marks) }
-        ensures edits { self.new.edits ≡ (if nat_le (tag % 128) 9 then self.old.edits else self.old.edits - 1) }
+        ensures marks { self.new.marks
+            ≡ (if nat_le 128 tag then self.old.marks - 1 else self.old.marks) }
+        ensures edits { self.new.edits
+            ≡ (if nat_le (tag % 128) 9 then self.old.edits else self.old.edits - 1) }
     {
         if tag >= 128 {
             self.marks = self.marks.saturating_sub(1);

@@ -40,8 +40,8 @@ pub struct Head {
     pub tag: u8,
 }
 
-/// The newest entries and marks that fit a ring of bytes. Its memory is taken once, when it is opened: no other call takes any, so no
-/// push is ever refused.
+/// The newest entries and marks that fit a ring of bytes. Its memory is taken once, when it is
+/// opened: no other call takes any, so no push is ever refused.
 #[derive(Drop)]
 pub struct EntryRing {
     ring: Ring,
@@ -61,13 +61,14 @@ impl EntryRing {
         })
     }
 
-    /// The ring of a circular buffer, of its capacity and with its bytes, which it holds entries by: those of whose text the bytes are. It takes
-    /// no memory.
+    /// The ring of a circular buffer, of its capacity and with its bytes, which it holds entries
+    /// by: those of whose text the bytes are. It takes no memory.
     pub fn from_buffer(buffer: HeapCircularBuffer<u8>) -> EntryRing
         requires { IsSize buffer.capacity }
         ensures size { result.ring.size ≡ buffer.capacity }
         ensures bytes { result.ring.bytes ≡ buffer.items }
-        ensures held { (ks : List Kept) → AllFit ks → buffer.items ≡ ring_of ks → IsHeld result.ring result.counts ks }
+        ensures held { (ks : List Kept) → AllFit ks → buffer.items ≡ ring_of ks →
+            IsHeld result.ring result.counts ks }
     {
         let ring = Ring::from_buffer(buffer);
         let counts = counted(&ring);
@@ -84,7 +85,8 @@ impl EntryRing {
         let _len = self.ring.len();
     }
 
-    /// Gives the ring up as a circular buffer of the same size with the same bytes. It takes no memory.
+    /// Gives the ring up as a circular buffer of the same size with the same bytes. It takes no
+    /// memory.
     pub fn into_buffer(self) -> HeapCircularBuffer<u8>
         ensures size { result.capacity ≡ self.ring.size }
         ensures bytes { result.items ≡ self.ring.bytes }
@@ -118,21 +120,24 @@ impl EntryRing {
 
     /// How many of them are marked.
     pub fn marked(&self) -> usize
-        ensures { (ks : List Kept) → IsHeld self.now.ring self.now.counts ks → result ≡ count_by (λ k. k.1) ks }
+        ensures { (ks : List Kept) → IsHeld self.now.ring self.now.counts ks →
+            result ≡ count_by (λ k. k.1) ks }
     {
         self.counts.marks()
     }
 
     /// How many of them are of steps, and not of edits.
     pub fn steps(&self) -> usize
-        ensures { (ks : List Kept) → IsHeld self.now.ring self.now.counts ks → result ≡ count_by (λ k. of_step k.0) ks }
+        ensures { (ks : List Kept) → IsHeld self.now.ring self.now.counts ks →
+            result ≡ count_by (λ k. of_step k.0) ks }
     {
         self.counts.steps()
     }
 
     /// How many bytes they have.
     pub fn weight(&self) -> usize
-        ensures { (ks : List Kept) → IsHeld self.now.ring self.now.counts ks → result ≡ sum_by kept_weight ks }
+        ensures { (ks : List Kept) → IsHeld self.now.ring self.now.counts ks →
+            result ≡ sum_by kept_weight ks }
     {
         self.ring.len()
     }
@@ -147,7 +152,8 @@ impl EntryRing {
     /// The newest entry and its mark, None where none is held. It stays.
     pub fn last(&self) -> Option<(Entry, bool)>
         ensures none { IsHeld self.now.ring self.now.counts [] → result ≡ None }
-        ensures some { (ks : List Kept) (k : Kept) → IsHeld self.now.ring self.now.counts (k ∷ ks) → result ≡ Some k }
+        ensures some { (ks : List Kept) (k : Kept) → IsHeld self.now.ring self.now.counts (k ∷ ks) →
+            result ≡ Some k }
     {
         if self.ring.len() < 5 {
             return None;
@@ -162,11 +168,13 @@ impl EntryRing {
         Entry::read(&text[..count])
     }
 
-    /// What is read of the newest entry: how many bytes it has, and its tag. None where none is held.
+    /// What is read of the newest entry: how many bytes it has, and its tag. None where none is
+    /// held.
     #[inline(always)]
     pub fn newest(&self) -> Option<Head>
         ensures none { IsHeld self.now.ring self.now.counts [] → result ≡ None }
-        ensures some { (ks : List Kept) (k : Kept) → IsHeld self.now.ring self.now.counts (k ∷ ks) → result ≡ Some (head_of k) }
+        ensures some { (ks : List Kept) (k : Kept) → IsHeld self.now.ring self.now.counts (k ∷ ks) →
+            result ≡ Some (head_of k) }
         ensures within { IfSome result (λ head. head.len ≤ length self.now.ring.bytes) }
     {
         let len = self.ring.len();
@@ -180,16 +188,19 @@ impl EntryRing {
 
     /// The place of the whole list: how many bytes it has.
     pub fn end(&self) -> usize
-        ensures { (ks : List Kept) → IsHeld self.now.ring self.now.counts ks → result ≡ sum_by kept_weight ks }
+        ensures { (ks : List Kept) → IsHeld self.now.ring self.now.counts ks →
+            result ≡ sum_by kept_weight ks }
     {
         self.weight()
     }
 
-    /// The newest entry of the front at a place, its mark, and the place of the front without it; None at the place of the front without
-    /// entries, which is 0.
+    /// The newest entry of the front at a place, its mark, and the place of the front without it;
+    /// None at the place of the front without entries, which is 0.
     pub fn walk_back(&self, place: usize) -> Option<(Entry, bool, usize)>
         ensures none { place ≡ 0 → result ≡ None }
-        ensures some { (newer front : List Kept) (k : Kept) → IsHeld self.now.ring self.now.counts (newer ++ k ∷ front) → place ≡ sum_by kept_weight (k ∷ front) →
+        ensures some { (newer front : List Kept) (k : Kept) →
+            IsHeld self.now.ring self.now.counts (newer ++ k ∷ front) →
+            place ≡ sum_by kept_weight (k ∷ front) →
             result ≡ Some (k.0, k.1, sum_by kept_weight front) }
     {
         if place < 5 || place > self.ring.len() {
@@ -207,9 +218,10 @@ impl EntryRing {
         }
     }
 
-    /// What the byte at an address and the depth of calls were before the move of the newest entry of the front at a place, where they are
-    /// `after` and `depth` behind that move, and the place of the front without that entry; None at the place of the front without entries,
-    /// which is 0. The entry is read where it lies.
+    /// What the byte at an address and the depth of calls were before the move of the newest entry
+    /// of the front at a place, where they are `after` and `depth` behind that move, and the place
+    /// of the front without that entry; None at the place of the front without entries, which is 0.
+    /// The entry is read where it lies.
     pub fn byte_before(
         &self,
         place: usize,
@@ -219,8 +231,15 @@ impl EntryRing {
     ) -> Option<(u8, u32, usize)>
         requires { depth + 1 < 2 ^ 32 }
         ensures none { place ≡ 0 → result ≡ None }
-        ensures some { (newer front : List Kept) (k : Kept) → IsHeld self.now.ring self.now.counts (newer ++ k ∷ front) → place ≡ sum_by kept_weight (k ∷ front) →
-            result ≡ Some (byte_before_by depth k.0 address after, depth_before_by depth k.0, sum_by kept_weight front) }
+        ensures some { (newer front : List Kept) (k : Kept) →
+            IsHeld self.now.ring self.now.counts (newer ++ k ∷ front) →
+            place ≡ sum_by kept_weight (k ∷ front) →
+            result ≡ Some (
+              byte_before_by depth k.0 address after,
+              depth_before_by depth k.0,
+              sum_by
+                  kept_weight front,
+            ) }
     {
         if place < 5 || place > self.ring.len() {
             return None;
@@ -239,8 +258,10 @@ impl EntryRing {
     pub fn pop(&mut self) -> Option<(Entry, bool)>
         ensures size { self.new.ring.size ≡ self.old.ring.size }
         ensures fits { length self.new.ring.bytes ≤ self.new.ring.size }
-        ensures none { IsHeld self.old.ring self.old.counts [] → (result ≡ None) × IsHeld self.new.ring self.new.counts [] }
-        ensures some { (ks : List Kept) (k : Kept) → IsHeld self.old.ring self.old.counts (k ∷ ks) → (result ≡ Some k) × IsHeld self.new.ring self.new.counts ks }
+        ensures none { IsHeld self.old.ring self.old.counts [] → (result ≡ None)
+            × IsHeld self.new.ring self.new.counts [] }
+        ensures some { (ks : List Kept) (k : Kept) → IsHeld self.old.ring self.old.counts (k ∷ ks) →
+            (result ≡ Some k) × IsHeld self.new.ring self.new.counts ks }
     {
         let newest = self.last();
         self.drop_last();
@@ -248,16 +269,21 @@ impl EntryRing {
         newest
     }
 
-    /// Takes back the move whose entry is the newest, which led to a machine's state: the entry is read where it lies, no other is made, and it
-    /// is taken off. Answers its tag, None where none is held.
+    /// Takes back the move whose entry is the newest, which led to a machine's state: the entry is
+    /// read where it lies, no other is made, and it is taken off. Answers its tag, None where none
+    /// is held.
     #[inline(always)]
     pub fn take_back(&mut self, cpu: &mut Cpu) -> Option<u8>
         requires { HoldsWay self.old.ring self.old.counts cpu.old }
         ensures size { self.new.ring.size ≡ self.old.ring.size }
         ensures fits { length self.new.ring.bytes ≤ self.new.ring.size }
-        ensures none { IsHeld self.old.ring self.old.counts [] → (result ≡ None) × (cpu.new ≡ cpu.old) × IsHeld self.new.ring self.new.counts [] }
-        ensures some { (ks : List Kept) (k : Kept) → IsHeld self.old.ring self.old.counts (k ∷ ks) → (result ≡ Some (tag_of (kind k.0) k.1)) × IsHeld self.new.ring self.new.counts ks }
-        ensures back { (ks : List Kept) (k : Kept) (x : State) (m : Move) → IsHeld self.old.ring self.old.counts (k ∷ ks) → Leads x m cpu.old → overwritten x m ≡ k.0 → cpu.new ≡ x }
+        ensures none { IsHeld self.old.ring self.old.counts [] → (result ≡ None)
+            × (cpu.new ≡ cpu.old) × IsHeld self.new.ring self.new.counts [] }
+        ensures some { (ks : List Kept) (k : Kept) → IsHeld self.old.ring self.old.counts (k ∷ ks) →
+            (result ≡ Some (tag_of (kind k.0) k.1)) × IsHeld self.new.ring self.new.counts ks }
+        ensures back { (ks : List Kept) (k : Kept) (x : State) (m : Move) →
+            IsHeld self.old.ring self.old.counts (k ∷ ks) → Leads x m cpu.old →
+            overwritten x m ≡ k.0 → cpu.new ≡ x }
     {
         let len = self.ring.len();
         if len < 5 {
@@ -271,21 +297,31 @@ impl EntryRing {
         Some(tag)
     }
 
-    /// Takes back the move whose entry is the newest, which led to a machine's state, where it is of a step: the entry goes to another ring, with
-    /// its mark, where the fewest oldest ones make room for it. Its bytes are read and copied where they lie, and no entry is made. Answers its
+    /// Takes back the move whose entry is the newest, which led to a machine's state, where it is
+    /// of a step: the entry goes to another ring, with its mark, where the fewest oldest ones make
+    /// room for it. Its bytes are read and copied where they lie, and no entry is made. Answers its
     /// tag; None where none is held, or one of an edit, and then nothing changes.
     #[inline(always)]
     pub fn hand_back(&mut self, cpu: &mut Cpu, other: &mut EntryRing) -> Option<u8>
         requires { HoldsWay self.old.ring self.old.counts cpu.old }
-        ensures size { (self.new.ring.size ≡ self.old.ring.size) × (other.new.ring.size ≡ other.old.ring.size) }
-        ensures fits { (length self.new.ring.bytes ≤ self.new.ring.size) × (length other.new.ring.bytes ≤ other.new.ring.size) }
+        ensures size { (self.new.ring.size ≡ self.old.ring.size)
+            × (other.new.ring.size ≡ other.old.ring.size) }
+        ensures fits { (length self.new.ring.bytes ≤ self.new.ring.size)
+            × (length other.new.ring.bytes ≤ other.new.ring.size) }
         ensures none { IsHeld self.old.ring self.old.counts [] → result ≡ None }
-        ensures edit { (ks : List Kept) (k : Kept) → IsHeld self.old.ring self.old.counts (k ∷ ks) → of_step k.0 ≡ false → result ≡ None }
-        ensures stays { result ≡ None → (self.new ≡ self.old) × (cpu.new ≡ cpu.old) × (other.new ≡ other.old) }
-        ensures some { (ks : List Kept) (k : Kept) → IsHeld self.old.ring self.old.counts (k ∷ ks) → of_step k.0 ≡ true →
+        ensures edit { (ks : List Kept) (k : Kept) → IsHeld self.old.ring self.old.counts (k ∷ ks) →
+            of_step k.0 ≡ false → result ≡ None }
+        ensures stays { result ≡ None → (self.new ≡ self.old) × (cpu.new ≡ cpu.old)
+            × (other.new ≡ other.old) }
+        ensures some { (ks : List Kept) (k : Kept) → IsHeld self.old.ring self.old.counts (k ∷ ks) →
+            of_step k.0 ≡ true →
             (result ≡ Some (tag_of (kind k.0) k.1)) × IsHeld self.new.ring self.new.counts ks }
-        ensures back { (ks : List Kept) (k : Kept) (x : State) (m : Move) → IsHeld self.old.ring self.old.counts (k ∷ ks) → of_step k.0 ≡ true → Leads x m cpu.old → overwritten x m ≡ k.0 → cpu.new ≡ x }
-        ensures handed { (ks ls : List Kept) (k : Kept) → IsHeld self.old.ring self.old.counts (k ∷ ks) → of_step k.0 ≡ true → IsHeld other.old.ring other.old.counts ls →
+        ensures back { (ks : List Kept) (k : Kept) (x : State) (m : Move) →
+            IsHeld self.old.ring self.old.counts (k ∷ ks) → of_step k.0 ≡ true → Leads x m cpu.old →
+            overwritten x m ≡ k.0 → cpu.new ≡ x }
+        ensures handed { (ks ls : List Kept) (k : Kept) →
+            IsHeld self.old.ring self.old.counts (k ∷ ks) → of_step k.0 ≡ true →
+            IsHeld other.old.ring other.old.counts ls →
             IsHeld other.new.ring other.new.counts (keep kept_weight other.old.ring.size ls k) }
     {
         self.invariant();
@@ -306,15 +342,15 @@ impl EntryRing {
         }
     }
 
-    /// Takes the move back whose entry is the newest so many bytes of a ring. They stay there: they are read where they lie, or from a
-    /// copy where they go around the
-    /// block's end.
+    /// Takes the move back whose entry is the newest so many bytes of a ring. They stay there: they
+    /// are read where they lie, or from a copy where they go around the block's end.
     #[inline(always)]
     fn take_newest_of(&mut self, ring: &Ring, cpu: &mut Cpu, count: usize) -> Option<u8>
         requires held { count ≤ length ring.now.bytes }
         requires light { count ≤ greatest_weight }
         requires come { HasComeBy cpu.old (drop (length ring.now.bytes - count) ring.now.bytes) }
-        ensures { TakesText (drop (length ring.now.bytes - count) ring.now.bytes) result cpu.old cpu.new self.old self.new }
+        ensures { TakesText (drop (length ring.now.bytes - count) ring.now.bytes)
+            result cpu.old cpu.new self.old self.new }
     {
         match ring.newest_piece(count) {
             Some(text) => self.take_text(cpu, text),
@@ -328,7 +364,8 @@ impl EntryRing {
         requires held { count ≤ length ring.now.bytes }
         requires light { count ≤ greatest_weight }
         requires come { HasComeBy cpu.old (drop (length ring.now.bytes - count) ring.now.bytes) }
-        ensures { TakesText (drop (length ring.now.bytes - count) ring.now.bytes) result cpu.old cpu.new self.old self.new }
+        ensures { TakesText (drop (length ring.now.bytes - count) ring.now.bytes)
+            result cpu.old cpu.new self.old self.new }
     {
         let mut scratch = [0u8; GREATEST];
         ring.copy_newest(count, &mut scratch);
@@ -358,8 +395,10 @@ impl EntryRing {
     pub fn drop_last(&mut self)
         ensures size { self.new.ring.size ≡ self.old.ring.size }
         ensures fits { length self.new.ring.bytes ≤ self.new.ring.size }
-        ensures none { IsHeld self.old.ring self.old.counts [] → IsHeld self.new.ring self.new.counts [] }
-        ensures some { (ks : List Kept) (k : Kept) → IsHeld self.old.ring self.old.counts (k ∷ ks) → IsHeld self.new.ring self.new.counts ks }
+        ensures none { IsHeld self.old.ring self.old.counts [] →
+            IsHeld self.new.ring self.new.counts [] }
+        ensures some { (ks : List Kept) (k : Kept) → IsHeld self.old.ring self.old.counts (k ∷ ks) →
+            IsHeld self.new.ring self.new.counts ks }
     {
         self.invariant();
         match self.newest() {
@@ -374,7 +413,8 @@ impl EntryRing {
         requires { head.len ≤ length self.old.ring.bytes }
         ensures size { self.new.ring.size ≡ self.old.ring.size }
         ensures fits { length self.new.ring.bytes ≤ self.new.ring.size }
-        ensures held { (ks : List Kept) (k : Kept) → IsHeld self.old.ring self.old.counts (k ∷ ks) → head ≡ head_of k → IsHeld self.new.ring self.new.counts ks }
+        ensures held { (ks : List Kept) (k : Kept) → IsHeld self.old.ring self.old.counts (k ∷ ks) →
+            head ≡ head_of k → IsHeld self.new.ring self.new.counts ks }
     {
         self.ring.drop_newest(head.len);
         self.counts.subtract(head.tag);
@@ -387,7 +427,9 @@ impl EntryRing {
         requires { 5 ≤ length self.old.ring.bytes }
         ensures size { self.new.ring.size ≡ self.old.ring.size }
         ensures shrinks { length self.new.ring.bytes < length self.old.ring.bytes }
-        ensures held { (ks : List Kept) (z : Kept) → IsHeld self.old.ring self.old.counts (ks ++ z ∷ []) → IsHeld self.new.ring self.new.counts ks }
+        ensures held { (ks : List Kept) (z : Kept) →
+            IsHeld self.old.ring self.old.counts (ks ++ z ∷ []) →
+            IsHeld self.new.ring self.new.counts ks }
     {
         let (len, tag) = self.ring.oldest();
         let count = within(len, self.ring.len());
@@ -402,7 +444,8 @@ impl EntryRing {
         ensures size { self.new.ring.size ≡ self.old.ring.size }
         ensures sized { IsSize self.new.ring.size }
         ensures within { length self.new.ring.bytes + room ≤ self.new.ring.size }
-        ensures held { (ks : List Kept) → IsHeld self.old.ring self.old.counts ks → IsHeld self.new.ring self.new.counts (fit kept_weight (self.old.ring.size - room) ks) }
+        ensures held { (ks : List Kept) → IsHeld self.old.ring self.old.counts ks →
+            IsHeld self.new.ring self.new.counts (fit kept_weight (self.old.ring.size - room) ks) }
     {
         let most = self.ring.size() - room;
         while self.ring.len() > most {
@@ -410,12 +453,15 @@ impl EntryRing {
         }
     }
 
-    /// Keeps one more entry, and drops the fewest oldest ones that make room for it. It takes no memory and is never refused.
+    /// Keeps one more entry, and drops the fewest oldest ones that make room for it. It takes no
+    /// memory and is never refused.
     pub fn push(&mut self, entry: &Entry, mark: bool)
         requires { FitsFields entry.now }
         ensures size { self.new.ring.size ≡ self.old.ring.size }
         ensures fits { length self.new.ring.bytes ≤ self.new.ring.size }
-        ensures held { (ks : List Kept) → IsHeld self.old.ring self.old.counts ks → IsHeld self.new.ring self.new.counts (keep kept_weight self.old.ring.size ks (entry.now, mark)) }
+        ensures held { (ks : List Kept) → IsHeld self.old.ring self.old.counts ks →
+            IsHeld self.new.ring self.new.counts
+            (keep kept_weight self.old.ring.size ks (entry.now, mark)) }
     {
         let weight = weight_in(entry);
         self.make_room(weight);
@@ -426,8 +472,9 @@ impl EntryRing {
         self.invariant();
     }
 
-    /// Lets a machine do what `look` answered of it, and keeps the entry of that step: it is written where it stays, and no entry is made on
-    /// the way. The fewest oldest ones that make room for it are dropped. It takes no memory and is never refused.
+    /// Lets a machine do what `look` answered of it, and keeps the entry of that step: it is
+    /// written where it stays, and no entry is made on the way. The fewest oldest ones that make
+    /// room for it are dropped. It takes no memory and is never refused.
     #[inline(always)]
     pub fn record(&mut self, cpu: &mut Cpu, change: &Change, mark: bool)
         requires runs { has_ended cpu.old.status ≡ false }
@@ -435,9 +482,12 @@ impl EntryRing {
         ensures next { cpu.new ≡ next cpu.old }
         ensures size { self.new.ring.size ≡ self.old.ring.size }
         ensures fits { length self.new.ring.bytes ≤ self.new.ring.size }
-        ensures held { (ks : List Kept) → IsHeld self.old.ring self.old.counts ks → IsHeld self.new.ring self.new.counts (keep kept_weight self.old.ring.size ks (step_entry cpu.old, mark)) }
+        ensures held { (ks : List Kept) → IsHeld self.old.ring self.old.counts ks →
+            IsHeld self.new.ring self.new.counts
+            (keep kept_weight self.old.ring.size ks (step_entry cpu.old, mark)) }
     {
-        // The arms are alike. Each is built for its kind of change, whose weight and fields are known in it.
+        // The arms are alike. Each is built for its kind of change, whose weight and fields are
+        // known in it.
         match change {
             Change::Set { .. } => self.record_change(cpu, change, mark),
             Change::Go { .. } => self.record_change(cpu, change, mark),
@@ -453,7 +503,9 @@ impl EntryRing {
         ensures next { cpu.new ≡ next cpu.old }
         ensures size { self.new.ring.size ≡ self.old.ring.size }
         ensures fits { length self.new.ring.bytes ≤ self.new.ring.size }
-        ensures held { (ks : List Kept) → IsHeld self.old.ring self.old.counts ks → IsHeld self.new.ring self.new.counts (keep kept_weight self.old.ring.size ks (step_entry cpu.old, mark)) }
+        ensures held { (ks : List Kept) → IsHeld self.old.ring self.old.counts ks →
+            IsHeld self.new.ring self.new.counts
+            (keep kept_weight self.old.ring.size ks (step_entry cpu.old, mark)) }
     {
         cpu.invariant();
         entries_fit();
@@ -464,15 +516,17 @@ impl EntryRing {
         self.invariant();
     }
 
-    /// Takes steps and keeps each, the first one with a mark, until the machine has ended, a test holds of the last step, or `most` are taken, at
-    /// least one. Answers how many. It takes no memory, and no step is refused.
+    /// Takes steps and keeps each, the first one with a mark, until the machine has ended, a test
+    /// holds of the last step, or `most` are taken, at least one. Answers how many. It takes no
+    /// memory, and no step is refused.
     pub fn run<T: StopTest>(&mut self, cpu: &mut Cpu, most: u64, test: &T) -> u64
         requires runs { has_ended cpu.old.status ≡ false }
         requires some { 1 ≤ most }
         ensures to { RunsTo (T.test test.now) most cpu.old cpu.new result }
         ensures size { self.new.ring.size ≡ self.old.ring.size }
         ensures fits { length self.new.ring.bytes ≤ self.new.ring.size }
-        ensures held { (ks : List Kept) → IsHeld self.old.ring self.old.counts ks → IsHeld self.new.ring self.new.counts (kept_after self.old.ring.size result cpu.old ks) }
+        ensures held { (ks : List Kept) → IsHeld self.old.ring self.old.counts ks →
+            IsHeld self.new.ring self.new.counts (kept_after self.old.ring.size result cpu.old ks) }
     {
         let mut taken = 0;
         while taken < most {
@@ -492,14 +546,19 @@ impl EntryRing {
         taken
     }
 
-    /// Takes a step of a run and keeps it, wherever its entry goes. Answers whether the run stops there.
+    /// Takes a step of a run and keeps it, wherever its entry goes. Answers whether the run stops
+    /// there.
     #[inline(never)]
     fn step<T: StopTest>(&mut self, cpu: &mut Cpu, mark: bool, test: &T) -> bool
         requires runs { has_ended cpu.old.status ≡ false }
         ensures leads { Leads cpu.old move_of.Step cpu.new }
-        ensures stops { result ≡ (if has_ended cpu.new.status then true else T.test test.now (is_some (replaced 0 (step_entry cpu.old))) cpu.new) }
+        ensures stops { result ≡
+            (if has_ended cpu.new.status then true else T.test test.now
+            (is_some (replaced 0 (step_entry cpu.old))) cpu.new) }
         ensures size { self.new.ring.size ≡ self.old.ring.size }
-        ensures held { (ks : List Kept) → IsHeld self.old.ring self.old.counts ks → IsHeld self.new.ring self.new.counts (keep kept_weight self.old.ring.size ks (step_entry cpu.old, mark)) }
+        ensures held { (ks : List Kept) → IsHeld self.old.ring self.old.counts ks →
+            IsHeld self.new.ring self.new.counts
+            (keep kept_weight self.old.ring.size ks (step_entry cpu.old, mark)) }
     {
         let change = match cpu.look() {
             Ok(change) => change,
@@ -516,7 +575,9 @@ impl EntryRing {
     fn append(&mut self, text: &[u8], mark: bool, is_step: bool)
         requires { length self.old.ring.bytes + length text.now ≤ self.old.ring.size }
         ensures size { self.new.ring.size ≡ self.old.ring.size }
-        ensures held { (ks : List Kept) (e : Entry) → IsHeld self.old.ring self.old.counts ks → FitsFields e → text.now ≡ text_of e mark → is_step ≡ of_step e → IsHeld self.new.ring self.new.counts ((e, mark) ∷ ks) }
+        ensures held { (ks : List Kept) (e : Entry) → IsHeld self.old.ring self.old.counts ks →
+            FitsFields e → text.now ≡ text_of e mark → is_step ≡ of_step e →
+            IsHeld self.new.ring self.new.counts ((e, mark) ∷ ks) }
     {
         let _size = self.ring.size();
         self.ring.push(text);

@@ -1,4 +1,5 @@
-//! A ring of bytes of a fixed size, which holds the text of a journal: the oldest entries make room for new ones.
+//! A ring of bytes of a fixed size, which holds the text of a journal: the oldest entries make room
+//! for new ones.
 #![tactic(auto)]
 
 mod block;

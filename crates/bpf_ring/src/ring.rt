@@ -29,10 +29,12 @@ use circular_buffer::HeapCircularBuffer;
 use std::alloc::{AllocError, Global};
 use std::marker::Model;
 
-/// A ring of bytes of a fixed size, 1,024 to 16,777,216. Its block is taken once, when it is opened. No other call takes memory.
+/// A ring of bytes of a fixed size, 1,024 to 16,777,216. Its block is taken once, when it is
+/// opened. No other call takes memory.
 #[derive(Drop)]
 pub struct Ring {
-    /// The block, never turned. It is filled as the bytes get on in it: past their end, until it is full.
+    /// The block, never turned. It is filled as the bytes get on in it: past their end, until it is
+    /// full.
     buffer: HeapCircularBuffer<u8>,
     /// The place of the oldest byte in it.
     first: usize,
@@ -68,7 +70,8 @@ impl Ring {
         Ok(Ring::from_buffer(buffer))
     }
 
-    /// Gives the ring up as a circular buffer of the same size with the same bytes. It takes no memory.
+    /// Gives the ring up as a circular buffer of the same size with the same bytes. It takes no
+    /// memory.
     pub fn into_buffer(self) -> HeapCircularBuffer<u8>
         ensures size { result.capacity ≡ self.size }
         ensures bytes { result.items ≡ self.bytes }
@@ -151,8 +154,8 @@ impl Ring {
         self.len += bytes.len();
     }
 
-    /// Lets a machine do what `look` answered of it, and appends the entry of that, which has so many bytes and for which there must be room. It
-    /// takes no memory.
+    /// Lets a machine do what `look` answered of it, and appends the entry of that, which has so
+    /// many bytes and for which there must be room. It takes no memory.
     #[inline(always)]
     pub fn record(&mut self, cpu: &mut Cpu, change: &Change, weight: usize, mark: bool)
         requires runs { has_ended cpu.old.status ≡ false }
@@ -173,8 +176,9 @@ impl Ring {
         }
     }
 
-    /// Goes on with a run that has taken some steps and keeps each, in the block: until it is over, or until an entry doesn't go into the block in
-    /// one piece. `counts` are those of the entries that the ring holds. It takes no memory.
+    /// Goes on with a run that has taken some steps and keeps each, in the block: until it is over,
+    /// or until an entry doesn't go into the block in one piece. `counts` are those of the entries
+    /// that the ring holds. It takes no memory.
     #[inline(always)]
     pub(crate) fn run<T: StopTest>(
         &mut self,
@@ -190,10 +194,14 @@ impl Ring {
         ensures size { self.new.size ≡ self.old.size }
         ensures on { (taken ≤ result.taken) × (result.taken ≤ most) }
         ensures runs { result.is_over ≡ false → has_ended cpu.new.status ≡ false }
-        ensures goes_on { (x : State) → Running (T.test test.now) x cpu.old taken → result.is_over ≡ false → Running (T.test test.now) x cpu.new result.taken }
-        ensures over { (x : State) → Running (T.test test.now) x cpu.old taken → result.is_over ≡ true → RunsTo (T.test test.now) most x cpu.new result.taken }
-        ensures held { (x : State) (ks : List Kept) → cpu.old ≡ state_after taken x → IsHeld self.old counts (kept_after self.old.size taken x ks) →
-            IsHeld self.new (counts_of counts result.span) (kept_after self.old.size result.taken x ks) }
+        ensures goes_on { (x : State) → Running (T.test test.now) x cpu.old taken →
+            result.is_over ≡ false → Running (T.test test.now) x cpu.new result.taken }
+        ensures over { (x : State) → Running (T.test test.now) x cpu.old taken →
+            result.is_over ≡ true → RunsTo (T.test test.now) most x cpu.new result.taken }
+        ensures held { (x : State) (ks : List Kept) → cpu.old ≡ state_after taken x →
+            IsHeld self.old counts (kept_after self.old.size taken x ks) →
+            IsHeld self.new (counts_of counts result.span)
+            (kept_after self.old.size result.taken x ks) }
     {
         let size = self.buffer.capacity();
         let span = Span {
@@ -227,15 +235,21 @@ impl Ring {
         self.push_apart(&scratch[..weight]);
     }
 
-    /// Takes back the move whose entry's text the newest bytes are, so many: they are read where they lie, or from a copy where they go around
-    /// the block's end. They stay. Answers the entry's tag.
+    /// Takes back the move whose entry's text the newest bytes are, so many: they are read where
+    /// they lie, or from a copy where they go around the block's end. They stay. Answers the
+    /// entry's tag.
     #[inline(always)]
     pub fn revert_newest(&self, cpu: &mut Cpu, count: usize) -> u8
         requires held { count ≤ length self.now.bytes }
         requires light { count ≤ greatest_weight }
         requires come { HasComeBy cpu.old (drop (length self.now.bytes - count) self.now.bytes) }
-        ensures back { (x : State) (m : Move) (mark : Bool) → Leads x m cpu.old → FitsFields (overwritten x m) → drop (length self.now.bytes - count) self.now.bytes ≡ text (overwritten x m) mark → cpu.new ≡ x }
-        ensures tag { (e : Entry) (mark : Bool) (before rest : List ℕ) → self.now.bytes ≡ before ++ (text e mark ++ rest) → length self.now.bytes - count ≡ length before → result ≡ tag (kind e) mark }
+        ensures back { (x : State) (m : Move) (mark : Bool) → Leads x m cpu.old →
+            FitsFields (overwritten x m) →
+            drop (length self.now.bytes - count) self.now.bytes ≡ text (overwritten x m) mark →
+            cpu.new ≡ x }
+        ensures tag { (e : Entry) (mark : Bool) (before rest : List ℕ) →
+            self.now.bytes ≡ before ++ (text e mark ++ rest) →
+            length self.now.bytes - count ≡ length before → result ≡ tag (kind e) mark }
     {
         match self.newest_piece(count) {
             Some(piece) => revert(cpu, piece),
@@ -249,19 +263,26 @@ impl Ring {
         requires held { count ≤ length self.now.bytes }
         requires light { count ≤ greatest_weight }
         requires come { HasComeBy cpu.old (drop (length self.now.bytes - count) self.now.bytes) }
-        ensures back { (x : State) (m : Move) (mark : Bool) → Leads x m cpu.old → FitsFields (overwritten x m) → drop (length self.now.bytes - count) self.now.bytes ≡ text (overwritten x m) mark → cpu.new ≡ x }
-        ensures tag { (e : Entry) (mark : Bool) (before rest : List ℕ) → self.now.bytes ≡ before ++ (text e mark ++ rest) → length self.now.bytes - count ≡ length before → result ≡ tag (kind e) mark }
+        ensures back { (x : State) (m : Move) (mark : Bool) → Leads x m cpu.old →
+            FitsFields (overwritten x m) →
+            drop (length self.now.bytes - count) self.now.bytes ≡ text (overwritten x m) mark →
+            cpu.new ≡ x }
+        ensures tag { (e : Entry) (mark : Bool) (before rest : List ℕ) →
+            self.now.bytes ≡ before ++ (text e mark ++ rest) →
+            length self.now.bytes - count ≡ length before → result ≡ tag (kind e) mark }
     {
         let mut scratch = [0u8; GREATEST];
         self.copy_newest(count, &mut scratch);
         revert(cpu, &scratch[..count])
     }
 
-    /// The newest bytes, so many, where they lie in one piece; None where they go around the block's end.
+    /// The newest bytes, so many, where they lie in one piece; None where they go around the
+    /// block's end.
     #[inline(always)]
     pub fn newest_piece(&self, count: usize) -> Option<&[u8]>
         requires { count ≤ length self.now.bytes }
-        ensures { IfSome result (λ piece. piece.now ≡ drop (length self.now.bytes - count) self.now.bytes) }
+        ensures { IfSome result (λ piece. piece.now
+            ≡ drop (length self.now.bytes - count) self.now.bytes) }
     {
         let start = place(self.buffer.len(), self.first, self.len() - count);
         let (block, _) = self.buffer.as_slices();
@@ -272,7 +293,8 @@ impl Ring {
         }
     }
 
-    /// The bytes from an index on, so many, where they lie in one piece; None where they go around the block's end.
+    /// The bytes from an index on, so many, where they lie in one piece; None where they go around
+    /// the block's end.
     #[inline(always)]
     fn piece(&self, from: usize, count: usize) -> Option<&[u8]>
         requires { from + count ≤ length self.now.bytes }
@@ -287,8 +309,9 @@ impl Ring {
         }
     }
 
-    /// The byte at an address and the depth of calls before the move whose entry's text are so many bytes from an index on, where they are
-    /// `after` and `depth` behind the move: the bytes are read where they lie, or from a copy where they go around the block's end.
+    /// The byte at an address and the depth of calls before the move whose entry's text are so many
+    /// bytes from an index on, where they are `after` and `depth` behind the move: the bytes are
+    /// read where they lie, or from a copy where they go around the block's end.
     #[inline(always)]
     pub fn byte_before(
         &self,
@@ -301,7 +324,9 @@ impl Ring {
         requires held { from + count ≤ length self.now.bytes }
         requires light { count ≤ greatest_weight }
         requires shallow { depth + 1 < 2 ^ 32 }
-        ensures { (e : Entry) (mark : Bool) → FitsFields e → take count (drop from self.now.bytes) ≡ text e mark → result ≡ (byte_before_by depth e address after, depth_before_by depth e) }
+        ensures { (e : Entry) (mark : Bool) → FitsFields e →
+            take count (drop from self.now.bytes) ≡ text e mark →
+            result ≡ (byte_before_by depth e address after, depth_before_by depth e) }
     {
         let start = place(self.buffer.len(), self.first, from);
         let (block, _) = self.buffer.as_slices();
@@ -312,7 +337,8 @@ impl Ring {
         }
     }
 
-    /// The byte that an address had before the moves of a front of the ring, by way of a copy of the entry's bytes.
+    /// The byte that an address had before the moves of a front of the ring, by way of a copy of
+    /// the entry's bytes.
     #[inline(never)]
     fn byte_before_apart(
         &self,
@@ -325,7 +351,9 @@ impl Ring {
         requires held { from + count ≤ length self.now.bytes }
         requires light { count ≤ greatest_weight }
         requires shallow { depth + 1 < 2 ^ 32 }
-        ensures { (e : Entry) (mark : Bool) → FitsFields e → take count (drop from self.now.bytes) ≡ text e mark → result ≡ (byte_before_by depth e address after, depth_before_by depth e) }
+        ensures { (e : Entry) (mark : Bool) → FitsFields e →
+            take count (drop from self.now.bytes) ≡ text e mark →
+            result ≡ (byte_before_by depth e address after, depth_before_by depth e) }
     {
         let mut scratch = [0u8; GREATEST];
         self.copy_part(from, count, &mut scratch);
@@ -396,11 +424,14 @@ impl Ring {
         self.copy(from, &mut into[..count]);
     }
 
-    /// How many bytes the oldest entry has, and its tag, by the first three bytes: they are read at once where they lie in one piece.
+    /// How many bytes the oldest entry has, and its tag, by the first three bytes: they are read at
+    /// once where they lie in one piece.
     #[inline(always)]
     pub fn oldest(&self) -> (usize, u8)
-        ensures len { (n : ℕ) (rest : List ℕ) → n < 2 ^ 16 → self.now.bytes ≡ little_bytes 2 n ++ rest → result.0 ≡ n }
-        ensures tag { (e : Entry) (mark : Bool) (rest : List ℕ) → self.now.bytes ≡ text e mark ++ rest → result.1 ≡ tag (kind e) mark }
+        ensures len { (n : ℕ) (rest : List ℕ) → n < 2 ^ 16 →
+            self.now.bytes ≡ little_bytes 2 n ++ rest → result.0 ≡ n }
+        ensures tag { (e : Entry) (mark : Bool) (rest : List ℕ) →
+            self.now.bytes ≡ text e mark ++ rest → result.1 ≡ tag (kind e) mark }
     {
         let (block, _) = self.buffer.as_slices();
         if self.len >= 3 && self.first + 3 <= block.len() {
@@ -412,14 +443,17 @@ impl Ring {
 
     /// How many bytes the oldest entry has, by the first two bytes.
     pub fn oldest_len(&self) -> usize
-        ensures { (n : ℕ) (rest : List ℕ) → n < 2 ^ 16 → self.now.bytes ≡ little_bytes 2 n ++ rest → result ≡ n }
+        ensures { (n : ℕ) (rest : List ℕ) → n < 2 ^ 16 → self.now.bytes ≡ little_bytes 2 n ++ rest →
+            result ≡ n }
     {
         self.len_at(0)
     }
 
     /// How many bytes an entry has that begins at a place, by the two bytes there.
     pub fn len_at(&self, place: usize) -> usize
-        ensures { (n : ℕ) (before rest : List ℕ) → n < 2 ^ 16 → self.now.bytes ≡ before ++ (little_bytes 2 n ++ rest) → place ≡ length before → result ≡ n }
+        ensures { (n : ℕ) (before rest : List ℕ) → n < 2 ^ 16 →
+            self.now.bytes ≡ before ++ (little_bytes 2 n ++ rest) → place ≡ length before →
+            result ≡ n }
     {
         if place >= self.len {
             return 0;
@@ -432,7 +466,9 @@ impl Ring {
 
     /// The tag of the entry that begins at a place.
     pub fn tag_at(&self, place: usize) -> u8
-        ensures { (e : Entry) (mark : Bool) (before rest : List ℕ) → self.now.bytes ≡ before ++ (text e mark ++ rest) → place ≡ length before → result ≡ tag (kind e) mark }
+        ensures { (e : Entry) (mark : Bool) (before rest : List ℕ) →
+            self.now.bytes ≡ before ++ (text e mark ++ rest) → place ≡ length before →
+            result ≡ tag (kind e) mark }
     {
         if place >= self.len {
             return 0;
@@ -440,11 +476,13 @@ impl Ring {
         self.byte(place + 2).unwrap_or(0)
     }
 
-    /// How many bytes the newest entry has, by the last two bytes: they are read at once where they lie in one piece.
+    /// How many bytes the newest entry has, by the last two bytes: they are read at once where they
+    /// lie in one piece.
     #[inline(always)]
     pub fn newest_len(&self) -> usize
         requires { 2 ≤ length self.now.bytes }
-        ensures { (n : ℕ) (before : List ℕ) → n < 2 ^ 16 → self.now.bytes ≡ before ++ little_bytes 2 n → result ≡ n }
+        ensures { (n : ℕ) (before : List ℕ) → n < 2 ^ 16 →
+            self.now.bytes ≡ before ++ little_bytes 2 n → result ≡ n }
     {
         match self.newest_piece(2) {
             Some(piece) => number(piece),
@@ -452,11 +490,14 @@ impl Ring {
         }
     }
 
-    /// How many bytes an entry has that ends at a place, by the two bytes in front of the place: they are read at once where they lie in one piece.
+    /// How many bytes an entry has that ends at a place, by the two bytes in front of the place:
+    /// they are read at once where they lie in one piece.
     #[inline(always)]
     pub fn len_before(&self, place: usize) -> usize
         requires { (2 ≤ place) × (place ≤ length self.now.bytes) }
-        ensures { (n : ℕ) (before rest : List ℕ) → n < 2 ^ 16 → self.now.bytes ≡ before ++ (little_bytes 2 n ++ rest) → place ≡ length before + 2 → result ≡ n }
+        ensures { (n : ℕ) (before rest : List ℕ) → n < 2 ^ 16 →
+            self.now.bytes ≡ before ++ (little_bytes 2 n ++ rest) → place ≡ length before + 2 →
+            result ≡ n }
     {
         match self.piece(place - 2, 2) {
             Some(piece) => number(piece),
@@ -468,7 +509,9 @@ impl Ring {
     #[inline(never)]
     fn len_before_apart(&self, place: usize) -> usize
         requires { (2 ≤ place) × (place ≤ length self.now.bytes) }
-        ensures { (n : ℕ) (before rest : List ℕ) → n < 2 ^ 16 → self.now.bytes ≡ before ++ (little_bytes 2 n ++ rest) → place ≡ length before + 2 → result ≡ n }
+        ensures { (n : ℕ) (before rest : List ℕ) → n < 2 ^ 16 →
+            self.now.bytes ≡ before ++ (little_bytes 2 n ++ rest) → place ≡ length before + 2 →
+            result ≡ n }
     {
         match (self.byte(place - 2), self.byte(place - 1)) {
             (Some(low), Some(high)) => usize::from(low) + 256 * usize::from(high),
@@ -481,8 +524,10 @@ impl Ring {
 #[inline(always)]
 fn revert(cpu: &mut Cpu, bytes: &[u8]) -> u8
     requires { HasComeBy cpu.old bytes.now }
-    ensures back { (x : State) (m : Move) (mark : Bool) → Leads x m cpu.old → FitsFields (overwritten x m) → bytes.now ≡ text (overwritten x m) mark → cpu.new ≡ x }
-    ensures tag { (e : Entry) (mark : Bool) (rest : List ℕ) → bytes.now ≡ text e mark ++ rest → result ≡ tag (kind e) mark }
+    ensures back { (x : State) (m : Move) (mark : Bool) → Leads x m cpu.old →
+        FitsFields (overwritten x m) → bytes.now ≡ text (overwritten x m) mark → cpu.new ≡ x }
+    ensures tag { (e : Entry) (mark : Bool) (rest : List ℕ) → bytes.now ≡ text e mark ++ rest →
+        result ≡ tag (kind e) mark }
 {
     let _len = text_len(cpu, bytes);
     cpu.revert_text(bytes);
@@ -502,7 +547,8 @@ fn number(bytes: &[u8]) -> usize
 #[inline(always)]
 pub(crate) fn head(bytes: &[u8]) -> (usize, u8)
     requires { length bytes.now ≡ 3 }
-    ensures len { (n : ℕ) (rest : List ℕ) → n < 2 ^ 16 → bytes.now ≡ little_bytes 2 n ++ rest → result.0 ≡ n }
+    ensures len { (n : ℕ) (rest : List ℕ) → n < 2 ^ 16 → bytes.now ≡ little_bytes 2 n ++ rest →
+        result.0 ≡ n }
     ensures tag { (low high third : ℕ) → bytes.now ≡ low ∷ high ∷ third ∷ [] → result.1 ≡ third }
 {
     (usize::from(LittleEndian::read_u16(&bytes[..2])), bytes[2])
@@ -512,7 +558,8 @@ pub(crate) fn head(bytes: &[u8]) -> (usize, u8)
 #[inline(always)]
 fn told_in(bytes: &[u8], depth: u32, address: u64, after: u8) -> (u8, u32)
     requires { depth + 1 < 2 ^ 32 }
-    ensures { (e : Entry) (mark : Bool) → FitsFields e → bytes.now ≡ text e mark → result ≡ (byte_before_by depth e address after, depth_before_by depth e) }
+    ensures { (e : Entry) (mark : Bool) → FitsFields e → bytes.now ≡ text e mark →
+        result ≡ (byte_before_by depth e address after, depth_before_by depth e) }
 {
     (
         byte_before(bytes, depth, address, after),

@@ -13,8 +13,9 @@ pub const MOST_BREAKS: usize = 64;
 /// How many places the table of slots has.
 const PLACES: usize = 8_192;
 
-/// At most 64 slots, in order of setting, no two alike. A table tells at once of most slots that they are not among them: each slot has a place in
-/// it, by its remainder, and where none of them has that place it is not looked for. Up to slot 8,191 no two slots share a place.
+/// At most 64 slots, in order of setting, no two alike. A table tells at once of most slots that
+/// they are not among them: each slot has a place in it, by its remainder, and where none of them
+/// has that place it is not looked for. Up to slot 8,191 no two slots share a place.
 #[derive(Drop)]
 pub struct Breakpoints {
     slots: ArrayVec<u16, MOST_BREAKS>,

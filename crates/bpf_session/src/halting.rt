@@ -8,7 +8,8 @@ use bpf_journal::StopTest;
 use bpf_machine::Cpu;
 use bpfdb_commands::Goal;
 
-/// What stops a run beside its number of steps: a breakpoint, a depth of calls below a floor, and a change of what was seen of the watched bytes.
+/// What stops a run beside its number of steps: a breakpoint, a depth of calls below a floor, and a
+/// change of what was seen of the watched bytes.
 #[derive(Clone, Copy)]
 pub(crate) struct Halting<'a> {
     pub(crate) breaks: &'a Breakpoints,

@@ -1,4 +1,5 @@
-//! Laws of the meaning of commands and of scripts. Each stands on a function without code, since it speaks of the definitions alone.
+//! Laws of the meaning of commands and of scripts. Each stands on a function without code, since it
+//! speaks of the definitions alone.
 ghost use Rattle.bpf_session.specs.Laws.{BreakpointsStop, CallsRunAsOne, CountsAreGoneBack, EachMoveIsKept, GoingBackGivesBack, NoAnswerIsOfMemory, NothingRefusedAllPrinted, NothingRefusedNothingMissing, RedoGivesAllBack, RefusalsAreInOrder, RefusedChangesNothing, ReplayIsTheSame, ShowsChangeNothing, TakesBackItsMoves, TheFirstReasonStops, TheLatestIsFound, UndoGoesToTheMark, WalksLoseNothing, WatchesStop};
 
 use bpf_journal::Keeper;
@@ -15,14 +16,15 @@ pub fn shows_change_nothing()
     ensures { ShowsChangeNothing }
 {}
 
-/// The refusals of a command that hold stand in the order of their numbers: the one that is answered is the least.
+/// The refusals of a command that hold stand in the order of their numbers: the one that is
+/// answered is the least.
 #[tactic(none)]
 pub fn refusals_are_in_order()
     ensures { RefusalsAreInOrder }
 {}
 
-/// A command that goes forward stops after the first step, of one at least, after which there is a reason for it, and tells the first
-/// reason in the order end, break, watch, done, limit.
+/// A command that goes forward stops after the first step, of one at least, after which there is a
+/// reason for it, and tells the first reason in the order end, break, watch, done, limit.
 #[tactic(none)]
 pub fn the_first_reason_stops()
     ensures { TheFirstReasonStops }
@@ -40,34 +42,37 @@ pub fn watches_stop()
     ensures { WatchesStop }
 {}
 
-/// A called function runs as one step of `nexti`, and `finish` runs until it has returned and no further, unless another stop comes first.
+/// A called function runs as one step of `nexti`, and `finish` runs until it has returned and no
+/// further, unless another stop comes first.
 #[tactic(none)]
 pub fn calls_run_as_one()
     ensures { CallsRunAsOne }
 {}
 
-/// A command that goes back takes back as many moves as it says, of those that are kept, and nothing else.
+/// A command that goes back takes back as many moves as it says, of those that are kept, and
+/// nothing else.
 #[tactic(none)]
 pub fn moves_are_taken_back()
     ensures { TakesBackItsMoves }
 {}
 
-/// `undo` takes back as many marked moves as it counts and `reverse-stepi` as many steps, and the last move that either takes back is
-/// one of these; `reverse-stepi` says `start` where fewer are kept.
+/// `undo` takes back as many marked moves as it counts and `reverse-stepi` as many steps, and the
+/// last move that either takes back is one of these; `reverse-stepi` says `start` where fewer are
+/// kept.
 #[tactic(none)]
 pub fn counts_are_gone_back()
     ensures { CountsAreGoneBack }
 {}
 
-/// `reverse-nexti`, `reverse-finish` and `reverse-continue` go back to before the latest move that they look for, and say `start` where
-/// none is kept.
+/// `reverse-nexti`, `reverse-finish` and `reverse-continue` go back to before the latest move that
+/// they look for, and say `start` where none is kept.
 #[tactic(none)]
 pub fn the_latest_is_found()
     ensures { TheLatestIsFound }
 {}
 
-/// Going back over the steps that a command took, or undoing it, gives back the history, the state, the breakpoints and the watches in
-/// front of it, where nothing was dropped for them.
+/// Going back over the steps that a command took, or undoing it, gives back the history, the state,
+/// the breakpoints and the watches in front of it, where nothing was dropped for them.
 #[tactic(none)]
 pub fn going_back_gives_back()
     ensures { GoingBackGivesBack }
@@ -79,35 +84,37 @@ pub fn replay_is_the_same()
     ensures { ReplayIsTheSame }
 {}
 
-/// Commands that take moves back or make them again lose none: the history followed by what was taken back stays as it stood after the
-/// latest new move, and leads to the state as it stood then.
+/// Commands that take moves back or make them again lose none: the history followed by what was
+/// taken back stays as it stood after the latest new move, and leads to the state as it stood then.
 #[tactic(none)]
 pub fn walks_lose_nothing()
     ensures { WalksLoseNothing }
 {}
 
-/// `redo` of all that was taken back gives the history and the state back as they stood after the latest new move.
+/// `redo` of all that was taken back gives the history and the state back as they stood after the
+/// latest new move.
 #[tactic(none)]
 pub fn redo_gives_all_back()
     ensures { RedoGivesAllBack }
 {}
 
-/// `undo` gives back the state in front of the marked move that it counts to, whatever commands came between.
+/// `undo` gives back the state in front of the marked move that it counts to, whatever commands
+/// came between.
 #[tactic(none)]
 pub fn undo_goes_to_the_mark()
     ensures { UndoGoesToTheMark }
 {}
 
-/// Where a keeper's refusals didn't rise over a script, and aren't at their last value, no push was refused: what the script prints
-/// and where it ends is the same as where each is kept.
+/// Where a keeper's refusals didn't rise over a script, and aren't at their last value, no push was
+/// refused: what the script prints and where it ends is the same as where each is kept.
 #[tactic(none)]
 pub fn nothing_refused_nothing_missing()
     ensures walk { NothingRefusedNothingMissing }
     ensures run { NothingRefusedAllPrinted }
 {}
 
-/// Over a keeper that refuses no push no answer to a command tells of want of memory, and each command does what it means where each
-/// of its moves is kept.
+/// Over a keeper that refuses no push no answer to a command tells of want of memory, and each
+/// command does what it means where each of its moves is kept.
 #[tactic(none)]
 pub fn no_answer_is_of_memory<K: Keeper>()
     ensures answer { NoAnswerIsOfMemory K.holds K.refused K.room }

@@ -20,9 +20,10 @@ pub enum Ending {
     Limit,
 }
 
-/// Takes the least number of steps after which the machine has ended or the limit is reached, and says which. Of a program that has
-/// exited it writes r0 as 0x and lower-case digits, and a line feed, and flushes; else it writes nothing. A machine that has ended
-/// before takes no step. `RunFault::Write` where a write or the flush failed: the steps were taken.
+/// Takes the least number of steps after which the machine has ended or the limit is reached, and
+/// says which. Of a program that has exited it writes r0 as 0x and lower-case digits, and a line
+/// feed, and flushes; else it writes nothing. A machine that has ended before takes no step.
+/// `RunFault::Write` where a write or the flush failed: the steps were taken.
 pub fn run_plain<W: Write>(
     cpu: &mut Cpu,
     limit: u64,
@@ -31,8 +32,10 @@ pub fn run_plain<W: Write>(
     ensures next { cpu.new ≡ plain_end limit cpu.old }
     ensures ok { IfOk result (λ ending. ending ≡ ending_of cpu.new.status) }
     ensures err { IfErr result (λ fault. fault ≡ RunFault.Write) }
-    ensures quiet { cpu.new.status ≢ Status.Exited → (result ≡ Ok (ending_of cpu.new.status)) × (writer.new ≡ writer.old) }
-    ensures written { Writes W.contents writer.old writer.new result (text_of_ending (ending_of cpu.new.status) cpu.new) }
+    ensures quiet { cpu.new.status ≢ Status.Exited → (result ≡ Ok (ending_of cpu.new.status))
+        × (writer.new ≡ writer.old) }
+    ensures written { Writes W.contents writer.old writer.new result
+        (text_of_ending (ending_of cpu.new.status) cpu.new) }
 {
     take_steps(cpu, limit);
     match cpu.status() {

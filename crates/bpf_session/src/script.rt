@@ -47,7 +47,8 @@ fn put_answer<K: Keeper, W: Write>(
 ) -> Result<(), WriteFault>
     requires there { IfOk answer.now (λ reply. IsThere reply session.now.moment.state) }
     ensures { (h : Track) → HasPast K.holds session.now h →
-        Writes W.contents writer.old writer.new result (text_of_answer (bounds_of K.room session.now) answer.now (point_of session.now h)) }
+        Writes W.contents writer.old writer.new result
+        (text_of_answer (bounds_of K.room session.now) answer.now (point_of session.now h)) }
 {
     match answer {
         Ok(reply) => session.write_reply(reply, writer),
@@ -63,7 +64,8 @@ fn write_answer<K: Keeper, W: Write>(
 ) -> Result<bool, WriteFault>
     requires there { IfOk answer.now (λ reply. IsThere reply session.now.moment.state) }
     ensures value { (h : Track) → HasPast K.holds session.now h →
-        Writes W.contents writer.old writer.new result (text_of_answer (bounds_of K.room session.now) answer.now (point_of session.now h)) }
+        Writes W.contents writer.old writer.new result
+        (text_of_answer (bounds_of K.room session.now) answer.now (point_of session.now h)) }
     ensures ok { IfOk result (λ more. more ≡ true) }
 {
     match put_answer(session, answer, writer) {
@@ -82,8 +84,10 @@ fn obey<K: Keeper, W: Write>(
     line: &LineBuffer,
     writer: &mut Counted<W>,
 ) -> Result<bool, WriteFault>
-    ensures value { (h : Track) (text : List ℕ) → HasPast K.holds session.old h → Holds line.now text →
-        ObeysLine K.holds K.refused K.room W.contents session.old session.new writer.old writer.new h text result }
+    ensures value { (h : Track) (text : List ℕ) → HasPast K.holds session.old h →
+        Holds line.now text →
+        ObeysLine K.holds K.refused K.room W.contents session.old session.new writer.old writer.new
+        h text result }
     ensures fault { FailsOnce result writer.old writer.new }
     ensures bounds { bounds_of K.room session.new ≡ bounds_of K.room session.old }
 {
@@ -101,25 +105,40 @@ fn obey<K: Keeper, W: Write>(
     write_answer(session, &answer, writer)
 }
 
-/// Obeys the lines of a script one after another, up to its end or the first `quit`, and writes what they print.
-/// The writer is flushed after each reply. It takes no memory of its own.
+/// Obeys the lines of a script one after another, up to its end or the first `quit`, and writes
+/// what they print. The writer is flushed after each reply. It takes no memory of its own.
 pub fn run<K: Keeper, R: Read, W: Write>(
     session: &mut Session<K>,
     reader: &mut Counted<R>,
     writer: &mut Counted<W>,
 ) -> Result<(), RunFault>
-    // What is printed is what the script prints in a debugger that keeps whole states. Where the keeper's refusals didn't rise nothing
-    // is missing of it, as the law `nothing_refused_nothing_missing` says.
-    ensures value { OnOk result ((from : Standing) (script told : List ℕ) → HasStanding K.holds K.refused K.room session.old from →
+    // What is printed is what the script prints in a debugger that keeps whole states. Where the
+    // keeper's refusals didn't rise nothing is missing of it, as the law
+    // `nothing_refused_nothing_missing` says.
+    ensures value { OnOk result ((from : Standing) (script told : List ℕ) →
+        HasStanding K.holds K.refused K.room session.old from →
         R.remaining reader.old.inner ≡ Some script → W.contents writer.old.inner ≡ Some told →
         (to : Standing) × HasStanding K.holds K.refused K.room session.new to × Prints from to
-        (record { script = script; told = told; after = W.contents writer.new.inner; left = R.remaining reader.new.inner })) }
+        (record {
+          script = script;
+          told = told;
+          after = W.contents writer.new.inner;
+          left = R.remaining reader.new.inner;
+        })) }
     // Where a read or a write failed the session stands after the lines that were obeyed.
-    ensures broken { IfErr result (λ why. (from : Standing) (script told : List ℕ) → HasStanding K.holds K.refused K.room session.old from →
+    ensures broken { IfErr result (λ why. (from : Standing) (script told : List ℕ) →
+        HasStanding K.holds K.refused K.room session.old from →
         R.remaining reader.old.inner ≡ Some script → W.contents writer.old.inner ≡ Some told →
-        (to : Standing) × HasStanding K.holds K.refused K.room session.new to × BreaksOff why from to
-        (record { script = script; told = told; after = W.contents writer.new.inner; left = R.remaining reader.new.inner })) }
-    ensures ok { OnOk result ((reader.new.failures ≡ reader.old.failures) × (writer.new.failures ≡ writer.old.failures)) }
+        (to : Standing) × HasStanding K.holds K.refused K.room session.new to
+        × BreaksOff why from to
+        (record {
+          script = script;
+          told = told;
+          after = W.contents writer.new.inner;
+          left = R.remaining reader.new.inner;
+        })) }
+    ensures ok { OnOk result ((reader.new.failures ≡ reader.old.failures)
+        × (writer.new.failures ≡ writer.old.failures)) }
     ensures err { IfErr result (λ why. FailsBy why reader.old reader.new writer.old writer.new) }
     ensures bounds { bounds_of K.room session.new ≡ bounds_of K.room session.old }
 {

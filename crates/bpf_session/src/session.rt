@@ -44,16 +44,27 @@ impl<K: Keeper> Model for Session<K> {
 }
 
 impl<K: Keeper> Session<K> {
-    /// A session over a machine and a keeper that holds the entries of some history that led to the machine's state, with an empty ring of
-    /// the keeper's capacity for the moves that will be taken back. `limit` is the most steps of a command, 1 to 1,000,000,000. There are no
+    /// A session over a machine and a keeper that holds the entries of some history that led to the
+    /// machine's state, with an empty ring of the keeper's capacity for the moves that will be
+    /// taken back. `limit` is the most steps of a command, 1 to 1,000,000,000. There are no
     /// breakpoints and no watches.
     pub fn open(cpu: Cpu, keeper: K, redo: RingKeeper, limit: u64) -> Session<K>
         requires past { HasHistory K.holds keeper cpu }
         requires empty { RingHolds redo [] }
         requires size { ring_room redo ≡ K.room keeper }
         requires limit { (1 ≤ limit) × (limit ≤ greatest_count) }
-        ensures value { result ≡ record { moment = record { state = cpu; keeper = keeper; redo = redo }; breaks = []; watches = []; limit = limit } }
-        ensures stands { (h : List Record) → StandsFor K.holds keeper cpu h → HasPast K.holds result (track_of h) }
+        ensures value { result ≡ record {
+          moment = record {
+            state = cpu;
+            keeper = keeper;
+            redo = redo;
+          };
+          breaks = [];
+          watches = [];
+          limit = limit;
+        } }
+        ensures stands { (h : List Record) → StandsFor K.holds keeper cpu h →
+            HasPast K.holds result (track_of h) }
     {
         Session {
             timeline: Course::open(cpu, keeper, redo),
@@ -63,7 +74,8 @@ impl<K: Keeper> Session<K> {
         }
     }
 
-    /// Gives the machine and the keeper back as they stand: `open` takes them again. What was taken back is dropped.
+    /// Gives the machine and the keeper back as they stand: `open` takes them again. What was taken
+    /// back is dropped.
     pub fn close(self) -> (Cpu, K)
         ensures same { result ≡ (self.moment.state, self.moment.keeper) }
         ensures past { HasHistory K.holds result.1 result.0 }
@@ -101,7 +113,8 @@ impl<K: Keeper> Session<K> {
     /// Obeys a command, or refuses it, and then nothing changes. `quit` changes nothing.
     #[tactic(auto, unfolding(crate::specs::Meaning::accepted))]
     pub fn apply(&mut self, command: &Command) -> Result<Reply, Refusal>
-        ensures { Obeys K.holds K.refused K.room self.old self.new (λ gap. does gap (bounds_of K.room self.old) command.now) result }
+        ensures { Obeys K.holds K.refused K.room self.old self.new
+            (λ gap. does gap (bounds_of K.room self.old) command.now) result }
     {
         match command {
             Command::Forward(goal) => self.forward(*goal),

@@ -88,7 +88,8 @@ impl Watches {
         }
     }
 
-    /// What is seen after a comparison: the bytes now where they differ, else those that were seen before.
+    /// What is seen after a comparison: the bytes now where they differ, else those that were seen
+    /// before.
     pub fn seen_now(&self, cpu: &Cpu, seen: Seen, differs: bool) -> Seen
         ensures { result ≡ (if differs then bytes_at self.now cpu.now else seen) }
     {
@@ -103,9 +104,11 @@ impl Watches {
         !bytes.is_same(seen)
     }
 
-    /// Whether a byte at one of the addresses differs now from what was seen before a move that replaced bytes or not.
+    /// Whether a byte at one of the addresses differs now from what was seen before a move that
+    /// replaced bytes or not.
     pub fn differ(&self, cpu: &Cpu, seen: &Seen, replaced: bool) -> bool
-        ensures { (x : State) → seen.now ≡ bytes_at self.now x → (replaced ≡ false → (address : ℕ) → byte x address ≡ byte cpu.now address) →
+        ensures { (x : State) → seen.now ≡ bytes_at self.now x →
+            (replaced ≡ false → (address : ℕ) → byte x address ≡ byte cpu.now address) →
             Compares self.now seen.now x cpu.now result }
     {
         if !replaced {

@@ -1,4 +1,5 @@
-//! Faults of readers and writers: which one is told, how often it is counted, and where the session stands.
+//! Faults of readers and writers: which one is told, how often it is counted, and where the session
+//! stands.
 use crate::play::{check_bytes, session, stop_unless};
 use bpf_isa::Reg;
 use bpf_journal::ListKeeper;
@@ -40,7 +41,8 @@ fn answering(rt: &impl Abort, alloc: Global) -> Session<ListKeeper> {
     session(rt, alloc, ANSWER, &[], 65_536)
 }
 
-// A reader fails before the second line is whole: the reply to the first one stands, and no other byte.
+// A reader fails before the second line is whole: the reply to the first one stands, and no other
+// byte.
 #[test]
 fn a_read_fails_in_a_line(rt: HostRuntime) {
     let mut session = answering(&rt, rt.alloc());
@@ -60,7 +62,8 @@ fn check_state(rt: &impl Abort, session: &Session<ListKeeper>) {
     stop_unless(rt, session.cpu().reg(r0) == 42, "another r0");
 }
 
-// A writer that takes 10 bytes and no more: the session stands behind the line whose reply wasn't written.
+// A writer that takes 10 bytes and no more: the session stands behind the line whose reply wasn't
+// written.
 #[test]
 fn a_session_stands_behind_the_last_line(rt: HostRuntime) {
     let mut session = answering(&rt, rt.alloc());

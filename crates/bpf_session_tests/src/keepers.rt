@@ -9,7 +9,8 @@ use bpf_session::Session;
 use std::alloc::{AllocError, Global};
 use std::process::Abort;
 
-/// A keeper that keeps so many entries at most, takes so many pushes in all, and counts the refused ones.
+/// A keeper that keeps so many entries at most, takes so many pushes in all, and counts the refused
+/// ones.
 #[derive(Drop)]
 struct Narrow<K: Keeper> {
     kept: K,
@@ -134,8 +135,8 @@ continue|refused Q15: out of memory
 undo 2|5 back; done; at 0: add r0, 1
 ";
 
-// Five pushes are taken. Moves that are made again are kept again, and that may be refused. What is refused stays, also behind a new
-// move that is refused.
+// Five pushes are taken. Moves that are made again are kept again, and that may be refused. What is
+// refused stays, also behind a new move that is refused.
 const FIVE_PUSHES: &str = "\
 stepi 3|3 forward; done; at 1: ja L0
 undo|3 back; done; at 0: add r0, 1

@@ -7,7 +7,8 @@ use counted_io::Counted;
 use std::alloc::Global;
 use std::process::Abort;
 
-/// A program in hexadecimal digits, its limit of steps, how it ends, what it prints, and where it stands then.
+/// A program in hexadecimal digits, its limit of steps, how it ends, what it prints, and where it
+/// stands then.
 type Row = (&'static str, u64, &'static str, &'static str, &'static str);
 
 const RUNS: [Row; 8] = [

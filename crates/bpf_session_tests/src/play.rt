@@ -1,5 +1,6 @@
-//! Transcripts, and sessions that they are played in. Each row of a transcript is a command and its reply, with a bar between; a further
-//! line of a reply stands behind a bar alone, and a command without a reply has no bar.
+//! Transcripts, and sessions that they are played in. Each row of a transcript is a command and its
+//! reply, with a bar between; a further line of a reply stands behind a bar alone, and a command
+//! without a reply has no bar.
 ghost use Rattle.std.specs.Prelude.{◌≡◌, []};
 ghost use Rattle.bpf_journal.specs.Tracks.{RingHolds, ring_room};
 

@@ -1,8 +1,8 @@
 //! The instructions of RFC 9669, each in slot 0: its canonical text, its word, and what it does.
 //!
-//! A word is spelled by hand from the tables of the standard, sections 4 and 5, its bytes in hexadecimal and in order. Behind it
-//! stand the register that the instruction replaces, the slot that it names, and `stops` where the one after it is out of reach; `-` is
-//! for none of these.
+//! A word is spelled by hand from the tables of the standard, sections 4 and 5, its bytes in
+//! hexadecimal and in order. Behind it stand the register that the instruction replaces, the slot
+//! that it names, and `stops` where the one after it is out of reach; `-` is for none of these.
 
 /// Each mnemonic in each form of its operands.
 pub const INSTRUCTIONS: &str = "\

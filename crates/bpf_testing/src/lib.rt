@@ -1,4 +1,5 @@
-//! For tests: rows of tables, numbers and bytes by their texts, random numbers, and the instructions of RFC 9669 with their words.
+//! For tests: rows of tables, numbers and bytes by their texts, random numbers, and the
+//! instructions of RFC 9669 with their words.
 #![tactic(auto)]
 
 mod instructions;

@@ -1,4 +1,5 @@
-//! Rows of tables. The parts of a row stand between bars that have a blank on each side: `name | input | expected`.
+//! Rows of tables. The parts of a row stand between bars that have a blank on each side:
+//! `name | input | expected`.
 ghost use Rattle.std.specs.Prelude.{◌≡◌, ◌++◌, IfSome, codes};
 
 /// A row: what it is called, what a test does something with, and what comes of that.
@@ -12,7 +13,8 @@ pub struct Row<'a> {
 
 /// The parts of a row. None where it has fewer than three.
 pub fn row_of(line: &str) -> Option<Row<'_>>
-    ensures { IfSome result (λ row. line.now ≡ row.name.now ++ (codes " | " ++ (row.input.now ++ (codes " | " ++ row.expected.now)))) }
+    ensures { IfSome result (λ row. line.now
+        ≡ row.name.now ++ (codes " | " ++ (row.input.now ++ (codes " | " ++ row.expected.now)))) }
 {
     let (name, rest) = parts_of(line)?;
     let (input, expected) = parts_of(rest)?;

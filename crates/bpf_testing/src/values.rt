@@ -1,7 +1,8 @@
 //! Numbers and bytes by their texts.
 use std::alloc::Global;
 
-/// A number of 64 bits: decimal, hexadecimal behind `0x`, or behind `-` the two's complement of a decimal one.
+/// A number of 64 bits: decimal, hexadecimal behind `0x`, or behind `-` the two's complement of a
+/// decimal one.
 pub fn number_of(word: &str) -> Option<u64> {
     if let Some(digits) = word.strip_prefix("0x") {
         u64::from_str_radix(digits, 16).ok()
@@ -12,7 +13,8 @@ pub fn number_of(word: &str) -> Option<u64> {
     }
 }
 
-/// The bytes of hexadecimal words with blanks between them. None where a word has other digits, or memory ran out.
+/// The bytes of hexadecimal words with blanks between them. None where a word has other digits, or
+/// memory ran out.
 pub fn bytes_of(alloc: Global, words: &str) -> Option<Vec<u8>> {
     let mut bytes = Vec::new(alloc);
     for word in words.split(' ') {

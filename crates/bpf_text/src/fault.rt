@@ -11,8 +11,8 @@ pub enum LineFault {
     WrongOperands,
     /// A3: a number is out of its range.
     OutOfRange,
-    /// A3: the target of a `ja` or of a conditional jump is farther than 16 bits tell. It is so many slots from the slot behind the jump; a
-    /// `ja32` reaches it.
+    /// A3: the target of a `ja` or of a conditional jump is farther than 16 bits tell. It is so
+    /// many slots from the slot behind the jump; a `ja32` reaches it.
     TooFar(i32),
     /// A4: an earlier line has the label: the one with this number, counted from 1.
     LabelTwice(usize),

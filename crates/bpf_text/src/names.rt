@@ -1,4 +1,5 @@
-//! The names of the mnemonics (RFC 9669, sections 4 and 5): a stem and a suffix, for writing and for reading.
+//! The names of the mnemonics (RFC 9669, sections 4 and 5): a stem and a suffix, for writing and
+//! for reading.
 ghost use Rattle.std.specs.Prelude.{◌≡◌, option_map};
 ghost use Rattle.bpf_text.specs.Mnemonics.{binary_name, width_suffix, extension_suffix, order_name, swap_suffix, condition_name, size_suffix, load_suffix, store_name, atomic_name, atomic_suffix, wide_name};
 ghost use Rattle.bpf_text.specs.Scaffolding.Named.{stem_of, suffix_of, behind, width_named, extension_named, swap_width_named, size_named, load_size_named, atomic_width_named, whole, with_suffix, mnemonic_with, stem_named, named};

@@ -4,9 +4,9 @@ use bpf_text::assemble;
 use std::alloc::Global;
 use std::process::Abort;
 
-// From a byte to a byte, the number of the fault (0 for none), and the listing, with ? for the byte:
-// outside comments, first and later in a label, as a digit, as a hexadecimal digit, first and later
-// in a name. Each place has a row for each of the 256 bytes.
+// From a byte to a byte, the number of the fault (0 for none), and the listing, with ? for the
+// byte: outside comments, first and later in a label, as a digit, as a hexadecimal digit, first and
+// later in a name. Each place has a row for each of the 256 bytes.
 const BYTES: &str = "\
 0 8 6 ?\n\
 9 10 0 ?\n\

@@ -162,8 +162,9 @@ fn reaches_the_last_slot_and_far_targets(rt: HostRuntime) {
     check_all_long(&rt, rt.alloc(), LONG);
 }
 
-// A first line, how many lines `exit` follow, and a last line; and what is wrong: a label that stands twice, with the line that has it first; a
-// target that is too far, with how far it is from the slot after the jump; or anything else.
+// A first line, how many lines `exit` follow, and a last line; and what is wrong: a label that
+// stands twice, with the line that has it first; a target that is too far, with how far it is from
+// the slot after the jump; or anything else.
 const DETAILS: &str = "\
 x:~1~x: => twice 1\n\
 ~3~x:|exit|y: exit|x: add r0 => twice 4\n\

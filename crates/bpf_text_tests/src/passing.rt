@@ -55,8 +55,8 @@ impl Read for Tenth {
     }
 }
 
-/// Writes a text in pieces of so many bytes, of which the write of this number takes nothing. Stops unless so many failures are counted;
-/// what is taken, and how many calls there are.
+/// Writes a text in pieces of so many bytes, of which the write of this number takes nothing. Stops
+/// unless so many failures are counted; what is taken, and how many calls there are.
 fn taken(
     rt: &impl Abort,
     alloc: Global,

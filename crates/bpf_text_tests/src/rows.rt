@@ -1,5 +1,6 @@
-//! Listings and their answers, by docs/LISTING.md and the tables of RFC 9669, sections 4 and 5. A row is a listing, in which
-//! a vertical bar stands for a line feed, and its bytes in hexadecimal (- for none) or its first fault and the fault's line.
+//! Listings and their answers, by docs/LISTING.md and the tables of RFC 9669, sections 4 and 5. A
+//! row is a listing, in which a vertical bar stands for a line feed, and its bytes in hexadecimal
+//! (- for none) or its first fault and the fault's line.
 
 /// Lines, blanks, comments, and what isn't text.
 pub const LINES: &str = "\

@@ -7,7 +7,8 @@ use counted_io::{Counted, put, put_decimal, put_hexadecimal, put_signed, write_t
 use std::alloc::Global;
 use std::process::Abort;
 
-/// Whether numbers were written behind others: the greatest, the least with a sign, and two in hexadecimal.
+/// Whether numbers were written behind others: the greatest, the least with a sign, and two in
+/// hexadecimal.
 fn append_numbers(text: &mut Vec<u8>) -> bool {
     let mut writer = Counted::new(text);
     let result = write_text(&mut writer, b"a ");

@@ -8,8 +8,9 @@ const BAD_DESCRIPTOR: i32 = 9;
 /// A file that is always there. Opened, it takes the lowest descriptor that is free.
 const NULL_DEVICE: &str = "/dev/null";
 
-/// Whether a reader's descriptor, the lowest of all, is closed, and not open for something else than reading. Both fail alike at each
-/// read; but a file that is opened then takes the place of a closed one, and can be read there.
+/// Whether a reader's descriptor, the lowest of all, is closed, and not open for something else
+/// than reading. Both fail alike at each read; but a file that is opened then takes the place of a
+/// closed one, and can be read there.
 pub fn is_closed<R: Read>(rt: &HostRuntime, input: &mut R) -> bool {
     if can_read(input) {
         return false;
@@ -24,7 +25,8 @@ pub fn is_closed<R: Read>(rt: &HostRuntime, input: &mut R) -> bool {
     }
 }
 
-/// Whether a reader's descriptor can be read: then a read that asks for no byte doesn't fail as one of a bad descriptor does.
+/// Whether a reader's descriptor can be read: then a read that asks for no byte doesn't fail as one
+/// of a bad descriptor does.
 fn can_read<R: Read>(input: &mut R) -> bool {
     match input.read(&mut []) {
         Ok(_) => true,

@@ -13,7 +13,8 @@ use counted_io::Counted;
 use std::alloc::Global;
 use std::io::{Read, Write};
 
-/// Serves gdb where the plan says so, and else does the plan's job. Answers the exit status: 0, 1 or 2.
+/// Serves gdb where the plan says so, and else does the plan's job. Answers the exit status: 0, 1
+/// or 2.
 pub fn do_or_serve<R: Read, W: Write, E: Write>(
     alloc: Global,
     plan: &Plan<'_>,
@@ -24,11 +25,16 @@ pub fn do_or_serve<R: Read, W: Write, E: Write>(
     errors: &mut Counted<E>,
 ) -> u8
     requires limit { IsLimit plan.now.limit }
-    ensures served { plan.now.subcommand ≡ Gdb → (job : Job) × IsJobOf plan.now file.now context.now job
-        × ServesJob ⟦<RingKeeper as Keeper>⟧.holds ⟦<RingKeeper as Keeper>⟧.refused ⟦<RingKeeper as Keeper>⟧.room R.remaining W.contents E.contents
-        (layout_of plan.now.registers) job reader.old reader.new writer.old writer.new errors.old errors.new result }
-    ensures done { plan.now.subcommand ≢ Gdb → (job : Job) × IsJobOf plan.now file.now context.now job
-        × DoesJob R.remaining W.contents E.contents job reader.old reader.new writer.old writer.new errors.old errors.new result }
+    ensures served { plan.now.subcommand ≡ Gdb → (job : Job)
+        × IsJobOf plan.now file.now context.now job
+        × ServesJob ⟦<RingKeeper as Keeper>⟧.holds ⟦<RingKeeper as Keeper>⟧.refused
+        ⟦<RingKeeper as Keeper>⟧.room R.remaining W.contents E.contents
+        (layout_of plan.now.registers)
+        job reader.old reader.new writer.old writer.new errors.old errors.new result }
+    ensures done { plan.now.subcommand ≢ Gdb → (job : Job)
+        × IsJobOf plan.now file.now context.now job
+        × DoesJob R.remaining W.contents E.contents job reader.old reader.new writer.old writer.new
+        errors.old errors.new result }
     ensures status { result ≤ 2 }
 {
     match plan.subcommand {
@@ -37,7 +43,8 @@ pub fn do_or_serve<R: Read, W: Write, E: Write>(
     }
 }
 
-/// Does the job of a plan with the bytes of FILE and of PATH, and answers the exit status: what `tool` promises of that job.
+/// Does the job of a plan with the bytes of FILE and of PATH, and answers the exit status: what
+/// `tool` promises of that job.
 fn do_plan<R: Read, W: Write, E: Write>(
     alloc: Global,
     plan: &Plan<'_>,
@@ -49,14 +56,16 @@ fn do_plan<R: Read, W: Write, E: Write>(
 ) -> u8
     requires limit { IsLimit plan.now.limit }
     ensures value { (job : Job) × IsJobOf plan.now file.now context.now job
-        × DoesJob R.remaining W.contents E.contents job reader.old reader.new writer.old writer.new errors.old errors.new result }
+        × DoesJob R.remaining W.contents E.contents job reader.old reader.new writer.old writer.new
+        errors.old errors.new result }
     ensures status { result ≤ 2 }
 {
     let job = job_of(plan, file, context);
     tool(alloc, &job, reader, writer, errors)
 }
 
-/// Serves gdb with the job of a plan, and answers the exit status: what `serve_job` promises of that job.
+/// Serves gdb with the job of a plan, and answers the exit status: what `serve_job` promises of
+/// that job.
 fn serve_plan<R: Read, W: Write, E: Write>(
     alloc: Global,
     plan: &Plan<'_>,
@@ -68,8 +77,10 @@ fn serve_plan<R: Read, W: Write, E: Write>(
 ) -> u8
     requires limit { IsLimit plan.now.limit }
     ensures value { (job : Job) × IsJobOf plan.now file.now context.now job
-        × ServesJob ⟦<RingKeeper as Keeper>⟧.holds ⟦<RingKeeper as Keeper>⟧.refused ⟦<RingKeeper as Keeper>⟧.room R.remaining W.contents E.contents
-        (layout_of plan.now.registers) job reader.old reader.new writer.old writer.new errors.old errors.new result }
+        × ServesJob ⟦<RingKeeper as Keeper>⟧.holds ⟦<RingKeeper as Keeper>⟧.refused
+        ⟦<RingKeeper as Keeper>⟧.room R.remaining W.contents E.contents
+        (layout_of plan.now.registers)
+        job reader.old reader.new writer.old writer.new errors.old errors.new result }
     ensures status { result ≤ 2 }
 {
     let job = job_of(plan, file, context);

@@ -75,7 +75,8 @@ fn obey(rt: &HostRuntime, errors: &mut Errors) -> u8
     obey_words(rt, words.as_slice(), errors)
 }
 
-/// Does what these words say, the program's name first. Where no other follows, the program that is built in is debugged.
+/// Does what these words say, the program's name first. Where no other follows, the program that is
+/// built in is debugged.
 fn obey_words(rt: &HostRuntime, words: &[String], errors: &mut Errors) -> u8
     ensures value { result ≢ 2 → IsStatusOf (map string_bytes words.now) result }
     ensures status { result ≤ 2 }
@@ -109,8 +110,9 @@ fn show(rt: &HostRuntime, words: &[String], fault: &PlanFault, errors: &mut Erro
     }
 }
 
-/// Shows what is wrong with words. It is said of the words as they are shown, so that none of them makes a line of its own; `text` says it
-/// of the words as they are, and comes where the others are a plan, which none were seen to be.
+/// Shows what is wrong with words. It is said of the words as they are shown, so that none of them
+/// makes a line of its own; `text` says it of the words as they are, and comes where the others are
+/// a plan, which none were seen to be.
 fn show_mistake(rt: &HostRuntime, words: &[String], text: &Error, errors: &mut Errors) -> u8
     ensures { result ≡ 2 }
 {
@@ -165,7 +167,8 @@ fn do_with_files(rt: &HostRuntime, plan: &Plan<'_>, errors: &mut Errors) -> u8
     do_over_streams(rt, plan, file.as_slice(), context.as_slice(), errors)
 }
 
-/// The bytes of FILE, which is a listing for `asm` and where the plan says so, and an object for `link`.
+/// The bytes of FILE, which is a listing for `asm` and where the plan says so, and an object for
+/// `link`.
 fn file_of<'a>(rt: &HostRuntime, plan: &Plan<'a>) -> Result<Vec<u8>, JobFault<'a>>
     ensures err { IfErr result (Names plan.now.file.now) }
 {
@@ -192,11 +195,12 @@ fn context_of<'a>(rt: &HostRuntime, plan: &Plan<'a>) -> Result<Vec<u8>, JobFault
     }
 }
 
-/// Does the job of a plan over standard input and standard output. A standard input that is closed is an empty script; one that is a
-/// terminal, where commands are typed, is read after a prompt. Calls that the system interrupts are made again, below the buffers.
+/// Does the job of a plan over standard input and standard output. A standard input that is closed
+/// is an empty script; one that is a terminal, where commands are typed, is read after a prompt.
+/// Calls that the system interrupts are made again, below the buffers.
 ///
-/// The input is read in large pieces, so a program that reads on behind `quit` in the same pipe finds less than the script
-/// left there, mostly nothing.
+/// The input is read in large pieces, so a program that reads on behind `quit` in the same pipe
+/// finds less than the script left there, mostly nothing.
 fn do_over_streams(
     rt: &HostRuntime,
     plan: &Plan<'_>,
@@ -233,7 +237,8 @@ fn do_over_streams(
     }
 }
 
-/// What is said first where commands are typed: the plan reads them, and standard input is a terminal.
+/// What is said first where commands are typed: the plan reads them, and standard input is a
+/// terminal.
 fn greeting_of(rt: &HostRuntime, plan: &Plan<'_>) -> Option<&'static str>
     ensures { OnSome result (plan.now.subcommand ≡ Debug) }
 {

@@ -18,8 +18,8 @@ pub const FIRST_GREETING: &str =
 /// The prompt.
 const PROMPT: &str = "> ";
 
-/// A reader over another one, and a writer to which a prompt goes before each read that asks for bytes, and before the first of them a
-/// greeting. What of them can't be written is left out.
+/// A reader over another one, and a writer to which a prompt goes before each read that asks for
+/// bytes, and before the first of them a greeting. What of them can't be written is left out.
 #[derive(Drop)]
 pub struct Prompting<R, W> {
     inner: R,
@@ -55,7 +55,8 @@ impl<R: Read, W: Write> Read for Prompting<R, W> {
 
     fn read(&mut self, buf: &mut [u8]) -> io::Result<usize>
         ensures bound { ReadsAtMost result buf.new }
-        ensures bytes { ReadConsumes (R.remaining self.old.inner) (R.remaining self.new.inner) result buf.new }
+        ensures bytes { ReadConsumes (R.remaining self.old.inner) (R.remaining self.new.inner)
+            result buf.new }
     {
         if !buf.is_empty() {
             self.say(self.greeting);

@@ -28,7 +28,8 @@ pub fn words_of<'a>(rt: &HostRuntime) -> Result<Vec<String>, JobFault<'a>> {
 
 /// Words as `plan` takes them; None where memory ran out.
 pub fn texts_of<'a>(alloc: Global, words: &'a [String]) -> Option<Vec<&'a str>>
-    ensures { IfSome result (λ texts. map (λ text. text.now) texts.items ≡ map string_bytes words.now) }
+    ensures { IfSome result (λ texts. map (λ text. text.now) texts.items
+        ≡ map string_bytes words.now) }
 {
     let mut texts = Vec::new(alloc);
     for word in words {
@@ -42,7 +43,8 @@ pub fn texts_of<'a>(alloc: Global, words: &'a [String]) -> Option<Vec<&'a str>>
 
 /// Words as they are shown, each as a name is; None where memory ran out.
 pub fn shown_words(alloc: Global, words: &[String]) -> Option<Vec<String>>
-    ensures { IfSome result (λ texts. map string_bytes texts.items ≡ map (λ word. shown (string_bytes word)) words.now) }
+    ensures { IfSome result (λ texts. map string_bytes texts.items
+        ≡ map (λ word. shown (string_bytes word)) words.now) }
 {
     let mut texts = Vec::new(alloc);
     for word in words {

@@ -115,7 +115,8 @@ fn with_entry<'a>(
     above: Command<'a>,
     entry: &CliSubcommand<'a>,
 ) -> Result<Command<'a>, AllocError>
-    ensures { IfOk result (λ command. app_of command ≡ with_subcommand (app_of above.entry) (entry_app entry.now).top) }
+    ensures { IfOk result (λ command. app_of command
+        ≡ with_subcommand (app_of above.entry) (entry_app entry.now).top) }
 {
     above.subcommand(subcommand(alloc, entry)?)
 }
@@ -142,7 +143,8 @@ fn with_entries<'a>(
     bare: Command<'a>,
     entries: &[CliSubcommand<'a>],
 ) -> Result<Command<'a>, AllocError>
-    ensures { IfOk result (λ command. app_of command ≡ fold with_entry (app_of bare.entry) entries.now) }
+    ensures { IfOk result (λ command. app_of command
+        ≡ fold with_entry (app_of bare.entry) entries.now) }
 {
     let mut command = bare;
     for entry in entries {

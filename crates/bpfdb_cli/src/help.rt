@@ -1,4 +1,5 @@
-//! The texts of help. `clap` adds the usage line, the lists of commands and options, and the defaults; it doesn't wrap lines.
+//! The texts of help. `clap` adds the usage line, the lists of commands and options, and the
+//! defaults; it doesn't wrap lines.
 
 /// The version, and the toolchain that proved it.
 pub const VERSION: &str = "0.9.0 (rattle-kit-13f logic dac8208d650f15bf)";

@@ -12,8 +12,8 @@ use clap::error::ErrorKind;
 use clap::{ArgMatches, Command, Error};
 use std::alloc::Global;
 
-/// What is said of a name that `--registers` doesn't take. It would be said of a number, too, that `clap` lets pass out of its range: it lets
-/// none pass, which isn't drawn from its contract here.
+/// What is said of a name that `--registers` doesn't take. It would be said of a number, too, that
+/// `clap` lets pass out of its range: it lets none pass, which isn't drawn from its contract here.
 const BAD_VALUE: &str = "a value is none of those that its option takes";
 
 /// The plan of a command line, of which the first word is the program's name.
@@ -73,7 +73,8 @@ fn plan_of<'a>(matches: &ArgMatches<'a>) -> Option<Plan<'a>>
 /// The plan of a subcommand's matches.
 fn plan_in<'a>(name: &'a str, found: &ArgMatches<'a>) -> Option<Plan<'a>>
     ensures value { IfSome result (Says name.now (rows_of (found_of found.now))) }
-    ensures none { IfNone result ((plan : Plan) → IsPlanOf name.now (rows_of (found_of found.now)) plan → ⊥) }
+    ensures none { IfNone result ((plan : Plan) →
+        IsPlanOf name.now (rows_of (found_of found.now)) plan → ⊥) }
     ensures limit { IfSome result (λ plan. IsLimit plan.limit) }
 {
     let subcommand = match subcommand_named(name) {
@@ -115,7 +116,8 @@ fn plan_in<'a>(name: &'a str, found: &ArgMatches<'a>) -> Option<Plan<'a>>
 /// The subcommand of this name.
 fn subcommand_named(name: &str) -> Option<Subcommand>
     ensures found { IfSome result (λ subcommand. subcommand_name subcommand ≡ name.now) }
-    ensures none { IfNone result ((subcommand : Subcommand) → subcommand_name subcommand ≡ name.now → ⊥) }
+    ensures none { IfNone result ((subcommand : Subcommand) →
+        subcommand_name subcommand ≡ name.now → ⊥) }
 {
     match name {
         "run" => Some(Subcommand::Run),
@@ -132,7 +134,8 @@ fn subcommand_named(name: &str) -> Option<Subcommand>
 /// The machine of this name, the default where none is named.
 fn registers_of(text: Option<&str>) -> Option<Registers>
     ensures found { IfSome result (NamesRegisters (option_map (λ t. t.now) text.entry)) }
-    ensures none { IfNone result ((registers : Registers) → NamesRegisters (option_map (λ t. t.now) text.entry) registers → ⊥) }
+    ensures none { IfNone result ((registers : Registers) →
+        NamesRegisters (option_map (λ t. t.now) text.entry) registers → ⊥) }
 {
     match text {
         None => Some(Registers::X86),
@@ -143,7 +146,8 @@ fn registers_of(text: Option<&str>) -> Option<Registers>
 /// The machine of this name.
 fn registers_named(name: &str) -> Option<Registers>
     ensures found { IfSome result (λ registers. registers_name registers ≡ name.now) }
-    ensures none { IfNone result ((registers : Registers) → registers_name registers ≡ name.now → ⊥) }
+    ensures none { IfNone result ((registers : Registers) →
+        registers_name registers ≡ name.now → ⊥) }
 {
     match name {
         "bpf" => Some(Registers::Bpf),
@@ -155,15 +159,19 @@ fn registers_named(name: &str) -> Option<Registers>
 
 /// The first text that was given for an argument.
 fn text_of<'a>(found: &ArgMatches<'a>, id: &str) -> Option<&'a str>
-    ensures { option_map (λ text. text.now) result ≡ first_of id.now (rows_of (found_of found.now)) }
+    ensures { option_map (λ text. text.now) result
+        ≡ first_of id.now (rows_of (found_of found.now)) }
 {
     found.get_str(id)
 }
 
 /// The number of an option; None where its text is no number below 2^64.
 fn number_or(text: Option<&str>, default: u64) -> Option<u64>
-    ensures found { IfSome result (λ number. number ≡ number_or default (option_map (λ t. t.now) text.entry)) }
-    ensures none { IfNone result (MatchOption text.entry ⊥ (λ t. IsNumeral 10 (without_leading_plus t.now) → digits_value 10 (without_leading_plus t.now) < 2 ^ 64 → ⊥)) }
+    ensures found { IfSome result (λ number. number
+        ≡ number_or default (option_map (λ t. t.now) text.entry)) }
+    ensures none { IfNone result
+        (MatchOption text.entry ⊥ (λ t. IsNumeral 10 (without_leading_plus t.now) →
+        digits_value 10 (without_leading_plus t.now) < 2 ^ 64 → ⊥)) }
 {
     match text {
         None => Some(default),

@@ -35,7 +35,8 @@ pub enum Registers {
     Riscv,
 }
 
-/// What a command line asks for. What the subcommand has no option for stands as when the option is absent.
+/// What a command line asks for. What the subcommand has no option for stands as when the option is
+/// absent.
 #[derive(Clone, Copy)]
 pub struct Plan<'a> {
     pub subcommand: Subcommand,

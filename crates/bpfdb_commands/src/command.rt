@@ -6,7 +6,8 @@ use bpf_machine::Edit;
 /// A command.
 #[derive(Drop)]
 pub enum Command {
-    /// Takes steps until the goal is reached, or up to a breakpoint, a change of a watched byte, the machine's end or the session's limit.
+    /// Takes steps until the goal is reached, or up to a breakpoint, a change of a watched byte,
+    /// the machine's end or the session's limit.
     Forward(Goal),
     /// Goes back to the state before the latest moves that are looked for.
     Back(Target),

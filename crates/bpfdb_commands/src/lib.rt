@@ -1,4 +1,5 @@
-//! Scripts: their lines, read into a buffer of fixed size, and the commands and refusals that lines come to.
+//! Scripts: their lines, read into a buffer of fixed size, and the commands and refusals that lines
+//! come to.
 #![tactic(auto)]
 
 mod command;

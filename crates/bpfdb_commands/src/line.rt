@@ -61,7 +61,8 @@ impl LineBuffer {
 
     /// Its bytes, None where there are more than can be read.
     pub fn bytes(&self) -> Option<&[u8]>
-        ensures { (line : List ℕ) → Holds self.now line → MatchOption result (longest_line < length line) (λ bytes. bytes.now ≡ line) }
+        ensures { (line : List ℕ) → Holds self.now line →
+            MatchOption result (longest_line < length line) (λ bytes. bytes.now ≡ line) }
     {
         if self.is_long {
             return None;
@@ -97,7 +98,8 @@ impl NextLine {
     }
 }
 
-/// Reads the next line, without its line feed. What follows the last line feed is a line only where it isn't empty.
+/// Reads the next line, without its line feed. What follows the last line feed is a line only where
+/// it isn't empty.
 pub fn next_line<R: Read>(
     reader: &mut Counted<R>,
     line: &mut LineBuffer,

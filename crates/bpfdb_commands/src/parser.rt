@@ -22,8 +22,8 @@ const LONGEST_BYTES: usize = 256;
 
 /// The command on a line, which is given without its line feed; None where it has no tokens.
 ///
-/// Q12 where the line is too long, else Q1 where its first token is no command's name, else Q2 where a token after the
-/// name is wrong, missing or too many.
+/// Q12 where the line is too long, else Q1 where its first token is no command's name, else Q2
+/// where a token after the name is wrong, missing or too many.
 #[tactic(auto, unfolding(crate::specs::Commands::command_of))]
 pub fn parse_command(line: &[u8]) -> Result<Option<Command>, Refusal>
     ensures value { result ≡ command_of line.now }
@@ -92,7 +92,8 @@ fn command_named(name: &[u8], tokens: Tokens) -> Result<Command, Refusal>
 
 /// `stepi` and a count.
 fn step(tokens: Tokens) -> Result<Command, Refusal>
-    ensures value { result ≡ ok_or (counted (λ count. Command.Forward (Goal.Steps count)) tokens.entry) Refusal.WrongArgument }
+    ensures value { result ≡ ok_or
+        (counted (λ count. Command.Forward (Goal.Steps count)) tokens.entry) Refusal.WrongArgument }
 {
     let count = optional_count(tokens)?;
     Ok(Command::Forward(Goal::Steps(count)))
@@ -100,7 +101,9 @@ fn step(tokens: Tokens) -> Result<Command, Refusal>
 
 /// `undo` and a count.
 fn undo(tokens: Tokens) -> Result<Command, Refusal>
-    ensures value { result ≡ ok_or (counted (λ count. Command.Back (Target.Commands count)) tokens.entry) Refusal.WrongArgument }
+    ensures value { result ≡ ok_or
+        (counted (λ count. Command.Back (Target.Commands count)) tokens.entry)
+        Refusal.WrongArgument }
 {
     let count = optional_count(tokens)?;
     Ok(Command::Back(Target::Commands(count)))
@@ -108,7 +111,8 @@ fn undo(tokens: Tokens) -> Result<Command, Refusal>
 
 /// `reverse-stepi` and a count.
 fn reverse_step(tokens: Tokens) -> Result<Command, Refusal>
-    ensures value { result ≡ ok_or (counted (λ count. Command.Back (Target.Steps count)) tokens.entry) Refusal.WrongArgument }
+    ensures value { result ≡ ok_or
+        (counted (λ count. Command.Back (Target.Steps count)) tokens.entry) Refusal.WrongArgument }
 {
     let count = optional_count(tokens)?;
     Ok(Command::Back(Target::Steps(count)))
@@ -116,7 +120,8 @@ fn reverse_step(tokens: Tokens) -> Result<Command, Refusal>
 
 /// `redo` and a count.
 fn redo(tokens: Tokens) -> Result<Command, Refusal>
-    ensures value { result ≡ ok_or (counted (λ count. Command.Redo count) tokens.entry) Refusal.WrongArgument }
+    ensures value { result ≡ ok_or (counted (λ count. Command.Redo count) tokens.entry)
+        Refusal.WrongArgument }
 {
     let count = optional_count(tokens)?;
     Ok(Command::Redo(count))
@@ -124,7 +129,8 @@ fn redo(tokens: Tokens) -> Result<Command, Refusal>
 
 /// `break` and a slot.
 fn set_break(tokens: Tokens) -> Result<Command, Refusal>
-    ensures value { result ≡ ok_or (numbered (λ slot. Command.Add (Stop.Breakpoint slot)) tokens.entry) Refusal.WrongArgument }
+    ensures value { result ≡ ok_or
+        (numbered (λ slot. Command.Add (Stop.Breakpoint slot)) tokens.entry) Refusal.WrongArgument }
 {
     let slot = one_number(tokens)?;
     Ok(Command::Add(Stop::Breakpoint(slot)))
@@ -132,7 +138,9 @@ fn set_break(tokens: Tokens) -> Result<Command, Refusal>
 
 /// `delete` and a slot.
 fn delete(tokens: Tokens) -> Result<Command, Refusal>
-    ensures value { result ≡ ok_or (numbered (λ slot. Command.Remove (Stop.Breakpoint slot)) tokens.entry) Refusal.WrongArgument }
+    ensures value { result ≡ ok_or
+        (numbered (λ slot. Command.Remove (Stop.Breakpoint slot)) tokens.entry)
+        Refusal.WrongArgument }
 {
     let slot = one_number(tokens)?;
     Ok(Command::Remove(Stop::Breakpoint(slot)))
@@ -140,7 +148,9 @@ fn delete(tokens: Tokens) -> Result<Command, Refusal>
 
 /// `watch` and an address.
 fn watch(tokens: Tokens) -> Result<Command, Refusal>
-    ensures value { result ≡ ok_or (numbered (λ address. Command.Add (Stop.Watch address)) tokens.entry) Refusal.WrongArgument }
+    ensures value { result ≡ ok_or
+        (numbered (λ address. Command.Add (Stop.Watch address)) tokens.entry)
+        Refusal.WrongArgument }
 {
     let address = one_number(tokens)?;
     Ok(Command::Add(Stop::Watch(address)))
@@ -148,7 +158,9 @@ fn watch(tokens: Tokens) -> Result<Command, Refusal>
 
 /// `unwatch` and an address.
 fn unwatch(tokens: Tokens) -> Result<Command, Refusal>
-    ensures value { result ≡ ok_or (numbered (λ address. Command.Remove (Stop.Watch address)) tokens.entry) Refusal.WrongArgument }
+    ensures value { result ≡ ok_or
+        (numbered (λ address. Command.Remove (Stop.Watch address)) tokens.entry)
+        Refusal.WrongArgument }
 {
     let address = one_number(tokens)?;
     Ok(Command::Remove(Stop::Watch(address)))
@@ -156,7 +168,9 @@ fn unwatch(tokens: Tokens) -> Result<Command, Refusal>
 
 /// `last-write` and an address.
 fn last_write(tokens: Tokens) -> Result<Command, Refusal>
-    ensures value { result ≡ ok_or (numbered (λ address. Command.Show (View.LastWrite address)) tokens.entry) Refusal.WrongArgument }
+    ensures value { result ≡ ok_or
+        (numbered (λ address. Command.Show (View.LastWrite address)) tokens.entry)
+        Refusal.WrongArgument }
 {
     let address = one_number(tokens)?;
     Ok(Command::Show(View::LastWrite(address)))
@@ -227,7 +241,8 @@ fn set_cell(mut tokens: Tokens) -> Result<Command, Refusal>
 
 /// `set pc`: a slot.
 fn set_pc(tokens: Tokens) -> Result<Command, Refusal>
-    ensures value { result ≡ ok_or (numbered (λ slot. Command.Edit (edit.Pc slot)) tokens.entry) Refusal.WrongArgument }
+    ensures value { result ≡ ok_or (numbered (λ slot. Command.Edit (edit.Pc slot)) tokens.entry)
+        Refusal.WrongArgument }
 {
     let slot = one_number(tokens)?;
     Ok(Command::Edit(Edit::Pc { slot }))
@@ -256,7 +271,9 @@ fn info(mut tokens: Tokens) -> Result<Command, Refusal>
 
 /// `x`: an address and how many bytes.
 fn examine(tokens: Tokens) -> Result<Command, Refusal>
-    ensures value { result ≡ ok_or (spanned (λ address span. Command.Show (View.Bytes address span)) tokens.entry) Refusal.WrongArgument }
+    ensures value { result ≡ ok_or
+        (spanned (λ address span. Command.Show (View.Bytes address span)) tokens.entry)
+        Refusal.WrongArgument }
 {
     match number_and_span(tokens) {
         Ok((address, span)) => Ok(Command::Show(View::Bytes { address, span })),
@@ -266,7 +283,9 @@ fn examine(tokens: Tokens) -> Result<Command, Refusal>
 
 /// `disas`: a slot and how many instructions.
 fn disassemble(tokens: Tokens) -> Result<Command, Refusal>
-    ensures value { result ≡ ok_or (spanned (λ slot span. Command.Show (View.Instructions slot span)) tokens.entry) Refusal.WrongArgument }
+    ensures value { result ≡ ok_or
+        (spanned (λ slot span. Command.Show (View.Instructions slot span)) tokens.entry)
+        Refusal.WrongArgument }
 {
     match number_and_span(tokens) {
         Ok((slot, span)) => Ok(Command::Show(View::Instructions { slot, span })),

@@ -25,13 +25,15 @@ pub enum Refusal {
     OutermostFrame,
     /// Q10: there are as many breakpoints or watches as there can be.
     TableFull,
-    /// Q11: the breakpoint or watch to be set is there already, or the one to be removed isn't there.
+    /// Q11: the breakpoint or watch to be set is there already, or the one to be removed isn't
+    /// there.
     ThereOrNot,
     /// Q12: the line is longer than 1,024 bytes.
     LineTooLong,
     /// Q13: no move was taken back since the latest new one.
     NothingToRedo,
-    /// Q14: there is no such map, its cells end before the index, or its values have another length.
+    /// Q14: there is no such map, its cells end before the index, or its values have another
+    /// length.
     NoCell,
     /// Q15: the first move of the command couldn't be kept.
     OutOfMemory,

@@ -6,7 +6,8 @@ use crate::refusal::Refusal;
 use counted_io::{find_blank, trim_start};
 use std::marker::Model;
 
-/// The tokens of a line that are still to be read. Space, tab and carriage return stand between tokens.
+/// The tokens of a line that are still to be read. Space, tab and carriage return stand between
+/// tokens.
 #[derive(Drop)]
 pub(crate) struct Tokens<'a> {
     line: &'a [u8],
@@ -31,7 +32,8 @@ impl<'a> Tokens<'a> {
 
     /// The next token, None after the last.
     pub(crate) fn next_token(&mut self) -> Option<&'a [u8]>
-        ensures next { MatchOption result (self.old ≡ []) (λ token. self.old ≡ token.now ∷ self.new) }
+        ensures next { MatchOption result (self.old ≡ []) (λ token. self.old
+            ≡ token.now ∷ self.new) }
         ensures same { IfNone result (self.new ≡ self.old) }
     {
         let line = trim_start(self.line);

@@ -4,8 +4,8 @@ use bpf_testing::{number_of, parts_of};
 use bpfdb_commands::{Command, Count, Goal, Refusal, Span, Stop, Target, View, parse_command};
 use std::process::Abort;
 
-// What a line says: its command, `nothing` or `refused`, and two numbers, of which those that it doesn't need are 0. Bytes are told by
-// how many they are, a refusal by its number.
+// What a line says: its command, `nothing` or `refused`, and two numbers, of which those that it
+// doesn't need are 0. Bytes are told by how many they are, a refusal by its number.
 type Said<'a> = (&'a str, u64, u64);
 
 // A row: the line, and what it says with its numbers.

@@ -1,4 +1,5 @@
-//! What the program reads of files, over any reader, and calls that are made again where the system interrupts them.
+//! What the program reads of files, over any reader, and calls that are made again where the system
+//! interrupts them.
 #![tactic(auto)]
 
 mod kinds;

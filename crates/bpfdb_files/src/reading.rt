@@ -25,9 +25,11 @@ pub fn read_first<R: Read>(
     reader: &mut Counted<R>,
     most: usize,
 ) -> Result<Vec<u8>, FirstFault>
-    ensures bytes { IfOk result (λ b. Consumes (R.remaining reader.old.inner) (R.remaining reader.new.inner) b.items) }
+    ensures bytes { IfOk result
+        (λ b. Consumes (R.remaining reader.old.inner) (R.remaining reader.new.inner) b.items) }
     ensures bound { IfOk result (λ b. length b.items ≤ most) }
-    ensures end { IfOk result (λ b. length b.items < most → IsAtEnd (R.remaining reader.new.inner)) }
+    ensures end { IfOk result (λ b. length b.items < most →
+        IsAtEnd (R.remaining reader.new.inner)) }
     ensures same { OnOk result (reader.new.failures ≡ reader.old.failures) }
     ensures fault { IfErr result (λ why. Counts why reader.old.failures reader.new.failures) }
 {

@@ -22,15 +22,27 @@ pub fn check_job<W: Write, E: Write>(
     errors: &mut Counted<E>,
 ) -> u8
     ensures value { (script told : List ℕ) → W.contents writer.old.inner ≡ Some told → result ≢ 2 →
-        Completes Check job.now (record { script = script; told = told; after = W.contents writer.new.inner; left = Some script }) result }
+        Completes Check job.now (record {
+          script = script;
+          told = told;
+          after = W.contents writer.new.inner;
+          left = Some script;
+        }) result }
     ensures broken { (script told : List ℕ) → W.contents writer.old.inner ≡ Some told → result ≡ 2 →
-        StopsUnread Check job.now (record { script = script; told = told; after = W.contents writer.new.inner; left = Some script }) }
+        StopsUnread Check job.now
+        (record {
+          script = script;
+          told = told;
+          after = W.contents writer.new.inner;
+          left = Some script;
+        }) }
     ensures refused { (Needs Check job.now → ⊥) → (result ≡ 2) × (writer.new ≡ writer.old) }
     ensures spared { result ≢ 2 → Spared writer.old writer.new × Spared errors.old errors.new }
     ensures quiet { result ≡ 0 → errors.new ≡ errors.old }
     ensures never { result ≢ 1 }
     ensures status { result ≤ 2 }
-    ensures told { result ≡ 2 → TellsUnread E.contents Check job.now writer.old writer.new errors.old errors.new }
+    ensures told { result ≡ 2 →
+        TellsUnread E.contents Check job.now writer.old writer.new errors.old errors.new }
 {
     match program_of(alloc, job) {
         Ok(program) => {
@@ -62,7 +74,8 @@ fn write_line<W: Write>(program: &Program, writer: &mut Counted<W>) -> Result<()
     put_size(writer, Ok(()), program)
 }
 
-/// Writes how many instructions and slots a program has, after what was written so far, unless that failed.
+/// Writes how many instructions and slots a program has, after what was written so far, unless that
+/// failed.
 fn put_size<W: Write>(
     writer: &mut Counted<W>,
     so_far: Result<(), WriteFault>,

@@ -15,7 +15,8 @@ use counted_io::Counted;
 use std::alloc::Global;
 use std::io::{Read, Write};
 
-/// Obeys the script from the reader and writes the replies. The journal takes its memory before the first line is read.
+/// Obeys the script from the reader and writes the replies. The journal takes its memory before the
+/// first line is read.
 #[inline(never)]
 pub fn debug_job<R: Read, W: Write, E: Write>(
     alloc: Global,
@@ -26,17 +27,34 @@ pub fn debug_job<R: Read, W: Write, E: Write>(
 ) -> u8
     requires limit { IsLimit job.now.limit }
     // The whole answer was written.
-    ensures value { (script told : List ℕ) → R.remaining reader.old.inner ≡ Some script → W.contents writer.old.inner ≡ Some told → result ≢ 2 →
-        Completes Debug job.now (record { script = script; told = told; after = W.contents writer.new.inner; left = R.remaining reader.new.inner }) result }
-    ensures broken { (script told : List ℕ) → R.remaining reader.old.inner ≡ Some script → W.contents writer.old.inner ≡ Some told → result ≡ 2 →
-        StopsShort Debug job.now (record { script = script; told = told; after = W.contents writer.new.inner; left = R.remaining reader.new.inner })
+    ensures value { (script told : List ℕ) → R.remaining reader.old.inner ≡ Some script →
+        W.contents writer.old.inner ≡ Some told → result ≢ 2 →
+        Completes Debug job.now (record {
+          script = script;
+          told = told;
+          after = W.contents writer.new.inner;
+          left = R.remaining reader.new.inner;
+        }) result }
+    ensures broken { (script told : List ℕ) → R.remaining reader.old.inner ≡ Some script →
+        W.contents writer.old.inner ≡ Some told → result ≡ 2 →
+        StopsShort Debug job.now
+        (record {
+          script = script;
+          told = told;
+          after = W.contents writer.new.inner;
+          left = R.remaining reader.new.inner;
+        })
         reader.old reader.new writer.old writer.new }
-    ensures refused { (Needs Debug job.now → ⊥) → (result ≡ 2) × (reader.new ≡ reader.old) × (writer.new ≡ writer.old) }
-    ensures spared { result ≢ 2 → Spared reader.old reader.new × Spared writer.old writer.new × Spared errors.old errors.new }
+    ensures refused { (Needs Debug job.now → ⊥) → (result ≡ 2) × (reader.new ≡ reader.old)
+        × (writer.new ≡ writer.old) }
+    ensures spared { result ≢ 2 → Spared reader.old reader.new × Spared writer.old writer.new
+        × Spared errors.old errors.new }
     ensures quiet { result ≡ 0 → errors.new ≡ errors.old }
     ensures never { result ≢ 1 }
     ensures status { result ≤ 2 }
-    ensures told { result ≡ 2 → TellsFault E.contents Debug job.now reader.old reader.new writer.old writer.new errors.old errors.new }
+    ensures told { result ≡ 2 →
+        TellsFault E.contents Debug job.now reader.old reader.new writer.old writer.new errors.old
+        errors.new }
 {
     let mut session = match session_of(alloc, job) {
         Ok(session) => session,

@@ -22,7 +22,8 @@ pub enum JobKind {
 pub struct Job<'a> {
     /// What is done.
     pub kind: JobKind,
-    /// FILE's bytes: the program's raw little-endian words, its listing, or an object that holds it.
+    /// FILE's bytes: the program's raw little-endian words, its listing, or an object that holds
+    /// it.
     pub file: &'a [u8],
     /// PATH's bytes, the context: at most 65,536.
     pub context: &'a [u8],
@@ -34,6 +35,7 @@ pub struct Job<'a> {
     pub limit: u64,
     /// FILE is a listing, assembled first.
     pub is_listing: bool,
-    /// The name of the code section that is linked, at most 255 bytes; empty where the only one is meant.
+    /// The name of the code section that is linked, at most 255 bytes; empty where the only one is
+    /// meant.
     pub section: &'a [u8],
 }

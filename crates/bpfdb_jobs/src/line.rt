@@ -44,7 +44,8 @@ fn put_unreadable<E: Write>(
     so_far: Result<(), WriteFault>,
     name: &str,
 ) -> Result<(), WriteFault>
-    ensures { WritesAfter E.contents errors.old so_far errors.new result (unreadable_line name.now) }
+    ensures { WritesAfter E.contents errors.old so_far errors.new result
+        (unreadable_line name.now) }
 {
     let begun = put(errors, so_far, b"cannot read ");
     let named = put_name(errors, begun, name.as_bytes());
@@ -73,7 +74,8 @@ fn put_refusal<E: Write>(
     so_far: Result<(), WriteFault>,
     refusal: &JobRefusal,
 ) -> Result<(), WriteFault>
-    ensures { WritesAfter E.contents errors.old so_far errors.new result (refusal_line refusal.now) }
+    ensures { WritesAfter E.contents errors.old so_far errors.new result
+        (refusal_line refusal.now) }
 {
     match refusal {
         JobRefusal::Maps(fault) => {
@@ -97,7 +99,8 @@ fn put_listing<E: Write>(
     so_far: Result<(), WriteFault>,
     fault: &AsmFault,
 ) -> Result<(), WriteFault>
-    ensures { WritesAfter E.contents errors.old so_far errors.new result (refusal_line (JobRefusal.Listing fault.now)) }
+    ensures { WritesAfter E.contents errors.old so_far errors.new result
+        (refusal_line (JobRefusal.Listing fault.now)) }
 {
     put_numbered(
         errors,
@@ -116,7 +119,8 @@ fn put_load<E: Write>(
     so_far: Result<(), WriteFault>,
     fault: &LoadFault,
 ) -> Result<(), WriteFault>
-    ensures { WritesAfter E.contents errors.old so_far errors.new result (refusal_line (JobRefusal.Load fault.now)) }
+    ensures { WritesAfter E.contents errors.old so_far errors.new result
+        (refusal_line (JobRefusal.Load fault.now)) }
 {
     put_numbered(
         errors,
@@ -135,7 +139,8 @@ fn put_object<E: Write>(
     so_far: Result<(), WriteFault>,
     fault: &LinkFault,
 ) -> Result<(), WriteFault>
-    ensures { WritesAfter E.contents errors.old so_far errors.new result (refusal_line (JobRefusal.Object fault.now)) }
+    ensures { WritesAfter E.contents errors.old so_far errors.new result
+        (refusal_line (JobRefusal.Object fault.now)) }
 {
     put_numbered(
         errors,
@@ -188,7 +193,8 @@ fn put_numbered<E: Write>(
     at: Option<usize>,
     text: &str,
 ) -> Result<(), WriteFault>
-    ensures { WritesAfter E.contents errors.old so_far errors.new result (refusal_text family.now number (placed unit.now at) text.now) }
+    ensures { WritesAfter E.contents errors.old so_far errors.new result
+        (refusal_text family.now number (placed unit.now at) text.now) }
 {
     let begun = put(errors, so_far, family);
     let numbered = put_decimal(errors, begun, u64::from(number));
@@ -206,7 +212,8 @@ fn put_unplaced<E: Write>(
     number: u8,
     text: &str,
 ) -> Result<(), WriteFault>
-    ensures { WritesAfter E.contents errors.old so_far errors.new result (refusal_text family.now number [] text.now) }
+    ensures { WritesAfter E.contents errors.old so_far errors.new result
+        (refusal_text family.now number [] text.now) }
 {
     put_numbered(errors, so_far, family, number, b"", None, text)
 }

@@ -22,15 +22,26 @@ pub fn asm_job<W: Write, E: Write>(
     errors: &mut Counted<E>,
 ) -> u8
     ensures value { (script told : List ℕ) → W.contents writer.old.inner ≡ Some told → result ≢ 2 →
-        Completes Asm job.now (record { script = script; told = told; after = W.contents writer.new.inner; left = Some script }) result }
+        Completes Asm job.now (record {
+          script = script;
+          told = told;
+          after = W.contents writer.new.inner;
+          left = Some script;
+        }) result }
     ensures broken { (script told : List ℕ) → W.contents writer.old.inner ≡ Some told → result ≡ 2 →
-        StopsUnread Asm job.now (record { script = script; told = told; after = W.contents writer.new.inner; left = Some script }) }
+        StopsUnread Asm job.now (record {
+          script = script;
+          told = told;
+          after = W.contents writer.new.inner;
+          left = Some script;
+        }) }
     ensures refused { (Needs Asm job.now → ⊥) → (result ≡ 2) × (writer.new ≡ writer.old) }
     ensures spared { result ≢ 2 → Spared writer.old writer.new × Spared errors.old errors.new }
     ensures quiet { result ≡ 0 → errors.new ≡ errors.old }
     ensures never { result ≢ 1 }
     ensures status { result ≤ 2 }
-    ensures told { result ≡ 2 → TellsUnread E.contents Asm job.now writer.old writer.new errors.old errors.new }
+    ensures told { result ≡ 2 →
+        TellsUnread E.contents Asm job.now writer.old writer.new errors.old errors.new }
 {
     match assemble(alloc, job.file) {
         Ok(words) => {
@@ -49,15 +60,28 @@ pub fn disasm_job<W: Write, E: Write>(
     errors: &mut Counted<E>,
 ) -> u8
     ensures value { (script told : List ℕ) → W.contents writer.old.inner ≡ Some told → result ≢ 2 →
-        Completes Disasm job.now (record { script = script; told = told; after = W.contents writer.new.inner; left = Some script }) result }
+        Completes Disasm job.now
+        (record {
+          script = script;
+          told = told;
+          after = W.contents writer.new.inner;
+          left = Some script;
+        }) result }
     ensures broken { (script told : List ℕ) → W.contents writer.old.inner ≡ Some told → result ≡ 2 →
-        StopsUnread Disasm job.now (record { script = script; told = told; after = W.contents writer.new.inner; left = Some script }) }
+        StopsUnread Disasm job.now
+        (record {
+          script = script;
+          told = told;
+          after = W.contents writer.new.inner;
+          left = Some script;
+        }) }
     ensures refused { (Needs Disasm job.now → ⊥) → (result ≡ 2) × (writer.new ≡ writer.old) }
     ensures spared { result ≢ 2 → Spared writer.old writer.new × Spared errors.old errors.new }
     ensures quiet { result ≡ 0 → errors.new ≡ errors.old }
     ensures never { result ≢ 1 }
     ensures status { result ≤ 2 }
-    ensures told { result ≡ 2 → TellsUnread E.contents Disasm job.now writer.old writer.new errors.old errors.new }
+    ensures told { result ≡ 2 →
+        TellsUnread E.contents Disasm job.now writer.old writer.new errors.old errors.new }
 {
     let program = match program_of(alloc, job) {
         Ok(program) => program,

@@ -9,14 +9,15 @@ use bpf_isa::MapShape;
 use counted_io::{Counted, WriteFault, put, put_decimal};
 use std::io::Write;
 
-/// Tells the maps of an object on standard error, as `--maps` takes them: a line, or nothing where there are none. Answers the exit status:
-/// 0, or 2 where standard error failed.
+/// Tells the maps of an object on standard error, as `--maps` takes them: a line, or nothing where
+/// there are none. Answers the exit status: 0, or 2 where standard error failed.
 pub fn tell_maps<E: Write>(errors: &mut Counted<E>, shapes: &[MapShape]) -> u8
     ensures status { result ≢ 2 → result ≡ 0 }
     ensures few { result ≤ 2 }
     ensures quiet { result ≢ 2 → TellsMaps E.contents shapes.now errors.old errors.new }
     ensures spared { result ≢ 2 → Spared errors.old errors.new }
-    ensures lost { result ≡ 2 → (shapes.now ≢ []) × Loses E.contents errors.old errors.new (maps_line shapes.now) }
+    ensures lost { result ≡ 2 → (shapes.now ≢ [])
+        × Loses E.contents errors.old errors.new (maps_line shapes.now) }
 {
     if shapes.is_empty() {
         return 0;
@@ -73,7 +74,8 @@ fn put_further<E: Write>(
     so_far: Result<(), WriteFault>,
     shapes: &[MapShape],
 ) -> Result<(), WriteFault>
-    ensures { WritesAfter E.contents errors.old so_far errors.new result (flat_map (λ shape. codes "," ++ shape_text shape) shapes.now) }
+    ensures { WritesAfter E.contents errors.old so_far errors.new result
+        (flat_map (λ shape. codes "," ++ shape_text shape) shapes.now) }
 {
     let mut told = so_far;
     for shape in shapes {
@@ -88,7 +90,8 @@ fn put_next<E: Write>(
     so_far: Result<(), WriteFault>,
     shape: &MapShape,
 ) -> Result<(), WriteFault>
-    ensures { WritesAfter E.contents errors.old so_far errors.new result (codes "," ++ shape_text shape.now) }
+    ensures { WritesAfter E.contents errors.old so_far errors.new result
+        (codes "," ++ shape_text shape.now) }
 {
     let begun = put(errors, so_far, b",");
     put_shape(errors, begun, shape)

@@ -8,7 +8,8 @@ use counted_io::{Counted, WriteFault, put};
 use std::alloc::Global;
 use std::io::Write;
 
-/// A name as it is shown, in a text of its own; None where memory ran out. (Names are UTF-8, and so is what is shown of them.)
+/// A name as it is shown, in a text of its own; None where memory ran out. (Names are UTF-8, and so
+/// is what is shown of them.)
 pub fn shown_name(alloc: Global, name: &str) -> Option<String>
     ensures { IfSome result (λ text. string_bytes text ≡ shown name.now) }
 {
@@ -39,8 +40,8 @@ fn write_name<W: Write>(writer: &mut Counted<W>, name: &[u8]) -> Result<(), Writ
     put_name(writer, Ok(()), name)
 }
 
-/// Writes a name, after what was written so far, unless that failed: each control byte as `\x` and two hexadecimal digits, so that it
-/// ends no line and steers no terminal.
+/// Writes a name, after what was written so far, unless that failed: each control byte as `\x` and
+/// two hexadecimal digits, so that it ends no line and steers no terminal.
 pub fn put_name<W: Write>(
     writer: &mut Counted<W>,
     so_far: Result<(), WriteFault>,
@@ -55,8 +56,8 @@ pub fn put_name<W: Write>(
     told
 }
 
-/// Writes a text of several lines, in which a name may stand, after what was written so far, unless that failed: as a name, with the
-/// line feeds as they are.
+/// Writes a text of several lines, in which a name may stand, after what was written so far, unless
+/// that failed: as a name, with the line feeds as they are.
 pub fn put_text<W: Write>(
     writer: &mut Counted<W>,
     so_far: Result<(), WriteFault>,

@@ -15,7 +15,8 @@ use counted_io::{Counted, WriteFault};
 use std::alloc::Global;
 use std::io::Write;
 
-/// Writes the words that an object's code section is linked to, and tells the maps that the object defines.
+/// Writes the words that an object's code section is linked to, and tells the maps that the object
+/// defines.
 pub fn link_job<W: Write, E: Write>(
     alloc: Global,
     job: &Job<'_>,
@@ -23,15 +24,27 @@ pub fn link_job<W: Write, E: Write>(
     errors: &mut Counted<E>,
 ) -> u8
     ensures value { (script told : List ℕ) → W.contents writer.old.inner ≡ Some told → result ≢ 2 →
-        Completes Link job.now (record { script = script; told = told; after = W.contents writer.new.inner; left = Some script }) result }
+        Completes Link job.now (record {
+          script = script;
+          told = told;
+          after = W.contents writer.new.inner;
+          left = Some script;
+        }) result }
     ensures broken { (script told : List ℕ) → W.contents writer.old.inner ≡ Some told → result ≡ 2 →
-        StopsUnread Link job.now (record { script = script; told = told; after = W.contents writer.new.inner; left = Some script }) }
+        StopsUnread Link job.now
+        (record {
+          script = script;
+          told = told;
+          after = W.contents writer.new.inner;
+          left = Some script;
+        }) }
     ensures refused { (Needs Link job.now → ⊥) → (result ≡ 2) × (writer.new ≡ writer.old) }
     ensures spared { result ≢ 2 → Spared writer.old writer.new × Spared errors.old errors.new }
     ensures quiet { result ≡ 0 → TellsDone E.contents Link job.now errors.old errors.new }
     ensures never { result ≢ 1 }
     ensures status { result ≤ 2 }
-    ensures told { result ≡ 2 → TellsUnread E.contents Link job.now writer.old writer.new errors.old errors.new
+    ensures told { result ≡ 2 →
+        TellsUnread E.contents Link job.now writer.old writer.new errors.old errors.new
         ⊎ (LosesMaps E.contents job.now errors.old errors.new × Spared writer.old writer.new) }
 {
     let linked = match link(alloc, job.file, job.section) {

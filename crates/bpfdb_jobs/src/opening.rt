@@ -30,7 +30,8 @@ fn maps_of(job: &Job<'_>) -> Result<MapTable, JobRefusal>
     }
 }
 
-/// The program: first its maps are read, then the listing, if FILE is one, is assembled, then the checker looks at the words.
+/// The program: first its maps are read, then the listing, if FILE is one, is assembled, then the
+/// checker looks at the words.
 pub fn program_of(alloc: Global, job: &Job<'_>) -> Result<Program, JobRefusal>
     ensures ok { IfOk result (IsProgramOf job.now) }
     ensures err { IfErr result (RefusesProgram job.now) }
@@ -82,7 +83,8 @@ fn checked(
 
 /// A machine before its first step.
 pub fn machine_of(alloc: Global, job: &Job<'_>) -> Result<Cpu, JobRefusal>
-    ensures ok { IfOk result (λ cpu. (code : Checked) × Opens job.now code × (cpu ≡ initial code job.now.context.now)) }
+    ensures ok { IfOk result (λ cpu. (code : Checked) × Opens job.now code
+        × (cpu ≡ initial code job.now.context.now)) }
     ensures err { IfErr result (RefusesMachine job.now) }
 {
     let program = match program_of(alloc, job) {
@@ -98,7 +100,9 @@ pub fn machine_of(alloc: Global, job: &Job<'_>) -> Result<Cpu, JobRefusal>
 /// A session before its first command.
 pub fn session_of(alloc: Global, job: &Job<'_>) -> Result<Session<RingKeeper>, JobRefusal>
     requires limit { IsLimit job.now.limit }
-    ensures ok { IfOk result (IsOpening ⟦<RingKeeper as Keeper>⟧.holds ⟦<RingKeeper as Keeper>⟧.refused ⟦<RingKeeper as Keeper>⟧.room job.now) }
+    ensures ok { IfOk result
+        (IsOpening ⟦<RingKeeper as Keeper>⟧.holds ⟦<RingKeeper as Keeper>⟧.refused
+        ⟦<RingKeeper as Keeper>⟧.room job.now) }
     ensures err { IfErr result (Refuses job.now) }
 {
     let cpu = match machine_of(alloc, job) {

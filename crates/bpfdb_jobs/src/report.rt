@@ -64,8 +64,8 @@ fn put_place_line<W: Write>(writer: &mut Counted<W>, cpu: &Cpu) -> Result<(), Wr
     put(writer, placed, b"\n")
 }
 
-/// Writes the line of a fault that ends a job to standard error, and flushes. Answers the exit status, 2, whether the line could be
-/// written or not.
+/// Writes the line of a fault that ends a job to standard error, and flushes. Answers the exit
+/// status, 2, whether the line could be written or not.
 pub fn give_up<E: Write>(errors: &mut Counted<E>, fault: &JobFault<'_>) -> u8
     ensures value { result ≡ 2 }
     ensures told { Told E.contents errors.old errors.new (line_of fault.now) }
@@ -76,8 +76,9 @@ pub fn give_up<E: Write>(errors: &mut Counted<E>, fault: &JobFault<'_>) -> u8
     }
 }
 
-/// Writes what is wrong with a command line to standard error, and flushes. The text has lines of its own; control bytes of words in it
-/// are shown as those of names are. Answers the exit status, 2, whether the text could be written or not.
+/// Writes what is wrong with a command line to standard error, and flushes. The text has lines of
+/// its own; control bytes of words in it are shown as those of names are. Answers the exit status,
+/// 2, whether the text could be written or not.
 pub fn tell_usage<E: Write>(errors: &mut Counted<E>, text: &str) -> u8
     ensures value { result ≡ 2 }
     ensures told { Told E.contents errors.old errors.new (shown_text text.now) }

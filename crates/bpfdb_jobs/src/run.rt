@@ -14,7 +14,8 @@ use counted_io::{Counted, WriteFault};
 use std::alloc::Global;
 use std::io::Write;
 
-/// Runs the program to its end or to the limit, and writes r0. A fault of the program, and the limit, are told on standard error.
+/// Runs the program to its end or to the limit, and writes r0. A fault of the program, and the
+/// limit, are told on standard error.
 pub fn run_job<W: Write, E: Write>(
     alloc: Global,
     job: &Job<'_>,
@@ -22,15 +23,27 @@ pub fn run_job<W: Write, E: Write>(
     errors: &mut Counted<E>,
 ) -> u8
     ensures value { (script told : List ℕ) → W.contents writer.old.inner ≡ Some told → result ≢ 2 →
-        Completes Run job.now (record { script = script; told = told; after = W.contents writer.new.inner; left = Some script }) result }
+        Completes Run job.now (record {
+          script = script;
+          told = told;
+          after = W.contents writer.new.inner;
+          left = Some script;
+        }) result }
     ensures broken { (script told : List ℕ) → W.contents writer.old.inner ≡ Some told → result ≡ 2 →
-        StopsUnread Run job.now (record { script = script; told = told; after = W.contents writer.new.inner; left = Some script }) }
+        StopsUnread Run job.now (record {
+          script = script;
+          told = told;
+          after = W.contents writer.new.inner;
+          left = Some script;
+        }) }
     ensures refused { (Needs Run job.now → ⊥) → (result ≡ 2) × (writer.new ≡ writer.old) }
     ensures spared { result ≢ 2 → Spared writer.old writer.new × Spared errors.old errors.new }
     ensures quiet { result ≡ 0 → errors.new ≡ errors.old }
     ensures status { result ≤ 2 }
-    ensures stopped { result ≡ 1 → TellsStop E.contents job.now errors.old errors.new × (writer.new ≡ writer.old) }
-    ensures told { result ≡ 2 → TellsUnread E.contents Run job.now writer.old writer.new errors.old errors.new
+    ensures stopped { result ≡ 1 → TellsStop E.contents job.now errors.old errors.new
+        × (writer.new ≡ writer.old) }
+    ensures told { result ≡ 2 →
+        TellsUnread E.contents Run job.now writer.old writer.new errors.old errors.new
         ⊎ (LosesStop E.contents job.now errors.old errors.new × (writer.new ≡ writer.old)) }
 {
     let mut cpu = match machine_of(alloc, job) {
@@ -45,7 +58,8 @@ pub fn run_job<W: Write, E: Write>(
     }
 }
 
-/// The exit status of a run that didn't reach its end, of which that was told on standard error, or couldn't be.
+/// The exit status of a run that didn't reach its end, of which that was told on standard error, or
+/// couldn't be.
 fn stopped(told: Result<(), WriteFault>) -> u8
     ensures value { result ≢ 2 → result ≡ 1 }
     ensures never { result ≢ 0 }

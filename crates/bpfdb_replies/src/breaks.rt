@@ -6,7 +6,8 @@ ghost use Rattle.bpfdb_replies.specs.Texts.{break_text, or_none, text_of_breaks,
 use counted_io::{Counted, WriteFault, put, put_decimal, put_hexadecimal};
 use std::io::Write;
 
-/// Writes a line for each breakpoint and then for each watch, in order of setting; `none` where there are none.
+/// Writes a line for each breakpoint and then for each watch, in order of setting; `none` where
+/// there are none.
 #[tactic(auto, unfolding(crate::specs::Texts::text_of_breaks))]
 pub fn put_breaks<W: Write>(
     writer: &mut Counted<W>,
@@ -14,7 +15,8 @@ pub fn put_breaks<W: Write>(
     breaks: &[u16],
     watches: &[u64],
 ) -> Result<(), WriteFault>
-    ensures { WritesAfter W.contents writer.old so_far writer.new result (text_of_breaks breaks.now watches.now) }
+    ensures { WritesAfter W.contents writer.old so_far writer.new result
+        (text_of_breaks breaks.now watches.now) }
 {
     if are_none(breaks, watches) {
         return put(writer, so_far, b"none\n");
@@ -25,7 +27,8 @@ pub fn put_breaks<W: Write>(
 
 /// Whether there are neither breakpoints nor watches.
 fn are_none(breaks: &[u16], watches: &[u64]) -> bool
-    ensures { (if result then codes "none\n" else flat_map break_text breaks.now ++ flat_map watch_text watches.now)
+    ensures { (if result then codes "none\n" else flat_map break_text breaks.now ++ flat_map
+        watch_text watches.now)
         ≡ or_none (flat_map break_text breaks.now ++ flat_map watch_text watches.now) }
 {
     if !breaks.is_empty() {
@@ -40,7 +43,8 @@ fn put_lines<W: Write>(
     so_far: Result<(), WriteFault>,
     breaks: &[u16],
 ) -> Result<(), WriteFault>
-    ensures { WritesAfter W.contents writer.old so_far writer.new result (flat_map break_text breaks.now) }
+    ensures { WritesAfter W.contents writer.old so_far writer.new result
+        (flat_map break_text breaks.now) }
 {
     let mut told = so_far;
     for slot in breaks {
@@ -68,7 +72,8 @@ fn put_watches<W: Write>(
     so_far: Result<(), WriteFault>,
     watches: &[u64],
 ) -> Result<(), WriteFault>
-    ensures { WritesAfter W.contents writer.old so_far writer.new result (flat_map watch_text watches.now) }
+    ensures { WritesAfter W.contents writer.old so_far writer.new result
+        (flat_map watch_text watches.now) }
 {
     let mut told = so_far;
     for address in watches {

@@ -23,7 +23,8 @@ pub fn put_bytes<W: Write>(
     span: Span,
 ) -> Result<(), WriteFault>
     requires { IsSome (index_of cpu.now.memory address span) }
-    ensures { WritesAfter W.contents writer.old so_far writer.new result (text_of_bytes cpu.now address span) }
+    ensures { WritesAfter W.contents writer.old so_far writer.new result
+        (text_of_bytes cpu.now address span) }
 {
     match cpu.peek(address, span.get() as usize) {
         Some(run) => {

@@ -29,7 +29,8 @@ fn put_lines<W: Write>(
     so_far: Result<(), WriteFault>,
     cpu: &Cpu,
 ) -> Result<(), WriteFault>
-    ensures { WritesAfter W.contents writer.old so_far writer.new result (flat_map text_of_frame (reverse cpu.now.frames)) }
+    ensures { WritesAfter W.contents writer.old so_far writer.new result
+        (flat_map text_of_frame (reverse cpu.now.frames)) }
 {
     let mut told = so_far;
     for i in 0..cpu.depth() {
@@ -46,7 +47,8 @@ fn put_pushed<W: Write>(
     i: usize,
 ) -> Result<(), WriteFault>
     requires { i < depth cpu.now }
-    ensures { WritesAfter W.contents writer.old so_far writer.new result (option_map_or text_of_frame (frame cpu.now i) []) }
+    ensures { WritesAfter W.contents writer.old so_far writer.new result
+        (option_map_or text_of_frame (frame cpu.now i) []) }
 {
     match cpu.frame(i) {
         Some(frame) => put_frame(writer, so_far, &frame),
@@ -78,7 +80,8 @@ fn put_saved<W: Write>(
     name: &[u8],
     value: u64,
 ) -> Result<(), WriteFault>
-    ensures { WritesAfter W.contents writer.old so_far writer.new result (saved_text name.now value) }
+    ensures { WritesAfter W.contents writer.old so_far writer.new result
+        (saved_text name.now value) }
 {
     let begun = put(writer, so_far, b" ");
     let named = put(writer, begun, name);

@@ -5,7 +5,8 @@ ghost use Rattle.bpfdb_replies.specs.Texts.{text_of_change, text_of_history, tex
 use counted_io::{Counted, WriteFault, put, put_decimal, put_hexadecimal};
 use std::io::Write;
 
-/// Writes how many moves and commands that moved are kept, and how many bytes of the journal's size they take.
+/// Writes how many moves and commands that moved are kept, and how many bytes of the journal's size
+/// they take.
 pub fn put_history<W: Write>(
     writer: &mut Counted<W>,
     so_far: Result<(), WriteFault>,
@@ -14,7 +15,8 @@ pub fn put_history<W: Write>(
     weight: usize,
     size: usize,
 ) -> Result<(), WriteFault>
-    ensures { WritesAfter W.contents writer.old so_far writer.new result (text_of_history moves commands weight size) }
+    ensures { WritesAfter W.contents writer.old so_far writer.new result
+        (text_of_history moves commands weight size) }
 {
     let counted = put_decimal(writer, so_far, moves as u64);
     let named = put(writer, counted, b" moves, ");
@@ -34,7 +36,8 @@ pub fn put_change<W: Write>(
     old: u8,
     new: u8,
 ) -> Result<(), WriteFault>
-    ensures { WritesAfter W.contents writer.old so_far writer.new result (text_of_change moves old new) }
+    ensures { WritesAfter W.contents writer.old so_far writer.new result
+        (text_of_change moves old new) }
 {
     let begun = put(writer, so_far, b"changed ");
     let counted = put_decimal(writer, begun, moves);

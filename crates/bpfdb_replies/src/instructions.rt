@@ -18,7 +18,8 @@ pub fn put_at<W: Write>(
     slot: usize,
 ) -> Result<(), WriteFault>
     requires { IsStart program.now slot }
-    ensures { WritesAfter W.contents writer.old so_far writer.new result (text_at program.now slot) }
+    ensures { WritesAfter W.contents writer.old so_far writer.new result
+        (text_at program.now slot) }
 {
     program.invariant();
     match program.insn_at(slot) {
@@ -39,7 +40,8 @@ fn put_line<W: Write>(
     slot: usize,
 ) -> Result<(), WriteFault>
     requires { IsStart program.now slot }
-    ensures { WritesAfter W.contents writer.old so_far writer.new result (text_at program.now slot ++ codes "\n") }
+    ensures { WritesAfter W.contents writer.old so_far writer.new result
+        (text_at program.now slot ++ codes "\n") }
 {
     let told = put_at(writer, so_far, program, slot);
     put(writer, told, b"\n")
@@ -53,7 +55,8 @@ pub fn put_instructions<W: Write>(
     slot: usize,
     span: Span,
 ) -> Result<(), WriteFault>
-    ensures { WritesAfter W.contents writer.old so_far writer.new result (instructions_from program.now slot span) }
+    ensures { WritesAfter W.contents writer.old so_far writer.new result
+        (instructions_from program.now slot span) }
 {
     program.invariant();
     let mut at = slot;

@@ -36,7 +36,8 @@ pub fn put_move<W: Write>(
     why: Why,
     cpu: &Cpu,
 ) -> Result<(), WriteFault>
-    ensures { WritesAfter W.contents writer.old so_far writer.new result (text_of_move moves way.now why cpu.now) }
+    ensures { WritesAfter W.contents writer.old so_far writer.new result
+        (text_of_move moves way.now why cpu.now) }
 {
     let counted = put_decimal(writer, so_far, moves);
     let moved = put(writer, counted, way);

@@ -8,7 +8,8 @@ use bpf_machine::{Cpu, Fault, Status};
 use counted_io::{Counted, WriteFault, put, put_decimal, put_hexadecimal};
 use std::io::Write;
 
-/// Writes where a machine stands, without a line feed: the slot and the instruction to run, or how it ended.
+/// Writes where a machine stands, without a line feed: the slot and the instruction to run, or how
+/// it ended.
 pub fn write_place<W: Write>(cpu: &Cpu, writer: &mut Counted<W>) -> Result<(), WriteFault>
     ensures { Writes W.contents writer.old writer.new result (place cpu.now) }
 {

@@ -41,7 +41,8 @@ fn put_registers<W: Write>(
     so_far: Result<(), WriteFault>,
     cpu: &Cpu,
 ) -> Result<(), WriteFault>
-    ensures { WritesAfter W.contents writer.old so_far writer.new result (text_of_registers cpu.now) }
+    ensures { WritesAfter W.contents writer.old so_far writer.new result
+        (text_of_registers cpu.now) }
 {
     let begun = put(writer, so_far, b"r0=");
     let first = put_hexadecimal(writer, begun, number_in(cpu, 0));
@@ -54,7 +55,8 @@ fn put_others<W: Write>(
     so_far: Result<(), WriteFault>,
     cpu: &Cpu,
 ) -> Result<(), WriteFault>
-    ensures { WritesAfter W.contents writer.old so_far writer.new result (registers_from cpu.now 1 10) }
+    ensures { WritesAfter W.contents writer.old so_far writer.new result
+        (registers_from cpu.now 1 10) }
 {
     let mut told = so_far;
     for number in 1..11 {
@@ -71,7 +73,8 @@ fn put_register<W: Write>(
     number: u8,
 ) -> Result<(), WriteFault>
     requires { number ≤ 10 }
-    ensures { WritesAfter W.contents writer.old so_far writer.new result (text_of_register cpu.now number) }
+    ensures { WritesAfter W.contents writer.old so_far writer.new result
+        (text_of_register cpu.now number) }
 {
     let begun = put(writer, so_far, b" r");
     let named = put_decimal(writer, begun, u64::from(number));

@@ -27,7 +27,8 @@ pub fn put_words<W: Write>(
     so_far: Result<(), WriteFault>,
     words: &[u64],
 ) -> Result<(), WriteFault>
-    ensures { WritesAfter W.contents writer.old so_far writer.new result (flat_map word_text words.now) }
+    ensures { WritesAfter W.contents writer.old so_far writer.new result
+        (flat_map word_text words.now) }
 {
     let mut told = so_far;
     for word in words {

@@ -1,4 +1,5 @@
-//! How the libraries are called from a program of one's own: the examples of the page on it, each a test.
+//! How the libraries are called from a program of one's own: the examples of the page on it, each a
+//! test.
 #![tactic(auto)]
 
 #[cfg(test)]

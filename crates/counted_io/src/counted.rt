@@ -9,7 +9,8 @@ use std::marker::Model;
 
 /// A reader or a writer that counts its failures, and its reads, of which at most 2^64 - 1 are
 /// passed on: so a loop over a reader without end returns. That each other read, and each write and
-/// flush, is passed on is tested and not proved: no clause can name what the next call would answer.
+/// flush, is passed on is tested and not proved: no clause can name what the next call would
+/// answer.
 #[derive(Drop)]
 pub struct Counted<T> {
     inner: T,

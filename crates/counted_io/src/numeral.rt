@@ -6,7 +6,8 @@ ghost use Rattle.counted_io.specs.Numerals.{ReadsNaturals, as_u64, natural, nume
 
 use std::marker::Model;
 
-/// A number without a sign as it is written: digits of a radix, as many as there are. Contracts see the number.
+/// A number without a sign as it is written: digits of a radix, as many as there are. Contracts see
+/// the number.
 #[derive(Drop)]
 pub struct Numeral<'a> {
     digits: &'a [u8],
@@ -49,7 +50,8 @@ impl<'a> Numeral<'a> {
     }
 }
 
-/// The number that a text is: decimal digits, or 0x and hexadecimal digits of either case. None where it is none.
+/// The number that a text is: decimal digits, or 0x and hexadecimal digits of either case. None
+/// where it is none.
 #[tactic(auto, using(crate::proofs::Naturals::reads_naturals))]
 pub fn natural(text: &[u8]) -> Option<Numeral<'_>>
     ensures value { result ≡ natural text.now }

@@ -8,7 +8,8 @@ use crate::fault::WriteFault;
 use itoa::Buffer;
 use std::io::Write;
 
-/// Writes the whole text. A short write is followed by one of the rest, so no byte is written twice.
+/// Writes the whole text. A short write is followed by one of the rest, so no byte is written
+/// twice.
 pub fn write_text<W: Write>(writer: &mut Counted<W>, text: &[u8]) -> Result<(), WriteFault>
     ensures { Writes W.contents writer.old writer.new result text.now }
 {

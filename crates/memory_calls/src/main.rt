@@ -1,7 +1,8 @@
 //! For tests: each public call of the libraries that takes memory, made once over a worked input.
 //!
-//! The argument names the call; without one all are made, each followed by its name and its status. What comes of a call goes to
-//! standard output, and a refusal to standard error as bpfdb tells it, with status 2. Status 3: the call wasn't reached.
+//! The argument names the call; without one all are made, each followed by its name and its status.
+//! What comes of a call goes to standard output, and a refusal to standard error as bpfdb tells it,
+//! with status 2. Status 3: the call wasn't reached.
 //!
 //! One more call takes arguments and a script, `session` (`sessions.rt`); it isn't among all.
 #![tactic(auto)]

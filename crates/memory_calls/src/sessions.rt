@@ -1,8 +1,10 @@
-//! Whole sessions, over a list or over a ring of entries: of the files and numbers of the command line, with a script from standard input.
+//! Whole sessions, over a list or over a ring of entries: of the files and numbers of the command
+//! line, with a script from standard input.
 //!
-//! The words are WAY PROGRAM CONTEXT MAPS JOURNAL LIMIT, and STEPS that are taken before the session, if there are any. CONTEXT is `-` where
-//! there is none; MAPS is empty then. WAY is `list` or `ring`. It is `list-again` or `ring-again` where the session is closed after each
-//! command and opened again over what it gave, a ring's over a ring that was taken out and put back.
+//! The words are WAY PROGRAM CONTEXT MAPS JOURNAL LIMIT, and STEPS that are taken before the
+//! session, if there are any. CONTEXT is `-` where there is none; MAPS is empty then. WAY is `list`
+//! or `ring`. It is `list-again` or `ring-again` where the session is closed after each command and
+//! opened again over what it gave, a ring's over a ring that was taken out and put back.
 ghost use Rattle.std.specs.Prelude.{◌≡◌, [], IfSome};
 ghost use Rattle.bpf_journal.specs.Histories.{HasHistory};
 ghost use Rattle.bpf_journal.specs.Tracks.{RingHolds, ring_room};

@@ -1,4 +1,5 @@
-//! For tests: readers and writers over others, which pass few bytes a call, and of whose calls one fails.
+//! For tests: readers and writers over others, which pass few bytes a call, and of whose calls one
+//! fails.
 #![tactic(auto)]
 
 mod paced;

@@ -8,7 +8,8 @@ use std::io;
 use std::io::{Error, ErrorKind, Read, Write};
 use std::marker::Model;
 
-/// A reader or a writer over another one: a call passes few bytes, and one call fails. Reads, writes and flushes are calls.
+/// A reader or a writer over another one: a call passes few bytes, and one call fails. Reads,
+/// writes and flushes are calls.
 #[derive(Drop)]
 pub struct Paced<T> {
     inner: T,
@@ -35,14 +36,27 @@ impl<T> Model for Paced<T> {
 impl<T> Paced<T> {
     /// Passes at most `step` bytes a call, at least one, and no call fails.
     pub fn new(inner: T, step: usize) -> Paced<T>
-        ensures { result ≡ record { inner = inner; step = step; calls = 0; fails_at = 0; takes_nothing = false } }
+        ensures { result ≡ record {
+          inner = inner;
+          step = step;
+          calls = 0;
+          fails_at = 0;
+          takes_nothing = false;
+        } }
     {
         Paced::failing(inner, step, 0)
     }
 
-    /// Passes at most `step` bytes a call, at least one, and the call with this number, from 1 on, answers an error; 0: no call does.
+    /// Passes at most `step` bytes a call, at least one, and the call with this number, from 1 on,
+    /// answers an error; 0: no call does.
     pub fn failing(inner: T, step: usize, fails_at: u64) -> Paced<T>
-        ensures { result ≡ record { inner = inner; step = step; calls = 0; fails_at = fails_at; takes_nothing = false } }
+        ensures { result ≡ record {
+          inner = inner;
+          step = step;
+          calls = 0;
+          fails_at = fails_at;
+          takes_nothing = false;
+        } }
     {
         Paced {
             inner,
@@ -53,10 +67,16 @@ impl<T> Paced<T> {
         }
     }
 
-    /// Passes at most `step` bytes a call, at least one, and the call with this number, from 1 on, fails: a read answers an error, a
-    /// write takes no byte and answers none.
+    /// Passes at most `step` bytes a call, at least one, and the call with this number, from 1 on,
+    /// fails: a read answers an error, a write takes no byte and answers none.
     pub fn refusing(inner: T, step: usize, fails_at: u64) -> Paced<T>
-        ensures { result ≡ record { inner = inner; step = step; calls = 0; fails_at = fails_at; takes_nothing = true } }
+        ensures { result ≡ record {
+          inner = inner;
+          step = step;
+          calls = 0;
+          fails_at = fails_at;
+          takes_nothing = true;
+        } }
     {
         Paced {
             inner,

@@ -1,7 +1,9 @@
-//! How fast the machine takes steps. Without arguments it prints nothing. With a number of millions of steps it runs each loop
-//! for that long in five rounds, plain, kept in rings of several sizes, and back, by turns, and prints the best of
-//! each in nanoseconds a step and as a ratio to plain steps. What is timed is used: the last line is a sum over what came out.
-//! What can't be opened, or takes fewer steps than it is timed for, ends the program with a line on standard error and status 1.
+//! How fast the machine takes steps. Without arguments it prints nothing. With a number of millions
+//! of steps it runs each loop for that long in five rounds, plain, kept in rings of several sizes,
+//! and back, by turns, and prints the best of each in nanoseconds a step and as a ratio to plain
+//! steps. What is timed is used: the last line is a sum over what came out. What can't be opened,
+//! or takes fewer steps than it is timed for, ends the program with a line on standard error and
+//! status 1.
 #![tactic(auto)]
 
 mod sessions;
@@ -271,7 +273,8 @@ fn time_strides(
     Ok(elapsed)
 }
 
-/// Steps of one run, as a command takes them, until the machine has ended or memory runs out. Answers how many were taken.
+/// Steps of one run, as a command takes them, until the machine has ended or memory runs out.
+/// Answers how many were taken.
 fn forward(timeline: &mut Timeline<RingKeeper>, steps: u64) -> u64 {
     if steps == 0 || timeline.cpu().status().has_ended() {
         return 0;

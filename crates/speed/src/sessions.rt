@@ -1,5 +1,6 @@
-//! How fast commands run through a session: `continue` with breakpoints and watches that it never meets and without, `last-write` and
-//! `reverse-continue` over what it left, and `redo` of what that took back, beside the same steps through a timeline.
+//! How fast commands run through a session: `continue` with breakpoints and watches that it never
+//! meets and without, `last-write` and `reverse-continue` over what it left, and `redo` of what
+//! that took back, beside the same steps through a timeline.
 
 use crate::{check_steps, failure, time_back, time_forward, used};
 use bpf_isa::{MapTable, check};
@@ -73,7 +74,8 @@ impl Best {
         }
     }
 
-    /// Prints nanoseconds a step of each, and its ratio to the same steps without what is asked for.
+    /// Prints nanoseconds a step of each, and its ratio to the same steps without what is asked
+    /// for.
     fn show(&self, rt: &HostRuntime) -> io::Result<()> {
         show(rt, "steps through a timeline", self.steps, self.steps)?;
         show(rt, "continue", self.on, self.steps)?;
@@ -181,7 +183,8 @@ struct Timed {
     redo: u128,
 }
 
-/// Times the commands of a session: `continue`, `last-write` of a byte that never changed, `reverse-continue`, `redo`.
+/// Times the commands of a session: `continue`, `last-write` of a byte that never changed,
+/// `reverse-continue`, `redo`.
 fn through_session(
     rt: &HostRuntime,
     program: &[u8],
@@ -228,8 +231,8 @@ fn time_commands(
     })
 }
 
-/// Sets what is never met: breakpoints after the loop, or watches of bytes that it doesn't store to. Answers whether all of them
-/// are set.
+/// Sets what is never met: breakpoints after the loop, or watches of bytes that it doesn't store
+/// to. Answers whether all of them are set.
 fn set_stops(session: &mut Session<RingKeeper>, stops: Stops) -> bool {
     let mut are_set = true;
     match stops {
@@ -263,7 +266,8 @@ fn time(
     Ok(elapsed)
 }
 
-/// Obeys a command and writes its reply. Answers over how many moves it went; all of them, if it shows something.
+/// Obeys a command and writes its reply. Answers over how many moves it went; all of them, if it
+/// shows something.
 fn obey(session: &mut Session<RingKeeper>, command: &Command) -> u64 {
     let Ok(reply) = session.apply(command) else {
         return 0;

@@ -8,7 +8,8 @@ use byteorder::{ByteOrder, LittleEndian};
 #[inline(always)]
 pub fn first_len(bytes: &[u8]) -> usize
     requires { 2 ≤ length bytes.now }
-    ensures { (n : ℕ) (rest : List ℕ) → n < 2 ^ 16 → bytes.now ≡ little_bytes 2 n ++ rest → result ≡ n }
+    ensures { (n : ℕ) (rest : List ℕ) → n < 2 ^ 16 → bytes.now ≡ little_bytes 2 n ++ rest →
+        result ≡ n }
 {
     usize::from(LittleEndian::read_u16(&bytes[0..2]))
 }
@@ -17,7 +18,8 @@ pub fn first_len(bytes: &[u8]) -> usize
 #[inline(always)]
 pub fn last_len(bytes: &[u8]) -> usize
     requires { 2 ≤ length bytes.now }
-    ensures { (before : List ℕ) (n : ℕ) → n < 2 ^ 16 → bytes.now ≡ before ++ little_bytes 2 n → result ≡ n }
+    ensures { (before : List ℕ) (n : ℕ) → n < 2 ^ 16 → bytes.now ≡ before ++ little_bytes 2 n →
+        result ≡ n }
 {
     usize::from(LittleEndian::read_u16(&bytes[bytes.len() - 2..]))
 }

@@ -1,4 +1,5 @@
-//! The run of bytes that an entry's move replaced, read where it lies in the entry's text, and the depth before the move.
+//! The run of bytes that an entry's move replaced, read where it lies in the entry's text, and the
+//! depth before the move.
 ghost use Rattle.std.specs.Prelude.{◌≡◌, ◌≤◌, ◌<◌, ◌+◌, ◌-◌, ◌^◌, Bool, Some, option_map, length, slice_index};
 ghost use Rattle.bpf_entries.specs.declared.entry.Entry.{Entry};
 ghost use Rattle.bpf_entries.specs.Before.{byte_before as byte_before_by, byte_in as byte_in_run, depth_before as depth_before_by};
@@ -27,11 +28,15 @@ pub(super) fn piece(bytes: &[u8], start: usize, count: usize) -> &[u8]
     }
 }
 
-/// A run whose bytes begin at a place with their count in front, and whose address stands at another.
+/// A run whose bytes begin at a place with their count in front, and whose address stands at
+/// another.
 #[inline(always)]
 fn counted_run(bytes: &[u8], address: usize, start: usize) -> Option<(u64, &[u8])>
     requires { (address + 9 ≤ start) × (start ≤ 23) }
-    ensures { start ≤ length bytes.now → option_map (λ run. record { address = run.0; bytes = run.1.now }) result ≡ stood (number_at address bytes.now) (run_at start (slice_index bytes.now (start - 1)) bytes.now) }
+    ensures { start ≤ length bytes.now →
+        option_map (λ run. record { address = run.0; bytes = run.1.now }) result
+        ≡ stood (number_at address bytes.now)
+        (run_at start (slice_index bytes.now (start - 1)) bytes.now) }
 {
     if bytes.len() < start {
         return None;
@@ -47,7 +52,10 @@ fn counted_run(bytes: &[u8], address: usize, start: usize) -> Option<(u64, &[u8]
 #[inline(always)]
 fn rest_run(bytes: &[u8], address: usize, start: usize) -> Option<(u64, &[u8])>
     requires { (address + 8 ≤ start) × (start ≤ 23) }
-    ensures { start + 2 ≤ length bytes.now → option_map (λ run. record { address = run.0; bytes = run.1.now }) result ≡ stood (number_at address bytes.now) (run_at start (length bytes.now - (start + 2)) bytes.now) }
+    ensures { start + 2 ≤ length bytes.now →
+        option_map (λ run. record { address = run.0; bytes = run.1.now }) result
+        ≡ stood (number_at address bytes.now)
+        (run_at start (length bytes.now - (start + 2)) bytes.now) }
 {
     if bytes.len() < start + 2 {
         return None;
@@ -61,7 +69,9 @@ fn rest_run(bytes: &[u8], address: usize, start: usize) -> Option<(u64, &[u8])>
 /// The run of a call's entry: the frame of the depth after the call.
 #[inline(always)]
 fn frame_run(bytes: &[u8], depth: u32) -> Option<(u64, &[u8])>
-    ensures { 7 + frame_len ≤ length bytes.now → option_map (λ run. record { address = run.0; bytes = run.1.now }) result ≡ stood (frame_base_of depth) (run_at 5 frame_len bytes.now) }
+    ensures { 7 + frame_len ≤ length bytes.now →
+        option_map (λ run. record { address = run.0; bytes = run.1.now }) result
+        ≡ stood (frame_base_of depth) (run_at 5 frame_len bytes.now) }
 {
     if bytes.len() < GREATEST {
         return None;
@@ -69,11 +79,14 @@ fn frame_run(bytes: &[u8], depth: u32) -> Option<(u64, &[u8])>
     Some((frame_base(depth), piece(bytes, 5, FRAME_LEN)))
 }
 
-/// The address and the old bytes of the run that the move of an entry replaced, by the entry's text and the depth of calls after the move,
-/// and where they lie in the text; None where the move left memory as it was. Other bytes give None, or some run.
+/// The address and the old bytes of the run that the move of an entry replaced, by the entry's text
+/// and the depth of calls after the move, and where they lie in the text; None where the move left
+/// memory as it was. Other bytes give None, or some run.
 #[inline(always)]
 pub fn replaced_in(bytes: &[u8], depth: u32) -> Option<(u64, &[u8])>
-    ensures { (e : Entry) (mark : Bool) → FitsFields e → bytes.now ≡ text e mark → option_map (λ run. record { address = run.0; bytes = run.1.now }) result ≡ replaced depth e }
+    ensures { (e : Entry) (mark : Bool) → FitsFields e → bytes.now ≡ text e mark →
+        option_map (λ run. record { address = run.0; bytes = run.1.now }) result
+        ≡ replaced depth e }
 {
     if bytes.len() < 5 {
         return None;
@@ -88,11 +101,12 @@ pub fn replaced_in(bytes: &[u8], depth: u32) -> Option<(u64, &[u8])>
     }
 }
 
-/// The byte at an address before the move of an entry, by the entry's text, where it is `after` behind the move, at the depth of calls there.
-/// Other bytes give some byte.
+/// The byte at an address before the move of an entry, by the entry's text, where it is `after`
+/// behind the move, at the depth of calls there. Other bytes give some byte.
 #[inline(always)]
 pub fn byte_before(bytes: &[u8], depth: u32, address: u64, after: u8) -> u8
-    ensures { (e : Entry) (mark : Bool) → FitsFields e → bytes.now ≡ text e mark → result ≡ byte_before_by depth e address after }
+    ensures { (e : Entry) (mark : Bool) → FitsFields e → bytes.now ≡ text e mark →
+        result ≡ byte_before_by depth e address after }
 {
     match replaced_in(bytes, depth) {
         Some((start, old)) => byte_in(start, old, address, after),
@@ -100,11 +114,13 @@ pub fn byte_before(bytes: &[u8], depth: u32, address: u64, after: u8) -> u8
     }
 }
 
-/// The depth of calls before the move of an entry, by the entry's text and the depth after the move. Other bytes give some depth.
+/// The depth of calls before the move of an entry, by the entry's text and the depth after the
+/// move. Other bytes give some depth.
 #[inline(always)]
 pub fn depth_before(bytes: &[u8], depth: u32) -> u32
     requires { depth + 1 < 2 ^ 32 }
-    ensures { (e : Entry) (mark : Bool) → bytes.now ≡ text e mark → result ≡ depth_before_by depth e }
+    ensures { (e : Entry) (mark : Bool) → bytes.now ≡ text e mark →
+        result ≡ depth_before_by depth e }
 {
     if bytes.len() < 5 {
         return depth;
@@ -119,7 +135,8 @@ pub fn depth_before(bytes: &[u8], depth: u32) -> u32
 /// The byte at an address in a run of bytes, and another outside of it.
 #[inline(always)]
 pub(crate) fn byte_in(start: u64, bytes: &[u8], address: u64, other: u8) -> u8
-    ensures { result ≡ byte_in_run (Some (record { address = start; bytes = bytes.now })) address other }
+    ensures { result ≡ byte_in_run (Some (record { address = start; bytes = bytes.now }))
+        address other }
 {
     if address < start {
         return other;

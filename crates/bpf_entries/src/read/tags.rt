@@ -9,7 +9,8 @@ ghost use Rattle.bpf_entries.specs.Texts.{kind, text};
 #[tactic(auto, using(crate::proofs::Texts::kind_back))]
 pub fn kind_of(bytes: &[u8]) -> u8
     requires { 3 ≤ length bytes.now }
-    ensures { (e : Entry) (mark : Bool) (rest : List ℕ) → bytes.now ≡ text e mark ++ rest → result ≡ kind e }
+    ensures { (e : Entry) (mark : Bool) (rest : List ℕ) → bytes.now ≡ text e mark ++ rest →
+        result ≡ kind e }
 {
     bytes[2] % 128
 }
@@ -19,7 +20,8 @@ pub fn kind_of(bytes: &[u8]) -> u8
 #[tactic(auto, using(crate::proofs::Texts::mark_back))]
 pub fn is_marked(bytes: &[u8]) -> bool
     requires { 3 ≤ length bytes.now }
-    ensures { (e : Entry) (mark : Bool) (rest : List ℕ) → bytes.now ≡ text e mark ++ rest → result ≡ mark }
+    ensures { (e : Entry) (mark : Bool) (rest : List ℕ) → bytes.now ≡ text e mark ++ rest →
+        result ≡ mark }
 {
     bytes[2] >= 128
 }
@@ -29,7 +31,8 @@ pub fn is_marked(bytes: &[u8]) -> bool
 #[tactic(auto, using(crate::proofs::Texts::kind_step))]
 pub fn is_of_step(bytes: &[u8]) -> bool
     requires { 3 ≤ length bytes.now }
-    ensures { (e : Entry) (mark : Bool) (rest : List ℕ) → bytes.now ≡ text e mark ++ rest → result ≡ of_step e }
+    ensures { (e : Entry) (mark : Bool) (rest : List ℕ) → bytes.now ≡ text e mark ++ rest →
+        result ≡ of_step e }
 {
     kind_of(bytes) <= 9
 }

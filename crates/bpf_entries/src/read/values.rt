@@ -17,7 +17,8 @@ use byteorder::{ByteOrder, LittleEndian};
 /// The bytes of a run, `count` from a place on, None where they are none or more than 256.
 fn run_of(bytes: &[u8], start: usize, count: usize) -> Option<ByteString>
     requires { start ≤ length bytes.now }
-    ensures found { IsSome result ↔ (1 ≤ length (run_at start count bytes.now)) × (length (run_at start count bytes.now) ≤ 256) }
+    ensures found { IsSome result ↔ (1 ≤ length (run_at start count bytes.now))
+        × (length (run_at start count bytes.now) ≤ 256) }
     ensures value { IfSome result (λ s. s ≡ run_at start count bytes.now) }
 {
     ByteString::new(piece(bytes, start, count))
@@ -81,7 +82,8 @@ pub fn slot_in(bytes: &[u8]) -> u16
 /// The four numbers of a return's entry.
 pub fn saved_in(bytes: &[u8]) -> [u64; 4]
     requires { 39 ≤ length bytes.now }
-    ensures { result ≡ number_at 5 bytes.now ∷ number_at 13 bytes.now ∷ number_at 21 bytes.now ∷ number_at 29 bytes.now ∷ [] }
+    ensures { result ≡ number_at 5 bytes.now ∷ number_at 13 bytes.now ∷ number_at 21
+        bytes.now ∷ number_at 29 bytes.now ∷ [] }
 {
     let r6 = LittleEndian::read_u64(&bytes[5..]);
     let r7 = LittleEndian::read_u64(&bytes[13..]);
@@ -248,9 +250,11 @@ fn entry_of_kind(kind: u8, bytes: &[u8]) -> Option<Entry>
 }
 
 impl Entry {
-    /// The entry and the mark that bytes are the text of, each field in its range. Other bytes give None, or some entry.
+    /// The entry and the mark that bytes are the text of, each field in its range. Other bytes give
+    /// None, or some entry.
     pub fn read(bytes: &[u8]) -> Option<(Entry, bool)>
-        ensures { (e : the_entry) (mark : Bool) → FitsFields e → bytes.now ≡ text e mark → result ≡ Some (e, mark) }
+        ensures { (e : the_entry) (mark : Bool) → FitsFields e → bytes.now ≡ text e mark →
+            result ≡ Some (e, mark) }
     {
         if bytes.len() < 5 {
             return None;

@@ -11,7 +11,8 @@ use crate::write::fixed::{
 use crate::write::runs::{put_call, put_cell, put_edit_bytes, put_fetch, put_store};
 
 impl Entry {
-    /// Writes its text into the beginning of a slice, and answers how many bytes that are: 5 to 519.
+    /// Writes its text into the beginning of a slice, and answers how many bytes that are: 5 to
+    /// 519.
     pub fn write(&self, room: &mut [u8], mark: bool) -> usize
         requires fits { FitsFields self.now }
         requires room { weight_of self.now ≤ length room.old }

@@ -76,7 +76,8 @@ pub fn put_edit_register(room: &mut [u8], register: Reg, value: u64, mark: bool)
 #[inline(always)]
 fn put_edit_pc_parts(room: &mut [u8], pc: u16, kind: u8, value: u64, mark: bool)
     requires { 16 ≤ length room.old }
-    ensures { room.new ≡ (little_bytes 2 16 ++ tag_of 12 mark ∷ (slot pc ++ (kind ∷ number value) ++ little_bytes 2 16)) ++ drop 16 room.old }
+    ensures { room.new ≡ (little_bytes 2 16 ++ tag_of 12 mark ∷
+        (slot pc ++ (kind ∷ number value) ++ little_bytes 2 16)) ++ drop 16 room.old }
 {
     LittleEndian::write_u16(&mut room[0..2], 16);
     room[2] = tag(12, mark);
@@ -105,7 +106,8 @@ pub fn put_edit_pc(room: &mut [u8], pc: u16, status: Status, mark: bool)
 #[inline(always)]
 fn put_return_head(room: &mut [u8], pc: u16, r6: u64, mark: bool)
     requires { 13 ≤ length room.old }
-    ensures { room.new ≡ (little_bytes 2 39 ++ tag_of 4 mark ∷ (slot pc ++ number r6)) ++ drop 13 room.old }
+    ensures { room.new ≡ (little_bytes 2 39 ++ tag_of 4 mark ∷ (slot pc ++ number r6))
+        ++ drop 13 room.old }
 {
     LittleEndian::write_u16(&mut room[0..2], 39);
     room[2] = tag(4, mark);
@@ -117,7 +119,8 @@ fn put_return_head(room: &mut [u8], pc: u16, r6: u64, mark: bool)
 #[inline(always)]
 fn put_return_tail(room: &mut [u8], r7: u64, r8: u64, r9: u64)
     requires { 26 ≤ length room.old }
-    ensures { room.new ≡ (number r7 ++ (number r8 ++ (number r9 ++ little_bytes 2 39))) ++ drop 26 room.old }
+    ensures { room.new ≡ (number r7 ++ (number r8 ++ (number r9 ++ little_bytes 2 39)))
+        ++ drop 26 room.old }
 {
     LittleEndian::write_u64(&mut room[0..8], r7);
     LittleEndian::write_u64(&mut room[8..16], r8);

@@ -20,7 +20,8 @@ pub(super) fn put_store_head(
     mark: bool,
 )
     requires { 14 ≤ length room.old }
-    ensures { room.new ≡ (little_bytes 2 len ++ tag_of 5 mark ∷ (slot pc ++ (number address ++ count ∷ []))) ++ drop 14 room.old }
+    ensures { room.new ≡ (little_bytes 2 len ++ tag_of 5 mark ∷
+        (slot pc ++ (number address ++ count ∷ []))) ++ drop 14 room.old }
 {
     LittleEndian::write_u16(&mut room[0..2], len);
     room[2] = tag(5, mark);
@@ -45,7 +46,8 @@ fn put_tail(room: &mut [u8], old: &[u8], len: u16)
 pub fn put_store(room: &mut [u8], pc: u16, address: u64, old: &[u8], mark: bool)
     requires fits { length old.now ≤ 255 }
     requires room { 16 + length old.now ≤ length room.old }
-    ensures { room.new ≡ text (entry.Store pc address old.now) mark ++ drop (16 + length old.now) room.old }
+    ensures { room.new ≡ text (entry.Store pc address old.now) mark ++ drop (16 + length old.now)
+        room.old }
 {
     let count = old.len();
     put_store_head(room, 16 + count as u16, pc, address, count as u8, mark);
@@ -56,7 +58,8 @@ pub fn put_store(room: &mut [u8], pc: u16, address: u64, old: &[u8], mark: bool)
 #[inline(always)]
 fn put_fetch_start(room: &mut [u8], len: u16, pc: u16, register: Reg, value: u64, mark: bool)
     requires { 14 ≤ length room.old }
-    ensures { room.new ≡ (little_bytes 2 len ++ tag_of 6 mark ∷ (slot pc ++ register ∷ number value)) ++ drop 14 room.old }
+    ensures { room.new ≡ (little_bytes 2 len ++ tag_of 6 mark ∷
+        (slot pc ++ register ∷ number value)) ++ drop 14 room.old }
 {
     LittleEndian::write_u16(&mut room[0..2], len);
     room[2] = tag(6, mark);
@@ -78,14 +81,17 @@ fn put_fetch_head(
     mark: bool,
 )
     requires { 23 ≤ length room.old }
-    ensures { room.new ≡ (little_bytes 2 len ++ tag_of 6 mark ∷ (slot pc ++ register ∷ (number value ++ (number address ++ count ∷ [])))) ++ drop 23 room.old }
+    ensures { room.new ≡ (little_bytes 2 len ++ tag_of 6 mark ∷
+        (slot pc ++ register ∷ (number value ++ (number address ++ count ∷ []))))
+        ++ drop 23 room.old }
 {
     put_fetch_start(room, len, pc, register, value, mark);
     LittleEndian::write_u64(&mut room[14..22], address);
     room[22] = count;
 }
 
-/// Writes the entry of a store that also fetches: 25 bytes and the old ones, of which there are at most 255.
+/// Writes the entry of a store that also fetches: 25 bytes and the old ones, of which there are at
+/// most 255.
 #[inline(always)]
 pub fn put_fetch(
     room: &mut [u8],
@@ -98,7 +104,8 @@ pub fn put_fetch(
 )
     requires fits { length old.now ≤ 255 }
     requires room { 25 + length old.now ≤ length room.old }
-    ensures { room.new ≡ text (entry.Fetch pc register value address old.now) mark ++ drop (25 + length old.now) room.old }
+    ensures { room.new ≡ text (entry.Fetch pc register value address old.now) mark ++ drop
+        (25 + length old.now) room.old }
 {
     let count = old.len();
     put_fetch_head(
@@ -118,7 +125,8 @@ pub fn put_fetch(
 #[inline(always)]
 fn put_cell_head(room: &mut [u8], len: u16, pc: u16, r0: u64, address: u64, mark: bool)
     requires { 21 ≤ length room.old }
-    ensures { room.new ≡ (little_bytes 2 len ++ tag_of 7 mark ∷ (slot pc ++ (number r0 ++ number address))) ++ drop 21 room.old }
+    ensures { room.new ≡ (little_bytes 2 len ++ tag_of 7 mark ∷
+        (slot pc ++ (number r0 ++ number address))) ++ drop 21 room.old }
 {
     LittleEndian::write_u16(&mut room[0..2], len);
     room[2] = tag(7, mark);
@@ -127,12 +135,14 @@ fn put_cell_head(room: &mut [u8], len: u16, pc: u16, r0: u64, address: u64, mark
     LittleEndian::write_u64(&mut room[13..21], address);
 }
 
-/// Writes the entry of an update of a map's cell: 23 bytes and the old ones, of which there are at most 256.
+/// Writes the entry of an update of a map's cell: 23 bytes and the old ones, of which there are at
+/// most 256.
 #[inline(always)]
 pub fn put_cell(room: &mut [u8], pc: u16, r0: u64, address: u64, old: &[u8], mark: bool)
     requires fits { length old.now ≤ 256 }
     requires room { 23 + length old.now ≤ length room.old }
-    ensures { room.new ≡ text (entry.Cell pc r0 address old.now) mark ++ drop (23 + length old.now) room.old }
+    ensures { room.new ≡ text (entry.Cell pc r0 address old.now) mark ++ drop (23 + length old.now)
+        room.old }
 {
     let count = old.len();
     put_cell_head(room, 23 + count as u16, pc, r0, address, mark);
@@ -143,7 +153,8 @@ pub fn put_cell(room: &mut [u8], pc: u16, r0: u64, address: u64, old: &[u8], mar
 #[inline(always)]
 fn put_edit_head(room: &mut [u8], len: u16, address: u64, mark: bool)
     requires { 11 ≤ length room.old }
-    ensures { room.new ≡ (little_bytes 2 len ++ tag_of 11 mark ∷ number address) ++ drop 11 room.old }
+    ensures { room.new ≡ (little_bytes 2 len ++ tag_of 11 mark ∷ number address)
+        ++ drop 11 room.old }
 {
     LittleEndian::write_u16(&mut room[0..2], len);
     room[2] = tag(11, mark);
@@ -155,7 +166,8 @@ fn put_edit_head(room: &mut [u8], len: u16, address: u64, mark: bool)
 pub fn put_edit_bytes(room: &mut [u8], address: u64, old: &[u8], mark: bool)
     requires fits { length old.now ≤ 256 }
     requires room { 13 + length old.now ≤ length room.old }
-    ensures { room.new ≡ text (entry.EditBytes address old.now) mark ++ drop (13 + length old.now) room.old }
+    ensures { room.new ≡ text (entry.EditBytes address old.now) mark ++ drop (13 + length old.now)
+        room.old }
 {
     let count = old.len();
     put_edit_head(room, 13 + count as u16, address, mark);

@@ -13,7 +13,8 @@ use byteorder::{ByteOrder, LittleEndian};
 #[inline(always)]
 pub fn put_store_number(room: &mut [u8], pc: u16, address: u64, size: Size, old: u64, mark: bool)
     requires { 16 + size_len size ≤ length room.old }
-    ensures { room.new ≡ text (entry.Store pc address (little_bytes (size_len size) old)) mark ++ drop (16 + size_len size) room.old }
+    ensures { room.new ≡ text (entry.Store pc address (little_bytes (size_len size) old))
+        mark ++ drop (16 + size_len size) room.old }
 {
     match size {
         Size::Byte => {
@@ -52,7 +53,9 @@ pub fn put_fetch_number(
     mark: bool,
 )
     requires { 25 + size_len size ≤ length room.old }
-    ensures { room.new ≡ text (entry.Fetch pc register value address (little_bytes (size_len size) old)) mark ++ drop (25 + size_len size) room.old }
+    ensures { room.new ≡ text
+        (entry.Fetch pc register value address (little_bytes (size_len size) old)) mark ++ drop
+        (25 + size_len size) room.old }
 {
     match size {
         Size::Byte => put_fetch(

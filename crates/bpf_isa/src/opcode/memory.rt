@@ -11,7 +11,8 @@ use crate::mnemonic::{Mnemonic, WideKind};
 /// Class LD: the wide loads.
 pub fn wide_mnemonic(fields: Fields) -> Option<Mnemonic>
     requires { fields.opcode % 8 ≡ 0 }
-    ensures found { IfSome result (λ mnemonic. (kind : SourceKind) → HasCodes (row mnemonic kind) fields) }
+    ensures found { IfSome result (λ mnemonic. (kind : SourceKind) →
+        HasCodes (row mnemonic kind) fields) }
     ensures only { IsOnly fields result }
 {
     match (fields.opcode / 8, fields.src) {
@@ -25,7 +26,8 @@ pub fn wide_mnemonic(fields: Fields) -> Option<Mnemonic>
 /// Class LDX.
 pub fn load_mnemonic(fields: Fields) -> Option<Mnemonic>
     requires { fields.opcode % 8 ≡ 1 }
-    ensures found { IfSome result (λ mnemonic. (kind : SourceKind) → HasCodes (row mnemonic kind) fields) }
+    ensures found { IfSome result (λ mnemonic. (kind : SourceKind) →
+        HasCodes (row mnemonic kind) fields) }
     ensures only { IsOnly fields result }
 {
     let size = match fields.opcode / 8 {
@@ -44,7 +46,8 @@ pub fn load_mnemonic(fields: Fields) -> Option<Mnemonic>
 /// Classes ST and STX: the forms K and X of a store, and the atomic operations.
 pub fn store_mnemonic(fields: Fields, form: SourceKind) -> Option<Mnemonic>
     requires { fields.opcode % 8 ≡ store_class_of form }
-    ensures found { IfSome result (λ mnemonic. (kind : SourceKind) → HasCodes (row mnemonic kind) fields) }
+    ensures found { IfSome result (λ mnemonic. (kind : SourceKind) →
+        HasCodes (row mnemonic kind) fields) }
     ensures only { IsOnly fields result }
 {
     let size = match (fields.opcode / 8, form) {
@@ -62,7 +65,8 @@ pub fn store_mnemonic(fields: Fields, form: SourceKind) -> Option<Mnemonic>
 /// The atomic operation that imm names.
 fn atomic_mnemonic(fields: Fields, width: Width) -> Option<Mnemonic>
     requires { fields.opcode ≡ atomic_opcode width }
-    ensures found { IfSome result (λ mnemonic. (kind : SourceKind) → HasCodes (row mnemonic kind) fields) }
+    ensures found { IfSome result (λ mnemonic. (kind : SourceKind) →
+        HasCodes (row mnemonic kind) fields) }
     ensures only { IsOnly fields result }
 {
     let op = match fields.imm {

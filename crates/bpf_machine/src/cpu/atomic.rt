@@ -69,7 +69,8 @@ impl Cpu {
         value: u64,
     ) -> Change
         requires { IsStart self.now.program (self.now.pc + 1) }
-        ensures { result ≡ Change.Fetch address index (spec.size_of width) value register (self.now.pc + 1) }
+        ensures { result ≡ Change.Fetch address index (spec.size_of width) value register
+            (self.now.pc + 1) }
     {
         Change::Fetch {
             address,

@@ -12,7 +12,8 @@ use bpf_entries::{ByteString, Entry, Status};
 use bpf_isa::Program;
 
 impl Cpu {
-    /// Makes an edit, in every status. Its entry holds what it replaced. A refused edit changes nothing.
+    /// Makes an edit, in every status. Its entry holds what it replaced. A refused edit changes
+    /// nothing.
     pub fn edit(&mut self, edit: &Edit) -> Result<Entry, EditFault>
         ensures ok { OnOk result (IsEditable self.old edit.now) }
         ensures next { OnOk result (self.new ≡ edited self.old edit.now) }

@@ -13,7 +13,8 @@ use crate::frame::Frame;
 use crate::platform::{FRAME_LEN, frame_base, frame_pointer};
 
 impl Cpu {
-    /// Does a local call: makes the bytes of the frame that it enters zero, pushes the frame and goes to the function at a slot.
+    /// Does a local call: makes the bytes of the frame that it enters zero, pushes the frame and
+    /// goes to the function at a slot.
     #[inline(never)]
     #[tactic(auto, unfolding(crate::specs::Next::changed))]
     pub(super) fn enter(&mut self, target: u16)
@@ -68,7 +69,8 @@ impl Cpu {
 
     /// Puts other numbers into r6 to r9.
     pub(super) fn restore(&mut self, numbers: &[u64; 4])
-        ensures { self.new ≡ record self.old { registers = with_saved self.old.registers numbers.now } }
+        ensures { self.new ≡ record
+            self.old { registers = with_saved self.old.registers numbers.now } }
     {
         self.registers[6] = numbers[0];
         self.registers[7] = numbers[1];

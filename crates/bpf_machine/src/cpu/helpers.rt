@@ -131,7 +131,8 @@ impl Cpu {
 
     /// The key at an address, None where it isn't accessible.
     fn key(&self, address: u64) -> Option<u64>
-        ensures { result ≡ option_map (λ at. number_at self.now.memory at 4) (accessible self.now address 4) }
+        ensures { result ≡ option_map (λ at. number_at self.now.memory at 4)
+            (accessible self.now address 4) }
     {
         match self.access(address, 4) {
             Some(index) => Some(self.memory.number(index, Size::Word)),

@@ -14,7 +14,8 @@ use std::alloc::Global;
 
 impl Cpu {
     /// Opens a machine at its program's first slot. The context is at most 65,536 bytes; r1 is its
-    /// address, 0 where it is empty, and r2 its length. This is the machine's only call that takes memory.
+    /// address, 0 where it is empty, and r2 its length. This is the machine's only call that takes
+    /// memory.
     pub fn open(alloc: Global, program: Program, context: &[u8]) -> Result<Cpu, OpenFault>
         ensures ok { IfOk result (Opened program context.now) }
         ensures err { IfErr result (Refused context.now) }

@@ -12,10 +12,12 @@ use bpf_entries::{Entry, Status};
 use bpf_isa::Reg;
 
 impl Cpu {
-    /// Takes back the move with this entry, which led to the present state. Works from the entry and the present state alone.
+    /// Takes back the move with this entry, which led to the present state. Works from the entry
+    /// and the present state alone.
     pub fn revert(&mut self, entry: &Entry)
         requires { HasCome self.old entry.now }
-        ensures { (x : State) (m : Move) → Leads x m self.old → overwritten x m ≡ entry.now → self.new ≡ x }
+        ensures { (x : State) (m : Move) → Leads x m self.old → overwritten x m ≡ entry.now →
+            self.new ≡ x }
     {
         self.undo(entry);
     }

@@ -13,11 +13,13 @@ use bpf_isa::Reg;
 use byteorder::{ByteOrder, LittleEndian};
 
 impl Cpu {
-    /// Takes back the move whose entry has this text, which led to the present state. Works from the text and the present state alone.
+    /// Takes back the move whose entry has this text, which led to the present state. Works from
+    /// the text and the present state alone.
     #[inline(always)]
     pub fn revert_text(&mut self, bytes: &[u8])
         requires { HasComeBy self.old bytes.now }
-        ensures { (x : State) (m : Move) (mark : Bool) → Leads x m self.old → FitsFields (overwritten x m) → bytes.now ≡ text (overwritten x m) mark → self.new ≡ x }
+        ensures { (x : State) (m : Move) (mark : Bool) → Leads x m self.old →
+            FitsFields (overwritten x m) → bytes.now ≡ text (overwritten x m) mark → self.new ≡ x }
     {
         self.undo_text(kind_of(bytes), bytes);
     }

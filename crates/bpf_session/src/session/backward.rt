@@ -27,8 +27,9 @@ pub struct Found {
 }
 
 impl<K: Keeper> Session<K> {
-    /// Goes back to before the moves that are looked for, or to the start of what is kept where there are fewer. Q4 where no step is kept,
-    /// Q5 where `undo` counts more commands than are kept, Q9 where `reverse-finish` is given at depth 0.
+    /// Goes back to before the moves that are looked for, or to the start of what is kept where
+    /// there are fewer. Q4 where no step is kept, Q5 where `undo` counts more commands than are
+    /// kept, Q9 where `reverse-finish` is given at depth 0.
     pub(crate) fn back(&mut self, target: Target) -> Result<Reply, Refusal>
         ensures { Obeys K.holds K.refused K.room self.old self.new (λ _ p. unless_refused
             (refusals_of (Command.Back target) p) p (back target p)) result }
@@ -42,10 +43,12 @@ impl<K: Keeper> Session<K> {
         }
     }
 
-    /// Takes back the commands that moved, from the last marked move on to the `count`-th last one. Q5 where fewer are kept.
+    /// Takes back the commands that moved, from the last marked move on to the `count`-th last one.
+    /// Q5 where fewer are kept.
     fn undo(&mut self, count: Count) -> Result<Reply, Refusal>
         ensures { Obeys K.holds K.refused K.room self.old self.new (λ _ p. unless_refused
-            (refusals_of (Command.Back (Target.Commands count)) p) p (back (Target.Commands count) p)) result }
+            (refusals_of (Command.Back (Target.Commands count)) p) p
+            (back (Target.Commands count) p)) result }
     {
         if (self.timeline.marked() as u64) < count.get() {
             return Err(Refusal::FewerCommands);
@@ -57,10 +60,12 @@ impl<K: Keeper> Session<K> {
         })
     }
 
-    /// Goes back over `count` steps, or to before the first kept one where there are fewer. Q4 where none is kept.
+    /// Goes back over `count` steps, or to before the first kept one where there are fewer. Q4
+    /// where none is kept.
     fn reverse_step(&mut self, count: Count) -> Result<Reply, Refusal>
         ensures { Obeys K.holds K.refused K.room self.old self.new (λ _ p. unless_refused
-            (refusals_of (Command.Back (Target.Steps count)) p) p (back (Target.Steps count) p)) result }
+            (refusals_of (Command.Back (Target.Steps count)) p) p (back (Target.Steps count) p))
+            result }
     {
         let steps = self.timeline.steps_up_to(count.get());
         if steps == 0 {
@@ -73,8 +78,8 @@ impl<K: Keeper> Session<K> {
         })
     }
 
-    /// Goes back to before the latest step from the present depth or a smaller one, or to the oldest kept state where there is none. Q4
-    /// where no step is kept.
+    /// Goes back to before the latest step from the present depth or a smaller one, or to the
+    /// oldest kept state where there is none. Q4 where no step is kept.
     fn reverse_next(&mut self) -> Result<Reply, Refusal>
         ensures { Obeys K.holds K.refused K.room self.old self.new (λ _ p. unless_refused
             (refusals_of (Command.Back Target.Next) p) p (back Target.Next p)) result }
@@ -85,8 +90,8 @@ impl<K: Keeper> Session<K> {
         Ok(self.back_to_latest(Target::Next))
     }
 
-    /// Goes back to the latest kept state of smaller depth, or to the oldest one where there is none. Q4 where no step is kept, Q9 at
-    /// depth 0.
+    /// Goes back to the latest kept state of smaller depth, or to the oldest one where there is
+    /// none. Q4 where no step is kept, Q9 at depth 0.
     fn reverse_finish(&mut self) -> Result<Reply, Refusal>
         ensures { Obeys K.holds K.refused K.room self.old self.new (λ _ p. unless_refused
             (refusals_of (Command.Back Target.Finish) p) p (back Target.Finish p)) result }
@@ -100,8 +105,8 @@ impl<K: Keeper> Session<K> {
         Ok(self.back_to_latest(Target::Finish))
     }
 
-    /// Goes back to before the latest step from a breakpoint, or that changed a watched byte, or to the oldest kept state where there is
-    /// none. Q4 where no step is kept.
+    /// Goes back to before the latest step from a breakpoint, or that changed a watched byte, or to
+    /// the oldest kept state where there is none. Q4 where no step is kept.
     fn reverse_continue(&mut self) -> Result<Reply, Refusal>
         ensures { Obeys K.holds K.refused K.room self.old self.new (λ _ p. unless_refused
             (refusals_of (Command.Back Target.Continue) p) p (back Target.Continue p)) result }
@@ -117,9 +122,11 @@ impl<K: Keeper> Session<K> {
         })
     }
 
-    /// Goes back to the state before the latest move that is sought, or to the oldest kept one where there is none.
+    /// Goes back to the state before the latest move that is sought, or to the oldest kept one
+    /// where there is none.
     fn back_to_latest(&mut self, target: Target) -> Reply
-        ensures { Obeys K.holds K.refused K.room self.old self.new (λ _. to_latest target) (Ok result) }
+        ensures { Obeys K.holds K.refused K.room self.old self.new (λ _. to_latest target)
+            (Ok result) }
     {
         let found = self.back_to(target, 1);
         Reply::Back {
@@ -128,11 +135,13 @@ impl<K: Keeper> Session<K> {
         }
     }
 
-    /// Goes back, a move at a time, to the state before the `count`-th latest move that is sought, or to the oldest kept one where there
-    /// are fewer.
+    /// Goes back, a move at a time, to the state before the `count`-th latest move that is sought,
+    /// or to the oldest kept one where there are fewer.
     fn back_to(&mut self, target: Target, count: u64) -> Found
         requires { 1 ≤ count }
-        ensures back { (h : Track) → HasPast K.holds self.old h → GoesBackTo K.holds (passes target (point_of self.old h)) count h self.old self.new result }
+        ensures back { (h : Track) → HasPast K.holds self.old h →
+            GoesBackTo K.holds (passes target (point_of self.old h))
+            count h self.old self.new result }
         ensures refused { K.refused self.new.moment.keeper ≡ K.refused self.old.moment.keeper }
         ensures bounds { bounds_of K.room self.new ≡ bounds_of K.room self.old }
     {
@@ -165,13 +174,16 @@ impl<K: Keeper> Session<K> {
         }
     }
 
-    /// How many moves of those that a command looks for, which was given at a depth, was the one that was taken back just now, so that the
-    /// state before it is the present one: one or none. It had changed a watched byte or not.
+    /// How many moves of those that a command looks for, which was given at a depth, was the one
+    /// that was taken back just now, so that the state before it is the present one: one or none.
+    /// It had changed a watched byte or not.
     fn hits(&self, target: &Target, start: usize, taken: Taken, differs: bool) -> u64
         ensures fits { result ≤ 1 }
-        ensures value { (first y : State) (h : Track) (r : Record) → start ≡ depth first → taken ≡ taken_of r → self.now.moment.state ≡ r.before →
+        ensures value { (first y : State) (h : Track) (r : Record) → start ≡ depth first →
+            taken ≡ taken_of r → self.now.moment.state ≡ r.before →
             differs ≡ some_differs self.now.watches r.before y →
-            result ≡ (if passes target.now (record (point_of self.now h) { state = first }) r y then 1 else 0) }
+            result ≡ (if passes target.now (record (point_of self.now h) { state = first })
+            r y then 1 else 0) }
     {
         let is_hit = match target {
             Target::Commands(_) => taken.mark,
@@ -191,9 +203,11 @@ fn why_there(is_enough: bool) -> Why
     if is_enough { Why::Done } else { Why::Start }
 }
 
-/// Why a command stops that looked for a breakpoint or a change of a watched byte, and found one or none.
+/// Why a command stops that looked for a breakpoint or a change of a watched byte, and found one or
+/// none.
 fn why_stopped(is_there: bool, is_break: bool) -> Why
-    ensures { result ≡ (if is_there then (if is_break then Why.Break else Why.Watch) else Why.Start) }
+    ensures { result ≡ (if is_there then (if is_break then Why.Break else Why.Watch)
+        else Why.Start) }
 {
     if !is_there {
         Why::Start

@@ -13,10 +13,12 @@ use bpf_machine::{Edit, EditFault};
 use bpfdb_commands::Refusal;
 
 impl<K: Keeper> Session<K> {
-    /// Makes an edit, a marked move. Q6, Q7, Q8 or Q14 where it can't be made, Q15 where the keeper can't keep it.
+    /// Makes an edit, a marked move. Q6, Q7, Q8 or Q14 where it can't be made, Q15 where the keeper
+    /// can't keep it.
     pub(crate) fn edit(&mut self, edit: &Edit) -> Result<Reply, Refusal>
         ensures { Obeys K.holds K.refused K.room self.old self.new (λ gap p. unless_refused
-            (edit_refusals edit.now p) p (edit_of gap (K.room self.old.moment.keeper) edit.now p)) result }
+            (edit_refusals edit.now p) p (edit_of gap (K.room self.old.moment.keeper) edit.now p))
+            result }
     {
         answer_to(self.timeline.edit(edit, true))
     }

@@ -20,11 +20,13 @@ use bpfdb_commands::{Command, Goal, Refusal};
 use bpfdb_replies::Why;
 
 impl<K: Keeper> Session<K> {
-    /// Takes the least number of steps, at least one, after which a stop holds. Q3 where the machine has ended, Q9 where `finish` is
-    /// given at depth 0, Q15 where the keeper refuses the first step.
+    /// Takes the least number of steps, at least one, after which a stop holds. Q3 where the
+    /// machine has ended, Q9 where `finish` is given at depth 0, Q15 where the keeper refuses the
+    /// first step.
     pub(crate) fn forward(&mut self, goal: Goal) -> Result<Reply, Refusal>
         ensures { Obeys K.holds K.refused K.room self.old self.new (λ gap p. unless_refused
-            (refusals_of (Command.Forward goal) p) p (forward gap (bounds_of K.room self.old) goal p)) result }
+            (refusals_of (Command.Forward goal) p) p
+            (forward gap (bounds_of K.room self.old) goal p)) result }
     {
         match goal {
             Goal::Finish => self.finish(),
@@ -35,7 +37,8 @@ impl<K: Keeper> Session<K> {
     /// Takes steps until the present function has returned, or another stop holds.
     fn finish(&mut self) -> Result<Reply, Refusal>
         ensures { Obeys K.holds K.refused K.room self.old self.new (λ gap p. unless_refused
-            (refusals_of (Command.Forward Goal.Finish) p) p (forward gap (bounds_of K.room self.old) Goal.Finish p)) result }
+            (refusals_of (Command.Forward Goal.Finish) p) p
+            (forward gap (bounds_of K.room self.old) Goal.Finish p)) result }
     {
         if self.cpu().status().has_ended() {
             return Err(Refusal::MachineEnded);
@@ -46,12 +49,14 @@ impl<K: Keeper> Session<K> {
         self.go_forward(Goal::Finish)
     }
 
-    /// Takes the least number of steps, at least one, after which a stop holds: the machine has ended, a breakpoint is at pc, a watched
-    /// byte was changed, what was asked for is done, or the limit is reached. Q3 where the machine has ended before, Q15 where the keeper
-    /// refuses the first step.
+    /// Takes the least number of steps, at least one, after which a stop holds: the machine has
+    /// ended, a breakpoint is at pc, a watched byte was changed, what was asked for is done, or the
+    /// limit is reached. Q3 where the machine has ended before, Q15 where the keeper refuses the
+    /// first step.
     fn go_forward(&mut self, goal: Goal) -> Result<Reply, Refusal>
         ensures { Obeys K.holds K.refused K.room self.old self.new (λ gap p. unless_refused
-            (when (has_ended p.state.status) Refusal.MachineEnded) p (forward gap (bounds_of K.room self.old) goal p)) result }
+            (when (has_ended p.state.status) Refusal.MachineEnded) p
+            (forward gap (bounds_of K.room self.old) goal p)) result }
     {
         if self.cpu().status().has_ended() {
             return Err(Refusal::MachineEnded);
@@ -73,16 +78,21 @@ impl<K: Keeper> Session<K> {
         })
     }
 
-    /// Takes steps, `most` at the most, until the machine has ended, a breakpoint is at pc, the depth is below a floor, or the watched bytes are not those
-    /// that were seen.
+    /// Takes steps, `most` at the most, until the machine has ended, a breakpoint is at pc, the
+    /// depth is below a floor, or the watched bytes are not those that were seen.
     fn run(&mut self, most: u64, seen: &Seen, floor: usize) -> Run
         requires runs { has_ended self.old.moment.state.status ≡ false }
         requires some { 1 ≤ most }
-        ensures ends { Ends (halts self.old.breaks self.old.watches seen.now floor) most self.old.moment.state self.new.moment.state result.steps result.is_cut }
-        ensures kept { (t : Track) → HasPast K.holds self.old t → HasPast K.holds self.new (track_after (K.room self.old.moment.keeper) result.steps self.old.moment.state t) }
-        ensures refused { K.refused self.new.moment.keeper ≡ refusals_by_run result.is_cut (K.refused self.old.moment.keeper) }
+        ensures ends { Ends (halts self.old.breaks self.old.watches seen.now floor)
+            most self.old.moment.state self.new.moment.state result.steps result.is_cut }
+        ensures kept { (t : Track) → HasPast K.holds self.old t →
+            HasPast K.holds self.new
+            (track_after (K.room self.old.moment.keeper) result.steps self.old.moment.state t) }
+        ensures refused { K.refused self.new.moment.keeper
+            ≡ refusals_by_run result.is_cut (K.refused self.old.moment.keeper) }
         ensures room { K.room self.new.moment.keeper ≡ K.room self.old.moment.keeper }
-        ensures tables { (self.new.breaks ≡ self.old.breaks) × (self.new.watches ≡ self.old.watches) × (self.new.limit ≡ self.old.limit) }
+        ensures tables { (self.new.breaks ≡ self.old.breaks) × (self.new.watches ≡ self.old.watches)
+            × (self.new.limit ≡ self.old.limit) }
     {
         let halting = Halting {
             breaks: &self.breaks,
@@ -93,10 +103,14 @@ impl<K: Keeper> Session<K> {
         self.timeline.run(most, &halting)
     }
 
-    /// Why a command that began at a depth stops after so many steps, where it does. The last one changed a watched byte or not.
+    /// Why a command that began at a depth stops after so many steps, where it does. The last one
+    /// changed a watched byte or not.
     fn why(&self, goal: &Goal, start: usize, taken: u64, differs: bool) -> Why
-        ensures { (first x : State) (h : Track) → start ≡ depth_of first → differs ≡ some_differs self.now.watches x self.now.moment.state →
-            result ≡ unwrap_or (stop_in self.now.limit goal.now (record (point_of self.now h) { state = first }) taken x self.now.moment.state) Why.Limit }
+        ensures { (first x : State) (h : Track) → start ≡ depth_of first →
+            differs ≡ some_differs self.now.watches x self.now.moment.state →
+            result ≡ unwrap_or (stop_in self.now.limit goal.now
+            (record (point_of self.now h) { state = first }) taken x self.now.moment.state)
+            Why.Limit }
     {
         if self.cpu().status().has_ended() {
             Why::End
@@ -112,7 +126,8 @@ impl<K: Keeper> Session<K> {
     }
 }
 
-/// Whether a command that began at a depth has reached its goal after so many steps, at the depth that they led to.
+/// Whether a command that began at a depth has reached its goal after so many steps, at the depth
+/// that they led to.
 fn is_done(goal: &Goal, start: usize, taken: u64, depth: usize) -> bool
     ensures { (x : State) → depth ≡ depth_of x → result ≡ is_done goal.now start taken x }
 {
@@ -126,7 +141,8 @@ fn is_done(goal: &Goal, start: usize, taken: u64, depth: usize) -> bool
 
 /// The answer where the keeper refused the step after so many kept ones.
 fn cut_short(kept: u64) -> Result<Reply, Refusal>
-    ensures { result ≡ (if kept == 0 then Err Refusal.OutOfMemory else Ok (Reply.Forward kept Why.Memory)) }
+    ensures { result ≡ (if kept == 0 then Err Refusal.OutOfMemory else Ok
+        (Reply.Forward kept Why.Memory)) }
 {
     if kept == 0 {
         Err(Refusal::OutOfMemory)

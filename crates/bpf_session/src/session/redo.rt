@@ -13,8 +13,9 @@ use bpfdb_commands::{Command, Count, Refusal};
 use bpfdb_replies::Why;
 
 impl<K: Keeper> Session<K> {
-    /// Makes so many moves again that were taken back, the next one first, or all of them where there are fewer. It stops at no breakpoint
-    /// and no watch. Q13 where there is none, Q15 where the keeper refuses the first one.
+    /// Makes so many moves again that were taken back, the next one first, or all of them where
+    /// there are fewer. It stops at no breakpoint and no watch. Q13 where there is none, Q15 where
+    /// the keeper refuses the first one.
     pub(crate) fn redo(&mut self, count: Count) -> Result<Reply, Refusal>
         ensures { Obeys K.holds K.refused K.room self.old self.new (λ gap p. unless_refused
             (refusals_of (Command.Redo count) p) p (redo_of gap count p)) result }
@@ -35,7 +36,8 @@ impl<K: Keeper> Session<K> {
         requires some { 1 ≤ moves }
         requires told { why ≢ Why.Memory }
         requires there { (h : Track) → HasPast K.holds self.old h → moves ≤ length h.ahead }
-        ensures { Obeys K.holds K.refused K.room self.old self.new (λ gap. cut_again gap moves why) result }
+        ensures { Obeys K.holds K.refused K.room self.old self.new (λ gap. cut_again gap moves why)
+            result }
     {
         for k in 0..moves {
             match self.timeline.redo() {
@@ -49,7 +51,8 @@ impl<K: Keeper> Session<K> {
 
 /// The answer where the keeper refused the move after so many that were made again.
 fn cut_short(made: u64) -> Result<Reply, Refusal>
-    ensures { result ≡ (if made == 0 then Err Refusal.OutOfMemory else Ok (Reply.Redone made Why.Memory)) }
+    ensures { result ≡ (if made == 0 then Err Refusal.OutOfMemory else Ok
+        (Reply.Redone made Why.Memory)) }
 {
     if made == 0 {
         Err(Refusal::OutOfMemory)

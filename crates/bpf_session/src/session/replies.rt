@@ -19,15 +19,16 @@ use counted_io::{Counted, WriteFault, put};
 use std::io::Write;
 
 impl<K: Keeper> Session<K> {
-    /// Writes the lines of a reply, from the session's present state. The bytes that it names are present, and an instruction starts at
-    /// its slot, as after the `apply` that answered it.
+    /// Writes the lines of a reply, from the session's present state. The bytes that it names are
+    /// present, and an instruction starts at its slot, as after the `apply` that answered it.
     pub fn write_reply<W: Write>(
         &self,
         reply: &Reply,
         writer: &mut Counted<W>,
     ) -> Result<(), WriteFault>
         requires there { IsThere reply.now self.now.moment.state }
-        ensures { (h : Track) → HasPast K.holds self.now h → Writes W.contents writer.old writer.new result
+        ensures { (h : Track) → HasPast K.holds self.now h →
+            Writes W.contents writer.old writer.new result
             (text_of_reply (bounds_of K.room self.now) reply.now (point_of self.now h)) }
     {
         self.put_reply(writer, Ok(()), reply)
@@ -42,7 +43,8 @@ impl<K: Keeper> Session<K> {
         reply: &Reply,
     ) -> Result<(), WriteFault>
         requires there { IsThere reply.now self.now.moment.state }
-        ensures { (h : Track) → HasPast K.holds self.now h → WritesAfter W.contents writer.old so_far writer.new result
+        ensures { (h : Track) → HasPast K.holds self.now h →
+            WritesAfter W.contents writer.old so_far writer.new result
             (text_of_reply (bounds_of K.room self.now) reply.now (point_of self.now h)) }
     {
         let cpu = self.cpu();
@@ -67,7 +69,8 @@ impl<K: Keeper> Session<K> {
         view: View,
     ) -> Result<(), WriteFault>
         requires there { IsInSight view self.now.moment.state }
-        ensures { (h : Track) → HasPast K.holds self.now h → WritesAfter W.contents writer.old so_far writer.new result
+        ensures { (h : Track) → HasPast K.holds self.now h →
+            WritesAfter W.contents writer.old so_far writer.new result
             (text_of_view (bounds_of K.room self.now) view (point_of self.now h)) }
     {
         let cpu = self.cpu();
@@ -104,8 +107,10 @@ impl<K: Keeper> Session<K> {
         so_far: Result<(), WriteFault>,
         address: u64,
     ) -> Result<(), WriteFault>
-        ensures { (h : Track) → HasPast K.holds self.now h → WritesAfter W.contents writer.old so_far writer.new result
-            (text_of_last (last_change address h.history self.now.moment.state) (length h.history)) }
+        ensures { (h : Track) → HasPast K.holds self.now h →
+            WritesAfter W.contents writer.old so_far writer.new result
+            (text_of_last (last_change address h.history self.now.moment.state)
+            (length h.history)) }
     {
         let value = byte_at(self.cpu(), address);
         match self.timeline.last_change(address, value) {

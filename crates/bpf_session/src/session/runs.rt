@@ -8,10 +8,11 @@ use bpf_journal::Keeper;
 use bpfdb_commands::Refusal;
 
 impl<K: Keeper> Session<K> {
-    /// Watches the bytes of a run. Q6 where some of them aren't present, Q10 where there isn't room for all of them, Q11 where some of them
-    /// are watched. A refused run leaves all as it was.
+    /// Watches the bytes of a run. Q6 where some of them aren't present, Q10 where there isn't room
+    /// for all of them, Q11 where some of them are watched. A refused run leaves all as it was.
     pub fn watch(&mut self, run: &Run) -> Result<(), Refusal>
-        ensures { SetsWatches self.old self.new (with_run run.now self.old.watches self.old.moment.state) result }
+        ensures { SetsWatches self.old self.new
+            (with_run run.now self.old.watches self.old.moment.state) result }
     {
         if !run.is_present(self.cpu()) {
             return Err(Refusal::AddressNotPresent);
@@ -26,7 +27,8 @@ impl<K: Keeper> Session<K> {
         Ok(())
     }
 
-    /// No longer watches the bytes of a run. Q11 where some of them aren't watched, and then all stays as it was.
+    /// No longer watches the bytes of a run. Q11 where some of them aren't watched, and then all
+    /// stays as it was.
     pub fn unwatch(&mut self, run: &Run) -> Result<(), Refusal>
         ensures { SetsWatches self.old self.new (without_run run.now self.old.watches) result }
     {

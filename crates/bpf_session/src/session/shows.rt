@@ -12,8 +12,8 @@ use bpf_journal::Keeper;
 use bpfdb_commands::{Command, Refusal, View};
 
 impl<K: Keeper> Session<K> {
-    /// Shows a part of the session. Q6 where some of the bytes aren't present, or they lie in two regions, Q8 where no instruction starts
-    /// at the slot.
+    /// Shows a part of the session. Q6 where some of the bytes aren't present, or they lie in two
+    /// regions, Q8 where no instruction starts at the slot.
     pub(crate) fn show(&self, view: View) -> Result<Reply, Refusal>
         ensures { Obeys K.holds K.refused K.room self.now self.now (λ _ p. unless_refused
             (refusals_of (Command.Show view) p) p (replied (Reply.Shown view) p)) result }

@@ -25,7 +25,8 @@ impl Model for Run {
 }
 
 impl Run {
-    /// So many bytes from an address on. None where they are none or more than 4, or pass the last address.
+    /// So many bytes from an address on. None where they are none or more than 4, or pass the last
+    /// address.
     pub fn new(address: u64, count: u64) -> Option<Run>
         ensures { result ≡ run_of address count }
     {

@@ -28,10 +28,12 @@ fn position(text: &[u8], byte: u8) -> Option<usize>
     text.iter().position(|b| *b == byte)
 }
 
-/// The text before the first such byte, or all of it, and the text after that byte, if there is one.
+/// The text before the first such byte, or all of it, and the text after that byte, if there is
+/// one.
 pub fn cut(text: &[u8], byte: u8) -> (&[u8], Option<&[u8]>)
     ensures before { result.0.now ≡ before byte text.now }
-    ensures found { IfSome result.1 (λ rest. (holds byte text.now ≡ true) × (rest.now ≡ after byte text.now)) }
+    ensures found { IfSome result.1 (λ rest. (holds byte text.now ≡ true)
+        × (rest.now ≡ after byte text.now)) }
     ensures none { IfNone result.1 ((holds byte text.now ≡ false) × (after byte text.now ≡ [])) }
 {
     let place = find(text, byte);

@@ -1,4 +1,5 @@
-//! The first round over a listing: its labels, its statements in their places, and the faults of its lines.
+//! The first round over a listing: its labels, its statements in their places, and the faults of
+//! its lines.
 ghost use Rattle.std.specs.Prelude.{◌≡◌, ◌≤◌, ◌+◌, ℕ, List, IfOk, IfErr, OnOk, Ok, Err, map, nat_le, if◌then◌else◌};
 ghost use Rattle.bpf_isa.specs.Checker.{most_slots};
 ghost use Rattle.counted_io.specs.Lines.{lines};
@@ -42,7 +43,8 @@ impl<'a> Outline<'a> {
         line: Result<Line<'a>, LineFault>,
     ) -> Result<(), AllocError>
         ensures labels { OnOk result ((q : List ℕ) → labels_of self.new q
-            ≡ labels_with (labels_of self.old) (record { line = line_number; slot = slot }) (label_of line.entry) q) }
+            ≡ labels_with (labels_of self.old) (record { line = line_number; slot = slot })
+            (label_of line.entry) q) }
         ensures placed { OnOk result (placed_of self.new
             ≡ placed_with (placed_of self.old) slot line_number (statement_of line.entry)) }
     {
@@ -89,8 +91,10 @@ fn push_statement<'a>(
 /// read once.
 pub fn first_round(alloc: Global, text: &[u8]) -> Result<Outline<'_>, AsmFault>
     ensures ok { IfOk result (λ outline.
-        first_round nothing 0 1 (map read_line (lines text.now)) ≡ Ok (labels_of outline, placed_of outline)) }
-    ensures err { IfErr result (MemoryOr (first_round nothing 0 1 (map read_line (lines text.now)))) }
+        first_round nothing 0 1 (map read_line (lines text.now))
+        ≡ Ok (labels_of outline, placed_of outline)) }
+    ensures err { IfErr result
+        (MemoryOr (first_round nothing 0 1 (map read_line (lines text.now)))) }
 {
     let mut outline = Outline {
         labels: IndexMap::with_hasher(alloc, TextKey::of(text)),

@@ -17,7 +17,8 @@ pub struct Definition {
     pub slot: u16,
 }
 
-/// Where each label that was met is defined, in the order of the labels' lines. Hashes by the text of the listing.
+/// Where each label that was met is defined, in the order of the labels' lines. Hashes by the text
+/// of the listing.
 pub type LabelMap<'a> = IndexMap<&'a [u8], Definition, TextKey>;
 
 /// Puts a line's label, if it has one.

@@ -14,8 +14,10 @@ use std::alloc::Global;
 /// The bytes of a listing that met no fault in the first round, or its first fault of the second.
 pub fn second_round(alloc: Global, outline: &Outline<'_>) -> Result<Vec<u8>, AsmFault>
     ensures ok { IfOk result (λ bytes. (insns : List Insn)
-        × (second_round (labels_of outline.now) (placed_of outline.now) ≡ Ok insns) × AreWords insns bytes.items) }
-    ensures err { IfErr result (MemoryOr (second_round (labels_of outline.now) (placed_of outline.now))) }
+        × (second_round (labels_of outline.now) (placed_of outline.now) ≡ Ok insns)
+        × AreWords insns bytes.items) }
+    ensures err { IfErr result
+        (MemoryOr (second_round (labels_of outline.now) (placed_of outline.now))) }
 {
     let mut bytes = Vec::new(alloc);
     for placed in &outline.placed {
@@ -91,7 +93,8 @@ fn with_distance(insn: Insn, distance: i32) -> Result<Insn, LineFault>
 
 /// A distance as an offset of 16 bits.
 fn offset_of(distance: i32) -> Result<i16, LineFault>
-    ensures { result ≡ (if fits_offset distance then Ok distance else Err (LineFault.TooFar distance)) }
+    ensures { result ≡ (if fits_offset distance then Ok distance else Err
+        (LineFault.TooFar distance)) }
 {
     if -32768 <= distance && distance <= 32767 {
         Ok(distance as i16)
