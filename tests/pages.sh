@@ -47,7 +47,8 @@ names_of_files() {
     done
 }
 
-# clauses CRATE: 'FUNCTION LABEL' for each labelled clause of the crate, and 'NAME' for each function and type.
+# clauses CRATE: 'FUNCTION LABEL' for each labelled clause of the crate, 'RECORD LABEL' for each field of its definitions, and
+# 'NAME' for each function, type and record.
 clauses() {
     find "crates/$1/src" -name '*.rt' -exec awk '
         match($0, /(fn|struct|enum|trait|type|const) [A-Za-z_0-9]+/) && !/^ *\/\// {
@@ -59,6 +60,10 @@ clauses() {
             split(substr($0, RSTART, RLENGTH), words, " ")
             print name, words[2]
         }
+    ' {} +
+    find "crates/$1/specs" -name '*.antt' -exec awk '
+        match($0, /pub record [A-Za-z_0-9]+/) { name = substr($0, RSTART + 11, RLENGTH - 11); print name }
+        match($0, /^ +pub [a-z_]+ :/) { split(substr($0, RSTART, RLENGTH), words, " "); print name, words[2] }
     ' {} +
 }
 

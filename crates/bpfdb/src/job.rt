@@ -1,8 +1,9 @@
 //! The job of a plan, done over any reader and writer.
 ghost use Rattle.std.specs.Prelude.{◌≡◌, ◌≢◌, ◌≤◌};
-ghost use Rattle.bpfdb.specs.Done.{DoesJob, ServesJob};
+ghost use Rattle.bpfdb.specs.Done.{ServesJob};
 ghost use Rattle.bpfdb.specs.Jobs.{IsJobOf, kind_of, layout_of, section_of};
 ghost use Rattle.bpfdb_cli.specs.declared.plans.Subcommand.TheVariants.{Gdb};
+ghost use Rattle.bpfdb_jobs.specs.Done.{DoesJob};
 ghost use Rattle.bpfdb_limits.specs.Limits.{IsLimit};
 
 use bpf_journal::{Keeper, RingKeeper};
@@ -33,7 +34,7 @@ pub fn do_or_serve<R: Read, W: Write, E: Write>(
         job reader.old reader.new writer.old writer.new errors.old errors.new result }
     ensures done { plan.now.subcommand ≢ Gdb → (job : Job)
         × IsJobOf plan.now file.now context.now job
-        × DoesJob R.remaining W.contents E.contents job reader.old reader.new writer.old writer.new
+        × DoesJob R.remaining W.contents E.contents job.kind job reader.old reader.new writer.old writer.new
         errors.old errors.new result }
     ensures status { result ≤ 2 }
 {
@@ -56,7 +57,7 @@ fn do_plan<R: Read, W: Write, E: Write>(
 ) -> u8
     requires limit { IsLimit plan.now.limit }
     ensures value { (job : Job) × IsJobOf plan.now file.now context.now job
-        × DoesJob R.remaining W.contents E.contents job reader.old reader.new writer.old writer.new
+        × DoesJob R.remaining W.contents E.contents job.kind job reader.old reader.new writer.old writer.new
         errors.old errors.new result }
     ensures status { result ≤ 2 }
 {

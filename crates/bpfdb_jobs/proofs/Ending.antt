@@ -84,24 +84,9 @@ faulted-not-exited s is p = let q : Faulted ≡ Exited = is ∙ ap ending_of p i
 pub limit-not-exited : (s : Status) → Limit ≡ ending_of s → s ≢ status.Exited
 limit-not-exited s is p = let q : Limit ≡ Exited = is ∙ ap ending_of p in cc
 
--- the same of a job's own kind
-pub unread-told : {R W E : Type 0} (contents : E → Option (List ℕ)) (kind other : JobKind) (job : Job) (reader : Tally R) (writer writer' : Tally W) (errors errors' : Tally E)
-    → kind ≡ other → TellsUnread contents other job writer writer' errors errors' → TellsFault contents kind job reader reader writer writer' errors errors'
-unread-told contents kind other job reader writer writer' errors errors' is t =
-    (t.0, subst (λ (k : JobKind). EndsBy k job reader reader writer writer' t.0) (sym is) (ends-unread other job reader writer writer' t.0 t.1), t.2)
-
-pub told-or-lost : {R W E : Type 0} (contents : E → Option (List ℕ)) (kind other : JobKind) (job : Job) (reader : Tally R) (writer writer' : Tally W) (errors errors' : Tally E)
-    → kind ≡ other → TellsUnread contents other job writer writer' errors errors' ⊎ LosesLine contents other job writer writer' errors errors'
+-- a job that is given no reader leaves it as it was
+pub unread-told : {R W E : Type 0} (contents : E → Option (List ℕ)) (kind : JobKind) (job : Job) (reader : Tally R) (writer writer' : Tally W) (errors errors' : Tally E)
+    → TellsUnread contents kind job writer writer' errors errors' ⊎ LosesLine contents kind job writer writer' errors errors'
     → TellsFault contents kind job reader reader writer writer' errors errors' ⊎ (LosesLine contents kind job writer writer' errors errors' × (reader ≡ reader))
-told-or-lost contents kind other job reader writer writer' errors errors' is (inl t) = inl (unread-told contents kind other job reader writer writer' errors errors' is t)
-told-or-lost contents kind other job reader writer writer' errors errors' is (inr l) =
-    inr (subst (λ (k : JobKind). LosesLine contents k job writer writer' errors errors') (sym is) l, refl)
-
-pub done-told : {E : Type 0} (contents : E → Option (List ℕ)) (kind other : JobKind) (job : Job) (errors errors' : Tally E)
-    → kind ≡ other → TellsDone contents other job errors errors' → TellsDone contents kind job errors errors'
-done-told contents kind other job errors errors' is d = subst (λ (k : JobKind). TellsDone contents k job errors errors') (sym is) d
-
-pub debug-told : {R W E : Type 0} (contents : E → Option (List ℕ)) (kind other : JobKind) (job : Job) (reader reader' : Tally R) (writer writer' : Tally W) (errors errors' : Tally E)
-    → kind ≡ other → TellsFault contents other job reader reader' writer writer' errors errors' → TellsFault contents kind job reader reader' writer writer' errors errors'
-debug-told contents kind other job reader reader' writer writer' errors errors' is t =
-    (t.0, subst (λ (k : JobKind). EndsBy k job reader reader' writer writer' t.0) (sym is) t.1, t.2)
+unread-told contents kind job reader writer writer' errors errors' (inl t) = inl (t.0, ends-unread kind job reader writer writer' t.0 t.1, t.2)
+unread-told contents kind job reader writer writer' errors errors' (inr l) = inr (l, refl)

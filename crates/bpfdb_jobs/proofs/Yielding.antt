@@ -13,7 +13,7 @@ use Rattle.bpf_session.specs.Runs.{Exchange, WroteBetween}
 use Rattle.bpfdb_jobs.specs.Jobs.{Completes, Opens, StopsShort, StopsUnread, Unread, Yield, Yields, run_yield}
 use Rattle.bpfdb_jobs.specs.declared.job.Job.{Job}
 use Rattle.bpfdb_jobs.specs.declared.job.JobKind.{JobKind}
-use Rattle.bpfdb_jobs.specs.declared.job.JobKind.TheVariants.{Run}
+use Rattle.bpfdb_jobs.specs.declared.job.JobKind.TheVariants.{Run, Debug, Asm, Disasm, Check, Link}
 
 -- known bytes that grew are known
 grown : (new : Option (List ℕ)) (told text : List ℕ) → Appends (Some told) new text → new ≡ Some (told ++ text)
@@ -50,23 +50,21 @@ begins contents s job y script told old new (Err e) right held w =
 pub run-yields : (job : Job) (script : List ℕ) (x end : State) → (code : Checked) × Opens job code × (x ≡ initial code job.context.now) → end ≡ plain_end job.limit x → Yields Run job script (run_yield script end)
 run-yields job script x end o e = (o.0, o.1, ap (run_yield script) (e ∙ ap (plain_end job.limit) o.2))
 
--- the same of a job's own kind, and of what its reader has left
-pub completes-too : (s t : JobKind) (job : Job) (script told : List ℕ) (after left : Option (List ℕ)) (status : ℕ) → s ≡ t → left ≡ Some script → Completes t job (unread_exchange script told after) status → Completes s job (record { script = script; told = told; after = after; left = left }) status
-completes-too s t job script told after left status is unread p =
-    subst (λ (o : Option (List ℕ)). Completes s job (record { script = script; told = told; after = after; left = o }) status) (sym unread)
-    (subst (λ (u : JobKind). Completes u job (unread_exchange script told after) status) (sym is) p)
+-- the same of what a reader has left that wasn't read
+pub completes-left : (kind : JobKind) (job : Job) (script told : List ℕ) (after left : Option (List ℕ)) (status : ℕ) → left ≡ Some script → Completes kind job (unread_exchange script told after) status → Completes kind job (record { script = script; told = told; after = after; left = left }) status
+completes-left kind job script told after left status unread p =
+    subst (λ (o : Option (List ℕ)). Completes kind job (record { script = script; told = told; after = after; left = o }) status) (sym unread) p
 
-pub completes-as : (s t : JobKind) (job : Job) (x : Exchange) (status : ℕ) → s ≡ t → Completes t job x status → Completes s job x status
-completes-as s t job x status is p = subst (λ (u : JobKind). Completes u job x status) (sym is) p
+-- a kind of job that reads nothing stops as one does that has nothing to read
+stops-short : {R W : Type 0} (kind : JobKind) (job : Job) (x : Exchange) (reader : Tally R) (writer writer' : Tally W) → kind ≢ Debug → StopsUnread kind job x → StopsShort kind job x reader reader writer writer'
+stops-short Run job x reader writer writer' other p = p
+stops-short Debug job x reader writer writer' other p = absurd (other refl)
+stops-short Asm job x reader writer writer' other p = p
+stops-short Disasm job x reader writer writer' other p = p
+stops-short Check job x reader writer writer' other p = p
+stops-short Link job x reader writer writer' other p = p
 
-pub stops-short : {R W : Type 0} (s t : JobKind) (job : Job) (script told : List ℕ) (after left : Option (List ℕ)) (reader reader' : Tally R) (writer writer' : Tally W) → s ≡ t → left ≡ Some script → StopsShort t job (unread_exchange script told after) reader reader' writer writer' → StopsShort s job (record { script = script; told = told; after = after; left = left }) reader reader' writer writer'
-stops-short s t job script told after left reader reader' writer writer' is unread p =
-    subst (λ (o : Option (List ℕ)). StopsShort s job (record { script = script; told = told; after = after; left = o }) reader reader' writer writer') (sym unread)
-    (subst (λ (u : JobKind). StopsShort u job (unread_exchange script told after) reader reader' writer writer') (sym is) p)
-
--- the same of `debug`, which reads
-pub stops-short-debug : {R W : Type 0} (s t : JobKind) (job : Job) (x : Exchange) (reader reader' : Tally R) (writer writer' : Tally W) → s ≡ t → StopsShort t job x reader reader' writer writer' → StopsShort s job x reader reader' writer writer'
-stops-short-debug s t job x reader reader' writer writer' is p = subst (λ (u : JobKind). StopsShort u job x reader reader' writer writer') (sym is) p
-
-pub stops-unread : (s t : JobKind) (job : Job) (x : Exchange) → s ≡ t → StopsUnread t job x → StopsUnread s job x
-stops-unread s t job x is p = subst (λ (u : JobKind). StopsUnread u job x) (sym is) p
+pub stops-left : {R W : Type 0} (kind : JobKind) (job : Job) (script told : List ℕ) (after left : Option (List ℕ)) (reader : Tally R) (writer writer' : Tally W) → kind ≢ Debug → left ≡ Some script → StopsUnread kind job (unread_exchange script told after) → StopsShort kind job (record { script = script; told = told; after = after; left = left }) reader reader writer writer'
+stops-left kind job script told after left reader writer writer' other unread p =
+    subst (λ (o : Option (List ℕ)). StopsShort kind job (record { script = script; told = told; after = after; left = o }) reader reader writer writer') (sym unread)
+    (stops-short kind job (unread_exchange script told after) reader writer writer' other p)

@@ -1,4 +1,5 @@
 pub mod Connections
+pub mod Done
 pub mod Endings
 pub mod Faults
 pub mod Jobs
