@@ -162,7 +162,7 @@ play() {
 
 echo 0 > wanted/status
 : > wanted/err
-for table in sessions calls redo shown stops maps journals lines refusals; do
+for table in commands sessions calls redo shown stops maps journals lines refusals; do
     : > list
     divide "$parts/transcripts/$table.txt"
     [ -s list ] || complain "$table.txt: there are no transcripts"
