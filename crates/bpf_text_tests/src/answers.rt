@@ -1,6 +1,6 @@
-//! What a listing is assembled to, and how a program is listed.
-use bpf_isa::{Insn, MapTable, Program, check, decode};
-use bpf_text::{AsmFault, assemble, disassemble, write_insn};
+//! What a listing is assembled to, and how an instruction is written.
+use bpf_isa::{Insn, decode};
+use bpf_text::{AsmFault, assemble, write_insn};
 use counted_io::Counted;
 use std::alloc::Global;
 use std::process::Abort;
@@ -35,42 +35,14 @@ pub fn text_of(rt: &impl Abort, alloc: Global, text: &str) -> String {
     text.to_string(alloc).ok().expect(rt, "no memory")
 }
 
-/// A text with another one in place of a character.
-pub fn replaced(rt: &impl Abort, alloc: Global, text: &str, old: char, new: &str) -> String {
-    text.replace(alloc, old, new).ok().expect(rt, "no memory")
-}
-
 /// The lines of a listing that has a bar in place of each line feed.
 pub fn lines_of(rt: &impl Abort, alloc: Global, text: &str) -> String {
-    replaced(rt, alloc, text, '|', "\n")
+    text.replace(alloc, '|', "\n").ok().expect(rt, "no memory")
 }
 
 /// The bytes of hexadecimal digits.
 fn bytes_of(rt: &impl Abort, alloc: Global, word: &str) -> Vec<u8> {
     hex::decode(alloc, word).ok().expect(rt, "no digits")
-}
-
-/// The listing of a program, in hexadecimal, that the checker accepts with three maps of two values
-/// of eight bytes.
-pub fn listed(rt: &impl Abort, alloc: Global, word: &str) -> Vec<u8> {
-    let program = program_of(rt, alloc, word);
-    disassemble(alloc, &program).ok().expect(rt, "no memory")
-}
-
-/// That program.
-fn program_of(rt: &impl Abort, alloc: Global, word: &str) -> Program {
-    let bytes = bytes_of(rt, alloc, word);
-    check(alloc, &bytes, &three_maps())
-        .ok()
-        .expect(rt, "refused")
-}
-
-fn three_maps() -> MapTable {
-    let mut maps = MapTable::empty();
-    for _ in 0..3 {
-        let _added = maps.add(8, 2).is_ok();
-    }
-    maps
 }
 
 /// The text of the instruction in slot 0 that a word spells.

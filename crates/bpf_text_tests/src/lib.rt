@@ -10,8 +10,6 @@ mod listings;
 #[cfg(test)]
 mod passing;
 #[cfg(test)]
-mod rows;
-#[cfg(test)]
 mod stops;
 #[cfg(test)]
 mod texts;

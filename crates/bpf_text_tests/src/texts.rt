@@ -1,8 +1,8 @@
 //! Texts of numbers, instructions and faults.
-use crate::answers::{append_insn, lines_of};
-use crate::stops::{check_bytes, check_text, parts, stop_unless};
+use crate::answers::append_insn;
+use crate::stops::{check_bytes, check_text, stop_unless};
 use bpf_isa::{Insn, Reg, WideValue};
-use bpf_text::{AsmFault, LineFault, assemble};
+use bpf_text::{AsmFault, LineFault};
 use counted_io::{Counted, put, put_decimal, put_hexadecimal, put_signed, write_text};
 use std::alloc::Global;
 use std::process::Abort;
@@ -40,15 +40,6 @@ fn writes_instructions(rt: HostRuntime) {
     check_bytes(&rt, &text, b"ja L65535ldmap r3, 9", "instructions");
 }
 
-// A listing, and the number, the line and the text of its fault.
-const FAULTS: &str = "\
-frob => 1 1 unknown mnemonic\n\
-exit|neg => 2 2 wrong operands\n\
-call 4294967296 => 3 1 number out of range\n\
-a:|a: => 4 2 label defined twice\n\
-exit|exit|ja a => 5 3 unknown label\n\
-|\u{7f} => 6 2 byte outside ASCII text";
-
 /// The number, the line and the text of a fault.
 fn shown(rt: &impl Abort, alloc: Global, fault: AsmFault) -> String {
     let (number, line) = (fault.number(), fault.line().unwrap_or(0));
@@ -56,31 +47,6 @@ fn shown(rt: &impl Abort, alloc: Global, fault: AsmFault) -> String {
     format!(in alloc; "{number} {line} {text}")
         .ok()
         .expect(rt, "no memory")
-}
-
-/// The fault of a listing.
-fn fault_of(rt: &impl Abort, alloc: Global, listing: &str) -> AsmFault {
-    let fault = assemble(alloc, listing.as_bytes()).err();
-    fault.expect(rt, "no fault")
-}
-
-/// Stops unless the listing of a row has the row's fault.
-fn check_fault(rt: &impl Abort, alloc: Global, row: &str) {
-    let (text, wanted) = parts(rt, row);
-    let fault = fault_of(rt, alloc, lines_of(rt, alloc, text).as_str());
-    check_text(rt, shown(rt, alloc, fault).as_str(), wanted, row);
-}
-
-/// The same of each row.
-fn check_faults(rt: &impl Abort, alloc: Global, table: &str) {
-    for row in table.split('\n') {
-        check_fault(rt, alloc, row);
-    }
-}
-
-#[test]
-fn names_faults(rt: HostRuntime) {
-    check_faults(&rt, rt.alloc(), FAULTS);
 }
 
 /// Stops unless a fault is shown like this.
