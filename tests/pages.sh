@@ -233,11 +233,27 @@ refusals() {
     cat "$work/diff"
 }
 
+# widths: no line of a page is wider than 100 columns, but for tables, code, a command by itself, and the lines
+# that tables.sh writes into CALLING.
+widths() {
+    for page in README.md CHANGELOG.md docs/*.md examples/README.md; do
+        LC_ALL=C awk -v page="$page" '
+            /^ *```/ { code = !code }
+            code || /^[|<]/ || /^    / || /^Its line of `crates.txt`/ || /^ *`[^`]*`[.:]?$/ { next }
+            { gsub(/[\200-\277]/, "") }
+            length > 100 { print page ":" FNR }
+        ' "$page"
+    done | while read -r place; do
+        fault "$place is wider than 100 columns"
+    done
+}
+
 # libraries: README names each library of the toolchain that crates.txt lists.
 libraries() {
     sed 's/#.*//; /:/!d; s/:.*//; s/ .*//' crates.txt > "$work/own"
     sed 's/#.*//; s/.*://' crates.txt | tr ' ' '\n' | grep . | sort -u | grep -v -x -F -f "$work/own" | while read -r library; do
-        grep -q "^- Trusted:.*\`$library\`" README.md || fault "README.md doesn't name $library among what is trusted"
+        awk '/^- / || !NF { inside = /^- Trusted:/ } inside' README.md | quoted | grep -q -x "$library" ||
+            fault "README.md doesn't name $library among what is trusted"
     done
 }
 
@@ -286,6 +302,7 @@ examples
 listing
 commands
 options
+widths
 libraries
 refusals
 edits
