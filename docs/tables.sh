@@ -1,10 +1,10 @@
 #!/bin/sh
 # The table of crates in docs/ARCHITECTURE.md and those of files in docs/FILES.md, made from crates.txt and from the first sentence of each file, and
-# the code in docs/CALLING.md with the crates that it uses. 'docs/tables.sh' writes them anew; 'docs/tables.sh --check' fails where a
+# the code in docs/CALLING.md with the crates that it uses, and the definitions in docs/HEADLINE.md. 'docs/tables.sh' writes them anew; 'docs/tables.sh --check' fails where a
 # page and the files differ.
 #
 # A table stands between the lines '<!-- docs/tables.sh: NAME -->' and '<!-- docs/tables.sh: end -->' of a page, a whole file of
-# code between such lines with 'code FILE' for NAME. A file of
+# code between such lines with 'code FILE' for NAME, and definitions of a file of specs/ with 'definitions FILE NAME..'. A file of
 # specs/ whose first sentence begins with the word Scaffolding stands in a table of its own.
 set -u
 cd "$(dirname "$0")/.." || exit 1
@@ -140,6 +140,34 @@ page() {
             while ((getline line < (work "/" $3)) > 0) print line
             close(work "/" $3)
         }
+        # the definitions of these names in a file, each with the comment above it; between two of them is an empty line
+        function define(file, names,    text, block, line, n, words, i) {
+            n = split(names, words, " ")
+            while ((getline line < file) > 0) {
+                if (line !~ /^ *$/) { block = block line "\n"; continue }
+                keep_block(block, n, words, text)
+                block = ""
+            }
+            close(file)
+            keep_block(block, n, words, text)
+            for (i = 1; i <= n; i++) {
+                if (!(i in text)) { print file " defines no " words[i] > (work "/missing"); continue }
+                printf "%s%s", (i > 1 ? "\n" : ""), text[i]
+            }
+        }
+        function keep_block(block, n, words, text,    i) {
+            for (i = 1; i <= n; i++)
+                if (("\n" block) ~ ("\n((abbrev|unfoldable|opaque|pub|data|record) )+" words[i] "[ :]")) text[i] = block
+        }
+        /^<!-- docs\/tables\.sh: definitions [^ ]+ [^>]*-->$/ {
+            inside = 1
+            names = $0
+            sub(/^.*definitions [^ ]+ /, "", names)
+            sub(/ -->$/, "", names)
+            print "```"
+            define($4, names)
+            print "```"
+        }
         /^<!-- docs\/tables\.sh: code [^ ]+ -->$/ {
             inside = 1
             crates = ""
@@ -161,7 +189,7 @@ page() {
 list_crates > "$work/crates"
 { echo; list_files; } > "$work/files"
 stands_apart
-for file in docs/ARCHITECTURE.md docs/FILES.md docs/CALLING.md; do
+for file in docs/ARCHITECTURE.md docs/FILES.md docs/CALLING.md docs/HEADLINE.md; do
     page "$file" > "$work/page"
     if [ "${1:-}" = --check ]; then
         diff "$file" "$work/page" > "$work/diff" && continue
@@ -171,4 +199,5 @@ for file in docs/ARCHITECTURE.md docs/FILES.md docs/CALLING.md; do
         cmp -s "$file" "$work/page" || cp "$work/page" "$file"
     fi
 done
+[ ! -f "$work/missing" ] || fault "docs/HEADLINE.md: $(cat "$work/missing")"
 [ ! -s "$work/faults" ]
