@@ -16,6 +16,9 @@ REGISTERS = {
 FIRST_POINTER, POINTER_STRIDE = 0x200000200, 0x400
 SLOT = 8
 WIDE_LOAD = b"\x18"
+# Kinds of watches that stop at reads; and how the header of an object for BPF tells its kind and machine.
+READ_WATCHES = (gdb.BP_READ_WATCHPOINT, gdb.BP_ACCESS_WATCHPOINT)
+OBJECT_FOR_BPF = b"\x01\x00\xf7\x00"
 
 
 def is_bpf(architecture):
@@ -86,7 +89,10 @@ class Unwinder(gdb.unwinder.Unwinder):
             slot, saved = returning(depth)
             frame.add_saved_register(COUNTERS[name], gdb.Value(SLOT * slot).cast(counter.type))
             for register, value in saved:
-                frame.add_saved_register(registers[int(register[1:])], gdb.Value(int(value, 16)).cast(word))
+                # (under the name that BPF has for it, too, where that is a register of its own)
+                for known in {registers[int(register[1:])], register}:
+                    if pending.architecture().registers().find(known):
+                        frame.add_saved_register(known, gdb.Value(int(value, 16)).cast(word))
         else:
             frame.add_saved_register(COUNTERS[name], counter)
         # The outermost frame has no caller. Where a file of symbols is loaded gdb knows by its entry, and asks only for a frame that differs.
@@ -155,6 +161,26 @@ class LastWrite(Asker):
         print(ask("last-write 0x%x" % address), end="")
 
 
+def refuse_reads(stop):
+    """Takes a watch of reads away as soon as it is set: bpfdb stops at changes alone, and each way on would fail."""
+    if stop.type in READ_WATCHES and is_bpf(gdb.selected_inferior().architecture()):
+        gdb.write("bpfdb stops where bytes change, not where they are read: use watch\n", gdb.STDERR)
+        gdb.post_event(stop.delete)
+
+
+def look_at_file(event):
+    """Says so where an object is loaded in place of what bpfdb-symbols makes of it: gdb would show other names and lines."""
+    try:
+        with open(event.new_objfile.filename, "rb") as file:
+            head = file.read(20)
+    except OSError:
+        return
+    if head[:4] == b"\x7fELF" and head[16:20] == OBJECT_FOR_BPF:
+        gdb.write("this is an object for BPF: load what bpfdb-symbols makes of it\n", gdb.STDERR)
+
+
+gdb.events.breakpoint_created.connect(refuse_reads)
+gdb.events.new_objfile.connect(look_at_file)
 gdb.unwinder.register_unwinder(None, Unwinder(), replace=True)
 gdb.disassembler.register_disassembler(Disassembler())
 Undo("bpf-undo", "undo")
@@ -163,3 +189,5 @@ LastWrite()
 # bpfdb watches four bytes; gdb compares what is wider, and further watches, by itself, step by step.
 gdb.execute("set remote hardware-watchpoint-limit 1")
 gdb.execute("set remote hardware-watchpoint-length-limit 4")
+# A function can't be called: gdb would put its arguments and a return address where BPF has none of them, and not take them away.
+gdb.execute("set may-call-functions off")

@@ -82,7 +82,7 @@ else
 
     sessions=$parts/gdb
     if serves gdb; then
-        for name in steps stops edits faults calls limits source sections; do
+        for name in steps stops edits faults calls limits source sections traps bare; do
             transcript gdb "$sessions/$name.txt"
         done
         transcript gdb story.txt

@@ -86,6 +86,14 @@ else
         "$program" link compiled.o > compiled.bin
         "$program" run -m "$top/examples/overrun/context.bin" compiled.bin 2>&1 | grep -q '^fault access 0x10077656d at ' ||
             complain 'examples/overrun/overrun.c, compiled here, has another fault'
+
+        # Variables in the stack lie elsewhere than clang says. Without the sizes of stacks that is said, and where there is none nothing is.
+        clang -g -O1 -target bpf -c -o sizeless.o "$top/examples/overrun/overrun.c"
+        convert sizeless.o sizeless.sym
+        check 'bpfdb-symbols sizeless.o' 0 '' 'bpfdb-symbols: sizeless.o: variables in the stack will be shown wrong: compile with -fstack-size-section\n'
+        printf '__attribute__((section("prog"))) int entry(int *p) { return *p + 3; }\n' > stackless.c
+        clang -g -O1 -target bpf -c -o stackless.o stackless.c
+        converted stackless.o stackless.sym
     else
         echo 'tests/program/symbols.sh: there is no clang for BPF here, so no file of C is compiled'
     fi
