@@ -98,8 +98,38 @@ bytes deep.o $(sed 's/../& /g' <<'OBJECT'
 0000000000000000000000000000000080000000000000009000000000000000010000000400000008000000000000001800000000000000
 OBJECT
 )
-refused 'refused E23 at slot 2: reference to data that is no map' link deep.o
-refused 'refused E23 at slot 0: reference to data that is no map' link --section .text deep.o
+# Its data are zeros at the start: they become a map, the only one, and so the load is one of its first byte. The section has 4 bytes; with a fifth there are
+# values of 8 bytes, and one of them.
+bytes words $(printf '%s' '8510000001000000 9500000000000000 1861000000000000 0000000000000000 6110000000000000 0700000001000000 6301000000000000 9500000000000000' | tr -d ' ' | sed 's/../& /g')
+row 'bpfdb link deep.o' 0 "$script_unread" "$text" '--maps 8x1\n' link deep.o
+"$program" link deep.o > deep 2> told
+result '0x1\n' run $(cat told) deep
+refused 'refused C12 at slot 2: no such map or offset' check deep
+
+# deep.o has the size of its data at 792, and what the load adds to their address at 68: the map's shape, where the size is at a limit of it, and the place.
+sized() {
+    { head -c 792 deep.o; printf "$2"; tail -c +797 deep.o; } > sized.o
+    "$program" link sized.o > sized 2> told
+    check_told "$1"
+}
+check_told() {
+    count=$((count + 1))
+    [ "$(cat told)" = "$1" ] || complain "data of a size: $1"
+}
+sized '--maps 8x1' '\007\000\000\000'
+sized '--maps 8x2' '\010\000\000\000'
+sized '--maps 8x4096' '\377\177\000\000'
+sized '--maps 16x2049' '\000\200\000\000'
+sized '--maps 16x4096' '\360\377\000\000'
+sized '--maps 16x4096' '\000\000\001\000'
+result 'ok 7 instructions in 8 slots\n' check $(cat told) sized
+sized 'refused E27: data longer than 65536 bytes' '\001\000\001\000'
+sized '--maps 8x1' '\000\000\000\000'
+{ head -c 68 deep.o; printf '\003'; tail -c +70 deep.o; } > added.o
+bytes words $(printf '%s' '8510000001000000 9500000000000000 1861000000000000 0000000003000000 6110000000000000 0700000001000000 6301000000000000 9500000000000000' | tr -d ' ' | sed 's/../& /g')
+row 'bpfdb link added.o' 0 "$script_unread" "$text" '--maps 8x1\n' link added.o
+{ head -c 68 deep.o; printf '\010'; tail -c +70 deep.o; } > added.o
+refused 'refused E25 at slot 2: no such map or offset' link added.o
 
 # Each line has an object, a place of it and the byte that stands there instead, in octal, and what is told. The calls of calls.o are at the slots 0 and 2, the
 # wide loads of maps.o at 1 and 6, and 14 is its last slot.
@@ -111,6 +141,8 @@ calls|288|040|E17: relocation at no slot, or out of order
 calls|300|006|E18 at slot 0: relocation against no symbol
 calls|316|006|E18 at slot 2: relocation against no symbol
 deep|284|006|E18 at slot 2: relocation against no symbol
+deep|284|004|E23 at slot 2: reference to data that is no map
+deep|76|001|E24 at slot 2: relocation of a map at no empty wide load
 calls|316|000|E19 at slot 2: symbol is not defined in the object
 calls|312|002|E20 at slot 2: unknown relocation
 calls|132|005|E21 at slot 2: call of no function of the program
@@ -232,15 +264,36 @@ C
         printf "\\$key\\000\\000\\000" > context
         result "$([ $key = 001 ] && echo 0x3 || echo 0x2)\n" run $(cat told) -m context keys
     done
-    # Data that is no map: zeros at the start, and constants.
+    # Data that are zeros at the start are a map after the object's own, and constants are none.
     echo 'static int count; __attribute__((section("prog"))) int entry(void) { return ++count; }' > zeros.c
     echo 'static const char names[] = "bpfdb"; __attribute__((section("prog"))) int entry(const void *at, unsigned long size) { return names[size & 3]; }' > constants.c
-    # (slot 1, since slot 0 is `and r2, 3`)
-    for row in 'zeros 0' 'constants 1'; do
-        set -- $row
-        clang -O1 -target bpf -c -o $1.o $1.c
-        refused "refused E23 at slot $2: reference to data that is no map" link $1.o
+    clang -O1 -target bpf -c -o zeros.o zeros.c
+    "$program" link zeros.o > zeros 2> told
+    result '0x1\n' run $(cat told) zeros
+    cat > both.c <<'C'
+struct bpf_map_def { unsigned int type, key_size, value_size, max_entries, map_flags; };
+__attribute__((section("maps"))) struct bpf_map_def counts = { 2, 4, 8, 2, 0 };
+static void *(*lookup)(void *, const void *) = (void *)1;
+static long first, sums[5];
+__attribute__((section("prog"))) long entry(const unsigned char *bytes, unsigned long count) {
+    unsigned int key = 1;
+    long *value = lookup(&counts, &key);
+    if (!value) return -1;
+    for (unsigned long i = 0; i < count; i++) { sums[i % 5] += bytes[i]; first++; }
+    *value = first;
+    return sums[0] * 1000 + sums[4] * 100 + first + *value;
+}
+C
+    printf '\001\002\003\004\005\006' > context
+    for level in 1 2; do
+        clang -O$level -target bpf -c -o both.o both.c
+        "$program" link both.o > both 2> told
+        check_told '--maps 8x2,8x7'
+        result '0x1d58\n' run $(cat told) -m context both
     done
+    # (slot 1, since slot 0 is `and r2, 3`)
+    clang -O1 -target bpf -c -o constants.o constants.c
+    refused 'refused E23 at slot 1: reference to data that is no map' link constants.o
 else
     echo 'objects: there is no clang for BPF here, so no file of C is compiled'
 fi

@@ -6,7 +6,7 @@ use Rattle.std.specs.Option.{option_map}
 use Rattle.std.proofs.lemmas.Bool.Decides.{nat_tests}
 use Rattle.std.proofs.lemmas.Grind.{common_steps}
 use Rattle.std.proofs.lemmas.Option.{slice_get-map, slice_get-get_or, get_or_from_slice_get}
-use Rattle.std.proofs.lemmas.List.Sorted.{Contains-permutation, IsNonDecreasingBy-from_sort, sum_by-IsPermutation}
+use Rattle.std.proofs.lemmas.List.Sorted.{length_permutation, Contains-permutation, IsNonDecreasingBy-from_sort, sum_by-IsPermutation}
 use Rattle.bpf_isa.specs.declared.maps.MapShape.{MapShape}
 use Rattle.bpf_link.specs.declared.plan.Entries.{Entries}
 use Rattle.bpf_link.specs.Patches.{map_number}
@@ -77,3 +77,14 @@ numbered object definitions maps ordered shapes order e = λ place one some.
     ∙ ap (slice_get (map (shape_at object definitions) ordered)) same
     ∙ slice_get-map (shape_at object definitions) ordered (count_by (λ x. nat_lt x place) ordered)
     ∙ ap (option_map (shape_at object definitions)) read
+
+-- there are no more shapes than maps
+pub few : (object : List ℕ) (definitions : Entries) (maps ordered : List ℕ) → IsInOrder maps ordered → length (shapes_at object definitions ordered) ≤ length maps
+few object definitions maps ordered o = by (list_all (is_array object definitions) ordered)
+  where
+    size : length ordered ≡ length maps
+    size = length_permutation maps ordered o.same
+
+    by : (b : Bool) → length (if b then map (shape_at object definitions) ordered else []) ≤ length maps
+    by true = let same : length (map (shape_at object definitions) ordered) ≡ length ordered = grind (arith, common_steps) in let whole = size in omega arith
+    by false = omega arith

@@ -1,5 +1,5 @@
 -- What a value tells of the tests on the way to it.
-use Rattle.std.proofs.Common.{◌≡◌, ◌<◌, ◌*◌, ◌+◌, ◌/◌, ◌%◌, ◌-◌, ◌==◌, nat_lt, ℕ, List, Bool, true, false, Result, Ok, Err, refl, sym, ap, arith}
+use Rattle.std.proofs.Common.{◌≡◌, ◌<◌, ◌*◌, ◌+◌, ◌/◌, ◌%◌, ◌-◌, ◌==◌, nat_lt, ℕ, List, Bool, true, false, Result, Ok, Err, refl, sym, ap, subst, ◌⊎◌, inl, inr, ◌≤◌, arith}
 use Rattle.std.specs.Prelude.{if◌then◌else◌, not, slice_index}
 use Rattle.std.proofs.lemmas.Grind.{common_steps}
 use Rattle.bpf_isa.specs.Words.{u32_at}
@@ -12,7 +12,8 @@ use Rattle.bpf_link.specs.declared.plan.Plan.{Plan}
 use Rattle.bpf_link.specs.declared.patch.Patch.{Patch}
 use Rattle.bpf_link.specs.Header.{provided}
 use Rattle.bpf_link.specs.Plans.{after, relocation_at, symbol_at}
-use Rattle.bpf_link.specs.Patches.{is_call, is_map, is_empty_load, map_number, is_next, part_with, call_to, call_patch, map_patch, patch_with, patch_of}
+use Rattle.bpf_link.specs.Links.{patch_width}
+use Rattle.bpf_link.specs.Patches.{is_call, is_map, is_empty_load, is_next, part_with, call_to, call_patch, map_patch, is_short_load, zeros_patch, is_in_zeros, load_patch, width_of, patch_with, patch_of}
 
 clash : {A : Type 0} (fault : LinkFault) (v : A) → ◌≡◌ {A = Result A LinkFault} (Err fault) (Ok v) → ⊥
 clash fault v e = cc
@@ -28,37 +29,71 @@ pub after_ok : {A B : Type 0} (r : Result A LinkFault) (next : A → Result B Li
 after_ok (Ok a) next v e = (a, refl, e)
 after_ok (Err fault) next v e = absurd (clash fault v e)
 
-call_to_at : (target : Part) (value imm slot : ℕ) (patch : Patch) → call_to target value imm slot ≡ Ok patch → patch.at ≡ 8 * slot
+-- a patch's slot, and how many bytes it changes
+pub record Fits (patch : Patch) (slot size : ℕ) : Type 0 where
+  pub at : patch.at ≡ 8 * slot
+  pub width : patch_width patch ≡ size
+
+fits_made : (patch other : Patch) (slot size : ℕ) → ◌≡◌ {A = Result Patch LinkFault} (Ok other) (Ok patch) → Fits other slot size → Fits patch slot size
+fits_made patch other slot size e fits = subst (λ p. Fits p slot size) (ok_same other patch e) fits
+
+call_to_at : (target : Part) (value imm slot : ℕ) (patch : Patch) → call_to target value imm slot ≡ Ok patch → Fits patch slot 8
 call_to_at target value imm slot patch e =
     let a = provided_ok (value % 8 == 0) (CallTarget slot) _ _ e in
     let b = provided_ok (nat_lt (value / 8) target.slots.count) (CallTarget slot) _ _ a.1 in
     let c = provided_ok (nat_lt ((value / 8 + imm + 1) % 4294967296) target.slots.count) (CallTarget slot) _ _ b.1 in
-    sym (ap (λ (p : Patch). p.at) (ok_same (record { at = 8 * slot; registers = 0x10; imm = (4294967296 + (target.first + (value / 8 + imm + 1) % 4294967296) - (slot + 1)) % 4294967296 }) patch c.1))
+    fits_made patch _ slot 8 c.1 (record { at = refl; width = refl })
 
-call_at : (object : List ℕ) (plan : Plan) (symbol : SymbolEntry) (at slot : ℕ) (patch : Patch) → call_patch object plan symbol at slot ≡ Ok patch → patch.at ≡ 8 * slot
+call_at : (object : List ℕ) (plan : Plan) (symbol : SymbolEntry) (at slot : ℕ) (patch : Patch) → call_patch object plan symbol at slot ≡ Ok patch → Fits patch slot 8
 call_at object plan symbol at slot patch e =
     let a = provided_ok (is_call object at) (NoCall slot) _ _ e in
     let b = after_ok (part_with plan symbol.section slot) (λ target. call_to target symbol.value (u32_at object (at + 4)) slot) patch a.1 in
     call_to_at b.0 symbol.value (u32_at object (at + 4)) slot patch b.2
 
-map_at : (object : List ℕ) (plan : Plan) (maps : List ℕ) (symbol : SymbolEntry) (at slot : ℕ) (patch : Patch) → map_patch object plan maps symbol at slot ≡ Ok patch → patch.at ≡ 8 * slot
+map_at : (object : List ℕ) (plan : Plan) (maps : List ℕ) (symbol : SymbolEntry) (at slot : ℕ) (patch : Patch) → map_patch object plan maps symbol at slot ≡ Ok patch → Fits patch slot 16
 map_at object plan maps symbol at slot patch e =
     let a = provided_ok (is_map plan.maps symbol) (Data slot) _ _ e in
     let b = provided_ok (is_empty_load object at) (NoLoad slot) _ _ a.1 in
-    sym (ap (λ (p : Patch). p.at) (ok_same (record { at = 8 * slot; registers = slice_index object (at + 1) + 0x50; imm = map_number maps symbol.value }) patch b.1))
+    fits_made patch _ slot 16 b.1 (record { at = refl; width = refl })
 
-kind_at : (object : List ℕ) (plan : Plan) (maps : List ℕ) (symbol : SymbolEntry) (at slot : ℕ) (patch : Patch) (call map room : Bool)
-    → (if call then call_patch object plan symbol at slot else (if map then provided room (NoLoad slot) (map_patch object plan maps symbol at slot) else Err (RelocationKind slot))) ≡ Ok patch → patch.at ≡ 8 * slot
-kind_at object plan maps symbol at slot patch true map room e = call_at object plan symbol at slot patch e
-kind_at object plan maps symbol at slot patch false true room e = map_at object plan maps symbol at slot patch (provided_ok room (NoLoad slot) (map_patch object plan maps symbol at slot) patch e).1
-kind_at object plan maps symbol at slot patch false false room e = absurd (clash (RelocationKind slot) patch e)
+zeros_at : (object maps : List ℕ) (symbol : SymbolEntry) (at slot : ℕ) (patch : Patch) → zeros_patch object maps symbol at slot ≡ Ok patch → Fits patch slot 16
+zeros_at object maps symbol at slot patch e =
+    let a = provided_ok (is_short_load object at) (NoLoad slot) _ _ e in
+    fits_made patch _ slot 16 a.1 (record { at = refl; width = refl })
+
+load_at : (object : List ℕ) (plan : Plan) (maps : List ℕ) (symbol : SymbolEntry) (at slot : ℕ) (patch : Patch) (zeros : Bool)
+    → (if zeros then zeros_patch object maps symbol at slot else map_patch object plan maps symbol at slot) ≡ Ok patch → Fits patch slot 16
+load_at object plan maps symbol at slot patch true e = zeros_at object maps symbol at slot patch e
+load_at object plan maps symbol at slot patch false e = map_at object plan maps symbol at slot patch e
+
+-- that of a wide load has two slots
+pub record Placed (patch : Patch) (slot size : ℕ) (second : Bool) : Type 0 where
+  pub fits : Fits patch slot size
+  pub room : (size ≡ 8) ⊎ (second ≡ true)
+
+kind_at : (object : List ℕ) (plan : Plan) (maps : List ℕ) (symbol : SymbolEntry) (at slot : ℕ) (patch : Patch) (call load room : Bool) → (call ≡ true → load ≡ false)
+    → (if call then call_patch object plan symbol at slot else (if load then provided room (NoLoad slot) (load_patch object plan maps symbol at slot) else Err (RelocationKind slot))) ≡ Ok patch
+    → Placed patch slot (if load then 16 else 8) room
+kind_at object plan maps symbol at slot patch true true room other e = absurd (differ (other refl))
+  where
+    differ : ◌≡◌ {A = Bool} true false → ⊥
+    differ e = cc
+kind_at object plan maps symbol at slot patch true false room other e = record { fits = call_at object plan symbol at slot patch e; room = inl refl }
+kind_at object plan maps symbol at slot patch false true room other e =
+    let a = provided_ok room (NoLoad slot) (load_patch object plan maps symbol at slot) patch e in
+    record { fits = load_at object plan maps symbol at slot patch (is_in_zeros plan symbol) a.1; room = inr a.0 }
+kind_at object plan maps symbol at slot patch false false room other e = absurd (clash (RelocationKind slot) patch e)
+
+one_kind : (kind : ℕ) → (kind == 10) ≡ true → (kind == 1) ≡ false
+one_kind kind e = grind (arith, common_steps)
 
 with_at : (object : List ℕ) (plan : Plan) (maps : List ℕ) (part : Part) (relocation : RelocationEntry) (symbol : SymbolEntry) (patch : Patch)
-    → patch_with object plan maps part relocation symbol ≡ Ok patch → patch.at ≡ 8 * (part.first + relocation.offset / 8)
+    → patch_with object plan maps part relocation symbol ≡ Ok patch
+    → Placed patch (part.first + relocation.offset / 8) (width_of relocation) (nat_lt (relocation.offset / 8 + 1) part.slots.count)
 with_at object plan maps part relocation symbol patch e =
     let a = provided_ok (not (symbol.section == 0)) (Extern (part.first + relocation.offset / 8)) _ _ e in
     kind_at object plan maps symbol (part.slots.at + relocation.offset) (part.first + relocation.offset / 8) patch
-    (relocation.kind == 10) (relocation.kind == 1) (nat_lt (relocation.offset / 8 + 1) part.slots.count) a.1
+    (relocation.kind == 10) (relocation.kind == 1) (nat_lt (relocation.offset / 8 + 1) part.slots.count) (one_kind relocation.kind) a.1
 
 is_zero : (n : ℕ) → (n == 0) ≡ true → n ≡ 0
 is_zero n e = grind (arith, common_steps)
@@ -71,6 +106,21 @@ pub record NamesSlot (object : List ℕ) (part : Part) (i : ℕ) (patch : Patch)
   pub at : patch.at ≡ 8 * (part.first + (relocation_at object part.relocations i).offset / 8)
   pub whole : (relocation_at object part.relocations i).offset % 8 ≡ 0
   pub inside : (relocation_at object part.relocations i).offset / 8 < part.slots.count
+  pub width : patch_width patch ≡ width_of (relocation_at object part.relocations i)
+  pub fits : patch.at + patch_width patch ≤ 8 * (part.first + part.slots.count)
+
+ends : (at width first offset count : ℕ) → at ≡ 8 * (first + offset / 8) → offset / 8 < count → (width ≡ 16) ⊎ (width ≡ 8)
+    → (width ≡ 8) ⊎ (nat_lt (offset / 8 + 1) count ≡ true) → at + width ≤ 8 * (first + count)
+ends at width first offset count same inside sizes (inl short) = omega arith
+ends at width first offset count same inside (inl long) (inr room) = let next = is_below (offset / 8 + 1) count room in omega arith
+ends at width first offset count same inside (inr short) (inr room) = omega arith
+
+abbrev pub sized : Bool → ℕ
+sized b = if b then 16 else 8
+
+pub two_sizes : (b : Bool) → (sized b ≡ 16) ⊎ (sized b ≡ 8)
+two_sizes true = inl refl
+two_sizes false = inr refl
 
 pub names_slot : (object : List ℕ) (plan : Plan) (maps : List ℕ) (part : Part) (i : ℕ) (patch : Patch) → patch_of object plan maps part i ≡ Ok patch → NamesSlot object part i patch
 names_slot object plan maps part i patch e =
@@ -79,8 +129,14 @@ names_slot object plan maps part i patch e =
     let b = provided_ok (relocation.offset % 8 == 0) Place _ _ a.1 in
     let c = provided_ok (nat_lt (relocation.offset / 8) part.slots.count) Place _ _ b.1 in
     let d = provided_ok (nat_lt relocation.symbol plan.symbols.count) (Symbol (part.first + relocation.offset / 8)) _ _ c.1 in
+    let placed = with_at object plan maps part relocation (symbol_at object plan.symbols relocation.symbol) patch d.1 in
+    let inside = is_below (relocation.offset / 8) part.slots.count c.0 in
+    let end : patch.at + width_of relocation ≤ 8 * (part.first + part.slots.count) =
+    ends patch.at (width_of relocation) part.first relocation.offset part.slots.count placed.fits.at inside (two_sizes (relocation.kind == 1)) placed.room in
     record {
-      at = with_at object plan maps part relocation (symbol_at object plan.symbols relocation.symbol) patch d.1;
+      at = placed.fits.at;
       whole = is_zero (relocation.offset % 8) b.0;
-      inside = is_below (relocation.offset / 8) part.slots.count c.0;
+      inside = inside;
+      width = placed.fits.width;
+      fits = subst (λ w. patch.at + w ≤ 8 * (part.first + part.slots.count)) (sym placed.fits.width) end;
     }

@@ -1,15 +1,16 @@
 -- What the relocations leave: the size, and the slots that none of them names.
-use Rattle.std.proofs.Common.{◌≡◌, ◌<◌, ◌≤◌, ◌⊎◌, inl, inr, ◌+◌, ◌-◌, ◌*◌, ◌/◌, ℕ, zero, suc, List, ◌++◌, Ok, length, get_or, sym, ap, ◌∙◌, arith, length-append}
+use Rattle.std.proofs.Common.{◌≡◌, ◌<◌, ◌≤◌, ◌⊎◌, inl, inr, ◌+◌, ◌-◌, ◌*◌, ◌/◌, ℕ, zero, suc, Bool, true, false, ◌==◌, List, ◌++◌, Ok, length, get_or, refl, sym, ap, ◌∙◌, arith, length-append}
 use Rattle.std.proofs.lemmas.List.{get_or-append_right, get_or_append_left}
+use Rattle.std.specs.Prelude.{if◌then◌else◌}
 use Rattle.std.proofs.lemmas.Grind.{common_steps}
 use Rattle.bpf_link.specs.declared.plan.Part.{Part}
 use Rattle.bpf_link.specs.declared.plan.Plan.{Plan}
 use Rattle.bpf_link.specs.Plans.{relocation_at, Lies, LiesPlan}
-use Rattle.bpf_link.specs.Patches.{patch_of}
-use Rattle.bpf_link.specs.Links.{with_patch, with_relocation, relocated, slots_of, words_of}
+use Rattle.bpf_link.specs.Patches.{width_of, patch_of}
+use Rattle.bpf_link.specs.Links.{with_patch, patch_width, with_relocation, relocated, slots_of, words_of}
 use Rattle.bpf_link.specs.Laid.{IsPlain}
 use Rattle.bpf_link.proofs.Slots.{patched_length, patched_apart}
-use Rattle.bpf_link.proofs.Inversions.{ok_same, after_ok, names_slot}
+use Rattle.bpf_link.proofs.Inversions.{ok_same, after_ok, sized, names_slot}
 
 pub size_kept : (object : List ℕ) (plan : Plan) (maps : List ℕ) (part : Part) (words : List ℕ) (n : ℕ) (new : List ℕ)
     → relocated object plan maps part words n ≡ Ok new → 8 * (part.first + part.slots.count) ≤ length words → length new ≡ length words
@@ -19,18 +20,18 @@ size_kept object plan maps part words (suc n) new e fits =
     let b = after_ok (patch_of object plan maps part n) (λ patch. Ok (with_patch a.0 patch)) new a.2 in
     let rest : length a.0 ≡ length words = size_kept object plan maps part words n a.0 a.1 fits in
     let slot = names_slot object plan maps part n b.0 b.1 in
-    let inside : b.0.at + 8 ≤ length a.0 = omega (arith, slot.at, slot.inside) in
+    let inside : b.0.at + patch_width b.0 ≤ length a.0 = omega (arith, slot.fits) in
     ap length (sym (ok_same (with_patch a.0 b.0) new b.2)) ∙ patched_length a.0 b.0 inside ∙ rest
 
 -- a place is beside a slot that has two names
-pub beside : (x y j : ℕ) → y ≡ x → (j < x) ⊎ (x + 8 ≤ j) → (j < y) ⊎ (y + 8 ≤ j)
-beside x y j same (inl low) = inl (omega arith)
-beside x y j same (inr high) = inr (omega arith)
+pub beside : (x y w v j : ℕ) → y ≡ x → v ≡ w → (j < x) ⊎ (x + w ≤ j) → (j < y) ⊎ (y + v ≤ j)
+beside x y w v j same wide (inl low) = inl (omega arith)
+beside x y w v j same wide (inr high) = inr (omega arith)
 
 -- a place is apart from the slot of each relocation of a part
 pub record Apart (object : List ℕ) (part : Part) (j : ℕ) : Type 0 where
-  pub apart : (i q : ℕ) → i < part.relocations.count → q < part.slots.count → (relocation_at object part.relocations i).offset ≡ 8 * q
-      → (j < 8 * (part.first + q)) ⊎ (8 * (part.first + q) + 8 ≤ j)
+  pub apart : (i q : ℕ) → i < part.relocations.count → q < part.slots.count → (relocation_at object part.relocations i).offset ≡ 8 * q → 8 * q + width_of (relocation_at object part.relocations i) ≤ 8 * part.slots.count
+      → (j < 8 * (part.first + q)) ⊎ (8 * (part.first + q) + width_of (relocation_at object part.relocations i) ≤ j)
 
 pub byte_kept : (object : List ℕ) (plan : Plan) (maps : List ℕ) (part : Part) (words : List ℕ) (n : ℕ) (new : List ℕ) (j : ℕ)
     → relocated object plan maps part words n ≡ Ok new → 8 * (part.first + part.slots.count) ≤ length words → n ≤ part.relocations.count → Apart object part j
@@ -42,26 +43,34 @@ byte_kept object plan maps part words (suc n) new j e fits within apart =
     let rest : get_or a.0 j 0 ≡ get_or words j 0 = byte_kept object plan maps part words n a.0 j a.1 fits (omega arith) apart in
     let size : length a.0 ≡ length words = size_kept object plan maps part words n a.0 a.1 fits in
     let slot = names_slot object plan maps part n b.0 b.1 in
-    let inside : b.0.at + 8 ≤ length a.0 = omega (arith, slot.at, slot.inside) in
+    let inside : b.0.at + patch_width b.0 ≤ length a.0 = omega (arith, slot.fits) in
     let q : ℕ = (relocation_at object part.relocations n).offset / 8 in
     let whole : (relocation_at object part.relocations n).offset ≡ 8 * q = omega (arith, slot.whole) in
-    let side : (j < 8 * (part.first + q)) ⊎ (8 * (part.first + q) + 8 ≤ j) = apart.apart n q (omega arith) slot.inside whole in
+    let side : (j < 8 * (part.first + q)) ⊎ (8 * (part.first + q) + width_of (relocation_at object part.relocations n) ≤ j) = apart.apart n q (omega arith) slot.inside whole (omega (arith, slot.fits, slot.at, slot.width)) in
     ap (λ w. get_or w j 0) (sym (ok_same (with_patch a.0 b.0) new b.2))
-    ∙ patched_apart a.0 b.0 j inside (beside (8 * (part.first + q)) b.0.at j slot.at side)
+    ∙ patched_apart a.0 b.0 j inside (beside (8 * (part.first + q)) b.0.at (width_of (relocation_at object part.relocations n)) (patch_width b.0) j slot.at slot.width side)
     ∙ rest
 
 -- two slots of a part are apart
-slots_apart : (first p q k : ℕ) → (q ≡ p → ⊥) → k < 8 → (8 * (first + p) + k < 8 * (first + q)) ⊎ (8 * (first + q) + 8 ≤ 8 * (first + p) + k)
-slots_apart first p q k other small = grind arith
+slots_apart : (first p q k w : ℕ) → (q ≡ p → ⊥) → (w ≡ 8) ⊎ ((w ≡ 16) × (q + 1 ≡ p → ⊥)) → k < 8 → (8 * (first + p) + k < 8 * (first + q)) ⊎ (8 * (first + q) + w ≤ 8 * (first + p) + k)
+slots_apart first p q k w other (inl short) small = grind arith
+slots_apart first p q k w other (inr long) small = let wide = long.0 in let next = long.1 in grind arith
+
+one_or_two : (kind : ℕ) (Second : Type 0) (b : Bool) → (kind == 1) ≡ b → (kind ≡ 1 → Second) → (sized b ≡ 8) ⊎ ((sized b ≡ 16) × Second)
+one_or_two kind Second true e second = let one : kind ≡ 1 = grind (arith, common_steps) in inr (refl, second one)
+one_or_two kind Second false e second = inl refl
 
 pub plain_apart : (object : List ℕ) (part : Part) (p k : ℕ) → k < 8 → IsPlain object part p → Apart object part (8 * (part.first + p) + k)
 plain_apart object part p k small plain = record {
-  apart = λ i q within inside at. slots_apart part.first p q k (λ same. plain i within (at ∙ ap (λ n. 8 * n) same)) small;
+  apart = λ i q within inside at room.
+      let relocation = relocation_at object part.relocations i in
+      slots_apart part.first p q k (width_of relocation) (λ same. plain.first i within (at ∙ ap (λ n. 8 * n) same))
+      (one_or_two relocation.kind (q + 1 ≡ p → ⊥) (relocation.kind == 1) refl (λ one same. plain.second i within one (omega (arith, at, same)))) small;
 }
 
 -- a place after the slots of a part
 pub behind : (object : List ℕ) (part : Part) (j : ℕ) → 8 * (part.first + part.slots.count) ≤ j → Apart object part j
-behind object part j high = record { apart = λ i q within inside at. inr (omega arith) }
+behind object part j high = record { apart = λ i q within inside at room. inr (omega arith) }
 
 -- the slots as they stand in the object
 slots_length : (object : List ℕ) (part : Part) → Lies object 8 part.slots → length (slots_of object part) ≡ 8 * part.slots.count
@@ -95,7 +104,7 @@ raw_text object plan i j lies same within =
 
 pub text_behind : (object : List ℕ) (plan : Plan) (j : ℕ) → LiesPlan object plan → j < 8 * plan.code.slots.count → Apart object plan.text j
 text_behind object plan j lies low = record {
-  apart = λ i q within inside at. let joins : plan.text.first ≡ plan.code.slots.count = lies.joins (omega arith) in inl (omega arith);
+  apart = λ i q within inside at room. let joins : plan.text.first ≡ plan.code.slots.count = lies.joins (omega arith) in inl (omega arith);
 }
 
 -- both rounds of relocations

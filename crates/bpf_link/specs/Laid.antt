@@ -1,5 +1,5 @@
 -- What stands in the slots of a program, whatever the order in which relocations are done.
-use Rattle.std.specs.Prelude.{◌≡◌, ◌<◌, ℕ, ◌+◌, ◌*◌, List, ◌∷◌, Ok, length, slice_index}
+use Rattle.std.specs.Prelude.{◌≡◌, ◌<◌, ℕ, ◌+◌, ◌*◌, List, ◌∷◌, Ok, Some, length, slice_index}
 use Rattle.byteorder.specs.Endian.{little_bytes}
 use Rattle.bpf_link.specs.declared.plan.Part.{Part}
 use Rattle.bpf_link.specs.declared.plan.Plan.{Plan}
@@ -8,20 +8,27 @@ use Rattle.bpf_link.specs.Plans.{relocation_at}
 use Rattle.bpf_link.specs.Patches.{patch_of}
 use Rattle.bpf_link.specs.Links.{maps_of}
 
--- No relocation of a part names a slot of it.
-abbrev pub IsPlain : List ℕ → Part → ℕ → Type 0
-IsPlain object part p = (i : ℕ) → i < part.relocations.count → (relocation_at object part.relocations i).offset ≡ 8 * p → ⊥
+-- No relocation of a part changes a slot of it: none names it, and none of a wide load the slot before it.
+pub record IsPlain (object : List ℕ) (part : Part) (p : ℕ) : Type 0 where
+  pub first : (i : ℕ) → i < part.relocations.count → (relocation_at object part.relocations i).offset ≡ 8 * p → ⊥
+  pub second : (i : ℕ) → i < part.relocations.count → (relocation_at object part.relocations i).kind ≡ 1 → (relocation_at object part.relocations i).offset + 8 ≡ 8 * p → ⊥
 
 -- The bytes of a slot at a place in the object, with the registers and the imm of a patch.
 abbrev pub patched_slot : List ℕ → ℕ → Patch → List ℕ
 patched_slot object at patch =
     slice_index object at ∷ (patch.registers ∷ (slice_index object (at + 2) ∷ (slice_index object (at + 3) ∷ little_bytes 4 patch.imm)))
 
--- A relocation of a part is done in the words: the slot that it names is as the relocation says, and else as in the object.
+-- The bytes of the slot after it, of a wide load.
+abbrev pub next_slot : List ℕ → ℕ → ℕ → List ℕ
+next_slot object at next =
+    slice_index object at ∷ (slice_index object (at + 1) ∷ (slice_index object (at + 2) ∷ (slice_index object (at + 3) ∷ little_bytes 4 next)))
+
+-- A relocation of a part is done in the words: the slot that it names, and the one after it of a wide load, are as the relocation says, and else as in the object.
 pub record IsDone (object : List ℕ) (plan : Plan) (maps : List ℕ) (part : Part) (words : List ℕ) (i : ℕ) : Type 0 where
   pub patch : Patch
   pub told : patch_of object plan maps part i ≡ Ok patch
   pub bytes : (k : ℕ) → k < 8 → slice_index words (patch.at + k) ≡ slice_index (patched_slot object (part.slots.at + (relocation_at object part.relocations i).offset) patch) k
+  pub next : (next k : ℕ) → patch.next ≡ Some next → k < 8 → slice_index words (patch.at + 8 + k) ≡ slice_index (next_slot object (part.slots.at + (relocation_at object part.relocations i).offset + 8) next) k
 
 -- A program has the slots of its section and then those of `.text`. A slot that no relocation names holds the bytes that it has in the object,
 -- and each relocation is done.

@@ -1,5 +1,5 @@
 -- What relocations make of the words: calls and map references (RFC 9669, sections 4.3 and 5.4; the relocations R_BPF_64_32 and R_BPF_64_64).
-use Rattle.std.specs.Prelude.{ℕ, ◌+◌, ◌*◌, ◌/◌, ◌%◌, ◌-◌, ◌==◌, nat_lt, Bool, not, ◌&&◌, ◌||◌, if◌then◌else◌, List, Result, Ok, Err, count_by, slice_index}
+use Rattle.std.specs.Prelude.{ℕ, ◌+◌, ◌*◌, ◌/◌, ◌%◌, ◌-◌, ◌==◌, nat_lt, Bool, not, ◌&&◌, ◌||◌, if◌then◌else◌, List, Result, Ok, Err, Option, Some, None, count_by, length, slice_index}
 use Rattle.bpf_isa.specs.Words.{u32_at}
 use Rattle.bpf_link.specs.declared.fault.LinkFault.{LinkFault}
 use Rattle.bpf_link.specs.declared.fault.LinkFault.TheVariants.{Place, Symbol, Extern, RelocationKind, CallTarget, NoCall, Data, NoLoad}
@@ -29,7 +29,7 @@ call_to target value imm slot =
     provided (value % 8 == 0) (CallTarget slot)
     (provided (nat_lt (value / 8) target.slots.count) (CallTarget slot)
     (provided (nat_lt ((value / 8 + imm + 1) % 4294967296) target.slots.count) (CallTarget slot)
-    (Ok (record { at = 8 * slot; registers = 0x10; imm = (4294967296 + (target.first + (value / 8 + imm + 1) % 4294967296) - (slot + 1)) % 4294967296 }))))
+    (Ok (record { at = 8 * slot; registers = 0x10; imm = (4294967296 + (target.first + (value / 8 + imm + 1) % 4294967296) - (slot + 1)) % 4294967296; next = None }))))
 
 abbrev pub call_patch : List ℕ → Plan → SymbolEntry → ℕ → ℕ → Result Patch LinkFault
 call_patch object plan symbol at slot =
@@ -54,7 +54,28 @@ abbrev pub map_patch : List ℕ → Plan → List ℕ → SymbolEntry → ℕ �
 map_patch object plan maps symbol at slot =
     provided (is_map plan.maps symbol) (Data slot)
     (provided (is_empty_load object at) (NoLoad slot)
-    (Ok (record { at = 8 * slot; registers = slice_index object (at + 1) + 0x50; imm = map_number maps symbol.value })))
+    (Ok (record { at = 8 * slot; registers = slice_index object (at + 1) + 0x50; imm = map_number maps symbol.value; next = Some 0 })))
+
+-- Two slots hold a wide load of a number of 32 bits: opcode 0x18, 0 for src, 0 in the second imm.
+abbrev pub is_short_load : List ℕ → ℕ → Bool
+is_short_load object at =
+    (slice_index object at == 0x18) && ((slice_index object (at + 1) / 16 == 0) && (u32_at object (at + 12) == 0))
+
+-- A wide load of an address in the data, which are the map after the object's own (RFC 9669, section 5.4): 6 for src, the map's number in imm, and in the second
+-- imm the place in the data: the symbol's value and what stood in imm.
+abbrev pub zeros_patch : List ℕ → List ℕ → SymbolEntry → ℕ → ℕ → Result Patch LinkFault
+zeros_patch object maps symbol at slot =
+    provided (is_short_load object at) (NoLoad slot)
+    (Ok (record { at = 8 * slot; registers = slice_index object (at + 1) + 0x60; imm = length maps; next = Some ((symbol.value % 4294967296 + u32_at object (at + 4)) % 4294967296) }))
+
+-- A symbol lies in the data.
+abbrev pub is_in_zeros : Plan → SymbolEntry → Bool
+is_in_zeros plan symbol = nat_lt 0 symbol.section && (symbol.section == plan.zeros.section)
+
+-- A wide load of a map or of data.
+abbrev pub load_patch : List ℕ → Plan → List ℕ → SymbolEntry → ℕ → ℕ → Result Patch LinkFault
+load_patch object plan maps symbol at slot =
+    if is_in_zeros plan symbol then zeros_patch object maps symbol at slot else map_patch object plan maps symbol at slot
 
 -- What a relocation against a symbol makes of the slot that it names. One of a wide load names the first of two slots.
 abbrev pub patch_with : List ℕ → Plan → List ℕ → Part → RelocationEntry → SymbolEntry → Result Patch LinkFault
@@ -62,12 +83,16 @@ patch_with object plan maps part relocation symbol =
     provided (not (symbol.section == 0)) (Extern (part.first + relocation.offset / 8))
     (if relocation.kind == 10 then call_patch object plan symbol (part.slots.at + relocation.offset) (part.first + relocation.offset / 8)
     else (if relocation.kind == 1
-    then provided (nat_lt (relocation.offset / 8 + 1) part.slots.count) (NoLoad (part.first + relocation.offset / 8)) (map_patch object plan maps symbol (part.slots.at + relocation.offset) (part.first + relocation.offset / 8))
+    then provided (nat_lt (relocation.offset / 8 + 1) part.slots.count) (NoLoad (part.first + relocation.offset / 8)) (load_patch object plan maps symbol (part.slots.at + relocation.offset) (part.first + relocation.offset / 8))
     else Err (RelocationKind (part.first + relocation.offset / 8))))
 
--- A relocation is the first of its table, or its slot follows that of the one before.
+-- How many bytes of the slots a relocation changes: that of a wide load has two slots.
+abbrev pub width_of : RelocationEntry → ℕ
+width_of relocation = if relocation.kind == 1 then 16 else 8
+
+-- A relocation is the first of its table, or its slot follows those of the one before.
 abbrev pub is_next : List ℕ → Entries → ℕ → Bool
-is_next object relocations i = (i == 0) || nat_lt (relocation_at object relocations (i - 1)).offset (relocation_at object relocations i).offset
+is_next object relocations i = (i == 0) || nat_lt ((relocation_at object relocations (i - 1)).offset + width_of (relocation_at object relocations (i - 1)) - 8) (relocation_at object relocations i).offset
 
 abbrev pub patch_at : List ℕ → Plan → List ℕ → Part → RelocationEntry → Result Patch LinkFault
 patch_at object plan maps part relocation =

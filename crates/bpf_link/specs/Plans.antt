@@ -2,7 +2,7 @@
 use Rattle.std.specs.Prelude.{◌≤◌, ◌<◌, ◌≡◌, ℕ, zero, suc, ◌+◌, ◌*◌, ◌/◌, ◌%◌, ◌-◌, ◌==◌, nat_le, nat_lt, Bool, true, false, ◌&&◌, ◌||◌, if◌then◌else◌, List, Result, Ok, Err, length, codes, slice_index}
 use Rattle.bpf_isa.specs.Checker.{most_slots}
 use Rattle.bpf_link.specs.declared.fault.LinkFault.{LinkFault}
-use Rattle.bpf_link.specs.declared.fault.LinkFault.TheVariants.{NoSection, ManySections, Section, TooLong, RunsOff, SymbolTable, ManyMapSections, RelocationTable}
+use Rattle.bpf_link.specs.declared.fault.LinkFault.TheVariants.{NoSection, ManySections, Section, TooLong, RunsOff, SymbolTable, ManyMapSections, RelocationTable, LongData}
 use Rattle.bpf_link.specs.declared.header.Sections.{Sections}
 use Rattle.bpf_link.specs.declared.layout.SectionHeader.{SectionHeader}
 use Rattle.bpf_link.specs.declared.layout.RelocationEntry.{RelocationEntry}
@@ -13,9 +13,10 @@ use Rattle.bpf_link.specs.declared.sections.Roles.{Roles}
 use Rattle.bpf_link.specs.declared.plan.Entries.{Entries}
 use Rattle.bpf_link.specs.declared.plan.Part.{Part}
 use Rattle.bpf_link.specs.declared.plan.Plan.{Plan}
+use Rattle.bpf_link.specs.declared.plan.Zeros.{Zeros}
 use Rattle.bpf_link.specs.Layout.{symbol_entry, relocation_entry}
 use Rattle.bpf_link.specs.Header.{provided}
-use Rattle.bpf_link.specs.Sections.{section_at, is_named, relocations_of}
+use Rattle.bpf_link.specs.Sections.{section_at, is_named, zeros_of, relocations_of}
 
 -- What follows a value, unless there is a fault.
 abbrev pub after : {A B : Type 0} → Result A LinkFault → (A → Result B LinkFault) → Result B LinkFault
@@ -84,23 +85,23 @@ relocation_at object relocations i = relocation_entry object (relocations.at + 1
 abbrev pub symbol_at : List ℕ → Entries → ℕ → SymbolEntry
 symbol_at object symbols i = symbol_entry object (symbols.at + 24 * i)
 
--- A relocation is of a call, R_BPF_64_32, and against a symbol of a section.
-abbrev pub is_call_of : List ℕ → Entries → ℕ → RelocationEntry → Bool
-is_call_of object symbols section relocation =
-    (relocation.kind == 10) && (nat_lt relocation.symbol symbols.count && ((symbol_at object symbols relocation.symbol).section == section))
+-- A relocation is of a kind, and against a symbol of a section. That of a call is R_BPF_64_32, 10, and that of a wide load R_BPF_64_64, 1.
+abbrev pub is_reference : List ℕ → Entries → ℕ → ℕ → RelocationEntry → Bool
+is_reference object symbols kind section relocation =
+    (relocation.kind == kind) && (nat_lt relocation.symbol symbols.count && ((symbol_at object symbols relocation.symbol).section == section))
 
 -- One of the first n relocations is.
-abbrev pub calls_below : List ℕ → Entries → Entries → ℕ → ℕ → Bool
-calls_below object symbols relocations section zero = false
-calls_below object symbols relocations section (suc n) =
-    is_call_of object symbols section (relocation_at object relocations n) || calls_below object symbols relocations section n
+abbrev pub refers_below : List ℕ → Entries → Entries → ℕ → ℕ → ℕ → Bool
+refers_below object symbols relocations kind section zero = false
+refers_below object symbols relocations kind section (suc n) =
+    is_reference object symbols kind section (relocation_at object relocations n) || refers_below object symbols relocations kind section n
 
 -- `.text`, where it isn't the section that is asked for and that one calls it.
 abbrev pub text_in : List ℕ → Sections → Found → Entries → Part → Found → Result Part LinkFault
 text_in object sections symbols_section symbols code Nothing = Ok no_part
 text_in object sections symbols_section symbols code (Only i) =
     if i == code.section then Ok no_part
-    else (if calls_below object symbols code.relocations i code.relocations.count then part_of object sections symbols_section i code.slots.count else Ok no_part)
+    else (if refers_below object symbols code.relocations 10 i code.relocations.count then part_of object sections symbols_section i code.slots.count else Ok no_part)
 text_in object sections symbols_section symbols code Several = Err ManySections
 
 -- The last slot of the code begins as an exit or a jump that is always taken, so that none runs on into `.text`.
@@ -123,13 +124,30 @@ definitions_in object sections (Only i) =
     else no_entries
 definitions_in object sections Several = no_entries
 
+abbrev pub no_zeros : Zeros
+no_zeros = record { section = 0; size = 0 }
+
+-- The most bytes of data: those of a map.
+abbrev pub most_data : ℕ
+most_data = 65_536
+
+-- The data that are zeros at the start, where the program refers to them and they stand in one section.
+abbrev pub zeros_in : List ℕ → Sections → Entries → Part → Part → Found → Result Zeros LinkFault
+zeros_in object sections symbols code text Nothing = Ok no_zeros
+zeros_in object sections symbols code text (Only i) =
+    if refers_below object symbols code.relocations 1 i code.relocations.count || refers_below object symbols text.relocations 1 i text.relocations.count
+    then provided (nat_le (section_at object sections i).size most_data) LongData (Ok (record { section = i; size = (section_at object sections i).size }))
+    else Ok no_zeros
+zeros_in object sections symbols code text Several = Ok no_zeros
+
 abbrev pub plan_with : List ℕ → Sections → Roles → Entries → ℕ → ℕ → Result Plan LinkFault
 plan_with object sections roles symbols maps chosen =
     after (part_of object sections roles.symbols chosen 0) (λ code.
     provided (is_closed object code.slots) RunsOff
     (after (text_in object sections roles.symbols symbols code roles.text) (λ text.
     provided (nat_le (code.slots.count + text.slots.count) most_slots) TooLong
-    (Ok (record { symbols = symbols; maps = maps; definitions = definitions_in object sections roles.maps; code = code; text = text })))))
+    (after (zeros_in object sections symbols code text (zeros_of object sections)) (λ zeros.
+    Ok (record { symbols = symbols; maps = maps; definitions = definitions_in object sections roles.maps; zeros = zeros; code = code; text = text }))))))
 
 abbrev pub plan_of : List ℕ → Sections → Roles → Bool → Result Plan LinkFault
 plan_of object sections roles unnamed =
@@ -151,6 +169,7 @@ pub record LiesPart (object : List ℕ) (part : Part) : Type 0 where
 pub record LiesPlan (object : List ℕ) (plan : Plan) : Type 0 where
   pub symbols : Lies object 24 plan.symbols
   pub definitions : Lies object 1 plan.definitions
+  pub zeros : plan.zeros.size ≤ most_data
   pub code : LiesPart object plan.code
   pub text : LiesPart object plan.text
   pub begins : plan.code.first ≡ 0

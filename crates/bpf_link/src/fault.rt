@@ -65,12 +65,14 @@ pub enum LinkFault {
     Program(LoadFault),
     /// Memory ran out.
     Memory,
+    /// The program refers to a section of data of more than 65,536 bytes.
+    LongData,
 }
 
 impl LinkFault {
     ghost use Rattle.bpf_link.specs.Faults.{link_fault_number, link_fault_text};
 
-    /// The number that is printed after E, 1 to 26; that of a program's fault is 25.
+    /// The number that is printed after E, 1 to 27; that of a program's fault is 25.
     pub fn number(self) -> u8
         ensures { result ≡ link_fault_number self }
     {
@@ -101,6 +103,7 @@ impl LinkFault {
             LinkFault::NoLoad(_) => 24,
             LinkFault::Program(_) => 25,
             LinkFault::Memory => 26,
+            LinkFault::LongData => 27,
         }
     }
 
@@ -135,6 +138,7 @@ impl LinkFault {
             LinkFault::NoLoad(_) => "relocation of a map at no empty wide load",
             LinkFault::Program(fault) => fault.text(),
             LinkFault::Memory => "out of memory",
+            LinkFault::LongData => "data longer than 65536 bytes",
         }
     }
 }

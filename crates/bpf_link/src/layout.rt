@@ -32,8 +32,8 @@ pub struct FileHeader {
 pub struct SectionHeader {
     /// Where its name stands among the names.
     pub name: u32,
-    /// 1 for contents of the program, 2 for symbols, 4 for relocations with addends, 9 for those
-    /// without.
+    /// 1 for contents of the program, 2 for symbols, 4 for relocations with addends, 8 for zeros, 9
+    /// for relocations without addends.
     pub kind: u32,
     /// 4 for instructions, among others.
     pub flags: u64,

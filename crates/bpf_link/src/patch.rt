@@ -1,7 +1,8 @@
 //! What relocations make of the words.
 ghost use Rattle.std.specs.Prelude.{◌≡◌, ◌≤◌, ◌<◌, ◌+◌, ◌*◌, ◌/◌, ◌%◌, length, IfOk, OnOk, IfErr, Ok, Err};
 ghost use Rattle.bpf_isa.specs.Words.{u32_at};
-ghost use Rattle.bpf_link.specs.Patches.{is_call, part_with, call_to, call_patch, is_map, is_empty_load, map_number, map_patch, patch_with, is_next, patch_at, patch_of};
+ghost use Rattle.bpf_link.specs.Links.{patch_width};
+ghost use Rattle.bpf_link.specs.Patches.{is_call, part_with, call_to, call_patch, is_map, is_empty_load, map_number, map_patch, is_short_load, zeros_patch, is_in_zeros, load_patch, patch_with, is_next, patch_at, patch_of};
 ghost use Rattle.bpf_link.specs.Plans.{Lies, LiesPart, LiesPlan};
 
 use crate::fault::LinkFault;
@@ -16,6 +17,8 @@ pub struct Patch {
     pub at: usize,
     pub registers: u8,
     pub imm: u32,
+    /// The imm of the slot after it, of a wide load.
+    pub next: Option<u32>,
 }
 
 /// Whether the slot at a place is a local call.
@@ -64,6 +67,7 @@ fn call_to(target: &Part, value: u64, imm: u32, slot: usize) -> Result<Patch, Li
         at: 8 * slot,
         registers: 0x10,
         imm: distance as u32,
+        next: None,
     })
 }
 
@@ -144,7 +148,70 @@ fn map_patch(
         at: 8 * slot,
         registers: object[at + 1] + 0x50,
         imm: map_number(maps, symbol.value),
+        next: Some(0),
     })
+}
+
+/// Whether two slots hold a wide load of a number of 32 bits.
+fn is_short_load(object: &[u8], at: usize) -> bool
+    requires { at + 16 ≤ length object.now }
+    ensures { result ≡ is_short_load object.now at }
+{
+    object[at] == 0x18 && (object[at + 1] / 16 == 0 && u32_at(object, at + 12) == 0)
+}
+
+/// The wide load of an address in the data, in the two slots at a place in the file.
+fn zeros_patch(
+    object: &[u8],
+    maps: &[u64],
+    symbol: &SymbolEntry,
+    at: usize,
+    slot: usize,
+) -> Result<Patch, LinkFault>
+    requires at { at + 16 ≤ length object.now }
+    requires slot { slot < 65535 }
+    requires maps { length maps.now ≤ 16 }
+    ensures value { result ≡ zeros_patch object.now maps.now symbol.now at slot }
+    ensures at { IfOk result (λ patch. patch.at ≡ 8 * slot) }
+{
+    if !is_short_load(object, at) {
+        return Err(LinkFault::NoLoad(slot));
+    }
+    let place = (symbol.value % 4_294_967_296 + u64::from(u32_at(object, at + 4))) % 4_294_967_296;
+    Ok(Patch {
+        at: 8 * slot,
+        registers: object[at + 1] + 0x60,
+        imm: maps.len() as u32,
+        next: Some(place as u32),
+    })
+}
+
+/// Whether a symbol lies in the data.
+fn is_in_zeros(plan: &Plan, symbol: &SymbolEntry) -> bool
+    ensures { result ≡ is_in_zeros plan.now symbol.now }
+{
+    symbol.section > 0 && usize::from(symbol.section) == plan.zeros.section
+}
+
+/// The wide load of a map or of data.
+fn load_patch(
+    object: &[u8],
+    plan: &Plan,
+    maps: &[u64],
+    symbol: &SymbolEntry,
+    at: usize,
+    slot: usize,
+) -> Result<Patch, LinkFault>
+    requires at { at + 16 ≤ length object.now }
+    requires slot { slot < 65535 }
+    requires maps { length maps.now ≤ 16 }
+    ensures value { result ≡ load_patch object.now plan.now maps.now symbol.now at slot }
+    ensures at { IfOk result (λ patch. patch.at ≡ 8 * slot) }
+{
+    if is_in_zeros(plan, symbol) {
+        return zeros_patch(object, maps, symbol, at, slot);
+    }
+    map_patch(object, plan, maps, symbol, at, slot)
 }
 
 fn patch_with(
@@ -179,7 +246,7 @@ fn patch_with(
         if offset / 8 + 1 >= part.slots.count {
             return Err(LinkFault::NoLoad(slot));
         }
-        return map_patch(object, plan, maps, symbol, at, slot);
+        return load_patch(object, plan, maps, symbol, at, slot);
     }
     Err(LinkFault::RelocationKind(slot))
 }
@@ -193,7 +260,12 @@ fn is_next(object: &[u8], relocations: &Entries, i: usize) -> bool
     if i == 0 {
         return true;
     }
-    relocation_at(object, relocations, i - 1).offset < relocation_at(object, relocations, i).offset
+    let before = relocation_at(object, relocations, i - 1);
+    let offset = relocation_at(object, relocations, i).offset;
+    if before.offset >= offset {
+        return false;
+    }
+    before.kind != 1 || offset - before.offset > 8
 }
 
 fn patch_at(
@@ -208,7 +280,8 @@ fn patch_at(
     requires short { part.now.first + part.now.slots.count ≤ 65535 }
     requires maps { length maps.now ≤ 16 }
     ensures value { result ≡ patch_at object.now plan.now maps.now part.now relocation.now }
-    ensures at { IfOk result (λ patch. patch.at + 8 ≤ 8 * (part.now.first + part.now.slots.count)) }
+    ensures at { IfOk result (λ patch. patch.at + patch_width patch
+        ≤ 8 * (part.now.first + part.now.slots.count)) }
 {
     if relocation.offset % 8 != 0 {
         return Err(LinkFault::Place);
@@ -238,7 +311,8 @@ pub fn patch_of(
     requires index { i < part.now.relocations.count }
     requires maps { length maps.now ≤ 16 }
     ensures value { result ≡ patch_of object.now plan.now maps.now part.now i }
-    ensures at { IfOk result (λ patch. patch.at + 8 ≤ 8 * (part.now.first + part.now.slots.count)) }
+    ensures at { IfOk result (λ patch. patch.at + patch_width patch
+        ≤ 8 * (part.now.first + part.now.slots.count)) }
 {
     if !is_next(object, &part.relocations, i) {
         return Err(LinkFault::Place);

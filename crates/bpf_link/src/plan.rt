@@ -1,14 +1,14 @@
 //! What a program is put together from.
 ghost use Rattle.std.specs.Prelude.{◌≡◌, ◌≤◌, ◌<◌, ◌==◌, ◌⊎◌, length, IfOk, ℕ, Bool};
 ghost use Rattle.bpf_link.specs.Header.{HasTable};
-ghost use Rattle.bpf_link.specs.Plans.{entries_of, symbols_in, maps_in, chosen_in, is_only, relocations_in, part_of, relocation_at, symbol_at, is_call_of, calls_below, text_in, is_closed, has_definitions, definitions_in, plan_with, plan_of, Lies, LiesPart, LiesPlan};
+ghost use Rattle.bpf_link.specs.Plans.{entries_of, symbols_in, maps_in, chosen_in, is_only, relocations_in, part_of, relocation_at, symbol_at, is_reference, refers_below, most_data, zeros_in, text_in, is_closed, has_definitions, definitions_in, plan_with, plan_of, Lies, LiesPart, LiesPlan};
 ghost use Rattle.bpf_link.specs.Sections.{FoundBelow};
 
 use crate::fault::LinkFault;
 use crate::fields::lies;
 use crate::header::Sections;
 use crate::layout::{RelocationEntry, SectionHeader, SymbolEntry, relocation_entry, symbol_entry};
-use crate::sections::{Found, Roles, is_named, relocations_of, section_at};
+use crate::sections::{Found, Roles, is_named, relocations_of, section_at, zeros_of};
 use bpf_isa::MOST_SLOTS;
 
 /// Entries of one size, one after the other, in the file.
@@ -30,6 +30,15 @@ pub struct Part {
     pub relocations: Entries,
 }
 
+/// Data that are zeros at the start.
+#[derive(Clone, Copy)]
+pub struct Zeros {
+    /// The index of their section, 0 of none.
+    pub section: usize,
+    /// How many bytes they are, at most 65,536.
+    pub size: usize,
+}
+
 /// What a program is put together from.
 #[derive(Clone, Copy)]
 pub struct Plan {
@@ -38,6 +47,8 @@ pub struct Plan {
     pub maps: usize,
     /// The bytes of that section, where they are definitions of maps.
     pub definitions: Entries,
+    /// The data that the program refers to.
+    pub zeros: Zeros,
     /// The section that is asked for.
     pub code: Part,
     /// `.text`, without slots where it isn't called.
@@ -45,6 +56,14 @@ pub struct Plan {
 }
 
 const NO_ENTRIES: Entries = Entries { at: 0, count: 0 };
+
+/// The most bytes of data.
+const MOST_DATA: u64 = 65536;
+
+const NO_ZEROS: Zeros = Zeros {
+    section: 0,
+    size: 0,
+};
 
 const NO_PART: Part = Part {
     section: 0,
@@ -209,17 +228,18 @@ pub fn symbol_at(object: &[u8], symbols: &Entries, i: usize) -> SymbolEntry
     symbol_entry(object, symbols.at + 24 * i)
 }
 
-/// Whether a relocation is of a call of a function in a section.
-fn is_call_of(
+/// Whether a relocation is of a kind, and against a symbol of a section.
+fn is_reference(
     object: &[u8],
     symbols: &Entries,
+    kind: u32,
     section: usize,
     relocation: &RelocationEntry,
 ) -> bool
     requires { Lies object.now 24 symbols.now }
-    ensures { result ≡ is_call_of object.now symbols.now section relocation.now }
+    ensures { result ≡ is_reference object.now symbols.now kind section relocation.now }
 {
-    if relocation.kind != 10 {
+    if relocation.kind != kind {
         return false;
     }
     let symbol = relocation.symbol as usize;
@@ -230,18 +250,24 @@ fn is_call_of(
 }
 
 /// Whether one of the relocations is.
-fn calls(object: &[u8], symbols: &Entries, relocations: &Entries, section: usize) -> bool
+fn refers(
+    object: &[u8],
+    symbols: &Entries,
+    relocations: &Entries,
+    kind: u32,
+    section: usize,
+) -> bool
     requires symbols { Lies object.now 24 symbols.now }
     requires relocations { Lies object.now 16 relocations.now }
-    ensures { result ≡ calls_below object.now symbols.now relocations.now section
+    ensures { result ≡ refers_below object.now symbols.now relocations.now kind section
         relocations.now.count }
 {
-    let mut calls = false;
+    let mut refers = false;
     for i in 0..relocations.count {
         let relocation = relocation_at(object, relocations, i);
-        calls = is_call_of(object, symbols, section, &relocation) || calls;
+        refers = is_reference(object, symbols, kind, section, &relocation) || refers;
     }
-    calls
+    refers
 }
 
 /// `.text` as a part of a program that calls it.
@@ -269,7 +295,7 @@ fn text_in(
             if i == code.section {
                 return Ok(NO_PART);
             }
-            if !calls(object, symbols, &code.relocations, i) {
+            if !refers(object, symbols, &code.relocations, 10, i) {
                 return Ok(NO_PART);
             }
             part_of(object, sections, symbols_section, i, code.slots.count)
@@ -323,6 +349,44 @@ fn definitions_in(object: &[u8], sections: &Sections, found: Found) -> Entries
     }
 }
 
+/// The data that are zeros at the start, where the program refers to them and they stand in one
+/// section.
+fn zeros_in(
+    object: &[u8],
+    sections: &Sections,
+    symbols: &Entries,
+    code: &Part,
+    text: &Part,
+    found: Found,
+) -> Result<Zeros, LinkFault>
+    requires table { HasTable object.now sections.now }
+    requires found { FoundBelow sections.now.count found }
+    requires symbols { Lies object.now 24 symbols.now }
+    requires parts { LiesPart object.now code.now × LiesPart object.now text.now }
+    ensures value { result ≡ zeros_in object.now sections.now symbols.now code.now text.now found }
+    ensures fits { IfOk result (λ zeros. zeros.size ≤ most_data) }
+{
+    match found {
+        Found::Nothing => Ok(NO_ZEROS),
+        Found::Only(i) => {
+            if !refers(object, symbols, &code.relocations, 1, i)
+                && !refers(object, symbols, &text.relocations, 1, i)
+            {
+                return Ok(NO_ZEROS);
+            }
+            let size = section_at(object, sections, i).size;
+            if size > MOST_DATA {
+                return Err(LinkFault::LongData);
+            }
+            Ok(Zeros {
+                section: i,
+                size: size as usize,
+            })
+        }
+        Found::Several => Ok(NO_ZEROS),
+    }
+}
+
 fn plan_with(
     object: &[u8],
     sections: &Sections,
@@ -347,10 +411,19 @@ fn plan_with(
     if code.slots.count + text.slots.count > MOST_SLOTS {
         return Err(LinkFault::TooLong);
     }
+    let zeros = zeros_in(
+        object,
+        sections,
+        symbols,
+        &code,
+        &text,
+        zeros_of(object, sections),
+    )?;
     Ok(Plan {
         symbols: *symbols,
         maps,
         definitions: definitions_in(object, sections, roles.maps),
+        zeros,
         code,
         text,
     })

@@ -1,7 +1,9 @@
 //! The shapes of the maps that an object defines.
-ghost use Rattle.std.specs.Prelude.{◌≡◌, ◌≤◌, ◌+◌, nat_le, length, IsTrue};
+ghost use Rattle.std.specs.Prelude.{◌≡◌, ◌≤◌, ◌<◌, ◌+◌, nat_le, length, IsTrue, IfSome, List};
 ghost use Rattle.bpf_link.specs.Plans.{Lies};
-ghost use Rattle.bpf_link.specs.Shapes.{definition_at, is_array, shape_at, shapes_at, IsInOrder, AreShapes, AreNumbered};
+ghost use Rattle.bpf_link.specs.Shapes.{definition_at, is_array, shape_at, shapes_at, IsInOrder, AreShapes, AreNumbered, is_unknown, all_shapes};
+ghost use Rattle.bpf_link.specs.Links.{with_data};
+ghost use Rattle.bpf_isa.specs.declared.maps.MapShape.{MapShape};
 
 use crate::layout::{MapDefinition, map_definition};
 use crate::plan::Entries;
@@ -81,12 +83,56 @@ fn in_order(places: &[u64]) -> ArrayVec<u64, 16>
 
 /// The shapes of maps that stand at places of the section, in the order of their numbers. None
 /// unless each is an array.
-pub fn shapes_of(object: &[u8], definitions: &Entries, maps: &[u64]) -> ArrayVec<MapShape, 16>
+fn shapes_of(object: &[u8], definitions: &Entries, maps: &[u64]) -> ArrayVec<MapShape, 16>
     requires lies { Lies object.now 1 definitions.now }
     requires few { length maps.now ≤ 16 }
     ensures ordered { AreShapes object.now definitions.now maps.now result.items }
     ensures numbered { AreNumbered object.now definitions.now maps.now result.items }
+    ensures few { length result.items ≤ length maps.now }
 {
     let ordered = in_order(maps);
     shapes_at(object, definitions, ordered.as_slice())
+}
+
+/// The shapes of all maps: those that stand at places of the section, and after them that of data.
+/// None where the object has maps of its own and not each is an array.
+pub fn all_shapes(
+    object: &[u8],
+    definitions: &Entries,
+    maps: &[u64],
+    zeros: Option<MapShape>,
+) -> ArrayVec<MapShape, 16>
+    requires lies { Lies object.now 1 definitions.now }
+    requires few { length maps.now ≤ 16 }
+    requires room { IfSome zeros (λ shape. length maps.now < 16) }
+    ensures { (own : List MapShape) × AreShapes object.now definitions.now maps.now own
+        × AreNumbered object.now definitions.now maps.now own
+        × (result.items ≡ all_shapes maps.now own zeros) }
+{
+    let own = shapes_of(object, definitions, maps);
+    if is_unknown(maps, own.as_slice()) {
+        return ArrayVec::new();
+    }
+    with_data(own, zeros)
+}
+
+/// Whether the object has maps of its own and their shapes aren't known.
+fn is_unknown(maps: &[u64], own: &[MapShape]) -> bool
+    ensures { result ≡ is_unknown maps.now own.now }
+{
+    !maps.is_empty() && own.is_empty()
+}
+
+/// Shapes, and after them that of data.
+fn with_data(mut shapes: ArrayVec<MapShape, 16>, zeros: Option<MapShape>) -> ArrayVec<MapShape, 16>
+    requires { IfSome zeros (λ shape. length shapes.items < 16) }
+    ensures { result.items ≡ with_data shapes.items zeros }
+{
+    match zeros {
+        None => shapes,
+        Some(shape) => {
+            shapes.push(shape);
+            shapes
+        }
+    }
 }

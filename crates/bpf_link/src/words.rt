@@ -1,6 +1,6 @@
 //! The words of a plan, with the relocations done.
 ghost use Rattle.std.specs.Prelude.{◌≡◌, ◌≤◌, ◌<◌, ◌+◌, ◌*◌, ◌⊎◌, length, IfOk, OnOk, IfErr, Ok, Err};
-ghost use Rattle.bpf_link.specs.Links.{MemoryOr, maps_of, with_patch, relocated, slots_of, words_of};
+ghost use Rattle.bpf_link.specs.Links.{MemoryOr, maps_of, with_patch, patch_width, relocated, slots_of, words_of};
 ghost use Rattle.bpf_link.specs.Plans.{Lies, LiesPart, LiesPlan};
 ghost use Rattle.bpf_link.specs.declared.fault.LinkFault.TheVariants.{Memory};
 
@@ -30,13 +30,16 @@ pub fn maps_of(object: &[u8], plan: &Plan) -> Result<ArrayVec<u64, 16>, LinkFaul
     Ok(values)
 }
 
-/// Replaces the registers and the imm of a slot.
+/// Replaces the registers and the imm of a slot, and the imm of the slot after it, of a wide load.
 fn put_patch(words: &mut [u8], patch: &Patch)
-    requires { patch.now.at + 8 ≤ length words.old }
+    requires { patch.now.at + patch_width patch.now ≤ length words.old }
     ensures { words.new ≡ with_patch words.old patch.now }
 {
     words[patch.at + 1] = patch.registers;
     LittleEndian::write_u32(&mut words[patch.at + 4..patch.at + 8], patch.imm);
+    if let Some(next) = patch.next {
+        LittleEndian::write_u32(&mut words[patch.at + 12..patch.at + 16], next);
+    }
 }
 
 /// Does the relocations of a part.

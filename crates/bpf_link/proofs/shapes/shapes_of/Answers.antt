@@ -1,7 +1,13 @@
-use Rattle.bpf_link.proofs.InOrder.{numbered}
+use Rattle.std.proofs.Common.{◌≤◌, length, sym, subst}
+use Rattle.bpf_link.proofs.InOrder.{numbered, few}
 use Rattle.bpf_link.proofs.shapes.shapes_of.Goals as goal
 
 pub returns-clause-numbered : goal.returns-clause-numbered
 returns-clause-numbered c =
     numbered c.args.object.now c.args.definitions.now c.args.maps.now c.in_order-ordered.result.items c.shapes_at.result.items c.in_order-ordered.ensures.value
     (rw c.as_slice.ensures.value at c.shapes_at.ensures)
+
+pub returns-clause-few : goal.returns-clause-few
+returns-clause-few c =
+    subst (λ shapes. length shapes ≤ length c.args.maps.now) (sym (rw c.as_slice.ensures.value at c.shapes_at.ensures))
+    (few c.args.object.now c.args.definitions.now c.args.maps.now c.in_order-ordered.result.items c.in_order-ordered.ensures.value)

@@ -10,21 +10,21 @@ pub returns-in-Ok-write_out-clause-value : goal.returns-in-Ok-write_out-clause-v
 returns-in-Ok-write_out-clause-value g c = λ script told held not.
     let words = c.in-Ok.linked.words.items in
     completes g.W.Write.contents Link c.args.job.now (unread_with 0 script words) script told c.args.writer.now c.write_out.new.writer
-    _ c.tell_maps.result (words, (c.in-Ok.linked.maps, c.in-Ok.ensures.ok, c.in-Ok.ensures.accepted), refl) refl held
+    _ c.tell_maps.result (words, (c.in-Ok.linked.maps, c.in-Ok.linked.zeros, c.in-Ok.ensures.ok, c.in-Ok.ensures.accepted), refl) refl held
     (rw c.in-Ok-write_out.is at (rw c.as_slice.ensures.value at c.write_out.ensures)) (c.tell_maps.ensures.status not) tt not
 
 pub returns-in-Ok-write_out-clause-broken : goal.returns-in-Ok-write_out-clause-broken
 returns-in-Ok-write_out-clause-broken g c = λ script told held two.
     let words = c.in-Ok.linked.words.items in
     inr (begins g.W.Write.contents Link c.args.job.now (unread_with 0 script words) script told c.args.writer.now c.write_out.new.writer
-    c.write_out.result (words, (c.in-Ok.linked.maps, c.in-Ok.ensures.ok, c.in-Ok.ensures.accepted), refl) held
+    c.write_out.result (words, (c.in-Ok.linked.maps, c.in-Ok.linked.zeros, c.in-Ok.ensures.ok, c.in-Ok.ensures.accepted), refl) held
     (rw c.as_slice.ensures.value at c.write_out.ensures))
 
 pub returns-clause-broken : goal.returns-clause-broken
 returns-clause-broken g c = λ script told held two.
     let words = c.in-Ok.linked.words.items in
     inr (begins g.W.Write.contents Link c.args.job.now (unread_with 0 script words) script told c.args.writer.now c.write_out.new.writer
-    c.write_out.result (words, (c.in-Ok.linked.maps, c.in-Ok.ensures.ok, c.in-Ok.ensures.accepted), refl) held
+    c.write_out.result (words, (c.in-Ok.linked.maps, c.in-Ok.linked.zeros, c.in-Ok.ensures.ok, c.in-Ok.ensures.accepted), refl) held
     (rw c.as_slice.ensures.value at c.write_out.ensures))
 
 pub returns-in-Err-clause-told : goal.returns-in-Err-clause-told
