@@ -53,7 +53,7 @@ proved() {
 
 part 'tests/pages.sh' sh tests/pages.sh
 alone
-echo 'rt ci: every proof from nothing, the must-fail edits, each test and program (some 50 minutes on four cores)'
+echo 'rt ci: every proof from nothing, the must-fail edits, each test and program (some 45 minutes on four cores)'
 part 'rt ci' proved
 # (where it isn't there, tests/program.sh leaves out what it is for)
 part 'crates/memory_calls' test -x crates/memory_calls/out/memory_calls
