@@ -1,5 +1,5 @@
 -- What a job comes to, by what it promises over no reader, and by its own kind.
-use Rattle.std.proofs.Common.{ℕ, ◌≡◌, ◌≢◌, ◌⊎◌, inl, List, Option, Some, refl, sym, subst}
+use Rattle.std.proofs.Common.{ℕ, ◌≡◌, ◌≢◌, ◌⊎◌, List, Option, Some, refl, sym, subst}
 use Rattle.counted_io.specs.Counted.{Tally}
 use Rattle.bpfdb_jobs.specs.Done.{DoesJob}
 use Rattle.bpfdb_jobs.specs.Endings.{LosesLine, TellsDone, TellsStop}

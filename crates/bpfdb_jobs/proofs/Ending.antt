@@ -1,5 +1,5 @@
 -- How jobs end, and what their refusals and lines are told of.
-use Rattle.std.proofs.Common.{ℕ, ◌≡◌, ◌≢◌, ◌⊎◌, inl, inr, List, Option, Result, Ok, Err, refl, sym, subst, arith, ap, ◌∙◌}
+use Rattle.std.proofs.Common.{ℕ, ◌≡◌, ◌≢◌, ◌⊎◌, inl, inr, List, Option, Result, Ok, Err, refl, subst, arith, ap, ◌∙◌}
 use Rattle.std.specs.Prelude.{OnOk, OnErr}
 use Rattle.counted_io.specs.Counted.{Tally}
 use Rattle.std.specs.Io.KnownBytes.{Appends}
@@ -11,7 +11,7 @@ use Rattle.bpf_session.specs.declared.plain.Ending.{Ending}
 use Rattle.bpf_session.specs.declared.plain.Ending.TheVariants.{Exited, Faulted, Limit}
 use Rattle.bpf_entries.specs.declared.status.Status.{Status}
 use Rattle.bpf_entries.specs.declared.status.Status.TheVariants as status
-use Rattle.bpfdb_jobs.specs.Endings.{EndsBy, FailedOnce, LosesLine, LosesStop, StopsAt, TellsDone, TellsFault, TellsStop, Told}
+use Rattle.bpfdb_jobs.specs.Endings.{EndsBy, FailedOnce, LosesLine, LosesStop, StopsAt, TellsFault, TellsStop, Told}
 use Rattle.bpfdb_jobs.specs.Faults.{line_of, line_of_stop}
 use Rattle.bpfdb_jobs.specs.Jobs.{Opens}
 use Rattle.bpfdb_jobs.specs.Refusals.{Refuses, RefusesMachine, RefusesProgram}
