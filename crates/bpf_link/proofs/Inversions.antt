@@ -1,6 +1,6 @@
 -- What a value tells of the tests on the way to it.
-use Rattle.std.proofs.Common.{◌≡◌, ◌<◌, ◌*◌, ◌+◌, ◌/◌, ◌%◌, ◌-◌, ◌==◌, nat_lt, ℕ, List, Bool, true, false, Result, Ok, Err, refl, sym, ap, subst, ◌⊎◌, inl, inr, ◌≤◌, arith}
-use Rattle.std.specs.Prelude.{if◌then◌else◌, not, slice_index}
+use Rattle.std.proofs.Common.{◌≡◌, ◌<◌, ◌*◌, ◌+◌, ◌/◌, ◌%◌, ◌==◌, nat_lt, ℕ, List, Bool, true, false, Result, Ok, Err, refl, sym, subst, ◌⊎◌, inl, inr, ◌≤◌, arith}
+use Rattle.std.specs.Prelude.{if◌then◌else◌, not}
 use Rattle.std.proofs.lemmas.Grind.{common_steps}
 use Rattle.bpf_isa.specs.Words.{u32_at}
 use Rattle.bpf_link.specs.declared.fault.LinkFault.{LinkFault}

@@ -1,5 +1,5 @@
 -- What relocations make of the words: calls and map references (RFC 9669, sections 4.3 and 5.4; the relocations R_BPF_64_32 and R_BPF_64_64).
-use Rattle.std.specs.Prelude.{ℕ, ◌+◌, ◌*◌, ◌/◌, ◌%◌, ◌-◌, ◌==◌, nat_lt, Bool, not, ◌&&◌, ◌||◌, if◌then◌else◌, List, Result, Ok, Err, Option, Some, None, count_by, length, slice_index}
+use Rattle.std.specs.Prelude.{ℕ, ◌+◌, ◌*◌, ◌/◌, ◌%◌, ◌-◌, ◌==◌, nat_lt, Bool, not, ◌&&◌, ◌||◌, if◌then◌else◌, List, Result, Ok, Err, Some, None, count_by, length, slice_index}
 use Rattle.bpf_isa.specs.Words.{u32_at}
 use Rattle.bpf_link.specs.declared.fault.LinkFault.{LinkFault}
 use Rattle.bpf_link.specs.declared.fault.LinkFault.TheVariants.{Place, Symbol, Extern, RelocationKind, CallTarget, NoCall, Data, NoLoad}
