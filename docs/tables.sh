@@ -1,7 +1,8 @@
 #!/bin/sh
 # The table of crates in docs/ARCHITECTURE.md and those of files in docs/FILES.md, made from crates.txt and from the first sentence of each file, and
-# the code in docs/CALLING.md with the crates that it uses, and the definitions in docs/HEADLINE.md. 'docs/tables.sh' writes them anew; 'docs/tables.sh --check' fails where a
-# page and the files differ.
+# the code in docs/CALLING.md with the crates that it uses, and the definitions in docs/HEADLINE.md; and the tables of commands in README.md, in the
+# help of `bpfdb debug` and in share/bpfdb-shell, made from docs/commands.txt. 'docs/tables.sh' writes them anew; 'docs/tables.sh --check' fails
+# where a page and the files differ.
 #
 # A table stands between the lines '<!-- docs/tables.sh: NAME -->' and '<!-- docs/tables.sh: end -->' of a page, a whole file of
 # code between such lines with 'code FILE' for NAME, and definitions of a file of specs/ with 'definitions FILE NAME..'. A file of
@@ -113,6 +114,72 @@ stands_apart() {
     done
 }
 
+# groups: the commands of docs/commands.txt by their groups, 'GROUP<tab>COMMAND, COMMAND ..' each, without the words that follow a command.
+groups() {
+    awk -F ' *[|] *' '
+        /^#/ || NF < 4 { next }
+        { sub(/ [[A-Z].*/, "", $2) }
+        !($1 in text) { order[++count] = $1; text[$1] = $2; next }
+        { text[$1] = text[$1] ", " $2 }
+        END { for (i = 1; i <= count; i++) print order[i] "\t" text[order[i]] }
+    ' docs/commands.txt
+}
+
+# list_commands: README's table of them.
+list_commands() {
+    printf '| | Commands |\n|---|---|\n'
+    groups | sed 's/, /`, `/g; s/ or /` or `/g' | awk -F '\t' '{ printf "| %s | `%s` |\n", $1, $2 }'
+}
+
+# help_commands: the table of them in help, of lines of at most 86 columns.
+help_commands() {
+    groups | awk -F '\t' '{
+        line = sprintf("  %-15s", $1)
+        n = split($2, names, ", ")
+        for (i = 1; i <= n; i++) {
+            word = names[i] (i < n ? "," : "")
+            if (length(line) + length(word) > 86) { sub(/ +$/, "", line); print line; line = sprintf("%17s", "") }
+            line = line word " "
+        }
+        sub(/ +$/, "", line)
+        print line
+    }'
+}
+
+# with_help FILE: a text of help, or its source, with that table in the place of the one that it has.
+with_help() {
+    awk -v table="$work/help" '
+        /^  forward  / { inside = 1; while ((getline line < table) > 0) print line }
+        !inside { print }
+        /^  end  +quit$/ { inside = 0 }
+    ' "$1"
+}
+
+# with_rows FILE: a script with the rows of docs/commands.txt between its marks.
+with_rows() {
+    awk '
+        /^# docs\/tables\.sh: end$/ { if (inside) print "\"\"\""; inside = 0 }
+        !inside { print }
+        /^# docs\/tables\.sh: shell$/ {
+            inside = 1
+            print "COMMANDS = \"\"\""
+            while ((getline line < "docs/commands.txt") > 0) if (line !~ /^#/) print line
+        }
+    ' "$1"
+}
+
+# hold MODE FILE: the file is as $work/page, or becomes so.
+hold() {
+    if [ "${1:-}" = --check ]; then
+        diff "$2" "$work/page" > "$work/diff" && return
+        fault "$2 differs from the files ('docs/tables.sh' writes its tables anew):"
+        cat "$work/diff" >&2
+    else
+        # (cat keeps the file's mode)
+        cmp -s "$2" "$work/page" || cat "$work/page" > "$2"
+    fi
+}
+
 # page FILE: the page with its tables as they are to be.
 page() {
     awk -v work="$work" '
@@ -135,7 +202,7 @@ page() {
         }
         /^<!-- docs\/tables\.sh: end -->$/ { inside = 0 }
         !inside { print }
-        /^<!-- docs\/tables\.sh: (crates|files) -->$/ {
+        /^<!-- docs\/tables\.sh: (crates|files|commands) -->$/ {
             inside = 1
             while ((getline line < (work "/" $3)) > 0) print line
             close(work "/" $3)
@@ -188,16 +255,18 @@ page() {
 
 list_crates > "$work/crates"
 { echo; list_files; } > "$work/files"
+list_commands > "$work/commands"
+help_commands > "$work/help"
 stands_apart
-for file in docs/ARCHITECTURE.md docs/FILES.md docs/CALLING.md docs/HEADLINE.md; do
+for file in README.md docs/ARCHITECTURE.md docs/FILES.md docs/CALLING.md docs/HEADLINE.md; do
     page "$file" > "$work/page"
-    if [ "${1:-}" = --check ]; then
-        diff "$file" "$work/page" > "$work/diff" && continue
-        fault "$file differs from the files ('docs/tables.sh' writes its tables anew):"
-        cat "$work/diff" >&2
-    else
-        cmp -s "$file" "$work/page" || cp "$work/page" "$file"
-    fi
+    hold "${1:-}" "$file"
 done
+for file in crates/bpfdb_cli/src/help.rt tests/program/help/debug.txt; do
+    with_help "$file" > "$work/page"
+    hold "${1:-}" "$file"
+done
+with_rows share/bpfdb-shell > "$work/page"
+hold "${1:-}" share/bpfdb-shell
 [ ! -f "$work/missing" ] || fault "docs/HEADLINE.md: $(cat "$work/missing")"
 [ ! -s "$work/faults" ]

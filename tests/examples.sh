@@ -81,56 +81,6 @@ suite() {
     sh examples/suite/test.sh "$work/wrong.s" > "$work/out" 2>&1 && fault 'examples/suite/test.sh passes a wrong program'
 }
 
-# shell: bpfdb-shell knows short names and comments, and an empty line is the last command again. Where bpfdb refuses the program it reads no line.
-# The replies are those of examples/README.md.
-shell() {
-    cd examples/fault || exit 1
-    # shellcheck disable=SC2046
-    printf 'c # to the fault\nrs\n\n# nothing\nfrob\nq\n' | sh ../../share/bpfdb-shell $(cat arguments) > "$work/out" 2> "$work/err"
-    status=$?
-    cd "$top" || exit 1
-    printf '%s\n' '55 forward; end; fault access 0x100000083 at 9' '1 back; done; at 9: ldxb r0, [r1+15]' \
-        '1 back; done; at 8: ldxdw r1, [r10-8]' 'refused Q1: unknown command' > "$work/wanted-out"
-    printf '> > > > > > ' > "$work/wanted-err"
-    expect 'share/bpfdb-shell' 0 "$work/wanted-out" "$work/wanted-err"
-    (printf 'c\r\n\r\nq now\r\nrs 2' | sh share/bpfdb-shell --listing -m examples/fault/context.bin examples/fault/program.s) > "$work/out" 2> "$work/err"
-    status=$?
-    printf '%s\n' '55 forward; end; fault access 0x100000083 at 9' 'refused Q3: the machine has ended' 'refused Q2: wrong argument' \
-        '2 back; done; at 8: ldxdw r1, [r10-8]' > "$work/wanted-out"
-    printf '> > > > > ' > "$work/wanted-err"
-    expect 'share/bpfdb-shell, lines that end in a carriage return, and a last one without a line feed' 0 "$work/wanted-out" "$work/wanted-err"
-    if [ -c /dev/full ]; then
-        printf 'stepi\nstepi\n' | sh share/bpfdb-shell > /dev/full 2> "$work/err"
-        status=$?
-        : > "$work/out"
-        printf '> cannot write output\n' > "$work/wanted-err"
-        expect 'share/bpfdb-shell, and the output is full' 2 /dev/null "$work/wanted-err"
-    fi
-    sh share/bpfdb-shell missing < /dev/null > "$work/out" 2> "$work/err"
-    status=$?
-    echo 'cannot read missing' > "$work/wanted-err"
-    expect 'share/bpfdb-shell without a program' 2 /dev/null "$work/wanted-err"
-    short_names
-}
-
-# played NAME: what a session of bpfdb-shell answers to a command of this name, with words and without.
-played() {
-    printf 'stepi 9\n%s\n%s 1\n%s 0 2\n%s 0x2000001f8\n' "$1" "$1" "$1" "$1" |
-        sh share/bpfdb-shell --listing -m examples/fault/context.bin examples/fault/program.s 2> /dev/null
-}
-
-# short_names: each short name in the help of bpfdb-shell does what the command before it does.
-short_names() {
-    sh share/bpfdb-shell --help | grep -o -E '[a-z-]+( [a-z]+)? \([a-z, ]+\)' |
-        awk -F ' *[(]' '{ n = split($2, names, /[,) ]+/); for (i = 1; i < n; i++) print $1 "|" names[i] }' > "$work/names"
-    while IFS='|' read -r long short; do
-        played "$long" > "$work/wanted-out"
-        played "$short" > "$work/out"
-        cmp -s "$work/wanted-out" "$work/out" || fault "share/bpfdb-shell: $short isn't $long"
-    done < "$work/names"
-    [ "$(wc -l < "$work/names")" -ge 20 ] || fault 'share/bpfdb-shell --help tells no short names'
-}
-
 # shown PAGE SECTION: each command after '$ ' in a section of a page prints the lines that follow it there, and 'cat FILE' shows the file that the
 # commands after it take. They are run in one folder, in order.
 shown() {
@@ -180,7 +130,6 @@ plain records 1 '' 'fault access 0x10000000f at 0'
 plain suite 0 0x1 ''
 plain wrong-byte 0 0x0 ''
 suite
-shell
 pages
 [ ! -s "$work/faults" ] || exit 1
 echo "tests/examples.sh: $count examples passed"

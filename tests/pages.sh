@@ -1,7 +1,7 @@
 #!/bin/sh
 # What README.md and docs/ say of the repository, held against it: the tables made from the files, the files, functions,
 # clauses and definitions that a page names, the sessions that README and examples/README.md show, the C of docs/GDB.md, the commands and refusals of
-# the manual and its man page, the commands and options of help, the commands of bpfdb-shell, the wrong bodies of must-fail/, and the toolchain
+# the manual and its man page, the commands and options of help, the wrong bodies of must-fail/, and the toolchain
 # that README and `bpfdb --version` name.
 set -u
 cd "$(dirname "$0")/.." || exit 1
@@ -154,22 +154,17 @@ grammar() {
     ' crates/bpfdb_commands/specs/Commands.antt
 }
 
-# commands: those of the grammar are the rows of docs/COMMANDS.md, in the same order, and the words of README's table, of the table in the
-# help of `bpfdb debug` and of the one in bpfdb-shell, in any order.
+# commands: those of the grammar are the rows of docs/COMMANDS.md and the lines of docs/commands.txt, in the same order. (docs/tables.sh makes
+# of the latter the tables of README, of help and of bpfdb-shell.)
 commands() {
     grammar > "$work/commands"
     [ -s "$work/commands" ] || fault 'crates/bpfdb_commands/specs/Commands.antt has no commands'
     awk -F ' *\\| *' '/^## / { inside = $0 == "## COMMANDS" } inside && NF > 3 && $2 ~ /`/ { print $2 }' docs/COMMANDS.md |
         quoted | sed 's/ *\[*[A-Z].*//' | cmp -s "$work/commands" - ||
         fault "docs/COMMANDS.md has other commands than crates/bpfdb_commands/specs/Commands.antt, or another order"
-    sort "$work/commands" > "$work/sorted"
-    awk '/^## / { inside = $0 == "## The commands" } inside && /^\|/' README.md | quoted | sort > "$work/found"
-    same_words README.md commands
-    awk '/^  [a-z ]*[a-z]   */ { table = 1 } table && /^$/ { exit } table { sub(/^  ([a-z]+ )*[a-z]*   */, ""); gsub(/,? or |, */, "\n"); print }' \
-        tests/program/help/debug.txt | sed 's/^ *//' | grep . | sort > "$work/found"
-    same_words tests/program/help/debug.txt commands
-    sed -n '/^forward  /,/^end  /p' share/bpfdb-shell | sed -E 's/^([a-z]+ )*[a-z]* {2,}//; s/ \([^)]*\)//g; s/,$//; s/, | or /\n/g' | sort > "$work/found"
-    same_words share/bpfdb-shell commands
+    sed '/^#/d' docs/commands.txt | awk -F ' *[|] *' '{ sub(/ [[A-Z].*/, "", $2); gsub(/ or /, "\n", $2); print $2 }' |
+        cmp -s "$work/commands" - ||
+        fault "docs/commands.txt has other commands than crates/bpfdb_commands/specs/Commands.antt, or another order"
 }
 
 # same_words PAGE NAME: fails where the words of $work/found, which PAGE has, aren't those of $work/sorted.

@@ -1,0 +1,126 @@
+# bpfdb-shell: what gdb's habits become (tables/shell.txt), each at a terminal in a session of its own, what it is without a terminal, objects and
+# listings that it takes by themselves, colours, completion, and a machine without python3. Where there is no python3 only the last is tested.
+
+shell=$top/share/bpfdb-shell
+BPFDB=$program
+export BPFDB
+sed -n '/^#   1 ;/,/^# going/p' "$parts/tables/shell.txt" | sed '/^# going/d; s/^# *[0-9]* //; s/  *; [0-9]*$//' > sum.s
+printf '\001\002' > context
+printf 'si # a step\n\n# nothing\n' > commands
+sed -i '2s/.*/i h/' commands
+compile terminal
+
+# shown FILE: what a terminal shows of a session, without prompts and empty lines.
+shown() {
+    sed 's/(bpfdb) //g' "$1" | grep -v '^$'
+}
+
+# habit BEFORE TYPED LINES: what is typed after other lines prints these lines, a slash between two.
+habit() {
+    { echo "$1" | sed 's/; /\n/g' | grep .; echo '?'; echo "$2"; } > script
+    HOME=$PWD NO_COLOR=1 ./terminal script "$shell" -m context sum.s > found/all 2>&1
+    shown found/all | awk 'inside; $0 == "refused Q1: unknown command" { inside = 1 }' > found/out
+    echo "$3" | sed 's| / |\n|g' > wanted/out
+    count=$((count + 1))
+    agree out && return
+    complain "bpfdb-shell: '$2'${1:+ after '$1'}"
+    diff wanted/out found/out
+}
+
+# plainly NAME STATUS SCRIPT OUTPUT ERRORS WORD..: a session without a terminal.
+plainly() {
+    name=$1 status=$2 output=$4 errors=$5
+    printf '%b' "$3" > script
+    shift 5
+    "$shell" "$@" < script > found/out 2> found/err
+    echo $? > found/status
+    check "bpfdb-shell without a terminal: $name" "$status" "$output" "$errors"
+}
+
+if command -v python3 > /dev/null; then
+    grep -v '^#' "$parts/tables/shell.txt" > rows
+    while IFS= read -r line; do
+        before=${line%%|*} rest=${line#*| }
+        habit "${before% }" "${rest%% | *}" "${rest#* | }"
+    done < rows
+
+    # Without a terminal there are the replies alone, as bpfdb has them; refusals are those of bpfdb; an empty line repeats.
+    plainly 'short names, comments and empty lines' 0 'si # a step\n\n# nothing\n   \nrs\nfrob\nset reg r10 1\nx 0x100000000 2' \
+        '1 forward; done; at 3: mov r0, 0\n1 forward; done; at 4: jeq r2, 0, L10\n1 forward; done; at 5: ldxb r3, [r1+0]\n1 back; done; at 4: jeq r2, 0, L10\nrefused Q1: unknown command\n'\
+'refused Q7: register not writable\n0x100000000: 0102\n' '' -m context sum.s
+    plainly 'lines that end in a carriage return' 0 'c\r\n\r\nq now\r\nrs 2' \
+        '18 forward; end; exited at 2: r0 0x3\nrefused Q3: the machine has ended\nrefused Q2: wrong argument\n2 back; done; at 1: stxb [r10-8], r0\n' '' -m context --listing sum.s
+    plainly 'nothing behind quit is obeyed' 0 'si\nq\nsi\n' '1 forward; done; at 1: exit\n' ''
+    plainly 'no program' 2 'si\n' '' 'cannot read missing\n' missing
+    plainly 'a refused program' 2 'si\n' '' 'refused C3: length is no multiple of 8\n' context
+    plainly 'a command line that is none' 2 'si\n' '' "$("$program" debug --frob 2>&1 | sed 's/\\/\\\\/g')\n" --frob
+    if [ -c /dev/full ]; then
+        printf 'si\nsi\n' | "$shell" > /dev/full 2> found/err
+        echo $? > found/status
+        : > found/out
+        check 'bpfdb-shell: a full output' 2 '' 'cannot write output\n'
+    fi
+
+    # Each other name that help lists does what its command does.
+    "$shell" --help | grep -o -E '[a-z-]+( [a-z]+)? \([a-z, -]+\)' |
+        awk -F ' *[(]' '{ n = split($2, names, /[,) ]+/); for (i = 1; i < n; i++) print $1 "|" names[i] }' > names
+    for column in 1 2; do
+        cut -d '|' -f "$column" names | while read -r name; do
+            printf '%s\n%s 1\n%s 0 2\n%s 0x2000001f8\nstepi 3\n' "$name" "$name" "$name" "$name"
+        done | "$shell" -m context sum.s > "found/names-$column" 2>&1
+    done
+    same 'bpfdb-shell: each other name is its command' found/names-1 found/names-2
+    [ "$(wc -l < names)" -ge 25 ] || complain 'bpfdb-shell --help lists no other names'
+
+    # An object is linked, with its maps; one that is refused ends it.
+    python3 -c 'import sys; sys.stdout.buffer.write(bytes.fromhex(sys.stdin.read()))' < "$top/examples/overrun/object.hex" > overrun.o
+    plainly 'an object' 0 'c\n' '105 forward; end; fault access 0x10077656d at 25\n' '' -m "$top/examples/overrun/context.bin" overrun.o
+    plainly 'an object, and a section that it has' 0 'c\n' '105 forward; end; fault access 0x10077656d at 25\n' '' \
+        --section filter -m "$top/examples/overrun/context.bin" overrun.o
+    plainly 'an object, and a section that it lacks' 2 'c\n' '' 'refused E8: no such code section\n' --section nothing overrun.o
+
+    # At a terminal of both sides: colours unless NO_COLOR is set, and completion of words.
+    cat > both.py <<'PYTHON'
+import os, pty, select, sys
+child, side = pty.fork()
+if child == 0:
+    os.execv(sys.argv[1], sys.argv[1:])
+found = b''
+def until(text):
+    global found
+    while text not in found and select.select([side], [], [], 20)[0]:
+        try:
+            part = os.read(side, 4096)
+        except OSError:
+            break
+        if not part:
+            break
+        found += part
+for typed in sys.stdin.read().splitlines():
+    until(b'(bpfdb) ')
+    sys.stdout.write(found.decode().replace('\r', ''))
+    found = b''
+    os.write(side, typed.encode().decode('unicode_escape').encode() + b'\n')
+until(b'(no such text)')
+sys.stdout.write(found.decode().replace('\r', ''))
+sys.exit(os.waitstatus_to_exitcode(os.waitpid(child, 0)[1]))
+PYTHON
+    printf 'rev\\ts\\t\nset re\\tr0 7\nbreak lo\\t\nq\n' > script
+    HOME=$PWD TERM=xterm NO_COLOR='' python3 both.py "$shell" -m context sum.s < script > found/all 2>&1
+    echo $? > found/status
+    grep -a -o -e 'refused Q4: no kept step' -e '\[2m> break 4' -e '.\[33mr0 0x0 -> 0x7' found/all | tr -d '\033' > found/out
+    : > found/err
+    check 'bpfdb-shell: colours and completion' 0 'refused Q4: no kept step\n[33mr0 0x0 -> 0x7\n[2m> break 4\n' ''
+    HOME=$PWD TERM=xterm NO_COLOR=1 python3 both.py "$shell" -m context sum.s < script > found/all 2>&1
+    echo $? > found/status
+    grep -a -o -e '.\[[0-9][0-9]*m' -e 'r0 0x0 -> 0x7' found/all > found/out
+    check 'bpfdb-shell: no colours where NO_COLOR is set' 0 'r0 0x0 -> 0x7\n' ''
+fi
+
+# Without python3 bpfdb debug itself reads the commands.
+mkdir bare
+for name in sh env; do ln -s "$(command -v "$name")" bare; done
+printf 'stepi\nfrob\n' > script
+PATH=$PWD/bare "$shell" < script > found/out 2> found/err
+echo $? > found/status
+check 'bpfdb-shell without python3' 0 '1 forward; done; at 1: exit\nrefused Q1: unknown command\n' 'bpfdb-shell: there is no python3, so this is bpfdb debug alone\n'
