@@ -1,10 +1,16 @@
-# bpfdb in gdb 13 or later: 'source bpfdb-gdb.py' before 'target remote | bpfdb gdb FILE'.
+# bpfdb in gdb 13 or later: 'source bpfdb-gdb.py', then 'bpf-load OBJECT', or 'file' and 'target remote | bpfdb gdb FILE' by hand.
 #
-# It shows frames of local calls and instructions as bpfdb has them, and adds the commands bpf-undo, bpf-redo and last-write. What it asks
-# of bpfdb are lines of its script, by gdb's 'monitor'; docs/COMMANDS.md has them.
+# It shows frames of local calls and instructions as bpfdb has them, and adds commands, whose names begin with bpf- but for last-write. What it
+# asks of bpfdb are lines of its script, as gdb's 'monitor' does; docs/COMMANDS.md has them.
 import gdb
 import gdb.disassembler
 import gdb.unwinder
+import os
+import re
+import shlex
+import shutil
+import subprocess
+import tempfile
 
 # Where pc, and r0 to r10, stand among the registers of the machine that gdb takes this one for.
 COUNTERS = {"i386:x86-64": "rip", "riscv:rv64": "pc"}
@@ -16,19 +22,70 @@ REGISTERS = {
 FIRST_POINTER, POINTER_STRIDE = 0x200000200, 0x400
 SLOT = 8
 WIDE_LOAD = b"\x18"
+# The token of the first map, the address of its values, and how far apart maps lie.
+FIRST_TOKEN, FIRST_MAP, MAP_STRIDE, MOST_MAPS = 0x400000000, 0x300000000, 0x100000, 16
 # Kinds of watches that stop at reads; and how the header of an object for BPF tells its kind and machine.
 READ_WATCHES = (gdb.BP_READ_WATCHPOINT, gdb.BP_ACCESS_WATCHPOINT)
 OBJECT_FOR_BPF = b"\x01\x00\xf7\x00"
+# Where programs are looked for that belong to this file: beside it, in 'bin' of where it is installed, and then as the shell does.
+HERE = os.path.dirname(os.path.abspath(__file__))
+PLACES = os.pathsep.join([HERE, os.path.join(HERE, "..", "..", "bin"), os.environ.get("PATH", "")])
+
+
+class Commands:
+    """How many commands of bpfdb were kept behind each command of gdb's user, in ascending order."""
+
+    def __init__(self):
+        self.ends = [0]
+
+    def note(self, event=None):
+        """Notes where a command ended. One that went back ends before others, which then are no more."""
+        if is_connected():
+            kept = self.kept()
+            self.ends = [end for end in self.ends if end < kept] + [kept]
+
+    def kept(self):
+        """How many commands bpfdb keeps."""
+        return int(ask("info history").split()[2])
+
+    def last(self):
+        """How many commands of bpfdb the last one of gdb's user is."""
+        kept = self.kept()
+        return kept - max((end for end in self.ends if end < kept), default=kept - 1)
+
+
+commands = Commands()
+# What was asked of machines and of the debug information: whether a machine is bpfdb's, and where the functions of instructions begin.
+known_machines, known_functions = {}, {}
 
 
 def is_bpf(architecture):
     """Whether a machine is one that bpfdb has described: it has r0 beside its own registers."""
-    return architecture.name() in REGISTERS and architecture.registers().find("r0") is not None
+    if architecture not in known_machines:
+        known_machines[architecture] = architecture.name() in REGISTERS and architecture.registers().find("r0") is not None
+    return known_machines[architecture]
+
+
+def connection():
+    """The connection to bpfdb, None where there is none."""
+    inferior = gdb.selected_inferior()
+    return inferior.connection if inferior.pid and isinstance(inferior.connection, gdb.RemoteTargetConnection) else None
+
+
+def is_connected():
+    return connection() is not None and is_bpf(gdb.selected_inferior().architecture())
 
 
 def ask(line):
     """What bpfdb answers to a line of its script."""
-    return gdb.execute("monitor " + line, to_string=True)
+    if connection() is None:
+        raise gdb.GdbError("bpfdb isn't connected: bpf-load OBJECT starts a program")
+    # (gdb's own way to send a packet forgets the frames that it is about to find)
+    told = gdb.execute("maintenance packet qRcmd," + line.encode().hex(), to_string=True)
+    answer = re.search('received: "(.*)"', told).group(1)
+    if answer.startswith("E"):
+        raise gdb.GdbError("bpfdb answers %s" % answer)
+    return "" if answer == "OK" else bytes.fromhex(answer).decode()
 
 
 def forget():
@@ -51,10 +108,13 @@ class FrameId:
 
 def function_start(counter):
     """Where the function of an instruction begins, 0 where no debug information says so."""
-    block = gdb.block_for_pc(int(counter))
-    while block and block.superblock and not block.superblock.is_static:
-        block = block.superblock
-    return gdb.Value(block.start if block else 0).cast(counter.type)
+    place = int(counter)
+    if place not in known_functions:
+        block = gdb.block_for_pc(place)
+        while block and block.superblock and not block.superblock.is_static:
+            block = block.superblock
+        known_functions[place] = block.start if block else 0
+    return gdb.Value(known_functions[place]).cast(counter.type)
 
 
 def returning(depth):
@@ -66,15 +126,17 @@ def returning(depth):
 
 
 class Unwinder(gdb.unwinder.Unwinder):
-    """Frames of local calls: r10 says how deep one is, and bpfdb where each returns to, and its r6 to r9."""
+    """Frames of local calls: r10 says how deep one is, and bpfdb where each returns to, and its r6 to r9. It reads r10 and pc alone, which
+    come with each stop."""
 
     def __init__(self):
         super().__init__("bpfdb")
 
     def __call__(self, pending):
-        if not is_bpf(pending.architecture()):
+        architecture = pending.architecture()
+        if not is_bpf(architecture):
             return None
-        name = pending.architecture().name()
+        name = architecture.name()
         registers = REGISTERS[name]
         pointer = pending.read_register(registers[10])
         counter = pending.read_register(COUNTERS[name])
@@ -85,13 +147,13 @@ class Unwinder(gdb.unwinder.Unwinder):
         place = gdb.Value(2 * FIRST_POINTER - int(pointer)).cast(pointer.type)
         frame = pending.create_unwind_info(FrameId(place, function_start(counter)))
         if depth > 0:
-            word = pending.read_register(registers[0]).type
             slot, saved = returning(depth)
             frame.add_saved_register(COUNTERS[name], gdb.Value(SLOT * slot).cast(counter.type))
+            word = architecture.integer_type(64)
             for register, value in saved:
                 # (under the name that BPF has for it, too, where that is a register of its own)
                 for known in {registers[int(register[1:])], register}:
-                    if pending.architecture().registers().find(known):
+                    if architecture.registers().find(known):
                         frame.add_saved_register(known, gdb.Value(int(value, 16)).cast(word))
         else:
             frame.add_saved_register(COUNTERS[name], counter)
@@ -132,22 +194,28 @@ class Asker(gdb.Command):
 class Mover(Asker):
     """A command of bpfdb that moves."""
 
-    def __init__(self, name, line):
+    def __init__(self, name):
         super().__init__(name, gdb.COMMAND_RUNNING)
-        self.line = line
 
-    def obey(self, argument):
-        print(ask(self.line + " " + argument), end="")
+    def move(self, line):
+        print(ask(line), end="")
+        commands.note()
         forget()
         gdb.execute("frame")
 
 
 class Undo(Mover):
-    """bpf-undo [COUNT]: takes back the last COUNT commands that moved, edits too."""
+    """bpf-undo [COUNT]: takes back the last command, as a whole next or continue, or the last COUNT commands of bpfdb; edits too."""
+
+    def obey(self, argument):
+        self.move("undo %s" % (argument or commands.last()))
 
 
 class Redo(Mover):
     """bpf-redo [COUNT]: makes the next COUNT moves again that were taken back, edits too."""
+
+    def obey(self, argument):
+        self.move("redo " + argument)
 
 
 class LastWrite(Asker):
@@ -161,6 +229,150 @@ class LastWrite(Asker):
         print(ask("last-write 0x%x" % address), end="")
 
 
+class Registers(Asker):
+    """bpf-registers: shows r0 to r10 and pc of the present frame."""
+
+    def __init__(self):
+        super().__init__("bpf-registers", gdb.COMMAND_DATA)
+
+    def obey(self, argument):
+        gdb.execute("info registers %s pc" % " ".join("r%d" % number for number in range(11)))
+
+
+class Map(Asker):
+    """bpf-map NAME [INDEX]: shows the values of a map, or the one of an index, by the type that the map's definition gives them."""
+
+    def __init__(self):
+        super().__init__("bpf-map", gdb.COMMAND_DATA, gdb.COMPLETE_SYMBOL)
+
+    def obey(self, argument):
+        name, _, index = argument.strip().partition(" ")
+        if not name:
+            raise gdb.GdbError("bpf-map NAME [INDEX]")
+        number = int(gdb.parse_and_eval("&" + name)) - FIRST_TOKEN
+        shapes = re.search(r"--maps[ =](\S+)", connection().details or "") if is_connected() else None
+        shapes = shapes.group(1).split(",") if shapes else []
+        if not 0 <= number < len(shapes):
+            raise gdb.GdbError("%s is no map of the program that runs" % name)
+        size, count = (int(part) for part in shapes[number].split("x"))
+        kind = value_type(name, size)
+        place, most = FIRST_MAP + MAP_STRIDE * number, count - 1
+        if index:
+            chosen = int(gdb.parse_and_eval(index))
+            if not 0 <= chosen <= most:
+                raise gdb.GdbError("%s has no value %d: its last is %d" % (name, chosen, most))
+            shown, place = kind, place + size * chosen
+        else:
+            shown = kind.array(most)
+        gdb.set_convenience_variable("bpf_map", gdb.Value(place).cast(shown.pointer()).dereference())
+        gdb.execute("with print array-indexes on -- print $bpf_map")
+
+
+def value_type(name, size):
+    """The type of a map's values: what the definition says, or else a number of their size, or else bytes."""
+    for definition in (name, "(struct ____btf_map_%s *) 0" % name):
+        try:
+            kind = gdb.parse_and_eval(definition).type
+            kind = kind.target() if kind.code == gdb.TYPE_CODE_PTR else kind
+            kind = next(field.type for field in kind.strip_typedefs().fields() if field.name == "value")
+        except (gdb.error, TypeError, StopIteration):
+            continue
+        kind = kind.target() if kind.strip_typedefs().code == gdb.TYPE_CODE_PTR else kind
+        if kind.sizeof == size:
+            return kind
+    architecture = gdb.selected_inferior().architecture()
+    if size in (1, 2, 4, 8):
+        return architecture.integer_type(8 * size, False)
+    return architecture.integer_type(8, False).array(size - 1)
+
+
+class Load(Asker):
+    """bpf-load OBJECT [OPTIONS]: links an object of clang, loads its symbols, and starts it in bpfdb. OPTIONS are those of 'bpfdb gdb', and
+    --section NAME. Without words it starts the same anew. Breakpoints stay."""
+
+    def __init__(self):
+        super().__init__("bpf-load", gdb.COMMAND_RUNNING, gdb.COMPLETE_FILENAME)
+        self.words = []
+        self.folder = None
+
+    def obey(self, argument):
+        words = gdb.string_to_argv(argument) or self.words
+        if not words:
+            raise gdb.GdbError("bpf-load OBJECT [OPTIONS]")
+        inferior = gdb.selected_inferior()
+        if inferior.pid and not is_connected():
+            raise gdb.GdbError("gdb runs another program: kill it first")
+        file, options = words[0], words[1:]
+        if not self.folder:
+            self.folder = tempfile.TemporaryDirectory(prefix="bpfdb-")
+        # (a folder for each time, since gdb takes a file of the same name and second for the one that it knows)
+        base = os.path.join(tempfile.mkdtemp(dir=self.folder.name), os.path.splitext(os.path.basename(file))[0])
+        section, options = taken(options, "--section")
+        program = called("bpfdb", ["link", *section, file])
+        with open(base + ".bin", "wb") as output:
+            output.write(program.stdout)
+        machine_words, _ = taken(options, "--registers")
+        symbols = called("bpfdb-symbols", [*section, *machine_words, file, base + ".sym"])
+        said = program.stderr.decode(errors="replace")
+        if said.startswith("--maps ") and not taken(options, "--maps")[0]:
+            options = [*options, *said.split()]
+        gdb.write(symbols.stderr.decode(errors="replace"), gdb.STDERR)
+        if inferior.pid:
+            gdb.execute("with confirm off -- kill", to_string=True)
+        gdb.execute("with confirm off -- file %s" % base + ".sym", to_string=True)
+        command = shlex.join([found("bpfdb"), "gdb", *options, base + ".bin"])
+        gdb.execute("target remote | " + command, to_string=True)
+        self.words = words
+        commands.__init__()
+
+
+def taken(words, option):
+    """The words of an option, and the other words."""
+    for at, word in enumerate(words):
+        if word == option:
+            return words[at:at + 2], words[:at] + words[at + 2:]
+        if word.startswith(option + "="):
+            return [word], words[:at] + words[at + 1:]
+    return [], words
+
+
+def found(name):
+    """Where a program stands."""
+    place = shutil.which(name, path=PLACES)
+    if place is None:
+        raise gdb.GdbError("there is no program %s" % name)
+    return place
+
+
+def called(name, words):
+    """What a program wrote. A refusal of it is an error."""
+    done = subprocess.run([found(name), *words], stdin=subprocess.DEVNULL, capture_output=True)
+    if done.returncode:
+        raise gdb.GdbError(done.stderr.decode(errors="replace").strip())
+    return done
+
+
+class Break(Asker):
+    """hbreak: sets a breakpoint, as break does: bpfdb has one kind."""
+
+    def __init__(self):
+        super().__init__("hbreak", gdb.COMMAND_BREAKPOINTS, gdb.COMPLETE_LOCATION)
+
+    def obey(self, argument):
+        gdb.execute("break " + argument)
+
+
+class RefuseRun(Asker):
+    """Refuses run, before which it is called, where a program stands in bpfdb."""
+
+    def __init__(self):
+        super().__init__("maintenance bpf-refuse-run", gdb.COMMAND_MAINTENANCE)
+
+    def obey(self, argument):
+        if is_connected():
+            raise gdb.GdbError("the program runs in bpfdb: continue goes on, and bpf-load starts it anew")
+
+
 def refuse_reads(stop):
     """Takes a watch of reads away as soon as it is set: bpfdb stops at changes alone, and each way on would fail."""
     if stop.type in READ_WATCHES and is_bpf(gdb.selected_inferior().architecture()):
@@ -170,6 +382,7 @@ def refuse_reads(stop):
 
 def look_at_file(event):
     """Says so where an object is loaded in place of what bpfdb-symbols makes of it: gdb would show other names and lines."""
+    known_functions.clear()
     try:
         with open(event.new_objfile.filename, "rb") as file:
             head = file.read(20)
@@ -179,13 +392,22 @@ def look_at_file(event):
         gdb.write("this is an object for BPF: load what bpfdb-symbols makes of it\n", gdb.STDERR)
 
 
+for happens in (gdb.events.stop, gdb.events.memory_changed, gdb.events.register_changed):
+    happens.connect(commands.note)
 gdb.events.breakpoint_created.connect(refuse_reads)
 gdb.events.new_objfile.connect(look_at_file)
 gdb.unwinder.register_unwinder(None, Unwinder(), replace=True)
 gdb.disassembler.register_disassembler(Disassembler())
-Undo("bpf-undo", "undo")
-Redo("bpf-redo", "redo")
+Load()
+Undo("bpf-undo")
+Redo("bpf-redo")
 LastWrite()
+Registers()
+Map()
+Break()
+RefuseRun()
+gdb.execute("define hook-run\nmaintenance bpf-refuse-run\nend")
+gdb.execute("define hookpost-monitor\npython forget()\nend")
 # bpfdb watches four bytes; gdb compares what is wider, and further watches, by itself, step by step.
 gdb.execute("set remote hardware-watchpoint-limit 1")
 gdb.execute("set remote hardware-watchpoint-length-limit 4")

@@ -26,4 +26,8 @@ done
 find examples -type f | while read -r file; do
     put 644 "share/doc/bpfdb/$(dirname "$file")" "$file"
 done
+# (the pages lie one folder higher there, beside the examples)
+folder=$destination$prefix/share/doc/bpfdb
+sed -i 's|](\.\./examples/|](examples/|g' "$folder"/*.md || exit 1
+sed -i 's|](\.\./docs/|](../|g' "$folder/examples/README.md" || exit 1
 echo "installed $prefix/bin/bpfdb, bpfdb-shell and bpfdb-symbols beside it, the man page, and pages and examples in $prefix/share/doc/bpfdb; in gdb: source $prefix/share/bpfdb/bpfdb-gdb.py"

@@ -53,6 +53,11 @@ serves() {
     command -v "$1" > /dev/null && "$1" -nx -batch -ex 'python import gdb.disassembler' > /dev/null 2>&1
 }
 
+# compiled NAME: makes the object of a file of C for sessions.
+compiled() {
+    cp "$sessions/$1.c" . && clang -g -O1 -fstack-size-section -target bpf -c "$1.c" 2> /dev/null
+}
+
 # story: the session that docs/GDB.md shows in gdb, with an end.
 story() {
     awk '/^```/ { if (inside) exit; getline; if (/^\(gdb\) /) inside = 1 } inside' "$top/docs/GDB.md"
@@ -82,10 +87,15 @@ else
 
     sessions=$parts/gdb
     if serves gdb; then
-        for name in steps stops edits faults calls limits source sections traps bare; do
+        for name in steps stops edits faults calls limits source sections traps bare load; do
             transcript gdb "$sessions/$name.txt"
         done
         transcript gdb story.txt
+        if compiled flows && compiled sized; then
+            transcript gdb "$sessions/maps.txt"
+        else
+            echo 'tests/program/gdb.sh: there is no clang for BPF here, so no map is shown in gdb'
+        fi
         editor gdb "$sessions/editor.txt"
     else
         echo 'tests/program/gdb.sh: no gdb of version 13 or later, so only gdb-multiarch is tested'
