@@ -36,8 +36,8 @@ wrong-bodies:
 dist:
 	@sh tests/dist.sh
 
-# Installs the program, its shell for a terminal, its man page, the pages and examples for those who use it and what belongs to gdb, below DESTDIR. It
-# proves and builds the program where that is not done yet.
+# Installs the program, its shell for a terminal, its man page, completions of shells, the pages and examples for those who use it and what belongs
+# to gdb and to editors, below DESTDIR. It proves and builds the program where that is not done yet.
 install:
 	@sh tests/build.sh
 	@sh tests/install.sh "$(DESTDIR)" "$(PREFIX)" $(PAGES)
@@ -45,13 +45,17 @@ install:
 # Takes them away again.
 uninstall:
 	@rm -f "$(DESTDIR)$(BIN)/bpfdb" "$(DESTDIR)$(BIN)/bpfdb-shell" "$(DESTDIR)$(BIN)/bpfdb-symbols"
-	@rm -f "$(DESTDIR)$(MAN)/bpfdb.1" "$(DESTDIR)$(SHARE)/bpfdb-gdb.py"
+	@rm -f "$(DESTDIR)$(MAN)/bpfdb.1"
+	@[ ! -d "$(DESTDIR)$(PREFIX)/share" ] || { cd "$(DESTDIR)$(PREFIX)/share" && rm -f bpfdb/bpfdb-gdb.py bpfdb/bpfdb.vim bpfdb/bpfdb.tmLanguage.json \
+		bash-completion/completions/bpfdb bash-completion/completions/bpfdb-shell zsh/site-functions/_bpfdb zsh/vendor-completions/_bpfdb \
+		fish/vendor_completions.d/bpfdb.fish fish/vendor_completions.d/bpfdb-shell.fish; }
 	@rm -rf "$(DESTDIR)$(DOC)"
 	@[ ! -d "$(DESTDIR)$(SHARE)" ] || rmdir "$(DESTDIR)$(SHARE)"
 
-# Makes the tables of the pages anew, and holds the pages against the repository.
+# Makes the tables of the pages and what is made of them anew, and holds the pages against the repository.
 pages:
 	@sh docs/tables.sh
+	@sh docs/editors.sh
 	@sh docs/man.sh
 	@sh tests/pages.sh
 

@@ -16,9 +16,24 @@ put() {
     done
 }
 
+# put_as MODE FOLDER NAME FILE: copies a file under another name.
+put_as() {
+    folder=$destination$prefix/$2
+    mkdir -p "$folder" && cp "$4" "$folder/$3" && chmod "$1" "$folder/$3" || exit 1
+}
+
 put 755 bin crates/bpfdb/out/bpfdb share/bpfdb-shell share/bpfdb-symbols
 put 644 share/man/man1 docs/bpfdb.1
-put 644 share/bpfdb share/bpfdb-gdb.py
+put 644 share/bpfdb share/bpfdb-gdb.py share/editors/bpfdb.vim share/editors/bpfdb.tmLanguage.json
+# (each shell looks for a completion by the name of the command; zsh of Debian's packages in a folder of its own)
+for name in bpfdb bpfdb-shell; do
+    put_as 644 share/bash-completion/completions "$name" share/completion/bpfdb.bash
+    put_as 644 share/fish/vendor_completions.d "$name.fish" share/completion/bpfdb.fish
+done
+case $prefix in
+/usr) put 644 share/zsh/vendor-completions share/completion/_bpfdb ;;
+*) put 644 share/zsh/site-functions share/completion/_bpfdb ;;
+esac
 put 644 share/doc/bpfdb LICENSE CHANGELOG.md
 for page in "$@"; do
     put 644 share/doc/bpfdb "docs/$page.md"
@@ -30,4 +45,4 @@ done
 folder=$destination$prefix/share/doc/bpfdb
 sed -i 's|](\.\./examples/|](examples/|g' "$folder"/*.md || exit 1
 sed -i 's|](\.\./docs/|](../|g' "$folder/examples/README.md" || exit 1
-echo "installed $prefix/bin/bpfdb, bpfdb-shell and bpfdb-symbols beside it, the man page, and pages and examples in $prefix/share/doc/bpfdb; in gdb: source $prefix/share/bpfdb/bpfdb-gdb.py"
+echo "installed $prefix/bin/bpfdb, bpfdb-shell and bpfdb-symbols beside it, the man page, completions of bash, zsh and fish, and pages and examples in $prefix/share/doc/bpfdb; in gdb: source $prefix/share/bpfdb/bpfdb-gdb.py"

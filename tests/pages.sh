@@ -302,5 +302,6 @@ libraries
 refusals
 edits
 sh docs/man.sh --check || fault 'the man page'
+sh docs/editors.sh --check || fault 'what shells and editors know'
 toolchain
 [ ! -s "$work/faults" ]

@@ -9,11 +9,15 @@ else
         installed=$1$2
         env -u MAKEFLAGS make -s -C "$top" install DESTDIR="$1" PREFIX="$2" > found/out 2> found/err
         echo $? > found/status
-        check "make install PREFIX=$2" 0 "installed $2/bin/bpfdb, bpfdb-shell and bpfdb-symbols beside it, the man page, and pages and examples in $2/share/doc/bpfdb; in gdb: source $2/share/bpfdb/bpfdb-gdb.py\n" ''
+        check "make install PREFIX=$2" 0 "installed $2/bin/bpfdb, bpfdb-shell and bpfdb-symbols beside it, the man page, completions of bash, zsh and fish, and pages and examples in $2/share/doc/bpfdb; in gdb: source $2/share/bpfdb/bpfdb-gdb.py\n" ''
         (cd "$installed" && find . -type f -printf '%m %P\n' | sort) > found/files
         {
             cat <<'FILES'
+644 share/bash-completion/completions/bpfdb
+644 share/bash-completion/completions/bpfdb-shell
 644 share/bpfdb/bpfdb-gdb.py
+644 share/bpfdb/bpfdb.tmLanguage.json
+644 share/bpfdb/bpfdb.vim
 644 share/doc/bpfdb/CHANGELOG.md
 644 share/doc/bpfdb/COMMANDS.md
 644 share/doc/bpfdb/GDB.md
@@ -21,7 +25,10 @@ else
 644 share/doc/bpfdb/LICENSE
 644 share/doc/bpfdb/LISTING.md
 644 share/doc/bpfdb/MACHINE.md
+644 share/fish/vendor_completions.d/bpfdb-shell.fish
+644 share/fish/vendor_completions.d/bpfdb.fish
 644 share/man/man1/bpfdb.1
+644 share/zsh/site-functions/_bpfdb
 755 bin/bpfdb
 755 bin/bpfdb-shell
 755 bin/bpfdb-symbols

@@ -1,0 +1,67 @@
+# What shells complete of bpfdb's command line, and what editors show of a listing: of each shell and editor that is installed here.
+
+# completed WANTED WORD..: what bash makes of the last word of a command line.
+completed() {
+    wanted=$1
+    shift
+    bash -c '. "$1"; shift; COMP_WORDS=("$@") COMP_CWORD=$(($# - 1)); _bpfdb; printf "%s\n" "${COMPREPLY[@]}"' \
+        bash "$top/share/completion/bpfdb.bash" "$@" > found/out 2> found/err
+    echo $? > found/status
+    check "bash: $*" 0 "$wanted" ''
+}
+
+: > program.bin
+if command -v bash > /dev/null; then
+    completed 'run\n' bpfdb ru
+    completed 'debug\ndisasm\n' bpfdb d
+    completed 'debug\n' bpfdb debug
+    completed 'help\n' bpfdb he
+    completed '--version\n' bpfdb --v
+    completed '--maps\n' bpfdb run --ma
+    completed '--steps\n' bpfdb run --st
+    completed '\n' bpfdb run --journal
+    completed '--journal\n' bpfdb debug --j
+    completed '--section\n' bpfdb link --sec
+    completed '\n' bpfdb link --maps
+    completed 'x86\nriscv\nbpf\n' bpfdb gdb --registers ''
+    completed '\n' bpfdb run --steps ''
+    completed 'program.bin\n' bpfdb run -m prog
+    completed 'program.bin\n' bpfdb check prog
+    completed 'link\n' bpfdb help l
+    completed '--journal\n' bpfdb-shell --j
+    completed 'program.bin\n' bpfdb-shell prog
+fi
+if command -v fish > /dev/null; then
+    for row in 'bpfdb ru|run' 'bpfdb run --ma|--maps' 'bpfdb run --jo|' 'bpfdb debug --jo|--journal' 'bpfdb gdb --registers ri|riscv' 'bpfdb-shell --jo|--journal'; do
+        HOME=$PWD fish --no-config -c "source '$top/share/completion/bpfdb.fish'; complete -C '${row%|*}'" 2> found/err | sed 's/\t.*//' > found/out
+        echo 0 > found/status
+        check "fish: ${row%|*}" 0 "${row#*|}$([ -z "${row#*|}" ] || printf '%s' '\n')" ''
+    done
+fi
+if command -v zsh > /dev/null; then
+    zsh -f -n "$top/share/completion/_bpfdb" > found/out 2> found/err
+    echo $? > found/status
+    check 'zsh: the syntax of its file' 0 '' ''
+fi
+
+# Each mnemonic of the listing of all forms is a word of both syntax files.
+sed 's/;.*//; s/^ *[A-Za-z_][A-Za-z_0-9]*://' "$parts/listings/forms.s" | awk 'NF { print $1 }' | sort -u > wanted/words
+sed -n 's/^syntax keyword bpfdbMnemonic //p' "$top/share/editors/bpfdb.vim" | tr ' ' '\n' | sort -u > found/words
+same 'Vim: the mnemonics' wanted/words found/words
+sed -n 's/.*keyword.mnemonic.*b(\(add[^)]*\)).*/\1/p' "$top/share/editors/bpfdb.tmLanguage.json" | tr '|' '\n' | sort -u > found/words
+same 'TextMate: the mnemonics' wanted/words found/words
+if command -v vim > /dev/null; then
+    printf 'loop: add r0, -1 ; loop\n' > one.listing
+    cat > show.vim <<'VIM'
+execute 'source' $SYNTAX
+let names = []
+for column in [1, 7, 11, 15, 18]
+    call add(names, synIDattr(synID(1, column, 1), 'name'))
+endfor
+call writefile(names, 'found/out')
+quit!
+VIM
+    SYNTAX=$top/share/editors/bpfdb.vim vim -N -u NONE -i NONE -es -c 'syntax on' -S show.vim one.listing < /dev/null > found/err 2>&1
+    echo $? > found/status
+    check 'Vim: what is what in a line' 0 'bpfdbLabel\nbpfdbMnemonic\nbpfdbRegister\nbpfdbNumber\nbpfdbComment\n' ''
+fi
