@@ -1,6 +1,6 @@
 #!/bin/sh
 # bpfdb without proofs, for a first look: `rt try` compiles it with checks and runs it once, in a minute or two. Nothing is proved by that.
-# Without words it plays the session of tests/session/script, which README shows, each command behind '> '. With words it is bpfdb's own
+# Without words it plays the session of tests/session/script with the example overrun, which README shows, each command behind '> '. With words it is bpfdb's own
 # command line: a word that names a file is that file, standard input is the script (of `debug` at a terminal: up to Ctrl-D), and what is
 # printed comes when it has ended. Its status is bpfdb's.
 set -u
@@ -56,5 +56,7 @@ if [ $# -gt 0 ]; then
 fi
 
 # (The program echoes no command. Each of this session is answered by one line.)
-tried < tests/session/script > "$work/replies" || exit
+# shellcheck disable=SC2046
+tried --data "context.bin=$PWD/examples/overrun/context.bin" --data "program.bin=$PWD/examples/overrun/program.bin" -- \
+    debug $(cat examples/overrun/arguments) < tests/session/script > "$work/replies" || exit
 paste -d '\n' tests/session/script "$work/replies" | sed '1~2s/^/> /'

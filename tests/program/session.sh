@@ -1,4 +1,4 @@
-# Sessions of the program that is built in, which is debugged where the command line has no word: mov r0, 42 and exit.
+# Sessions of the program that is built in, which is debugged where the command line has no word: mov r0, 42 and exit; and README's.
 
 exit_at_1='1 forward; done; at 1: exit\n'
 mov_at_0='1 back; start; at 0: mov r0, 42\n'
@@ -7,7 +7,8 @@ q2='refused Q2: wrong argument\n'
 q12='refused Q12: line too long\n'
 
 session 'the first session' "$(text "$top/crates/bpfdb/stdin")" "$(text "$top/crates/bpfdb/stdout")"
-session "README's session" "$(text "$top/tests/session/script")" "$(text "$top/tests/session/replies")"
+session "README's session" "$(text "$top/tests/session/script")" "$(text "$top/tests/session/replies")" \
+    debug -m "$top/examples/overrun/context.bin" "$top/examples/overrun/program.bin"
 session 'an empty script' '' ''
 session 'quit without a line feed' 'quit' ''
 session 'nothing behind quit is obeyed' 'stepi\nquit\nstepi\n' "$exit_at_1"
