@@ -1,0 +1,4 @@
+pub mod Places
+pub mod Writes
+pub mod Reads
+pub mod Laws

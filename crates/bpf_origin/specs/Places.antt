@@ -1,0 +1,35 @@
+-- Places: what holds a value in a state. r10 is none: it follows from the depth of calls.
+use Rattle.std.specs.Prelude.{◌≤◌, ◌<◌, ℕ, ◌-◌, Bool, false, nat_lt, ◌==◌, ◌&&◌, if◌then◌else◌, List, Option, Some, None, slice_index, slice_get}
+use Rattle.bpf_machine.specs.declared.frame.Frame.{Frame}
+use Rattle.bpf_machine.specs.ByAddress.{byte}
+use Rattle.bpf_machine.specs.State.{State, depth}
+use Rattle.bpf_origin.specs.declared.place.Place.{Place}
+use Rattle.bpf_origin.specs.declared.place.Place.TheVariants.{Register, Word, Byte}
+
+-- A register of the function at a depth. Each function has r6 to r9 of its own; r0 to r5 are shared, and count as depth 0's.
+abbrev pub register_place : ℕ → ℕ → Place
+register_place d r = Register (if nat_lt r 6 then 0 else d) r
+
+-- One of r6 to r9 of a function: the frame that its call of another one pushed keeps them, until that one returns.
+abbrev pub own_register : Option Frame → List ℕ → ℕ → ℕ
+own_register (Some f) registers r = slice_index f.saved (r - 6)
+own_register None registers r = slice_index registers r
+
+-- The value at a place.
+abbrev pub value : State → Place → ℕ
+value x (Register d r) =
+    if nat_lt r 6 then slice_index x.registers r else own_register (slice_get x.frames d) x.registers r
+value x (Word i) = slice_index x.trace i
+value x (Byte a) = byte x a
+
+-- A register is one of r0 to r9 of a function that has not returned.
+abbrev pub IsPlace : State → Place → Type 0
+IsPlace x (Register d r) = (r < 10) × (d ≤ (if nat_lt r 6 then 0 else depth x))
+IsPlace x _ = Unit {0}
+
+-- Whether two places are one.
+abbrev pub same : Place → Place → Bool
+same (Register d r) (Register e s) = d == e && (r == s)
+same (Word i) (Word j) = i == j
+same (Byte a) (Byte b) = a == b
+same _ _ = false
