@@ -238,7 +238,7 @@ page() {
         /^<!-- docs\/tables\.sh: code [^ ]+ -->$/ {
             inside = 1
             crates = ""
-            while ((getline line < $4) > 0) if (line ~ /^use /) {
+            while ((getline line < $4) > 0) if (line ~ /^use / && line !~ /^use std::/) {
                 split(line, words, /[ :]+/)
                 crates = crates " " words[2]
             }

@@ -1,8 +1,11 @@
 //! Faults: why bytes are no word, a map table or a program is refused.
 ghost use Rattle.std.specs.Prelude.{◌≡◌};
 
+use thiserror::Error;
+
 /// Why bytes are no word.
-#[derive(Clone, Copy)]
+#[derive(Clone, Copy, Debug, Error)]
+#[error("refused C{}: {}", self.number(), self.text())]
 pub enum WordFault {
     /// No row of the tables has this opcode with these codes.
     UnknownInstruction,
@@ -15,7 +18,8 @@ pub enum WordFault {
 }
 
 /// Why the piece at a slot is refused.
-#[derive(Clone, Copy)]
+#[derive(Clone, Copy, Debug, Error)]
+#[error("refused C{}: {}", self.number(), self.text())]
 pub enum PieceFault {
     /// Its bytes are no word.
     Word(WordFault),
@@ -32,7 +36,8 @@ pub enum PieceFault {
 }
 
 /// Why bytes are no program.
-#[derive(Clone, Copy)]
+#[derive(Clone, Copy, Debug, Error)]
+#[error("refused C{}: {}", self.number(), self.text())]
 pub enum LoadFault {
     /// There are no bytes.
     Empty,
@@ -41,13 +46,15 @@ pub enum LoadFault {
     /// The length is no multiple of 8.
     Ragged,
     /// The lowest slot with a fault, and its fault with the least number.
+    #[error("refused C{} at slot {slot}: {}", fault.number(), fault.text())]
     At { slot: usize, fault: PieceFault },
     /// Memory ran out.
     Memory,
 }
 
 /// Why a map, or a list of maps, is refused.
-#[derive(Clone, Copy)]
+#[derive(Clone, Copy, Debug, Error)]
+#[error("refused M{}: {}", self.number(), self.text())]
 pub enum MapFault {
     /// A value isn't 1 to 256 bytes.
     ValueSize,

@@ -2,6 +2,7 @@
 
 use bpf_entries::ByteString;
 use bpf_isa::Reg;
+use thiserror::Error;
 
 /// A change by hand. It is made in every status, and counts as a move.
 #[derive(Drop)]
@@ -29,14 +30,18 @@ pub enum Edit {
 }
 
 /// Why an edit is refused. A refused edit changes nothing.
-#[derive(Clone, Copy)]
+#[derive(Clone, Copy, Debug, Error)]
 pub enum EditFault {
     /// Some byte of the run isn't present, or it lies in two regions.
+    #[error("address not present")]
     AddressNotPresent,
     /// r10 is read-only.
+    #[error("register not writable")]
     RegisterNotWritable,
     /// No instruction of the program starts at the slot.
+    #[error("no instruction starts there")]
     NoStart,
     /// There is no such map, its cells end before the index, or its values have another length.
+    #[error("no such cell or wrong length")]
     NoCell,
 }

@@ -1,8 +1,11 @@
 //! Why a machine can't be opened.
 ghost use Rattle.std.specs.Prelude.{◌≡◌};
 
+use thiserror::Error;
+
 /// Why a machine or its memory can't be opened.
-#[derive(Clone, Copy)]
+#[derive(Clone, Copy, Debug, Error)]
+#[error("refused O{}: {}", self.number(), self.text())]
 pub enum OpenFault {
     /// The context is longer than 65,536 bytes.
     ContextTooLong,

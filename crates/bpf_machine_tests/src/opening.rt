@@ -3,8 +3,8 @@
 use crate::machines::{EXIT, machine, program};
 use crate::rows::{check_number, check_text, stop_unless};
 use bpf_isa::MapTable;
-use bpf_machine::{Cpu, Memory, OpenFault};
-use std::alloc::Global;
+use bpf_machine::{Cpu, EditFault, Ended, Memory, OpenFault};
+use std::alloc::{AllocError, Global};
 use std::process::Abort;
 
 /// A context of so many bytes.
@@ -40,10 +40,28 @@ fn the_longest_context(rt: HostRuntime) {
     stop_unless(&rt, whole.is_some(), "the whole");
 }
 
+/// Stops unless a fault is printed so.
+fn check_fault(rt: &impl Abort, text: Result<String, AllocError>, want: &str) {
+    let text = text.expect(rt, "no memory");
+    check_text(rt, text.as_str(), want);
+}
+
 #[test]
-fn faults_of_opening(rt: HostRuntime) {
-    check_number(&rt, u64::from(OpenFault::ContextTooLong.number()), 1);
-    check_text(&rt, OpenFault::ContextTooLong.text(), "context too long");
-    check_number(&rt, u64::from(OpenFault::OutOfMemory.number()), 2);
-    check_text(&rt, OpenFault::OutOfMemory.text(), "out of memory");
+fn what_is_printed_of_faults(rt: HostRuntime) {
+    let alloc = rt.alloc();
+    for (fault, want) in [
+        (OpenFault::ContextTooLong, "refused O1: context too long"),
+        (OpenFault::OutOfMemory, "refused O2: out of memory"),
+    ] {
+        check_fault(&rt, format!(in alloc; "{fault}"), want);
+    }
+    for (fault, want) in [
+        (EditFault::AddressNotPresent, "address not present"),
+        (EditFault::RegisterNotWritable, "register not writable"),
+        (EditFault::NoStart, "no instruction starts there"),
+        (EditFault::NoCell, "no such cell or wrong length"),
+    ] {
+        check_fault(&rt, format!(in alloc; "{fault}"), want);
+    }
+    check_fault(&rt, format!(in alloc; "{Ended}"), "the machine has ended");
 }

@@ -13,7 +13,7 @@ mod watches;
 
 pub use bpfdb_commands::{Command, Count, Goal, Refusal, Span, Stop, Target, View, parse_command};
 pub use bpfdb_replies::{Why, write_place};
-pub use counted_io::Counted;
+pub use counted_io::{Counted, WriteFault};
 pub use fault::RunFault;
 pub use plain::{Ending, run_plain};
 pub use reply::Reply;

@@ -2,8 +2,10 @@
 ghost use Rattle.std.specs.Prelude.{◌≡◌};
 ghost use Rattle.bpf_text.specs.Faults.{fault_number, fault_line, fault_text};
 
+use thiserror::Error;
+
 /// What is wrong with a line of a listing.
-#[derive(Clone, Copy)]
+#[derive(Clone, Copy, Debug)]
 pub enum LineFault {
     /// A1: no instruction has this mnemonic.
     UnknownMnemonic,
@@ -25,9 +27,11 @@ pub enum LineFault {
 }
 
 /// Why a listing isn't assembled.
-#[derive(Clone, Copy)]
+#[derive(Clone, Copy, Debug, Error)]
+#[error("refused A{}: {}", self.number(), self.text())]
 pub enum AsmFault {
     /// The first fault, and its line, counted from 1.
+    #[error("refused A{} at line {}: {}", self.number(), .1, self.text())]
     Line(LineFault, usize),
     /// A7: out of memory.
     Memory,

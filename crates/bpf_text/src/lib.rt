@@ -7,6 +7,7 @@ mod names;
 mod read;
 mod write;
 
+pub use counted_io::{Counted, WriteFault};
 pub use fault::{AsmFault, LineFault};
 pub use read::assemble;
 pub use write::{disassemble, put_insn, put_label, write_insn};

@@ -6,6 +6,8 @@ mod answers;
 #[cfg(test)]
 mod bytes;
 #[cfg(test)]
+mod faults;
+#[cfg(test)]
 mod listings;
 #[cfg(test)]
 mod passing;

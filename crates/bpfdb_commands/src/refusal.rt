@@ -2,8 +2,11 @@
 ghost use Rattle.std.specs.Prelude.{◌≡◌};
 ghost use Rattle.bpfdb_commands.specs.Refusals.{number_of, text_of};
 
+use thiserror::Error;
+
 /// Why a command line is refused. A refused line changes nothing.
-#[derive(Clone, Copy)]
+#[derive(Clone, Copy, Debug, Error)]
+#[error("refused Q{}: {}", self.number(), self.text())]
 pub enum Refusal {
     /// Q1: no command has this name.
     UnknownCommand,

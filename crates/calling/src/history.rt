@@ -12,10 +12,8 @@ const WORDS: [u8; 24] = [
 fn a_history_is_walked_back(rt: HostRuntime) {
     let alloc = rt.alloc();
     let program = check(alloc, &WORDS, &MapTable::empty());
-    let program = program.ok().expect(&rt, "no program");
-    let cpu = Cpu::open(alloc, program, b"")
-        .ok()
-        .expect(&rt, "no machine");
+    let program = program.expect(&rt, "no program");
+    let cpu = Cpu::open(alloc, program, b"").expect(&rt, "no machine");
     let mut timeline = match RingKeeper::open(alloc, 65_536) {
         Ok(ring) => Timeline::start(cpu, ring),
         Err(_) => panic!(&rt; "no memory"),

@@ -5,6 +5,8 @@
 #[cfg(test)]
 mod connection;
 #[cfg(test)]
+mod faults;
+#[cfg(test)]
 mod history;
 #[cfg(test)]
 mod listing;

@@ -6,11 +6,11 @@ use bpf_text::{assemble, disassemble};
 fn a_listing_becomes_a_program(rt: HostRuntime) {
     let alloc = rt.alloc();
     let words = assemble(alloc, b"mov r0, 0x28\n add r0, 2 ; a comment\n exit\n");
-    let words = words.ok().expect(&rt, "no listing");
+    let words = words.expect(&rt, "no listing");
     let program = check(alloc, &words, &MapTable::empty());
-    let program = program.ok().expect(&rt, "no program");
+    let program = program.expect(&rt, "no program");
     let text = disassemble(alloc, &program);
-    let text = text.ok().expect(&rt, "no memory");
+    let text = text.expect(&rt, "no memory");
     assert!(&rt; text.as_slice() == b"mov r0, 40\nadd r0, 2\nexit\n".as_slice());
 }
 

@@ -11,9 +11,9 @@ const WORDS: [u8; 24] = [
 fn a_program_is_run(rt: HostRuntime) {
     let alloc = rt.alloc();
     let program = check(alloc, &WORDS, &MapTable::empty());
-    let program = program.ok().expect(&rt, "no program");
+    let program = program.expect(&rt, "no program");
     let cpu = Cpu::open(alloc, program, b"the context");
-    let mut cpu = cpu.ok().expect(&rt, "no machine");
+    let mut cpu = cpu.expect(&rt, "no machine");
     let r0 = Reg::new(0).expect(&rt, "no register");
     assert!(&rt; cpu.advance().is_ok());
     assert_eq!(&rt; cpu.reg(r0), 40);

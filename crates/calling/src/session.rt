@@ -13,18 +13,10 @@ const WORDS: [u8; 24] = [
 fn a_script_is_run(rt: HostRuntime) {
     let alloc = rt.alloc();
     let program = check(alloc, &WORDS, &MapTable::empty());
-    let program = program.ok().expect(&rt, "no program");
-    let cpu = Cpu::open(alloc, program, b"")
-        .ok()
-        .expect(&rt, "no machine");
-    let ring = match RingKeeper::open(alloc, 65_536) {
-        Ok(ring) => ring,
-        Err(_) => panic!(&rt; "no memory"),
-    };
-    let redo = match RingKeeper::open(alloc, 65_536) {
-        Ok(ring) => ring,
-        Err(_) => panic!(&rt; "no memory"),
-    };
+    let program = program.expect(&rt, "no program");
+    let cpu = Cpu::open(alloc, program, b"").expect(&rt, "no machine");
+    let ring = RingKeeper::open(alloc, 65_536).expect(&rt, "no memory");
+    let redo = RingKeeper::open(alloc, 65_536).expect(&rt, "no memory");
     let mut session = Session::open(cpu, ring, redo, 1_000_000);
     let mut replies = Vec::new(alloc);
     let script: &[u8] = b"stepi 2\nreverse-stepi\n";
