@@ -1,7 +1,7 @@
 #!/bin/sh
 # The examples, through the built program (or the one that BPFDB names): each script gives its replies, each program assembles
-# and disassembles to itself, the example of a test suite passes and can fail, and the examples in docs/COMMANDS.md and examples/README.md print what
-# they show. What is wrong is a line each.
+# and disassembles to itself, the example of a test suite passes and can fail, and the examples in docs/COMMANDS.md, examples/README.md and
+# examples/RECIPES.md print what they show. What is wrong is a line each.
 set -u
 cd "$(dirname "$0")/.." || exit 1
 [ -n "${BPFDB:-}" ] || sh tests/build.sh || exit 1
@@ -81,13 +81,14 @@ suite() {
     sh examples/suite/test.sh "$work/wrong.s" > "$work/out" 2>&1 && fault 'examples/suite/test.sh passes a wrong program'
 }
 
-# shown PAGE SECTION: each command after '$ ' in a section of a page prints the lines that follow it there, and 'cat FILE' shows the file that the
-# commands after it take. They are run in one folder, in order.
+# shown PAGE SECTION: each command after '$ ' in a section of a page (in all of it, where the section is empty) prints the lines that follow it
+# there, and 'cat FILE' shows a file that the commands after it take. They are run in one folder, in order.
 shown() {
     rm -rf "$work/shown"
     mkdir "$work/shown" "$work/shown/files" || exit 1
     awk -v section="## $2" -v work="$work/shown" '
-        /^## / { inside = $0 == section }
+        BEGIN { inside = section == "## " }
+        /^## / { inside = section == "## " || $0 == section }
         /^```/ { block = !block; next }
         inside && block && /^\$ / { n++; print substr($0, 3) > (work "/command-" n); printf "" > (work "/text-" n); next }
         inside && block { print > (work "/text-" n) }
@@ -95,7 +96,9 @@ shown() {
     n=1
     while [ -f "$work/shown/command-$n" ]; do
         command=$(cat "$work/shown/command-$n")
-        case $command in 'cat '*.c) cp "$work/shown/text-$n" "$work/shown/files/${command#cat }" ;; esac
+        case $command in
+        'cat '*.c | 'cat '*.s) cp "$work/shown/text-$n" "$work/shown/files/${command#cat }" ;;
+        esac
         (cd "$work/shown/files" && PATH=$work/bin:$PATH && export PATH && sh "$work/shown/command-$n") > "$work/out" 2>&1
         cmp -s "$work/shown/text-$n" "$work/out" || fault "$1, '$2': '$command': $(first_difference "$work/shown/text-$n" "$work/out")"
         n=$((n + 1))
@@ -103,11 +106,13 @@ shown() {
     [ "$n" -gt 1 ] || fault "$1 has no examples in '$2'"
 }
 
-# pages: the examples of the manual, and those on words and, where there is a clang for BPF, on C.
+# pages: the examples of the manual, the recipes, and those on words and, where there is a clang for BPF, on C.
 pages() {
     mkdir "$work/bin" || exit 1
     ln -s "$BPFDB" "$work/bin/bpfdb" || exit 1
+    ln -s "$top/share/bpfdb-conformance" "$work/bin" || exit 1
     shown docs/COMMANDS.md EXAMPLES
+    shown examples/RECIPES.md ''
     if command -v xxd > /dev/null; then shown examples/README.md 'From words'; fi
     if echo | clang -target bpf -x c -c -o /dev/null - 2> /dev/null; then shown examples/README.md 'From C'; fi
 }

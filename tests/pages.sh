@@ -37,7 +37,7 @@ files() {
 # names_of_files: each name of a file between backquotes on a page is one, or the end of one's path.
 names_of_files() {
     files > "$work/files"
-    for page in README.md CHANGELOG.md docs/*.md examples/README.md; do
+    for page in README.md CHANGELOG.md docs/*.md examples/*.md; do
         quoted < "$page" | grep -E '^[^ ]*\.(rt|antt|md|sh|txt)$' | spread | sort -u | while read -r name; do
             awk -v name="$name" '
                 $0 == name || substr($0, length($0) - length(name)) == "/" name { found = 1 }
@@ -235,7 +235,7 @@ refusals() {
 # widths: no line of a page is wider than 100 columns, but for tables, code, a command by itself, and the lines
 # that tables.sh writes into CALLING.
 widths() {
-    for page in README.md CHANGELOG.md docs/*.md examples/README.md; do
+    for page in README.md CHANGELOG.md docs/*.md examples/*.md; do
         LC_ALL=C awk -v page="$page" '
             /^ *```/ { code = !code }
             code || /^[|<]/ || /^    / || /^Its line of `crates.txt`/ || /^ *`[^`]*`[.:]?$/ { next }

@@ -9,7 +9,7 @@ else
         installed=$1$2
         env -u MAKEFLAGS make -s -C "$top" install DESTDIR="$1" PREFIX="$2" > found/out 2> found/err
         echo $? > found/status
-        check "make install PREFIX=$2" 0 "installed $2/bin/bpfdb, bpfdb-shell and bpfdb-symbols beside it, the man page, completions of bash, zsh and fish, and pages and examples in $2/share/doc/bpfdb; in gdb: source $2/share/bpfdb/bpfdb-gdb.py\n" ''
+        check "make install PREFIX=$2" 0 "installed $2/bin/bpfdb, bpfdb-shell, bpfdb-symbols and bpfdb-conformance beside it, the man page, completions of bash, zsh and fish, and pages and examples in $2/share/doc/bpfdb; in gdb: source $2/share/bpfdb/bpfdb-gdb.py\n" ''
         (cd "$installed" && find . -type f -printf '%m %P\n' | sort) > found/files
         {
             cat <<'FILES'
@@ -30,6 +30,7 @@ else
 644 share/man/man1/bpfdb.1
 644 share/zsh/site-functions/_bpfdb
 755 bin/bpfdb
+755 bin/bpfdb-conformance
 755 bin/bpfdb-shell
 755 bin/bpfdb-symbols
 FILES
