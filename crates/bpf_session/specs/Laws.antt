@@ -1,11 +1,12 @@
 -- Facts about the meaning of commands and of scripts, in the words of those who use them.
-use Rattle.std.specs.Prelude.{◌≡◌, ◌≢◌, ◌<◌, ◌≤◌, ◌-◌, ◌^◌, ◌+◌, ◌⊎◌, ◌↔◌, if◌then◌else◌, ℕ, suc, Bool, true, false, List, [], ◌∷◌, length, map, min, take, drop, reverse, ◌++◌, count_by, slice_get, Option, Some, None, Result, Ok, Err, IsTrue, option_map}
+use Rattle.std.specs.Prelude.{◌≡◌, ◌≢◌, ◌<◌, ◌≤◌, ◌-◌, ◌^◌, ◌+◌, ◌⊎◌, ◌↔◌, if◌then◌else◌, ◌&&◌, ℕ, suc, Bool, true, false, List, [], ◌∷◌, length, map, min, take, drop, reverse, ◌++◌, count_by, slice_get, Option, Some, None, Result, Ok, Err, IsTrue, option_map, is_ok}
 use Rattle.bpf_session.specs.Points.{Point, Bounds, without_ahead}
 use Rattle.bpf_ring.specs.Runs.{state_after}
 use Rattle.bpf_machine.specs.State.{State, depth}
 use Rattle.bpf_entries.specs.Status.{has_ended}
-use Rattle.bpf_journal.specs.Histories.{Record, IsRun, is_step}
-use Rattle.bpf_journal.specs.Tracks.{IsAhead, Track}
+use Rattle.bpf_machine.specs.Moves.{moved}
+use Rattle.bpf_journal.specs.Histories.{Record, is_step}
+use Rattle.bpf_journal.specs.Tracks.{Track}
 use Rattle.bpf_session.specs.Backward.{before_last, marks}
 use Rattle.bpf_session.specs.Redo.{state_ahead}
 use Rattle.bpf_session.specs.Stops.{breaks_at, watch_differs}
@@ -204,7 +205,7 @@ pub record GoesToTheMark (n : ℕ) (p q : Point) : Type 0 where
 abbrev pub UndoGoesToTheMark : Type 0
 UndoGoesToTheMark = (gap : Option ℕ) (b : Bounds) (n : ℕ) (p : Point) → 1 ≤ n → n ≤ marks p → GoesToTheMark n p (does gap b (command.Back (target.Commands n)) p).point
 
--- All moves from the latest new one on, the newest first: those that were taken back, and those that are kept.
+-- All moves of a point, the newest first: those that were taken back, and those that are kept.
 abbrev pub all_moves : Point → List Record
 all_moves p = reverse p.ahead ++ p.history
 
@@ -212,26 +213,68 @@ all_moves p = reverse p.ahead ++ p.history
 abbrev pub last_state : Point → State
 last_state p = state_ahead (length p.ahead) p.ahead p.state
 
--- The history leads to the present state, and what was taken back leads on from there.
+-- Each kept move leads to the state before the next newer one, and the newest to x.
+abbrev pub LeadsTo : List Record → State → Type 0
+LeadsTo [] x = Unit {0}
+LeadsTo (r ∷ h) x = (x ≡ moved r.before r.move) × LeadsTo h r.before
+
+-- The moves that were taken back lead on from x.
+abbrev pub LeadsOn : State → List Record → Type 0
+LeadsOn x [] = Unit {0}
+LeadsOn x (r ∷ f) = (r.before ≡ x) × LeadsOn (moved x r.move) f
+
+-- So a point's moves lead to its state and on from it, as those of each session do.
 abbrev pub IsPlaced : Point → Type 0
-IsPlaced p = IsRun p.history p.state × IsAhead p.state p.ahead
+IsPlaced p = LeadsTo p.history p.state × LeadsOn p.state p.ahead
 
--- Commands that take moves back or make them again.
-abbrev pub walks : Command → Bool
-walks (command.Back t) = true
-walks (command.Redo count) = true
-walks _ = false
+-- A command that was given, and the gap of its moves: None where the keeper kept each of them.
+pub record Given : Type 0 where
+  pub command : Command
+  pub gap : Option ℕ
 
--- They lose no move: the history followed by what was taken back stays, and so does the state that it leads to.
-abbrev pub WalksLoseNothing : Type 0
-WalksLoseNothing = (gap : Option ℕ) (b : Bounds) (c : Command) (p : Point) → IsTrue (walks c) → IsPlaced p
-    → (all_moves (does gap b c p).point ≡ all_moves p) × (last_state (does gap b c p).point ≡ last_state p) × IsPlaced (does gap b c p).point
+abbrev pub outcome_of : Bounds → Given → Point → Outcome
+outcome_of b given p = does given.gap b given.command p
 
--- `redo` of as many moves as were taken back, or of more, gives the history and the state back as they stood after the latest new move:
--- nothing is left to be made again, and breakpoints and watches stay.
-abbrev pub RedoGivesAllBack : Type 0
-RedoGivesAllBack = (b : Bounds) (count : ℕ) (p : Point) → 1 ≤ length p.ahead → length p.ahead ≤ count
-    → (does None b (command.Redo count) p).point ≡ record p { history = all_moves p; ahead = []; state = last_state p }
+-- The point after commands.
+abbrev pub after : Bounds → List Given → Point → Point
+after b [] p = p
+after b (given ∷ more) p = after b more (outcome_of b given p).point
+
+-- Whether a command that isn't refused makes new moves.
+abbrev pub is_new : Command → Bool
+is_new (command.Forward goal) = true
+is_new (command.Edit e) = true
+is_new _ = false
+
+-- The point after the last of them that made new moves: a forward command or an edit that was accepted; n where there is none.
+abbrev pub after_new : Bounds → List Given → Point → Point → Point
+after_new b [] p n = n
+after_new b (given ∷ more) p n =
+    let o = outcome_of b given p in
+    after_new b more o.point (if is_new given.command && is_ok o.answer then o.point else n)
+
+-- From the point n, which p is or at which nothing had been taken back, no move was lost on the way to q: all moves and the last state are
+-- those of n. `redo` of everything gives them back: they are the history and the state, nothing is left to be made again, and breakpoints
+-- and watches stay as they are at q.
+pub record LosesNothing (b : Bounds) (p n q : Point) : Type 0 where
+  pub since : (n ≡ p) ⊎ (n.ahead ≡ [])
+  pub moves : all_moves q ≡ all_moves n
+  pub last : last_state q ≡ last_state n
+  pub redo : (count : ℕ) → length q.ahead ≤ count
+      → (does None b (command.Redo count) q).point ≡ record q { history = all_moves n; ahead = []; state = last_state n }
+
+-- Nothing is lost, whatever commands are given: from after the last accepted forward command or edit, or from the start where there is
+-- none. Going back, `redo`, what is refused, what only shows, and a change of breakpoints or watches lose no move. Where a list's memory
+-- is refused, a command that is refused for it loses none either, a forward command that ends by it made the moves before, and a `redo`
+-- that ends by it leaves the others to be made again.
+abbrev pub NothingIsLost : Type 0
+NothingIsLost = (b : Bounds) (commands : List Given) (p : Point)
+    → IsPlaced p → LosesNothing b p (after_new b commands p p) (after b commands p)
+
+-- At the point of each session, of which the proofs of its commands speak, moves lead to its state and on from it.
+module _ {K : Type 0} (holds : K → List Kept → Type 0) where
+  abbrev pub SessionsArePlaced : Type 0
+  SessionsArePlaced = (s : SessionValue K) (p : Point) → StandsAt holds s p → IsPlaced p
 
 -- Where the gaps of a script made no refusal more, and the count of refusals isn't at its last value, no gap did anything.
 abbrev pub NothingRefusedNothingMissing : Type 0

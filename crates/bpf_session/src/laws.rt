@@ -1,6 +1,6 @@
 //! Laws of the meaning of commands and of scripts. Each stands on a function without code, since it
 //! speaks of the definitions alone.
-ghost use Rattle.bpf_session.specs.Laws.{BreakpointsStop, CallsRunAsOne, CountsAreGoneBack, EachMoveIsKept, GoingBackGivesBack, NoAnswerIsOfMemory, NothingRefusedAllPrinted, NothingRefusedNothingMissing, RedoGivesAllBack, RefusalsAreInOrder, RefusedChangesNothing, ReplayIsTheSame, ShowsChangeNothing, TakesBackItsMoves, TheFirstReasonStops, TheLatestIsFound, UndoGoesToTheMark, WalksLoseNothing, WatchesStop};
+ghost use Rattle.bpf_session.specs.Laws.{BreakpointsStop, CallsRunAsOne, CountsAreGoneBack, EachMoveIsKept, GoingBackGivesBack, NoAnswerIsOfMemory, NothingIsLost, NothingRefusedAllPrinted, NothingRefusedNothingMissing, RefusalsAreInOrder, RefusedChangesNothing, ReplayIsTheSame, SessionsArePlaced, ShowsChangeNothing, TakesBackItsMoves, TheFirstReasonStops, TheLatestIsFound, UndoGoesToTheMark, WatchesStop};
 
 use bpf_journal::Keeper;
 
@@ -84,18 +84,18 @@ pub fn replay_is_the_same()
     ensures { ReplayIsTheSame }
 {}
 
-/// Commands that take moves back or make them again lose none: the history followed by what was
-/// taken back stays as it stood after the latest new move, and leads to the state as it stood then.
+/// Nothing is lost, whatever commands are given: after them the moves that are kept and those that
+/// were taken back are together the history as it stood after the last forward command or edit
+/// that was accepted, and lead to the state as it stood then. `redo` of everything gives both back.
 #[tactic(none)]
-pub fn walks_lose_nothing()
-    ensures { WalksLoseNothing }
+pub fn nothing_is_lost()
+    ensures { NothingIsLost }
 {}
 
-/// `redo` of all that was taken back gives the history and the state back as they stood after the
-/// latest new move.
+/// The moves of each session lead to its state and on from it, as the law `nothing_is_lost` asks.
 #[tactic(none)]
-pub fn redo_gives_all_back()
-    ensures { RedoGivesAllBack }
+pub fn sessions_are_placed<K: Keeper>()
+    ensures { SessionsArePlaced K.holds }
 {}
 
 /// `undo` gives back the state in front of the marked move that it counts to, whatever commands
