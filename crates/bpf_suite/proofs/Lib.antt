@@ -1,0 +1,4 @@
+pub mod Cuts
+pub mod Lists
+pub mod Tests
+pub mod Trimming

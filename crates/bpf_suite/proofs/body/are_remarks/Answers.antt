@@ -1,0 +1,12 @@
+use Rattle.std.proofs.Common.{◌==◌, rules, tests}
+use Rattle.std.proofs.lemmas.Iterator.Search.{all_from_yields_List}
+use Rattle.std.proofs.lemmas.Iterator.Splits.{YieldsList-from_slice_split}
+use Rattle.counted_io.specs.Lines.{trim_start}
+use Rattle.bpf_suite.specs.Bodies.{is_remark}
+use Rattle.bpf_suite.proofs.body.are_remarks.Goals as goal
+
+pub returns : goal.returns
+returns c =
+    all_from_yields_List (λ line. is_remark (trim_start line)) _ _ _ c.all.ensures.ran
+    (YieldsList-from_slice_split _ (λ b. b == 10) c.args.text.now c.split.ensures.rest c.split.ensures.done c.split.ensures.closure (λ x b q h. search (rules, tests)))
+    (λ x b q h. search (rules, tests))

@@ -1,0 +1,56 @@
+-- What stands in a section: a text, bytes, or a number. bpfdb's own choice.
+use Rattle.std.specs.Prelude.{ℕ, Bool, true, ◌==◌, ◌&&◌, ◌||◌, not, nat_le, nat_lt, if◌then◌else◌, List, [], ◌∷◌, length, drop, filter, Option, Some, None}
+use Rattle.std.specs.List.{list_all, position_or_len, slice_split}
+use Rattle.std.specs.Option.{option_and_then}
+use Rattle.std.specs.Result.{result_ok}
+use Rattle.hex.specs.Hex.{decode_of}
+use Rattle.bpfdb_limits.specs.Limits.{greatest_count}
+use Rattle.counted_io.specs.Lines.{is_blank, trim_start}
+use Rattle.counted_io.specs.Numerals.{natural, as_u64}
+
+-- A blank or a line feed.
+abbrev pub is_space : ℕ → Bool
+is_space b = is_blank b || b == 10
+
+-- Without the spaces at the end, and on both sides.
+abbrev pub onto_trimmed : ℕ → List ℕ → List ℕ
+onto_trimmed b [] = if is_space b then [] else b ∷ []
+onto_trimmed b (c ∷ s) = b ∷ c ∷ s
+
+abbrev pub trim_end : List ℕ → List ℕ
+trim_end [] = []
+trim_end (b ∷ s) = onto_trimmed b (trim_end s)
+
+abbrev pub trimmed : List ℕ → List ℕ
+trimmed s = trim_end (drop (position_or_len (λ b. not (is_space b)) s) s)
+
+-- A line that can be printed: no control byte stands in it.
+abbrev pub is_shown : ℕ → Bool
+is_shown b = nat_le 32 b && not (b == 127)
+
+abbrev pub is_line : List ℕ → Bool
+is_line s = list_all is_shown s
+
+-- A name: such a line, without a number sign (35), which would begin a remark.
+abbrev pub is_title : List ℕ → Bool
+is_title s = nat_lt 0 (length s) && list_all (λ b. is_shown b && not (b == 35)) s
+
+-- A line that says nothing: blank, or a remark, which begins with a number sign.
+abbrev pub is_remark : List ℕ → Bool
+is_remark [] = true
+is_remark (b ∷ s) = b == 35
+
+abbrev pub are_remarks : List ℕ → Bool
+are_remarks text = list_all (λ line. is_remark (trim_start line)) (slice_split (λ b. b == 10) text)
+
+-- Bytes: two hexadecimal digits each, with spaces anywhere.
+abbrev pub bytes_of : List ℕ → Option (List ℕ)
+bytes_of body = result_ok (decode_of (filter (λ b. not (is_space b)) body))
+
+-- A number below 2^64.
+abbrev pub number_of : List ℕ → Option ℕ
+number_of body = option_and_then as_u64 (natural (trimmed body))
+
+-- A limit of steps.
+abbrev pub limit_of : List ℕ → Option ℕ
+limit_of body = option_and_then (λ n. if nat_le 1 n && nat_le n greatest_count then Some n else None) (number_of body)

@@ -1,0 +1,5 @@
+pub mod Bodies
+pub mod Faults
+pub mod Files
+pub mod Kinds
+pub mod Tests

@@ -1,0 +1,140 @@
+//! What stands in a section: a text, bytes, or a number.
+ghost use Rattle.std.specs.Prelude.{◌≡◌, ◌≤◌, ◌==◌, ◌&&◌, IfOk, length, not, position};
+ghost use Rattle.std.specs.List.{filter, list_all, position_or_len};
+ghost use Rattle.std.specs.Option.{option_map};
+ghost use Rattle.bpf_suite.specs.Bodies.{are_remarks, bytes_of, is_line, is_remark, is_shown, is_space, is_title, limit_of, number_of, trim_end, trimmed};
+
+use bpfdb_limits::is_limit;
+use counted_io::{is_blank, natural, trim_start};
+use hex::{FromHexError, decode};
+use std::alloc::{AllocError, Global};
+
+/// Whether a byte is a blank or a line feed.
+fn is_space(byte: u8) -> bool
+    ensures { result ≡ is_space byte }
+{
+    is_blank(byte) || byte == b'\n'
+}
+
+/// Where the first byte stands that is no space.
+fn start_position(text: &[u8]) -> Option<usize>
+    ensures { result ≡ position (λ b. not (is_space b)) text.now }
+{
+    text.iter().position(|byte| !is_space(*byte))
+}
+
+/// Where the first byte stands that is no space, or the length.
+#[tactic(auto, using(counted_io::proofs::Places::unwrap_or_position))]
+fn find_start(text: &[u8]) -> usize
+    ensures value { result ≡ position_or_len (λ b. not (is_space b)) text.now }
+    ensures within { result ≤ length text.now }
+{
+    start_position(text).unwrap_or(text.len())
+}
+
+/// The text without the spaces at its end.
+fn trim_end(text: &[u8]) -> &[u8]
+    ensures { result.now ≡ trim_end text.now }
+{
+    let mut end = text.len();
+    while end > 0 && is_space(text[end - 1]) {
+        end -= 1;
+    }
+    &text[..end]
+}
+
+/// The text without the spaces on both sides.
+pub fn trimmed(text: &[u8]) -> &[u8]
+    ensures { result.now ≡ trimmed text.now }
+{
+    let start = find_start(text);
+    trim_end(&text[start..])
+}
+
+/// Whether a byte can be printed in a line.
+fn is_shown(byte: u8) -> bool
+    ensures { result ≡ is_shown byte }
+{
+    32 <= byte && byte != 127
+}
+
+/// Whether a text is a line that can be printed.
+pub fn is_line(text: &[u8]) -> bool
+    ensures { result ≡ is_line text.now }
+{
+    text.iter().all(|byte| is_shown(*byte))
+}
+
+/// Whether a text is a name.
+pub fn is_title(text: &[u8]) -> bool
+    ensures { result ≡ is_title text.now }
+{
+    !text.is_empty() && are_title_bytes(text)
+}
+
+fn are_title_bytes(text: &[u8]) -> bool
+    ensures { result ≡ list_all (λ b. is_shown b && not (b == 35)) text.now }
+{
+    text.iter().all(|byte| is_title_byte(*byte))
+}
+
+fn is_title_byte(byte: u8) -> bool
+    ensures { result ≡ (is_shown byte && not (byte == 35)) }
+{
+    is_shown(byte) && byte != b'#'
+}
+
+/// Whether a line without the blanks in front says nothing.
+fn is_remark(line: &[u8]) -> bool
+    ensures { result ≡ is_remark line.now }
+{
+    match line {
+        [] => true,
+        [first, ..] => *first == b'#',
+    }
+}
+
+/// Whether the lines of a text say nothing.
+pub fn are_remarks(text: &[u8]) -> bool
+    ensures { result ≡ are_remarks text.now }
+{
+    text.split(|byte| *byte == b'\n')
+        .all(|line| is_remark(trim_start(line)))
+}
+
+/// The bytes that a body is, None where it is none.
+pub fn bytes_of(alloc: Global, body: &[u8]) -> Result<Option<Vec<u8>>, AllocError>
+    ensures { IfOk result (λ bytes. option_map (λ v. v.items) bytes ≡ bytes_of body.now) }
+{
+    let digits = digits_of(alloc, body)?;
+    match decode(alloc, digits.as_slice()) {
+        Ok(bytes) => Ok(Some(bytes)),
+        Err(FromHexError::OutOfMemory) => Err(AllocError),
+        Err(_) => Ok(None),
+    }
+}
+
+/// A body without its spaces.
+fn digits_of(alloc: Global, body: &[u8]) -> Result<Vec<u8>, AllocError>
+    ensures { IfOk result (λ digits. digits.items ≡ filter (λ b. not (is_space b)) body.now) }
+{
+    body.iter()
+        .copied()
+        .filter(|byte| !is_space(*byte))
+        .collect(alloc)
+}
+
+/// The number that a body is, None where it is none below 2^64.
+pub fn number_of(body: &[u8]) -> Option<u64>
+    ensures { result ≡ number_of body.now }
+{
+    natural(trimmed(body))?.to_u64()
+}
+
+/// The limit of steps that a body is.
+pub fn limit_of(body: &[u8]) -> Option<u64>
+    ensures { result ≡ limit_of body.now }
+{
+    let limit = number_of(body)?;
+    if is_limit(limit) { Some(limit) } else { None }
+}

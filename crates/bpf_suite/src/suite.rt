@@ -1,0 +1,211 @@
+//! A test file without a fault.
+ghost use Rattle.std.specs.Prelude.{◌≡◌, ◌≤◌, ◌<◌, ◌++◌, List, None, IfErr, IfOk, count_by, get_or, is_some, length, slice_range, []};
+ghost use Rattle.bpf_suite.specs.Bodies.{bytes_of};
+ghost use Rattle.bpf_suite.specs.Faults.{IsFaultOf, alone_fault, fault_at, file_fault, first_fault, is_well_formed, same_test, section_fault, sections_fault};
+ghost use Rattle.bpf_suite.specs.Files.{begins_name, sections, tests, until_name};
+ghost use Rattle.bpf_suite.specs.Kinds.{is_name};
+ghost use Rattle.bpf_suite.specs.declared.section.Section.{Section};
+
+use crate::body::{are_remarks, bytes_of, is_line, is_title, limit_of, number_of, trimmed};
+use crate::fault::{FileFault, SectionFault};
+use crate::kind::{Kind, Part};
+use crate::section::{Section, front, sections, until_name};
+use crate::test::{Test, has_part};
+use std::alloc::{AllocError, Global};
+use std::marker::Model;
+
+/// A test file without a fault. Contracts see its sections.
+#[derive(Drop)]
+pub struct Suite<'a> {
+    pub(crate) sections: Vec<Section<'a>>,
+}
+
+impl<'a> Model for Suite<'a> {
+    ghost use Rattle.std.specs.Prelude.{List};
+    ghost use Rattle.bpf_suite.specs.declared.section.Section.{Section};
+
+    ghost Value = { List Section };
+
+    ghost view = { λ s. s.sections.items };
+}
+
+impl<'a> Suite<'a> {
+    /// Reads a test file. Its first fault where it has one: nothing of it is run then.
+    pub fn read(alloc: Global, text: &'a [u8]) -> Result<Suite<'a>, FileFault>
+        ensures ok { IfOk result (λ suite. (suite ≡ sections text.now)
+            × (file_fault text.now ≡ None)) }
+        ensures err { IfErr result (IsFaultOf text.now) }
+    {
+        if !are_remarks(front(text)) {
+            return Err(FileFault::Line(SectionFault::Stray, 1));
+        }
+        let sections = match sections(alloc, text) {
+            Ok(sections) => sections,
+            Err(_) => return Err(FileFault::Memory),
+        };
+        match sections_fault(alloc, sections.as_slice()) {
+            Ok(None) => Ok(Suite { sections }),
+            Ok(Some(fault)) => Err(fault),
+            Err(_) => Err(FileFault::Memory),
+        }
+    }
+
+    /// How many tests it has.
+    pub fn len(&self) -> usize
+        ensures { result ≡ length (tests self.now) }
+    {
+        let names = name_count(self.sections.as_slice());
+        if names == 0 { 1 } else { names }
+    }
+}
+
+/// How many sections are names.
+fn name_count(sections: &[Section<'_>]) -> usize
+    ensures { result ≡ count_by (λ section. is_name section.kind) sections.now }
+{
+    sections
+        .iter()
+        .filter(|section| section.kind.is(Part::Title))
+        .count()
+}
+
+/// The first fault of sections.
+fn sections_fault(alloc: Global, sections: &[Section<'_>]) -> Result<Option<FileFault>, AllocError>
+    ensures { IfOk result (λ fault. fault ≡ sections_fault sections.now) }
+{
+    match first_fault(alloc, sections)? {
+        Some(fault) => Ok(Some(fault)),
+        None => Ok(alone_fault(sections)),
+    }
+}
+
+/// The fault of a file without names, which is one test.
+fn alone_fault(sections: &[Section<'_>]) -> Option<FileFault>
+    ensures { result ≡ alone_fault sections.now }
+{
+    if has_part(sections, Part::Title) {
+        return None;
+    }
+    let test = Test {
+        own: &[],
+        shared: sections,
+    };
+    match test.lack() {
+        Some(fault) => Some(FileFault::Line(fault, test.first_line())),
+        None => None,
+    }
+}
+
+/// The first fault of a section.
+fn first_fault(alloc: Global, sections: &[Section<'_>]) -> Result<Option<FileFault>, AllocError>
+    ensures { IfOk result (λ fault. fault ≡ first_fault (until_name sections.now) [] sections.now) }
+{
+    let shared = until_name(sections);
+    let mut start = 0;
+    for at in 0..sections.len() {
+        start = test_start(sections, start, at);
+        match fault_at(alloc, shared, &sections[start..at], &sections[at..])? {
+            Some(fault) => return Ok(Some(fault)),
+            None => {}
+        }
+    }
+    Ok(None)
+}
+
+/// Where the test begins in which a section stands, if that before it began there.
+fn test_start(sections: &[Section<'_>], start: usize, at: usize) -> usize
+    requires start { start ≤ at }
+    requires at { at < length sections.now }
+    ensures within { result ≤ at }
+    ensures value { (d : Section) → slice_range sections.now result at
+        ≡ same_test (slice_range sections.now start at) (get_or sections.now at d) }
+{
+    if begins_name(&sections[at..]) {
+        at
+    } else {
+        start
+    }
+}
+
+/// Whether the first section is a name.
+fn begins_name(sections: &[Section<'_>]) -> bool
+    ensures { result ≡ begins_name sections.now }
+{
+    match sections {
+        [section, ..] => section.kind.is(Part::Title),
+        [] => false,
+    }
+}
+
+/// What is wrong with the first of these sections, where those stand before it in its test.
+fn fault_at(
+    alloc: Global,
+    shared: &[Section<'_>],
+    earlier: &[Section<'_>],
+    sections: &[Section<'_>],
+) -> Result<Option<FileFault>, AllocError>
+    ensures { IfOk result (λ fault. fault ≡ fault_at shared.now earlier.now sections.now) }
+{
+    match sections {
+        [section, more @ ..] => match section_fault(alloc, shared, earlier, section, more)? {
+            Some(fault) => Ok(Some(FileFault::Line(fault, section.line))),
+            None => Ok(None),
+        },
+        [] => Ok(None),
+    }
+}
+
+/// What is wrong with a section, where these stand before it in its test, and these behind it.
+fn section_fault(
+    alloc: Global,
+    shared: &[Section<'_>],
+    earlier: &[Section<'_>],
+    section: &Section<'_>,
+    more: &[Section<'_>],
+) -> Result<Option<SectionFault>, AllocError>
+    ensures { IfOk result (λ fault.
+        fault ≡ section_fault shared.now earlier.now section.now more.now) }
+{
+    if section.kind.is(Part::Nothing) {
+        return Ok(Some(SectionFault::Unknown));
+    }
+    if has_part(earlier, section.kind.part()) {
+        return Ok(Some(SectionFault::Twice));
+    }
+    if !is_well_formed(alloc, section.kind, section.body.bytes)? {
+        return Ok(Some(SectionFault::Malformed));
+    }
+    if section.kind.is(Part::Title) {
+        let test = Test {
+            own: until_name(more),
+            shared,
+        };
+        return Ok(test.lack());
+    }
+    Ok(None)
+}
+
+/// Whether a body is what the section's kind takes.
+fn is_well_formed(alloc: Global, kind: Kind, body: &[u8]) -> Result<bool, AllocError>
+    ensures { IfOk result (λ well. well ≡ is_well_formed kind body.now) }
+{
+    match kind {
+        Kind::Name => Ok(is_title(trimmed(body))),
+        Kind::Words | Kind::Mem => are_bytes(alloc, body),
+        Kind::Steps => Ok(limit_of(body).is_some()),
+        Kind::Result => Ok(number_of(body).is_some()),
+        Kind::Maps | Kind::Fault | Kind::Limit | Kind::Refused => Ok(is_line(trimmed(body))),
+        Kind::Listing | Kind::Unknown => Ok(true),
+    }
+}
+
+/// Whether a body is bytes.
+fn are_bytes(alloc: Global, body: &[u8]) -> Result<bool, AllocError>
+    ensures { IfOk result (λ are. are ≡ is_some (bytes_of body.now)) }
+{
+    match bytes_of(alloc, body) {
+        Ok(Some(_)) => Ok(true),
+        Ok(None) => Ok(false),
+        Err(_) => Err(AllocError),
+    }
+}
