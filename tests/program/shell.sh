@@ -1,4 +1,4 @@
-# bpfdb-shell: what gdb's habits become (tables/shell.txt), each at a terminal in a session of its own, what it is without a terminal, objects and
+# bpfdb-shell: what gdb's habits become (tables/shell.txt, and for C shell-c.txt), each at a terminal in a session of its own, what it is without a terminal, objects and
 # listings that it takes by themselves, colours, completion, and a machine without python3. Where there is no python3 only the last is tested.
 
 shell=$top/share/bpfdb-shell
@@ -15,10 +15,12 @@ shown() {
     sed 's/(bpfdb) //g' "$1" | grep -v '^$'
 }
 
-# habit BEFORE TYPED LINES: what is typed after other lines prints these lines, a slash between two.
+# habit BEFORE TYPED LINES: what is typed after other lines, in a session of the words $opened, prints these lines, a slash between two.
 habit() {
     { echo "$1" | sed 's/; /\n/g' | grep .; echo '?'; echo "$2"; } > script
-    HOME=$PWD NO_COLOR=1 ./terminal script "$shell" -m context sum.s > found/all 2>&1
+    # (these words have no blanks)
+    # shellcheck disable=SC2086
+    HOME=$PWD NO_COLOR=1 ./terminal script "$shell" $opened > found/all 2>&1
     shown found/all | awk 'inside; $0 == "refused Q1: unknown command" { inside = 1 }' > found/out
     echo "$3" | sed 's| / |\n|g' > wanted/out
     count=$((count + 1))
@@ -37,12 +39,19 @@ plainly() {
     check "bpfdb-shell without a terminal: $name" "$status" "$output" "$errors"
 }
 
-if command -v python3 > /dev/null; then
-    grep -v '^#' "$parts/tables/shell.txt" > rows
+# habits TABLE WORD..: each row of a table, in sessions of these words.
+habits() {
+    grep -v '^#' "$parts/tables/$1" > rows
+    shift
+    opened="$*"
     while IFS= read -r line; do
         before=${line%%|*} rest=${line#*| }
         habit "${before% }" "${rest%% | *}" "${rest#* | }"
     done < rows
+}
+
+if command -v python3 > /dev/null; then
+    habits shell.txt -m context sum.s
 
     # Without a terminal there are the replies alone, as bpfdb has them; refusals are those of bpfdb; an empty line repeats.
     plainly 'short names, comments and empty lines' 0 'si # a step\n\n# nothing\n   \nrs\nfrob\nset reg r10 1\nx 0x100000000 2' \
@@ -74,6 +83,10 @@ if command -v python3 > /dev/null; then
 
     # An object is linked, with its maps; one that is refused ends it.
     python3 -c 'import sys; sys.stdout.buffer.write(bytes.fromhex(sys.stdin.read()))' < "$top/examples/overrun/object.hex" > overrun.o
+    cp "$top/examples/overrun/overrun.c" .
+    if command -v addr2line > /dev/null; then
+        habits shell-c.txt -m "$top/examples/overrun/context.bin" overrun.o
+    fi
     plainly 'an object' 0 'c\n' '105 forward; end; fault access 0x10077656d at 25\n' '' -m "$top/examples/overrun/context.bin" overrun.o
     plainly 'an object, and a section that it has' 0 'c\n' '105 forward; end; fault access 0x10077656d at 25\n' '' \
         --section filter -m "$top/examples/overrun/context.bin" overrun.o
@@ -81,7 +94,8 @@ if command -v python3 > /dev/null; then
 
     # At a terminal of both sides: colours unless NO_COLOR is set, and completion of words.
     cat > both.py <<'PYTHON'
-import os, pty, select, sys
+import os, pty, select, signal, sys
+signal.alarm(60)
 child, side = pty.fork()
 if child == 0:
     os.execv(sys.argv[1], sys.argv[1:])
