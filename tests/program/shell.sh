@@ -51,6 +51,8 @@ habits() {
 }
 
 if command -v python3 > /dev/null; then
+    # (python3 itself, where the one on the PATH is a script that looks for it)
+    PATH=$(dirname "$(python3 -c 'import sys; print(sys.executable)')"):$PATH
     habits shell.txt -m context sum.s
 
     # Without a terminal there are the replies alone, as bpfdb has them; refusals are those of bpfdb; an empty line repeats.
