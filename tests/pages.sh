@@ -1,5 +1,5 @@
 #!/bin/sh
-# What README.md and docs/ say of the repository, held against it: the tables made from the files, the files, functions,
+# What README.md and docs/ say of the repository, held against it: the tables made from the files, the files, headings, functions,
 # clauses and definitions that a page names, the sessions that README and examples/README.md show, the C of docs/GDB.md, the commands and refusals of
 # the manual and its man page, the commands and options of help, the wrong bodies of must-fail/, and the toolchain
 # that README and `bpfdb --version` name.
@@ -44,6 +44,27 @@ names_of_files() {
                 END { exit !found }
             ' "$work/files" || fault "$page names $name, and no file is called so"
         done
+    done
+}
+
+# slugs PAGE: the name by which a link finds each heading of a page.
+slugs() {
+    awk '/^```/ { code = !code } !code && /^#+ / { sub(/^#+ /, ""); print tolower($0) }' "$1" | sed 's/[^a-z0-9_ -]//g; s/ /-/g'
+}
+
+# links: each link to a page or a heading of the repository leads to one.
+links() {
+    for page in README.md CHANGELOG.md docs/*.md examples/*.md; do
+        awk '/^```/ { code = !code } !code' "$page" | grep -o '](\([^)]*\))' | sed 's/^](//; s/)$//' | grep -v '^https\{0,1\}:' | sort -u |
+            while IFS='#' read -r file heading; do
+                target=$page
+                [ -z "$file" ] || target=$(dirname "$page")/$file
+                if [ ! -e "$target" ]; then
+                    fault "$page links to $file, which is no file"
+                elif [ -n "$heading" ]; then
+                    slugs "$target" | grep -q -x -e "$heading" || fault "$page links to '$heading' of $target, which has no such heading"
+                fi
+            done
     done
 }
 
@@ -294,6 +315,7 @@ edits() {
 
 sh docs/tables.sh --check || fault 'tables of files'
 names_of_files
+links
 contracts
 definitions
 session
