@@ -233,21 +233,24 @@ options() {
 
 # refusals: each number and text of the crates' refusals is a row of docs/COMMANDS.md, and no other is. Of variants of one number the first counts.
 refusals() {
-    cat crates/bpf_*/src/fault.rt crates/bpfdb_commands/src/refusal.rt | awk '
+    cat crates/bpf_*/src/fault.rt crates/bpfdb_commands/src/refusal.rt | awk -v tested="$(grep -c '^| T1 ' docs/COMMANDS.md)" '
         BEGIN {
             letter["LoadFault"] = letter["PieceFault"] = letter["WordFault"] = "C"
             letter["LineFault"] = letter["AsmFault"] = "A"
             letter["MapFault"] = "M"; letter["LinkFault"] = "E"; letter["OpenFault"] = "O"; letter["JournalFault"] = "J"; letter["Refusal"] = "Q"
+            # (those of test files count from when the page has them)
+            if (tested) letter["SectionFault"] = "T"
         }
         { gsub(/\(_\)/, ""); gsub(/ \| [A-Za-z]+::[A-Za-z]+/, "") }
         match($0, /[A-Za-z]+::[A-Za-z]+ => ([0-9]+|"[^"]*"),$/) {
             split(substr($0, RSTART, RLENGTH - 1), parts, / => /)
             split(parts[1], name, "::")
+            if (!(name[1] in letter)) next
             if (parts[2] ~ /^"/) print letter[name[1]] number[parts[1]], substr(parts[2], 2, length(parts[2]) - 2)
             else number[parts[1]] = parts[2]
         }
     ' | sort -u > "$work/numbers"
-    sed -n 's/^| \([CAMEOJQ][0-9]*\) | \([^|]*\) |.*/\1 \2/p' docs/COMMANDS.md | sort > "$work/rows"
+    sed -n 's/^| \([CAMEOJQT][0-9]*\) | \([^|]*\) |.*/\1 \2/p' docs/COMMANDS.md | sort > "$work/rows"
     diff "$work/numbers" "$work/rows" > "$work/diff" && [ -s "$work/numbers" ] && return
     fault "docs/COMMANDS.md has other refusals ('>') than the crates ('<'):"
     cat "$work/diff"
