@@ -50,6 +50,14 @@ sed -n 's/^syntax keyword bpfdbMnemonic //p' "$top/share/editors/bpfdb.vim" | tr
 same 'Vim: the mnemonics' wanted/words found/words
 sed -n 's/.*keyword.mnemonic.*b(\(add[^)]*\)).*/\1/p' "$top/share/editors/bpfdb.tmLanguage.json" | tr '|' '\n' | sort -u > found/words
 same 'TextMate: the mnemonics' wanted/words found/words
+if command -v python3 > /dev/null; then
+    for name in bpfdb.tmLanguage.json package.json; do
+        python3 -m json.tool "$top/share/editors/$name" > /dev/null 2> found/err
+        echo $? > found/status
+        : > found/out
+        check "VS Code: $name is JSON" 0 '' ''
+    done
+fi
 if command -v vim > /dev/null; then
     printf 'loop: add r0, -1 ; loop\n' > one.listing
     cat > show.vim <<'VIM'

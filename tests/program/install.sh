@@ -18,6 +18,7 @@ else
 644 share/bpfdb/bpfdb-gdb.py
 644 share/bpfdb/bpfdb.tmLanguage.json
 644 share/bpfdb/bpfdb.vim
+644 share/bpfdb/package.json
 644 share/doc/bpfdb/CHANGELOG.md
 644 share/doc/bpfdb/COMMANDS.md
 644 share/doc/bpfdb/GDB.md

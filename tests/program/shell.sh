@@ -94,6 +94,31 @@ if command -v python3 > /dev/null; then
         --section filter -m "$top/examples/overrun/context.bin" overrun.o
     plainly 'an object, and a section that it lacks' 2 'c\n' '' 'refused E8: no such code section\n' --section nothing overrun.o
 
+    # Its words go where they belong, to link or to debug, and link's maps to debug.
+    cat > noted <<'SCRIPT'
+#!/bin/sh
+echo "$*" | sed 's|/dev/fd/[0-9]*|LINKED|' >> called
+case $1 in
+link) printf '\225\0\0\0\0\0\0\0' && printf -- '--maps 8x2 counters\nanswered 1 calls of helpers\n' >&2 ;;
+*) exec "$REAL" ;;
+esac
+SCRIPT
+    chmod 755 noted
+    for row in \
+        '-m context overrun.o|link -- overrun.o|debug -m context --maps 8x2 -- LINKED' \
+        '--section filter overrun.o --steps 9|link --section filter -- overrun.o|debug --steps 9 --maps 8x2 -- LINKED' \
+        '--entry=entry --stub 5=0 --stub=7=1 --maps=1x1 overrun.o|link --entry=entry --stub 5=0 --stub=7=1 -- overrun.o|debug --maps=1x1 -- LINKED' \
+        '--journal=1024 sum.s|debug --journal=1024 --listing -- sum.s' \
+        '--listing -m context -- sum.s|debug --listing -m context -- sum.s' \
+        '--entry entry context|debug --entry entry -- context'; do
+        : > called
+        # (the words have no blanks)
+        # shellcheck disable=SC2086
+        BPFDB=$PWD/noted REAL=$program "$shell" ${row%%|*} < /dev/null > found/out 2> found/err
+        echo "${row#*|}" | tr '|' '\n' > wanted/called
+        same "bpfdb-shell ${row%%|*}: what it calls" wanted/called called
+    done
+
     # At a terminal of both sides: colours unless NO_COLOR is set, and completion of words.
     cat > both.py <<'PYTHON'
 import os, pty, select, signal, sys
