@@ -8,6 +8,7 @@ sed -n '/^#   1 ;/,/^# going/p' "$parts/tables/shell.txt" | sed '/^# going/d; s/
 printf '\001\002' > context
 printf 'si # a step\n\n# nothing\n' > commands
 sed -i '2s/.*/i h/' commands
+echo 'source itself' > itself
 compile terminal
 
 # shown FILE: what a terminal shows of a session, without prompts and empty lines.
