@@ -84,6 +84,17 @@ if command -v python3 > /dev/null; then
     same 'bpfdb-shell: each other name is its command' found/names-1 found/names-2
     [ "$(wc -l < names)" -ge 25 ] || complain 'bpfdb-shell --help lists no other names'
 
+    # At a terminal a refusal of the program has the line of its slot, or says that FILE looks like a listing.
+    printf 'mov r0, 0\nja end ; too far\nexit\nend:\n' > far.s
+    printf 'mov r0, 0\nexit\n' > plain.txt
+    : > script
+    for row in 'far.s|refused C8 at slot 1: target is no instruction|far.s:2: ja end' \
+        'plain.txt|refused C3: length is no multiple of 8|plain.txt looks like a listing: --listing' 'context|refused C3: length is no multiple of 8'; do
+        HOME=$PWD ./terminal script "$shell" "${row%%|*}" > found/out 2> found/err
+        echo $? > found/status
+        check "bpfdb-shell ${row%%|*} at a terminal" 2 '' "$(echo "${row#*|}" | sed 's/|/\\n/g')\n"
+    done
+
     # An object is linked, with its maps; one that is refused ends it.
     python3 -c 'import sys; sys.stdout.buffer.write(bytes.fromhex(sys.stdin.read()))' < "$top/examples/overrun/object.hex" > overrun.o
     cp "$top/examples/overrun/overrun.c" .
