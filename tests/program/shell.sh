@@ -73,6 +73,14 @@ if command -v python3 > /dev/null; then
         check 'bpfdb-shell: a full output' 2 '' 'cannot write output\n'
     fi
 
+    "$shell" < . > found/out 2> found/err
+    echo $? > found/status
+    check "bpfdb-shell: input that can't be read" 2 '' 'cannot read input\n'
+    printf 'p $none\nsi\n' | "$shell" > found/out 2>&-
+    echo $? > found/status
+    : > found/err
+    check 'bpfdb-shell: a closed standard error' 0 '1 forward; done; at 1: exit\n' ''
+
     # Each other name that help lists does what its command does.
     "$shell" --help | grep -o -E '[a-z-]+( [a-z]+)? \([a-z, -]+\)' |
         awk -F ' *[(]' '{ n = split($2, names, /[,) ]+/); for (i = 1; i < n; i++) print $1 "|" names[i] }' > names
