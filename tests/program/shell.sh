@@ -73,7 +73,7 @@ if command -v python3 > /dev/null; then
         check 'bpfdb-shell: a full output' 2 '' 'cannot write output\n'
     fi
 
-    "$shell" < . > found/out 2> found/err
+    "$shell" 0> other > found/out 2> found/err
     echo $? > found/status
     check "bpfdb-shell: input that can't be read" 2 '' 'cannot read input\n'
     printf 'p $none\nsi\n' | "$shell" > found/out 2>&-
