@@ -42,7 +42,8 @@ options() {
     ' docs/COMMANDS.md
 }
 
-# of_jobs: '    JOB) WORDS' lines: for each subcommand the options that it has, as bash takes them.
+# of_jobs: '    JOB) WORDS' lines: for each subcommand, and for bpfdb-shell (which has those of debug and of link), the options that it has, as
+# bash takes them.
 of_jobs() {
     awk -F '\t' '
         NR == FNR { order[++count] = $1; next }
@@ -50,8 +51,12 @@ of_jobs() {
             names = ($2 == "" ? "" : " -" $2) " --" $1
             n = split($5, jobs, ", ")
             for (i = 1; i <= n; i++) has[jobs[i]] = has[jobs[i]] names
+            if ($5 ~ /debug|link/) has["shell"] = has["shell"] names
         }
-        END { for (i = 1; i <= count; i++) printf "    %s) words=\"%s\" ;;\n", order[i], substr(has[order[i]] has["each"], 2) }
+        END {
+            order[++count] = "shell"
+            for (i = 1; i <= count; i++) printf "    %s) words=\"%s\" ;;\n", order[i], substr(has[order[i]] has["each"], 2)
+        }
     ' "$work/jobs" "$work/options"
 }
 
@@ -61,7 +66,7 @@ bash() {
 # Completion of bpfdb and bpfdb-shell for bash, made by docs/editors.sh.
 _bpfdb() {
     local word=${COMP_WORDS[COMP_CWORD]} job=${COMP_WORDS[1]} first=1 words
-    [ "${COMP_WORDS[0]##*/}" = bpfdb ] || { job=debug first=0; }
+    [ "${COMP_WORDS[0]##*/}" = bpfdb ] || { job=shell first=0; }
     COMPREPLY=()
     case ${COMP_WORDS[COMP_CWORD - 1]} in
 TEXT
@@ -106,8 +111,9 @@ TEXT
             one = $2 == "" ? "\"--" $1 ($3 == "" ? "" : "=") spec "\"" : "\"(-" $2 " --" $1 ")\"{-" $2 ",--" $1 "}\"" spec "\""
             n = split($5, jobs, ", ")
             for (i = 1; i <= n; i++) has[jobs[i]] = has[jobs[i]] " " one
+            if ($5 ~ /debug|link/) has["shell"] = has["shell"] " " one
         }
-        END { for (i = 1; i <= count; i++) printf "    %s) _arguments%s%s \"*:file:_files\" ;;\n", order[i], has[order[i]], has["each"] }
+        END { order[++count] = "shell"; for (i = 1; i <= count; i++) printf "    %s) _arguments%s%s \"*:file:_files\" ;;\n", order[i], has[order[i]], has["each"] }
     ' "$work/jobs" "$work/options"
     cat << 'TEXT'
     help) _bpfdb_jobs ;;
@@ -125,7 +131,7 @@ TEXT
 }
 _bpfdb() {
     if [[ $service == bpfdb-shell ]]; then
-        _bpfdb_options debug
+        _bpfdb_options shell
     elif (( CURRENT == 2 )); then
         _bpfdb_jobs
     else
@@ -153,7 +159,7 @@ fish() {
             gsub(/,/, "", jobs)
             where = jobs == "each" ? "" : jobs == "bpfdb alone" ? " -n __fish_use_subcommand" : " -n \"__fish_seen_subcommand_from " jobs "\""
             printf "complete -c bpfdb%s%s%s -d \"%s\"\n", where, names, takes, $4
-            if ((" " jobs " ") ~ / debug | each /) printf "complete -c bpfdb-shell%s%s -d \"%s\"\n", names, takes, $4
+            if (jobs ~ /debug|link|each/) printf "complete -c bpfdb-shell%s%s -d \"%s\"\n", names, takes, $4
         }
     ' "$work/jobs" "$work/options"
 }

@@ -1,7 +1,7 @@
 # Completion of bpfdb and bpfdb-shell for bash, made by docs/editors.sh.
 _bpfdb() {
     local word=${COMP_WORDS[COMP_CWORD]} job=${COMP_WORDS[1]} first=1 words
-    [ "${COMP_WORDS[0]##*/}" = bpfdb ] || { job=debug first=0; }
+    [ "${COMP_WORDS[0]##*/}" = bpfdb ] || { job=shell first=0; }
     COMPREPLY=()
     case ${COMP_WORDS[COMP_CWORD - 1]} in
     -m | --mem) mapfile -t COMPREPLY < <(compgen -f -- "$word"); return ;;
@@ -23,6 +23,7 @@ _bpfdb() {
     check) words="--maps --listing -h --help" ;;
     link) words="--section -h --help" ;;
     gdb) words="-m --mem --maps --journal --steps --listing --registers -h --help" ;;
+    shell) words="-m --mem --maps --journal --steps --listing --section -h --help" ;;
     help) words="run debug asm disasm check link gdb" ;;
     *) return ;;
     esac

@@ -19,6 +19,7 @@ complete -c bpfdb -n "__fish_seen_subcommand_from run debug disasm check gdb" -l
 complete -c bpfdb-shell -l listing -d "FILE is a listing"
 complete -c bpfdb -n "__fish_seen_subcommand_from gdb" -l registers -x -a "x86 riscv bpf" -d "The machine that gdb takes bpfdb for"
 complete -c bpfdb -n "__fish_seen_subcommand_from link" -l section -x -d "The code section to link"
+complete -c bpfdb-shell -l section -x -d "The code section to link"
 complete -c bpfdb -s h -l help -d "Writes help to standard output"
 complete -c bpfdb-shell -s h -l help -d "Writes help to standard output"
 complete -c bpfdb -n __fish_use_subcommand -s V -l version -d "Writes the version"

@@ -29,6 +29,8 @@ if command -v bash > /dev/null; then
     completed 'program.bin\n' bpfdb check prog
     completed 'link\n' bpfdb help l
     completed '--journal\n' bpfdb-shell --j
+    completed '--section\n' bpfdb-shell --sec
+    completed '\n' bpfdb-shell --reg
     completed 'program.bin\n' bpfdb-shell prog
 fi
 if command -v fish > /dev/null; then
