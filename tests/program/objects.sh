@@ -1,6 +1,6 @@
 # link: objects that clang made, the words that come of them, and what is refused. The objects stand in crates/bpf_link_tests.
 
-for name in calls maps arrays text two extern data; do
+for name in calls maps arrays text two extern data point; do
     object $name
 done
 
@@ -68,7 +68,6 @@ refused 'refused E8: no such code section' link --section frob calls.o
 refused 'refused E8: no such code section' link --section text calls.o
 refused 'refused E9: more than one code section' link two.o
 refused 'refused E19 at slot 1: symbol is not defined in the object' link extern.o
-refused 'refused E23 at slot 0: reference to data that is no map' link data.o
 long_name=$(printf '%0255d' 0)
 refused 'refused E8: no such code section' link --section "$long_name" calls.o
 refused 'refused E7: section name longer than 255 bytes' link --section "${long_name}0" calls.o
@@ -106,15 +105,29 @@ row 'bpfdb link deep.o' 0 "$script_unread" "$text" '--maps 8x1\n' link deep.o
 result '0x1\n' run $(cat told) deep
 refused 'refused C12 at slot 2: no such map or offset' check deep
 
+# check_told LINE: that is what `link` left in the file `told`.
+check_told() {
+    count=$((count + 1))
+    [ "$(cat told)" = "$1" ] || complain "what is told of maps: $1"
+}
+
+# Data that aren't zeros at the start: the program stores them before its entry, which is slot 1, and needs no option but `--maps`. (In point.o the second
+# variable is the address of the last of three numbers, which is 3.)
+"$program" link data.o > data 2> told
+check_told '--maps 8x1'
+result '0x3\n' run $(cat told) data
+"$program" link point.o > point 2> told
+check_told '--maps 8x5'
+result 'ok 22 instructions in 29 slots\n' check $(cat told) point
+printf 'context' > context
+result '0x3\n' run $(cat told) -m context point
+result '0x3\n' run $(cat told) point
+
 # deep.o has the size of its data at 792, and what the load adds to their address at 68: the map's shape, where the size is at a limit of it, and the place.
 sized() {
     { head -c 792 deep.o; printf "$2"; tail -c +797 deep.o; } > sized.o
     "$program" link sized.o > sized 2> told
     check_told "$1"
-}
-check_told() {
-    count=$((count + 1))
-    [ "$(cat told)" = "$1" ] || complain "data of a size: $1"
 }
 sized '--maps 8x1' '\007\000\000\000'
 sized '--maps 8x2' '\010\000\000\000'
@@ -264,7 +277,7 @@ C
         printf "\\$key\\000\\000\\000" > context
         result "$([ $key = 001 ] && echo 0x3 || echo 0x2)\n" run $(cat told) -m context keys
     done
-    # Data that are zeros at the start are a map after the object's own, and constants are none.
+    # Data are maps after the object's own.
     echo 'static int count; __attribute__((section("prog"))) int entry(void) { return ++count; }' > zeros.c
     echo 'static const char names[] = "bpfdb"; __attribute__((section("prog"))) int entry(const void *at, unsigned long size) { return names[size & 3]; }' > constants.c
     clang -O1 -target bpf -c -o zeros.o zeros.c
@@ -291,9 +304,49 @@ C
         check_told '--maps 8x2,8x7'
         result '0x1d58\n' run $(cat told) -m context both
     done
-    # (slot 1, since slot 0 is `and r2, 3`)
     clang -O1 -target bpf -c -o constants.o constants.c
-    refused 'refused E23 at slot 1: reference to data that is no map' link constants.o
+    "$program" link constants.o > constants 2> told
+    printf 'abc' > context
+    result '0x64\n' run $(cat told) -m context constants
+    # An address of a function is none of data, in code and in data.
+    printf '%s\n' 'static __attribute__((noinline)) long f(long n) { return n + 1; }' \
+        '__attribute__((section("prog"))) long entry(void *at, unsigned long size) { long (*volatile call)(long) = f; return call(size); }' > address.c
+    printf '%s\n' 'static __attribute__((noinline)) long f(long n) { return n + 1; }' 'static long (*volatile call)(long) = f;' \
+        '__attribute__((section("prog"))) long entry(void *at, unsigned long size) { return call(size); }' > table.c
+    clang -O2 -target bpf -c -o address.o address.c
+    clang -O2 -target bpf -c -o table.o table.c
+    refused 'refused E23 at slot 0: reference to data that is no map' link address.o
+    refused 'refused E29: address in data of what is no data' link table.o
+    # Sixteen sections of data, one for each variable, and a seventeenth.
+    for most in 16 17; do
+        {
+            for i in $(seq "$most"); do echo "static volatile long v$i = $i;"; done
+            echo '__attribute__((section("prog"))) long entry(void) { return 0'
+            for i in $(seq "$most"); do echo " + v$i"; done
+            echo '; }'
+        } > sections.c
+        clang -O2 -fdata-sections -target bpf -c -o "sections$most.o" sections.c
+    done
+    "$program" link sections16.o > sections 2> told
+    result '0x88\n' run $(cat told) sections
+    refused 'refused E15: more than 16 maps' link sections17.o
+    # Programs of C, whose results are those of this machine, at each level and for each processor.
+    if command -v cc > /dev/null; then
+        printf 'abc 12 zz9!' > context
+        for source in "$top"/tests/program/c/*.c; do
+            name=$(basename "$source" .c)
+            [ "$name" != native ] || continue
+            cc -w -O1 -fwrapv -o "native-$name" "$source" "$top/tests/program/c/native.c"
+            wanted=$("./native-$name" < context)
+            for level in 0 1 2 s; do
+                for cpu in v1 v2 v3; do
+                    clang -w -fwrapv -fno-builtin -O$level -mcpu=$cpu -target bpf -c -o c.o "$source" || complain "$name.c isn't compiled: -O$level, $cpu"
+                    "$program" link c.o > c 2> told
+                    result "$wanted\n" run $(cat told) -m context c
+                done
+            done
+        done
+    fi
 else
     echo 'objects: there is no clang for BPF here, so no file of C is compiled'
 fi

@@ -13,7 +13,8 @@ use Rattle.bpf_link.specs.declared.patch.Patch.{Patch}
 use Rattle.bpf_link.specs.Header.{provided}
 use Rattle.bpf_link.specs.Plans.{after, relocation_at, symbol_at}
 use Rattle.bpf_link.specs.Links.{patch_width}
-use Rattle.bpf_link.specs.Patches.{is_call, is_map, is_empty_load, is_next, part_with, call_to, call_patch, map_patch, is_short_load, zeros_patch, is_in_zeros, load_patch, width_of, patch_with, patch_of}
+use Rattle.bpf_link.specs.Data.{is_among}
+use Rattle.bpf_link.specs.Patches.{is_call, is_map, is_empty_load, is_next, part_with, call_to, call_patch, map_patch, is_short_load, data_patch, load_patch, width_of, patch_with, patch_of}
 
 clash : {A : Type 0} (fault : LinkFault) (v : A) → ◌≡◌ {A = Result A LinkFault} (Err fault) (Ok v) → ⊥
 clash fault v e = cc
@@ -56,43 +57,43 @@ map_at object plan maps symbol at slot patch e =
     let b = provided_ok (is_empty_load object at) (NoLoad slot) _ _ a.1 in
     fits_made patch _ slot 16 b.1 (record { at = refl; width = refl })
 
-zeros_at : (object maps : List ℕ) (symbol : SymbolEntry) (at slot : ℕ) (patch : Patch) → zeros_patch object maps symbol at slot ≡ Ok patch → Fits patch slot 16
-zeros_at object maps symbol at slot patch e =
+data_at : (object maps taken : List ℕ) (symbol : SymbolEntry) (at slot : ℕ) (patch : Patch) → data_patch object maps taken symbol at slot ≡ Ok patch → Fits patch slot 16
+data_at object maps taken symbol at slot patch e =
     let a = provided_ok (is_short_load object at) (NoLoad slot) _ _ e in
     fits_made patch _ slot 16 a.1 (record { at = refl; width = refl })
 
-load_at : (object : List ℕ) (plan : Plan) (maps : List ℕ) (symbol : SymbolEntry) (at slot : ℕ) (patch : Patch) (zeros : Bool)
-    → (if zeros then zeros_patch object maps symbol at slot else map_patch object plan maps symbol at slot) ≡ Ok patch → Fits patch slot 16
-load_at object plan maps symbol at slot patch true e = zeros_at object maps symbol at slot patch e
-load_at object plan maps symbol at slot patch false e = map_at object plan maps symbol at slot patch e
+load_at : (object : List ℕ) (plan : Plan) (maps taken : List ℕ) (symbol : SymbolEntry) (at slot : ℕ) (patch : Patch) (among : Bool)
+    → (if among then data_patch object maps taken symbol at slot else map_patch object plan maps symbol at slot) ≡ Ok patch → Fits patch slot 16
+load_at object plan maps taken symbol at slot patch true e = data_at object maps taken symbol at slot patch e
+load_at object plan maps taken symbol at slot patch false e = map_at object plan maps symbol at slot patch e
 
 -- that of a wide load has two slots
 pub record Placed (patch : Patch) (slot size : ℕ) (second : Bool) : Type 0 where
   pub fits : Fits patch slot size
   pub room : (size ≡ 8) ⊎ (second ≡ true)
 
-kind_at : (object : List ℕ) (plan : Plan) (maps : List ℕ) (symbol : SymbolEntry) (at slot : ℕ) (patch : Patch) (call load room : Bool) → (call ≡ true → load ≡ false)
-    → (if call then call_patch object plan symbol at slot else (if load then provided room (NoLoad slot) (load_patch object plan maps symbol at slot) else Err (RelocationKind slot))) ≡ Ok patch
+kind_at : (object : List ℕ) (plan : Plan) (maps taken : List ℕ) (symbol : SymbolEntry) (at slot : ℕ) (patch : Patch) (call load room : Bool) → (call ≡ true → load ≡ false)
+    → (if call then call_patch object plan symbol at slot else (if load then provided room (NoLoad slot) (load_patch object plan maps taken symbol at slot) else Err (RelocationKind slot))) ≡ Ok patch
     → Placed patch slot (if load then 16 else 8) room
-kind_at object plan maps symbol at slot patch true true room other e = absurd (differ (other refl))
+kind_at object plan maps taken symbol at slot patch true true room other e = absurd (differ (other refl))
   where
     differ : ◌≡◌ {A = Bool} true false → ⊥
     differ e = cc
-kind_at object plan maps symbol at slot patch true false room other e = record { fits = call_at object plan symbol at slot patch e; room = inl refl }
-kind_at object plan maps symbol at slot patch false true room other e =
-    let a = provided_ok room (NoLoad slot) (load_patch object plan maps symbol at slot) patch e in
-    record { fits = load_at object plan maps symbol at slot patch (is_in_zeros plan symbol) a.1; room = inr a.0 }
-kind_at object plan maps symbol at slot patch false false room other e = absurd (clash (RelocationKind slot) patch e)
+kind_at object plan maps taken symbol at slot patch true false room other e = record { fits = call_at object plan symbol at slot patch e; room = inl refl }
+kind_at object plan maps taken symbol at slot patch false true room other e =
+    let a = provided_ok room (NoLoad slot) (load_patch object plan maps taken symbol at slot) patch e in
+    record { fits = load_at object plan maps taken symbol at slot patch (is_among taken symbol.section) a.1; room = inr a.0 }
+kind_at object plan maps taken symbol at slot patch false false room other e = absurd (clash (RelocationKind slot) patch e)
 
 one_kind : (kind : ℕ) → (kind == 10) ≡ true → (kind == 1) ≡ false
 one_kind kind e = grind (arith, common_steps)
 
-with_at : (object : List ℕ) (plan : Plan) (maps : List ℕ) (part : Part) (relocation : RelocationEntry) (symbol : SymbolEntry) (patch : Patch)
-    → patch_with object plan maps part relocation symbol ≡ Ok patch
+with_at : (object : List ℕ) (plan : Plan) (maps taken : List ℕ) (part : Part) (relocation : RelocationEntry) (symbol : SymbolEntry) (patch : Patch)
+    → patch_with object plan maps taken part relocation symbol ≡ Ok patch
     → Placed patch (part.first + relocation.offset / 8) (width_of relocation) (nat_lt (relocation.offset / 8 + 1) part.slots.count)
-with_at object plan maps part relocation symbol patch e =
+with_at object plan maps taken part relocation symbol patch e =
     let a = provided_ok (not (symbol.section == 0)) (Extern (part.first + relocation.offset / 8)) _ _ e in
-    kind_at object plan maps symbol (part.slots.at + relocation.offset) (part.first + relocation.offset / 8) patch
+    kind_at object plan maps taken symbol (part.slots.at + relocation.offset) (part.first + relocation.offset / 8) patch
     (relocation.kind == 10) (relocation.kind == 1) (nat_lt (relocation.offset / 8 + 1) part.slots.count) (one_kind relocation.kind) a.1
 
 is_zero : (n : ℕ) → (n == 0) ≡ true → n ≡ 0
@@ -122,14 +123,14 @@ pub two_sizes : (b : Bool) → (sized b ≡ 16) ⊎ (sized b ≡ 8)
 two_sizes true = inl refl
 two_sizes false = inr refl
 
-pub names_slot : (object : List ℕ) (plan : Plan) (maps : List ℕ) (part : Part) (i : ℕ) (patch : Patch) → patch_of object plan maps part i ≡ Ok patch → NamesSlot object part i patch
-names_slot object plan maps part i patch e =
+pub names_slot : (object : List ℕ) (plan : Plan) (maps taken : List ℕ) (part : Part) (i : ℕ) (patch : Patch) → patch_of object plan maps taken part i ≡ Ok patch → NamesSlot object part i patch
+names_slot object plan maps taken part i patch e =
     let relocation = relocation_at object part.relocations i in
     let a = provided_ok (is_next object part.relocations i) Place _ _ e in
     let b = provided_ok (relocation.offset % 8 == 0) Place _ _ a.1 in
     let c = provided_ok (nat_lt (relocation.offset / 8) part.slots.count) Place _ _ b.1 in
     let d = provided_ok (nat_lt relocation.symbol plan.symbols.count) (Symbol (part.first + relocation.offset / 8)) _ _ c.1 in
-    let placed = with_at object plan maps part relocation (symbol_at object plan.symbols relocation.symbol) patch d.1 in
+    let placed = with_at object plan maps taken part relocation (symbol_at object plan.symbols relocation.symbol) patch d.1 in
     let inside = is_below (relocation.offset / 8) part.slots.count c.0 in
     let end : patch.at + width_of relocation ≤ 8 * (part.first + part.slots.count) =
     ends patch.at (width_of relocation) part.first relocation.offset part.slots.count placed.fits.at inside (two_sizes (relocation.kind == 1)) placed.room in

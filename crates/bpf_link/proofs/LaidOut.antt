@@ -11,14 +11,14 @@ use Rattle.bpf_link.specs.Laid.{IsPlain}
 use Rattle.bpf_link.proofs.Slots.{patched_length, patched_apart}
 use Rattle.bpf_link.proofs.Inversions.{ok_same, after_ok, sized, names_slot}
 
-pub size_kept : (object : List ℕ) (plan : Plan) (maps : List ℕ) (part : Part) (words : List ℕ) (n : ℕ) (new : List ℕ)
-    → relocated object plan maps part words n ≡ Ok new → 8 * (part.first + part.slots.count) ≤ length words → length new ≡ length words
-size_kept object plan maps part words zero new e fits = ap length (sym (ok_same words new e))
-size_kept object plan maps part words (suc n) new e fits =
-    let a = after_ok (relocated object plan maps part words n) (with_relocation object plan maps part n) new e in
-    let b = after_ok (patch_of object plan maps part n) (λ patch. Ok (with_patch a.0 patch)) new a.2 in
-    let rest : length a.0 ≡ length words = size_kept object plan maps part words n a.0 a.1 fits in
-    let slot = names_slot object plan maps part n b.0 b.1 in
+pub size_kept : (object : List ℕ) (plan : Plan) (maps taken : List ℕ) (part : Part) (words : List ℕ) (n : ℕ) (new : List ℕ)
+    → relocated object plan maps taken part words n ≡ Ok new → 8 * (part.first + part.slots.count) ≤ length words → length new ≡ length words
+size_kept object plan maps taken part words zero new e fits = ap length (sym (ok_same words new e))
+size_kept object plan maps taken part words (suc n) new e fits =
+    let a = after_ok (relocated object plan maps taken part words n) (with_relocation object plan maps taken part n) new e in
+    let b = after_ok (patch_of object plan maps taken part n) (λ patch. Ok (with_patch a.0 patch)) new a.2 in
+    let rest : length a.0 ≡ length words = size_kept object plan maps taken part words n a.0 a.1 fits in
+    let slot = names_slot object plan maps taken part n b.0 b.1 in
     let inside : b.0.at + patch_width b.0 ≤ length a.0 = omega (arith, slot.fits) in
     ap length (sym (ok_same (with_patch a.0 b.0) new b.2)) ∙ patched_length a.0 b.0 inside ∙ rest
 
@@ -32,16 +32,16 @@ pub record Apart (object : List ℕ) (part : Part) (j : ℕ) : Type 0 where
   pub apart : (i q : ℕ) → i < part.relocations.count → q < part.slots.count → (relocation_at object part.relocations i).offset ≡ 8 * q → 8 * q + width_of (relocation_at object part.relocations i) ≤ 8 * part.slots.count
       → (j < 8 * (part.first + q)) ⊎ (8 * (part.first + q) + width_of (relocation_at object part.relocations i) ≤ j)
 
-pub byte_kept : (object : List ℕ) (plan : Plan) (maps : List ℕ) (part : Part) (words : List ℕ) (n : ℕ) (new : List ℕ) (j : ℕ)
-    → relocated object plan maps part words n ≡ Ok new → 8 * (part.first + part.slots.count) ≤ length words → n ≤ part.relocations.count → Apart object part j
+pub byte_kept : (object : List ℕ) (plan : Plan) (maps taken : List ℕ) (part : Part) (words : List ℕ) (n : ℕ) (new : List ℕ) (j : ℕ)
+    → relocated object plan maps taken part words n ≡ Ok new → 8 * (part.first + part.slots.count) ≤ length words → n ≤ part.relocations.count → Apart object part j
     → get_or new j 0 ≡ get_or words j 0
-byte_kept object plan maps part words zero new j e fits within apart = ap (λ w. get_or w j 0) (sym (ok_same words new e))
-byte_kept object plan maps part words (suc n) new j e fits within apart =
-    let a = after_ok (relocated object plan maps part words n) (with_relocation object plan maps part n) new e in
-    let b = after_ok (patch_of object plan maps part n) (λ patch. Ok (with_patch a.0 patch)) new a.2 in
-    let rest : get_or a.0 j 0 ≡ get_or words j 0 = byte_kept object plan maps part words n a.0 j a.1 fits (omega arith) apart in
-    let size : length a.0 ≡ length words = size_kept object plan maps part words n a.0 a.1 fits in
-    let slot = names_slot object plan maps part n b.0 b.1 in
+byte_kept object plan maps taken part words zero new j e fits within apart = ap (λ w. get_or w j 0) (sym (ok_same words new e))
+byte_kept object plan maps taken part words (suc n) new j e fits within apart =
+    let a = after_ok (relocated object plan maps taken part words n) (with_relocation object plan maps taken part n) new e in
+    let b = after_ok (patch_of object plan maps taken part n) (λ patch. Ok (with_patch a.0 patch)) new a.2 in
+    let rest : get_or a.0 j 0 ≡ get_or words j 0 = byte_kept object plan maps taken part words n a.0 j a.1 fits (omega arith) apart in
+    let size : length a.0 ≡ length words = size_kept object plan maps taken part words n a.0 a.1 fits in
+    let slot = names_slot object plan maps taken part n b.0 b.1 in
     let inside : b.0.at + patch_width b.0 ≤ length a.0 = omega (arith, slot.fits) in
     let q : ℕ = (relocation_at object part.relocations n).offset / 8 in
     let whole : (relocation_at object part.relocations n).offset ≡ 8 * q = omega (arith, slot.whole) in
@@ -107,20 +107,20 @@ text_behind object plan j lies low = record {
 }
 
 -- both rounds of relocations
-pub record Done (object : List ℕ) (plan : Plan) (maps words : List ℕ) : Type 0 where
+pub record Done (object : List ℕ) (plan : Plan) (maps taken words : List ℕ) : Type 0 where
   pub between : List ℕ
-  pub code : relocated object plan maps plan.code (raw object plan) plan.code.relocations.count ≡ Ok between
-  pub text : relocated object plan maps plan.text between plan.text.relocations.count ≡ Ok words
+  pub code : relocated object plan maps taken plan.code (raw object plan) plan.code.relocations.count ≡ Ok between
+  pub text : relocated object plan maps taken plan.text between plan.text.relocations.count ≡ Ok words
   pub code_fits : 8 * (plan.code.first + plan.code.slots.count) ≤ length (raw object plan)
   pub text_fits : 8 * (plan.text.first + plan.text.slots.count) ≤ length between
   pub size : length words ≡ length (raw object plan)
 
-pub done : (object : List ℕ) (plan : Plan) (maps words : List ℕ) → LiesPlan object plan → words_of object plan maps ≡ Ok words → Done object plan maps words
-done object plan maps words lies e =
-    let a = after_ok (relocated object plan maps plan.code (raw object plan) plan.code.relocations.count) (λ new. relocated object plan maps plan.text new plan.text.relocations.count) words e in
+pub done : (object : List ℕ) (plan : Plan) (maps taken words : List ℕ) → LiesPlan object plan → words_of object plan maps taken ≡ Ok words → Done object plan maps taken words
+done object plan maps taken words lies e =
+    let a = after_ok (relocated object plan maps taken plan.code (raw object plan) plan.code.relocations.count) (λ new. relocated object plan maps taken plan.text new plan.text.relocations.count) words e in
     let size = raw_length object plan lies in
     let code_fits : 8 * (plan.code.first + plan.code.slots.count) ≤ length (raw object plan) = omega (arith, size, lies.begins) in
-    let first : length a.0 ≡ length (raw object plan) = size_kept object plan maps plan.code (raw object plan) plan.code.relocations.count a.0 a.1 code_fits in
+    let first : length a.0 ≡ length (raw object plan) = size_kept object plan maps taken plan.code (raw object plan) plan.code.relocations.count a.0 a.1 code_fits in
     let text_fits : 8 * (plan.text.first + plan.text.slots.count) ≤ length a.0 = omega (arith, size, first, lies.follows) in
     record {
       between = a.0;
@@ -128,11 +128,11 @@ done object plan maps words lies e =
       text = a.2;
       code_fits = code_fits;
       text_fits = text_fits;
-      size = size_kept object plan maps plan.text a.0 plan.text.relocations.count words a.2 text_fits ∙ first;
+      size = size_kept object plan maps taken plan.text a.0 plan.text.relocations.count words a.2 text_fits ∙ first;
     }
 
-pub both_kept : (object : List ℕ) (plan : Plan) (maps words : List ℕ) (j : ℕ) → Done object plan maps words → Apart object plan.code j → Apart object plan.text j
+pub both_kept : (object : List ℕ) (plan : Plan) (maps taken words : List ℕ) (j : ℕ) → Done object plan maps taken words → Apart object plan.code j → Apart object plan.text j
     → get_or words j 0 ≡ get_or (raw object plan) j 0
-both_kept object plan maps words j d code text =
-    byte_kept object plan maps plan.text d.between plan.text.relocations.count words j d.text d.text_fits (omega arith) text
-    ∙ byte_kept object plan maps plan.code (raw object plan) plan.code.relocations.count d.between j d.code d.code_fits (omega arith) code
+both_kept object plan maps taken words j d code text =
+    byte_kept object plan maps taken plan.text d.between plan.text.relocations.count words j d.text d.text_fits (omega arith) text
+    ∙ byte_kept object plan maps taken plan.code (raw object plan) plan.code.relocations.count d.between j d.code d.code_fits (omega arith) code

@@ -1,6 +1,8 @@
 pub mod Searches
 pub mod Steps
 pub mod PlainMaps
+pub mod Images
+pub mod Mapped
 pub mod Slots
 pub mod Inversions
 pub mod LaidOut

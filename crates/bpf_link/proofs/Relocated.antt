@@ -12,7 +12,8 @@ use Rattle.bpf_link.specs.declared.plan.Plan.{Plan}
 use Rattle.bpf_link.specs.declared.patch.Patch.{Patch}
 use Rattle.bpf_link.specs.Plans.{relocation_at}
 use Rattle.bpf_link.specs.Patches.{width_of, is_next, patch_of}
-use Rattle.bpf_link.specs.Links.{with_u32, with_slot, with_next, with_patch, patch_width, with_relocation, relocated}
+use Rattle.bpf_link.specs.Patches.{with_u32}
+use Rattle.bpf_link.specs.Links.{with_slot, with_next, with_patch, patch_width, with_relocation, relocated}
 use Rattle.bpf_link.specs.Laid.{patched_slot, next_slot, IsDone}
 use Rattle.bpf_link.proofs.Slots.{set_length, slot_length, slot_apart, at_least, head_kept, patched_apart, u32_low}
 use Rattle.bpf_link.proofs.Inversions.{ok_same, after_ok, provided_ok, two_sizes, names_slot}
@@ -64,9 +65,9 @@ before_last i n h = grind arith
 abbrev offset_at : List ℕ → Part → ℕ → ℕ
 offset_at object part i = (relocation_at object part.relocations i).offset
 
-next_above : (object : List ℕ) (plan : Plan) (maps : List ℕ) (part : Part) (n : ℕ) (patch : Patch) → patch_of object plan maps part n ≡ Ok patch → 0 < n
+next_above : (object : List ℕ) (plan : Plan) (maps taken : List ℕ) (part : Part) (n : ℕ) (patch : Patch) → patch_of object plan maps taken part n ≡ Ok patch → 0 < n
     → offset_at object part (n - 1) + width_at object part (n - 1) - 8 < offset_at object part n
-next_above object plan maps part n patch e above =
+next_above object plan maps taken part n patch e above =
     let end : ℕ = offset_at object part (n - 1) + width_at object part (n - 1) - 8 in
     first_or_after n end (offset_at object part n) (nat_lt end (offset_at object part n)) refl
     (provided_ok (is_next object part.relocations n) Place _ _ e).0 above
@@ -78,14 +79,14 @@ eight_or false = omega arith
 eight : (relocation : RelocationEntry) → 8 ≤ width_of relocation
 eight relocation = eight_or (relocation.kind == 1)
 
-ascends : (object : List ℕ) (plan : Plan) (maps : List ℕ) (part : Part) (words : List ℕ) (n : ℕ) (new : List ℕ) → relocated object plan maps part words n ≡ Ok new
+ascends : (object : List ℕ) (plan : Plan) (maps taken : List ℕ) (part : Part) (words : List ℕ) (n : ℕ) (new : List ℕ) → relocated object plan maps taken part words n ≡ Ok new
     → (i m : ℕ) → i < m → m < n → offset_at object part i + width_at object part i - 8 < offset_at object part m
-ascends object plan maps part words zero new e i m low high = absurd (omega arith)
-ascends object plan maps part words (suc n) new e i m low high =
-    let a = after_ok (relocated object plan maps part words n) (with_relocation object plan maps part n) new e in
-    let b = after_ok (patch_of object plan maps part n) (λ patch. Ok (with_patch a.0 patch)) new a.2 in
-    let rest : (i m : ℕ) → i < m → m < n → offset_at object part i + width_at object part i - 8 < offset_at object part m = ascends object plan maps part words n a.0 a.1 in
-    by_case (cases m n high) rest (next_above object plan maps part n b.0 b.1)
+ascends object plan maps taken part words zero new e i m low high = absurd (omega arith)
+ascends object plan maps taken part words (suc n) new e i m low high =
+    let a = after_ok (relocated object plan maps taken part words n) (with_relocation object plan maps taken part n) new e in
+    let b = after_ok (patch_of object plan maps taken part n) (λ patch. Ok (with_patch a.0 patch)) new a.2 in
+    let rest : (i m : ℕ) → i < m → m < n → offset_at object part i + width_at object part i - 8 < offset_at object part m = ascends object plan maps taken part words n a.0 a.1 in
+    by_case (cases m n high) rest (next_above object plan maps taken part n b.0 b.1)
   where
     to_last : (i < n - 1) ⊎ (i ≡ n - 1) → i < n → ((i m : ℕ) → i < m → m < n → offset_at object part i + width_at object part i - 8 < offset_at object part m)
         → (0 < n → offset_at object part (n - 1) + width_at object part (n - 1) - 8 < offset_at object part n) → offset_at object part i + width_at object part i - 8 < offset_at object part n
@@ -97,19 +98,19 @@ ascends object plan maps part words (suc n) new e i m low high =
     by_case (inl h) rest next = rest i m low h
     by_case (inr same) rest next = subst (λ k. offset_at object part i + width_at object part i - 8 < offset_at object part k) (sym same) (to_last (before_last i n (omega arith)) (omega arith) rest next)
 
-kept_later : (object : List ℕ) (plan : Plan) (maps : List ℕ) (part : Part) (words : List ℕ) (m d : ℕ) (a b : List ℕ) (j : ℕ)
-    → relocated object plan maps part words m ≡ Ok a → relocated object plan maps part words (m + d) ≡ Ok b → 8 * (part.first + part.slots.count) ≤ length words
+kept_later : (object : List ℕ) (plan : Plan) (maps taken : List ℕ) (part : Part) (words : List ℕ) (m d : ℕ) (a b : List ℕ) (j : ℕ)
+    → relocated object plan maps taken part words m ≡ Ok a → relocated object plan maps taken part words (m + d) ≡ Ok b → 8 * (part.first + part.slots.count) ≤ length words
     → ((i q : ℕ) → m ≤ i → i < m + d → q < part.slots.count → offset_at object part i ≡ 8 * q → (j < 8 * (part.first + q)) ⊎ (8 * (part.first + q) + width_at object part i ≤ j))
     → get_or b j 0 ≡ get_or a j 0
-kept_later object plan maps part words m zero a b j ra rb fits apart =
-    ap (λ w. get_or w j 0) (sym (ok_same a b (sym ra ∙ sym (ap (relocated object plan maps part words) (add-zero m)) ∙ rb)))
-kept_later object plan maps part words m (suc d) a b j ra rb fits apart =
-    let e : relocated object plan maps part words (suc (m + d)) ≡ Ok b = sym (ap (relocated object plan maps part words) (add-suc m d)) ∙ rb in
-    let f = after_ok (relocated object plan maps part words (m + d)) (with_relocation object plan maps part (m + d)) b e in
-    let g = after_ok (patch_of object plan maps part (m + d)) (λ patch. Ok (with_patch f.0 patch)) b f.2 in
-    let rest : get_or f.0 j 0 ≡ get_or a j 0 = kept_later object plan maps part words m d a f.0 j ra f.1 fits (λ i q low high. apart i q low (omega arith)) in
-    let size : length f.0 ≡ length words = size_kept object plan maps part words (m + d) f.0 f.1 fits in
-    let slot = names_slot object plan maps part (m + d) g.0 g.1 in
+kept_later object plan maps taken part words m zero a b j ra rb fits apart =
+    ap (λ w. get_or w j 0) (sym (ok_same a b (sym ra ∙ sym (ap (relocated object plan maps taken part words) (add-zero m)) ∙ rb)))
+kept_later object plan maps taken part words m (suc d) a b j ra rb fits apart =
+    let e : relocated object plan maps taken part words (suc (m + d)) ≡ Ok b = sym (ap (relocated object plan maps taken part words) (add-suc m d)) ∙ rb in
+    let f = after_ok (relocated object plan maps taken part words (m + d)) (with_relocation object plan maps taken part (m + d)) b e in
+    let g = after_ok (patch_of object plan maps taken part (m + d)) (λ patch. Ok (with_patch f.0 patch)) b f.2 in
+    let rest : get_or f.0 j 0 ≡ get_or a j 0 = kept_later object plan maps taken part words m d a f.0 j ra f.1 fits (λ i q low high. apart i q low (omega arith)) in
+    let size : length f.0 ≡ length words = size_kept object plan maps taken part words (m + d) f.0 f.1 fits in
+    let slot = names_slot object plan maps taken part (m + d) g.0 g.1 in
     let inside : g.0.at + patch_width g.0 ≤ length f.0 = omega (arith, slot.fits) in
     let q : ℕ = offset_at object part (m + d) / 8 in
     let whole : offset_at object part (m + d) ≡ 8 * q = omega (arith, slot.whole) in
@@ -118,13 +119,13 @@ kept_later object plan maps part words m (suc d) a b j ra rb fits apart =
     ∙ patched_apart f.0 g.0 j inside (beside (8 * (part.first + q)) g.0.at (width_at object part (m + d)) (patch_width g.0) j slot.at slot.width side)
     ∙ rest
 
-state_at : (object : List ℕ) (plan : Plan) (maps : List ℕ) (part : Part) (words : List ℕ) (m d : ℕ) (new : List ℕ) → relocated object plan maps part words (m + d) ≡ Ok new
-    → (w : List ℕ) × (relocated object plan maps part words m ≡ Ok w)
-state_at object plan maps part words m zero new e = (new, sym (ap (relocated object plan maps part words) (add-zero m)) ∙ e)
-state_at object plan maps part words m (suc d) new e =
-    let step : relocated object plan maps part words (suc (m + d)) ≡ Ok new = sym (ap (relocated object plan maps part words) (add-suc m d)) ∙ e in
-    let f = after_ok (relocated object plan maps part words (m + d)) (with_relocation object plan maps part (m + d)) new step in
-    state_at object plan maps part words m d f.0 f.1
+state_at : (object : List ℕ) (plan : Plan) (maps taken : List ℕ) (part : Part) (words : List ℕ) (m d : ℕ) (new : List ℕ) → relocated object plan maps taken part words (m + d) ≡ Ok new
+    → (w : List ℕ) × (relocated object plan maps taken part words m ≡ Ok w)
+state_at object plan maps taken part words m zero new e = (new, sym (ap (relocated object plan maps taken part words) (add-zero m)) ∙ e)
+state_at object plan maps taken part words m (suc d) new e =
+    let step : relocated object plan maps taken part words (suc (m + d)) ≡ Ok new = sym (ap (relocated object plan maps taken part words) (add-suc m d)) ∙ e in
+    let f = after_ok (relocated object plan maps taken part words (m + d)) (with_relocation object plan maps taken part (m + d)) new step in
+    state_at object plan maps taken part words m d f.0 f.1
 
 slot_byte : (object w : List ℕ) (patch : Patch) (at k : ℕ) → patch.at + 8 ≤ length w → ((k : ℕ) → k < 8 → get_or w (patch.at + k) 0 ≡ get_or object (at + k) 0) → k < 8
     → get_or (with_slot w patch) (patch.at + k) 0 ≡ get_or (patched_slot object at patch) k 0
@@ -171,23 +172,23 @@ later : (x w y r q first at k : ℕ) → y + w - 8 < x → x ≡ 8 * r → y ≡
 later x w y r q first at k rising same whole place (inl short) small = omega arith
 later x w y r q first at k rising same whole place (inr long) small = omega arith
 
-done_at : (object : List ℕ) (plan : Plan) (maps : List ℕ) (part : Part) (words : List ℕ) (i d : ℕ) (new : List ℕ) → relocated object plan maps part words (suc i + d) ≡ Ok new
-    → IsFresh object part words → IsDone object plan maps part new i
-done_at object plan maps part words i d new e fresh =
-    let s = state_at object plan maps part words (suc i) d new e in
-    let a = after_ok (relocated object plan maps part words i) (with_relocation object plan maps part i) s.0 s.1 in
-    let b = after_ok (patch_of object plan maps part i) (λ patch. Ok (with_patch a.0 patch)) s.0 a.2 in
-    let slot = names_slot object plan maps part i b.0 b.1 in
-    let size : length a.0 ≡ length words = size_kept object plan maps part words i a.0 a.1 fresh.fits in
+done_at : (object : List ℕ) (plan : Plan) (maps taken : List ℕ) (part : Part) (words : List ℕ) (i d : ℕ) (new : List ℕ) → relocated object plan maps taken part words (suc i + d) ≡ Ok new
+    → IsFresh object part words → IsDone object plan maps taken part new i
+done_at object plan maps taken part words i d new e fresh =
+    let s = state_at object plan maps taken part words (suc i) d new e in
+    let a = after_ok (relocated object plan maps taken part words i) (with_relocation object plan maps taken part i) s.0 s.1 in
+    let b = after_ok (patch_of object plan maps taken part i) (λ patch. Ok (with_patch a.0 patch)) s.0 a.2 in
+    let slot = names_slot object plan maps taken part i b.0 b.1 in
+    let size : length a.0 ≡ length words = size_kept object plan maps taken part words i a.0 a.1 fresh.fits in
     let inside : b.0.at + patch_width b.0 ≤ length a.0 = omega (arith, slot.fits, fresh.fits) in
     let least : 8 ≤ patch_width b.0 = at_least b.0.next in
     let q : ℕ = offset_at object part i / 8 in
     let whole : offset_at object part i ≡ 8 * q = omega (arith, slot.whole) in
-    let up = ascends object plan maps part words (suc i + d) new e in
-    let start : relocated object plan maps part words (0 + i) ≡ Ok a.0 = ap (relocated object plan maps part words) (zero-add i) ∙ a.1 in
+    let up = ascends object plan maps taken part words (suc i + d) new e in
+    let start : relocated object plan maps taken part words (0 + i) ≡ Ok a.0 = ap (relocated object plan maps taken part words) (zero-add i) ∙ a.1 in
     -- what stood there before
     let before : (k : ℕ) → k < patch_width b.0 → get_or a.0 (b.0.at + k) 0 ≡ get_or object (part.slots.at + offset_at object part i + k) 0 = λ k small.
-    kept_later object plan maps part words 0 i words a.0 (b.0.at + k) refl start fresh.fits
+    kept_later object plan maps taken part words 0 i words a.0 (b.0.at + k) refl start fresh.fits
     (λ m r low high inside at.
     let rising : offset_at object part m + width_at object part m - 8 < offset_at object part i = up m i (omega arith) (omega arith) in
     inr (earlier (offset_at object part m) (width_at object part m) (offset_at object part i) r q part.first b.0.at k rising at whole slot.at (widths (relocation_at object part.relocations m))))
@@ -196,7 +197,7 @@ done_at object plan maps part words i d new e fresh =
     ∙ ap (λ n. get_or object n 0) (omega (arith, whole)) in
     -- nothing later changes it
     let after : (k : ℕ) → k < patch_width b.0 → get_or new (b.0.at + k) 0 ≡ get_or (with_patch a.0 b.0) (b.0.at + k) 0 = λ k small.
-    kept_later object plan maps part words (suc i) d s.0 new (b.0.at + k) s.1 e fresh.fits
+    kept_later object plan maps taken part words (suc i) d s.0 new (b.0.at + k) s.1 e fresh.fits
     (λ m r low high inside at.
     let rising : offset_at object part i + width_at object part i - 8 < offset_at object part m = up i m (omega arith) (omega arith) in
     inl (later (offset_at object part m) (width_at object part i) (offset_at object part i) r q part.first b.0.at k rising at whole slot.at (widths (relocation_at object part.relocations i)) (omega (arith, slot.width))))
@@ -214,8 +215,8 @@ done_at object plan maps part words i d new e fresh =
           (λ k low. ap (λ n. get_or a.0 n 0) (omega arith) ∙ before (8 + k) (omega arith) ∙ ap (λ n. get_or object n 0) (omega arith)) small;
     }
 
-pub all_done : (object : List ℕ) (plan : Plan) (maps : List ℕ) (part : Part) (words new : List ℕ) (n i : ℕ) → relocated object plan maps part words n ≡ Ok new
-    → IsFresh object part words → i < n → IsDone object plan maps part new i
-all_done object plan maps part words new n i e fresh inside =
+pub all_done : (object : List ℕ) (plan : Plan) (maps taken : List ℕ) (part : Part) (words new : List ℕ) (n i : ℕ) → relocated object plan maps taken part words n ≡ Ok new
+    → IsFresh object part words → i < n → IsDone object plan maps taken part new i
+all_done object plan maps taken part words new n i e fresh inside =
     let rest : n ≡ suc i + (n - suc i) = omega arith in
-    done_at object plan maps part words i (n - suc i) new (subst (λ m. relocated object plan maps part words m ≡ Ok new) rest e) fresh
+    done_at object plan maps taken part words i (n - suc i) new (subst (λ m. relocated object plan maps taken part words m ≡ Ok new) rest e) fresh

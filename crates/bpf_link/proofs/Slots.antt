@@ -6,7 +6,8 @@ use Rattle.std.proofs.lemmas.Grind.{common_steps}
 use Rattle.byteorder.specs.Endian.{little_bytes}
 use Rattle.byteorder.specs.Numbers.{length-bytes_low_first}
 use Rattle.bpf_link.specs.declared.patch.Patch.{Patch}
-use Rattle.bpf_link.specs.Links.{with_u32, with_slot, with_next, with_patch, patch_width}
+use Rattle.bpf_link.specs.Patches.{with_u32}
+use Rattle.bpf_link.specs.Links.{with_slot, with_next, with_patch, patch_width}
 
 pub u32_length : (bytes : List ℕ) (at n : ℕ) → at + 4 ≤ length bytes → length (with_u32 bytes at n) ≡ length bytes
 u32_length bytes at n fits = let four : length (little_bytes 4 n) ≡ 4 = length-bytes_low_first 0 4 n in grind (arith, common_steps)

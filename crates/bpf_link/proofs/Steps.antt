@@ -1,5 +1,5 @@
 -- Steps, one after the other: one more, and a fault, which stays.
-use Rattle.std.proofs.Common.{◌≡◌, ◌<◌, ℕ, zero, suc, ◌+◌, ◌-◌, nat_lt, true, List, [], ◌∷◌, ◌++◌, Result, Ok, Err, length, ap, subst, ◌∙◌, arith, add-one, add-zero, add-suc}
+use Rattle.std.proofs.Common.{◌≡◌, ◌<◌, inl, inr, ℕ, zero, suc, ◌+◌, ◌-◌, nat_lt, true, List, [], ◌∷◌, ◌++◌, Result, Ok, Err, length, ap, subst, ◌∙◌, arith, add-one, add-zero, add-suc}
 use Rattle.std.specs.Prelude.{if◌then◌else◌}
 use Rattle.bpf_link.specs.declared.fault.LinkFault.{LinkFault}
 use Rattle.bpf_link.specs.declared.fault.LinkFault.TheVariants.{TooManyMaps}
@@ -8,9 +8,9 @@ use Rattle.bpf_link.specs.declared.plan.Part.{Part}
 use Rattle.bpf_link.specs.declared.plan.Plan.{Plan}
 use Rattle.bpf_link.specs.declared.patch.Patch.{Patch}
 use Rattle.bpf_link.specs.Header.{provided}
-use Rattle.bpf_link.specs.Plans.{after}
+use Rattle.bpf_link.specs.Plans.{after, steps}
 use Rattle.bpf_link.specs.Patches.{is_map, patch_of}
-use Rattle.bpf_link.specs.Links.{steps, with_patch, with_relocation, with_symbol}
+use Rattle.bpf_link.specs.Links.{MemoryOr, with_patch, with_relocation, with_symbol}
 
 pub one_more : {A : Type 0} (step : ℕ → A → Result A LinkFault) (start : A) (n : ℕ) (a : A) (next : Result A LinkFault) → steps step start n ≡ Ok a → step n a ≡ next → steps step start (n + 1) ≡ next
 one_more step start n a next e h = ap (steps step start) (add-one n) ∙ ap (λ r. after r (step n)) e ∙ h
@@ -24,11 +24,15 @@ fails step start n m a fault inside e h =
     let rest : (n + 1) + (m - (n + 1)) ≡ m = omega arith in
     subst (λ k. steps step start k ≡ Err fault) rest (stays step start (n + 1) (m - (n + 1)) fault (one_more step start n a (Err fault) e h))
 
-pub patched : (object : List ℕ) (plan : Plan) (maps : List ℕ) (part : Part) (i : ℕ) (words : List ℕ) (patch : Patch) → patch_of object plan maps part i ≡ Ok patch → with_relocation object plan maps part i words ≡ Ok (with_patch words patch)
-patched object plan maps part i words patch e = ap (λ r. after r (λ p. Ok (with_patch words p))) e
+pub fails_or : {A : Type 0} (step : ℕ → A → Result A LinkFault) (start : A) (n m : ℕ) (a : A) (fault : LinkFault) → n < m → steps step start n ≡ Ok a → MemoryOr (step n a) fault → MemoryOr (steps step start m) fault
+fails_or step start n m a fault inside e (inl memory) = inl memory
+fails_or step start n m a fault inside e (inr h) = inr (fails step start n m a fault inside e h)
 
-pub not_patched : (object : List ℕ) (plan : Plan) (maps : List ℕ) (part : Part) (i : ℕ) (words : List ℕ) (fault : LinkFault) → patch_of object plan maps part i ≡ Err fault → with_relocation object plan maps part i words ≡ Err fault
-not_patched object plan maps part i words fault e = ap (λ r. after r (λ p. Ok (with_patch words p))) e
+pub patched : (object : List ℕ) (plan : Plan) (maps taken : List ℕ) (part : Part) (i : ℕ) (words : List ℕ) (patch : Patch) → patch_of object plan maps taken part i ≡ Ok patch → with_relocation object plan maps taken part i words ≡ Ok (with_patch words patch)
+patched object plan maps taken part i words patch e = ap (λ r. after r (λ p. Ok (with_patch words p))) e
+
+pub not_patched : (object : List ℕ) (plan : Plan) (maps taken : List ℕ) (part : Part) (i : ℕ) (words : List ℕ) (fault : LinkFault) → patch_of object plan maps taken part i ≡ Err fault → with_relocation object plan maps taken part i words ≡ Err fault
+not_patched object plan maps taken part i words fault e = ap (λ r. after r (λ p. Ok (with_patch words p))) e
 
 pub full_symbol : (maps : ℕ) (symbol : SymbolEntry) (values : List ℕ) → is_map maps symbol ≡ true → length values ≡ 16 → with_symbol maps symbol values ≡ Err TooManyMaps
 full_symbol maps symbol values m full =

@@ -6,6 +6,8 @@ use Rattle.bpf_link.specs.declared.plan.Plan.{Plan}
 use Rattle.bpf_link.specs.declared.patch.Patch.{Patch}
 use Rattle.bpf_link.specs.Plans.{relocation_at}
 use Rattle.bpf_link.specs.Patches.{patch_of}
+use Rattle.bpf_link.specs.Data.{data_of}
+use Rattle.bpf_link.specs.Setup.{stores_of, with_setup}
 use Rattle.bpf_link.specs.Links.{maps_of}
 
 -- No relocation of a part changes a slot of it: none names it, and none of a wide load the slot before it.
@@ -24,9 +26,9 @@ next_slot object at next =
     slice_index object at ∷ (slice_index object (at + 1) ∷ (slice_index object (at + 2) ∷ (slice_index object (at + 3) ∷ little_bytes 4 next)))
 
 -- A relocation of a part is done in the words: the slot that it names, and the one after it of a wide load, are as the relocation says, and else as in the object.
-pub record IsDone (object : List ℕ) (plan : Plan) (maps : List ℕ) (part : Part) (words : List ℕ) (i : ℕ) : Type 0 where
+pub record IsDone (object : List ℕ) (plan : Plan) (maps taken : List ℕ) (part : Part) (words : List ℕ) (i : ℕ) : Type 0 where
   pub patch : Patch
-  pub told : patch_of object plan maps part i ≡ Ok patch
+  pub told : patch_of object plan maps taken part i ≡ Ok patch
   pub bytes : (k : ℕ) → k < 8 → slice_index words (patch.at + k) ≡ slice_index (patched_slot object (part.slots.at + (relocation_at object part.relocations i).offset) patch) k
   pub next : (next k : ℕ) → patch.next ≡ Some next → k < 8 → slice_index words (patch.at + 8 + k) ≡ slice_index (next_slot object (part.slots.at + (relocation_at object part.relocations i).offset + 8) next) k
 
@@ -34,11 +36,25 @@ pub record IsDone (object : List ℕ) (plan : Plan) (maps : List ℕ) (part : Pa
 -- and each relocation is done.
 pub record IsLaid (object : List ℕ) (plan : Plan) (words : List ℕ) : Type 0 where
   pub maps : List ℕ
+  pub taken : List ℕ
   pub numbered : maps_of object plan ≡ Ok maps
+  pub referred : data_of object plan ≡ Ok taken
   pub size : length words ≡ 8 * (plan.code.slots.count + plan.text.slots.count)
   pub code : (p k : ℕ) → p < plan.code.slots.count → k < 8 → IsPlain object plan.code p
       → slice_index words (8 * p + k) ≡ slice_index object (plan.code.slots.at + (8 * p + k))
   pub text : (p k : ℕ) → p < plan.text.slots.count → k < 8 → IsPlain object plan.text p
       → slice_index words (8 * (plan.code.slots.count + p) + k) ≡ slice_index object (plan.text.slots.at + (8 * p + k))
-  pub code_done : (i : ℕ) → i < plan.code.relocations.count → IsDone object plan maps plan.code words i
-  pub text_done : (i : ℕ) → i < plan.text.relocations.count → IsDone object plan maps plan.text words i
+  pub code_done : (i : ℕ) → i < plan.code.relocations.count → IsDone object plan maps taken plan.code words i
+  pub text_done : (i : ℕ) → i < plan.text.relocations.count → IsDone object plan maps taken plan.text words i
+
+-- A program is that, and the setup with it where its data aren't zeros at the start.
+pub record IsLaidOut (object : List ℕ) (plan : Plan) (words : List ℕ) : Type 0 where
+  pub maps : List ℕ
+  pub taken : List ℕ
+  pub numbered : maps_of object plan ≡ Ok maps
+  pub referred : data_of object plan ≡ Ok taken
+  pub code : List ℕ
+  pub laid : IsLaid object plan code
+  pub stores : List ℕ
+  pub stored : stores_of object plan maps taken ≡ Ok stores
+  pub whole : words ≡ with_setup code stores

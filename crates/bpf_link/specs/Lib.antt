@@ -3,7 +3,10 @@ pub mod Faults
 pub mod Header
 pub mod Sections
 pub mod Plans
+pub mod Data
 pub mod Patches
+pub mod Images
+pub mod Setup
 pub mod Links
 pub mod Laid
 pub mod Shapes

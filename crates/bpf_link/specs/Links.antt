@@ -1,24 +1,21 @@
 -- The program that an object holds: the words of its code, with the relocations of these done.
-use Rattle.std.specs.Prelude.{◌≡◌, ◌⊎◌, ℕ, zero, suc, ◌+◌, ◌*◌, ◌/◌, ◌==◌, ◌||◌, nat_le, nat_lt, min, Bool, Option, Some, None, is_some, List, [], ◌∷◌, ◌++◌, Result, Ok, Err, length, take, drop, slice_range, slice_set, if◌then◌else◌}
-use Rattle.byteorder.specs.Endian.{little_bytes}
-use Rattle.bpf_isa.specs.Checker.{IsRefused}
+use Rattle.std.specs.Prelude.{◌≡◌, ◌⊎◌, All, ℕ, zero, suc, ◌+◌, ◌*◌, ◌/◌, ◌==◌, nat_le, nat_lt, min, Option, Some, None, is_some, List, [], ◌∷◌, ◌++◌, Result, Ok, Err, length, map, slice_range, slice_set, if◌then◌else◌}
+use Rattle.bpf_isa.specs.Checker.{IsAccepted, IsRefused, most_slots}
+use Rattle.bpf_isa.specs.Maps.{IsShape}
 use Rattle.bpf_isa.specs.declared.maps.MapShape.{MapShape}
 use Rattle.bpf_isa.specs.declared.fault.LoadFault.{LoadFault}
 use Rattle.bpf_link.specs.declared.fault.LinkFault.{LinkFault}
-use Rattle.bpf_link.specs.declared.fault.LinkFault.TheVariants.{LongName, TooManyMaps, Program, Memory}
+use Rattle.bpf_link.specs.declared.fault.LinkFault.TheVariants.{LongName, TooLong, TooManyMaps, Program, Memory}
 use Rattle.bpf_link.specs.declared.layout.SymbolEntry.{SymbolEntry}
 use Rattle.bpf_link.specs.declared.plan.Part.{Part}
 use Rattle.bpf_link.specs.declared.plan.Plan.{Plan}
 use Rattle.bpf_link.specs.declared.patch.Patch.{Patch}
 use Rattle.bpf_link.specs.Header.{provided, opened}
-use Rattle.bpf_link.specs.Sections.{roles_below}
-use Rattle.bpf_link.specs.Plans.{after, symbol_at, plan_of}
-use Rattle.bpf_link.specs.Patches.{is_map, patch_of}
-
--- What the steps below n make of a value, one after the other, or the first fault.
-abbrev pub steps : {A : Type 0} → (ℕ → A → Result A LinkFault) → A → ℕ → Result A LinkFault
-steps step start zero = Ok start
-steps step start (suc n) = after (steps step start n) (step n)
+use Rattle.bpf_link.specs.Sections.{section_at, roles_below}
+use Rattle.bpf_link.specs.Plans.{after, steps, symbol_at, plan_of}
+use Rattle.bpf_link.specs.Data.{data_of}
+use Rattle.bpf_link.specs.Patches.{is_map, patch_of, with_u32}
+use Rattle.bpf_link.specs.Setup.{stores_of, with_setup}
 
 -- One more symbol: its value, where it names a map. There are at most 16 maps.
 abbrev pub with_symbol : ℕ → SymbolEntry → List ℕ → Result (List ℕ) LinkFault
@@ -28,10 +25,6 @@ with_symbol maps symbol values =
 -- Where the maps stand in their section.
 abbrev pub maps_of : List ℕ → Plan → Result (List ℕ) LinkFault
 maps_of object plan = steps (λ i values. with_symbol plan.maps (symbol_at object plan.symbols i) values) [] plan.symbols.count
-
--- A number in the four bytes at a place.
-abbrev pub with_u32 : List ℕ → ℕ → ℕ → List ℕ
-with_u32 bytes at n = take at bytes ++ (little_bytes 4 n ++ drop (at + 4) bytes)
 
 -- A slot with its registers and imm replaced, and the imm of the slot after it, of a wide load.
 abbrev pub with_slot : List ℕ → Patch → List ℕ
@@ -49,21 +42,21 @@ abbrev pub patch_width : Patch → ℕ
 patch_width patch = if is_some patch.next then 16 else 8
 
 -- The words with one relocation of a part done, and with those below n.
-abbrev pub with_relocation : List ℕ → Plan → List ℕ → Part → ℕ → List ℕ → Result (List ℕ) LinkFault
-with_relocation object plan maps part i words = after (patch_of object plan maps part i) (λ patch. Ok (with_patch words patch))
+abbrev pub with_relocation : List ℕ → Plan → List ℕ → List ℕ → Part → ℕ → List ℕ → Result (List ℕ) LinkFault
+with_relocation object plan maps taken part i words = after (patch_of object plan maps taken part i) (λ patch. Ok (with_patch words patch))
 
-abbrev pub relocated : List ℕ → Plan → List ℕ → Part → List ℕ → ℕ → Result (List ℕ) LinkFault
-relocated object plan maps part words n = steps (with_relocation object plan maps part) words n
+abbrev pub relocated : List ℕ → Plan → List ℕ → List ℕ → Part → List ℕ → ℕ → Result (List ℕ) LinkFault
+relocated object plan maps taken part words n = steps (with_relocation object plan maps taken part) words n
 
 -- The slots of a part as they stand in the object.
 abbrev pub slots_of : List ℕ → Part → List ℕ
 slots_of object part = slice_range object part.slots.at (part.slots.at + 8 * part.slots.count)
 
 -- The words of a plan: those of its section, then those of `.text`, relocations done.
-abbrev pub words_of : List ℕ → Plan → List ℕ → Result (List ℕ) LinkFault
-words_of object plan maps =
-    after (relocated object plan maps plan.code (slots_of object plan.code ++ slots_of object plan.text) plan.code.relocations.count) (λ words.
-    relocated object plan maps plan.text words plan.text.relocations.count)
+abbrev pub words_of : List ℕ → Plan → List ℕ → List ℕ → Result (List ℕ) LinkFault
+words_of object plan maps taken =
+    after (relocated object plan maps taken plan.code (slots_of object plan.code ++ slots_of object plan.text) plan.code.relocations.count) (λ words.
+    relocated object plan maps taken plan.text words plan.text.relocations.count)
 
 -- Want of memory may be answered instead of a fault; else it is that of the answer.
 abbrev pub MemoryOr : {A : Type 0} → Result A LinkFault → LinkFault → Type 0
@@ -81,23 +74,42 @@ abbrev pub data_shape : ℕ → MapShape
 data_shape size =
     if nat_lt size 32768 then record { value_size = 8; entries = size / 8 + 1 } else record { value_size = 16; entries = min (size / 16 + 1) 4096 }
 
--- The shape of the map that the data become that are zeros at the start, where the program refers to them.
-abbrev pub data_of : Plan → Option MapShape
-data_of plan = if plan.zeros.section == 0 then None else Some (data_shape plan.zeros.size)
+-- The shapes of the maps that sections of data become.
+abbrev pub shape_of_data : List ℕ → Plan → ℕ → MapShape
+shape_of_data object plan section = data_shape (section_at object plan.sections section).size
 
--- There are at most 16 maps, the object's own and that of its data.
-abbrev pub has_room : Plan → List ℕ → Bool
-has_room plan maps = (plan.zeros.section == 0) || nat_lt (length maps) 16
+abbrev pub data_shapes : List ℕ → Plan → List ℕ → List MapShape
+data_shapes object plan taken = map (shape_of_data object plan) taken
 
--- The words of a plan, how many maps the object has of its own, and the shape of the one that its data become, which comes after them.
-abbrev pub program_of : List ℕ → Plan → Result (List ℕ × ℕ × Option MapShape) LinkFault
+-- Each is the shape of a map that there may be.
+abbrev pub AllShapes : List MapShape → Type 0
+AllShapes shapes = All IsShape shapes
+
+-- A program: its words, how many maps the object has of its own, and the shapes of those that its data become, which come after them.
+pub record Made : Type 0 where
+  pub words : List ℕ
+  pub maps : ℕ
+  pub data_maps : List MapShape
+
+-- The words of a plan, with the setup. They are at most as many as a program may have.
+abbrev pub program_words : List ℕ → Plan → List ℕ → List ℕ → Result (List ℕ) LinkFault
+program_words object plan maps taken =
+    after (words_of object plan maps taken) (λ code.
+    after (stores_of object plan maps taken) (λ stores.
+    provided (nat_le (length code + length stores) (8 * most_slots)) TooLong
+    (Ok (with_setup code stores))))
+
+-- The program of a plan: its words with relocations done and, where its data aren't zeros at the start, the setup.
+abbrev pub program_of : List ℕ → Plan → Result Made LinkFault
 program_of object plan =
     after (maps_of object plan) (λ maps.
-    provided (has_room plan maps) TooManyMaps
-    (after (words_of object plan maps) (λ words. Ok (words, length maps, data_of plan))))
+    after (data_of object plan) (λ taken.
+    provided (nat_le (length maps + length taken) 16) TooManyMaps
+    (after (program_words object plan maps taken) (λ words.
+    Ok (record { words = words; maps = length maps; data_maps = data_shapes object plan taken })))))
 
--- The words of a section's program and its maps, or the first fault.
-abbrev pub linked : List ℕ → List ℕ → Result (List ℕ × ℕ × Option MapShape) LinkFault
+-- The program of a section, or the first fault.
+abbrev pub linked : List ℕ → List ℕ → Result Made LinkFault
 linked object name = after (planned object name) (program_of object)
 
 -- Maps of one byte each: the object's own shapes are its loader's matter.
@@ -105,23 +117,24 @@ abbrev pub plain_maps : ℕ → List MapShape
 plain_maps zero = []
 plain_maps (suc n) = plain_maps n ++ record { value_size = 1; entries = 1 } ∷ []
 
--- Those, and after them the map of data.
-abbrev pub with_data : List MapShape → Option MapShape → List MapShape
-with_data maps None = maps
-with_data maps (Some zeros) = maps ++ zeros ∷ []
+-- Those, and after them the maps of data.
+abbrev pub least_maps : ℕ → List MapShape → List MapShape
+least_maps own shapes = plain_maps own ++ shapes
 
-abbrev pub least_maps : ℕ → Option MapShape → List MapShape
-least_maps own zeros = with_data (plain_maps own) zeros
+-- The words that come out for an object. The checker accepts them, with maps of at least one byte, and those of its data.
+pub record AreWordsOf (object name code : List ℕ) : Type 0 where
+  pub program : Made
+  pub linked : linked object name ≡ Ok program
+  pub words : code ≡ program.words
+  pub accepted : IsAccepted code (least_maps program.maps program.data_maps)
 
 -- The words are no program.
 pub record IsRejected (object name : List ℕ) (fault : LinkFault) : Type 0 where
-  pub words : List ℕ
-  pub maps : ℕ
-  pub zeros : Option MapShape
+  pub program : Made
   pub refusal : LoadFault
   pub told : fault ≡ Program refusal
-  pub linked : linked object name ≡ Ok (words, maps, zeros)
-  pub refused : IsRefused words (least_maps maps zeros) refusal
+  pub linked : linked object name ≡ Ok program
+  pub refused : IsRefused program.words (least_maps program.maps program.data_maps) refusal
 
 -- Why no program is made of an object.
 abbrev pub IsLinkFault : List ℕ → List ℕ → LinkFault → Type 0

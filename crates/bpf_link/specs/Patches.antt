@@ -1,5 +1,6 @@
 -- What relocations make of the words: calls and map references (RFC 9669, sections 4.3 and 5.4; the relocations R_BPF_64_32 and R_BPF_64_64).
-use Rattle.std.specs.Prelude.{ℕ, ◌+◌, ◌*◌, ◌/◌, ◌%◌, ◌-◌, ◌==◌, nat_lt, Bool, not, ◌&&◌, ◌||◌, if◌then◌else◌, List, Result, Ok, Err, Some, None, count_by, length, slice_index}
+use Rattle.std.specs.Prelude.{ℕ, ◌+◌, ◌*◌, ◌/◌, ◌%◌, ◌-◌, ◌==◌, nat_lt, Bool, not, ◌&&◌, ◌||◌, if◌then◌else◌, List, ◌++◌, Result, Ok, Err, Some, None, count_by, take, drop, slice_index}
+use Rattle.byteorder.specs.Endian.{little_bytes}
 use Rattle.bpf_isa.specs.Words.{u32_at}
 use Rattle.bpf_link.specs.declared.fault.LinkFault.{LinkFault}
 use Rattle.bpf_link.specs.declared.fault.LinkFault.TheVariants.{Place, Symbol, Extern, RelocationKind, CallTarget, NoCall, Data, NoLoad}
@@ -11,6 +12,7 @@ use Rattle.bpf_link.specs.declared.plan.Plan.{Plan}
 use Rattle.bpf_link.specs.declared.patch.Patch.{Patch}
 use Rattle.bpf_link.specs.Header.{provided}
 use Rattle.bpf_link.specs.Plans.{after, relocation_at, symbol_at}
+use Rattle.bpf_link.specs.Data.{is_among, data_number}
 
 -- The slot of a call: opcode 0x85, and 1 for src, which tells a local call. The functions of the kernel have 2, its helpers 0.
 abbrev pub is_call : List ℕ → ℕ → Bool
@@ -61,29 +63,30 @@ abbrev pub is_short_load : List ℕ → ℕ → Bool
 is_short_load object at =
     (slice_index object at == 0x18) && ((slice_index object (at + 1) / 16 == 0) && (u32_at object (at + 12) == 0))
 
--- A wide load of an address in the data, which are the map after the object's own (RFC 9669, section 5.4): 6 for src, the map's number in imm, and in the second
--- imm the place in the data: the symbol's value and what stood in imm.
-abbrev pub zeros_patch : List ℕ → List ℕ → SymbolEntry → ℕ → ℕ → Result Patch LinkFault
-zeros_patch object maps symbol at slot =
+-- A wide load of an address in the data of a section, which are one of the maps after the object's own (RFC 9669, section 5.4): 6 for src, the map's number in imm,
+-- and in the second imm the place in the data: the symbol's value and what stood in imm.
+abbrev pub data_patch : List ℕ → List ℕ → List ℕ → SymbolEntry → ℕ → ℕ → Result Patch LinkFault
+data_patch object maps taken symbol at slot =
     provided (is_short_load object at) (NoLoad slot)
-    (Ok (record { at = 8 * slot; registers = slice_index object (at + 1) + 0x60; imm = length maps; next = Some ((symbol.value % 4294967296 + u32_at object (at + 4)) % 4294967296) }))
-
--- A symbol lies in the data.
-abbrev pub is_in_zeros : Plan → SymbolEntry → Bool
-is_in_zeros plan symbol = nat_lt 0 symbol.section && (symbol.section == plan.zeros.section)
+    (Ok (record {
+      at = 8 * slot;
+      registers = slice_index object (at + 1) + 0x60;
+      imm = data_number maps taken symbol.section;
+      next = Some ((symbol.value % 4294967296 + u32_at object (at + 4)) % 4294967296);
+    }))
 
 -- A wide load of a map or of data.
-abbrev pub load_patch : List ℕ → Plan → List ℕ → SymbolEntry → ℕ → ℕ → Result Patch LinkFault
-load_patch object plan maps symbol at slot =
-    if is_in_zeros plan symbol then zeros_patch object maps symbol at slot else map_patch object plan maps symbol at slot
+abbrev pub load_patch : List ℕ → Plan → List ℕ → List ℕ → SymbolEntry → ℕ → ℕ → Result Patch LinkFault
+load_patch object plan maps taken symbol at slot =
+    if is_among taken symbol.section then data_patch object maps taken symbol at slot else map_patch object plan maps symbol at slot
 
 -- What a relocation against a symbol makes of the slot that it names. One of a wide load names the first of two slots.
-abbrev pub patch_with : List ℕ → Plan → List ℕ → Part → RelocationEntry → SymbolEntry → Result Patch LinkFault
-patch_with object plan maps part relocation symbol =
+abbrev pub patch_with : List ℕ → Plan → List ℕ → List ℕ → Part → RelocationEntry → SymbolEntry → Result Patch LinkFault
+patch_with object plan maps taken part relocation symbol =
     provided (not (symbol.section == 0)) (Extern (part.first + relocation.offset / 8))
     (if relocation.kind == 10 then call_patch object plan symbol (part.slots.at + relocation.offset) (part.first + relocation.offset / 8)
     else (if relocation.kind == 1
-    then provided (nat_lt (relocation.offset / 8 + 1) part.slots.count) (NoLoad (part.first + relocation.offset / 8)) (load_patch object plan maps symbol (part.slots.at + relocation.offset) (part.first + relocation.offset / 8))
+    then provided (nat_lt (relocation.offset / 8 + 1) part.slots.count) (NoLoad (part.first + relocation.offset / 8)) (load_patch object plan maps taken symbol (part.slots.at + relocation.offset) (part.first + relocation.offset / 8))
     else Err (RelocationKind (part.first + relocation.offset / 8))))
 
 -- How many bytes of the slots a relocation changes: that of a wide load has two slots.
@@ -94,14 +97,18 @@ width_of relocation = if relocation.kind == 1 then 16 else 8
 abbrev pub is_next : List ℕ → Entries → ℕ → Bool
 is_next object relocations i = (i == 0) || nat_lt ((relocation_at object relocations (i - 1)).offset + width_of (relocation_at object relocations (i - 1)) - 8) (relocation_at object relocations i).offset
 
-abbrev pub patch_at : List ℕ → Plan → List ℕ → Part → RelocationEntry → Result Patch LinkFault
-patch_at object plan maps part relocation =
+abbrev pub patch_at : List ℕ → Plan → List ℕ → List ℕ → Part → RelocationEntry → Result Patch LinkFault
+patch_at object plan maps taken part relocation =
     provided (relocation.offset % 8 == 0) Place
     (provided (nat_lt (relocation.offset / 8) part.slots.count) Place
     (provided (nat_lt relocation.symbol plan.symbols.count) (Symbol (part.first + relocation.offset / 8))
-    (patch_with object plan maps part relocation (symbol_at object plan.symbols relocation.symbol))))
+    (patch_with object plan maps taken part relocation (symbol_at object plan.symbols relocation.symbol))))
 
 -- What a relocation of a part makes of its slot.
-abbrev pub patch_of : List ℕ → Plan → List ℕ → Part → ℕ → Result Patch LinkFault
-patch_of object plan maps part i =
-    provided (is_next object part.relocations i) Place (patch_at object plan maps part (relocation_at object part.relocations i))
+abbrev pub patch_of : List ℕ → Plan → List ℕ → List ℕ → Part → ℕ → Result Patch LinkFault
+patch_of object plan maps taken part i =
+    provided (is_next object part.relocations i) Place (patch_at object plan maps taken part (relocation_at object part.relocations i))
+
+-- A number in the four bytes at a place.
+abbrev pub with_u32 : List ℕ → ℕ → ℕ → List ℕ
+with_u32 bytes at n = take at bytes ++ (little_bytes 4 n ++ drop (at + 4) bytes)

@@ -2,7 +2,7 @@
 use Rattle.std.specs.Prelude.{◌≤◌, ◌<◌, ◌≡◌, ℕ, zero, suc, ◌+◌, ◌*◌, ◌/◌, ◌%◌, ◌-◌, ◌==◌, nat_le, nat_lt, Bool, true, false, ◌&&◌, ◌||◌, if◌then◌else◌, List, Result, Ok, Err, length, codes, slice_index}
 use Rattle.bpf_isa.specs.Checker.{most_slots}
 use Rattle.bpf_link.specs.declared.fault.LinkFault.{LinkFault}
-use Rattle.bpf_link.specs.declared.fault.LinkFault.TheVariants.{NoSection, ManySections, Section, TooLong, RunsOff, SymbolTable, ManyMapSections, RelocationTable, LongData}
+use Rattle.bpf_link.specs.declared.fault.LinkFault.TheVariants.{NoSection, ManySections, Section, TooLong, RunsOff, SymbolTable, ManyMapSections, RelocationTable}
 use Rattle.bpf_link.specs.declared.header.Sections.{Sections}
 use Rattle.bpf_link.specs.declared.layout.SectionHeader.{SectionHeader}
 use Rattle.bpf_link.specs.declared.layout.RelocationEntry.{RelocationEntry}
@@ -13,15 +13,19 @@ use Rattle.bpf_link.specs.declared.sections.Roles.{Roles}
 use Rattle.bpf_link.specs.declared.plan.Entries.{Entries}
 use Rattle.bpf_link.specs.declared.plan.Part.{Part}
 use Rattle.bpf_link.specs.declared.plan.Plan.{Plan}
-use Rattle.bpf_link.specs.declared.plan.Zeros.{Zeros}
 use Rattle.bpf_link.specs.Layout.{symbol_entry, relocation_entry}
-use Rattle.bpf_link.specs.Header.{provided}
-use Rattle.bpf_link.specs.Sections.{section_at, is_named, zeros_of, relocations_of}
+use Rattle.bpf_link.specs.Header.{provided, HasTable}
+use Rattle.bpf_link.specs.Sections.{section_at, is_named, relocations_of}
 
 -- What follows a value, unless there is a fault.
 abbrev pub after : {A B : Type 0} → Result A LinkFault → (A → Result B LinkFault) → Result B LinkFault
 after (Ok value) next = next value
 after (Err fault) next = Err fault
+
+-- What the steps below n make of a value, one after the other, or the first fault.
+abbrev pub steps : {A : Type 0} → (ℕ → A → Result A LinkFault) → A → ℕ → Result A LinkFault
+steps step start zero = Ok start
+steps step start (suc n) = after (steps step start n) (step n)
 
 -- The entries of a section: it lies in the file and holds a whole number of them.
 abbrev pub entries_of : List ℕ → ℕ → LinkFault → SectionHeader → Result Entries LinkFault
@@ -124,30 +128,21 @@ definitions_in object sections (Only i) =
     else no_entries
 definitions_in object sections Several = no_entries
 
-abbrev pub no_zeros : Zeros
-no_zeros = record { section = 0; size = 0 }
-
--- The most bytes of data: those of a map.
-abbrev pub most_data : ℕ
-most_data = 65_536
-
--- The data that are zeros at the start, where the program refers to them and they stand in one section.
-abbrev pub zeros_in : List ℕ → Sections → Entries → Part → Part → Found → Result Zeros LinkFault
-zeros_in object sections symbols code text Nothing = Ok no_zeros
-zeros_in object sections symbols code text (Only i) =
-    if refers_below object symbols code.relocations 1 i code.relocations.count || refers_below object symbols text.relocations 1 i text.relocations.count
-    then provided (nat_le (section_at object sections i).size most_data) LongData (Ok (record { section = i; size = (section_at object sections i).size }))
-    else Ok no_zeros
-zeros_in object sections symbols code text Several = Ok no_zeros
-
 abbrev pub plan_with : List ℕ → Sections → Roles → Entries → ℕ → ℕ → Result Plan LinkFault
 plan_with object sections roles symbols maps chosen =
     after (part_of object sections roles.symbols chosen 0) (λ code.
     provided (is_closed object code.slots) RunsOff
     (after (text_in object sections roles.symbols symbols code roles.text) (λ text.
     provided (nat_le (code.slots.count + text.slots.count) most_slots) TooLong
-    (after (zeros_in object sections symbols code text (zeros_of object sections)) (λ zeros.
-    Ok (record { symbols = symbols; maps = maps; definitions = definitions_in object sections roles.maps; zeros = zeros; code = code; text = text }))))))
+    (Ok (record {
+      sections = sections;
+      table = roles.symbols;
+      symbols = symbols;
+      maps = maps;
+      definitions = definitions_in object sections roles.maps;
+      code = code;
+      text = text;
+    })))))
 
 abbrev pub plan_of : List ℕ → Sections → Roles → Bool → Result Plan LinkFault
 plan_of object sections roles unnamed =
@@ -167,9 +162,9 @@ pub record LiesPart (object : List ℕ) (part : Part) : Type 0 where
 
 -- All that a plan names lies in the file. The slots of `.text` follow those of the section that is asked for.
 pub record LiesPlan (object : List ℕ) (plan : Plan) : Type 0 where
+  pub sections : HasTable object plan.sections
   pub symbols : Lies object 24 plan.symbols
   pub definitions : Lies object 1 plan.definitions
-  pub zeros : plan.zeros.size ≤ most_data
   pub code : LiesPart object plan.code
   pub text : LiesPart object plan.text
   pub begins : plan.code.first ≡ 0

@@ -43,9 +43,11 @@ is_symbols section = section.kind == 2
 abbrev pub is_maps : List ℕ → Sections → SectionHeader → Bool
 is_maps object sections section = is_named object sections section (codes "maps") || is_named object sections section (codes ".maps")
 
--- It holds data that are zeros at the start, without a byte in the file: SHT_NOBITS.
-abbrev pub is_zeros : List ℕ → Sections → SectionHeader → Bool
-is_zeros object sections section = (section.kind == 8) && not (is_maps object sections section)
+-- It holds data: SHT_PROGBITS, or SHT_NOBITS of data that are zeros at the start, without a byte in the file; SHF_ALLOC and no SHF_EXECINSTR; and no maps.
+abbrev pub is_data : List ℕ → Sections → SectionHeader → Bool
+is_data object sections section =
+    ((section.kind == 1) || (section.kind == 8))
+    && ((section.flags / 2 % 2 == 1) && ((section.flags / 4 % 2 == 0) && not (is_maps object sections section)))
 
 -- It holds the relocations of a section: SHT_REL or SHT_RELA.
 abbrev pub is_relocations : ℕ → SectionHeader → Bool
@@ -76,10 +78,6 @@ roles_below object sections name n = record {
   symbols = found_below (λ i. is_symbols (section_at object sections i)) n;
   maps = found_below (λ i. is_maps object sections (section_at object sections i)) n;
 }
-
--- The data that are zeros at the start.
-abbrev pub zeros_of : List ℕ → Sections → Found
-zeros_of object sections = found_below (λ i. is_zeros object sections (section_at object sections i)) sections.count
 
 -- The relocations of a section.
 abbrev pub relocations_of : List ℕ → Sections → ℕ → Found

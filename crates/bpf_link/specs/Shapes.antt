@@ -1,5 +1,5 @@
 -- The shapes of an object's maps, by their definitions in its section `maps`.
-use Rattle.std.specs.Prelude.{◌≡◌, ◌≢◌, ℕ, ◌+◌, ◌==◌, nat_le, nat_lt, Bool, ◌&&◌, if◌then◌else◌, List, [], Option, Ok, Some, length, map, slice_get, Contains, IsPermutation, IsSorted}
+use Rattle.std.specs.Prelude.{◌≡◌, ◌≢◌, ℕ, ◌+◌, ◌==◌, nat_le, nat_lt, Bool, ◌&&◌, if◌then◌else◌, List, [], ◌++◌, Ok, Some, length, map, slice_get, Contains, IsPermutation, IsSorted}
 use Rattle.std.specs.List.{list_all}
 use Rattle.std.specs.Ordering.{nat_cmp}
 use Rattle.bpf_isa.specs.declared.maps.MapShape.{MapShape}
@@ -7,7 +7,8 @@ use Rattle.bpf_link.specs.declared.layout.MapDefinition.{MapDefinition}
 use Rattle.bpf_link.specs.declared.plan.Entries.{Entries}
 use Rattle.bpf_link.specs.declared.plan.Plan.{Plan}
 use Rattle.bpf_link.specs.Layout.{map_definition}
-use Rattle.bpf_link.specs.Links.{maps_of, data_of, with_data}
+use Rattle.bpf_link.specs.Data.{data_of}
+use Rattle.bpf_link.specs.Links.{maps_of, data_shapes}
 use Rattle.bpf_link.specs.Patches.{map_number}
 
 -- The definition at a place of the section.
@@ -48,14 +49,16 @@ abbrev pub is_unknown : List ℕ → List MapShape → Bool
 is_unknown maps own = nat_lt 0 (length maps) && (length own == 0)
 
 -- The shapes of all maps, those of data last. There are none where those of the object's own aren't known.
-abbrev pub all_shapes : List ℕ → List MapShape → Option MapShape → List MapShape
-all_shapes maps own zeros = if is_unknown maps own then [] else with_data own zeros
+abbrev pub all_shapes : List ℕ → List MapShape → List MapShape → List MapShape
+all_shapes maps own others = if is_unknown maps own then [] else own ++ others
 
 -- The shapes of the maps of a plan.
 pub record HasShapes (object : List ℕ) (plan : Plan) (shapes : List MapShape) : Type 0 where
   pub maps : List ℕ
+  pub taken : List ℕ
   pub found : maps_of object plan ≡ Ok maps
+  pub referred : data_of object plan ≡ Ok taken
   pub own : List MapShape
   pub ordered : AreShapes object plan.definitions maps own
   pub numbered : AreNumbered object plan.definitions maps own
-  pub all : shapes ≡ all_shapes maps own (data_of plan)
+  pub all : shapes ≡ all_shapes maps own (data_shapes object plan taken)

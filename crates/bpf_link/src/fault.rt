@@ -67,12 +67,16 @@ pub enum LinkFault {
     Memory,
     /// The program refers to a section of data of more than 65,536 bytes.
     LongData,
+    /// A section of data that the program refers to doesn't lie in the file.
+    DataSection,
+    /// A relocation of data is no address of data, or doesn't lie in them.
+    Pointer,
 }
 
 impl LinkFault {
     ghost use Rattle.bpf_link.specs.Faults.{link_fault_number, link_fault_text};
 
-    /// The number that is printed after E, 1 to 27; that of a program's fault is 25.
+    /// The number that is printed after E, 1 to 29; that of a program's fault is 25.
     pub fn number(self) -> u8
         ensures { result ≡ link_fault_number self }
     {
@@ -104,6 +108,8 @@ impl LinkFault {
             LinkFault::Program(_) => 25,
             LinkFault::Memory => 26,
             LinkFault::LongData => 27,
+            LinkFault::DataSection => 28,
+            LinkFault::Pointer => 29,
         }
     }
 
@@ -139,6 +145,8 @@ impl LinkFault {
             LinkFault::Program(fault) => fault.text(),
             LinkFault::Memory => "out of memory",
             LinkFault::LongData => "data longer than 65536 bytes",
+            LinkFault::DataSection => "malformed data section",
+            LinkFault::Pointer => "address in data of what is no data",
         }
     }
 }

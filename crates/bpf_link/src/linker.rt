@@ -1,21 +1,24 @@
 //! The linker: from an object to the words of a program.
-ghost use Rattle.std.specs.Prelude.{◌≡◌, ◌≤◌, ◌<◌, length, IfOk, IfErr, IfSome, Ok, Err};
+ghost use Rattle.std.specs.Prelude.{◌≡◌, ◌≤◌, ◌<◌, ◌+◌, length, IfOk, IfErr, Ok, Err};
 ghost use Rattle.bpf_isa.specs.Checker.{IsAccepted};
 ghost use Rattle.bpf_isa.specs.Maps.{IsShape};
-ghost use Rattle.bpf_link.specs.Laid.{IsLaid};
-ghost use Rattle.bpf_link.specs.Links.{IsLinkFault, MemoryOr, linked, planned, program_of, plain_maps, least_maps, data_shape, data_of, has_room};
-ghost use Rattle.bpf_link.specs.Plans.{LiesPlan, most_data};
+ghost use Rattle.bpf_link.specs.Data.{AllBelow};
+ghost use Rattle.bpf_link.specs.Laid.{IsLaidOut};
+ghost use Rattle.bpf_link.specs.Links.{AllShapes, IsLinkFault, MemoryOr, linked, planned, program_of, program_words, plain_maps, least_maps, data_shape, data_shapes};
+ghost use Rattle.bpf_link.specs.Plans.{LiesPlan};
 ghost use Rattle.bpf_link.specs.Shapes.{HasShapes};
 ghost use Rattle.bpf_link.specs.declared.plan.Plan.{Plan};
 
+use crate::data_sections::data_of;
 use crate::fault::LinkFault;
 use crate::header::open;
 use crate::plan::{Plan, plan_of};
-use crate::sections::roles_of;
+use crate::sections::{roles_of, section_at};
+use crate::setup::{stores_of, with_setup};
 use crate::shapes::all_shapes;
 use crate::words::{maps_of, words_of};
 use arrayvec::ArrayVec;
-use bpf_isa::{LoadFault, MapShape, MapTable, check};
+use bpf_isa::{LoadFault, MOST_SLOTS, MapShape, MapTable, check};
 use std::alloc::Global;
 
 /// A program that was made of an object.
@@ -23,12 +26,13 @@ use std::alloc::Global;
 pub struct Linked {
     /// Its words.
     pub words: Vec<u8>,
-    /// How many maps the object has of its own, at most 16. Their numbers follow their places in
-    /// the section of maps.
+    /// How many maps the object has of its own. Their numbers follow their places in the section of
+    /// maps.
     pub maps: usize,
-    /// The shape of the map that its data become, which comes after those, where the program refers
-    /// to data. There are at most 16 maps in all.
-    pub zeros: Option<MapShape>,
+    /// The shapes of the maps that its data become, which come after those: one for each section
+    /// that the program refers to, in the order of the sections' numbers. There are at most 16 maps
+    /// in all.
+    pub data_maps: ArrayVec<MapShape, 16>,
     /// The shapes of all maps, in the order of their numbers: those that the object's section
     /// `maps` gives them, of any size, and those of data. None unless it defines each of its own as
     /// an array.
@@ -66,70 +70,98 @@ fn planned(object: &[u8], name: &[u8]) -> Result<Plan, LinkFault>
     plan_of(object, &sections, &roles, name.is_empty())
 }
 
-/// A table of so many maps of one byte each, and after them that of data.
-fn least_maps(count: usize, zeros: Option<MapShape>) -> MapTable
-    requires count { count ≤ 16 }
-    requires room { IfSome zeros (λ shape. (count < 16) × IsShape shape) }
-    ensures { result ≡ least_maps count zeros }
+/// A table of so many maps of one byte each, and after them those of data.
+fn least_maps(count: usize, shapes: &[MapShape]) -> MapTable
+    requires few { count + length shapes.now ≤ 16 }
+    requires possible { AllShapes shapes.now }
+    ensures { result ≡ least_maps count shapes.now }
 {
     let mut maps = plain_maps(count);
-    match zeros {
-        None => maps,
-        Some(shape) => match maps.add(shape.value_size, shape.entries) {
-            Ok(()) => maps,
-            Err(_) => maps,
-        },
+    for shape in shapes {
+        match maps.add(shape.value_size, shape.entries) {
+            Ok(()) => {}
+            Err(_) => return maps,
+        }
     }
-}
-
-/// The shape of the map that the data become.
-fn data_of(plan: &Plan) -> Option<MapShape>
-    requires { plan.now.zeros.size ≤ most_data }
-    ensures value { result ≡ data_of plan.now }
-    ensures shape { IfSome result IsShape }
-{
-    if plan.zeros.section == 0 {
-        return None;
-    }
-    Some(data_shape(plan.zeros.size))
+    maps
 }
 
 /// The shape of the map that holds so many bytes of data.
-fn data_shape(size: usize) -> MapShape
-    requires { size ≤ most_data }
+fn data_shape(size: u64) -> MapShape
     ensures value { result ≡ data_shape size }
     ensures shape { IsShape result }
 {
-    let size = size as u32;
     if size < 32768 {
         return MapShape {
             value_size: 8,
-            entries: size / 8 + 1,
+            entries: size as u32 / 8 + 1,
         };
     }
     MapShape {
         value_size: 16,
-        entries: (size / 16 + 1).min(4096),
+        entries: (size / 16 + 1).min(4096) as u32,
     }
 }
 
-/// Whether there is room for the map of data beside the object's own.
-fn has_room(plan: &Plan, maps: &[u64]) -> bool
-    ensures { result ≡ has_room plan.now maps.now }
+/// The shapes of the maps that sections of data become.
+fn data_shapes(object: &[u8], plan: &Plan, taken: &[usize]) -> ArrayVec<MapShape, 16>
+    requires plan { LiesPlan object.now plan.now }
+    requires few { length taken.now ≤ 16 }
+    requires below { AllBelow plan.now.sections.count taken.now }
+    ensures value { result.items ≡ data_shapes object.now plan.now taken.now }
+    ensures possible { AllShapes result.items }
 {
-    plan.zeros.section == 0 || maps.len() < 16
+    let mut shapes = ArrayVec::new();
+    for section in taken {
+        let header = section_at(object, &plan.sections, *section);
+        shapes.push(data_shape(header.size));
+    }
+    shapes
+}
+
+/// The words of a plan, with the setup.
+fn program_words(
+    alloc: Global,
+    object: &[u8],
+    plan: &Plan,
+    maps: &[u64],
+    taken: &[usize],
+) -> Result<Vec<u8>, LinkFault>
+    requires plan { LiesPlan object.now plan.now }
+    requires few { length maps.now + length taken.now ≤ 16 }
+    requires below { AllBelow plan.now.sections.count taken.now }
+    ensures ok { IfOk result (λ words.
+        program_words object.now plan.now maps.now taken.now ≡ Ok words.items) }
+    ensures err { IfErr result (MemoryOr
+        (program_words object.now plan.now maps.now taken.now)) }
+{
+    let code = match words_of(alloc, object, plan, maps, taken) {
+        Ok(code) => code,
+        Err(fault) => return Err(fault),
+    };
+    let stores = match stores_of(alloc, object, plan, maps, taken) {
+        Ok(stores) => stores,
+        Err(fault) => return Err(fault),
+    };
+    if code.len() + stores.len() > 8 * MOST_SLOTS {
+        return Err(LinkFault::TooLong);
+    }
+    with_setup(alloc, code, &stores)
 }
 
 /// The words of a plan, how many maps there are, and their shapes.
 fn program_of(alloc: Global, object: &[u8], plan: &Plan) -> Result<Linked, LinkFault>
     requires { LiesPlan object.now plan.now }
     ensures ok { IfOk result (λ program. program_of object.now plan.now
-        ≡ Ok (program.words.items, program.maps, program.zeros)) }
+        ≡ Ok (record {
+          words = program.words.items;
+          maps = program.maps;
+          data_maps = program.data_maps.items;
+        })) }
     ensures err { IfErr result (MemoryOr (program_of object.now plan.now)) }
-    ensures laid { IfOk result (λ program. IsLaid object.now plan.now program.words.items) }
-    ensures few { IfOk result (λ program. program.maps ≤ 16) }
-    ensures room { IfOk result (λ program. IfSome program.zeros (λ shape. (program.maps < 16)
-        × IsShape shape)) }
+    ensures laid { IfOk result (λ program. IsLaidOut object.now plan.now program.words.items) }
+    ensures few { IfOk result (λ program. program.maps + length program.data_maps.items ≤ 16) }
+    ensures possible { IfOk result (λ program. AllShapes program.data_maps.items) }
     ensures shapes { IfOk result (λ program. HasShapes object.now plan.now program.shapes.items) }
 {
     let maps = match maps_of(object, plan) {
@@ -137,40 +169,51 @@ fn program_of(alloc: Global, object: &[u8], plan: &Plan) -> Result<Linked, LinkF
         Err(fault) => return Err(fault),
     };
     let own = maps.as_slice();
-    if !has_room(plan, own) {
+    let sections = match data_of(object, plan) {
+        Ok(sections) => sections,
+        Err(fault) => return Err(fault),
+    };
+    let taken = sections.as_slice();
+    if own.len() + taken.len() > 16 {
         return Err(LinkFault::TooManyMaps);
     }
-    let zeros = data_of(plan);
-    match words_of(alloc, object, plan, own) {
-        Ok(words) => Ok(Linked {
-            words,
-            maps: own.len(),
-            zeros,
-            shapes: all_shapes(object, &plan.definitions, own, zeros),
-        }),
-        Err(fault) => Err(fault),
-    }
+    let words = match program_words(alloc, object, plan, own, taken) {
+        Ok(words) => words,
+        Err(fault) => return Err(fault),
+    };
+    let data_maps = data_shapes(object, plan, taken);
+    Ok(Linked {
+        words,
+        maps: own.len(),
+        shapes: all_shapes(object, &plan.definitions, own, data_maps.as_slice()),
+        data_maps,
+    })
 }
 
 /// The program of a code section of a relocatable ELF object for BPF (64 bits, little-endian).
 ///
 /// `section` is the section's name, at most 255 bytes; where it is empty, the section is the only
-/// one with code besides `.text`, or else `.text`. The words are those of the section, whose first
-/// slot is the entry, and after them those of `.text`, if the section calls it. Calls get their
-/// distances, and wide loads of maps the maps' numbers: 0 for the one that stands first in the
-/// section `maps` or `.maps`. Data that are zeros at the start (`.bss`) are a map after those, and
-/// wide loads of their addresses become those of a place in it. The words pass the checker, for
-/// maps that have at least one byte. Takes time in proportion to the length of the object.
+/// one with code besides `.text`, or else `.text`. The words are those of the section, and after
+/// them those of `.text`, if the section calls it. Calls get their distances, and wide loads of
+/// maps the maps' numbers: 0 for the one that stands first in the section `maps` or `.maps`. The
+/// sections of data that the program refers to are maps after those, and wide loads of addresses
+/// in them become those of places in these maps. The entry is slot 0; where data aren't zeros at
+/// the start, slot 0 jumps to a setup behind the code, which stores them and goes on in slot 1,
+/// where the code begins. The words pass the checker, for maps that have at least one byte. Takes
+/// time in proportion to the length of the object.
 pub fn link(alloc: Global, object: &[u8], section: &[u8]) -> Result<Linked, LinkFault>
-    ensures ok { IfOk result (λ program. linked object.now section.now
-        ≡ Ok (program.words.items, program.maps, program.zeros)) }
+    ensures ok { IfOk result (λ program. linked object.now section.now ≡ Ok (record {
+      words = program.words.items;
+      maps = program.maps;
+      data_maps = program.data_maps.items;
+    })) }
     ensures laid { IfOk result (λ program. (plan : Plan)
-        × (planned object.now section.now ≡ Ok plan) × IsLaid object.now plan program.words.items) }
+        × (planned object.now section.now ≡ Ok plan) × IsLaidOut object.now plan program.words.items) }
     ensures shapes { IfOk result (λ program. (plan : Plan)
         × (planned object.now section.now ≡ Ok plan)
         × HasShapes object.now plan program.shapes.items) }
     ensures accepted { IfOk result
-        (λ program. IsAccepted program.words.items (least_maps program.maps program.zeros)) }
+        (λ program. IsAccepted program.words.items (least_maps program.maps program.data_maps.items)) }
     ensures err { IfErr result (IsLinkFault object.now section.now) }
 {
     let plan = match planned(object, section) {
@@ -184,7 +227,7 @@ pub fn link(alloc: Global, object: &[u8], section: &[u8]) -> Result<Linked, Link
     match check(
         alloc,
         &program.words,
-        &least_maps(program.maps, program.zeros),
+        &least_maps(program.maps, program.data_maps.as_slice()),
     ) {
         Ok(_) => Ok(program),
         Err(LoadFault::Memory) => Err(LinkFault::Memory),

@@ -2,9 +2,10 @@
 ghost use Rattle.std.specs.Prelude.{◌≡◌, ◌≤◌, ◌<◌, ◌+◌, ◌*◌, ◌/◌, ◌%◌, length, IfOk, OnOk, IfErr, Ok, Err};
 ghost use Rattle.bpf_isa.specs.Words.{u32_at};
 ghost use Rattle.bpf_link.specs.Links.{patch_width};
-ghost use Rattle.bpf_link.specs.Patches.{is_call, part_with, call_to, call_patch, is_map, is_empty_load, map_number, map_patch, is_short_load, zeros_patch, is_in_zeros, load_patch, patch_with, is_next, patch_at, patch_of};
+ghost use Rattle.bpf_link.specs.Patches.{is_call, part_with, call_to, call_patch, is_map, is_empty_load, map_number, map_patch, is_short_load, data_patch, load_patch, patch_with, is_next, patch_at, patch_of};
 ghost use Rattle.bpf_link.specs.Plans.{Lies, LiesPart, LiesPlan};
 
+use crate::data_sections::{data_number, is_among};
 use crate::fault::LinkFault;
 use crate::fields::u32_at;
 use crate::layout::{RelocationEntry, SymbolEntry};
@@ -160,18 +161,19 @@ fn is_short_load(object: &[u8], at: usize) -> bool
     object[at] == 0x18 && (object[at + 1] / 16 == 0 && u32_at(object, at + 12) == 0)
 }
 
-/// The wide load of an address in the data, in the two slots at a place in the file.
-fn zeros_patch(
+/// The wide load of an address in data, in the two slots at a place in the file.
+fn data_patch(
     object: &[u8],
     maps: &[u64],
+    taken: &[usize],
     symbol: &SymbolEntry,
     at: usize,
     slot: usize,
 ) -> Result<Patch, LinkFault>
     requires at { at + 16 ≤ length object.now }
     requires slot { slot < 65535 }
-    requires maps { length maps.now ≤ 16 }
-    ensures value { result ≡ zeros_patch object.now maps.now symbol.now at slot }
+    requires few { length maps.now + length taken.now ≤ 16 }
+    ensures value { result ≡ data_patch object.now maps.now taken.now symbol.now at slot }
     ensures at { IfOk result (λ patch. patch.at ≡ 8 * slot) }
 {
     if !is_short_load(object, at) {
@@ -181,16 +183,9 @@ fn zeros_patch(
     Ok(Patch {
         at: 8 * slot,
         registers: object[at + 1] + 0x60,
-        imm: maps.len() as u32,
+        imm: data_number(maps, taken, usize::from(symbol.section)) as u32,
         next: Some(place as u32),
     })
-}
-
-/// Whether a symbol lies in the data.
-fn is_in_zeros(plan: &Plan, symbol: &SymbolEntry) -> bool
-    ensures { result ≡ is_in_zeros plan.now symbol.now }
-{
-    symbol.section > 0 && usize::from(symbol.section) == plan.zeros.section
 }
 
 /// The wide load of a map or of data.
@@ -198,18 +193,19 @@ fn load_patch(
     object: &[u8],
     plan: &Plan,
     maps: &[u64],
+    taken: &[usize],
     symbol: &SymbolEntry,
     at: usize,
     slot: usize,
 ) -> Result<Patch, LinkFault>
     requires at { at + 16 ≤ length object.now }
     requires slot { slot < 65535 }
-    requires maps { length maps.now ≤ 16 }
-    ensures value { result ≡ load_patch object.now plan.now maps.now symbol.now at slot }
+    requires few { length maps.now + length taken.now ≤ 16 }
+    ensures value { result ≡ load_patch object.now plan.now maps.now taken.now symbol.now at slot }
     ensures at { IfOk result (λ patch. patch.at ≡ 8 * slot) }
 {
-    if is_in_zeros(plan, symbol) {
-        return zeros_patch(object, maps, symbol, at, slot);
+    if is_among(taken, usize::from(symbol.section)) {
+        return data_patch(object, maps, taken, symbol, at, slot);
     }
     map_patch(object, plan, maps, symbol, at, slot)
 }
@@ -218,6 +214,7 @@ fn patch_with(
     object: &[u8],
     plan: &Plan,
     maps: &[u64],
+    taken: &[usize],
     part: &Part,
     relocation: &RelocationEntry,
     symbol: &SymbolEntry,
@@ -225,10 +222,10 @@ fn patch_with(
     requires plan { LiesPlan object.now plan.now }
     requires part { LiesPart object.now part.now }
     requires short { part.now.first + part.now.slots.count ≤ 65535 }
-    requires maps { length maps.now ≤ 16 }
+    requires few { length maps.now + length taken.now ≤ 16 }
     requires whole { relocation.now.offset % 8 ≡ 0 }
     requires inside { relocation.now.offset / 8 < part.now.slots.count }
-    ensures value { result ≡ patch_with object.now plan.now maps.now part.now relocation.now
+    ensures value { result ≡ patch_with object.now plan.now maps.now taken.now part.now relocation.now
         symbol.now }
     ensures at { IfOk result (λ patch. patch.at
         ≡ 8 * (part.now.first + relocation.now.offset / 8)) }
@@ -246,7 +243,7 @@ fn patch_with(
         if offset / 8 + 1 >= part.slots.count {
             return Err(LinkFault::NoLoad(slot));
         }
-        return load_patch(object, plan, maps, symbol, at, slot);
+        return load_patch(object, plan, maps, taken, symbol, at, slot);
     }
     Err(LinkFault::RelocationKind(slot))
 }
@@ -272,14 +269,15 @@ fn patch_at(
     object: &[u8],
     plan: &Plan,
     maps: &[u64],
+    taken: &[usize],
     part: &Part,
     relocation: &RelocationEntry,
 ) -> Result<Patch, LinkFault>
     requires plan { LiesPlan object.now plan.now }
     requires part { LiesPart object.now part.now }
     requires short { part.now.first + part.now.slots.count ≤ 65535 }
-    requires maps { length maps.now ≤ 16 }
-    ensures value { result ≡ patch_at object.now plan.now maps.now part.now relocation.now }
+    requires few { length maps.now + length taken.now ≤ 16 }
+    ensures value { result ≡ patch_at object.now plan.now maps.now taken.now part.now relocation.now }
     ensures at { IfOk result (λ patch. patch.at + patch_width patch
         ≤ 8 * (part.now.first + part.now.slots.count)) }
 {
@@ -294,7 +292,7 @@ fn patch_at(
         return Err(LinkFault::Symbol(part.first + relocation.offset as usize / 8));
     }
     let symbol = symbol_at(object, &plan.symbols, symbol);
-    patch_with(object, plan, maps, part, relocation, &symbol)
+    patch_with(object, plan, maps, taken, part, relocation, &symbol)
 }
 
 /// What a relocation of a part makes of its slot.
@@ -302,6 +300,7 @@ pub fn patch_of(
     object: &[u8],
     plan: &Plan,
     maps: &[u64],
+    taken: &[usize],
     part: &Part,
     i: usize,
 ) -> Result<Patch, LinkFault>
@@ -309,8 +308,8 @@ pub fn patch_of(
     requires part { LiesPart object.now part.now }
     requires short { part.now.first + part.now.slots.count ≤ 65535 }
     requires index { i < part.now.relocations.count }
-    requires maps { length maps.now ≤ 16 }
-    ensures value { result ≡ patch_of object.now plan.now maps.now part.now i }
+    requires few { length maps.now + length taken.now ≤ 16 }
+    ensures value { result ≡ patch_of object.now plan.now maps.now taken.now part.now i }
     ensures at { IfOk result (λ patch. patch.at + patch_width patch
         ≤ 8 * (part.now.first + part.now.slots.count)) }
 {
@@ -318,5 +317,5 @@ pub fn patch_of(
         return Err(LinkFault::Place);
     }
     let relocation = relocation_at(object, &part.relocations, i);
-    patch_at(object, plan, maps, part, &relocation)
+    patch_at(object, plan, maps, taken, part, &relocation)
 }

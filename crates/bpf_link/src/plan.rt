@@ -1,14 +1,14 @@
 //! What a program is put together from.
 ghost use Rattle.std.specs.Prelude.{◌≡◌, ◌≤◌, ◌<◌, ◌==◌, ◌⊎◌, length, IfOk, ℕ, Bool};
 ghost use Rattle.bpf_link.specs.Header.{HasTable};
-ghost use Rattle.bpf_link.specs.Plans.{entries_of, symbols_in, maps_in, chosen_in, is_only, relocations_in, part_of, relocation_at, symbol_at, is_reference, refers_below, most_data, zeros_in, text_in, is_closed, has_definitions, definitions_in, plan_with, plan_of, Lies, LiesPart, LiesPlan};
+ghost use Rattle.bpf_link.specs.Plans.{entries_of, symbols_in, maps_in, chosen_in, is_only, relocations_in, part_of, relocation_at, symbol_at, is_reference, refers_below, text_in, is_closed, has_definitions, definitions_in, plan_with, plan_of, Lies, LiesPart, LiesPlan};
 ghost use Rattle.bpf_link.specs.Sections.{FoundBelow};
 
 use crate::fault::LinkFault;
 use crate::fields::lies;
 use crate::header::Sections;
 use crate::layout::{RelocationEntry, SectionHeader, SymbolEntry, relocation_entry, symbol_entry};
-use crate::sections::{Found, Roles, is_named, relocations_of, section_at, zeros_of};
+use crate::sections::{Found, Roles, is_named, relocations_of, section_at};
 use bpf_isa::MOST_SLOTS;
 
 /// Entries of one size, one after the other, in the file.
@@ -30,25 +30,17 @@ pub struct Part {
     pub relocations: Entries,
 }
 
-/// Data that are zeros at the start.
-#[derive(Clone, Copy)]
-pub struct Zeros {
-    /// The index of their section, 0 of none.
-    pub section: usize,
-    /// How many bytes they are, at most 65,536.
-    pub size: usize,
-}
-
 /// What a program is put together from.
 #[derive(Clone, Copy)]
 pub struct Plan {
+    pub sections: Sections,
+    /// The section of symbols.
+    pub table: Found,
     pub symbols: Entries,
     /// The index of the section of maps, 0 of none.
     pub maps: usize,
     /// The bytes of that section, where they are definitions of maps.
     pub definitions: Entries,
-    /// The data that the program refers to.
-    pub zeros: Zeros,
     /// The section that is asked for.
     pub code: Part,
     /// `.text`, without slots where it isn't called.
@@ -56,14 +48,6 @@ pub struct Plan {
 }
 
 const NO_ENTRIES: Entries = Entries { at: 0, count: 0 };
-
-/// The most bytes of data.
-const MOST_DATA: u64 = 65536;
-
-const NO_ZEROS: Zeros = Zeros {
-    section: 0,
-    size: 0,
-};
 
 const NO_PART: Part = Part {
     section: 0,
@@ -153,7 +137,7 @@ fn is_only(found: Found, index: u32) -> bool
     }
 }
 
-fn relocations_in(
+pub fn relocations_in(
     object: &[u8],
     sections: &Sections,
     symbols: Found,
@@ -349,44 +333,6 @@ fn definitions_in(object: &[u8], sections: &Sections, found: Found) -> Entries
     }
 }
 
-/// The data that are zeros at the start, where the program refers to them and they stand in one
-/// section.
-fn zeros_in(
-    object: &[u8],
-    sections: &Sections,
-    symbols: &Entries,
-    code: &Part,
-    text: &Part,
-    found: Found,
-) -> Result<Zeros, LinkFault>
-    requires table { HasTable object.now sections.now }
-    requires found { FoundBelow sections.now.count found }
-    requires symbols { Lies object.now 24 symbols.now }
-    requires parts { LiesPart object.now code.now × LiesPart object.now text.now }
-    ensures value { result ≡ zeros_in object.now sections.now symbols.now code.now text.now found }
-    ensures fits { IfOk result (λ zeros. zeros.size ≤ most_data) }
-{
-    match found {
-        Found::Nothing => Ok(NO_ZEROS),
-        Found::Only(i) => {
-            if !refers(object, symbols, &code.relocations, 1, i)
-                && !refers(object, symbols, &text.relocations, 1, i)
-            {
-                return Ok(NO_ZEROS);
-            }
-            let size = section_at(object, sections, i).size;
-            if size > MOST_DATA {
-                return Err(LinkFault::LongData);
-            }
-            Ok(Zeros {
-                section: i,
-                size: size as usize,
-            })
-        }
-        Found::Several => Ok(NO_ZEROS),
-    }
-}
-
 fn plan_with(
     object: &[u8],
     sections: &Sections,
@@ -411,19 +357,12 @@ fn plan_with(
     if code.slots.count + text.slots.count > MOST_SLOTS {
         return Err(LinkFault::TooLong);
     }
-    let zeros = zeros_in(
-        object,
-        sections,
-        symbols,
-        &code,
-        &text,
-        zeros_of(object, sections),
-    )?;
     Ok(Plan {
+        sections: *sections,
+        table: roles.symbols,
         symbols: *symbols,
         maps,
         definitions: definitions_in(object, sections, roles.maps),
-        zeros,
         code,
         text,
     })

@@ -1,7 +1,7 @@
 //! The sections of an object, by their kinds and names.
 ghost use Rattle.std.specs.Prelude.{◌≡◌, ◌≤◌, ◌<◌, length};
 ghost use Rattle.bpf_link.specs.Header.{HasTable};
-ghost use Rattle.bpf_link.specs.Sections.{section_at, name_at, is_named, is_code, is_text, is_chosen, is_symbols, is_maps, is_zeros, is_relocations, found_with, FoundBelow, roles_below, zeros_of, relocations_of};
+ghost use Rattle.bpf_link.specs.Sections.{section_at, name_at, is_named, is_code, is_text, is_chosen, is_symbols, is_maps, is_data, is_relocations, found_with, FoundBelow, roles_below, relocations_of};
 
 use crate::header::Sections;
 use crate::layout::{SectionHeader, section_header};
@@ -111,11 +111,15 @@ fn is_maps(object: &[u8], sections: &Sections, section: &SectionHeader) -> bool
     is_named(object, sections, section, b"maps") || is_named(object, sections, section, b".maps")
 }
 
-fn is_zeros(object: &[u8], sections: &Sections, section: &SectionHeader) -> bool
+pub fn is_data(object: &[u8], sections: &Sections, section: &SectionHeader) -> bool
     requires { HasTable object.now sections.now }
-    ensures { result ≡ is_zeros object.now sections.now section.now }
+    ensures { result ≡ is_data object.now sections.now section.now }
 {
-    section.kind == 8 && !is_maps(object, sections, section)
+    if section.kind != 1 && section.kind != 8 {
+        return false;
+    }
+    section.flags / 2 % 2 == 1
+        && (section.flags / 4 % 2 == 0 && !is_maps(object, sections, section))
 }
 
 fn is_relocations(target: usize, section: &SectionHeader) -> bool
@@ -173,20 +177,6 @@ fn roles_with(
         symbols: roles.symbols.with(section.kind == 2, i),
         maps: roles.maps.with(is_maps(object, sections, section), i),
     }
-}
-
-/// The data that are zeros at the start.
-pub fn zeros_of(object: &[u8], sections: &Sections) -> Found
-    requires { HasTable object.now sections.now }
-    ensures value { result ≡ zeros_of object.now sections.now }
-    ensures within { FoundBelow sections.now.count result }
-{
-    let mut found = Found::Nothing;
-    for i in 0..sections.count {
-        let section = section_at(object, sections, i);
-        found = found.with(is_zeros(object, sections, &section), i);
-    }
-    found
 }
 
 /// The relocations of a section.

@@ -1,8 +1,7 @@
 //! The shapes of the maps that an object defines.
-ghost use Rattle.std.specs.Prelude.{◌≡◌, ◌≤◌, ◌<◌, ◌+◌, nat_le, length, IsTrue, IfSome, List};
+ghost use Rattle.std.specs.Prelude.{◌≡◌, ◌≤◌, ◌<◌, ◌+◌, ◌++◌, nat_le, length, IsTrue, List};
 ghost use Rattle.bpf_link.specs.Plans.{Lies};
 ghost use Rattle.bpf_link.specs.Shapes.{definition_at, is_array, shape_at, shapes_at, IsInOrder, AreShapes, AreNumbered, is_unknown, all_shapes};
-ghost use Rattle.bpf_link.specs.Links.{with_data};
 ghost use Rattle.bpf_isa.specs.declared.maps.MapShape.{MapShape};
 
 use crate::layout::{MapDefinition, map_definition};
@@ -94,26 +93,25 @@ fn shapes_of(object: &[u8], definitions: &Entries, maps: &[u64]) -> ArrayVec<Map
     shapes_at(object, definitions, ordered.as_slice())
 }
 
-/// The shapes of all maps: those that stand at places of the section, and after them that of data.
+/// The shapes of all maps: those that stand at places of the section, and after them those of data.
 /// None where the object has maps of its own and not each is an array.
 pub fn all_shapes(
     object: &[u8],
     definitions: &Entries,
     maps: &[u64],
-    zeros: Option<MapShape>,
+    others: &[MapShape],
 ) -> ArrayVec<MapShape, 16>
     requires lies { Lies object.now 1 definitions.now }
-    requires few { length maps.now ≤ 16 }
-    requires room { IfSome zeros (λ shape. length maps.now < 16) }
+    requires few { length maps.now + length others.now ≤ 16 }
     ensures { (own : List MapShape) × AreShapes object.now definitions.now maps.now own
         × AreNumbered object.now definitions.now maps.now own
-        × (result.items ≡ all_shapes maps.now own zeros) }
+        × (result.items ≡ all_shapes maps.now own others.now) }
 {
     let own = shapes_of(object, definitions, maps);
     if is_unknown(maps, own.as_slice()) {
         return ArrayVec::new();
     }
-    with_data(own, zeros)
+    with_data(own, others)
 }
 
 /// Whether the object has maps of its own and their shapes aren't known.
@@ -123,16 +121,11 @@ fn is_unknown(maps: &[u64], own: &[MapShape]) -> bool
     !maps.is_empty() && own.is_empty()
 }
 
-/// Shapes, and after them that of data.
-fn with_data(mut shapes: ArrayVec<MapShape, 16>, zeros: Option<MapShape>) -> ArrayVec<MapShape, 16>
-    requires { IfSome zeros (λ shape. length shapes.items < 16) }
-    ensures { result.items ≡ with_data shapes.items zeros }
+/// Shapes, and after them those of data.
+fn with_data(mut shapes: ArrayVec<MapShape, 16>, others: &[MapShape]) -> ArrayVec<MapShape, 16>
+    requires { length shapes.items + length others.now ≤ 16 }
+    ensures { result.items ≡ shapes.items ++ others.now }
 {
-    match zeros {
-        None => shapes,
-        Some(shape) => {
-            shapes.push(shape);
-            shapes
-        }
-    }
+    let _all = shapes.try_extend_from_slice(others);
+    shapes
 }

@@ -47,23 +47,24 @@ fn relocate(
     object: &[u8],
     plan: &Plan,
     maps: &[u64],
+    taken: &[usize],
     part: &Part,
     words: &mut [u8],
 ) -> Result<(), LinkFault>
     requires plan { LiesPlan object.now plan.now }
     requires part { LiesPart object.now part.now }
     requires short { part.now.first + part.now.slots.count ≤ 65535 }
-    requires maps { length maps.now ≤ 16 }
+    requires few { length maps.now + length taken.now ≤ 16 }
     requires words { 8 * (part.now.first + part.now.slots.count) ≤ length words.old }
     ensures ok { OnOk result
-        (relocated object.now plan.now maps.now part.now words.old part.now.relocations.count
+        (relocated object.now plan.now maps.now taken.now part.now words.old part.now.relocations.count
         ≡ Ok words.new) }
     ensures err { IfErr result (λ fault.
-        relocated object.now plan.now maps.now part.now words.old part.now.relocations.count
+        relocated object.now plan.now maps.now taken.now part.now words.old part.now.relocations.count
         ≡ Err fault) }
 {
     for i in 0..part.relocations.count {
-        match patch_of(object, plan, maps, part, i) {
+        match patch_of(object, plan, maps, taken, part, i) {
             Ok(patch) => put_patch(words, &patch),
             Err(fault) => return Err(fault),
         }
@@ -87,11 +88,12 @@ pub fn words_of(
     object: &[u8],
     plan: &Plan,
     maps: &[u64],
+    taken: &[usize],
 ) -> Result<Vec<u8>, LinkFault>
     requires plan { LiesPlan object.now plan.now }
-    requires maps { length maps.now ≤ 16 }
-    ensures ok { IfOk result (λ words. words_of object.now plan.now maps.now ≡ Ok words.items) }
-    ensures err { IfErr result (MemoryOr (words_of object.now plan.now maps.now)) }
+    requires few { length maps.now + length taken.now ≤ 16 }
+    ensures ok { IfOk result (λ words. words_of object.now plan.now maps.now taken.now ≡ Ok words.items) }
+    ensures err { IfErr result (MemoryOr (words_of object.now plan.now maps.now taken.now)) }
 {
     let mut words = match Vec::from_slice(alloc, slots_of(object, &plan.code)) {
         Ok(words) => words,
@@ -103,11 +105,11 @@ pub fn words_of(
     {
         return Err(LinkFault::Memory);
     }
-    match relocate(object, plan, maps, &plan.code, &mut words) {
+    match relocate(object, plan, maps, taken, &plan.code, &mut words) {
         Ok(()) => {}
         Err(fault) => return Err(fault),
     }
-    match relocate(object, plan, maps, &plan.text, &mut words) {
+    match relocate(object, plan, maps, taken, &plan.text, &mut words) {
         Ok(()) => Ok(words),
         Err(fault) => Err(fault),
     }

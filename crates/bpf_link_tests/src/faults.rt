@@ -31,7 +31,10 @@ E22 relocation of a call at no call\n\
 E23 reference to data that is no map\n\
 E24 relocation of a map at no empty wide load\n\
 E25 empty program\n\
-E26 out of memory";
+E26 out of memory\n\
+E27 data longer than 65536 bytes\n\
+E28 malformed data section\n\
+E29 address in data of what is no data";
 
 /// The first half of the faults, by their numbers.
 fn early_fault(number: usize) -> LinkFault {
@@ -67,6 +70,9 @@ fn fault(number: usize) -> LinkFault {
         24 => LinkFault::NoLoad(0),
         25 => LinkFault::Program(LoadFault::Empty),
         26 => LinkFault::Memory,
+        27 => LinkFault::LongData,
+        28 => LinkFault::DataSection,
+        29 => LinkFault::Pointer,
         _ => early_fault(number),
     }
 }
@@ -82,7 +88,7 @@ fn check_fault(rt: &impl Abort, alloc: Global, number: usize, wanted: &str) {
 }
 
 fn check_faults(rt: &impl Abort, alloc: Global, table: &str) {
-    for (number, wanted) in (1..=26usize).zip(table.lines()) {
+    for (number, wanted) in (1..=29usize).zip(table.lines()) {
         check_fault(rt, alloc, number, wanted);
     }
 }

@@ -1,11 +1,10 @@
 -- What a job comes to: the program, what each kind of job answers, and what a call of `tool` leaves.
-use Rattle.std.specs.Prelude.{◌≡◌, ◌≤◌, ◌⊎◌, ℕ, Bool, true, false, List, [], ◌++◌, Option, Some, None, Ok, is_some, length, map, count_by, codes, decimal}
+use Rattle.std.specs.Prelude.{◌≡◌, ◌≤◌, ◌⊎◌, ℕ, Bool, true, false, List, [], ◌++◌, Option, Some, None, is_some, length, map, count_by, codes, decimal}
 use Rattle.std.specs.Borrow.{Bor}
-use Rattle.bpf_isa.specs.Checker.{IsAccepted}
 use Rattle.bpf_isa.specs.Maps.{IsMapList, items_of, shape_of}
 use Rattle.bpf_isa.specs.Programs.{Checked, IsProgram}
 use Rattle.bpf_isa.specs.declared.maps.MapShape.{MapShape}
-use Rattle.bpf_link.specs.Links.{linked, least_maps}
+use Rattle.bpf_link.specs.Links.{AreWordsOf}
 use Rattle.bpf_text.specs.Canonical.{canon}
 use Rattle.counted_io.specs.Counted.{Tally}
 use Rattle.bpf_text.specs.Listing.{IsListing}
@@ -45,9 +44,9 @@ pub record Opens (job : Job) (code : Checked) : Type 0 where
   pub program : IsProgramOf job code
   pub short : length job.context.now ≤ context_limit
 
--- The words that the object is linked to. The checker accepts them, with maps of at least one byte, and that of its data.
+-- The words that the object is linked to.
 abbrev pub AreLinked : Job → List ℕ → Type 0
-AreLinked job words = (maps : ℕ) × (zeros : Option MapShape) × (linked job.file.now job.section.now ≡ Ok (words, maps, zeros)) × IsAccepted words (least_maps maps zeros)
+AreLinked job words = AreWordsOf job.file.now job.section.now words
 
 -- What a kind of job needs. A job without it is refused.
 abbrev pub Needs : JobKind → Job → Type 0

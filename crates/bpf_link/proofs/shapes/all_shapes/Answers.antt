@@ -1,6 +1,5 @@
-use Rattle.std.proofs.Common.{◌∙◌, [], ap}
+use Rattle.std.proofs.Common.{◌∙◌, ◌++◌, [], ap}
 use Rattle.std.specs.Prelude.{if◌then◌else◌}
-use Rattle.bpf_link.specs.Links.{with_data}
 use Rattle.bpf_link.specs.Shapes.{is_unknown}
 use Rattle.bpf_link.proofs.shapes.all_shapes.Goals as goal
 
@@ -11,5 +10,5 @@ returns c =
       own,
       c.shapes_of-own.ensures.ordered,
       c.shapes_of-own.ensures.numbered,
-      c.with_data.ensures ∙ ap (λ b. if b then [] else with_data own c.args.zeros) known,
+      c.with_data.ensures ∙ ap (λ b. if b then [] else own ++ c.args.others.now) known,
     )

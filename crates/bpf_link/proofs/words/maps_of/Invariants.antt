@@ -1,6 +1,6 @@
 use Rattle.std.proofs.Common.{◌≡◌, [], Ok}
-use Rattle.bpf_link.specs.Plans.{symbol_at}
-use Rattle.bpf_link.specs.Links.{steps, with_symbol}
+use Rattle.bpf_link.specs.Plans.{steps, symbol_at}
+use Rattle.bpf_link.specs.Links.{with_symbol}
 use Rattle.bpf_link.proofs.words.maps_of.Given as goal
 
 abbrev pub invariant-loop-i : goal.invariant-loop-i

@@ -1,0 +1,16 @@
+use Rattle.std.proofs.Common.{◌≡◌, ◌∙◌, ◌+◌, ◌==◌, nat_le, nat_lt, true, Ok, length, sym, ap, subst, rules, tests}
+use Rattle.std.specs.Prelude.{IfOk}
+use Rattle.bpf_link.specs.Images.{with_address}
+use Rattle.bpf_link.proofs.Images.{relocated_is}
+use Rattle.bpf_link.proofs.image.with_relocated.Goals as goal
+
+pub returns-clause-ok : goal.returns-clause-ok
+returns-clause-ok c =
+    let relocation = c.args.relocation.now in
+    let kind : (relocation.kind == 2) ≡ true = search (rules, tests) in
+    let inside : nat_le (relocation.offset + 8) (length c.args.image.items) ≡ true = search (rules, tests) in
+    let known : nat_lt relocation.symbol c.args.plan.now.symbols.count ≡ true = search (rules, tests) in
+    subst (λ r. IfOk c.with_address.result (λ new. r ≡ Ok new.items))
+    (sym (relocated_is c.args.object.now c.args.plan.now c.args.maps.now c.args.taken.now relocation c.args.image.items kind inside known
+    ∙ ap (λ symbol. with_address c.args.maps.now c.args.taken.now relocation symbol c.args.image.items) (sym c.symbol_at-symbol.ensures)))
+    c.with_address.ensures.ok

@@ -1,6 +1,0 @@
-use Rattle.std.proofs.Common.{◌≡◌}
-use Rattle.bpf_link.specs.Sections.{found_below, is_zeros, section_at}
-use Rattle.bpf_link.proofs.sections.zeros_of.Given as goal
-
-abbrev pub invariant-loop-i : goal.invariant-loop-i
-invariant-loop-i l = l.found ≡ found_below (λ i. is_zeros l.object l.sections (section_at l.object l.sections i)) l.i

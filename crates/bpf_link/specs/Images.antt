@@ -1,0 +1,72 @@
+-- What the data of a program are at its start: the bytes of their sections, with the addresses in them.
+use Rattle.std.specs.Prelude.{ℕ, ◌+◌, ◌-◌, ◌*◌, ◌/◌, ◌%◌, ◌==◌, nat_le, nat_lt, if◌then◌else◌, List, [], ◌++◌, Result, Ok, length, take, drop, replicate, slice_range}
+use Rattle.byteorder.specs.Endian.{little_bytes}
+use Rattle.bpf_link.specs.declared.fault.LinkFault.{LinkFault}
+use Rattle.bpf_link.specs.declared.fault.LinkFault.TheVariants.{LongData, DataSection, Pointer}
+use Rattle.bpf_link.specs.declared.layout.RelocationEntry.{RelocationEntry}
+use Rattle.bpf_link.specs.declared.layout.SectionHeader.{SectionHeader}
+use Rattle.bpf_link.specs.declared.layout.SymbolEntry.{SymbolEntry}
+use Rattle.bpf_link.specs.declared.plan.Entries.{Entries}
+use Rattle.bpf_link.specs.declared.plan.Plan.{Plan}
+use Rattle.bpf_link.specs.Layout.{u64_at}
+use Rattle.bpf_link.specs.Header.{provided}
+use Rattle.bpf_link.specs.Sections.{section_at}
+use Rattle.bpf_link.specs.Plans.{after, steps, relocation_at, symbol_at}
+use Rattle.bpf_link.specs.Data.{is_among, data_number, pointers_of}
+
+-- The most bytes of data: those of a map.
+abbrev pub most_data : ℕ
+most_data = 65_536
+
+-- Bytes, and zeros after them up to a whole number of eight.
+abbrev pub filled : ℕ → List ℕ → List ℕ
+filled size bytes = take size bytes ++ replicate (size - length bytes) 0
+
+abbrev pub whole_size : ℕ → ℕ
+whole_size size = (size + 7) / 8 * 8
+
+-- The bytes of a section of data, SHT_NOBITS of zeros.
+abbrev pub bytes_of : List ℕ → SectionHeader → Result (List ℕ) LinkFault
+bytes_of object section =
+    provided (nat_le section.size most_data) LongData
+    (if section.kind == 8 then Ok (filled (whole_size section.size) [])
+    else provided (nat_le (section.offset + section.size) (length object)) DataSection
+    (Ok (filled (whole_size section.size) (slice_range object section.offset (section.offset + section.size)))))
+
+-- Where the bytes of a map begin in memory.
+abbrev pub map_address : ℕ → ℕ
+map_address map = 0x300000000 + map * 0x100000
+
+-- A number in the eight bytes at a place.
+abbrev pub with_u64 : List ℕ → ℕ → ℕ → List ℕ
+with_u64 bytes at n = take at bytes ++ (little_bytes 8 n ++ drop (at + 8) bytes)
+
+-- The address of a symbol of data, and a number more.
+abbrev pub address_of : List ℕ → List ℕ → SymbolEntry → ℕ → ℕ
+address_of maps taken symbol more = (map_address (data_number maps taken symbol.section) + symbol.value + more) % 18446744073709551616
+
+-- An address in data, R_BPF_64_ABS64: that of the symbol, and what stood there.
+abbrev pub with_address : List ℕ → List ℕ → RelocationEntry → SymbolEntry → List ℕ → Result (List ℕ) LinkFault
+with_address maps taken relocation symbol image =
+    provided (is_among taken symbol.section) Pointer
+    (Ok (with_u64 image relocation.offset (address_of maps taken symbol (u64_at image relocation.offset))))
+
+abbrev pub with_relocated : List ℕ → Plan → List ℕ → List ℕ → RelocationEntry → List ℕ → Result (List ℕ) LinkFault
+with_relocated object plan maps taken relocation image =
+    provided (relocation.kind == 2) Pointer
+    (provided (nat_le (relocation.offset + 8) (length image)) Pointer
+    (provided (nat_lt relocation.symbol plan.symbols.count) Pointer
+    (with_address maps taken relocation (symbol_at object plan.symbols relocation.symbol) image)))
+
+abbrev pub with_pointer : List ℕ → Plan → List ℕ → List ℕ → Entries → ℕ → List ℕ → Result (List ℕ) LinkFault
+with_pointer object plan maps taken relocations i image = with_relocated object plan maps taken (relocation_at object relocations i) image
+
+abbrev pub with_pointers : List ℕ → Plan → List ℕ → List ℕ → Entries → List ℕ → Result (List ℕ) LinkFault
+with_pointers object plan maps taken relocations image = steps (with_pointer object plan maps taken relocations) image relocations.count
+
+-- The bytes of a section's map at the start.
+abbrev pub image_of : List ℕ → Plan → List ℕ → List ℕ → ℕ → Result (List ℕ) LinkFault
+image_of object plan maps taken section =
+    after (bytes_of object (section_at object plan.sections section)) (λ bytes.
+    after (pointers_of object plan section) (λ relocations.
+    with_pointers object plan maps taken relocations bytes))

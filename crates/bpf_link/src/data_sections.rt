@@ -1,0 +1,244 @@
+//! The data that a program refers to: sections, each of which becomes a map.
+ghost use Rattle.std.specs.Prelude.{◌≡◌, ◌≤◌, ◌<◌, ◌+◌, length, IfOk, IfErr, Ok, Err, ℕ};
+ghost use Rattle.bpf_link.specs.Data.{is_among, refers_to_data, with_section, with_reference, with_references, pointers_of, with_pointed, with_all_pointed, referred, with_taken, in_order, data_of, data_number, AllBelow};
+ghost use Rattle.bpf_link.specs.Plans.{Lies, LiesPlan};
+
+use crate::fault::LinkFault;
+use crate::layout::RelocationEntry;
+use crate::plan::{Entries, Plan, relocation_at, relocations_in, symbol_at};
+use crate::sections::{is_data, relocations_of, section_at};
+use arrayvec::ArrayVec;
+
+/// Whether a section is among some.
+pub fn is_among(sections: &[usize], section: usize) -> bool
+    ensures { result ≡ is_among sections.now section }
+{
+    sections.contains(&section)
+}
+
+/// Whether a relocation is of a kind, and against a symbol of a section of data.
+fn refers_to_data(object: &[u8], plan: &Plan, kind: u32, relocation: &RelocationEntry) -> bool
+    requires { LiesPlan object.now plan.now }
+    ensures { result ≡ refers_to_data object.now plan.now kind relocation.now }
+{
+    if relocation.kind != kind {
+        return false;
+    }
+    let symbol = relocation.symbol as usize;
+    if symbol >= plan.symbols.count {
+        return false;
+    }
+    let section = usize::from(symbol_at(object, &plan.symbols, symbol).section);
+    if section >= plan.sections.count {
+        return false;
+    }
+    is_data(
+        object,
+        &plan.sections,
+        &section_at(object, &plan.sections, section),
+    )
+}
+
+/// One more section, unless it is among them.
+fn with_section(
+    section: usize,
+    mut found: ArrayVec<usize, 16>,
+) -> Result<ArrayVec<usize, 16>, LinkFault>
+    ensures ok { IfOk result (λ new. with_section section found.items ≡ Ok new.items) }
+    ensures err { IfErr result (λ fault. with_section section found.items ≡ Err fault) }
+{
+    if is_among(found.as_slice(), section) {
+        return Ok(found);
+    }
+    if found.is_full() {
+        return Err(LinkFault::TooManyMaps);
+    }
+    found.push(section);
+    Ok(found)
+}
+
+/// Sections of data with the one that a relocation of a kind refers to.
+fn with_reference(
+    object: &[u8],
+    plan: &Plan,
+    kind: u32,
+    relocations: &Entries,
+    i: usize,
+    found: ArrayVec<usize, 16>,
+) -> Result<ArrayVec<usize, 16>, LinkFault>
+    requires plan { LiesPlan object.now plan.now }
+    requires relocations { Lies object.now 16 relocations.now }
+    requires index { i < relocations.now.count }
+    ensures ok { IfOk result (λ new.
+        with_reference object.now plan.now kind relocations.now i found.items ≡ Ok new.items) }
+    ensures err { IfErr result (λ fault.
+        with_reference object.now plan.now kind relocations.now i found.items ≡ Err fault) }
+{
+    let relocation = relocation_at(object, relocations, i);
+    if !refers_to_data(object, plan, kind, &relocation) {
+        return Ok(found);
+    }
+    let symbol = symbol_at(object, &plan.symbols, relocation.symbol as usize);
+    with_section(usize::from(symbol.section), found)
+}
+
+/// Sections of data with those that the relocations of a kind refer to.
+fn with_references(
+    object: &[u8],
+    plan: &Plan,
+    kind: u32,
+    relocations: &Entries,
+    found: ArrayVec<usize, 16>,
+) -> Result<ArrayVec<usize, 16>, LinkFault>
+    requires plan { LiesPlan object.now plan.now }
+    requires relocations { Lies object.now 16 relocations.now }
+    ensures ok { IfOk result (λ new.
+        with_references object.now plan.now kind relocations.now found.items ≡ Ok new.items) }
+    ensures err { IfErr result (λ fault.
+        with_references object.now plan.now kind relocations.now found.items ≡ Err fault) }
+{
+    let mut all = found;
+    for i in 0..relocations.count {
+        match with_reference(object, plan, kind, relocations, i, all) {
+            Ok(new) => all = new,
+            Err(fault) => return Err(fault),
+        }
+    }
+    Ok(all)
+}
+
+/// The relocations of a section of data.
+pub fn pointers_of(object: &[u8], plan: &Plan, section: usize) -> Result<Entries, LinkFault>
+    requires { LiesPlan object.now plan.now }
+    ensures value { result ≡ pointers_of object.now plan.now section }
+    ensures fits { IfOk result (Lies object.now 16) }
+{
+    let found = relocations_of(object, &plan.sections, section);
+    relocations_in(object, &plan.sections, plan.table, found)
+}
+
+/// Sections of data with those that the k-th of them refers to.
+fn with_pointed(
+    object: &[u8],
+    plan: &Plan,
+    k: usize,
+    found: ArrayVec<usize, 16>,
+) -> Result<ArrayVec<usize, 16>, LinkFault>
+    requires { LiesPlan object.now plan.now }
+    ensures ok { IfOk result (λ new. with_pointed object.now plan.now k found.items ≡ Ok new.items) }
+    ensures err { IfErr result (λ fault.
+        with_pointed object.now plan.now k found.items ≡ Err fault) }
+{
+    if k >= found.len() {
+        return Ok(found);
+    }
+    let section = found.as_slice()[k];
+    match pointers_of(object, plan, section) {
+        Ok(relocations) => with_references(object, plan, 2, &relocations, found),
+        Err(fault) => Err(fault),
+    }
+}
+
+/// Sections of data with those that they refer to, from the first one on.
+fn with_all_pointed(
+    object: &[u8],
+    plan: &Plan,
+    found: ArrayVec<usize, 16>,
+) -> Result<ArrayVec<usize, 16>, LinkFault>
+    requires { LiesPlan object.now plan.now }
+    ensures ok { IfOk result (λ new.
+        with_all_pointed object.now plan.now found.items ≡ Ok new.items) }
+    ensures err { IfErr result (λ fault.
+        with_all_pointed object.now plan.now found.items ≡ Err fault) }
+{
+    let mut all = found;
+    for k in 0..16 {
+        match with_pointed(object, plan, k, all) {
+            Ok(new) => all = new,
+            Err(fault) => return Err(fault),
+        }
+    }
+    Ok(all)
+}
+
+/// The sections of data that the program refers to, by its wide loads or by way of data.
+fn referred(object: &[u8], plan: &Plan) -> Result<ArrayVec<usize, 16>, LinkFault>
+    requires { LiesPlan object.now plan.now }
+    ensures ok { IfOk result (λ found. referred object.now plan.now ≡ Ok found.items) }
+    ensures err { IfErr result (λ fault. referred object.now plan.now ≡ Err fault) }
+{
+    let code = match with_references(object, plan, 1, &plan.code.relocations, ArrayVec::new()) {
+        Ok(found) => found,
+        Err(fault) => return Err(fault),
+    };
+    match with_references(object, plan, 1, &plan.text.relocations, code) {
+        Ok(found) => with_all_pointed(object, plan, found),
+        Err(fault) => Err(fault),
+    }
+}
+
+/// Some sections with one more, where that is among those that were found.
+fn with_taken(
+    found: &[usize],
+    section: usize,
+    mut taken: ArrayVec<usize, 16>,
+) -> Result<ArrayVec<usize, 16>, LinkFault>
+    ensures ok { IfOk result (λ new. with_taken found.now section taken.items ≡ Ok new.items) }
+    ensures err { IfErr result (λ fault. with_taken found.now section taken.items ≡ Err fault) }
+    ensures below { (n : ℕ) → section < n → AllBelow n taken.items
+        → IfOk result (λ new. AllBelow n new.items) }
+{
+    if !is_among(found, section) {
+        return Ok(taken);
+    }
+    if taken.is_full() {
+        return Err(LinkFault::TooManyMaps);
+    }
+    taken.push(section);
+    Ok(taken)
+}
+
+/// The sections among those that were found, in the order of their numbers, which are below
+/// `count`.
+fn in_order(found: &[usize], count: usize) -> Result<ArrayVec<usize, 16>, LinkFault>
+    ensures ok { IfOk result (λ taken. in_order found.now count ≡ Ok taken.items) }
+    ensures err { IfErr result (λ fault. in_order found.now count ≡ Err fault) }
+    ensures below { IfOk result (λ taken. AllBelow count taken.items) }
+{
+    let mut taken = ArrayVec::new();
+    for section in 0..count {
+        match with_taken(found, section, taken) {
+            Ok(new) => taken = new,
+            Err(fault) => return Err(fault),
+        }
+    }
+    Ok(taken)
+}
+
+/// The sections of data that the program refers to, in the order of their numbers.
+pub fn data_of(object: &[u8], plan: &Plan) -> Result<ArrayVec<usize, 16>, LinkFault>
+    requires { LiesPlan object.now plan.now }
+    ensures ok { IfOk result (λ taken. data_of object.now plan.now ≡ Ok taken.items) }
+    ensures err { IfErr result (λ fault. data_of object.now plan.now ≡ Err fault) }
+    ensures below { IfOk result (λ taken. AllBelow plan.now.sections.count taken.items) }
+{
+    match referred(object, plan) {
+        Ok(found) => in_order(found.as_slice(), plan.sections.count),
+        Err(fault) => Err(fault),
+    }
+}
+
+/// The number of the map that a section becomes.
+pub fn data_number(maps: &[u64], taken: &[usize], section: usize) -> usize
+    requires { length maps.now + length taken.now ≤ 16 }
+    ensures value { result ≡ data_number maps.now taken.now section }
+    ensures small { result ≤ 16 }
+{
+    let mut number = 0;
+    for other in taken {
+        if *other < section {
+            number += 1;
+        }
+    }
+    maps.len() + number
+}

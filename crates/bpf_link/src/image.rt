@@ -1,0 +1,203 @@
+//! What the data of a program are at its start.
+ghost use Rattle.std.specs.Prelude.{◌≡◌, ◌≤◌, ◌<◌, ◌+◌, ◌⊎◌, length, IfOk, IfErr, Ok, Err};
+ghost use Rattle.bpf_link.specs.Images.{most_data, filled, whole_size, bytes_of, with_u64, address_of, with_address, with_relocated, with_pointer, with_pointers, image_of};
+ghost use Rattle.bpf_link.specs.Links.{MemoryOr};
+ghost use Rattle.bpf_link.specs.Plans.{Lies, LiesPlan};
+ghost use Rattle.bpf_link.specs.declared.fault.LinkFault.TheVariants.{Memory};
+
+use crate::data_sections::{data_number, is_among, pointers_of};
+use crate::fault::LinkFault;
+use crate::fields::{lies, u64_at};
+use crate::layout::{RelocationEntry, SectionHeader, SymbolEntry};
+use crate::plan::{Entries, Plan, relocation_at, symbol_at};
+use crate::sections::section_at;
+use byteorder::{ByteOrder, LittleEndian};
+use std::alloc::Global;
+
+/// The most bytes of data.
+const MOST_DATA: u64 = 65536;
+
+/// Bytes, and zeros after them up to a whole number of eight.
+fn filled(alloc: Global, size: usize, bytes: &[u8]) -> Result<Vec<u8>, LinkFault>
+    ensures ok { IfOk result (λ image. image.items ≡ filled size bytes.now) }
+    ensures err { IfErr result (λ fault. fault ≡ Memory) }
+{
+    let mut image = match Vec::from_slice(alloc, bytes) {
+        Ok(image) => image,
+        Err(_) => return Err(LinkFault::Memory),
+    };
+    match image.resize(size, 0) {
+        Ok(()) => Ok(image),
+        Err(_) => Err(LinkFault::Memory),
+    }
+}
+
+/// The bytes of a section of data.
+fn bytes_of(alloc: Global, object: &[u8], section: &SectionHeader) -> Result<Vec<u8>, LinkFault>
+    ensures ok { IfOk result (λ image. bytes_of object.now section.now ≡ Ok image.items) }
+    ensures err { IfErr result (MemoryOr (bytes_of object.now section.now)) }
+{
+    if section.size > MOST_DATA {
+        return Err(LinkFault::LongData);
+    }
+    let size = (section.size as usize + 7) / 8 * 8;
+    if section.kind == 8 {
+        return filled(alloc, size, &object[..0]);
+    }
+    if !lies(object, section.offset, section.size) {
+        return Err(LinkFault::DataSection);
+    }
+    let at = section.offset as usize;
+    filled(alloc, size, &object[at..at + section.size as usize])
+}
+
+/// Data with a number in the eight bytes at a place.
+fn with_u64(mut image: Vec<u8>, at: usize, n: u64) -> Vec<u8>
+    requires { at + 8 ≤ length image.items }
+    ensures { result.items ≡ with_u64 image.items at n }
+{
+    LittleEndian::write_u64(&mut image[at..at + 8], n);
+    image
+}
+
+/// The address of a symbol of data, and a number more.
+#[tactic(auto, using(crate::proofs::Images::two_wraps))]
+fn address_of(maps: &[u64], taken: &[usize], symbol: &SymbolEntry, more: u64) -> u64
+    requires { length maps.now + length taken.now ≤ 16 }
+    ensures { result ≡ address_of maps.now taken.now symbol.now more }
+{
+    let map = data_number(maps, taken, usize::from(symbol.section)) as u64;
+    (0x3_0000_0000 + map * 0x10_0000)
+        .wrapping_add(symbol.value)
+        .wrapping_add(more)
+}
+
+/// Data with an address: that of a symbol, and what stood there.
+fn with_address(
+    maps: &[u64],
+    taken: &[usize],
+    relocation: &RelocationEntry,
+    symbol: &SymbolEntry,
+    image: Vec<u8>,
+) -> Result<Vec<u8>, LinkFault>
+    requires few { length maps.now + length taken.now ≤ 16 }
+    requires inside { relocation.now.offset + 8 ≤ length image.items }
+    ensures ok { IfOk result (λ new.
+        with_address maps.now taken.now relocation.now symbol.now image.items ≡ Ok new.items) }
+    ensures err { IfErr result (λ fault.
+        with_address maps.now taken.now relocation.now symbol.now image.items ≡ Err fault) }
+{
+    if !is_among(taken, usize::from(symbol.section)) {
+        return Err(LinkFault::Pointer);
+    }
+    let at = relocation.offset as usize;
+    let address = address_of(maps, taken, symbol, u64_at(&image, at));
+    Ok(with_u64(image, at, address))
+}
+
+/// Data with a relocation done.
+fn with_pointer(
+    object: &[u8],
+    plan: &Plan,
+    maps: &[u64],
+    taken: &[usize],
+    relocations: &Entries,
+    i: usize,
+    image: Vec<u8>,
+) -> Result<Vec<u8>, LinkFault>
+    requires plan { LiesPlan object.now plan.now }
+    requires relocations { Lies object.now 16 relocations.now }
+    requires index { i < relocations.now.count }
+    requires few { length maps.now + length taken.now ≤ 16 }
+    ensures ok { IfOk result (λ new. with_pointer object.now plan.now maps.now taken.now
+        relocations.now i image.items ≡ Ok new.items) }
+    ensures err { IfErr result (λ fault. with_pointer object.now plan.now maps.now taken.now
+        relocations.now i image.items ≡ Err fault) }
+{
+    let relocation = relocation_at(object, relocations, i);
+    with_relocated(object, plan, maps, taken, &relocation, image)
+}
+
+/// Data with a relocation done, if it is one of an address of data.
+fn with_relocated(
+    object: &[u8],
+    plan: &Plan,
+    maps: &[u64],
+    taken: &[usize],
+    relocation: &RelocationEntry,
+    image: Vec<u8>,
+) -> Result<Vec<u8>, LinkFault>
+    requires plan { LiesPlan object.now plan.now }
+    requires few { length maps.now + length taken.now ≤ 16 }
+    ensures ok { IfOk result (λ new. with_relocated object.now plan.now maps.now taken.now
+        relocation.now image.items ≡ Ok new.items) }
+    ensures err { IfErr result (λ fault. with_relocated object.now plan.now maps.now taken.now
+        relocation.now image.items ≡ Err fault) }
+{
+    if relocation.kind != 2 {
+        return Err(LinkFault::Pointer);
+    }
+    if !lies(&image, relocation.offset, 8) {
+        return Err(LinkFault::Pointer);
+    }
+    let index = relocation.symbol as usize;
+    if index >= plan.symbols.count {
+        return Err(LinkFault::Pointer);
+    }
+    let symbol = symbol_at(object, &plan.symbols, index);
+    with_address(maps, taken, relocation, &symbol, image)
+}
+
+/// Data with their relocations done.
+fn with_pointers(
+    object: &[u8],
+    plan: &Plan,
+    maps: &[u64],
+    taken: &[usize],
+    relocations: &Entries,
+    image: Vec<u8>,
+) -> Result<Vec<u8>, LinkFault>
+    requires plan { LiesPlan object.now plan.now }
+    requires relocations { Lies object.now 16 relocations.now }
+    requires few { length maps.now + length taken.now ≤ 16 }
+    ensures ok { IfOk result (λ new. with_pointers object.now plan.now maps.now taken.now
+        relocations.now image.items ≡ Ok new.items) }
+    ensures err { IfErr result (λ fault. with_pointers object.now plan.now maps.now taken.now
+        relocations.now image.items ≡ Err fault) }
+{
+    let mut all = image;
+    for i in 0..relocations.count {
+        match with_pointer(object, plan, maps, taken, relocations, i, all) {
+            Ok(new) => all = new,
+            Err(fault) => return Err(fault),
+        }
+    }
+    Ok(all)
+}
+
+/// The bytes of a section's map at the start.
+pub fn image_of(
+    alloc: Global,
+    object: &[u8],
+    plan: &Plan,
+    maps: &[u64],
+    taken: &[usize],
+    section: usize,
+) -> Result<Vec<u8>, LinkFault>
+    requires plan { LiesPlan object.now plan.now }
+    requires few { length maps.now + length taken.now ≤ 16 }
+    requires section { section < plan.now.sections.count }
+    ensures ok { IfOk result (λ image.
+        image_of object.now plan.now maps.now taken.now section ≡ Ok image.items) }
+    ensures err { IfErr result (MemoryOr
+        (image_of object.now plan.now maps.now taken.now section)) }
+{
+    let image = match bytes_of(alloc, object, &section_at(object, &plan.sections, section)) {
+        Ok(image) => image,
+        Err(fault) => return Err(fault),
+    };
+    match pointers_of(object, plan, section) {
+        Ok(relocations) => with_pointers(object, plan, maps, taken, &relocations, image),
+        Err(fault) => Err(fault),
+    }
+}
