@@ -109,6 +109,11 @@ if command -v python3 > /dev/null; then
     if command -v addr2line > /dev/null; then
         habits shell-c.txt -m "$top/examples/overrun/context.bin" overrun.o
     fi
+    if command -v addr2line > /dev/null && clang -g -O2 -target bpf -I "$parts/c" -c "$parts/c/counter.c" 2> /dev/null; then
+        opened='-m context counter.o'
+        habit start 'p $pc' '> info regs / $pc = 0x1 (1)'
+        habit 'start; stepi 3; start' 'p $pc' '> info regs / $pc = 0x1 (1)'
+    fi
     plainly 'an object' 0 'c\n' '105 forward; end; fault access 0x10077656d at 25\n' '' -m "$top/examples/overrun/context.bin" overrun.o
     plainly 'an object, and a section that it has' 0 'c\n' '105 forward; end; fault access 0x10077656d at 25\n' '' \
         --section filter -m "$top/examples/overrun/context.bin" overrun.o
