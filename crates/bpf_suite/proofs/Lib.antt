@@ -1,4 +1,6 @@
 pub mod Cuts
 pub mod Lists
+pub mod Reporting
 pub mod Tests
+pub mod Texts
 pub mod Trimming

@@ -31,7 +31,11 @@ is_shown b = nat_le 32 b && not (b == 127)
 abbrev pub is_line : List ℕ → Bool
 is_line s = list_all is_shown s
 
--- A name: such a line, without a number sign (35), which would begin a remark.
+-- Such a line that isn't empty.
+abbrev pub is_phrase : List ℕ → Bool
+is_phrase s = nat_lt 0 (length s) && is_line s
+
+-- A name: such a phrase, without a number sign (35), which would begin a remark.
 abbrev pub is_title : List ℕ → Bool
 is_title s = nat_lt 0 (length s) && list_all (λ b. is_shown b && not (b == 35)) s
 

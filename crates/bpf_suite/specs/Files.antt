@@ -53,6 +53,11 @@ abbrev pub begins_name : List Section → Bool
 begins_name [] = false
 begins_name (section ∷ more) = is_name section.kind
 
+-- The first section, and those up to the next name.
+abbrev pub own_of : List Section → List Section
+own_of [] = []
+own_of (section ∷ more) = section ∷ until_name more
+
 -- Each name, with the sections up to the next.
 abbrev pub named : List Section → List (List Section)
 named [] = []

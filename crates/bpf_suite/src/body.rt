@@ -2,7 +2,7 @@
 ghost use Rattle.std.specs.Prelude.{◌≡◌, ◌≤◌, ◌==◌, ◌&&◌, IfOk, length, not, position};
 ghost use Rattle.std.specs.List.{filter, list_all, position_or_len};
 ghost use Rattle.std.specs.Option.{option_map};
-ghost use Rattle.bpf_suite.specs.Bodies.{are_remarks, bytes_of, is_line, is_remark, is_shown, is_space, is_title, limit_of, number_of, trim_end, trimmed};
+ghost use Rattle.bpf_suite.specs.Bodies.{are_remarks, bytes_of, is_line, is_phrase, is_remark, is_shown, is_space, is_title, limit_of, number_of, trim_end, trimmed};
 
 use bpfdb_limits::is_limit;
 use counted_io::{is_blank, natural, trim_start};
@@ -63,6 +63,13 @@ pub fn is_line(text: &[u8]) -> bool
     ensures { result ≡ is_line text.now }
 {
     text.iter().all(|byte| is_shown(*byte))
+}
+
+/// Whether a text is such a line, and isn't empty.
+pub fn is_phrase(text: &[u8]) -> bool
+    ensures { result ≡ is_phrase text.now }
+{
+    !text.is_empty() && is_line(text)
 }
 
 /// Whether a text is a name.

@@ -4,10 +4,15 @@
 mod body;
 mod fault;
 mod kind;
+mod outcome;
+mod refusal;
+mod report;
 mod section;
 mod setting;
 mod suite;
 mod test;
+mod verdict;
 
 pub use fault::{FileFault, SectionFault};
+pub use report::{SuiteFault, write_plan};
 pub use suite::Suite;

@@ -35,6 +35,13 @@ pub struct Section<'a> {
 }
 
 impl<'a> Section<'a> {
+    /// The text of its body.
+    pub fn text(&self) -> &'a [u8]
+        ensures { result.now ≡ self.now.body }
+    {
+        self.body.bytes
+    }
+
     /// The same section.
     pub fn copied(&self) -> Section<'a>
         ensures { result ≡ self.now }

@@ -6,7 +6,9 @@ ghost use Rattle.bpf_suite.specs.Files.{begins_name, sections, tests, until_name
 ghost use Rattle.bpf_suite.specs.Kinds.{is_name};
 ghost use Rattle.bpf_suite.specs.declared.section.Section.{Section};
 
-use crate::body::{are_remarks, bytes_of, is_line, is_title, limit_of, number_of, trimmed};
+use crate::body::{
+    are_remarks, bytes_of, is_line, is_phrase, is_title, limit_of, number_of, trimmed,
+};
 use crate::fault::{FileFault, SectionFault};
 use crate::kind::{Kind, Part};
 use crate::section::{Section, front, sections, until_name};
@@ -128,7 +130,7 @@ fn test_start(sections: &[Section<'_>], start: usize, at: usize) -> usize
 }
 
 /// Whether the first section is a name.
-fn begins_name(sections: &[Section<'_>]) -> bool
+pub fn begins_name(sections: &[Section<'_>]) -> bool
     ensures { result ≡ begins_name sections.now }
 {
     match sections {
@@ -194,7 +196,8 @@ fn is_well_formed(alloc: Global, kind: Kind, body: &[u8]) -> Result<bool, AllocE
         Kind::Words | Kind::Mem => are_bytes(alloc, body),
         Kind::Steps => Ok(limit_of(body).is_some()),
         Kind::Result => Ok(number_of(body).is_some()),
-        Kind::Maps | Kind::Fault | Kind::Limit | Kind::Refused => Ok(is_line(trimmed(body))),
+        Kind::Maps | Kind::Limit => Ok(is_line(trimmed(body))),
+        Kind::Fault | Kind::Refused => Ok(is_phrase(trimmed(body))),
         Kind::Listing | Kind::Unknown => Ok(true),
     }
 }

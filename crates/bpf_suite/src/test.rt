@@ -101,12 +101,10 @@ impl<'b, 'a> Test<'b, 'a> {
     }
 
     /// Its name.
-    pub fn title(&self) -> Text<'a>
-        ensures { result ≡ title self.now }
+    pub fn title(&self) -> &'a [u8]
+        ensures { result.now ≡ title self.now }
     {
-        Text {
-            bytes: trimmed(self.body(Part::Title).bytes),
-        }
+        trimmed(self.body(Part::Title).bytes)
     }
 
     /// Whether its program is a listing.

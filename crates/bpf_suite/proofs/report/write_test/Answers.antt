@@ -1,0 +1,11 @@
+use Rattle.counted_io.proofs.Appending.{Writes-none}
+use Rattle.bpf_suite.proofs.report.write_test.Goals as goal
+
+pub returns-then-passed : goal.returns-then-passed
+returns-then-passed g c =
+    rw c.if-passed.true (c.put_verdict.ensures _ _ (Writes-none g.W.Write.contents c.args.writer.now _))
+
+pub returns-else-passed : goal.returns-else-passed
+returns-else-passed g c =
+    let told = c.put_verdict-told.ensures _ _ (Writes-none g.W.Write.contents c.args.writer.now _) in
+    rw c.if-passed.false (c.put_diagnosis.ensures _ _ told)

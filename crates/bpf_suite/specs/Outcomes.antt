@@ -1,0 +1,85 @@
+-- What comes of a test's program: it is refused, or it runs to its end or to the limit.
+use Rattle.std.specs.Prelude.{ℕ, ◌≡◌, ◌≤◌, true, false, Bool, List, [], ◌++◌, codes, decimal, length, map, Option, Some, None, Result, Ok, Err}
+use Rattle.bpf_isa.specs.Checker.{IsRefused}
+use Rattle.bpf_isa.specs.Faults.{load_fault, map_fault}
+use Rattle.bpf_isa.specs.Maps.{IsListFault, IsMapList, items_of, shape_of}
+use Rattle.bpf_isa.specs.Programs.{Checked, IsProgram}
+use Rattle.bpf_isa.specs.declared.fault.LoadFault.{LoadFault}
+use Rattle.bpf_isa.specs.declared.fault.LoadFault.TheVariants as load
+use Rattle.bpf_isa.specs.declared.maps.MapShape.{MapShape}
+use Rattle.bpf_text.specs.Faults.{fault_line, fault_number, fault_text}
+use Rattle.bpf_text.specs.Listing.{IsFaultOf, IsListing}
+use Rattle.bpf_machine.specs.Opening as opening
+use Rattle.bpf_machine.specs.Platform.{context_limit}
+use Rattle.bpf_machine.specs.State.{State, initial}
+use Rattle.bpf_entries.specs.declared.status.Status.{Status}
+use Rattle.bpf_entries.specs.declared.status.Status.TheVariants as status
+use Rattle.bpf_session.specs.Plain.{plain_end}
+use Rattle.bpfdb_replies.specs.Texts.{place}
+use Rattle.bpf_suite.specs.declared.refusal.Refusal.{Refusal}
+use Rattle.bpf_suite.specs.declared.refusal.Refusal.TheVariants.{Maps, Listing, Load, Open}
+use Rattle.bpf_suite.specs.declared.setting.Setting.{Setting}
+
+-- The map table that a text names; no map where there is no text.
+abbrev pub HasMaps : Option (List ℕ) → List MapShape → Type 0
+HasMaps None maps = maps ≡ []
+HasMaps (Some text) maps = IsMapList text × (maps ≡ map shape_of (items_of text))
+
+-- The words of a program: those of a listing, or as they stand.
+abbrev pub HasWords : Bool → List ℕ → List ℕ → Type 0
+HasWords false program words = words ≡ program
+HasWords true program words = IsListing program words
+
+-- The program: the checker accepted its words with its maps.
+pub record IsProgramOf (t : Setting) (code : Checked) : Type 0 where
+  pub maps : HasMaps t.maps code.maps
+  pub words : HasWords t.is_listing t.program code.bytes
+  pub accepted : IsProgram code
+
+-- Why it is refused. Each refusal comes where those before don't.
+abbrev pub Refuses : Setting → Refusal → Type 0
+Refuses t (Maps fault) = (text : List ℕ) × (t.maps ≡ Some text) × IsListFault text fault
+Refuses t (Listing fault) = (shapes : List MapShape) × HasMaps t.maps shapes × (t.is_listing ≡ true) × IsFaultOf t.program fault
+Refuses t (Load fault) = (shapes : List MapShape) × HasMaps t.maps shapes
+    × (words : List ℕ) × HasWords t.is_listing t.program words × IsRefused words shapes fault
+Refuses t (Open fault) = (code : Checked) × IsProgramOf t code × opening.Refused t.context fault
+
+-- An outcome: why the program is refused, or the state in which it ended, or had taken as many steps as it may.
+abbrev pub Outcome : Type 0
+Outcome = Result State Refusal
+
+abbrev pub Comes : Setting → Outcome → Type 0
+Comes t (Ok x) = (code : Checked) × IsProgramOf t code × (length t.context ≤ context_limit) × (x ≡ plain_end t.limit (initial code t.context))
+Comes t (Err refusal) = Refuses t refusal
+
+-- A refusal as it is printed: a letter and a number, where it is if that is known, and a text.
+abbrev pub placed : List ℕ → Option ℕ → List ℕ
+placed unit (Some n) = unit ++ decimal n
+placed unit None = []
+
+abbrev pub text_of_refusal : List ℕ → ℕ → List ℕ → List ℕ → List ℕ
+text_of_refusal family number at text = family ++ decimal number ++ at ++ codes ": " ++ text
+
+abbrev pub slot_of : LoadFault → Option ℕ
+slot_of (load.At slot fault) = Some slot
+slot_of load.Empty = None
+slot_of load.TooLong = None
+slot_of load.Ragged = None
+slot_of load.Memory = None
+
+abbrev pub refusal_text : Refusal → List ℕ
+refusal_text (Maps fault) = text_of_refusal (codes "refused M") (map_fault fault).0 [] (map_fault fault).1
+refusal_text (Listing fault) = text_of_refusal (codes "refused A") (fault_number fault) (placed (codes " at line ") (fault_line fault)) (fault_text fault)
+refusal_text (Load fault) = text_of_refusal (codes "refused C") (load_fault fault).0 (placed (codes " at slot ") (slot_of fault)) (load_fault fault).1
+refusal_text (Open fault) = text_of_refusal (codes "refused O") (opening.number_of fault) [] (opening.text_of fault)
+
+-- The word in front of where a machine stands that still runs.
+abbrev pub limit_word : Status → List ℕ
+limit_word status.Running = codes "limit "
+limit_word status.Exited = []
+limit_word (status.Faulted fault) = []
+
+-- An outcome as it is printed.
+abbrev pub outcome_text : Outcome → List ℕ
+outcome_text (Ok x) = limit_word x.status ++ place x
+outcome_text (Err refusal) = refusal_text refusal

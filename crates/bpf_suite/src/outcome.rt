@@ -1,0 +1,298 @@
+//! What comes of a test's program.
+ghost use Rattle.std.specs.Prelude.{◌≡◌, ◌≤◌, ◌++◌, IfErr, IfOk, [], true, length};
+ghost use Rattle.bpf_isa.specs.Programs.{Checked};
+ghost use Rattle.bpf_machine.specs.Platform.{context_limit};
+ghost use Rattle.bpf_machine.specs.State.{initial};
+ghost use Rattle.bpf_session.specs.Plain.{plain_end};
+ghost use Rattle.bpfdb_replies.specs.Texts.{place};
+ghost use Rattle.counted_io.specs.Writing.{WritesAfter};
+ghost use Rattle.bpf_suite.specs.Outcomes.{Comes, HasMaps, HasWords, IsProgramOf, Refuses, limit_word, outcome_text, placed, refusal_text, slot_of, text_of_refusal};
+
+use crate::refusal::Refusal;
+use crate::setting::Setting;
+use bpf_isa::{LoadFault, MapTable, Program, check};
+use bpf_machine::{Cpu, Status};
+use bpf_session::run_plain;
+use bpf_text::{AsmFault, assemble};
+use bpfdb_replies::write_place;
+use counted_io::{Counted, WriteFault, put, put_decimal};
+use std::alloc::Global;
+use std::io::{Write, sink};
+
+/// The map table.
+fn maps_of(setting: &Setting<'_>) -> Result<MapTable, Refusal>
+    ensures ok { IfOk result (HasMaps setting.now.maps) }
+    ensures err { IfErr result (Refuses setting.now) }
+{
+    match &setting.maps {
+        None => Ok(MapTable::empty()),
+        Some(text) => match MapTable::parse(text.bytes) {
+            Ok(maps) => Ok(maps),
+            Err(fault) => Err(Refusal::Maps(fault)),
+        },
+    }
+}
+
+/// The program: first its maps are read, then the listing, if it is one, is assembled, then the
+/// checker looks at the words.
+fn program_of(alloc: Global, setting: &Setting<'_>) -> Result<Program, Refusal>
+    ensures ok { IfOk result (IsProgramOf setting.now) }
+    ensures err { IfErr result (Refuses setting.now) }
+{
+    let maps = match maps_of(setting) {
+        Ok(maps) => maps,
+        Err(refusal) => return Err(refusal),
+    };
+    if setting.is_listing {
+        assembled(alloc, setting, &maps)
+    } else {
+        checked(alloc, setting, setting.program.bytes, &maps)
+    }
+}
+
+/// The program of a listing.
+fn assembled(alloc: Global, setting: &Setting<'_>, maps: &MapTable) -> Result<Program, Refusal>
+    requires maps { HasMaps setting.now.maps maps.now }
+    requires listing { setting.now.is_listing ≡ true }
+    ensures ok { IfOk result (IsProgramOf setting.now) }
+    ensures err { IfErr result (Refuses setting.now) }
+{
+    match assemble(alloc, setting.program.bytes) {
+        Ok(words) => checked(alloc, setting, words.as_slice(), maps),
+        Err(fault) => Err(Refusal::Listing(fault)),
+    }
+}
+
+/// The program of these words.
+fn checked(
+    alloc: Global,
+    setting: &Setting<'_>,
+    words: &[u8],
+    maps: &MapTable,
+) -> Result<Program, Refusal>
+    requires maps { HasMaps setting.now.maps maps.now }
+    requires words { HasWords setting.now.is_listing setting.now.program words.now }
+    ensures ok { IfOk result (IsProgramOf setting.now) }
+    ensures err { IfErr result (Refuses setting.now) }
+{
+    match check(alloc, words, maps) {
+        Ok(program) => {
+            program.invariant();
+            Ok(program)
+        }
+        Err(fault) => Err(Refusal::Load(fault)),
+    }
+}
+
+/// A machine before its first step.
+fn machine_of(alloc: Global, setting: &Setting<'_>) -> Result<Cpu, Refusal>
+    ensures ok { IfOk result (λ cpu. (code : Checked) × IsProgramOf setting.now code
+        × (length setting.now.context ≤ context_limit)
+        × (cpu ≡ initial code setting.now.context)) }
+    ensures err { IfErr result (Refuses setting.now) }
+{
+    let program = match program_of(alloc, setting) {
+        Ok(program) => program,
+        Err(refusal) => return Err(refusal),
+    };
+    match Cpu::open(alloc, program, setting.context.bytes) {
+        Ok(cpu) => Ok(cpu),
+        Err(fault) => Err(Refusal::Open(fault)),
+    }
+}
+
+/// What comes of a program: it is refused, or the machine in which it ended, or had taken as many
+/// steps as it may.
+pub fn outcome_of(alloc: Global, setting: &Setting<'_>) -> Result<Cpu, Refusal>
+    ensures { Comes setting.now result }
+{
+    let mut cpu = match machine_of(alloc, setting) {
+        Ok(cpu) => cpu,
+        Err(refusal) => return Err(refusal),
+    };
+    let _ending = run_plain(&mut cpu, setting.limit, &mut Counted::new(sink()));
+    Ok(cpu)
+}
+
+/// Writes an outcome.
+pub fn put_outcome<W: Write>(
+    writer: &mut Counted<W>,
+    so_far: Result<(), WriteFault>,
+    outcome: &Result<Cpu, Refusal>,
+) -> Result<(), WriteFault>
+    ensures { WritesAfter W.contents writer.old so_far writer.new result
+        (outcome_text outcome.now) }
+{
+    match outcome {
+        Ok(cpu) => put_stop(writer, so_far, cpu),
+        Err(refusal) => put_refusal(writer, so_far, refusal),
+    }
+}
+
+/// Writes where a machine stands, with a word in front where it still runs.
+fn put_stop<W: Write>(
+    writer: &mut Counted<W>,
+    so_far: Result<(), WriteFault>,
+    cpu: &Cpu,
+) -> Result<(), WriteFault>
+    ensures { WritesAfter W.contents writer.old so_far writer.new result
+        (limit_word cpu.now.status ++ place cpu.now) }
+{
+    let begun = put_limit_word(writer, so_far, cpu.status());
+    put_place(writer, begun, cpu)
+}
+
+/// Writes the word in front of where a machine stands that still runs.
+fn put_limit_word<W: Write>(
+    writer: &mut Counted<W>,
+    so_far: Result<(), WriteFault>,
+    status: Status,
+) -> Result<(), WriteFault>
+    ensures { WritesAfter W.contents writer.old so_far writer.new result (limit_word status) }
+{
+    match status {
+        Status::Running => put(writer, so_far, b"limit "),
+        Status::Exited => put(writer, so_far, b""),
+        Status::Faulted(_) => put(writer, so_far, b""),
+    }
+}
+
+/// Writes where a machine stands, after what was written so far, unless that failed.
+fn put_place<W: Write>(
+    writer: &mut Counted<W>,
+    so_far: Result<(), WriteFault>,
+    cpu: &Cpu,
+) -> Result<(), WriteFault>
+    ensures { WritesAfter W.contents writer.old so_far writer.new result (place cpu.now) }
+{
+    match so_far {
+        Ok(()) => write_place(cpu, writer),
+        Err(fault) => Err(fault),
+    }
+}
+
+/// Writes a refusal.
+fn put_refusal<W: Write>(
+    writer: &mut Counted<W>,
+    so_far: Result<(), WriteFault>,
+    refusal: &Refusal,
+) -> Result<(), WriteFault>
+    ensures { WritesAfter W.contents writer.old so_far writer.new result
+        (refusal_text refusal.now) }
+{
+    match refusal {
+        Refusal::Maps(fault) => {
+            put_unplaced(writer, so_far, b"refused M", fault.number(), fault.text())
+        }
+        Refusal::Listing(fault) => put_listing(writer, so_far, fault),
+        Refusal::Load(fault) => put_load(writer, so_far, fault),
+        Refusal::Open(fault) => {
+            put_unplaced(writer, so_far, b"refused O", fault.number(), fault.text())
+        }
+    }
+}
+
+/// Writes the fault of a listing.
+fn put_listing<W: Write>(
+    writer: &mut Counted<W>,
+    so_far: Result<(), WriteFault>,
+    fault: &AsmFault,
+) -> Result<(), WriteFault>
+    ensures { WritesAfter W.contents writer.old so_far writer.new result
+        (refusal_text (Refusal.Listing fault.now)) }
+{
+    put_numbered(
+        writer,
+        so_far,
+        b"refused A",
+        fault.number(),
+        b" at line ",
+        fault.line(),
+        fault.text(),
+    )
+}
+
+/// Writes the fault of a program.
+fn put_load<W: Write>(
+    writer: &mut Counted<W>,
+    so_far: Result<(), WriteFault>,
+    fault: &LoadFault,
+) -> Result<(), WriteFault>
+    ensures { WritesAfter W.contents writer.old so_far writer.new result
+        (refusal_text (Refusal.Load fault.now)) }
+{
+    put_numbered(
+        writer,
+        so_far,
+        b"refused C",
+        fault.number(),
+        b" at slot ",
+        slot_of(fault),
+        fault.text(),
+    )
+}
+
+/// Writes a refusal that has no place.
+fn put_unplaced<W: Write>(
+    writer: &mut Counted<W>,
+    so_far: Result<(), WriteFault>,
+    family: &[u8],
+    number: u8,
+    text: &str,
+) -> Result<(), WriteFault>
+    ensures { WritesAfter W.contents writer.old so_far writer.new result
+        (text_of_refusal family.now number [] text.now) }
+{
+    put_numbered(writer, so_far, family, number, b"", None, text)
+}
+
+/// The slot of a program's fault, where it has one.
+fn slot_of(fault: &LoadFault) -> Option<usize>
+    ensures { result ≡ slot_of fault.now }
+{
+    match fault {
+        LoadFault::At { slot, .. } => Some(*slot),
+        LoadFault::Empty => None,
+        LoadFault::TooLong => None,
+        LoadFault::Ragged => None,
+        LoadFault::Memory => None,
+    }
+}
+
+/// Writes a refusal: how it begins, its number, where it is in this unit, and its text.
+fn put_numbered<W: Write>(
+    writer: &mut Counted<W>,
+    so_far: Result<(), WriteFault>,
+    family: &[u8],
+    number: u8,
+    unit: &[u8],
+    at: Option<usize>,
+    text: &str,
+) -> Result<(), WriteFault>
+    ensures { WritesAfter W.contents writer.old so_far writer.new result
+        (text_of_refusal family.now number (placed unit.now at) text.now) }
+{
+    let begun = put(writer, so_far, family);
+    let numbered = put_decimal(writer, begun, u64::from(number));
+    let placed = put_placed(writer, numbered, unit, at);
+    let parted = put(writer, placed, b": ");
+    put(writer, parted, text.as_bytes())
+}
+
+/// Writes a place, where there is one.
+fn put_placed<W: Write>(
+    writer: &mut Counted<W>,
+    so_far: Result<(), WriteFault>,
+    unit: &[u8],
+    at: Option<usize>,
+) -> Result<(), WriteFault>
+    ensures { WritesAfter W.contents writer.old so_far writer.new result (placed unit.now at) }
+{
+    match at {
+        Some(at) => {
+            let begun = put(writer, so_far, unit);
+            put_decimal(writer, begun, at as u64)
+        }
+        None => put(writer, so_far, b""),
+    }
+}

@@ -1,0 +1,168 @@
+//! Whether a test passes.
+ghost use Rattle.std.specs.Prelude.{◌≡◌, IfOk, false};
+ghost use Rattle.std.specs.Option.{option_map_or};
+ghost use Rattle.counted_io.specs.Writing.{Writes, WritesAfter};
+ghost use Rattle.bpf_suite.specs.Bodies.{number_of};
+ghost use Rattle.bpf_suite.specs.Outcomes.{outcome_text};
+ghost use Rattle.bpf_suite.specs.Verdicts.{apart, begins, expected_text, has_exited, is_stop, meets, passes, results, tells};
+
+use crate::body::{number_of, trimmed};
+use crate::kind::{Kind, Part};
+use crate::outcome::put_outcome;
+use crate::refusal::Refusal;
+use crate::test::Test;
+use bpf_machine::{Cpu, Status};
+use bpfdb_replies::number_in;
+use counted_io::{Counted, WriteFault, put};
+use std::alloc::{AllocError, Global};
+use std::io::Write;
+
+/// Whether a test passes with this outcome.
+pub fn passes(
+    alloc: Global,
+    test: &Test<'_, '_>,
+    outcome: &Result<Cpu, Refusal>,
+) -> Result<bool, AllocError>
+    ensures { IfOk result (λ passed. passed ≡ passes test.now outcome.now) }
+{
+    match test.section(Part::Expected) {
+        Some(section) => meets(alloc, section.kind, section.text(), outcome),
+        None => Ok(false),
+    }
+}
+
+/// Whether an outcome is what a section expects.
+fn meets(
+    alloc: Global,
+    kind: Kind,
+    body: &[u8],
+    outcome: &Result<Cpu, Refusal>,
+) -> Result<bool, AllocError>
+    ensures { IfOk result (λ met. met ≡ meets kind body.now outcome.now) }
+{
+    match kind {
+        Kind::Result => Ok(meets_number(body, outcome)),
+        _ => {
+            let expected = expected_text(alloc, kind, body)?;
+            let told = outcome_text(alloc, outcome)?;
+            Ok(tells(expected.as_slice(), told.as_slice()))
+        }
+    }
+}
+
+/// Whether a program exited with the number that a body is.
+fn meets_number(body: &[u8], outcome: &Result<Cpu, Refusal>) -> bool
+    ensures { result ≡ option_map_or (λ n. results n outcome.now) (number_of body.now) false }
+{
+    match number_of(body) {
+        Some(number) => results(number, outcome),
+        None => false,
+    }
+}
+
+/// Whether a program exited with a number.
+fn results(number: u64, outcome: &Result<Cpu, Refusal>) -> bool
+    ensures { result ≡ results number outcome.now }
+{
+    match outcome {
+        Ok(cpu) => has_exited(cpu) && number_in(cpu, 0) == number,
+        Err(_) => false,
+    }
+}
+
+fn has_exited(cpu: &Cpu) -> bool
+    ensures { result ≡ has_exited cpu.now.status }
+{
+    matches!(cpu.status(), Status::Exited)
+}
+
+/// Whether a text is printed, with or without a place and a text behind it.
+fn tells(expected: &[u8], told: &[u8]) -> bool
+    ensures { result ≡ tells expected.now told.now }
+{
+    told.starts_with(expected) && is_stop(&told[expected.len()..])
+}
+
+/// Whether a place or a text follows, or nothing.
+fn is_stop(rest: &[u8]) -> bool
+    ensures { result ≡ is_stop rest.now }
+{
+    match rest {
+        [] => true,
+        _ => rest.starts_with(b" at ") || rest.starts_with(b": "),
+    }
+}
+
+/// An outcome as it is printed.
+fn outcome_text(alloc: Global, outcome: &Result<Cpu, Refusal>) -> Result<Vec<u8>, AllocError>
+    ensures { IfOk result (λ text. text.items ≡ outcome_text outcome.now) }
+{
+    let mut writer = Counted::new(Vec::new(alloc));
+    match write_outcome(&mut writer, outcome) {
+        Ok(()) => Ok(writer.into_inner()),
+        Err(WriteFault) => Err(AllocError),
+    }
+}
+
+/// Writes an outcome.
+fn write_outcome<W: Write>(
+    writer: &mut Counted<W>,
+    outcome: &Result<Cpu, Refusal>,
+) -> Result<(), WriteFault>
+    ensures { Writes W.contents writer.old writer.new result (outcome_text outcome.now) }
+{
+    put_outcome(writer, Ok(()), outcome)
+}
+
+/// What is expected, as it is printed.
+fn expected_text(alloc: Global, kind: Kind, body: &[u8]) -> Result<Vec<u8>, AllocError>
+    ensures { IfOk result (λ text. text.items ≡ expected_text kind body.now) }
+{
+    let mut writer = Counted::new(Vec::new(alloc));
+    match write_expected(&mut writer, kind, body) {
+        Ok(()) => Ok(writer.into_inner()),
+        Err(WriteFault) => Err(AllocError),
+    }
+}
+
+/// Writes what is expected.
+fn write_expected<W: Write>(
+    writer: &mut Counted<W>,
+    kind: Kind,
+    body: &[u8],
+) -> Result<(), WriteFault>
+    ensures { Writes W.contents writer.old writer.new result (expected_text kind body.now) }
+{
+    put_expected(writer, Ok(()), kind, body)
+}
+
+/// Writes what is expected: its word, and what stands in its section.
+pub fn put_expected<W: Write>(
+    writer: &mut Counted<W>,
+    so_far: Result<(), WriteFault>,
+    kind: Kind,
+    body: &[u8],
+) -> Result<(), WriteFault>
+    ensures { WritesAfter W.contents writer.old so_far writer.new result
+        (expected_text kind body.now) }
+{
+    let begun = put(writer, so_far, kind.word().as_bytes());
+    put_apart(writer, begun, trimmed(body))
+}
+
+/// Writes a text with a blank in front, or nothing.
+fn put_apart<W: Write>(
+    writer: &mut Counted<W>,
+    so_far: Result<(), WriteFault>,
+    text: &[u8],
+) -> Result<(), WriteFault>
+    ensures { WritesAfter W.contents writer.old so_far writer.new result (apart text.now) }
+{
+    match text {
+        [] => put(writer, so_far, b""),
+        _ => {
+            let begun = put(writer, so_far, b" ");
+            put(writer, begun, text)
+        }
+    }
+}
