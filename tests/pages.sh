@@ -68,8 +68,8 @@ links() {
     done
 }
 
-# clauses CRATE: 'FUNCTION LABEL' for each labelled clause of the crate, 'RECORD LABEL' for each field of its definitions, and
-# 'NAME' for each function, type and record.
+# clauses CRATE: 'FUNCTION LABEL' for each labelled clause of the crate, 'RECORD LABEL' for each field and each case of its definitions, and
+# 'NAME' for each function, type, definition and case.
 clauses() {
     find "crates/$1/src" -name '*.rt' -exec awk '
         match($0, /(fn|struct|enum|trait|type|const) [A-Za-z_0-9]+/) && !/^ *\/\// {
@@ -84,6 +84,9 @@ clauses() {
     ' {} +
     find "crates/$1/specs" -name '*.antt' -exec awk '
         match($0, /pub record [A-Za-z_0-9]+/) { name = substr($0, RSTART + 11, RLENGTH - 11); print name }
+        match($0, /pub data [A-Za-z_0-9]+/) { name = substr($0, RSTART + 9, RLENGTH - 9); print name }
+        match($0, /abbrev pub [A-Za-z_0-9]+/) { print substr($0, RSTART + 11, RLENGTH - 11) }
+        match($0, /^ +[A-Z][A-Za-z]+ : \(/) { split(substr($0, RSTART, RLENGTH), words, " "); print name, words[1]; print words[1] }
         match($0, /^ +pub [a-z_]+ :/) { split(substr($0, RSTART, RLENGTH), words, " "); print name, words[2] }
     ' {} +
 }

@@ -9,7 +9,7 @@ texts=tests/program/help
 mkdir -p "$texts" || exit 1
 "$program" --help > "$texts/bpfdb.txt" || exit 1
 "$program" -h > "$texts/bpfdb-short.txt" || exit 1
-for subcommand in run debug gdb asm disasm check link; do
+for subcommand in $(awk '/^Commands:/ { inside = 1; next } /^$/ { inside = 0 } inside && $1 != "help" { print $1 }' "$texts/bpfdb-short.txt"); do
     "$program" $subcommand --help > "$texts/$subcommand.txt" || exit 1
     "$program" $subcommand -h > "$texts/$subcommand-short.txt" || exit 1
 done

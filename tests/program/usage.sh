@@ -1,5 +1,8 @@
 # The command line: each subcommand with each of its options in each of their forms, command lines that are none, and help.
 
+# The subcommands, as help lists them.
+subcommands=$(awk '/^Commands:/ { inside = 1; next } /^$/ { inside = 0 } inside && $1 != "help" { print $1 }' "$parts/help/bpfdb-short.txt")
+
 # Programs: one gives the context's first byte, one its length, one never ends; and a listing that has a map.
 bytes first 71 10 00 00 00 00 00 00 EXIT
 bytes length bf 20 00 00 00 00 00 00 EXIT
@@ -95,7 +98,7 @@ usage "unexpected argument '--step' found" run --step 7 first
 usage "unexpected argument '--Steps' found" run --Steps 7 first
 usage "unexpected argument 'second' found" run first second
 usage 'a value is none of those that its option takes' gdb --registers arm first
-for subcommand in run debug gdb asm disasm check link; do
+for subcommand in $subcommands; do
     usage 'the following required arguments were not provided:' $subcommand
     usage "unexpected argument 'second' found" $subcommand first second
     usage "unexpected argument '--frob' found" $subcommand --frob first
@@ -177,7 +180,7 @@ usage "unexpected value 'yes' for '--version' found; no more were expected" --ve
 help bpfdb --help
 help bpfdb help
 help bpfdb-short -h
-for subcommand in run debug gdb asm disasm check link; do
+for subcommand in $subcommands; do
     help $subcommand $subcommand --help
     help $subcommand help $subcommand
     help $subcommand-short $subcommand -h

@@ -1,4 +1,3 @@
-pub mod Done
 pub mod Files
 pub mod Jobs
 pub mod Words

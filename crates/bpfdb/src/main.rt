@@ -1,12 +1,12 @@
 //! The program: a debugger that runs a BPF program (RFC 9669) forwards and backwards.
 #![tactic(auto)]
 
-ghost use Rattle.std.specs.Prelude.{◌≡◌, ◌≢◌, ◌≤◌, IfErr, OnSome, map, string_bytes};
+ghost use Rattle.std.specs.Prelude.{◌≡◌, ◌≢◌, ◌≤◌, IfErr, IsTrue, map, string_bytes};
 ghost use Rattle.bpfdb.specs.Files.{Names, NamesGiven};
 ghost use Rattle.bpfdb.specs.Words.{IsStatusOf};
 ghost use Rattle.bpfdb_cli.specs.Plans.{status_of};
-ghost use Rattle.bpfdb_cli.specs.declared.plans.Subcommand.TheVariants.{Debug};
 ghost use Rattle.bpfdb_limits.specs.Limits.{IsLimit};
+ghost use Rattle.bpfdb_options.specs.declared.subcommand.Subcommand.TheVariants.{Debug};
 
 mod files;
 mod input;
@@ -14,15 +14,15 @@ mod job;
 mod prompt;
 mod words;
 
-use bpfdb_cli::{Plan, PlanFault, Registers, Subcommand, plan};
+use bpfdb_cli::{Plan, PlanFault, plan};
 use bpfdb_files::Retrying;
-use bpfdb_jobs::{JobFault, give_up, tell_usage};
-use bpfdb_limits::{DEFAULT_JOURNAL, DEFAULT_LIMIT};
+use bpfdb_jobs::{Job, JobFault, give_up, tell_usage, tool};
+use bpfdb_options::{NO_OPTIONS, Subcommand};
 use clap::Error;
 use counted_io::Counted;
 use files::{context_at, program_at, source_at};
 use input::is_closed;
-use job::do_or_serve;
+use job::job_of;
 use prompt::{FIRST_GREETING, GREETING, Prompting};
 use std::io;
 use std::io::{BufReader, BufWriter, IsTerminal, Read, Stderr, Write};
@@ -38,17 +38,12 @@ const FIRST_PROGRAM: &[u8] = &[
     0x95, 0, 0, 0, 0, 0, 0, 0, // exit
 ];
 
-/// The plan for that, with every option absent.
-const FIRST_PLAN: Plan<'static> = Plan {
+/// The job of that, with every option absent.
+const FIRST_JOB: Job<'static> = Job {
     subcommand: Subcommand::Debug,
-    file: "",
-    memory: None,
-    maps: None,
-    journal: DEFAULT_JOURNAL,
-    limit: DEFAULT_LIMIT,
-    is_listing: false,
-    section: None,
-    registers: Registers::X86,
+    file: FIRST_PROGRAM,
+    context: &[],
+    options: NO_OPTIONS,
 };
 
 fn main(rt: HostRuntime) -> ExitCode {
@@ -82,7 +77,7 @@ fn obey_words(rt: &HostRuntime, words: &[String], errors: &mut Errors) -> u8
     ensures status { result ≤ 2 }
 {
     if words.len() < 2 {
-        return do_over_streams(rt, &FIRST_PLAN, FIRST_PROGRAM, &[], errors);
+        return do_over_streams(rt, &FIRST_JOB, FIRST_GREETING, errors);
     }
     let Some(texts) = texts_of(rt.alloc(), words) else {
         return give_up(errors, &JobFault::Memory);
@@ -153,7 +148,7 @@ fn show_help(rt: &HostRuntime, text: &Error, errors: &mut Errors) -> u8
 
 /// Reads the files of a plan, FILE before PATH, and does its job.
 fn do_with_files(rt: &HostRuntime, plan: &Plan<'_>, errors: &mut Errors) -> u8
-    requires limit { IsLimit plan.now.limit }
+    requires limit { IsLimit plan.now.options.limit }
     ensures { result ≤ 2 }
 {
     let file = match file_of(rt, plan) {
@@ -164,7 +159,22 @@ fn do_with_files(rt: &HostRuntime, plan: &Plan<'_>, errors: &mut Errors) -> u8
         Ok(context) => context,
         Err(fault) => return give_up(errors, &fault),
     };
-    do_over_streams(rt, plan, file.as_slice(), context.as_slice(), errors)
+    do_plan(rt, plan, file.as_slice(), context.as_slice(), errors)
+}
+
+/// Does the job of a plan, with the bytes of FILE and those of PATH.
+fn do_plan(
+    rt: &HostRuntime,
+    plan: &Plan<'_>,
+    file: &[u8],
+    context: &[u8],
+    errors: &mut Errors,
+) -> u8
+    requires limit { IsLimit plan.now.options.limit }
+    ensures { result ≤ 2 }
+{
+    let job = job_of(plan, file, context);
+    do_over_streams(rt, &job, GREETING, errors)
 }
 
 /// The bytes of FILE, which is a listing for `asm` and where the plan says so, and an object for
@@ -176,7 +186,7 @@ fn file_of<'a>(rt: &HostRuntime, plan: &Plan<'a>) -> Result<Vec<u8>, JobFault<'a
         Subcommand::Asm => source_at(rt, plan.file),
         Subcommand::Link => source_at(rt, plan.file),
         _ => {
-            if plan.is_listing {
+            if plan.options.is_listing {
                 source_at(rt, plan.file)
             } else {
                 program_at(rt, plan.file)
@@ -195,20 +205,19 @@ fn context_of<'a>(rt: &HostRuntime, plan: &Plan<'a>) -> Result<Vec<u8>, JobFault
     }
 }
 
-/// Does the job of a plan over standard input and standard output. A standard input that is closed
-/// is an empty script; one that is a terminal, where commands are typed, is read after a prompt.
+/// Does a job over standard input and standard output. A standard input that is closed is an empty
+/// script; one that is a terminal, where commands are typed, is greeted and read after a prompt.
 /// Calls that the system interrupts are made again, below the buffers.
 ///
 /// The input is read in large pieces, so a program that reads on behind `quit` in the same pipe
 /// finds less than the script left there, mostly nothing.
 fn do_over_streams(
     rt: &HostRuntime,
-    plan: &Plan<'_>,
-    file: &[u8],
-    context: &[u8],
+    job: &Job<'_>,
+    greeting: &'static str,
     errors: &mut Errors,
 ) -> u8
-    requires limit { IsLimit plan.now.limit }
+    requires limit { IsLimit job.now.options.limit }
     ensures { result ≤ 2 }
 {
     let Ok(output) = BufWriter::new(rt.alloc(), Retrying::new(io::writer(rt))) else {
@@ -218,60 +227,40 @@ fn do_over_streams(
     let mut input = Retrying::new(rt.reader());
     if is_closed(rt, &mut input) {
         let mut reader = Counted::new(b"".as_slice());
-        return do_or_serve(
-            rt.alloc(),
-            plan,
-            file,
-            context,
-            &mut reader,
-            &mut writer,
-            errors,
-        );
+        return tool(rt.alloc(), job, &mut reader, &mut writer, errors);
     }
-    match greeting_of(rt, plan) {
-        Some(greeting) => {
-            let input = Prompting::new(input, Retrying::new(rt.stderr()), greeting);
-            do_over_reader(rt, plan, file, context, input, &mut writer, errors)
-        }
-        None => do_over_reader(rt, plan, file, context, input, &mut writer, errors),
+    if is_typed(rt, job) {
+        let input = Prompting::new(input, Retrying::new(rt.stderr()), greeting);
+        do_over_reader(rt, job, input, &mut writer, errors)
+    } else {
+        do_over_reader(rt, job, input, &mut writer, errors)
     }
 }
 
-/// What is said first where commands are typed: the plan reads them, and standard input is a
-/// terminal.
-fn greeting_of(rt: &HostRuntime, plan: &Plan<'_>) -> Option<&'static str>
-    ensures { OnSome result (plan.now.subcommand ≡ Debug) }
+/// Whether commands are typed: the job reads them, and standard input is a terminal.
+fn is_typed(rt: &HostRuntime, job: &Job<'_>) -> bool
+    ensures { IsTrue result → job.now.subcommand ≡ Debug }
 {
-    match plan.subcommand {
-        Subcommand::Debug => {
-            if !rt.stdin().is_terminal() {
-                None
-            } else if plan.file.is_empty() {
-                Some(FIRST_GREETING)
-            } else {
-                Some(GREETING)
-            }
-        }
-        _ => None,
+    match job.subcommand {
+        Subcommand::Debug => rt.stdin().is_terminal(),
+        _ => false,
     }
 }
 
-/// Does the job of a plan over a reader, which is read in large pieces.
+/// Does a job over a reader, which is read in large pieces.
 fn do_over_reader<R: Read + Drop, W: Write>(
     rt: &HostRuntime,
-    plan: &Plan<'_>,
-    file: &[u8],
-    context: &[u8],
+    job: &Job<'_>,
     input: R,
     writer: &mut Counted<W>,
     errors: &mut Errors,
 ) -> u8
-    requires limit { IsLimit plan.now.limit }
+    requires limit { IsLimit job.now.options.limit }
     ensures { result ≤ 2 }
 {
     let Ok(input) = BufReader::new(rt.alloc(), input) else {
         return give_up(errors, &JobFault::Memory);
     };
     let mut reader = Counted::new(input);
-    do_or_serve(rt.alloc(), plan, file, context, &mut reader, writer, errors)
+    tool(rt.alloc(), job, &mut reader, writer, errors)
 }

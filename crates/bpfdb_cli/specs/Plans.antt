@@ -11,21 +11,11 @@ use Rattle.bpfdb_cli.specs.CommandLine.{command_app}
 use Rattle.bpfdb_cli.specs.declared.plans.Plan.{Plan}
 use Rattle.bpfdb_cli.specs.declared.plans.PlanFault.{PlanFault}
 use Rattle.bpfdb_cli.specs.declared.plans.PlanFault.TheVariants.{Usage, Memory}
-use Rattle.bpfdb_cli.specs.declared.plans.Registers.{Registers}
-use Rattle.bpfdb_cli.specs.declared.plans.Registers.TheVariants as registers
-use Rattle.bpfdb_cli.specs.declared.plans.Subcommand.{Subcommand}
-use Rattle.bpfdb_cli.specs.declared.plans.Subcommand.TheVariants as subcommand
 use Rattle.bpfdb_limits.specs.Limits.{IsLimit, default_journal, default_limit}
-
--- The names of the subcommands.
-abbrev pub subcommand_name : Subcommand → Text
-subcommand_name subcommand.Run = codes "run"
-subcommand_name subcommand.Debug = codes "debug"
-subcommand_name subcommand.Asm = codes "asm"
-subcommand_name subcommand.Disasm = codes "disasm"
-subcommand_name subcommand.Check = codes "check"
-subcommand_name subcommand.Link = codes "link"
-subcommand_name subcommand.Gdb = codes "gdb"
+use Rattle.bpfdb_options.specs.Registers.{registers_name}
+use Rattle.bpfdb_options.specs.Subcommands.{subcommand_name}
+use Rattle.bpfdb_options.specs.declared.registers.Registers.{Registers}
+use Rattle.bpfdb_options.specs.declared.registers.Registers.TheVariants.{X86}
 
 -- The number of an option, the default where the option has no text.
 abbrev pub number_or : ℕ → Option Text → ℕ
@@ -36,14 +26,9 @@ number_or default (Some text) = digits_value 10 (without_leading_plus text)
 abbrev pub is_given : Option Text → Bool
 is_given text = option_map_or (λ t. bytes_eq t (codes "true")) text false
 
--- The names of machines that gdb may take this one for, the default where the option has no text.
-abbrev pub registers_name : Registers → Text
-registers_name registers.Bpf = codes "bpf"
-registers_name registers.X86 = codes "x86"
-registers_name registers.Riscv = codes "riscv"
-
+-- The machine of that name, the default where the option has no text.
 abbrev pub NamesRegisters : Option Text → Registers → Type 0
-NamesRegisters None r = r ≡ registers.X86
+NamesRegisters None r = r ≡ X86
 NamesRegisters (Some text) r = registers_name r ≡ text
 
 -- A plan says what a subcommand's matches say.
@@ -51,12 +36,12 @@ pub record Says (name : Text) (rows : List Row) (plan : Plan) : Type 0 where
   pub subcommand : subcommand_name plan.subcommand ≡ name
   pub file : first_of (codes "file") rows ≡ Some plan.file.now
   pub memory : option_map (λ s. s.now) plan.memory ≡ first_of (codes "mem") rows
-  pub maps : option_map (λ s. s.now) plan.maps ≡ first_of (codes "maps") rows
-  pub journal : plan.journal ≡ number_or default_journal (first_of (codes "journal") rows)
-  pub limit : plan.limit ≡ number_or default_limit (first_of (codes "steps") rows)
-  pub listing : plan.is_listing ≡ is_given (first_of (codes "listing") rows)
-  pub section : option_map (λ s. s.now) plan.section ≡ first_of (codes "section") rows
-  pub registers : NamesRegisters (first_of (codes "registers") rows) plan.registers
+  pub maps : option_map (λ s. s.now) plan.options.maps ≡ first_of (codes "maps") rows
+  pub journal : plan.options.journal ≡ number_or default_journal (first_of (codes "journal") rows)
+  pub limit : plan.options.limit ≡ number_or default_limit (first_of (codes "steps") rows)
+  pub listing : plan.options.is_listing ≡ is_given (first_of (codes "listing") rows)
+  pub section : option_map (λ s. s.now) plan.options.section ≡ first_of (codes "section") rows
+  pub registers : NamesRegisters (first_of (codes "registers") rows) plan.options.registers
 
 -- A number that is given is one below 2^64.
 abbrev pub IsNumber : Option Text → Type 0
@@ -68,7 +53,7 @@ pub record IsPlanOf (name : Text) (rows : List Row) (plan : Plan) : Type 0 where
   pub says : Says name rows plan
   pub journal : IsNumber (first_of (codes "journal") rows)
   pub steps : IsNumber (first_of (codes "steps") rows)
-  pub limit : IsLimit plan.limit
+  pub limit : IsLimit plan.options.limit
 
 -- A plan says what the words say, the program's name first, and `clap` finds no fault in these words.
 pub record IsPlan (words : List Text) (plan : Plan) : Type 0 where

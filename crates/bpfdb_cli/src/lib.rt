@@ -9,4 +9,4 @@ mod plans;
 mod subcommands;
 
 pub use planner::plan;
-pub use plans::{Plan, PlanFault, Registers, Subcommand};
+pub use plans::{Plan, PlanFault};

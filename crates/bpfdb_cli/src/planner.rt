@@ -3,11 +3,12 @@ ghost use Rattle.std.specs.Prelude.{◌≡◌, ◌<◌, ◌^◌, IfErr, IfNone, 
 ghost use Rattle.std.specs.Str.Parse.{IsNumeral, digits_value, without_leading_plus};
 ghost use Rattle.clap.specs.Words.{Row, Text, first_of, found_of, rows_of, subcommand_rows_of};
 ghost use Rattle.bpfdb_limits.specs.Limits.{IsLimit};
-ghost use Rattle.bpfdb_cli.specs.Plans.{HasKindIfTold, IsFaultOf, IsPlan, IsPlanOf, NamesRegisters, Says, Tells, is_given, registers_name, subcommand_name, number_or};
+ghost use Rattle.bpfdb_cli.specs.Plans.{HasKindIfTold, IsFaultOf, IsPlan, IsPlanOf, NamesRegisters, Says, Tells, is_given, number_or};
 
 use crate::command_line::command_line;
-use crate::plans::{Plan, PlanFault, Registers, Subcommand};
+use crate::plans::{Plan, PlanFault};
 use bpfdb_limits::{DEFAULT_JOURNAL, DEFAULT_LIMIT, is_limit};
+use bpfdb_options::{Options, Registers, Subcommand};
 use clap::error::ErrorKind;
 use clap::{ArgMatches, Command, Error};
 use std::alloc::Global;
@@ -19,7 +20,7 @@ const BAD_VALUE: &str = "a value is none of those that its option takes";
 /// The plan of a command line, of which the first word is the program's name.
 pub fn plan<'a>(alloc: Global, words: &'a [&'a str]) -> Result<Plan<'a>, PlanFault>
     ensures value { IfOk result (IsPlan (map (λ word. word.now) words.now)) }
-    ensures limit { IfOk result (λ plan. IsLimit plan.limit) }
+    ensures limit { IfOk result (λ plan. IsLimit plan.options.limit) }
     ensures fault { IfErr result (IsFaultOf (map (λ word. word.now) words.now)) }
 {
     let mut command = match command_line(alloc) {
@@ -62,7 +63,7 @@ fn plan_of<'a>(matches: &ArgMatches<'a>) -> Option<Plan<'a>>
         × (subcommand_rows_of matches.now ≡ Some (name, rows)) × Says name rows plan) }
     ensures none { IfNone result ((name : Text) (rows : List Row) (plan : Plan)
         → subcommand_rows_of matches.now ≡ Some (name, rows) → IsPlanOf name rows plan → ⊥) }
-    ensures limit { IfSome result (λ plan. IsLimit plan.limit) }
+    ensures limit { IfSome result (λ plan. IsLimit plan.options.limit) }
 {
     match matches.subcommand() {
         Some((name, found)) => plan_in(name, found),
@@ -75,9 +76,9 @@ fn plan_in<'a>(name: &'a str, found: &ArgMatches<'a>) -> Option<Plan<'a>>
     ensures value { IfSome result (Says name.now (rows_of (found_of found.now))) }
     ensures none { IfNone result ((plan : Plan) →
         IsPlanOf name.now (rows_of (found_of found.now)) plan → ⊥) }
-    ensures limit { IfSome result (λ plan. IsLimit plan.limit) }
+    ensures limit { IfSome result (λ plan. IsLimit plan.options.limit) }
 {
-    let subcommand = match subcommand_named(name) {
+    let subcommand = match Subcommand::named(name) {
         Some(subcommand) => subcommand,
         None => return None,
     };
@@ -104,31 +105,15 @@ fn plan_in<'a>(name: &'a str, found: &ArgMatches<'a>) -> Option<Plan<'a>>
         subcommand,
         file,
         memory: text_of(found, "mem"),
-        maps: text_of(found, "maps"),
-        journal,
-        limit,
-        is_listing: is_given(text_of(found, "listing")),
-        section: text_of(found, "section"),
-        registers,
+        options: Options {
+            maps: text_of(found, "maps"),
+            journal,
+            limit,
+            is_listing: is_given(text_of(found, "listing")),
+            section: text_of(found, "section"),
+            registers,
+        },
     })
-}
-
-/// The subcommand of this name.
-fn subcommand_named(name: &str) -> Option<Subcommand>
-    ensures found { IfSome result (λ subcommand. subcommand_name subcommand ≡ name.now) }
-    ensures none { IfNone result ((subcommand : Subcommand) →
-        subcommand_name subcommand ≡ name.now → ⊥) }
-{
-    match name {
-        "run" => Some(Subcommand::Run),
-        "debug" => Some(Subcommand::Debug),
-        "asm" => Some(Subcommand::Asm),
-        "disasm" => Some(Subcommand::Disasm),
-        "check" => Some(Subcommand::Check),
-        "link" => Some(Subcommand::Link),
-        "gdb" => Some(Subcommand::Gdb),
-        _ => None,
-    }
 }
 
 /// The machine of this name, the default where none is named.
@@ -139,21 +124,7 @@ fn registers_of(text: Option<&str>) -> Option<Registers>
 {
     match text {
         None => Some(Registers::X86),
-        Some(text) => registers_named(text),
-    }
-}
-
-/// The machine of this name.
-fn registers_named(name: &str) -> Option<Registers>
-    ensures found { IfSome result (λ registers. registers_name registers ≡ name.now) }
-    ensures none { IfNone result ((registers : Registers) →
-        registers_name registers ≡ name.now → ⊥) }
-{
-    match name {
-        "bpf" => Some(Registers::Bpf),
-        "x86" => Some(Registers::X86),
-        "riscv" => Some(Registers::Riscv),
-        _ => None,
+        Some(text) => Registers::named(text),
     }
 }
 

@@ -1,26 +1,58 @@
--- What serving gdb leaves: a session of the job, opened as that of `debug`, was served, to the connection's end or until a read or a write failed.
+-- What serving gdb leaves: a session of the job was served, to the connection's end or until a read or a write failed.
 use Rattle.std.specs.Prelude.{ℕ, List, Option}
-use Rattle.counted_io.specs.Counted.{Tally}
-use Rattle.bpf_entries.specs.Keeping.{Kept}
+use Rattle.bpf_isa.specs.Programs.{Checked}
+use Rattle.bpf_journal.specs.Tracks.{RingHolds, ring_room}
+use Rattle.bpf_journal.specs.declared.ring_keeper.RingKeeper.{RingKeeper}
+use Rattle.bpf_remote.specs.Serving.{Breaks, Ends, Serves}
+use Rattle.bpf_remote.specs.declared.layout.Layout.{Layout}
+use Rattle.bpf_remote.specs.declared.layout.Layout.TheVariants as layout
+use Rattle.bpf_session.specs.Runs.{HasStanding}
 use Rattle.bpf_session.specs.Sessions.{SessionValue}
 use Rattle.bpf_session.specs.declared.fault.RunFault.{RunFault}
-use Rattle.bpf_remote.specs.Serving.{Breaks, Serves}
-use Rattle.bpf_remote.specs.declared.layout.Layout.{Layout}
-use Rattle.bpfdb_jobs.specs.Openings.{IsOpening}
+use Rattle.counted_io.specs.Counted.{Tally}
+use Rattle.bpfdb_jobs.specs.Jobs.{start_of}
 use Rattle.bpfdb_jobs.specs.declared.job.Job.{Job}
+use Rattle.bpfdb_options.specs.declared.registers.Registers.{Registers}
+use Rattle.bpfdb_options.specs.declared.registers.Registers.TheVariants as registers
 
-module _ {K R W : Type 0} (holds : K → List Kept → Type 0) (refused room : K → ℕ) (remaining : R → Option (List ℕ)) (contents : W → Option (List ℕ)) where
-  pub record ServesConnection (gdb : Layout) (job : Job) (reader reader' : Tally R) (writer writer' : Tally W) : Type 0 where
-    pub from : SessionValue K
-    pub to : SessionValue K
-    pub opens : IsOpening holds refused room job from
-    pub serves : Serves holds refused room remaining contents
-        (record { gdb = gdb; from = from; to = to; reader = reader; reader' = reader'; writer = writer; writer' = writer' })
+-- The machine that gdb takes this one for.
+abbrev pub layout_of : Registers → Layout
+layout_of registers.Bpf = layout.Bpf
+layout_of registers.X86 = layout.X86
+layout_of registers.Riscv = layout.Riscv
 
-  pub record BreaksConnection (gdb : Layout) (job : Job) (reader reader' : Tally R) (writer writer' : Tally W) : Type 0 where
-    pub from : SessionValue K
-    pub to : SessionValue K
-    pub why : RunFault
-    pub opens : IsOpening holds refused room job from
-    pub breaks : Breaks holds refused room remaining contents why
-        (record { gdb = gdb; from = from; to = to; reader = reader; reader' = reader'; writer = writer; writer' = writer' })
+-- A ring refuses no push.
+abbrev pub ring_refusals : RingKeeper → ℕ
+ring_refusals ring = 0
+
+-- A session stands where one of the job begins.
+abbrev pub Begins : Job → Checked → SessionValue RingKeeper → Type 0
+Begins job code session = HasStanding RingHolds ring_refusals ring_room session (start_of job code)
+
+-- What was known of the streams and of the session before it was served and after it.
+abbrev pub ends : {R W : Type 0} → Job → SessionValue RingKeeper → SessionValue RingKeeper → Tally R → Tally R → Tally W → Tally W
+    → Ends RingKeeper R W
+ends job from to reader reader' writer writer' = record {
+  gdb = layout_of job.options.registers;
+  from = from;
+  to = to;
+  reader = reader;
+  reader' = reader';
+  writer = writer;
+  writer' = writer';
+}
+
+module _ {R W : Type 0} (remaining : R → Option (List ℕ)) (contents : W → Option (List ℕ)) (job : Job) (reader reader' : Tally R) (writer writer' : Tally W) where
+  -- It was served to the connection's end.
+  pub record ServesConnection (code : Checked) : Type 0 where
+    pub from : SessionValue RingKeeper
+    pub to : SessionValue RingKeeper
+    pub begins : Begins job code from
+    pub serves : Serves RingHolds ring_refusals ring_room remaining contents (ends job from to reader reader' writer writer')
+
+  -- It was served until a read or a write failed.
+  pub record BreaksConnection (code : Checked) (why : RunFault) : Type 0 where
+    pub from : SessionValue RingKeeper
+    pub to : SessionValue RingKeeper
+    pub begins : Begins job code from
+    pub breaks : Breaks RingHolds ring_refusals ring_room remaining contents why (ends job from to reader reader' writer writer')

@@ -9,12 +9,7 @@ use Rattle.bpf_link.specs.declared.fault.LinkFault.{LinkFault}
 use Rattle.bpf_link.specs.declared.fault.LinkFault.TheVariants as linking
 use Rattle.bpf_text.specs.Faults.{fault_line, fault_number, fault_text}
 use Rattle.bpf_machine.specs.Opening as opening
-use Rattle.bpf_machine.specs.State.{State}
 use Rattle.bpf_journal.specs.Opening as journal
-use Rattle.bpf_session.specs.Plain.{ending_of}
-use Rattle.bpf_session.specs.declared.plain.Ending.{Ending}
-use Rattle.bpf_session.specs.declared.plain.Ending.TheVariants as ending
-use Rattle.bpfdb_replies.specs.Texts.{place}
 use Rattle.bpfdb_jobs.specs.declared.fault.JobFault.{JobFault}
 use Rattle.bpfdb_jobs.specs.declared.fault.JobFault.TheVariants.{Unreadable, NotText, Refused, Input, Output, Memory, StepLimit}
 use Rattle.bpfdb_jobs.specs.declared.refusal.JobRefusal.{JobRefusal}
@@ -88,12 +83,3 @@ line_of Input = codes "cannot read input\n"
 line_of Output = codes "cannot write output\n"
 line_of Memory = codes "out of memory\n"
 line_of (StepLimit limit slot) = limit_line limit slot
-
--- The line of a run that stops before its program exits: where the machine stands, or the limit.
-abbrev pub line_of_stop : Ending → ℕ → State → List ℕ
-line_of_stop ending.Exited limit x = []
-line_of_stop ending.Faulted limit x = place x ++ codes "\n"
-line_of_stop ending.Limit limit x = limit_line limit x.pc
-
-abbrev pub stop_line : ℕ → State → List ℕ
-stop_line limit x = line_of_stop (ending_of x.status) limit x

@@ -6,4 +6,4 @@ pub mod Jobs
 pub mod MapLines
 pub mod Openings
 pub mod Refusals
-pub mod Unread
+pub mod Scripts

@@ -9,25 +9,25 @@ use Rattle.bpf_text.specs.Listing.{IsFaultOf}
 use Rattle.bpf_link.specs.Links.{IsLinkFault}
 use Rattle.bpf_machine.specs.Opening.{Refused}
 use Rattle.bpf_journal.specs.Opening.{RefusesSize}
-use Rattle.bpfdb_jobs.specs.Jobs.{HasMaps, HasWords, IsProgramOf, Opens}
+use Rattle.bpfdb_jobs.specs.Jobs.{HasMaps, HasWords, IsProgramOf, Opens, section_of}
 use Rattle.bpfdb_jobs.specs.declared.job.Job.{Job}
-use Rattle.bpfdb_jobs.specs.declared.job.JobKind.{JobKind}
-use Rattle.bpfdb_jobs.specs.declared.job.JobKind.TheVariants.{Run, Debug, Asm, Disasm, Check, Link}
 use Rattle.bpfdb_jobs.specs.declared.refusal.JobRefusal.{JobRefusal}
 use Rattle.bpfdb_jobs.specs.declared.refusal.JobRefusal.TheVariants.{Maps, Listing, Load, Open, Journal, Object}
+use Rattle.bpfdb_options.specs.declared.subcommand.Subcommand.{Subcommand}
+use Rattle.bpfdb_options.specs.declared.subcommand.Subcommand.TheVariants.{Run, Debug, Gdb, Asm, Disasm, Check, Link}
 
 -- Each refusal comes where those before don't.
 abbrev pub Refuses : Job → JobRefusal → Type 0
-Refuses job (Maps fault) = (text : Bor (List ℕ)) × (job.maps ≡ Some text) × IsListFault text.now fault
-Refuses job (Listing fault) = (shapes : List MapShape) × HasMaps job.maps shapes × (job.is_listing ≡ true)
+Refuses job (Maps fault) = (text : Bor (List ℕ)) × (job.options.maps ≡ Some text) × IsListFault text.now fault
+Refuses job (Listing fault) = (shapes : List MapShape) × HasMaps job.options.maps shapes × (job.options.is_listing ≡ true)
     × IsFaultOf job.file.now fault
-Refuses job (Load fault) = (shapes : List MapShape) × HasMaps job.maps shapes
-    × (words : List ℕ) × HasWords job.is_listing job.file.now words × IsRefused words shapes fault
+Refuses job (Load fault) = (shapes : List MapShape) × HasMaps job.options.maps shapes
+    × (words : List ℕ) × HasWords job.options.is_listing job.file.now words × IsRefused words shapes fault
 Refuses job (Open fault) = (code : Checked) × IsProgramOf job code × Refused job.context.now fault
-Refuses job (Journal fault) = (code : Checked) × Opens job code × RefusesSize job.journal fault
+Refuses job (Journal fault) = (code : Checked) × Opens job code × RefusesSize job.options.journal fault
 Refuses job (Object fault) = ⊥
 
--- Those that a kind of job looks at: `asm` its listing alone and `link` its object, a program has no context, a run no journal.
+-- Those that a subcommand looks at: `asm` its listing alone and `link` its object, a program has no context, a run no journal.
 abbrev pub RefusesProgram : Job → JobRefusal → Type 0
 RefusesProgram job (Open fault) = ⊥
 RefusesProgram job (Journal fault) = ⊥
@@ -42,12 +42,13 @@ RefusesListing job (Listing fault) = IsFaultOf job.file.now fault
 RefusesListing job refusal = ⊥
 
 abbrev pub RefusesObject : Job → JobRefusal → Type 0
-RefusesObject job (Object fault) = IsLinkFault job.file.now job.section.now fault
+RefusesObject job (Object fault) = IsLinkFault job.file.now (section_of job) fault
 RefusesObject job refusal = ⊥
 
-abbrev pub RefusesAs : JobKind → Job → JobRefusal → Type 0
+abbrev pub RefusesAs : Subcommand → Job → JobRefusal → Type 0
 RefusesAs Run job refusal = RefusesMachine job refusal
 RefusesAs Debug job refusal = Refuses job refusal
+RefusesAs Gdb job refusal = Refuses job refusal
 RefusesAs Asm job refusal = RefusesListing job refusal
 RefusesAs Disasm job refusal = RefusesProgram job refusal
 RefusesAs Check job refusal = RefusesProgram job refusal

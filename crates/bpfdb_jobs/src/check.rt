@@ -1,9 +1,9 @@
 //! What a job of `check` does.
-ghost use Rattle.std.specs.Prelude.{◌≡◌, ◌≢◌, ◌≤◌, List, ℕ, Some, count_by, is_some};
+ghost use Rattle.std.specs.Prelude.{◌≡◌, ◌≤◌, count_by, is_some};
 ghost use Rattle.counted_io.specs.Writing.{Writes, WritesAfter};
-ghost use Rattle.bpfdb_jobs.specs.Jobs.{StopsUnread, Completes, Needs, Spared, check_line};
-ghost use Rattle.bpfdb_jobs.specs.Unread.{TellsUnread};
-ghost use Rattle.bpfdb_jobs.specs.declared.job.JobKind.TheVariants.{Check};
+ghost use Rattle.bpfdb_jobs.specs.Endings.{EndsPrinted};
+ghost use Rattle.bpfdb_jobs.specs.Jobs.{check_line};
+ghost use Rattle.bpfdb_options.specs.declared.subcommand.Subcommand.TheVariants.{Check};
 
 use crate::fault::JobFault;
 use crate::job::Job;
@@ -21,28 +21,9 @@ pub fn check_job<W: Write, E: Write>(
     writer: &mut Counted<W>,
     errors: &mut Counted<E>,
 ) -> u8
-    ensures value { (script told : List ℕ) → W.contents writer.old.inner ≡ Some told → result ≢ 2 →
-        Completes Check job.now (record {
-          script = script;
-          told = told;
-          after = W.contents writer.new.inner;
-          left = Some script;
-        }) result }
-    ensures broken { (script told : List ℕ) → W.contents writer.old.inner ≡ Some told → result ≡ 2 →
-        StopsUnread Check job.now
-        (record {
-          script = script;
-          told = told;
-          after = W.contents writer.new.inner;
-          left = Some script;
-        }) }
-    ensures refused { (Needs Check job.now → ⊥) → (result ≡ 2) × (writer.new ≡ writer.old) }
-    ensures spared { result ≢ 2 → Spared writer.old writer.new × Spared errors.old errors.new }
-    ensures quiet { result ≡ 0 → errors.new ≡ errors.old }
-    ensures never { result ≢ 1 }
+    ensures does { EndsPrinted W.contents E.contents Check job.now writer.old writer.new errors.old
+        errors.new result }
     ensures status { result ≤ 2 }
-    ensures told { result ≡ 2 →
-        TellsUnread E.contents Check job.now writer.old writer.new errors.old errors.new }
 {
     match program_of(alloc, job) {
         Ok(program) => {

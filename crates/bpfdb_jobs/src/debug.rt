@@ -1,8 +1,6 @@
 //! What a job of `debug` does.
-ghost use Rattle.std.specs.Prelude.{◌≡◌, ◌≢◌, ◌≤◌, List, ℕ, Some};
-ghost use Rattle.bpfdb_jobs.specs.Endings.{TellsFault};
-ghost use Rattle.bpfdb_jobs.specs.Jobs.{StopsShort, Completes, Needs, Spared};
-ghost use Rattle.bpfdb_jobs.specs.declared.job.JobKind.TheVariants.{Debug};
+ghost use Rattle.std.specs.Prelude.{◌≤◌};
+ghost use Rattle.bpfdb_jobs.specs.Done.{Debugs};
 ghost use Rattle.bpfdb_limits.specs.Limits.{IsLimit};
 
 use crate::fault::JobFault;
@@ -25,36 +23,10 @@ pub fn debug_job<R: Read, W: Write, E: Write>(
     writer: &mut Counted<W>,
     errors: &mut Counted<E>,
 ) -> u8
-    requires limit { IsLimit job.now.limit }
-    // The whole answer was written.
-    ensures value { (script told : List ℕ) → R.remaining reader.old.inner ≡ Some script →
-        W.contents writer.old.inner ≡ Some told → result ≢ 2 →
-        Completes Debug job.now (record {
-          script = script;
-          told = told;
-          after = W.contents writer.new.inner;
-          left = R.remaining reader.new.inner;
-        }) result }
-    ensures broken { (script told : List ℕ) → R.remaining reader.old.inner ≡ Some script →
-        W.contents writer.old.inner ≡ Some told → result ≡ 2 →
-        StopsShort Debug job.now
-        (record {
-          script = script;
-          told = told;
-          after = W.contents writer.new.inner;
-          left = R.remaining reader.new.inner;
-        })
-        reader.old reader.new writer.old writer.new }
-    ensures refused { (Needs Debug job.now → ⊥) → (result ≡ 2) × (reader.new ≡ reader.old)
-        × (writer.new ≡ writer.old) }
-    ensures spared { result ≢ 2 → Spared reader.old reader.new × Spared writer.old writer.new
-        × Spared errors.old errors.new }
-    ensures quiet { result ≡ 0 → errors.new ≡ errors.old }
-    ensures never { result ≢ 1 }
+    requires limit { IsLimit job.now.options.limit }
+    ensures does { Debugs R.remaining W.contents E.contents job.now reader.old reader.new
+        writer.old writer.new errors.old errors.new result }
     ensures status { result ≤ 2 }
-    ensures told { result ≡ 2 →
-        TellsFault E.contents Debug job.now reader.old reader.new writer.old writer.new errors.old
-        errors.new }
 {
     let mut session = match session_of(alloc, job) {
         Ok(session) => session,

@@ -5,10 +5,12 @@ ghost use Rattle.bpfdb_limits.specs.Limits.{IsLimit};
 
 use crate::check::check_job;
 use crate::debug::debug_job;
-use crate::job::{Job, JobKind};
+use crate::gdb::gdb_job;
+use crate::job::Job;
 use crate::listing::{asm_job, disasm_job};
 use crate::object::link_job;
 use crate::run::run_job;
+use bpfdb_options::Subcommand;
 use counted_io::Counted;
 use std::alloc::Global;
 use std::io::{Read, Write};
@@ -17,8 +19,9 @@ use std::io::{Read, Write};
 /// the limit of steps; 2 where the job is refused, where input or output fails, and where memory
 /// runs out.
 ///
-/// Results go to the writer. A refusal, a fault or a limit is one line on `errors`, and so are the
-/// maps of an object that is linked. The reader is read by `debug` alone.
+/// Results, replies and answers go to the writer. A refusal, a fault or a limit is one line on
+/// `errors`, and so are the maps of an object that is linked. The reader is read by `debug` and
+/// `gdb` alone.
 pub fn tool<R: Read, W: Write, E: Write>(
     alloc: Global,
     job: &Job<'_>,
@@ -26,17 +29,18 @@ pub fn tool<R: Read, W: Write, E: Write>(
     writer: &mut Counted<W>,
     errors: &mut Counted<E>,
 ) -> u8
-    requires limit { IsLimit job.now.limit }
-    ensures does { DoesJob R.remaining W.contents E.contents job.now.kind job.now
+    requires limit { IsLimit job.now.options.limit }
+    ensures does { DoesJob R.remaining W.contents E.contents job.now.subcommand job.now
         reader.old reader.new writer.old writer.new errors.old errors.new result }
     ensures status { result ≤ 2 }
 {
-    match job.kind {
-        JobKind::Run => run_job(alloc, job, writer, errors),
-        JobKind::Debug => debug_job(alloc, job, reader, writer, errors),
-        JobKind::Asm => asm_job(alloc, job, writer, errors),
-        JobKind::Disasm => disasm_job(alloc, job, writer, errors),
-        JobKind::Check => check_job(alloc, job, writer, errors),
-        JobKind::Link => link_job(alloc, job, writer, errors),
+    match job.subcommand {
+        Subcommand::Run => run_job(alloc, job, writer, errors),
+        Subcommand::Debug => debug_job(alloc, job, reader, writer, errors),
+        Subcommand::Gdb => gdb_job(alloc, job, reader, writer, errors),
+        Subcommand::Asm => asm_job(alloc, job, writer, errors),
+        Subcommand::Disasm => disasm_job(alloc, job, writer, errors),
+        Subcommand::Check => check_job(alloc, job, writer, errors),
+        Subcommand::Link => link_job(alloc, job, writer, errors),
     }
 }

@@ -2,10 +2,10 @@
 #![tactic(auto)]
 
 mod check;
-mod connection;
 mod debug;
 mod dispatch;
 mod fault;
+mod gdb;
 mod job;
 mod line;
 mod listing;
@@ -17,10 +17,9 @@ mod refusal;
 mod report;
 mod run;
 
-pub use connection::serve_job;
 pub use dispatch::tool;
 pub use fault::JobFault;
-pub use job::{Job, JobKind};
+pub use job::Job;
 pub use name::shown_name;
 pub use refusal::JobRefusal;
 pub use report::{give_up, tell_usage};

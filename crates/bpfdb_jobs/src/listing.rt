@@ -1,8 +1,7 @@
 //! What the jobs of `asm` and `disasm` do.
-ghost use Rattle.std.specs.Prelude.{◌≡◌, ◌≢◌, ◌≤◌, List, ℕ, Some};
-ghost use Rattle.bpfdb_jobs.specs.Jobs.{StopsUnread, Completes, Needs, Spared};
-ghost use Rattle.bpfdb_jobs.specs.Unread.{TellsUnread};
-ghost use Rattle.bpfdb_jobs.specs.declared.job.JobKind.TheVariants.{Asm, Disasm};
+ghost use Rattle.std.specs.Prelude.{◌≤◌};
+ghost use Rattle.bpfdb_jobs.specs.Endings.{EndsPrinted};
+ghost use Rattle.bpfdb_options.specs.declared.subcommand.Subcommand.TheVariants.{Asm, Disasm};
 
 use crate::fault::JobFault;
 use crate::job::Job;
@@ -21,27 +20,9 @@ pub fn asm_job<W: Write, E: Write>(
     writer: &mut Counted<W>,
     errors: &mut Counted<E>,
 ) -> u8
-    ensures value { (script told : List ℕ) → W.contents writer.old.inner ≡ Some told → result ≢ 2 →
-        Completes Asm job.now (record {
-          script = script;
-          told = told;
-          after = W.contents writer.new.inner;
-          left = Some script;
-        }) result }
-    ensures broken { (script told : List ℕ) → W.contents writer.old.inner ≡ Some told → result ≡ 2 →
-        StopsUnread Asm job.now (record {
-          script = script;
-          told = told;
-          after = W.contents writer.new.inner;
-          left = Some script;
-        }) }
-    ensures refused { (Needs Asm job.now → ⊥) → (result ≡ 2) × (writer.new ≡ writer.old) }
-    ensures spared { result ≢ 2 → Spared writer.old writer.new × Spared errors.old errors.new }
-    ensures quiet { result ≡ 0 → errors.new ≡ errors.old }
-    ensures never { result ≢ 1 }
+    ensures does { EndsPrinted W.contents E.contents Asm job.now writer.old writer.new errors.old
+        errors.new result }
     ensures status { result ≤ 2 }
-    ensures told { result ≡ 2 →
-        TellsUnread E.contents Asm job.now writer.old writer.new errors.old errors.new }
 {
     match assemble(alloc, job.file) {
         Ok(words) => {
@@ -59,29 +40,9 @@ pub fn disasm_job<W: Write, E: Write>(
     writer: &mut Counted<W>,
     errors: &mut Counted<E>,
 ) -> u8
-    ensures value { (script told : List ℕ) → W.contents writer.old.inner ≡ Some told → result ≢ 2 →
-        Completes Disasm job.now
-        (record {
-          script = script;
-          told = told;
-          after = W.contents writer.new.inner;
-          left = Some script;
-        }) result }
-    ensures broken { (script told : List ℕ) → W.contents writer.old.inner ≡ Some told → result ≡ 2 →
-        StopsUnread Disasm job.now
-        (record {
-          script = script;
-          told = told;
-          after = W.contents writer.new.inner;
-          left = Some script;
-        }) }
-    ensures refused { (Needs Disasm job.now → ⊥) → (result ≡ 2) × (writer.new ≡ writer.old) }
-    ensures spared { result ≢ 2 → Spared writer.old writer.new × Spared errors.old errors.new }
-    ensures quiet { result ≡ 0 → errors.new ≡ errors.old }
-    ensures never { result ≢ 1 }
+    ensures does { EndsPrinted W.contents E.contents Disasm job.now writer.old writer.new errors.old
+        errors.new result }
     ensures status { result ≤ 2 }
-    ensures told { result ≡ 2 →
-        TellsUnread E.contents Disasm job.now writer.old writer.new errors.old errors.new }
 {
     let program = match program_of(alloc, job) {
         Ok(program) => program,

@@ -1,31 +1,23 @@
 //! The line that tells the maps of an object.
-ghost use Rattle.std.specs.Prelude.{◌≡◌, ◌≢◌, ◌≤◌, [], ◌++◌, flat_map, codes};
+ghost use Rattle.std.specs.Prelude.{◌++◌, OnErr, OnOk, flat_map, codes};
 ghost use Rattle.counted_io.specs.Writing.{Writes, WritesAfter};
-ghost use Rattle.bpfdb_jobs.specs.Endings.{Loses, TellsMaps};
-ghost use Rattle.bpfdb_jobs.specs.Jobs.{Spared};
-ghost use Rattle.bpfdb_jobs.specs.MapLines.{maps_line, maps_text, shape_text};
+ghost use Rattle.bpfdb_jobs.specs.Endings.{Gets, Loses};
+ghost use Rattle.bpfdb_jobs.specs.MapLines.{maps_line, maps_text, maps_told, shape_text};
 
 use bpf_isa::MapShape;
 use counted_io::{Counted, WriteFault, put, put_decimal};
 use std::io::Write;
 
 /// Tells the maps of an object on standard error, as `--maps` takes them: a line, or nothing where
-/// there are none. Answers the exit status: 0, or 2 where standard error failed.
-pub fn tell_maps<E: Write>(errors: &mut Counted<E>, shapes: &[MapShape]) -> u8
-    ensures status { result ≢ 2 → result ≡ 0 }
-    ensures few { result ≤ 2 }
-    ensures quiet { result ≢ 2 → TellsMaps E.contents shapes.now errors.old errors.new }
-    ensures spared { result ≢ 2 → Spared errors.old errors.new }
-    ensures lost { result ≡ 2 → (shapes.now ≢ [])
-        × Loses E.contents errors.old errors.new (maps_line shapes.now) }
+/// there are none.
+pub fn tell_maps<E: Write>(errors: &mut Counted<E>, shapes: &[MapShape]) -> Result<(), WriteFault>
+    ensures ok { OnOk result (Gets E.contents errors.old errors.new (maps_told shapes.now)) }
+    ensures err { OnErr result (Loses E.contents errors.old errors.new (maps_told shapes.now)) }
 {
     if shapes.is_empty() {
-        return 0;
+        return Ok(());
     }
-    match write_maps(errors, shapes) {
-        Ok(()) => 0,
-        Err(WriteFault) => 2,
-    }
+    write_maps(errors, shapes)
 }
 
 /// Writes the line of maps, and flushes.

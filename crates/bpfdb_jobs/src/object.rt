@@ -1,15 +1,14 @@
 //! What a job of `link` does.
-ghost use Rattle.std.specs.Prelude.{◌≡◌, ◌≢◌, ◌≤◌, ◌⊎◌, List, ℕ, Some};
-ghost use Rattle.bpfdb_jobs.specs.Endings.{LosesMaps, TellsDone};
-ghost use Rattle.bpfdb_jobs.specs.Jobs.{StopsUnread, Completes, Needs, Spared};
-ghost use Rattle.bpfdb_jobs.specs.Unread.{TellsUnread};
-ghost use Rattle.bpfdb_jobs.specs.declared.job.JobKind.TheVariants.{Link};
+ghost use Rattle.std.specs.Prelude.{◌≡◌, ◌≤◌};
+ghost use Rattle.bpfdb_jobs.specs.Endings.{EndsPrinted};
+ghost use Rattle.bpfdb_jobs.specs.Jobs.{section_of};
+ghost use Rattle.bpfdb_options.specs.declared.subcommand.Subcommand.TheVariants.{Link};
 
 use crate::fault::JobFault;
 use crate::job::Job;
 use crate::maps::tell_maps;
 use crate::refusal::JobRefusal;
-use crate::report::{give_up, write_out};
+use crate::report::{give_up, told_as, write_out};
 use bpf_link::link;
 use counted_io::{Counted, WriteFault};
 use std::alloc::Global;
@@ -23,36 +22,26 @@ pub fn link_job<W: Write, E: Write>(
     writer: &mut Counted<W>,
     errors: &mut Counted<E>,
 ) -> u8
-    ensures value { (script told : List ℕ) → W.contents writer.old.inner ≡ Some told → result ≢ 2 →
-        Completes Link job.now (record {
-          script = script;
-          told = told;
-          after = W.contents writer.new.inner;
-          left = Some script;
-        }) result }
-    ensures broken { (script told : List ℕ) → W.contents writer.old.inner ≡ Some told → result ≡ 2 →
-        StopsUnread Link job.now
-        (record {
-          script = script;
-          told = told;
-          after = W.contents writer.new.inner;
-          left = Some script;
-        }) }
-    ensures refused { (Needs Link job.now → ⊥) → (result ≡ 2) × (writer.new ≡ writer.old) }
-    ensures spared { result ≢ 2 → Spared writer.old writer.new × Spared errors.old errors.new }
-    ensures quiet { result ≡ 0 → TellsDone E.contents Link job.now errors.old errors.new }
-    ensures never { result ≢ 1 }
+    ensures does { EndsPrinted W.contents E.contents Link job.now writer.old writer.new errors.old
+        errors.new result }
     ensures status { result ≤ 2 }
-    ensures told { result ≡ 2 →
-        TellsUnread E.contents Link job.now writer.old writer.new errors.old errors.new
-        ⊎ (LosesMaps E.contents job.now errors.old errors.new × Spared writer.old writer.new) }
 {
-    let linked = match link(alloc, job.file, job.section) {
+    let linked = match link(alloc, job.file, section_of(job)) {
         Ok(linked) => linked,
         Err(fault) => return give_up(errors, &JobFault::Refused(JobRefusal::Object(fault))),
     };
     match write_out(writer, linked.words.as_slice()) {
-        Ok(()) => tell_maps(errors, linked.shapes.as_slice()),
+        Ok(()) => told_as(tell_maps(errors, linked.shapes.as_slice()), 0),
         Err(WriteFault) => give_up(errors, &JobFault::Output),
+    }
+}
+
+/// The name of the section that is linked: empty where the only one is meant.
+fn section_of<'a>(job: &Job<'a>) -> &'a [u8]
+    ensures { result.now ≡ section_of job.now }
+{
+    match job.options.section {
+        Some(name) => name.as_bytes(),
+        None => b"",
     }
 }

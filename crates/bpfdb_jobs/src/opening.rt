@@ -10,7 +10,7 @@ ghost use Rattle.bpfdb_limits.specs.Limits.{IsLimit};
 use crate::job::Job;
 use crate::refusal::JobRefusal;
 use bpf_isa::{MapTable, Program, check};
-use bpf_journal::{Keeper, RingKeeper};
+use bpf_journal::RingKeeper;
 use bpf_machine::Cpu;
 use bpf_session::Session;
 use bpf_text::assemble;
@@ -18,12 +18,12 @@ use std::alloc::Global;
 
 /// The map table.
 fn maps_of(job: &Job<'_>) -> Result<MapTable, JobRefusal>
-    ensures ok { IfOk result (HasMaps job.now.maps) }
+    ensures ok { IfOk result (HasMaps job.now.options.maps) }
     ensures err { IfErr result (RefusesProgram job.now) }
 {
-    match job.maps {
+    match job.options.maps {
         None => Ok(MapTable::empty()),
-        Some(text) => match MapTable::parse(text) {
+        Some(text) => match MapTable::parse(text.as_bytes()) {
             Ok(maps) => Ok(maps),
             Err(fault) => Err(JobRefusal::Maps(fault)),
         },
@@ -40,7 +40,7 @@ pub fn program_of(alloc: Global, job: &Job<'_>) -> Result<Program, JobRefusal>
         Ok(maps) => maps,
         Err(refusal) => return Err(refusal),
     };
-    if job.is_listing {
+    if job.options.is_listing {
         assembled(alloc, job, &maps)
     } else {
         checked(alloc, job, job.file, &maps)
@@ -49,8 +49,8 @@ pub fn program_of(alloc: Global, job: &Job<'_>) -> Result<Program, JobRefusal>
 
 /// The program of a listing.
 fn assembled(alloc: Global, job: &Job<'_>, maps: &MapTable) -> Result<Program, JobRefusal>
-    requires maps { HasMaps job.now.maps maps.now }
-    requires listing { job.now.is_listing ≡ true }
+    requires maps { HasMaps job.now.options.maps maps.now }
+    requires listing { job.now.options.is_listing ≡ true }
     ensures ok { IfOk result (IsProgramOf job.now) }
     ensures err { IfErr result (RefusesProgram job.now) }
 {
@@ -67,8 +67,8 @@ fn checked(
     words: &[u8],
     maps: &MapTable,
 ) -> Result<Program, JobRefusal>
-    requires maps { HasMaps job.now.maps maps.now }
-    requires words { HasWords job.now.is_listing job.now.file.now words.now }
+    requires maps { HasMaps job.now.options.maps maps.now }
+    requires words { HasWords job.now.options.is_listing job.now.file.now words.now }
     ensures ok { IfOk result (IsProgramOf job.now) }
     ensures err { IfErr result (RefusesProgram job.now) }
 {
@@ -99,17 +99,15 @@ pub fn machine_of(alloc: Global, job: &Job<'_>) -> Result<Cpu, JobRefusal>
 
 /// A session before its first command.
 pub fn session_of(alloc: Global, job: &Job<'_>) -> Result<Session<RingKeeper>, JobRefusal>
-    requires limit { IsLimit job.now.limit }
-    ensures ok { IfOk result
-        (IsOpening ⟦<RingKeeper as Keeper>⟧.holds ⟦<RingKeeper as Keeper>⟧.refused
-        ⟦<RingKeeper as Keeper>⟧.room job.now) }
+    requires limit { IsLimit job.now.options.limit }
+    ensures ok { IfOk result (IsOpening job.now) }
     ensures err { IfErr result (Refuses job.now) }
 {
     let cpu = match machine_of(alloc, job) {
         Ok(cpu) => cpu,
         Err(refusal) => return Err(refusal),
     };
-    let size = job.journal as usize;
+    let size = job.options.journal as usize;
     let keeper = match RingKeeper::open(alloc, size) {
         Ok(keeper) => keeper,
         Err(fault) => return Err(JobRefusal::Journal(fault)),
@@ -118,5 +116,5 @@ pub fn session_of(alloc: Global, job: &Job<'_>) -> Result<Session<RingKeeper>, J
         Ok(redo) => redo,
         Err(why) => return Err(JobRefusal::Journal(why)),
     };
-    Ok(Session::open(cpu, keeper, redo, job.limit))
+    Ok(Session::open(cpu, keeper, redo, job.options.limit))
 }

@@ -1,5 +1,5 @@
 //! What goes to standard output at once, and what goes to standard error.
-ghost use Rattle.std.specs.Prelude.{◌≡◌, ◌≢◌, ◌≤◌, ◌++◌, OnErr, OnOk, codes};
+ghost use Rattle.std.specs.Prelude.{◌≡◌, ◌≤◌, ◌++◌, OnErr, OnOk, codes};
 ghost use Rattle.counted_io.specs.Writing.{Writes};
 ghost use Rattle.bpfdb_replies.specs.Texts.{place};
 ghost use Rattle.bpfdb_jobs.specs.Endings.{Told};
@@ -116,11 +116,23 @@ pub fn ended<E: Write>(written: Result<(), WriteFault>, errors: &mut Counted<E>)
     ensures same { OnOk written (errors.new ≡ errors.old) }
     ensures err { OnErr written (result ≡ 2) }
     ensures told { OnErr written (Told E.contents errors.old errors.new (line_of Output)) }
-    ensures never { result ≢ 1 }
     ensures status { result ≤ 2 }
 {
     match written {
         Ok(()) => 0,
         Err(WriteFault) => give_up(errors, &JobFault::Output),
+    }
+}
+
+/// The exit status of a job of which something was told on standard error: this one, or 2 where it
+/// couldn't be.
+pub fn told_as(told: Result<(), WriteFault>, status: u8) -> u8
+    ensures ok { OnOk told (result ≡ status) }
+    ensures err { OnErr told (result ≡ 2) }
+    ensures status { status ≤ 2 → result ≤ 2 }
+{
+    match told {
+        Ok(()) => status,
+        Err(WriteFault) => 2,
     }
 }

@@ -1,16 +1,14 @@
 //! What a job of `run` does.
-ghost use Rattle.std.specs.Prelude.{◌≡◌, ◌≢◌, ◌≤◌, ◌⊎◌, List, OnErr, OnOk, ℕ, Some};
-ghost use Rattle.bpfdb_jobs.specs.Endings.{LosesStop, TellsStop};
-ghost use Rattle.bpfdb_jobs.specs.Jobs.{StopsUnread, Completes, Needs, Spared};
-ghost use Rattle.bpfdb_jobs.specs.Unread.{TellsUnread};
-ghost use Rattle.bpfdb_jobs.specs.declared.job.JobKind.TheVariants.{Run};
+ghost use Rattle.std.specs.Prelude.{◌≤◌};
+ghost use Rattle.bpfdb_jobs.specs.Endings.{EndsPrinted};
+ghost use Rattle.bpfdb_options.specs.declared.subcommand.Subcommand.TheVariants.{Run};
 
 use crate::fault::JobFault;
 use crate::job::Job;
 use crate::opening::machine_of;
-use crate::report::{give_up, tell, tell_place};
+use crate::report::{give_up, tell, tell_place, told_as};
 use bpf_session::{Ending, run_plain};
-use counted_io::{Counted, WriteFault};
+use counted_io::Counted;
 use std::alloc::Global;
 use std::io::Write;
 
@@ -22,53 +20,21 @@ pub fn run_job<W: Write, E: Write>(
     writer: &mut Counted<W>,
     errors: &mut Counted<E>,
 ) -> u8
-    ensures value { (script told : List ℕ) → W.contents writer.old.inner ≡ Some told → result ≢ 2 →
-        Completes Run job.now (record {
-          script = script;
-          told = told;
-          after = W.contents writer.new.inner;
-          left = Some script;
-        }) result }
-    ensures broken { (script told : List ℕ) → W.contents writer.old.inner ≡ Some told → result ≡ 2 →
-        StopsUnread Run job.now (record {
-          script = script;
-          told = told;
-          after = W.contents writer.new.inner;
-          left = Some script;
-        }) }
-    ensures refused { (Needs Run job.now → ⊥) → (result ≡ 2) × (writer.new ≡ writer.old) }
-    ensures spared { result ≢ 2 → Spared writer.old writer.new × Spared errors.old errors.new }
-    ensures quiet { result ≡ 0 → errors.new ≡ errors.old }
+    ensures does { EndsPrinted W.contents E.contents Run job.now writer.old writer.new errors.old
+        errors.new result }
     ensures status { result ≤ 2 }
-    ensures stopped { result ≡ 1 → TellsStop E.contents job.now errors.old errors.new
-        × (writer.new ≡ writer.old) }
-    ensures told { result ≡ 2 →
-        TellsUnread E.contents Run job.now writer.old writer.new errors.old errors.new
-        ⊎ (LosesStop E.contents job.now errors.old errors.new × (writer.new ≡ writer.old)) }
 {
     let mut cpu = match machine_of(alloc, job) {
         Ok(cpu) => cpu,
         Err(refusal) => return give_up(errors, &JobFault::Refused(refusal)),
     };
-    match run_plain(&mut cpu, job.limit, writer) {
+    match run_plain(&mut cpu, job.options.limit, writer) {
         Ok(Ending::Exited) => 0,
-        Ok(Ending::Faulted) => stopped(tell_place(errors, &cpu)),
-        Ok(Ending::Limit) => stopped(tell(errors, &JobFault::StepLimit(job.limit, cpu.pc()))),
+        Ok(Ending::Faulted) => told_as(tell_place(errors, &cpu), 1),
+        Ok(Ending::Limit) => {
+            let limit = JobFault::StepLimit(job.options.limit, cpu.pc());
+            told_as(tell(errors, &limit), 1)
+        }
         Err(_) => give_up(errors, &JobFault::Output),
-    }
-}
-
-/// The exit status of a run that didn't reach its end, of which that was told on standard error, or
-/// couldn't be.
-fn stopped(told: Result<(), WriteFault>) -> u8
-    ensures value { result ≢ 2 → result ≡ 1 }
-    ensures never { result ≢ 0 }
-    ensures status { result ≤ 2 }
-    ensures ok { OnOk told (result ≡ 1) }
-    ensures err { OnErr told (result ≡ 2) }
-{
-    match told {
-        Ok(()) => 1,
-        Err(WriteFault) => 2,
     }
 }

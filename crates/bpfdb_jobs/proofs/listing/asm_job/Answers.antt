@@ -1,25 +1,16 @@
-use Rattle.std.proofs.Common.{refl, inr}
-use Rattle.bpfdb_jobs.specs.Jobs.{unread_with}
-use Rattle.bpfdb_jobs.specs.declared.job.JobKind.TheVariants.{Asm}
-use Rattle.bpfdb_jobs.proofs.Yielding.{begins, completes}
-use Rattle.bpfdb_jobs.proofs.Ending.{output-lost}
+use Rattle.std.proofs.Common.{refl}
+use Rattle.bpfdb_jobs.specs.Endings.{Refused}
+use Rattle.bpfdb_jobs.specs.declared.refusal.JobRefusal.TheVariants.{Listing}
+use Rattle.bpfdb_jobs.proofs.Printing.{out-printed}
+use Rattle.bpfdb_options.specs.declared.subcommand.Subcommand.TheVariants.{Asm}
 use Rattle.bpfdb_jobs.proofs.listing.asm_job.Goals as goal
 
-pub returns-in-Ok-clause-value : goal.returns-in-Ok-clause-value
-returns-in-Ok-clause-value g c = λ script told held not.
-    let words = c.in-Ok.words.items in
-    completes g.W.Write.contents Asm c.args.job.now (unread_with 0 script words) script told c.args.writer.now c.write_out-written.new.writer
-    c.write_out-written.result c.ended.result (words, c.in-Ok.ensures.ok, refl) refl held
-    (rw c.as_slice.ensures.value at c.write_out-written.ensures) c.ended.ensures.ok c.ended.ensures.err not
+pub returns-in-Ok-clause-does : goal.returns-in-Ok-clause-does
+returns-in-Ok-clause-does g c =
+    out-printed g.W.Write.contents g.E.Write.contents Asm c.args.job.now c.in-Ok.words.items c.args.writer.now c.write_out-written.new.writer
+    c.args.errors.now c.ended.new.errors c.write_out-written.result c.ended.result (c.in-Ok.words.items, c.in-Ok.ensures.ok, refl)
+    (rw c.as_slice.ensures.value at c.write_out-written.ensures)
+    c.ended.ensures.ok c.ended.ensures.same c.ended.ensures.err c.ended.ensures.told
 
-pub returns-in-Ok-clause-broken : goal.returns-in-Ok-clause-broken
-returns-in-Ok-clause-broken g c = λ script told held two.
-    let words = c.in-Ok.words.items in
-    inr (begins g.W.Write.contents Asm c.args.job.now (unread_with 0 script words) script told c.args.writer.now c.write_out-written.new.writer
-    c.write_out-written.result (words, c.in-Ok.ensures.ok, refl) held
-    (rw c.as_slice.ensures.value at c.write_out-written.ensures))
-
-pub returns-in-Ok-clause-told : goal.returns-in-Ok-clause-told
-returns-in-Ok-clause-told g c =
-    output-lost g.E.Write.contents Asm c.args.job.now c.args.writer.now c.write_out-written.new.writer c.args.errors.now c.ended.new.errors
-    c.write_out-written.result c.ended.result c.ended.ensures.ok c.write_out-written.ensures.fault c.ended.ensures.told
+pub returns-in-Err-clause-does : goal.returns-in-Err-clause-does
+returns-in-Err-clause-does g c = Refused (Listing c.in-Err.fault) c.in-Err.ensures.err refl c.give_up.ensures.told c.give_up.ensures.value

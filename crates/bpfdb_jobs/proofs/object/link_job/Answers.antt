@@ -1,48 +1,60 @@
-use Rattle.std.proofs.Common.{◌≡◌, ℕ, List, Ok, refl, inl, inr}
+use Rattle.std.proofs.Common.{◌≡◌, Ok, refl}
 use Rattle.bpf_isa.specs.Checker.{IsAccepted}
+use Rattle.bpf_link.specs.Links.{least_maps, linked, planned}
+use Rattle.bpf_link.specs.Shapes.{HasShapes}
 use Rattle.bpf_link.specs.declared.linker.Linked.{Linked}
-use Rattle.bpf_link.specs.Links.{AreWordsOf, linked, least_maps}
-use Rattle.bpfdb_jobs.specs.Jobs.{unread_with}
-use Rattle.bpfdb_jobs.specs.declared.fault.JobFault.TheVariants.{Refused, Output}
-use Rattle.bpfdb_jobs.specs.declared.job.JobKind.TheVariants.{Link}
+use Rattle.bpf_link.specs.declared.plan.Plan.{Plan}
+use Rattle.bpfdb_jobs.specs.Endings.{OutLost, Refused}
+use Rattle.bpfdb_jobs.specs.Jobs.{Prints, printed, section_of}
+use Rattle.bpfdb_jobs.specs.MapLines.{maps_told}
+use Rattle.bpfdb_jobs.specs.declared.job.Job.{Job}
 use Rattle.bpfdb_jobs.specs.declared.refusal.JobRefusal.TheVariants.{Object}
-use Rattle.bpfdb_jobs.proofs.Yielding.{begins, completes}
+use Rattle.bpfdb_jobs.proofs.Printing.{err-printed}
+use Rattle.bpfdb_options.specs.declared.subcommand.Subcommand.TheVariants.{Link}
 use Rattle.bpfdb_jobs.proofs.object.link_job.Goals as goal
 
--- the words of a program that was linked
-linked_words : (object name : List ℕ) (program : Linked) → linked object name ≡ Ok (record { words = program.words.items; maps = program.maps; data_maps = program.data_maps.items })
-    → IsAccepted program.words.items (least_maps program.maps program.data_maps.items) → AreWordsOf object name program.words.items
-linked_words object name program e accepted = record {
-  program = record { words = program.words.items; maps = program.maps; data_maps = program.data_maps.items };
-  linked = e;
-  words = refl;
-  accepted = accepted;
-}
+-- what is printed of a program that was linked
+linked-prints : (job : Job) (program : Linked)
+    → linked job.file.now (section_of job) ≡ Ok (record { words = program.words.items; maps = program.maps; data_maps = program.data_maps.items })
+    → IsAccepted program.words.items (least_maps program.maps program.data_maps.items)
+    → (plan : Plan) × (planned job.file.now (section_of job) ≡ Ok plan) × HasShapes job.file.now plan program.shapes.items
+    → Prints Link job (record (printed program.words.items) { err = maps_told program.shapes.items })
+linked-prints job program e accepted shapes = (
+  program.words.items,
+  program.shapes.items,
+  record {
+    plan = shapes.0;
+    made = record {
+      program = record { words = program.words.items; maps = program.maps; data_maps = program.data_maps.items };
+      linked = e;
+      words = refl;
+      accepted = accepted;
+    };
+    plans = shapes.1;
+    shaped = shapes.2;
+  },
+  refl,
+)
 
-pub returns-in-Ok-write_out-clause-value : goal.returns-in-Ok-write_out-clause-value
-returns-in-Ok-write_out-clause-value g c = λ script told held not.
-    let words = c.in-Ok.linked.words.items in
-    completes g.W.Write.contents Link c.args.job.now (unread_with 0 script words) script told c.args.writer.now c.write_out.new.writer
-    _ c.tell_maps.result (words, linked_words c.args.job.now.file.now c.args.job.now.section.now c.in-Ok.linked c.in-Ok.ensures.ok c.in-Ok.ensures.accepted, refl) refl held
-    (rw c.in-Ok-write_out.is at (rw c.as_slice.ensures.value at c.write_out.ensures)) (c.tell_maps.ensures.status not) tt not
+pub returns-in-Ok-write_out-clause-does : goal.returns-in-Ok-write_out-clause-does
+returns-in-Ok-write_out-clause-does g c =
+    let w = rw c.in-Ok-write_out.is at (rw c.as_slice.ensures.value at c.write_out.ensures) in
+    err-printed g.W.Write.contents g.E.Write.contents Link c.args.job.now
+    (record (printed c.in-Ok.linked.words.items) { err = maps_told c.in-Ok.linked.shapes.items })
+    c.args.writer.now c.write_out.new.writer c.args.errors.now c.tell_maps.new.errors c.tell_maps.result c.told_as.result
+    (linked-prints c.args.job.now c.in-Ok.linked (rw c.section_of.ensures at c.in-Ok.ensures.ok) c.in-Ok.ensures.accepted
+    (rw c.section_of.ensures at c.in-Ok.ensures.shapes))
+    (w.ok, w.same) (rw c.as_slice-in-Ok-write_out.ensures.value at c.tell_maps.ensures.ok) (rw c.as_slice-in-Ok-write_out.ensures.value at c.tell_maps.ensures.err)
+    c.told_as.ensures.ok c.told_as.ensures.err
 
-pub returns-in-Ok-write_out-clause-broken : goal.returns-in-Ok-write_out-clause-broken
-returns-in-Ok-write_out-clause-broken g c = λ script told held two.
-    let words = c.in-Ok.linked.words.items in
-    inr (begins g.W.Write.contents Link c.args.job.now (unread_with 0 script words) script told c.args.writer.now c.write_out.new.writer
-    c.write_out.result (words, linked_words c.args.job.now.file.now c.args.job.now.section.now c.in-Ok.linked c.in-Ok.ensures.ok c.in-Ok.ensures.accepted, refl) held
-    (rw c.as_slice.ensures.value at c.write_out.ensures))
+pub returns-in-Err-clause-does : goal.returns-in-Err-clause-does
+returns-in-Err-clause-does g c =
+    Refused (Object c.in-Err.fault) (rw c.section_of.ensures at c.in-Err.ensures.err) refl c.give_up.ensures.told c.give_up.ensures.value
 
-pub returns-clause-broken : goal.returns-clause-broken
-returns-clause-broken g c = λ script told held two.
-    let words = c.in-Ok.linked.words.items in
-    inr (begins g.W.Write.contents Link c.args.job.now (unread_with 0 script words) script told c.args.writer.now c.write_out.new.writer
-    c.write_out.result (words, linked_words c.args.job.now.file.now c.args.job.now.section.now c.in-Ok.linked c.in-Ok.ensures.ok c.in-Ok.ensures.accepted, refl) held
-    (rw c.as_slice.ensures.value at c.write_out.ensures))
-
-pub returns-in-Err-clause-told : goal.returns-in-Err-clause-told
-returns-in-Err-clause-told g c = λ two. inl (Refused (Object c.in-Err.fault), (c.in-Err.ensures.err, refl), c.give_up.ensures.told)
-
-pub returns-clause-told : goal.returns-clause-told
-returns-clause-told g c = λ two.
-    inl (Output, (rw c.in-Err-write_out.is at c.write_out.ensures).fault, c.give_up-in-Err-write_out.ensures.told)
+pub returns-clause-does : goal.returns-clause-does
+returns-clause-does g c =
+    let w = rw c.in-Err-write_out.is at (rw c.as_slice.ensures.value at c.write_out.ensures) in
+    OutLost (record (printed c.in-Ok.linked.words.items) { err = maps_told c.in-Ok.linked.shapes.items })
+    (linked-prints c.args.job.now c.in-Ok.linked (rw c.section_of.ensures at c.in-Ok.ensures.ok) c.in-Ok.ensures.accepted
+    (rw c.section_of.ensures at c.in-Ok.ensures.shapes))
+    (w.err, w.fault) c.give_up-in-Err-write_out.ensures.told c.give_up-in-Err-write_out.ensures.value

@@ -1,4 +1,4 @@
-use Rattle.bpfdb_jobs.proofs.Ending.{program-machine}
+use Rattle.bpfdb_jobs.proofs.Refusing.{program-machine}
 use Rattle.bpfdb_jobs.proofs.opening.machine_of.Goals as goal
 
 pub returns-in-Err-clause-err : goal.returns-in-Err-clause-err

@@ -1,4 +1,4 @@
-use Rattle.bpfdb_jobs.proofs.Ending.{machine-session}
+use Rattle.bpfdb_jobs.proofs.Refusing.{machine-session}
 use Rattle.bpfdb_jobs.proofs.opening.session_of.Goals as goal
 
 pub returns-in-Err-clause-err : goal.returns-in-Err-clause-err

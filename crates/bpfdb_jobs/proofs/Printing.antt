@@ -1,0 +1,69 @@
+-- How jobs end that print.
+use Rattle.std.proofs.Common.{ℕ, ◌≡◌, ◌≢◌, List, Option, Some, Result, Ok, Err, refl, ap, ◌∙◌}
+use Rattle.std.specs.Prelude.{OnOk, OnErr}
+use Rattle.bpf_entries.specs.declared.status.Status.{Status}
+use Rattle.bpf_entries.specs.declared.status.Status.TheVariants as status
+use Rattle.bpf_isa.specs.Programs.{Checked}
+use Rattle.bpf_machine.specs.State.{State, initial}
+use Rattle.bpf_session.specs.Plain.{ending_of, plain_end}
+use Rattle.bpf_session.specs.declared.plain.Ending.{Ending}
+use Rattle.bpf_session.specs.declared.plain.Ending.TheVariants.{Exited}
+use Rattle.counted_io.specs.Counted.{Tally}
+use Rattle.counted_io.specs.Writing.{Writes}
+use Rattle.bpfdb_jobs.specs.Endings.{EndsPrinted, ErrLost, Gets, Loses, OutLost, Printed, Told}
+use Rattle.bpfdb_jobs.specs.Faults.{line_of}
+use Rattle.bpfdb_jobs.specs.Jobs.{Opens, Print, Prints, printed, run_print}
+use Rattle.bpfdb_jobs.specs.declared.fault.JobFault.TheVariants.{Output}
+use Rattle.bpfdb_jobs.specs.declared.job.Job.{Job}
+use Rattle.bpfdb_options.specs.declared.subcommand.Subcommand.{Subcommand}
+use Rattle.bpfdb_options.specs.declared.subcommand.Subcommand.TheVariants.{Run}
+
+-- a result was written, or a beginning of it
+pub out-printed : {W E A F : Type 0} (contents : W → Option (List ℕ)) (lines : E → Option (List ℕ)) (subcommand : Subcommand) (job : Job) (out : List ℕ)
+    (writer writer' : Tally W) (errors errors' : Tally E) (r : Result A F) (status : ℕ)
+    → Prints subcommand job (printed out) → Writes contents writer writer' r out
+    → OnOk r (status ≡ 0) → OnOk r (errors' ≡ errors) → OnErr r (status ≡ 2) → OnErr r (Told lines errors errors' (line_of Output))
+    → EndsPrinted contents lines subcommand job writer writer' errors errors' status
+out-printed contents lines subcommand job out writer writer' errors errors' (Ok v) status prints w zero same two told =
+    Printed (printed out) prints (w.ok, w.same) same zero
+out-printed contents lines subcommand job out writer writer' errors errors' (Err e) status prints w zero same two told =
+    OutLost (printed out) prints (w.err, w.fault) told two
+
+-- what goes to standard error was told, or a beginning of it
+pub err-printed : {W E A F : Type 0} (contents : W → Option (List ℕ)) (lines : E → Option (List ℕ)) (subcommand : Subcommand) (job : Job) (a : Print)
+    (writer writer' : Tally W) (errors errors' : Tally E) (r : Result A F) (status : ℕ)
+    → Prints subcommand job a → Gets contents writer writer' a.out → OnOk r (Gets lines errors errors' a.err) → OnErr r (Loses lines errors errors' a.err)
+    → OnOk r (status ≡ a.status) → OnErr r (status ≡ 2)
+    → EndsPrinted contents lines subcommand job writer writer' errors errors' status
+err-printed contents lines subcommand job a writer writer' errors errors' (Ok v) status prints out err lost ends two = Printed a prints out err ends
+err-printed contents lines subcommand job a writer writer' errors errors' (Err e) status prints out err lost ends two = ErrLost a prints out lost two
+
+-- a line that was written, or a beginning of it
+pub line-got : {E A F : Type 0} (lines : E → Option (List ℕ)) (old new : Tally E) (r : Result A F) (line : List ℕ) → Writes lines old new r line
+    → OnOk r (Gets lines old new (Some line))
+line-got lines old new (Ok v) line w = (w.ok, w.same)
+line-got lines old new (Err e) line w = tt
+
+pub line-lost : {E A F : Type 0} (lines : E → Option (List ℕ)) (old new : Tally E) (r : Result A F) (line : List ℕ) → Writes lines old new r line
+    → OnErr r (Loses lines old new (Some line))
+line-lost lines old new (Ok v) line w = tt
+line-lost lines old new (Err e) line w = (w.err, w.fault)
+
+-- a run that stops hasn't exited
+pub not-exited : (ending : Ending) (s : Status) → ending ≡ ending_of s → ending ≢ Exited → s ≢ status.Exited
+not-exited ending s is stops p = stops (is ∙ ap ending_of p)
+
+-- one of which that can't be has exited
+pub has-exited : (s : Status) → (s ≢ status.Exited → ⊥) → Exited ≡ ending_of s
+has-exited status.Running never = absurd (never (λ e. cc))
+has-exited status.Exited never = refl
+has-exited (status.Faulted fault) never = absurd (never (λ e. cc))
+
+-- what a run prints, from the machine that was opened and the state that it left
+pub run-prints : (job : Job) (x end : State) (ending : Ending) → (code : Checked) × Opens job code × (x ≡ initial code job.context.now)
+    → end ≡ plain_end job.options.limit x → ending ≡ ending_of end.status → Prints Run job (run_print job.options.limit ending end)
+run-prints job x end ending o e is = (
+  o.0,
+  o.1,
+  ap (λ z. run_print job.options.limit z end) is ∙ ap (λ (y : State). run_print job.options.limit (ending_of y.status) y) (e ∙ ap (plain_end job.options.limit) o.2),
+)

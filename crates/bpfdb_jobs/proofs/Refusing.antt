@@ -1,0 +1,22 @@
+-- Which refusals of a program, of a machine and of a session are the same.
+use Rattle.bpfdb_jobs.specs.Refusals.{Refuses, RefusesMachine, RefusesProgram}
+use Rattle.bpfdb_jobs.specs.declared.job.Job.{Job}
+use Rattle.bpfdb_jobs.specs.declared.refusal.JobRefusal.{JobRefusal}
+use Rattle.bpfdb_jobs.specs.declared.refusal.JobRefusal.TheVariants.{Maps, Listing, Load, Open, Journal, Object}
+
+-- a refusal of a program is one of a machine on it, and that one of a session over it
+pub program-machine : (job : Job) (refusal : JobRefusal) → RefusesProgram job refusal → RefusesMachine job refusal
+program-machine job (Maps fault) p = p
+program-machine job (Listing fault) p = p
+program-machine job (Load fault) p = p
+program-machine job (Open fault) p = absurd p
+program-machine job (Journal fault) p = absurd p
+program-machine job (Object fault) p = absurd p
+
+pub machine-session : (job : Job) (refusal : JobRefusal) → RefusesMachine job refusal → Refuses job refusal
+machine-session job (Maps fault) p = p
+machine-session job (Listing fault) p = p
+machine-session job (Load fault) p = p
+machine-session job (Open fault) p = p
+machine-session job (Journal fault) p = absurd p
+machine-session job (Object fault) p = absurd p

@@ -1,0 +1,23 @@
+-- What `debug` comes to: what its script prints in a debugger that keeps whole states, with each move kept in the journal's room.
+use Rattle.std.specs.Prelude.{ℕ, ◌≡◌, List, Option, Some}
+use Rattle.bpf_isa.specs.Programs.{Checked}
+use Rattle.bpf_session.specs.Runs.{BreaksOff, Exchange, Leaves, Standing, Wrote, whole_walk}
+use Rattle.bpf_session.specs.declared.fault.RunFault.{RunFault}
+use Rattle.counted_io.specs.Counted.{Tally}
+use Rattle.bpfdb_jobs.specs.Jobs.{start_of}
+use Rattle.bpfdb_jobs.specs.declared.job.Job.{Job}
+
+-- All of it was written, and the lines behind `quit` are left to the reader.
+abbrev pub Replies : Job → Checked → Exchange → Type 0
+Replies job code x = Wrote x (whole_walk (start_of job code) x.script).out × Leaves x (whole_walk (start_of job code) x.script).unread
+
+-- A read or a write failed: the first lines were obeyed, and what they print was written, or a beginning. No move was refused.
+abbrev pub RepliesUntil : Job → Checked → RunFault → Exchange → Type 0
+RepliesUntil job code why x = (to : Standing) × (to.refusals ≡ 0) × BreaksOff why (start_of job code) to x
+
+-- Over a reader and a writer that tell their bytes.
+abbrev pub Exchanges : {R W : Type 0} → (R → Option (List ℕ)) → (W → Option (List ℕ)) → Tally R → Tally R → Tally W → Tally W
+    → (Exchange → Type 0) → Type 0
+Exchanges remaining contents reader reader' writer writer' P = (script told : List ℕ) → remaining reader.inner ≡ Some script
+    → contents writer.inner ≡ Some told
+    → P (record { script = script; told = told; after = contents writer'.inner; left = remaining reader'.inner })

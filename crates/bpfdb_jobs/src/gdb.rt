@@ -1,0 +1,59 @@
+//! What a job of `gdb` does.
+ghost use Rattle.std.specs.Prelude.{◌≡◌, ◌≤◌};
+ghost use Rattle.bpfdb_jobs.specs.Connections.{layout_of};
+ghost use Rattle.bpfdb_jobs.specs.Done.{ServesGdb};
+ghost use Rattle.bpfdb_limits.specs.Limits.{IsLimit};
+
+use crate::fault::JobFault;
+use crate::job::Job;
+use crate::opening::session_of;
+use crate::report::give_up;
+use bpf_remote::{Layout, serve};
+use bpf_session::RunFault;
+use bpfdb_options::Registers;
+use counted_io::Counted;
+use std::alloc::Global;
+use std::io::{Read, Write};
+
+/// Opens a session as `debug` does, and serves gdb's remote protocol over the reader and the
+/// writer, up to the end of what is read or until gdb leaves. The journal takes its memory before
+/// the first packet is read.
+#[inline(never)]
+pub fn gdb_job<R: Read, W: Write, E: Write>(
+    alloc: Global,
+    job: &Job<'_>,
+    reader: &mut Counted<R>,
+    writer: &mut Counted<W>,
+    errors: &mut Counted<E>,
+) -> u8
+    requires limit { IsLimit job.now.options.limit }
+    ensures does { ServesGdb R.remaining W.contents E.contents job.now reader.old reader.new
+        writer.old writer.new errors.old errors.new result }
+    ensures status { result ≤ 2 }
+{
+    let mut session = match session_of(alloc, job) {
+        Ok(session) => session,
+        Err(refusal) => return give_up(errors, &JobFault::Refused(refusal)),
+    };
+    match serve(
+        layout_of(job.options.registers),
+        &mut session,
+        reader,
+        writer,
+    ) {
+        Ok(()) => 0,
+        Err(RunFault::Read) => give_up(errors, &JobFault::Input),
+        Err(RunFault::Write) => give_up(errors, &JobFault::Output),
+    }
+}
+
+/// The machine that gdb is told of.
+fn layout_of(registers: Registers) -> Layout
+    ensures { result ≡ layout_of registers }
+{
+    match registers {
+        Registers::Bpf => Layout::Bpf,
+        Registers::X86 => Layout::X86,
+        Registers::Riscv => Layout::Riscv,
+    }
+}

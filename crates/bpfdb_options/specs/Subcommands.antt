@@ -1,0 +1,14 @@
+-- The names of the subcommands.
+use Rattle.std.specs.Prelude.{ℕ, List, codes}
+use Rattle.bpfdb_options.specs.declared.subcommand.Subcommand.{Subcommand}
+use Rattle.bpfdb_options.specs.declared.subcommand.Subcommand.TheVariants.{Run, Debug, Gdb, Asm, Disasm, Check, Link}
+
+-- As help lists them.
+abbrev pub subcommand_name : Subcommand → List ℕ
+subcommand_name Run = codes "run"
+subcommand_name Debug = codes "debug"
+subcommand_name Gdb = codes "gdb"
+subcommand_name Asm = codes "asm"
+subcommand_name Disasm = codes "disasm"
+subcommand_name Check = codes "check"
+subcommand_name Link = codes "link"

@@ -1,0 +1,10 @@
+//! What bpfdb is asked for: a subcommand, and its options.
+#![tactic(auto)]
+
+mod options;
+mod registers;
+mod subcommand;
+
+pub use options::{NO_OPTIONS, Options};
+pub use registers::Registers;
+pub use subcommand::Subcommand;

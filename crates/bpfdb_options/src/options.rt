@@ -1,0 +1,30 @@
+//! The options that say how a job is done.
+use crate::registers::Registers;
+use bpfdb_limits::{DEFAULT_JOURNAL, DEFAULT_LIMIT};
+
+/// Options. One that a subcommand doesn't have stands as when it is absent.
+#[derive(Clone, Copy)]
+pub struct Options<'a> {
+    /// The map table's text, as `8x2,4x256`; without one there are no maps.
+    pub maps: Option<&'a str>,
+    /// The journal's size in bytes; one that can be opened has 1,024 to 16,777,216.
+    pub journal: u64,
+    /// The most steps of a run or of a command, 1 to 1,000,000,000.
+    pub limit: u64,
+    /// FILE is a listing, assembled first.
+    pub is_listing: bool,
+    /// The name of the code section that is linked; without one it is the only one.
+    pub section: Option<&'a str>,
+    /// The machine that gdb takes this one for.
+    pub registers: Registers,
+}
+
+/// The options where each is absent.
+pub const NO_OPTIONS: Options<'static> = Options {
+    maps: None,
+    journal: DEFAULT_JOURNAL,
+    limit: DEFAULT_LIMIT,
+    is_listing: false,
+    section: None,
+    registers: Registers::X86,
+};

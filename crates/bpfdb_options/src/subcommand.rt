@@ -1,0 +1,42 @@
+//! The subcommands.
+ghost use Rattle.std.specs.Prelude.{◌≡◌, IfNone, IfSome};
+ghost use Rattle.bpfdb_options.specs.Subcommands.{subcommand_name};
+
+/// What is done with FILE.
+#[derive(Clone, Copy)]
+pub enum Subcommand {
+    /// The program runs to its end, or to the limit of steps.
+    Run,
+    /// A script of commands is obeyed.
+    Debug,
+    /// gdb is served.
+    Gdb,
+    /// A listing is assembled.
+    Asm,
+    /// A program is written as a listing.
+    Disasm,
+    /// A program is checked.
+    Check,
+    /// An object is linked.
+    Link,
+}
+
+impl Subcommand {
+    /// The subcommand of this name.
+    pub fn named(name: &str) -> Option<Subcommand>
+        ensures found { IfSome result (λ subcommand. subcommand_name subcommand ≡ name.now) }
+        ensures none { IfNone result ((subcommand : Subcommand) →
+            subcommand_name subcommand ≡ name.now → ⊥) }
+    {
+        match name {
+            "run" => Some(Subcommand::Run),
+            "debug" => Some(Subcommand::Debug),
+            "gdb" => Some(Subcommand::Gdb),
+            "asm" => Some(Subcommand::Asm),
+            "disasm" => Some(Subcommand::Disasm),
+            "check" => Some(Subcommand::Check),
+            "link" => Some(Subcommand::Link),
+            _ => None,
+        }
+    }
+}
