@@ -1,0 +1,42 @@
+# Files of tests (docs/TESTS.md): each section from both sides, what tests share, lines that end with a carriage return, files that are
+# refused, a long file, and many tests. Reports were worked out by hand from the page; they stand beside the files in suites/.
+if "$program" help test > /dev/null 2>&1; then
+
+# tested NAME STATUS FILE: the report on a file of tests is the text of found/wanted.
+tested() {
+    : > script
+    run test "$3"
+    echo "$2" > wanted/status
+    : > wanted/err
+    compare "$1"
+}
+
+for file in "$parts"/suites/*.test; do
+    cp "${file%.test}.out" wanted/out
+    status=0
+    grep -q '^not ok' wanted/out && status=1
+    tested "bpfdb test $(basename "$file")" "$status" "$file"
+done
+
+# Files that are refused, before anything is run.
+sed '/^#/d' "$parts/suites/refusals.txt" > rows
+while IFS= read -r wanted; do
+    printf '%b' "${wanted#* | }" > p
+    row "bpfdb test: ${wanted#* | }" 2 '' '' "refused ${wanted%% | *}\n" test p
+done < rows
+
+# A file of a megabyte: a listing with a long comment, and 10,000 tests.
+{
+    printf -- '-- listing\n;'
+    head -c 1048576 /dev/zero | tr '\0' x
+    printf '\nmov r0, 5\nexit\n-- result\n5\n'
+} > long
+printf '1..1\nok 1\n' > wanted/out
+tested 'bpfdb test of a megabyte' 0 long
+awk 'BEGIN {
+    for (i = 1; i <= 10000; i++) printf "-- name\ntest %d\n-- listing\nmov r0, %d\nexit\n-- result\n%d\n", i, i, i
+}' > many
+awk 'BEGIN { print "1..10000"; for (i = 1; i <= 10000; i++) printf "ok %d - test %d\n", i, i }' > wanted/out
+tested 'bpfdb test of 10,000 tests' 0 many
+
+fi
