@@ -144,6 +144,13 @@ SCRIPT
         same "bpfdb-shell ${row%%|*}: what it calls" wanted/called called
     done
 
+    # README's picture is what a terminal shows.
+    if command -v addr2line > /dev/null; then
+        python3 "$top/docs/picture.py" --check > found/out 2> found/err
+        echo $? > found/status
+        check 'docs/session.svg' 0 '' ''
+    fi
+
     # At a terminal of both sides: colours unless NO_COLOR is set, and completion of words.
     cat > both.py <<'PYTHON'
 import os, pty, select, signal, sys
