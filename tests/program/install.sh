@@ -26,6 +26,7 @@ else
 644 share/doc/bpfdb/LICENSE
 644 share/doc/bpfdb/LISTING.md
 644 share/doc/bpfdb/MACHINE.md
+644 share/doc/bpfdb/TESTS.md
 644 share/fish/vendor_completions.d/bpfdb-shell.fish
 644 share/fish/vendor_completions.d/bpfdb.fish
 644 share/man/man1/bpfdb.1
