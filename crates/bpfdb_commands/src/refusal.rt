@@ -1,6 +1,6 @@
 //! Refusals of commands.
 ghost use Rattle.std.specs.Prelude.{◌≡◌};
-ghost use Rattle.bpfdb_commands.specs.Refusals.{number_of, text_of};
+ghost use Rattle.bpfdb_commands.specs.Refusals.{refusal_row};
 
 use thiserror::Error;
 
@@ -45,7 +45,7 @@ pub enum Refusal {
 impl Refusal {
     /// The number that is printed after `Q`.
     pub fn number(self) -> u8
-        ensures value { result ≡ number_of self }
+        ensures { result ≡ (refusal_row self).0 }
     {
         match self {
             Refusal::UnknownCommand => 1,
@@ -68,7 +68,7 @@ impl Refusal {
 
     /// The text that is printed after the number.
     pub fn text(self) -> &'static str
-        ensures value { result.now ≡ text_of self }
+        ensures { result.now ≡ (refusal_row self).1 }
     {
         match self {
             Refusal::UnknownCommand => "unknown command",

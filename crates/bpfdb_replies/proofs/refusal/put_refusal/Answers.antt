@@ -4,7 +4,7 @@ use Rattle.bpfdb_replies.proofs.refusal.put_refusal.Goals as goal
 pub returns : goal.returns
 returns g c = λ first front known.
     let begun = c.put-begun.ensures first front known in
-    let numbered = rw (c.from.ensures, c.number.ensures.value) at (c.put_decimal-numbered.ensures first _ begun) in
+    let numbered = rw (c.from.ensures, c.number.ensures) at (c.put_decimal-numbered.ensures first _ begun) in
     let parted = c.put-parted.ensures first _ numbered in
-    let said = rw (c.as_bytes.ensures.value, c.text.ensures.value) at (c.put-said.ensures first _ parted) in
+    let said = rw (c.as_bytes.ensures.value, c.text.ensures) at (c.put-said.ensures first _ parted) in
     simp append_assoc (simp append_assoc at (c.put.ensures first _ said))
