@@ -1,5 +1,5 @@
 -- A backward command's loop: after k turns the session is at the state before the k-th last move.
-use Rattle.std.specs.Prelude.{if◌then◌else◌, min}
+use Rattle.std.specs.Prelude.{if◌then◌else◌, min, nat_le}
 use Rattle.std.proofs.Common.{◌≡◌, ◌≢◌, ◌+◌, ◌-◌, ◌<◌, ◌≤◌, ◌==◌, ◌&&◌, ◌||◌, ℕ, zero, suc, Bool, true, false, List, [], ◌∷◌, Option, Some, None, Ok, is_some, unwrap_or, option_map, length, drop, take, reverse, ◌++◌, refl, sym, ap, subst, ◌∙◌, arith, add-one}
 use Rattle.std.proofs.lemmas.Bool.Decides.{nat_tests}
 use Rattle.std.proofs.lemmas.List.{reverse-append}
@@ -15,22 +15,17 @@ use Rattle.bpf_journal.specs.Courses.{GoesBackOne}
 use Rattle.bpf_journal.specs.Tracks.{Track, track_of}
 use Rattle.bpf_journal.specs.declared.taken.Taken.{Taken}
 use Rattle.bpf_session.specs.Points.{Point}
-use Rattle.bpf_session.specs.Outcomes.{Outcome, unless_refused}
-use Rattle.bpf_session.specs.Refused.{when, refusals_of}
+use Rattle.bpf_session.specs.Outcomes.{Outcome}
 use Rattle.bpf_session.specs.Backward.{before_last, back, back_by, found, gone_back, passes, kept_steps, to_stop}
 use Rattle.bpfdb_replies.specs.declared.why.Why.{Why}
 use Rattle.bpf_session.specs.declared.reply.Reply.TheVariants.{Back}
-use Rattle.bpfdb_commands.specs.declared.refusal.Refusal.{Refusal}
-use Rattle.bpfdb_commands.specs.declared.refusal.Refusal.TheVariants.{NoKeptStep}
-use Rattle.bpf_session.specs.Searches.{GoesBackTo}
+use Rattle.bpf_session.specs.Searches.{GoesBackTo, count_in, why_found}
 use Rattle.bpf_session.specs.Sessions.{SessionValue, HasPast, StandsAt, Obeys, bounds_of, point_of, track_at}
 use Rattle.bpf_session.specs.Stops.{has, breaks_at, some_differs}
 use Rattle.bpf_session.specs.Watched.{Compares, bytes_at}
 use Rattle.bpf_session.specs.declared.session.backward.Found.{Found}
-use Rattle.bpfdb_commands.specs.declared.command.Command.TheVariants as command
 use Rattle.bpfdb_commands.specs.declared.command.Target.{Target}
 use Rattle.bpfdb_commands.specs.declared.command.Target.TheVariants.{Commands, Steps, Next, Continue, Finish}
-use Rattle.bpf_session.proofs.Answering.{unrefused}
 use Rattle.bpf_session.proofs.Forwards.{OnlyMoment}
 
 -- a record of the history
@@ -243,30 +238,37 @@ continued s h found broken (Some k) l moves there here =
     ∙ ap (λ (b : Bool). gone_back found.moves (if b then Why.Break else Why.Watch) (point_of s h)) (sym here)
     ∙ ap (λ (b : Bool). gone_back found.moves (if b then (if broken then Why.Break else Why.Watch) else Why.Start) (point_of s h)) (sym there)
 
-when_none : (test : Bool) (r : Refusal) → test ≡ false → when test r ≡ []
-when_none test r off = rw off refl
-
-some_steps : (s k n : ℕ) → s ≢ 0 → s ≡ min n k → (k == 0) ≡ false
-some_steps s k n some is = let here : k ≢ 0 = λ none. some (omega (arith, is, none)) in grind (arith, nat_tests)
+-- what each backward command comes to
+comes_back : {K : Type 0} (target : Target) (s : SessionValue K) (h : Track) (found : Found) (broken : Bool) → found.moves ≡ unwrap_or (latest (passes target (point_of s h)) (count_in target (point_of s h)) h.history s.moment.state) (length h.history) → found.is_there ≡ is_some (latest (passes target (point_of s h)) (count_in target (point_of s h)) h.history s.moment.state) → broken ≡ breaks_at (point_of s h) (before_last found.moves (point_of s h)) → back target (point_of s h) ≡ gone_back found.moves (why_found target (count_in target (point_of s h)) found.is_there broken) (point_of s h)
+comes_back (Commands asked) s h found broken moves there here = ap (λ (k : ℕ). gone_back k Why.Done (point_of s h)) (sym moves)
+comes_back (Steps asked) s h found broken moves there here =
+    ap (λ (k : ℕ). gone_back k (if nat_le asked (kept_steps (point_of s h)) then Why.Done else Why.Start) (point_of s h)) (sym moves)
+    ∙ ap (λ (b : Bool). gone_back found.moves (if b then Why.Done else Why.Start) (point_of s h)) (as_many asked (kept_steps (point_of s h)))
+  where
+    as_many : (n k : ℕ) → nat_le n k ≡ (min n k == n)
+    as_many n k = grind (arith, nat_tests)
+comes_back Next s h found broken moves there here =
+    ap (λ (k : ℕ). gone_back k (if is_some (latest (passes Next (point_of s h)) 1 h.history s.moment.state) then Why.Done else Why.Start) (point_of s h)) (sym moves)
+    ∙ ap (λ (b : Bool). gone_back found.moves (if b then Why.Done else Why.Start) (point_of s h)) (sym there)
+comes_back Continue s h found broken moves there here = continued s h found broken (latest (passes Continue (point_of s h)) 1 h.history s.moment.state) refl moves there here
+comes_back Finish s h found broken moves there here =
+    ap (λ (k : ℕ). gone_back k (if is_some (latest (passes Finish (point_of s h)) 1 h.history s.moment.state) then Why.Done else Why.Start) (point_of s h)) (sym moves)
+    ∙ ap (λ (b : Bool). gone_back found.moves (if b then Why.Done else Why.Start) (point_of s h)) (sym there)
 
 module _ {K : Type 0} (holds : K → List Kept → Type 0) (refusals room : K → ℕ) (old new : SessionValue K) where
-  -- a command that went back
-  went_obeys : (target : Target) (moves : ℕ) (why : Why) → ((h : Track) → HasPast holds old h → refusals_of (command.Back target) (point_of old h) ≡ []) → ((h : Track) → HasPast holds old h → back target (point_of old h) ≡ gone_back moves why (point_of old h)) → ((h : Track) → HasPast holds old h → StandsAt holds new (back_by moves (point_of old h))) → refusals new.moment.keeper ≡ refusals old.moment.keeper → bounds_of room new ≡ bounds_of room old → Obeys holds refusals room old new (λ _ p. unless_refused (refusals_of (command.Back target) p) p (back target p)) (Ok (Back moves why))
-  went_obeys target moves why none is stands same bounds =
-      unrefused holds refusals room old new (refusals_of (command.Back target)) (λ _. back target) (Ok (Back moves why)) none (record {
-        answered = λ h past. ap (λ (o : Outcome). o.answer) (sym (is h past));
-        stands = λ h past. subst (λ (o : Outcome). StandsAt holds new o.point) (sym (is h past)) (stands h past);
-        counted = same;
-        bounds = bounds;
-        there = tt;
-      })
-
-  pub continue_obeys : (steps : ℕ) (found : Found) (broken : Bool) → steps ≢ 0 → ((h : Track) → HasPast holds old h → steps ≡ min 1 (kept_steps (point_of old h))) → ((h : Track) → HasPast holds old h → GoesBackTo holds (passes Continue (point_of old h)) 1 h old new found) → broken ≡ has new.breaks new.moment.state.pc → refusals new.moment.keeper ≡ refusals old.moment.keeper → bounds_of room new ≡ bounds_of room old → Obeys holds refusals room old new (λ _ p. unless_refused (refusals_of (command.Back Continue) p) p (back Continue p)) (Ok (Back found.moves (if found.is_there then (if broken then Why.Break else Why.Watch) else Why.Start)))
-  continue_obeys steps found broken some counted went is same bounds =
-      went_obeys Continue found.moves _
-      (λ h past. when_none _ NoKeptStep (some_steps steps _ 1 some (counted h past)))
-      (λ h past.
-      let b = went h past in
-      let at : has new.breaks new.moment.state.pc ≡ breaks_at (point_of old h) (before_last found.moves (point_of old h)) = ap (λ (p : Point). has p.breaks p.state.pc) b.stands.0 in
-      continued old h found broken (latest (passes Continue (point_of old h)) 1 h.history old.moment.state) refl b.moves b.is_there (is ∙ at))
-      (λ h past. (went h past).stands) same bounds
+  pub back_obeys : (target : Target) (count : ℕ) (found : Found) → ((h : Track) → HasPast holds old h → count ≡ count_in target (point_of old h)) → ((h : Track) → HasPast holds old h → GoesBackTo holds (passes target (point_of old h)) count h old new found) → refusals new.moment.keeper ≡ refusals old.moment.keeper → bounds_of room new ≡ bounds_of room old
+      → Obeys holds refusals room old new (λ _. back target) (Ok (Back found.moves (why_found target count found.is_there (has new.breaks new.moment.state.pc))))
+  back_obeys target count found counted went same bounds = record {
+    answered = λ h past. ap (λ (o : Outcome). o.answer) (sym (is h past));
+    stands = λ h past. subst (λ (o : Outcome). StandsAt holds new o.point) (sym (is h past)) (went h past).stands;
+    counted = same;
+    bounds = bounds;
+    there = tt;
+  }
+    where
+      is : (h : Track) → HasPast holds old h → back target (point_of old h) ≡ gone_back found.moves (why_found target count found.is_there (has new.breaks new.moment.state.pc)) (point_of old h)
+      is h past =
+          let n = counted h past in
+          let b = subst (λ (m : ℕ). GoesBackTo holds (passes target (point_of old h)) m h old new found) n (went h past) in
+          comes_back target old h found (has new.breaks new.moment.state.pc) b.moves b.is_there (ap (λ (p : Point). has p.breaks p.state.pc) b.stands.0)
+          ∙ ap (λ (m : ℕ). gone_back found.moves (why_found target m found.is_there (has new.breaks new.moment.state.pc)) (point_of old h)) (sym n)

@@ -1,46 +1,39 @@
 -- The laws of refusals, of going back and forward again, and of scripts.
-use Rattle.std.proofs.Common.{◌≡◌, ◌+◌, ◌-◌, ◌^◌, ◌<◌, ◌≤◌, ℕ, zero, suc, Bool, true, false, List, [], ◌∷◌, ◌++◌, Option, Some, None, Ok, Err, is_some, unwrap_or, length, refl, sym, ap, ◌∙◌, arith}
-use Rattle.std.specs.Prelude.{if◌then◌else◌, nat_lt, nat_le, not, ◌==◌, min, map, count_by, cond, option_map, drop}
+use Rattle.std.proofs.Common.{◌≡◌, ◌+◌, ◌-◌, ◌^◌, ◌≤◌, ℕ, zero, suc, Bool, true, false, List, [], ◌∷◌, Option, Some, None, Ok, Err, is_some, unwrap_or, length, refl, sym, ap, ◌∙◌, arith}
+use Rattle.std.specs.Prelude.{if◌then◌else◌, nat_lt, nat_le, ◌==◌, min, count_by, cond, option_map, drop}
 use Rattle.std.proofs.lemmas.Bool.Decides.{nat_tests}
-use Rattle.bpf_machine.specs.State.{State, depth}
-use Rattle.bpf_entries.specs.Status.{has_ended}
+use Rattle.bpf_machine.specs.State.{State}
 use Rattle.bpf_machine.specs.declared.moves.Move.TheVariants.{Step}
 use Rattle.bpf_entries.specs.Keeping.{fit, keep}
 use Rattle.bpf_journal.specs.Histories.{Record, is_step, record_weight}
 use Rattle.bpf_journal.specs.Timelines.{record_of}
 use Rattle.bpf_session.specs.Points.{Point, Bounds, without_ahead}
 use Rattle.bpf_session.specs.Outcomes.{Outcome, refused, replied, unless_refused}
-use Rattle.bpf_session.specs.Stops.{has}
 use Rattle.bpf_ring.specs.Runs.{state_after}
 use Rattle.bpf_session.specs.Forward.{kept, gone, still_ahead, stop, steps, least, reason, taken, cut, forward}
 use Rattle.bpf_session.specs.Redo.{again, cut_again, redone, why_again}
 use Rattle.bpf_journal.specs.Lookups.{Test, latest, state_before}
 use Rattle.bpf_session.specs.Backward.{back, before_last, back_by, found, to_stop, marks, kept_steps}
-use Rattle.bpf_session.specs.Limits.{most_breaks, most_watches}
-use Rattle.bpfdb_commands.specs.Refusals.{number_of}
-use Rattle.bpf_session.specs.Refused.{when, present, starts, fault_refusals, refusals_of}
-use Rattle.bpf_machine.specs.declared.edit.EditFault.{EditFault}
-use Rattle.bpf_machine.specs.Edits.{edit_fault}
+use Rattle.bpf_session.specs.Refused.{refusals_of}
 use Rattle.bpf_session.specs.Meaning.{accepted, does}
 use Rattle.bpf_session.specs.Sessions.{refusals_after_all}
 use Rattle.bpfdb_commands.specs.Commands.{command_of}
 use Rattle.bpf_session.specs.Output.{effect, after_effect}
-use Rattle.bpf_session.specs.Laws.{RefusedChangesNothing, ShowsChangeNothing, Ascends, RefusalsAreInOrder, ReplayIsTheSame, GoingBackGivesBack, NothingRefusedNothingMissing}
+use Rattle.bpf_session.specs.Laws.{RefusedChangesNothing, ShowsChangeNothing, RefusalsAreInOrder, ReplayIsTheSame, GoingBackGivesBack, NothingRefusedNothingMissing}
+use Rattle.bpf_session.proofs.Accepting.{orderly}
 use Rattle.bpf_session.proofs.BackwardLaws.{count-more}
 use Rattle.bpf_session.proofs.ForwardLaws.{does-forward, goal-told, least-from}
 use Rattle.bpfdb_commands.specs.declared.command.Command.{Command}
 use Rattle.bpfdb_commands.specs.declared.command.Command.TheVariants as command
 use Rattle.bpfdb_commands.specs.declared.command.Goal.TheVariants as goals
 use Rattle.bpfdb_commands.specs.declared.command.Goal.{Goal}
-use Rattle.bpfdb_commands.specs.declared.command.Stop.TheVariants as stops
 use Rattle.bpfdb_commands.specs.declared.command.Target.{Target}
 use Rattle.bpfdb_commands.specs.declared.command.Target.TheVariants as targets
-use Rattle.bpfdb_commands.specs.declared.command.View.TheVariants as views
 use Rattle.bpf_session.specs.declared.reply.Reply.TheVariants.{Forward}
 use Rattle.bpfdb_replies.specs.declared.why.Why.{Why}
 use Rattle.bpfdb_replies.specs.declared.why.Why.TheVariants.{Limit, Memory}
 use Rattle.bpfdb_commands.specs.declared.refusal.Refusal.{Refusal}
-use Rattle.bpfdb_commands.specs.declared.refusal.Refusal.TheVariants.{MachineEnded, NoKeptStep, FewerCommands, AddressNotPresent, NoStart, OutermostFrame, TableFull, ThereOrNot, NothingToRedo, OutOfMemory}
+use Rattle.bpfdb_commands.specs.declared.refusal.Refusal.TheVariants.{OutOfMemory}
 
 -- ---- a refused command
 
@@ -109,57 +102,8 @@ shows-change-nothing gap b (command.Remove stop) p show = absurd cc
 shows-change-nothing gap b (command.Show view) p show = unless-same (refusals_of (command.Show view) p) p _ refl
 shows-change-nothing gap b command.Quit p show = refl
 
--- ---- the order of refusals
-
-one-alone : (test : Bool) (r : Refusal) → Ascends (map number_of (when test r))
-one-alone true r = tt
-one-alone false r = tt
-
-one-fault : (fault : Option EditFault) → Ascends (map number_of (fault_refusals fault))
-one-fault None = tt
-one-fault (Some fault) = tt
-
-two-order : (a b : Bool) (r q : Refusal) → number_of r < number_of q → Ascends (map number_of (when a r ++ when b q))
-two-order true true r q less = (less, tt)
-two-order true false r q less = tt
-two-order false true r q less = tt
-two-order false false r q less = tt
-
-three-order : (a b c : Bool) (r q s : Refusal) → number_of r < number_of q → number_of q < number_of s → Ascends (map number_of (when a r ++ when b q ++ when c s))
-three-order true true true r q s less more = (less, (more, tt))
-three-order true true false r q s less more = (less, tt)
-three-order true false true r q s less more = (omega (arith, less, more), tt)
-three-order true false false r q s less more = tt
-three-order false true true r q s less more = (more, tt)
-three-order false true false r q s less more = tt
-three-order false false true r q s less more = tt
-three-order false false false r q s less more = tt
-
 pub refusals-are-in-order : RefusalsAreInOrder
-refusals-are-in-order (command.Forward (goals.Steps count)) p = one-alone (has_ended p.state.status) MachineEnded
-refusals-are-in-order (command.Forward goals.Next) p = one-alone (has_ended p.state.status) MachineEnded
-refusals-are-in-order (command.Forward goals.Continue) p = one-alone (has_ended p.state.status) MachineEnded
-refusals-are-in-order (command.Forward goals.Finish) p = two-order (has_ended p.state.status) (depth p.state == 0) MachineEnded OutermostFrame (omega arith)
-refusals-are-in-order (command.Back (targets.Commands count)) p = one-alone (nat_lt (marks p) count) FewerCommands
-refusals-are-in-order (command.Back (targets.Steps count)) p = one-alone (kept_steps p == 0) NoKeptStep
-refusals-are-in-order (command.Back targets.Next) p = one-alone (kept_steps p == 0) NoKeptStep
-refusals-are-in-order (command.Back targets.Continue) p = one-alone (kept_steps p == 0) NoKeptStep
-refusals-are-in-order (command.Back targets.Finish) p = two-order (kept_steps p == 0) (depth p.state == 0) NoKeptStep OutermostFrame (omega arith)
-refusals-are-in-order (command.Redo count) p = one-alone (length p.ahead == 0) NothingToRedo
-refusals-are-in-order (command.Edit e) p = one-fault (edit_fault p.state e)
-refusals-are-in-order (command.Add (stops.Breakpoint slot)) p = three-order (not (starts p slot)) (nat_le most_breaks (length p.breaks)) (has p.breaks slot) NoStart TableFull ThereOrNot (omega arith) (omega arith)
-refusals-are-in-order (command.Add (stops.Watch address)) p = three-order (not (present p address 1)) (nat_le most_watches (length p.watches)) (has p.watches address) AddressNotPresent TableFull ThereOrNot (omega arith) (omega arith)
-refusals-are-in-order (command.Remove (stops.Breakpoint slot)) p = one-alone (not (has p.breaks slot)) ThereOrNot
-refusals-are-in-order (command.Remove (stops.Watch address)) p = one-alone (not (has p.watches address)) ThereOrNot
-refusals-are-in-order (command.Show (views.Bytes address span)) p = one-alone (not (present p address span)) AddressNotPresent
-refusals-are-in-order (command.Show (views.Instructions slot span)) p = one-alone (not (starts p slot)) NoStart
-refusals-are-in-order (command.Show (views.LastWrite address)) p = one-alone (not (present p address 1)) AddressNotPresent
-refusals-are-in-order (command.Show views.Registers) p = tt
-refusals-are-in-order (command.Show views.Frames) p = tt
-refusals-are-in-order (command.Show views.Breaks) p = tt
-refusals-are-in-order (command.Show views.History) p = tt
-refusals-are-in-order (command.Show views.Trace) p = tt
-refusals-are-in-order command.Quit p = tt
+refusals-are-in-order c p = (orderly c p).0
 
 -- ---- gaps that made no refusal
 

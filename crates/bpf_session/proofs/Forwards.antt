@@ -1,7 +1,7 @@
 -- A forward command's run: what it stands at after k steps, and what it comes to where it stops or is cut short.
-use Rattle.std.proofs.Common.{◌≡◌, ◌≢◌, ◌+◌, ◌-◌, ◌<◌, ◌≤◌, ◌==◌, ◌⊎◌, inl, inr, ℕ, zero, suc, Bool, true, false, List, [], Option, Some, None, Ok, Err, is_some, refl, sym, ap, subst, ◌∙◌, arith}
+use Rattle.std.proofs.Common.{◌≡◌, ◌+◌, ◌-◌, ◌<◌, ◌≤◌, ◌==◌, ◌⊎◌, inl, inr, ℕ, zero, suc, Bool, true, false, List, [], Option, Some, None, Ok, Err, is_some, refl, sym, ap, subst, ◌∙◌, arith}
 use Rattle.std.proofs.lemmas.Bool.Decides.{nat_tests}
-use Rattle.std.specs.Prelude.{if◌then◌else◌, nat_lt, not, unwrap_or, IfOk, Result}
+use Rattle.std.specs.Prelude.{if◌then◌else◌, nat_lt, not, unwrap_or, IfOk}
 use Rattle.std.specs.Str.{bytes_eq}
 use Rattle.bpf_machine.specs.State.{State, depth}
 use Rattle.bpf_machine.specs.Entries.{step_entry}
@@ -9,18 +9,15 @@ use Rattle.bpf_machine.specs.Moves.{Leads}
 use Rattle.bpf_entries.specs.Past.{replaced}
 use Rattle.bpf_entries.specs.Status.{has_ended}
 use Rattle.bpf_machine.specs.declared.moves.Move.TheVariants.{Step}
-use Rattle.bpf_entries.specs.Keeping.{Kept, keep}
-use Rattle.bpf_journal.specs.Histories.{Record, record_weight}
-use Rattle.bpf_journal.specs.Runs.{Ends, history_after, refusals_by_run}
+use Rattle.bpf_entries.specs.Keeping.{Kept}
+use Rattle.bpf_journal.specs.Runs.{Ends, refusals_by_run}
 use Rattle.bpf_journal.specs.Tracks.{Track, track_after, track_of}
 use Rattle.bpf_journal.proofs.Runs.{ends_state}
 use Rattle.bpf_ring.specs.Runs.{state_after, stops_after}
 use Rattle.bpf_journal.specs.Replaced.{replaces_bytes}
 use Rattle.bpf_journal.proofs.Telling.{kept_bytes}
-use Rattle.bpf_journal.specs.Timelines.{record_of}
 use Rattle.bpf_session.specs.Points.{Point}
-use Rattle.bpf_session.specs.Outcomes.{Outcome, refused, unless_refused}
-use Rattle.bpf_session.specs.Refused.{refusals_of, when}
+use Rattle.bpf_session.specs.Outcomes.{Outcome, refused}
 use Rattle.bpf_session.specs.Stops.{has, some_differs}
 use Rattle.bpf_session.specs.Forward.{kept, gone, still_ahead, is_done, stop, stop_in, least, steps, taken, forward}
 use Rattle.bpf_session.specs.Halting.{floor_of, halts, most_of}
@@ -29,15 +26,12 @@ use Rattle.bpf_session.proofs.Watching.{compares, compares_none}
 use Rattle.bpf_session.specs.Replies.{IsThere}
 use Rattle.bpf_session.specs.Sessions.{SessionValue, HasPast, StandsAt, Obeys, gap_of, point_of, bounds_of, track_at}
 use Rattle.bpf_session.proofs.Answering.{Comes, comes_as, same-bounds}
-use Rattle.bpfdb_commands.specs.declared.command.Command.TheVariants as command
 use Rattle.bpfdb_commands.specs.declared.command.Goal.{Goal}
 use Rattle.bpfdb_commands.specs.declared.command.Goal.TheVariants.{Steps, Next, Continue, Finish}
-use Rattle.bpfdb_commands.specs.declared.refusal.Refusal.{Refusal}
 use Rattle.bpfdb_replies.specs.declared.why.Why.{Why}
 use Rattle.bpfdb_replies.specs.declared.why.Why.TheVariants.{End, Break, Watch, Done, Limit, Memory}
-use Rattle.bpf_session.specs.declared.reply.Reply.{Reply}
 use Rattle.bpf_session.specs.declared.reply.Reply.TheVariants as replies
-use Rattle.bpfdb_commands.specs.declared.refusal.Refusal.TheVariants.{OutOfMemory, MachineEnded}
+use Rattle.bpfdb_commands.specs.declared.refusal.Refusal.TheVariants.{OutOfMemory}
 
 -- the least number is not below the first one that is tried
 pub least_from : (test : ℕ → Bool) (k n : ℕ) → k ≤ least test k n
@@ -108,14 +102,9 @@ module _ {K : Type 0} (holds : K → List Kept → Type 0) where
   )
 
 -- a history after so many steps is that of the run of the journal
-same_history : (room k : ℕ) (p : Point) → history_after room k p.state p.history ≡ kept room k p
-same_history room zero p = refl
-same_history room (suc k) p =
-    ap (λ (h : List Record). keep record_weight room h (record_of (state_after k p.state) Step (k == 0))) (same_history room k p)
-
 same_track : {K : Type 0} (room k : ℕ) (s : SessionValue K) (h : Track) → track_after room k s.moment.state h ≡ track_at (gone room k (point_of s h))
 same_track room zero s h = refl
-same_track room (suc k) s h = ap (λ (v : List Record). track_of v) (same_history room (suc k) (point_of s h))
+same_track room (suc k) s h = refl
 
 -- the least number is this one, where it passes and no smaller one does
 pub least_is : (test : ℕ → Bool) (k d n : ℕ) → ((j : ℕ) → k ≤ j → j < k + d → test j ≡ false) → test (k + d) ≡ true → d < n → least test k n ≡ k + d
@@ -224,7 +213,6 @@ module _ (breaks watches seen : List ℕ) (floor : ℕ) (x : State) (n : ℕ) (s
 
 -- the run of a command
 pub record Ran {K : Type 0} (holds : K → List Kept → Type 0) (refusals room : K → ℕ) (old new : SessionValue K) (goal : Goal) (seen : List ℕ) (n : ℕ) (cut : Bool) : Type 0 where
-  pub fresh : has_ended old.moment.state.status ≡ false
   pub only : OnlyMoment old new
   pub saw : seen ≡ bytes_at old.watches old.moment.state
   pub ends : Ends (halts old.breaks old.watches seen (floor_of goal (depth old.moment.state))) (most_of goal old.limit) old.moment.state new.moment.state n cut
@@ -232,13 +220,11 @@ pub record Ran {K : Type 0} (holds : K → List Kept → Type 0) (refusals room 
   pub refused : refusals new.moment.keeper ≡ refusals_by_run cut (refusals old.moment.keeper)
   pub room_same : room new.moment.keeper ≡ room old.moment.keeper
 
-pub ran : {K : Type 0} (holds : K → List Kept → Type 0) (refusals room : K → ℕ) (old new : SessionValue K) (goal : Goal) (seen : List ℕ) (start floor most n : ℕ) (cut : Bool) → has_ended old.moment.state.status ≡ false
-    → start ≡ depth old.moment.state → floor ≡ floor_of goal start → most ≡ most_of goal old.limit → OnlyMoment old new → seen ≡ bytes_at old.watches old.moment.state
+pub ran : {K : Type 0} (holds : K → List Kept → Type 0) (refusals room : K → ℕ) (old new : SessionValue K) (goal : Goal) (seen : List ℕ) (start floor most n : ℕ) (cut : Bool) → start ≡ depth old.moment.state → floor ≡ floor_of goal start → most ≡ most_of goal old.limit → OnlyMoment old new → seen ≡ bytes_at old.watches old.moment.state
     → Ends (halts old.breaks old.watches seen floor) most old.moment.state new.moment.state n cut
     → ((h : Track) → HasPast holds old h → HasPast holds new (track_after (room old.moment.keeper) n old.moment.state h))
     → refusals new.moment.keeper ≡ refusals_by_run cut (refusals old.moment.keeper) → room new.moment.keeper ≡ room old.moment.keeper → Ran holds refusals room old new goal seen n cut
-ran holds refusals room old new goal seen start floor most n cut fresh began low all only saw ends kept refused room_same = record {
-  fresh = fresh;
+ran holds refusals room old new goal seen start floor most n cut began low all only saw ends kept refused room_same = record {
   only = only;
   saw = saw;
   ends =
@@ -250,9 +236,9 @@ ran holds refusals room old new goal seen start floor most n cut fresh began low
 }
 
 module _ {K : Type 0} (holds : K → List Kept → Type 0) (refusals room : K → ℕ) (old new : SessionValue K) (goal : Goal) (seen : List ℕ) where
-  -- what a forward command means, where its refusals at the start are these
+  -- what a forward command means that is not refused
   abbrev pub Meaning : Option ℕ → Point → Outcome
-  Meaning gap p = unless_refused (when (has_ended p.state.status) MachineEnded) p (forward gap (bounds_of room old) goal p)
+  Meaning gap p = forward gap (bounds_of room old) goal p
 
   abbrev test_of : Bool → State → Bool
   test_of = halts old.breaks old.watches seen (floor_of goal (depth old.moment.state))
@@ -299,14 +285,13 @@ module _ {K : Type 0} (holds : K → List Kept → Type 0) (refusals room : K �
       let some : (h : Track) → is_some (stop old.limit goal (point_of old h) (suc k)) ≡ true = λ h. stopped k compared.since ends.last in
       let is_why : (h : Track) → stop old.limit goal (point_of old h) (suc k) ≡ Some why = λ h. sym (some_is (stop old.limit goal (point_of old h) (suc k)) Limit (some h)) ∙ ap Some (sym (stops a h now ∙ ap (λ o. unwrap_or o Limit) (here h))) in
       let tells = none_told (suc k) why _ _ _ _ _ (sym (is_why (track_of []))) in
-      let fresh = r.fresh in
       let comes : (h : Track) → HasPast holds old h → Comes holds new Meaning (Ok (replies.Forward (suc k) why)) (point_of old h) = λ h st.
       let there = is_why h in
       let low : k < old.limit = omega (arith, ends.within, most_within goal old.limit) in
       let e : 1 + k ≡ suc k = omega arith in
       let n : steps old.limit goal (point_of old h) ≡ suc k =
       least_is (λ j. is_some (stop old.limit goal (point_of old h) j)) 1 k old.limit (λ j from to. none_before (suc k) ends.within r.saw leads ends.before h j from (omega (arith, to))) (rw e (some h)) low ∙ e in
-      let is : Meaning None (point_of old h) ≡ taken (room old.moment.keeper) (suc k) why (point_of old h) = rw (fresh, n, there) refl in
+      let is : Meaning None (point_of old h) ≡ taken (room old.moment.keeper) (suc k) why (point_of old h) = rw (n, there) refl in
       comes_as holds new Meaning _ (point_of old h) None _ tells is refl (stands_there (suc k) false r h st) in
       record {
         answered = λ h st. (comes h st).answered;
@@ -334,7 +319,6 @@ module _ {K : Type 0} (holds : K → List Kept → Type 0) (refusals room : K �
   -- a run that the keeper cut short
   pub ran_cut : (n : ℕ) → Ran holds refusals room old new goal seen n true → Obeys holds refusals room old new Meaning (if n == 0 then Err OutOfMemory else Ok (replies.Forward n Memory))
   ran_cut n r =
-      let fresh = r.fresh in
       let ends = r.ends.0 in
       let low = r.ends.1 in
       let tells = cut_told (n == 0) n (is_first n) in
@@ -344,7 +328,7 @@ module _ {K : Type 0} (holds : K → List Kept → Type 0) (refusals room : K �
       (λ j from to. none_before (suc n) (omega (arith, low)) r.saw (λ k less. ends.steps k (omega (arith, less))) (λ k less. ends.on k (omega (arith, less))) h j from (omega (arith, to)))
       (omega (arith, low, most_within goal old.limit)) in
       let lt : nat_lt n (steps old.limit goal (point_of old h)) ≡ true = lt_true _ _ (omega (arith, far)) in
-      let is : Meaning (Some n) (point_of old h) ≡ cut_of (n == 0) (room old.moment.keeper) n (point_of old h) = rw (fresh, lt) refl in
+      let is : Meaning (Some n) (point_of old h) ≡ cut_of (n == 0) (room old.moment.keeper) n (point_of old h) = rw lt refl in
       let stands = stands_there n true r h st in
       comes_as holds new Meaning _ (point_of old h) (Some n) _ tells is (cut_answer (n == 0) (room old.moment.keeper) n (point_of old h)) (cut_point (n == 0) (room old.moment.keeper) n (point_of old h) (StandsAt holds new) (is_first n) stands) in
       record {
@@ -354,11 +338,3 @@ module _ {K : Type 0} (holds : K → List Kept → Type 0) (refusals room : K �
         bounds = same-bounds room old new r.only.limit r.room_same;
         there = cut_there (n == 0) n new.moment.state;
       }
-
-module _ {K : Type 0} (holds : K → List Kept → Type 0) (refusals room : K → ℕ) (old new : SessionValue K) where
-  -- a command other than `finish`
-  pub forward_obeys : (goal : Goal) (answer : Result Reply Refusal) → goal ≢ Finish → Obeys holds refusals room old new (λ gap p. unless_refused (when (has_ended p.state.status) MachineEnded) p (forward gap (bounds_of room old) goal p)) answer → Obeys holds refusals room old new (λ gap p. unless_refused (refusals_of (command.Forward goal) p) p (forward gap (bounds_of room old) goal p)) answer
-  forward_obeys (Steps count) answer other o = o
-  forward_obeys Next answer other o = o
-  forward_obeys Continue answer other o = o
-  forward_obeys Finish answer other o = absurd (other refl)

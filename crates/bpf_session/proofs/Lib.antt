@@ -1,3 +1,4 @@
+pub mod Accepting
 pub mod Answering
 pub mod Backwards
 pub mod Breaks
@@ -10,7 +11,6 @@ pub mod Obeying
 pub mod RedoLaws
 pub mod Redoing
 pub mod Running
-pub mod Tables
 pub mod Watching
 pub mod WatchRuns
 mod WholeScripts

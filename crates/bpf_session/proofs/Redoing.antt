@@ -10,20 +10,18 @@ use Rattle.bpf_journal.specs.Counts.{one_more}
 use Rattle.bpf_journal.specs.Courses.{MakesAgain, StaysThere}
 use Rattle.bpf_journal.specs.Histories.{Record}
 use Rattle.bpf_journal.specs.Tracks.{Track}
-use Rattle.bpf_session.specs.Outcomes.{Outcome, refused, unless_refused}
+use Rattle.bpf_session.specs.Outcomes.{Outcome, refused}
 use Rattle.bpf_session.specs.Points.{Point}
 use Rattle.bpf_session.specs.Redo.{state_ahead, on_by, redone, cut_again, redo, again}
-use Rattle.bpf_session.specs.Refused.{refusals_of, when}
 use Rattle.bpf_session.specs.Replies.{IsThere}
 use Rattle.bpf_session.specs.Sessions.{SessionValue, HasPast, StandsAt, Obeys, gap_of, point_of, track_at}
 use Rattle.bpf_session.specs.declared.reply.Reply.{Reply}
 use Rattle.bpf_session.specs.declared.reply.Reply.TheVariants as replies
-use Rattle.bpfdb_commands.specs.declared.command.Command.TheVariants as command
 use Rattle.bpfdb_commands.specs.declared.refusal.Refusal.{Refusal}
-use Rattle.bpfdb_commands.specs.declared.refusal.Refusal.TheVariants.{NothingToRedo, OutOfMemory}
+use Rattle.bpfdb_commands.specs.declared.refusal.Refusal.TheVariants.{OutOfMemory}
 use Rattle.bpfdb_replies.specs.declared.why.Why.{Why}
 use Rattle.bpfdb_replies.specs.declared.why.Why.TheVariants as whys
-use Rattle.bpf_session.proofs.Answering.{Comes, comes_as, same-bounds, unrefused}
+use Rattle.bpf_session.proofs.Answering.{Comes, comes_as, same-bounds}
 use Rattle.bpf_session.proofs.Forwards.{OnlyMoment}
 
 -- a record of what was taken back
@@ -161,20 +159,14 @@ module _ {K : Type 0} (holds : K → List Kept → Type 0) (refusals room : K �
       }
 
   -- a count of moves
-  pub redo_obeys : (count moves : ℕ) (why : Why) (ahead : ℕ) (answer : Result Reply Refusal) → ((h : Track) → HasPast holds old h → ahead ≡ length h.ahead) → ahead ≢ 0 → moves ≡ min count ahead → why ≡ (if nat_le count ahead then whys.Done else whys.All) → Obeys holds refusals room old now (λ gap. cut_again gap moves why) answer → Obeys holds refusals room old now (λ gap p. unless_refused (refusals_of (command.Redo count) p) p (redo gap count p)) answer
-  redo_obeys count moves why ahead answer counted some far because o =
-      unrefused holds refusals room old now (refusals_of (command.Redo count)) (λ gap. redo gap count) answer
-      (λ h past.
-      let n = counted h past in
-      let off : (length h.ahead == 0) ≡ false = (let here : length h.ahead ≢ 0 = λ none. some (n ∙ none) in grind (arith, nat_tests)) in
-      ap (λ (b : Bool). when b NothingToRedo) off)
-      (record {
-        answered = λ h past. o.answered h past ∙ ap (λ (p : Outcome). p.answer) (same h past);
-        stands = λ h past. subst (λ (p : Outcome). StandsAt holds now p.point) (same h past) (o.stands h past);
-        counted = o.counted;
-        bounds = o.bounds;
-        there = o.there;
-      })
+  pub redo_obeys : (count moves : ℕ) (why : Why) (ahead : ℕ) (answer : Result Reply Refusal) → ((h : Track) → HasPast holds old h → ahead ≡ length h.ahead) → moves ≡ min count ahead → why ≡ (if nat_le count ahead then whys.Done else whys.All) → Obeys holds refusals room old now (λ gap. cut_again gap moves why) answer → Obeys holds refusals room old now (λ gap. redo gap count) answer
+  redo_obeys count moves why ahead answer counted far because o = record {
+    answered = λ h past. o.answered h past ∙ ap (λ (p : Outcome). p.answer) (same h past);
+    stands = λ h past. subst (λ (p : Outcome). StandsAt holds now p.point) (same h past) (o.stands h past);
+    counted = o.counted;
+    bounds = o.bounds;
+    there = o.there;
+  }
     where
       same : (h : Track) → HasPast holds old h → cut_again (gap_of answer) moves why (point_of old h) ≡ redo (gap_of answer) count (point_of old h)
       same h past =

@@ -2,11 +2,9 @@
 use Rattle.std.specs.Prelude.{◌+◌, ℕ, zero, suc, Bool, false, List, [], Option, Some, None, is_some, unwrap_or, if◌then◌else◌, ◌==◌, nat_le, nat_lt}
 use Rattle.bpf_machine.specs.State.{State, depth}
 use Rattle.bpf_entries.specs.Status.{has_ended}
-use Rattle.bpf_machine.specs.declared.moves.Move.TheVariants.{Step}
-use Rattle.bpf_entries.specs.Keeping.{keep}
 use Rattle.bpf_ring.specs.Runs.{state_after}
-use Rattle.bpf_journal.specs.Histories.{Record, record_weight}
-use Rattle.bpf_journal.specs.Timelines.{record_of}
+use Rattle.bpf_journal.specs.Histories.{Record}
+use Rattle.bpf_journal.specs.Runs.{history_after}
 use Rattle.bpf_session.specs.Points.{Point, Bounds}
 use Rattle.bpf_session.specs.Outcomes.{Outcome, refused, replied}
 use Rattle.bpf_session.specs.Stops.{breaks_at, watch_differs}
@@ -17,10 +15,9 @@ use Rattle.bpfdb_commands.specs.declared.command.Goal.{Goal}
 use Rattle.bpfdb_commands.specs.declared.command.Goal.TheVariants.{Steps, Next, Continue, Finish}
 use Rattle.bpfdb_commands.specs.declared.refusal.Refusal.TheVariants.{OutOfMemory}
 
--- The history after so many steps from a point: each is kept in the journal's room, the first one with a mark.
+-- The history after so many steps from a point.
 abbrev pub kept : ℕ → ℕ → Point → List Record
-kept room zero p = p.history
-kept room (suc k) p = keep record_weight room (kept room k p) (record_of (state_after k p.state) Step (k == 0))
+kept room k p = history_after room k p.state p.history
 
 -- What was taken back before can't be made again after the first step.
 abbrev pub still_ahead : ℕ → List Record → List Record

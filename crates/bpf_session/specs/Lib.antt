@@ -18,6 +18,6 @@ pub mod Watched
 pub mod Halting
 pub mod WatchRuns
 pub mod Searches
-pub mod EditRefusals
+pub mod Accepted
 pub mod Plain
 pub mod LineSteps

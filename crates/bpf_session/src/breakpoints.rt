@@ -1,5 +1,5 @@
 //! Breakpoints: the slots at which forward commands stop.
-ghost use Rattle.std.specs.Prelude.{◌≡◌, ◌<◌, All, ◌++◌, ◌∷◌, [], length, filter, not, nat_le, ◌==◌, ◌%◌};
+ghost use Rattle.std.specs.Prelude.{◌≡◌, ◌<◌, ◌++◌, ◌∷◌, [], length, filter, not, nat_le, ◌==◌, ◌%◌};
 ghost use Rattle.bpf_session.specs.Limits.{most_breaks};
 ghost use Rattle.bpf_session.specs.SlotTables.{has_at};
 ghost use Rattle.bpf_session.specs.Stops.{has};
@@ -51,13 +51,6 @@ impl Breakpoints {
         self.slots.as_slice()
     }
 
-    /// Brings the range of slots into a proof.
-    pub fn are_slots(&self)
-        ensures { All (λ slot. slot < 65536) self.now }
-    {
-        slots_fit(self.slots.as_slice());
-    }
-
     /// Whether there are as many as there can be.
     pub fn is_full(&self) -> bool
         ensures { result ≡ nat_le most_breaks (length self.now) }
@@ -69,15 +62,15 @@ impl Breakpoints {
     pub fn has(&self, slot: u16) -> bool
         ensures { result ≡ has self.now slot }
     {
-        self.table[place_of(slot)] && self.is_among(slot)
+        self.table[place_of(u64::from(slot))] && self.has_slot(u64::from(slot))
     }
 
-    /// Whether a breakpoint stands at a slot, by a look at each of them.
+    /// Whether there is one at a slot, which may be any number, by a look at each of them.
     #[inline(never)]
-    fn is_among(&self, slot: u16) -> bool
+    pub fn has_slot(&self, slot: u64) -> bool
         ensures { result ≡ has self.now slot }
     {
-        self.slots.iter().any(|other| *other == slot)
+        self.slots.iter().any(|other| u64::from(*other) == slot)
     }
 
     /// Sets one at a slot.
@@ -86,25 +79,25 @@ impl Breakpoints {
         ensures { self.new ≡ self.old ++ slot ∷ [] }
     {
         self.slots.push(slot);
-        self.table[place_of(slot)] = true;
+        self.table[place_of(u64::from(slot))] = true;
     }
 
     /// Removes the one at a slot.
-    pub fn remove(&mut self, slot: u16)
+    pub fn remove(&mut self, slot: u64)
         ensures { self.new ≡ filter (λ other. not (other == slot)) self.old }
     {
-        self.slots.retain(|other| *other != slot);
+        self.slots.retain(|other| u64::from(*other) != slot);
         let place = place_of(slot);
         self.table[place] = is_taken(self.slots.as_slice(), place);
     }
 }
 
 /// The place of a slot in the table.
-fn place_of(slot: u16) -> usize
+fn place_of(slot: u64) -> usize
     ensures place { result ≡ slot % 8192 }
     ensures within { result < 8192 }
 {
-    usize::from(slot) % PLACES
+    (slot % PLACES as u64) as usize
 }
 
 /// Whether one of some slots has a place in the table.
@@ -115,8 +108,3 @@ fn is_taken(slots: &[u16], place: usize) -> bool
         .iter()
         .any(|slot| usize::from(*slot) % PLACES == place)
 }
-
-/// Brings the range of slots into a proof.
-fn slots_fit(slots: &[u16])
-    ensures { All (λ slot. slot < 65536) slots.now }
-{}

@@ -3,16 +3,17 @@ ghost use Rattle.std.specs.Prelude.{◌≡◌, ◌≤◌, List, []};
 ghost use Rattle.bpf_journal.specs.Histories.{HasHistory, Record, StandsFor};
 ghost use Rattle.bpf_journal.specs.Tracks.{IsCourse, RingHolds, ring_room, track_of};
 ghost use Rattle.bpfdb_commands.specs.Limits.{greatest_count};
-ghost use Rattle.bpf_session.specs.Meaning.{does};
+ghost use Rattle.bpf_session.specs.Accepted.{Accepts};
+ghost use Rattle.bpf_session.specs.Meaning.{accepted, does};
 ghost use Rattle.bpf_session.specs.Sessions.{HasPast, Obeys, bounds_of};
 
 mod backward;
 mod edits;
 mod forward;
 mod redo;
+mod refusals;
 mod replies;
 mod runs;
-mod shows;
 mod stops;
 
 use crate::breakpoints::Breakpoints;
@@ -111,19 +112,33 @@ impl<K: Keeper> Session<K> {
     }
 
     /// Obeys a command, or refuses it, and then nothing changes. `quit` changes nothing.
-    #[tactic(auto, unfolding(crate::specs::Meaning::accepted))]
     pub fn apply(&mut self, command: &Command) -> Result<Reply, Refusal>
         ensures { Obeys K.holds K.refused K.room self.old self.new
             (λ gap. does gap (bounds_of K.room self.old) command.now) result }
     {
+        self.invariant();
+        match self.refusal(command) {
+            Some(refusal) => Err(refusal),
+            None => self.accept(command),
+        }
+    }
+
+    /// Obeys a command that is not refused, but where memory for its first move is.
+    #[tactic(auto, unfolding(crate::specs::Meaning::accepted))]
+    fn accept(&mut self, command: &Command) -> Result<Reply, Refusal>
+        requires { Accepts K.holds self.old command.now }
+        ensures { Obeys K.holds K.refused K.room self.old self.new
+            (λ gap. accepted gap (bounds_of K.room self.old) command.now) result }
+    {
+        self.invariant();
         match command {
             Command::Forward(goal) => self.forward(*goal),
-            Command::Back(target) => self.back(*target),
+            Command::Back(target) => Ok(self.back(*target)),
             Command::Redo(count) => self.redo(*count),
             Command::Edit(edit) => self.edit(edit),
-            Command::Add(stop) => self.add(*stop),
-            Command::Remove(stop) => self.remove(*stop),
-            Command::Show(view) => self.show(*view),
+            Command::Add(stop) => Ok(self.add(*stop)),
+            Command::Remove(stop) => Ok(self.remove(*stop)),
+            Command::Show(view) => Ok(Reply::Shown(*view)),
             Command::Quit => Ok(Reply::Nothing),
         }
     }

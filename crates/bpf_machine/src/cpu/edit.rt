@@ -21,7 +21,7 @@ impl Cpu {
         ensures err { IfErr result (λ fault. edit_fault self.old edit.now ≡ Some fault) }
         ensures same { OnErr result (self.new ≡ self.old) }
     {
-        match self.refusal(edit) {
+        match self.edit_fault(edit) {
             Some(fault) => Err(fault),
             None => {
                 let entry = self.entry_of_edit(edit);
@@ -32,7 +32,7 @@ impl Cpu {
     }
 
     /// Why an edit is refused, if it is.
-    fn refusal(&self, edit: &Edit) -> Option<EditFault>
+    pub fn edit_fault(&self, edit: &Edit) -> Option<EditFault>
         ensures { result ≡ edit_fault self.now edit.now }
     {
         match edit {

@@ -1,20 +1,19 @@
 //! Backward commands.
-ghost use Rattle.std.specs.Prelude.{◌≡◌, ◌≤◌, List, Ok, if◌then◌else◌, ◌==◌};
+ghost use Rattle.std.specs.Prelude.{◌≡◌, ◌≤◌, Ok, if◌then◌else◌};
 ghost use Rattle.bpf_machine.specs.State.{State, depth};
 ghost use Rattle.bpf_journal.specs.Histories.{Record};
 ghost use Rattle.bpf_journal.specs.Tracks.{Track};
 ghost use Rattle.bpf_journal.specs.TakingBack.{taken_of};
-ghost use Rattle.bpf_session.specs.Backward.{back, passes, to_latest};
-ghost use Rattle.bpf_session.specs.Outcomes.{unless_refused};
-ghost use Rattle.bpf_session.specs.Refused.{refusals_of};
-ghost use Rattle.bpf_session.specs.Searches.{GoesBackTo};
+ghost use Rattle.bpf_session.specs.Accepted.{Accepts};
+ghost use Rattle.bpf_session.specs.Backward.{back, passes};
+ghost use Rattle.bpf_session.specs.Searches.{GoesBackTo, count_in, why_found};
 ghost use Rattle.bpf_session.specs.Sessions.{HasPast, Obeys, bounds_of, point_of};
-ghost use Rattle.bpf_session.specs.Stops.{some_differs};
+ghost use Rattle.bpf_session.specs.Stops.{has, some_differs};
 
 use super::Session;
 use crate::reply::Reply;
 use bpf_journal::{Keeper, Taken};
-use bpfdb_commands::{Command, Count, Refusal, Target};
+use bpfdb_commands::{Command, Target};
 use bpfdb_replies::Why;
 
 /// Where a backward command has gone.
@@ -27,111 +26,64 @@ pub struct Found {
 }
 
 impl<K: Keeper> Session<K> {
-    /// Goes back to before the moves that are looked for, or to the start of what is kept where
-    /// there are fewer. Q4 where no step is kept, Q5 where `undo` counts more commands than are
-    /// kept, Q9 where `reverse-finish` is given at depth 0.
-    pub(crate) fn back(&mut self, target: Target) -> Result<Reply, Refusal>
-        ensures { Obeys K.holds K.refused K.room self.old self.new (λ _ p. unless_refused
-            (refusals_of (Command.Back target) p) p (back target p)) result }
+    /// Goes back to before the moves that are looked for, or to the oldest kept state where there
+    /// are fewer.
+    pub(super) fn back(&mut self, target: Target) -> Reply
+        requires { Accepts K.holds self.old (Command.Back target) }
+        ensures { Obeys K.holds K.refused K.room self.old self.new (λ _. back target) (Ok result) }
     {
-        match target {
-            Target::Commands(count) => self.undo(count),
-            Target::Steps(count) => self.reverse_step(count),
-            Target::Next => self.reverse_next(),
-            Target::Continue => self.reverse_continue(),
-            Target::Finish => self.reverse_finish(),
-        }
-    }
-
-    /// Takes back the commands that moved, from the last marked move on to the `count`-th last one.
-    /// Q5 where fewer are kept.
-    fn undo(&mut self, count: Count) -> Result<Reply, Refusal>
-        ensures { Obeys K.holds K.refused K.room self.old self.new (λ _ p. unless_refused
-            (refusals_of (Command.Back (Target.Commands count)) p) p
-            (back (Target.Commands count) p)) result }
-    {
-        if (self.timeline.marked() as u64) < count.get() {
-            return Err(Refusal::FewerCommands);
-        }
-        let found = self.back_to(Target::Commands(count), count.get());
-        Ok(Reply::Back {
-            moves: found.moves,
-            why: Why::Done,
-        })
-    }
-
-    /// Goes back over `count` steps, or to before the first kept one where there are fewer. Q4
-    /// where none is kept.
-    fn reverse_step(&mut self, count: Count) -> Result<Reply, Refusal>
-        ensures { Obeys K.holds K.refused K.room self.old self.new (λ _ p. unless_refused
-            (refusals_of (Command.Back (Target.Steps count)) p) p (back (Target.Steps count) p))
-            result }
-    {
-        let steps = self.timeline.steps_up_to(count.get());
-        if steps == 0 {
-            return Err(Refusal::NoKeptStep);
-        }
-        let found = self.back_to(Target::Steps(count), steps);
-        Ok(Reply::Back {
-            moves: found.moves,
-            why: why_there(steps == count.get()),
-        })
-    }
-
-    /// Goes back to before the latest step from the present depth or a smaller one, or to the
-    /// oldest kept state where there is none. Q4 where no step is kept.
-    fn reverse_next(&mut self) -> Result<Reply, Refusal>
-        ensures { Obeys K.holds K.refused K.room self.old self.new (λ _ p. unless_refused
-            (refusals_of (Command.Back Target.Next) p) p (back Target.Next p)) result }
-    {
-        if self.timeline.steps_up_to(1) == 0 {
-            return Err(Refusal::NoKeptStep);
-        }
-        Ok(self.back_to_latest(Target::Next))
-    }
-
-    /// Goes back to the latest kept state of smaller depth, or to the oldest one where there is
-    /// none. Q4 where no step is kept, Q9 at depth 0.
-    fn reverse_finish(&mut self) -> Result<Reply, Refusal>
-        ensures { Obeys K.holds K.refused K.room self.old self.new (λ _ p. unless_refused
-            (refusals_of (Command.Back Target.Finish) p) p (back Target.Finish p)) result }
-    {
-        if self.timeline.steps_up_to(1) == 0 {
-            return Err(Refusal::NoKeptStep);
-        }
-        if self.cpu().depth() == 0 {
-            return Err(Refusal::OutermostFrame);
-        }
-        Ok(self.back_to_latest(Target::Finish))
-    }
-
-    /// Goes back to before the latest step from a breakpoint, or that changed a watched byte, or to
-    /// the oldest kept state where there is none. Q4 where no step is kept.
-    fn reverse_continue(&mut self) -> Result<Reply, Refusal>
-        ensures { Obeys K.holds K.refused K.room self.old self.new (λ _ p. unless_refused
-            (refusals_of (Command.Back Target.Continue) p) p (back Target.Continue p)) result }
-    {
-        if self.timeline.steps_up_to(1) == 0 {
-            return Err(Refusal::NoKeptStep);
-        }
-        let found = self.back_to(Target::Continue, 1);
-        let is_break = self.breaks.has(self.cpu().pc());
-        Ok(Reply::Back {
-            moves: found.moves,
-            why: why_stopped(found.is_there, is_break),
-        })
-    }
-
-    /// Goes back to the state before the latest move that is sought, or to the oldest kept one
-    /// where there is none.
-    fn back_to_latest(&mut self, target: Target) -> Reply
-        ensures { Obeys K.holds K.refused K.room self.old self.new (λ _. to_latest target)
-            (Ok result) }
-    {
-        let found = self.back_to(target, 1);
+        let count = self.count_of(&target);
+        let found = self.back_to(target, count);
         Reply::Back {
             moves: found.moves,
-            why: why_there(found.is_there),
+            why: self.why_back(&target, count, found.is_there),
+        }
+    }
+
+    /// How many of the moves that it looks for a command goes back over: of steps no more than are
+    /// kept.
+    fn count_of(&self, target: &Target) -> u64
+        requires { Accepts K.holds self.now (Command.Back target.now) }
+        ensures some { 1 ≤ result }
+        ensures value { (h : Track) → HasPast K.holds self.now h →
+            result ≡ count_in target.now (point_of self.now h) }
+    {
+        self.invariant();
+        match target {
+            Target::Commands(count) => count.get(),
+            Target::Steps(count) => self.timeline.steps_up_to(count.get()),
+            Target::Next | Target::Continue | Target::Finish => 1,
+        }
+    }
+
+    /// Why a command stops that went back over so many of the moves that it looks for, and found as
+    /// many, or fewer.
+    fn why_back(&self, target: &Target, count: u64, is_there: bool) -> Why
+        ensures { result ≡ why_found target.now count is_there
+            (has self.now.breaks self.now.moment.state.pc) }
+    {
+        let is_done = match target {
+            Target::Commands(_) => true,
+            Target::Steps(asked) => count == asked.get(),
+            Target::Continue => return self.why_stopped(is_there),
+            Target::Next | Target::Finish => is_there,
+        };
+        if is_done { Why::Done } else { Why::Start }
+    }
+
+    /// Why a command stops that looked for a breakpoint or a change of a watched byte, and found
+    /// one or none.
+    fn why_stopped(&self, is_there: bool) -> Why
+        ensures { result ≡ (if is_there then
+            (if has self.now.breaks self.now.moment.state.pc then Why.Break else Why.Watch)
+            else Why.Start) }
+    {
+        if !is_there {
+            Why::Start
+        } else if self.breaks.has(self.cpu().pc()) {
+            Why::Break
+        } else {
+            Why::Watch
         }
     }
 
@@ -193,27 +145,5 @@ impl<K: Keeper> Session<K> {
             Target::Finish => self.cpu().depth() < start,
         };
         if is_hit { 1 } else { 0 }
-    }
-}
-
-/// Why a command stops that looked for so many moves, and found them or fewer.
-fn why_there(is_enough: bool) -> Why
-    ensures { result ≡ (if is_enough then Why.Done else Why.Start) }
-{
-    if is_enough { Why::Done } else { Why::Start }
-}
-
-/// Why a command stops that looked for a breakpoint or a change of a watched byte, and found one or
-/// none.
-fn why_stopped(is_there: bool, is_break: bool) -> Why
-    ensures { result ≡ (if is_there then (if is_break then Why.Break else Why.Watch)
-        else Why.Start) }
-{
-    if !is_there {
-        Why::Start
-    } else if is_break {
-        Why::Break
-    } else {
-        Why::Watch
     }
 }

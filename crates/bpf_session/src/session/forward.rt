@@ -6,8 +6,6 @@ ghost use Rattle.bpf_journal.specs.Runs.{Ends, refusals_by_run};
 ghost use Rattle.bpf_journal.specs.Tracks.{Track, track_after};
 ghost use Rattle.bpf_session.specs.Forward.{forward, is_done, stop_in};
 ghost use Rattle.bpf_session.specs.Halting.{halts};
-ghost use Rattle.bpf_session.specs.Outcomes.{unless_refused};
-ghost use Rattle.bpf_session.specs.Refused.{refusals_of, when};
 ghost use Rattle.bpf_session.specs.Sessions.{HasPast, Obeys, bounds_of, point_of};
 ghost use Rattle.bpf_session.specs.Stops.{some_differs};
 
@@ -16,51 +14,18 @@ use crate::halting::{Halting, floor_of, most_of};
 use crate::reply::Reply;
 use crate::watches::Seen;
 use bpf_journal::{Keeper, Run};
-use bpfdb_commands::{Command, Goal, Refusal};
+use bpfdb_commands::{Goal, Refusal};
 use bpfdb_replies::Why;
 
 impl<K: Keeper> Session<K> {
-    /// Takes the least number of steps, at least one, after which a stop holds. Q3 where the
-    /// machine has ended, Q9 where `finish` is given at depth 0, Q15 where the keeper refuses the
-    /// first step.
-    pub(crate) fn forward(&mut self, goal: Goal) -> Result<Reply, Refusal>
-        ensures { Obeys K.holds K.refused K.room self.old self.new (λ gap p. unless_refused
-            (refusals_of (Command.Forward goal) p) p
-            (forward gap (bounds_of K.room self.old) goal p)) result }
-    {
-        match goal {
-            Goal::Finish => self.finish(),
-            _ => self.go_forward(goal),
-        }
-    }
-
-    /// Takes steps until the present function has returned, or another stop holds.
-    fn finish(&mut self) -> Result<Reply, Refusal>
-        ensures { Obeys K.holds K.refused K.room self.old self.new (λ gap p. unless_refused
-            (refusals_of (Command.Forward Goal.Finish) p) p
-            (forward gap (bounds_of K.room self.old) Goal.Finish p)) result }
-    {
-        if self.cpu().status().has_ended() {
-            return Err(Refusal::MachineEnded);
-        }
-        if self.cpu().depth() == 0 {
-            return Err(Refusal::OutermostFrame);
-        }
-        self.go_forward(Goal::Finish)
-    }
-
     /// Takes the least number of steps, at least one, after which a stop holds: the machine has
     /// ended, a breakpoint is at pc, a watched byte was changed, what was asked for is done, or the
-    /// limit is reached. Q3 where the machine has ended before, Q15 where the keeper refuses the
-    /// first step.
-    fn go_forward(&mut self, goal: Goal) -> Result<Reply, Refusal>
-        ensures { Obeys K.holds K.refused K.room self.old self.new (λ gap p. unless_refused
-            (when (has_ended p.state.status) Refusal.MachineEnded) p
-            (forward gap (bounds_of K.room self.old) goal p)) result }
+    /// limit is reached. Q15 where the keeper refuses the first step.
+    pub(super) fn forward(&mut self, goal: Goal) -> Result<Reply, Refusal>
+        requires { has_ended self.old.moment.state.status ≡ false }
+        ensures { Obeys K.holds K.refused K.room self.old self.new
+            (λ gap. forward gap (bounds_of K.room self.old) goal) result }
     {
-        if self.cpu().status().has_ended() {
-            return Err(Refusal::MachineEnded);
-        }
         self.cpu().invariant();
         let start = self.cpu().depth();
         let seen = self.watches.bytes(self.cpu());

@@ -1,29 +1,24 @@
 //! `redo`: moves that were taken back are made again.
 ghost use Rattle.std.specs.Prelude.{◌≡◌, ◌≢◌, ◌≤◌, ◌==◌, Ok, Err, if◌then◌else◌, length};
 ghost use Rattle.bpf_journal.specs.Tracks.{Track};
-ghost use Rattle.bpf_session.specs.Outcomes.{unless_refused};
 ghost use Rattle.bpf_session.specs.Redo.{cut_again, redo as redo_of};
-ghost use Rattle.bpf_session.specs.Refused.{refusals_of};
 ghost use Rattle.bpf_session.specs.Sessions.{HasPast, Obeys};
 
 use super::Session;
 use crate::reply::Reply;
 use bpf_journal::Keeper;
-use bpfdb_commands::{Command, Count, Refusal};
+use bpfdb_commands::{Count, Refusal};
 use bpfdb_replies::Why;
 
 impl<K: Keeper> Session<K> {
     /// Makes so many moves again that were taken back, the next one first, or all of them where
-    /// there are fewer. It stops at no breakpoint and no watch. Q13 where there is none, Q15 where
-    /// the keeper refuses the first one.
-    pub(crate) fn redo(&mut self, count: Count) -> Result<Reply, Refusal>
-        ensures { Obeys K.holds K.refused K.room self.old self.new (λ gap p. unless_refused
-            (refusals_of (Command.Redo count) p) p (redo_of gap count p)) result }
+    /// there are fewer. It stops at no breakpoint and no watch. Q15 where the keeper refuses the
+    /// first one.
+    pub(super) fn redo(&mut self, count: Count) -> Result<Reply, Refusal>
+        ensures { Obeys K.holds K.refused K.room self.old self.new (λ gap. redo_of gap count)
+            result }
     {
         let ahead = self.timeline.ahead() as u64;
-        if ahead == 0 {
-            return Err(Refusal::NothingToRedo);
-        }
         if count.get() <= ahead {
             self.go_on(count.get(), Why::Done)
         } else {
@@ -33,7 +28,6 @@ impl<K: Keeper> Session<K> {
 
     /// Makes so many moves again, of which there are no fewer.
     fn go_on(&mut self, moves: u64, why: Why) -> Result<Reply, Refusal>
-        requires some { 1 ≤ moves }
         requires told { why ≢ Why.Memory }
         requires there { (h : Track) → HasPast K.holds self.old h → moves ≤ length h.ahead }
         ensures { Obeys K.holds K.refused K.room self.old self.new (λ gap. cut_again gap moves why)

@@ -1,30 +1,11 @@
-use Rattle.bpf_session.specs.Meaning.{accepted}
+use Rattle.std.proofs.Common.{sym, ◌∙◌}
+use Rattle.bpf_session.proofs.Accepting.{none-first, refused_obeys}
 use Rattle.bpf_session.proofs.session.Session.apply.Goals as goal
 
-pub returns-in-Forward : goal.returns-in-Forward
-unfolding accepted
-returns-in-Forward g c = rw c.in-Forward.is c.forward.ensures
+pub accept-requires : goal.accept-requires
+accept-requires g c = λ h past. none-first _ (sym c.in-None.is ∙ c.refusal.ensures h past)
 
-pub returns-in-Back : goal.returns-in-Back
-unfolding accepted
-returns-in-Back g c = rw c.in-Back.is c.back.ensures
-
-pub returns-in-Redo : goal.returns-in-Redo
-unfolding accepted
-returns-in-Redo g c = rw c.in-Redo.is c.redo.ensures
-
-pub returns-in-Edit : goal.returns-in-Edit
-unfolding accepted
-returns-in-Edit g c = rw c.in-Edit.is c.edit.ensures
-
-pub returns-in-Add : goal.returns-in-Add
-unfolding accepted
-returns-in-Add g c = rw c.in-Add.is c.add.ensures
-
-pub returns-in-Remove : goal.returns-in-Remove
-unfolding accepted
-returns-in-Remove g c = rw c.in-Remove.is c.remove.ensures
-
-pub returns-in-Show : goal.returns-in-Show
-unfolding accepted
-returns-in-Show g c = rw c.in-Show.is c.show.ensures
+pub returns-in-Some : goal.returns-in-Some
+returns-in-Some g c =
+    let i = c.invariant.ensures in
+    refused_obeys g.K.Keeper.holds g.K.Keeper.refused g.K.Keeper.room _ c.args.command.now _ _ (λ h past. sym c.in-Some.is ∙ c.refusal.ensures h past) i.track i.follows
