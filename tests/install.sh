@@ -44,5 +44,5 @@ done
 # (the pages lie one folder higher there, beside the examples)
 folder=$destination$prefix/share/doc/bpfdb
 sed -i 's|](\.\./examples/|](examples/|g' "$folder"/*.md || exit 1
-XX
+sed -i 's|](\.\./docs/|](../|g' "$folder/examples"/*.md || exit 1
 echo "installed $prefix/bin/bpfdb, bpfdb-shell, bpfdb-symbols and bpfdb-conformance beside it, the man page, completions of bash, zsh and fish, and pages and examples in $prefix/share/doc/bpfdb; in gdb: source $prefix/share/bpfdb/bpfdb-gdb.py"
