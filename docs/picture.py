@@ -82,7 +82,7 @@ def wrapped(parts):
 
 def picture(shown):
     """The picture of what a terminal shows."""
-    text = re.sub(r'\033\[\?2004[hl]', '', shown).replace('\r', '').rstrip('\n')
+    text = re.sub(r'\033\[\?\d+[hl]', '', shown).replace('\r', '').rstrip('\n')
     lines = [line for typed in text.split('\n') for line in wrapped(runs(typed))]
     lines.insert(0, [('prompt', '$ '), ('1', 'bpfdb-shell -m context.bin overrun.o')])
     width, height = COLUMNS * GLYPH + 2 * EDGE, len(lines) * LINE + 2 * EDGE
