@@ -5,6 +5,9 @@ pub mod ByAddress
 pub mod Facts
 pub mod Loans
 pub mod Codes
+pub mod Flats
+pub mod Arms
+pub mod Running
 pub mod Sorts
 pub mod Fitting
 pub mod EntryParts

@@ -17,6 +17,8 @@ pub mod Next
 pub mod Sorts
 pub mod Fetched
 pub mod Codes
+pub mod Flat
+pub mod Runs
 pub mod Entries
 pub mod Edits
 pub mod Moves

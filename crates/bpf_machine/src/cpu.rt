@@ -13,10 +13,12 @@ mod reads;
 mod record;
 mod revert;
 mod revert_text;
+mod run;
 mod step;
 
 use crate::change::Change;
 use crate::code::Code;
+use crate::flat::FlatCode;
 use crate::frame::Frame;
 use crate::memory::Memory;
 use crate::platform::TRACE_LIMIT;
@@ -31,6 +33,8 @@ pub struct Cpu {
     program: Program,
     /// The program's instructions in the machine's own form, slot by slot.
     code: Vec<Code>,
+    /// The same in the form that a run takes.
+    flats: Vec<FlatCode>,
     pc: u16,
     /// r0 to r9, and the frame pointer, which follows from the depth.
     registers: [u64; 11],
@@ -44,6 +48,7 @@ impl Model for Cpu {
     ghost use Rattle.std.specs.Prelude.{◌≡◌, ◌<◌, All, take, length, slice_index};
     ghost use Rattle.bpf_isa.specs.Programs.{IsStart};
     ghost use Rattle.bpf_machine.specs.Codes.{codes_of};
+    ghost use Rattle.bpf_machine.specs.Flat.{AreFlat};
     ghost use Rattle.bpf_machine.specs.Platform.{frame_pointer, frame_count};
     ghost use Rattle.bpf_machine.specs.State.{State, IsFrame};
 
@@ -54,6 +59,7 @@ impl Model for Cpu {
     ghost invariant = { λ c. record {
       start : IsStart c.program c.pc;
       coded : c.code.items ≡ codes_of c.program;
+      flat : AreFlat (codes_of c.program) c.flats.items;
       pointer : slice_index c.registers 10 ≡ frame_pointer (length c.frames.items);
       shallow : length c.frames.items < frame_count;
       framed : All (IsFrame c.program) c.frames.items;

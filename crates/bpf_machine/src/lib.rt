@@ -8,12 +8,14 @@ mod cpu;
 mod edit;
 mod ended;
 mod fault;
+mod flat;
 mod frame;
 pub mod laws;
 mod map_layout;
 mod memory;
 mod moves;
 mod platform;
+mod run;
 mod sort;
 
 pub use bpf_entries::{ByteString, Entry, Fault, FrameBytes, Status};

@@ -1,7 +1,8 @@
 //! Memory: the bytes of all regions, one region after another.
-ghost use Rattle.std.specs.Prelude.{◌≡◌, All, ◌+◌, ◌-◌, ◌*◌, ◌^◌, ◌≤◌, ◌<◌, ◌⊎◌, length, IfSome, IfNone, IfOk, IfErr, IsTrue, IsSome, ◌↔◌, option_map, Some, None, if◌then◌else◌, ◌==◌, ◌++◌, replicate};
-ghost use Rattle.bpf_machine.specs.Regions.{index_in, frames_from, is_from_frame, zeros};
-ghost use Rattle.bpf_machine.specs.Platform.{context_limit, frame_count, frame_len};
+ghost use Rattle.std.specs.Prelude.{◌≡◌, All, ◌+◌, ◌-◌, ◌*◌, ◌^◌, ◌≤◌, ◌<◌, ◌⊎◌, length, IfSome, IfNone, IfOk, IfErr, IsTrue, IsSome, ◌↔◌, option_map, Some, None, ℕ, List, if◌then◌else◌, ◌==◌, ◌++◌, replicate};
+ghost use Rattle.bpf_isa.specs.declared.maps.MapShape.{MapShape};
+ghost use Rattle.bpf_machine.specs.Regions.{Image, index_in, index_of, frames_from, is_from_frame, zeros};
+ghost use Rattle.bpf_machine.specs.Platform.{context_limit, frame_base, frame_count, frame_len};
 
 use crate::alu::{low8, low16, low32};
 use crate::fault::OpenFault;
@@ -85,6 +86,22 @@ impl Memory {
                 self.maps.index(address, n),
             )
         }
+    }
+
+    /// How many bytes the context has.
+    pub(crate) fn context_len(&self) -> usize
+        ensures value { result ≡ self.now.context_len }
+        ensures short { result ≤ context_limit }
+    {
+        self.context_len
+    }
+
+    /// How many bytes all regions have.
+    pub(crate) fn count(&self) -> usize
+        ensures value { result ≡ length self.now.bytes }
+        ensures frames { self.now.context_len + frame_len * frame_count ≤ result }
+    {
+        self.bytes.len()
     }
 
     /// The n bytes from an index on.
@@ -246,6 +263,7 @@ fn frame_index(frames: usize, address: u64, n: usize) -> Option<usize>
     ensures value { result ≡ (if is_from_frame frames address then None
         else index_in (frames_from 0 frame_count) address n) }
     ensures fits { IfSome result (λ at. at + n ≤ frame_len * frame_count) }
+    ensures near { IfSome result (λ at. address < frame_base frame_count) }
 {
     let frame = (address - FRAME_BASE) / FRAME_STRIDE;
     if frame >= frames as u64 {
@@ -254,6 +272,25 @@ fn frame_index(frames: usize, address: u64, n: usize) -> Option<usize>
     match region_index(0, FRAME_LEN, (address - FRAME_BASE) % FRAME_STRIDE, n) {
         Some(at) => Some(FRAME_LEN * frame as usize + at),
         None => None,
+    }
+}
+
+/// Where the run of n bytes at this address begins, if that is in the context or in a frame below
+/// frame `frames`.
+#[inline(always)]
+pub(crate) fn near_index(context_len: usize, frames: usize, address: u64, n: usize) -> Option<usize>
+    requires only { 1 ≤ n }
+    requires within { frames ≤ frame_count }
+    requires short { context_len ≤ context_limit }
+    ensures value { IfSome result (λ at. (maps : List MapShape) (bytes : List ℕ) →
+        let m : Image = record { context_len = context_len; maps = maps; bytes = bytes } in
+        (if is_from_frame frames address then None else index_of m address n) ≡ Some at) }
+    ensures fits { IfSome result (λ at. at + n ≤ context_len + frame_len * frame_count) }
+{
+    if address < FRAME_BASE {
+        region_index(CONTEXT_BASE, context_len, address, n)
+    } else {
+        behind(context_len, frame_index(frames, address, n))
     }
 }
 

@@ -5,6 +5,7 @@ ghost use Rattle.bpf_machine.specs.Opening.{Opened, Refused};
 use super::Cpu;
 use crate::code::codes_of;
 use crate::fault::OpenFault;
+use crate::flat::flats_of;
 use crate::memory::Memory;
 use crate::platform::{CONTEXT_BASE, frame_pointer};
 use arrayvec::ArrayVec;
@@ -30,9 +31,14 @@ impl Cpu {
             Ok(code) => code,
             Err(_) => return Err(OpenFault::OutOfMemory),
         };
+        let flats = match flats_of(alloc, code.as_slice()) {
+            Ok(flats) => flats,
+            Err(_) => return Err(OpenFault::OutOfMemory),
+        };
         Ok(Cpu {
             program,
             code,
+            flats,
             pc: 0,
             registers: [
                 0,

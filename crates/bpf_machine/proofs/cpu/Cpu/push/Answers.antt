@@ -9,6 +9,7 @@ pub invariant_of-self : goal.invariant_of-self
 invariant_of-self c = record {
   start = c.self.invariant.start;
   coded = c.self.invariant.coded;
+  flat = c.self.invariant.flat;
   pointer = search rules;
   shallow =
       let room : length c.self.inside.frames.items + 1 < frame_count = subst (λ (x : State). depth x + 1 < frame_count) (sym c.self.view_is) c.requires.room in
