@@ -1,7 +1,8 @@
 -- A move changes no place but those that it writes.
 use Rattle.std.proofs.Common.{◌≡◌, ◌≢◌, ◌≤◌, ◌<◌, ◌⊎◌, ℕ, ◌+◌, ◌-◌, List, [], ◌∷◌, ◌++◌, length, length-append, Bool, true, false, Option, Some, None, refl, sym, ap, subst, ◌∙◌, inl, inr, arith, get_or-set_other}
-use Rattle.std.specs.Prelude.{IsSome, ◌==◌, ◌&&◌, nat_lt, unwrap_or, option_map, slice_get, slice_index, slice_set, if◌then◌else◌}
+use Rattle.std.specs.Prelude.{IsSome, ◌==◌, ◌&&◌, ◌||◌, nat_lt, nat_le, unwrap_or, option_map, slice_get, slice_index, slice_set, if◌then◌else◌}
 use Rattle.std.specs.Option.{option_map_or}
+use Rattle.std.specs.List.{list_any}
 use Rattle.std.proofs.lemmas.Bool.{cases_lt}
 use Rattle.std.proofs.lemmas.Bool.Decides.{nat_tests}
 use Rattle.std.proofs.lemmas.Grind.{elements}
@@ -37,8 +38,37 @@ use Rattle.bpf_machine.proofs.StepLaws.{law_bytes, law_rest, low_kept, keeps_cel
 use Rattle.bpf_machine.proofs.Undoing.{saved_now, frame_is, innermost_there, push_pop}
 use Rattle.bpf_origin.specs.declared.place.Place.{Place}
 use Rattle.bpf_origin.specs.declared.place.Place.TheVariants.{Register, Word, Byte}
-use Rattle.bpf_origin.specs.Places.{register_place, own_register, value, IsPlace, same}
-use Rattle.bpf_origin.specs.Writes.{in_run, writes, inherited, came_from}
+use Rattle.bpf_origin.specs.Places.{depth_for, own_register, value, IsPlace, same, has}
+use Rattle.bpf_origin.specs.declared.place.Part.{Part}
+use Rattle.bpf_origin.specs.Writes.{register_written, bytes_written, word_written, writes, inherited, came_from}
+
+-- A place that none of the written parts has is none of each.
+abbrev in_run : ℕ → Run → Bool
+in_run a run = nat_le run.address a && nat_lt a (run.address + length run.bytes)
+
+abbrev wrote_register : ℕ → Option (ℕ × ℕ) → ℕ → ℕ → Bool
+wrote_register d kept e r = option_map_or (λ (w : ℕ × ℕ). same (Register (depth_for d w.0) w.0) (Register e r)) kept false
+
+first_false : (b c : Bool) → (b || c) ≡ false → b ≡ false
+first_false false c e = refl
+first_false true c e = e
+
+register_left : (d : ℕ) (kept : Option (ℕ × ℕ)) (rest : List Part) (e r : ℕ) → list_any (λ q. has q (Register e r)) (register_written d kept ++ rest) ≡ false → wrote_register d kept e r ≡ false
+register_left d None rest e r other = refl
+register_left d (Some w) rest e r other = first_false _ _ other
+
+bytes_left : (d n : ℕ) (kept : Option (ℕ × ℕ)) (run : Option Run) (traces : Bool) (a : ℕ) → list_any (λ q. has q (Byte a)) (register_written d kept ++ (bytes_written run ++ word_written n traces)) ≡ false → option_map_or (in_run a) run false ≡ false
+bytes_left d n None None traces a other = refl
+bytes_left d n None (Some run) traces a other = first_false _ _ other
+bytes_left d n (Some w) None traces a other = refl
+bytes_left d n (Some w) (Some run) traces a other = first_false _ _ other
+
+word_left : (d n : ℕ) (kept : Option (ℕ × ℕ)) (run : Option Run) (traces : Bool) (i : ℕ) → list_any (λ q. has q (Word i)) (register_written d kept ++ (bytes_written run ++ word_written n traces)) ≡ false → (traces && (n - 1 == i)) ≡ false
+word_left d n kept run false i other = refl
+word_left d n None None true i other = first_false _ _ other
+word_left d n None (Some run) true i other = first_false _ _ other
+word_left d n (Some w) None true i other = first_false _ _ other
+word_left d n (Some w) (Some run) true i other = first_false _ _ other
 
 -- A register's value among the registers and the frames.
 abbrev among : List ℕ → List Frame → ℕ → ℕ → ℕ
@@ -61,7 +91,7 @@ own_kept fs rs qs d r low = elim ((slice_get_cases fs d).1) [
 ]
 
 -- One register gets a number: each other place among the registers is left.
-set_kept : (rs : List ℕ) (fs : List Frame) (s v d r : ℕ) → d ≤ (if nat_lt r 6 then 0 else length fs) → same (register_place (length fs) s) (Register d r) ≡ false → among (slice_set rs s v) fs d r ≡ among rs fs d r
+set_kept : (rs : List ℕ) (fs : List Frame) (s v d r : ℕ) → d ≤ (if nat_lt r 6 then 0 else length fs) → same (Register (depth_for (length fs) s) s) (Register d r) ≡ false → among (slice_set rs s v) fs d r ≡ among rs fs d r
 set_kept rs fs s v d r within other = by_number (s == r) refl
   where
     shared : (low : Bool) → nat_lt r 6 ≡ low → s ≡ r → among (slice_set rs s v) fs d r ≡ among rs fs d r
@@ -86,7 +116,7 @@ byte_kept m k None a keeps e = ap (λ (i : Image). byte_at i a) keeps
 byte_kept m k (Some run) a keeps e = keeps a (outside a run e)
 
 -- Words.
-word_kept : (xs ys : List ℕ) (w i : ℕ) (traces : Bool) → ys ≡ (if traces then xs ++ w ∷ [] else xs) → (traces && (i + 1 == length ys)) ≡ false → slice_index ys i ≡ slice_index xs i
+word_kept : (xs ys : List ℕ) (w i : ℕ) (traces : Bool) → ys ≡ (if traces then xs ++ w ∷ [] else xs) → (traces && (length ys - 1 == i)) ≡ false → slice_index ys i ≡ slice_index xs i
 word_kept xs ys w i false e other = ap (λ zs. slice_index zs i) e
 word_kept xs ys w i true e other =
     let count : length ys ≡ length xs + 1 = ap length e ∙ length-append xs (w ∷ []) in
@@ -198,7 +228,7 @@ return_kept x f e r is four whole low within = split (nat_lt r 6) refl
         ]
         ∙ sym (ap (λ (b : Bool). if b then slice_index x.registers r else own_register (slice_get x.frames e) x.registers r) g)
 
-step_kept : (x : State) (c : Change) → IsState x → Fits x c → (d r : ℕ) → IsPlace (changed x c) (Register d r) → writes (changed x c) (entry_of x c) (Register d r) ≡ false → value (changed x c) (Register d r) ≡ value x (came_from (changed x c) (entry_of x c) (Register d r))
+step_kept : (x : State) (c : Change) → IsState x → Fits x c → (d r : ℕ) → IsPlace (changed x c) (Register d r) → wrote_register (depth (changed x c)) (past (depth (changed x c)) (entry_of x c)).register d r ≡ false → value (changed x c) (Register d r) ≡ value x (came_from (changed x c) (entry_of x c) (Register d r))
 unfolding changed entry_of
 step_kept x (Set s v after) is fits d r there other = set_kept x.registers x.frames s v d r there.1 other
 step_kept x (Go after) is fits d r there other = refl
@@ -218,9 +248,11 @@ step_kept x (Stop status) is fits d r there other = refl
 
 -- A step.
 step_places : (x : State) → IsState x → has_ended x.status ≡ false → (p : Place) → IsPlace (next x) p → writes (next x) (step_entry x) p ≡ false → value (next x) p ≡ value x (came_from (next x) (step_entry x) p)
-step_places x is running (Register d r) there other = step_kept x (change x) is (change_fits x is) d r there other
+step_places x is running (Register d r) there other =
+    step_kept x (change x) is (change_fits x is) d r there (register_left (depth (next x)) (past (depth (next x)) (step_entry x)).register _ d r other)
 step_places x is running (Word i) there other =
-    word_kept x.trace (next x).trace (register x 1) i (past (depth (next x)) (step_entry x)).traces (law_rest x is running).2 other
+    word_kept x.trace (next x).trace (register x 1) i (past (depth (next x)) (step_entry x)).traces (law_rest x is running).2
+    (word_left (depth (next x)) (length (next x).trace) (past (depth (next x)) (step_entry x)).register (past (depth (next x)) (step_entry x)).run (past (depth (next x)) (step_entry x)).traces i other)
     ∙ sym (stays (past (depth (next x)) (step_entry x)).frames (depth (next x)))
   where
     stays : (f : Frames) (d : ℕ) → value x (inherited f d (Word i)) ≡ value x (Word i)
@@ -228,7 +260,8 @@ step_places x is running (Word i) there other =
     stays Fewer d = refl
     stays (More saved) d = refl
 step_places x is running (Byte a) there other =
-    ap (λ o. unwrap_or o 0) (byte_kept x.memory (next x).memory (replaced (depth (next x)) (step_entry x)) a (law_bytes x is running) other)
+    ap (λ o. unwrap_or o 0) (byte_kept x.memory (next x).memory (replaced (depth (next x)) (step_entry x)) a (law_bytes x is running)
+    (bytes_left (depth (next x)) (length (next x).trace) (past (depth (next x)) (step_entry x)).register (past (depth (next x)) (step_entry x)).run (past (depth (next x)) (step_entry x)).traces a other))
     ∙ sym (stays (past (depth (next x)) (step_entry x)).frames (depth (next x)))
   where
     stays : (f : Frames) (d : ℕ) → value x (inherited f d (Byte a)) ≡ value x (Byte a)
@@ -254,17 +287,17 @@ bytes_edited x a bytes b is some other =
 
 edit_places : (x : State) (e : Edit) → IsState x → IsEditable x e → (p : Place) → IsPlace (edited x e) p → writes (edited x e) (edit_entry x e) p ≡ false → value (edited x e) p ≡ value x p
 unfolding edited edit_entry
-edit_places x (edit.Register s v) is able (Register d r) there other = set_kept x.registers x.frames s v d r there.1 other
+edit_places x (edit.Register s v) is able (Register d r) there other = set_kept x.registers x.frames s v d r there.1 (first_false _ _ other)
 edit_places x (edit.Register s v) is able (Word i) there other = refl
 edit_places x (edit.Register s v) is able (Byte a) there other = refl
 edit_places x (edit.Bytes a bytes) is able (Register d r) there other = refl
 edit_places x (edit.Bytes a bytes) is able (Word i) there other = refl
 edit_places x (edit.Bytes a bytes) is able (Byte b) there other =
-    ap (λ o. unwrap_or o 0) (bytes_edited x a bytes b is (able_bytes x a bytes able) other)
+    ap (λ o. unwrap_or o 0) (bytes_edited x a bytes b is (able_bytes x a bytes able) (first_false _ _ other))
 edit_places x (edit.Cell map index bytes) is able (Register d r) there other = refl
 edit_places x (edit.Cell map index bytes) is able (Word i) there other = refl
 edit_places x (edit.Cell map index bytes) is able (Byte b) there other =
-    ap (λ o. unwrap_or o 0) (bytes_edited x (cell_address map index (length bytes)) bytes b is (cell_present x map index (length bytes) is (able_cell x map index bytes able)) other)
+    ap (λ o. unwrap_or o 0) (bytes_edited x (cell_address map index (length bytes)) bytes b is (cell_present x map index (length bytes) is (able_cell x map index bytes able)) (first_false _ _ other))
 edit_places x (edit.Pc slot) is able (Register d r) there other = refl
 edit_places x (edit.Pc slot) is able (Word i) there other = refl
 edit_places x (edit.Pc slot) is able (Byte b) there other = refl

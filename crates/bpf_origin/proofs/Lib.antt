@@ -1,1 +1,4 @@
 pub mod Keeping
+pub mod Wanting
+pub mod Turning
+pub mod Going

@@ -1,24 +1,36 @@
 -- What a move writes: a place is written exactly where the move's entry keeps what it held before, whether the value changes or not.
-use Rattle.std.specs.Prelude.{ℕ, ◌+◌, ◌-◌, Bool, false, nat_lt, nat_le, ◌==◌, ◌&&◌, if◌then◌else◌, length}
-use Rattle.std.specs.Option.{option_map_or}
+use Rattle.std.specs.Prelude.{ℕ, ◌-◌, Bool, ◌==◌, if◌then◌else◌, List, [], ◌∷◌, ◌++◌, Option, Some, None, length}
+use Rattle.std.specs.List.{list_any}
 use Rattle.bpf_entries.specs.declared.entry.Entry.{Entry}
 use Rattle.bpf_entries.specs.Past.{Run, Frames, Fewer, past}
 use Rattle.bpf_machine.specs.State.{State, depth}
 use Rattle.bpf_origin.specs.declared.place.Place.{Place}
-use Rattle.bpf_origin.specs.declared.place.Place.TheVariants.{Register, Word, Byte}
-use Rattle.bpf_origin.specs.Places.{register_place, same}
+use Rattle.bpf_origin.specs.declared.place.Place.TheVariants.{Register}
+use Rattle.bpf_origin.specs.declared.place.Part.{Part}
+use Rattle.bpf_origin.specs.declared.place.Part.TheVariants as part
+use Rattle.bpf_origin.specs.Places.{depth_for, has}
 
--- Whether an address lies in a run of bytes.
-abbrev pub in_run : ℕ → Run → Bool
-in_run a run = nat_le run.address a && nat_lt a (run.address + length run.bytes)
+-- The register that an entry keeps, of the function that the move led to; the run of bytes; the newest word, if the trace was without it.
+abbrev pub register_written : ℕ → Option (ℕ × ℕ) → List Part
+register_written d None = []
+register_written d (Some w) = part.Register (depth_for d w.0) w.0 ∷ []
 
--- Whether the move with this entry, which led to y, wrote a place: the register that the entry keeps, a byte of the run that it keeps,
--- or the newest traced word, if the trace was without it.
+abbrev pub bytes_written : Option Run → List Part
+bytes_written None = []
+bytes_written (Some run) = part.Bytes run.address (length run.bytes) ∷ []
+
+abbrev pub word_written : ℕ → Bool → List Part
+word_written words traces = if traces then part.Word (words - 1) ∷ [] else []
+
+-- What the move with this entry wrote, which led to y.
+abbrev pub written : State → Entry → List Part
+written y e =
+    register_written (depth y) (past (depth y) e).register
+    ++ (bytes_written (past (depth y) e).run ++ word_written (length y.trace) (past (depth y) e).traces)
+
+-- Whether a place is among it.
 abbrev pub writes : State → Entry → Place → Bool
-writes y e (Register d r) =
-    option_map_or (λ (w : ℕ × ℕ). same (register_place (depth y) w.0) (Register d r)) (past (depth y) e).register false
-writes y e (Word i) = (past (depth y) e).traces && (i + 1 == length y.trace)
-writes y e (Byte a) = option_map_or (in_run a) (past (depth y) e).run false
+writes y e p = list_any (λ q. has q p) (written y e)
 
 -- Where the value of a place was before a move that left it, by what the move did to the frames and the depth after it: the function
 -- that a call begins finds the caller's r6 to r9 in its own.

@@ -1,7 +1,19 @@
-//! Where a value came from: the places that moves read and write.
+//! Where a value came from: the places that moves read and write, and the moves that a value
+//! depends on.
 #![tactic(auto)]
 
 pub mod laws;
+mod left;
+mod line;
+mod origin;
 mod place;
+mod question;
+mod reads;
+mod wanted;
+mod written;
 
-pub use place::Place;
+pub use origin::put_origin;
+pub use place::{Part, Place};
+pub use question::{Extent, Question, Told};
+pub use reads::{MOST_PARTS, Parts, asked, followed, register_part};
+pub use wanted::{MOST_PLACES, Wanted};

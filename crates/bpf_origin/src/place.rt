@@ -5,9 +5,38 @@
 pub enum Place {
     /// A register. r6 to r9 are those of the function at a depth of calls; r0 to r5 all functions
     /// share, and their depth is 0.
-    Register { depth: u8, number: u8 },
+    Register { depth: usize, number: u8 },
     /// A traced word, 0 the first.
-    Word { index: u16 },
+    Word { index: usize },
     /// The byte of memory at an address.
     Byte { address: u64 },
+}
+
+/// What one operand of an instruction reads or writes: a register, a traced word, or `len` bytes
+/// from an address on.
+#[derive(Clone, Copy)]
+pub enum Part {
+    Register { depth: usize, number: u8 },
+    Word { index: usize },
+    Bytes { address: u64, len: usize },
+}
+
+impl Default for Place {
+    /// r0, which fills the unused room of an array.
+    fn default() -> Place {
+        Place::Register {
+            depth: 0,
+            number: 0,
+        }
+    }
+}
+
+impl Default for Part {
+    /// r0, which fills the unused room of an array.
+    fn default() -> Part {
+        Part::Register {
+            depth: 0,
+            number: 0,
+        }
+    }
 }

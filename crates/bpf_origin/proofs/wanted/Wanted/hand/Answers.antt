@@ -1,0 +1,14 @@
+use Rattle.std.proofs.Common.{◌≡◌, not, ap, ◌∙◌, sym, rules, filter}
+use Rattle.arrayvec.proofs.ArrayVecLemmas.{filter-from_retain}
+use Rattle.bpf_origin.specs.declared.place.Place.TheVariants.{Register}
+use Rattle.bpf_origin.specs.Places.{same}
+use Rattle.bpf_origin.proofs.Wanting.{handed_told}
+use Rattle.bpf_origin.proofs.wanted.Wanted.hand.Goals as goal
+
+pub returns : goal.returns
+returns c =
+    let left = filter-from_retain _ _ _ (λ x b f' y called. search rules) _ _ c.retain.ensures.filtered
+    ∙ ap (filter (λ q. not (same (Register c.args.depth c.args.number) q))) c.self.view_is in
+    let fits = rw c.as_slice-places.ensures.value at c.as_slice-places.ensures.fits in
+    handed_told c.args.self.now _ _ c.args.depth c.args.number c.want-there.result (sym c.is_in.ensures ∙ c.if-not-is_in.false) left fits
+    (rw c.saturating_sub.ensures at c.want-there.ensures.ok) (rw c.saturating_sub.ensures at c.want-there.ensures.full)

@@ -1,0 +1,41 @@
+-- Where the values at some places came from: one pass over a history, the newest move first.
+use Rattle.std.specs.Prelude.{ℕ, ◌+◌, ◌-◌, nat_lt, ◌==◌, if◌then◌else◌, List, [], ◌∷◌, ◌++◌, length}
+use Rattle.bpf_machine.specs.Moves.{overwritten}
+use Rattle.bpf_machine.specs.State.{State}
+use Rattle.bpf_journal.specs.Histories.{Record}
+use Rattle.bpf_origin.specs.declared.place.Place.{Place}
+use Rattle.bpf_origin.specs.declared.question.Question.{Question}
+use Rattle.bpf_origin.specs.declared.question.Extent.{Extent}
+use Rattle.bpf_origin.specs.declared.question.Extent.TheVariants.{Whole, Lines, Places}
+use Rattle.bpf_origin.specs.Writes.{written}
+use Rattle.bpf_origin.specs.Reads.{followed}
+use Rattle.bpf_origin.specs.Wanted.{most_places, want_parts, are_hit, still_wanted}
+use Rattle.bpf_origin.specs.Texts.{line, left_text, lines_text, places_text}
+
+-- What is told, and how far it goes: to the end, or cut.
+pub record Answer : Type 0 where
+  pub text : List ℕ
+  pub extent : Extent
+
+abbrev pub with_line : List ℕ → Answer → Answer
+with_line text a = record a { text = text ++ a.text }
+
+-- The places that are wanted before a move that wrote some of them.
+abbrev pub wanted_before : Question → Record → State → List Place → List Place
+wanted_before q r y wanted =
+    want_parts (still_wanted y (overwritten r.before r.move) wanted) (followed q.addresses r.before r.move)
+
+abbrev pub line_of : Question → ℕ → Record → State → List ℕ
+line_of q k r y = line k r.before r.move y (written y (overwritten r.before r.move)) (followed q.addresses r.before r.move)
+
+-- After k moves, with room for n lines: a move that wrote a wanted place is told; that place is no longer wanted, and what the move
+-- read is. What is wanted at the end is left.
+unfoldable pub answer : Question → ℕ → ℕ → List Place → List Record → State → Answer
+answer q k n wanted [] y = record { text = left_text q.opening y wanted; extent = Whole }
+answer q k n wanted (r ∷ h) y =
+    if are_hit (written y (overwritten r.before r.move)) wanted then
+    (if n == 0 then record { text = lines_text; extent = Lines }
+    else with_line (line_of q (k + 1) r y)
+    (if nat_lt most_places (length (wanted_before q r y wanted)) then record { text = places_text; extent = Places }
+    else answer q (k + 1) (n - 1) (wanted_before q r y wanted) h r.before))
+    else answer q (k + 1) n (still_wanted y (overwritten r.before r.move) wanted) h r.before

@@ -1,0 +1,339 @@
+//! The text of an answer's lines.
+ghost use Rattle.std.specs.Prelude.{◌≡◌, ◌≤◌, ◌<◌, ◌++◌, flat_map, codes, if◌then◌else◌, nat_lt, length, slice_index};
+ghost use Rattle.counted_io.specs.Writing.{WritesAfter};
+ghost use Rattle.bpf_journal.specs.Histories.{is_step as is_step_of};
+ghost use Rattle.bpf_machine.specs.ByAddress.{byte};
+ghost use Rattle.bpfdb_replies.specs.Texts.{text_at};
+ghost use Rattle.bpf_machine.specs.declared.moves.Move.{Move};
+ghost use Rattle.bpf_origin.specs.Places.{value};
+ghost use Rattle.bpf_origin.specs.Texts as spec;
+
+use crate::place::{Part, Place};
+use bpf_machine::Cpu;
+use bpf_text::put_insn;
+use bpfdb_replies::number_in;
+use byteorder::{ByteOrder, LittleEndian};
+use counted_io::{Counted, WriteFault, put, put_decimal, put_hexadecimal};
+use std::io::Write;
+
+/// The value at a place.
+pub fn value_at(cpu: &Cpu, place: Place) -> u64
+    ensures { result ≡ value cpu.now place }
+{
+    match place {
+        Place::Register { depth, number } => register_at(cpu, depth, number),
+        Place::Word { index } => word_at(cpu.trace(), index),
+        Place::Byte { address } => u64::from(byte_at(cpu, address)),
+    }
+}
+
+/// A register of the function at a depth. A pushed frame keeps r6 to r9 of the one that called.
+fn register_at(cpu: &Cpu, depth: usize, number: u8) -> u64
+    ensures { result ≡ value cpu.now (Place.Register depth number) }
+{
+    if number < 6 || cpu.depth() <= depth {
+        return present_at(cpu, number);
+    }
+    match cpu.frame(cpu.depth() - 1 - depth) {
+        Some(frame) => word_at(&frame.saved, usize::from(number - 6)),
+        None => present_at(cpu, number),
+    }
+}
+
+/// One of the present r0 to r9; 0 for another number.
+fn present_at(cpu: &Cpu, number: u8) -> u64
+    ensures { result ≡ slice_index cpu.now.registers number }
+{
+    cpu.invariant();
+    if number < 10 {
+        number_in(cpu, number)
+    } else {
+        0
+    }
+}
+
+/// The word at an index, 0 past the end.
+fn word_at(words: &[u64], index: usize) -> u64
+    ensures { result ≡ slice_index words.now index }
+{
+    words.get(index).copied().unwrap_or(0)
+}
+
+/// The byte at an address, 0 where there is none.
+fn byte_at(cpu: &Cpu, address: u64) -> u8
+    ensures { result ≡ byte cpu.now address }
+{
+    match cpu.peek(address, 1) {
+        Some(run) => run[0],
+        None => 0,
+    }
+}
+
+/// Writes the name of a register.
+pub fn put_register_name<W: Write>(
+    writer: &mut Counted<W>,
+    so_far: Result<(), WriteFault>,
+    depth: usize,
+    number: u8,
+) -> Result<(), WriteFault>
+    ensures { WritesAfter W.contents writer.old so_far writer.new result
+        (spec.register_name depth number) }
+{
+    let begun = put(writer, so_far, b"r");
+    let named = put_decimal(writer, begun, u64::from(number));
+    put_depth(writer, named, depth)
+}
+
+/// Writes the depth of a register's function, unless it is 0.
+fn put_depth<W: Write>(
+    writer: &mut Counted<W>,
+    so_far: Result<(), WriteFault>,
+    depth: usize,
+) -> Result<(), WriteFault>
+    ensures { WritesAfter W.contents writer.old so_far writer.new result (spec.depth_text depth) }
+{
+    if depth == 0 {
+        return so_far;
+    }
+    let parted = put(writer, so_far, b" at depth ");
+    put_decimal(writer, parted, depth as u64)
+}
+
+/// Writes the name of a traced word.
+pub fn put_word_name<W: Write>(
+    writer: &mut Counted<W>,
+    so_far: Result<(), WriteFault>,
+    index: usize,
+) -> Result<(), WriteFault>
+    ensures { WritesAfter W.contents writer.old so_far writer.new result (spec.word_name index) }
+{
+    let begun = put(writer, so_far, b"word ");
+    put_decimal(writer, begun, index as u64)
+}
+
+/// Writes the name of a run of bytes.
+fn put_bytes_name<W: Write>(
+    writer: &mut Counted<W>,
+    so_far: Result<(), WriteFault>,
+    address: u64,
+    len: usize,
+) -> Result<(), WriteFault>
+    ensures { WritesAfter W.contents writer.old so_far writer.new result
+        (spec.bytes_name address len) }
+{
+    let begun = put_hexadecimal(writer, so_far, address);
+    let parted = put(writer, begun, b":");
+    put_decimal(writer, parted, len as u64)
+}
+
+/// Writes the name of a part.
+fn put_part_name<W: Write>(
+    writer: &mut Counted<W>,
+    so_far: Result<(), WriteFault>,
+    part: Part,
+) -> Result<(), WriteFault>
+    ensures { WritesAfter W.contents writer.old so_far writer.new result (spec.part_name part) }
+{
+    match part {
+        Part::Register { depth, number } => put_register_name(writer, so_far, depth, number),
+        Part::Word { index } => put_word_name(writer, so_far, index),
+        Part::Bytes { address, len } => put_bytes_name(writer, so_far, address, len),
+    }
+}
+
+/// Writes a value.
+pub fn put_value<W: Write>(
+    writer: &mut Counted<W>,
+    so_far: Result<(), WriteFault>,
+    value: u64,
+) -> Result<(), WriteFault>
+    ensures { WritesAfter W.contents writer.old so_far writer.new result (spec.value_text value) }
+{
+    let begun = put(writer, so_far, b" = ");
+    put_hexadecimal(writer, begun, value)
+}
+
+/// Writes the value of one to eight bytes that are present, and else nothing.
+fn put_bytes_value<W: Write>(
+    writer: &mut Counted<W>,
+    so_far: Result<(), WriteFault>,
+    cpu: &Cpu,
+    address: u64,
+    len: usize,
+) -> Result<(), WriteFault>
+    ensures { WritesAfter W.contents writer.old so_far writer.new result
+        (spec.bytes_value cpu.now address len) }
+{
+    if len == 0 || 8 < len {
+        return so_far;
+    }
+    match cpu.peek(address, len) {
+        Some(run) => put_value(writer, so_far, LittleEndian::read_uint(run, len)),
+        None => so_far,
+    }
+}
+
+/// Writes the value of a part in a machine.
+fn put_part_value<W: Write>(
+    writer: &mut Counted<W>,
+    so_far: Result<(), WriteFault>,
+    cpu: &Cpu,
+    part: Part,
+) -> Result<(), WriteFault>
+    ensures { WritesAfter W.contents writer.old so_far writer.new result
+        (spec.part_value cpu.now part) }
+{
+    match part {
+        Part::Register { depth, number } => {
+            put_value(writer, so_far, register_at(cpu, depth, number))
+        }
+        Part::Word { index } => put_value(writer, so_far, word_at(cpu.trace(), index)),
+        Part::Bytes { address, len } => put_bytes_value(writer, so_far, cpu, address, len),
+    }
+}
+
+/// Writes a part that a move wrote, with its value.
+fn put_written<W: Write>(
+    writer: &mut Counted<W>,
+    so_far: Result<(), WriteFault>,
+    cpu: &Cpu,
+    part: Part,
+) -> Result<(), WriteFault>
+    ensures { WritesAfter W.contents writer.old so_far writer.new result
+        (spec.written_text cpu.now part) }
+{
+    let named = put_part_name(writer, so_far, part);
+    let valued = put_part_value(writer, named, cpu, part);
+    put(writer, valued, b"; ")
+}
+
+/// Writes the parts that a move wrote.
+fn put_parts<W: Write>(
+    writer: &mut Counted<W>,
+    so_far: Result<(), WriteFault>,
+    cpu: &Cpu,
+    parts: &[Part],
+) -> Result<(), WriteFault>
+    ensures { WritesAfter W.contents writer.old so_far writer.new result
+        (flat_map (spec.written_text cpu.now) parts.now) }
+{
+    let mut told = so_far;
+    for part in parts {
+        told = put_written(writer, told, cpu, *part);
+    }
+    told
+}
+
+/// Writes the first half of a move's line, from the machine after it: how many moves it lies back
+/// and what it wrote.
+pub fn put_head<W: Write>(
+    writer: &mut Counted<W>,
+    so_far: Result<(), WriteFault>,
+    moves: u64,
+    cpu: &Cpu,
+    wrote: &[Part],
+) -> Result<(), WriteFault>
+    ensures { WritesAfter W.contents writer.old so_far writer.new result
+        (spec.head moves cpu.now wrote.now) }
+{
+    let begun = put(writer, so_far, b"-");
+    let counted = put_decimal(writer, begun, moves);
+    let parted = put(writer, counted, b" ");
+    put_parts(writer, parted, cpu, wrote)
+}
+
+/// Writes a part that a move read.
+fn put_read<W: Write>(
+    writer: &mut Counted<W>,
+    so_far: Result<(), WriteFault>,
+    part: Part,
+) -> Result<(), WriteFault>
+    ensures { WritesAfter W.contents writer.old so_far writer.new result (spec.read_text part) }
+{
+    let begun = put(writer, so_far, b" ");
+    put_part_name(writer, begun, part)
+}
+
+/// Writes the parts that a move read, of which there are some.
+fn put_some_reads<W: Write>(
+    writer: &mut Counted<W>,
+    so_far: Result<(), WriteFault>,
+    parts: &[Part],
+) -> Result<(), WriteFault>
+    ensures { WritesAfter W.contents writer.old so_far writer.new result
+        (flat_map spec.read_text parts.now) }
+{
+    let mut told = so_far;
+    for part in parts {
+        told = put_read(writer, told, *part);
+    }
+    told
+}
+
+/// Writes what a move read.
+fn put_reads<W: Write>(
+    writer: &mut Counted<W>,
+    so_far: Result<(), WriteFault>,
+    parts: &[Part],
+) -> Result<(), WriteFault>
+    ensures { WritesAfter W.contents writer.old so_far writer.new result
+        (spec.reads_text parts.now) }
+{
+    if parts.is_empty() {
+        return so_far;
+    }
+    let begun = put(writer, so_far, b"; from");
+    put_some_reads(writer, begun, parts)
+}
+
+/// Writes the slot and the instruction at pc.
+fn put_step<W: Write>(
+    writer: &mut Counted<W>,
+    so_far: Result<(), WriteFault>,
+    cpu: &Cpu,
+) -> Result<(), WriteFault>
+    ensures { WritesAfter W.contents writer.old so_far writer.new result
+        (text_at cpu.now.program cpu.now.pc) }
+{
+    let slot = usize::from(cpu.pc());
+    let numbered = put_decimal(writer, so_far, slot as u64);
+    let parted = put(writer, numbered, b": ");
+    match cpu.program().insn_at(slot) {
+        Some(insn) => put_insn(writer, parted, slot, insn),
+        None => parted,
+    }
+}
+
+/// Writes which move it was.
+fn put_move<W: Write>(
+    writer: &mut Counted<W>,
+    so_far: Result<(), WriteFault>,
+    cpu: &Cpu,
+    is_step: bool,
+) -> Result<(), WriteFault>
+    ensures { (m : Move) → is_step ≡ is_step_of m →
+        WritesAfter W.contents writer.old so_far writer.new result (spec.move_text cpu.now m) }
+{
+    if is_step {
+        put_step(writer, so_far, cpu)
+    } else {
+        put(writer, so_far, b"edit")
+    }
+}
+
+/// Writes the second half of a move's line, from the machine before it: which move it was, and what
+/// it read.
+pub fn put_tail<W: Write>(
+    writer: &mut Counted<W>,
+    so_far: Result<(), WriteFault>,
+    cpu: &Cpu,
+    is_step: bool,
+    read: &[Part],
+) -> Result<(), WriteFault>
+    ensures { (m : Move) → is_step ≡ is_step_of m →
+        WritesAfter W.contents writer.old so_far writer.new result (spec.tail cpu.now m read.now) }
+{
+    let named = put_move(writer, so_far, cpu, is_step);
+    let told = put_reads(writer, named, read);
+    put(writer, told, b"\n")
+}

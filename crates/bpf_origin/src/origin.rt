@@ -1,0 +1,227 @@
+//! Where values came from: one pass over a history, each move taken back once.
+ghost use Rattle.std.specs.Prelude.{◌≡◌, ◌<◌, ◌∷◌, ◌+◌, ◌^◌, ℕ, List, Some, None, IfSome, true, false, if◌then◌else◌};
+ghost use Rattle.bpf_entries.specs.Past.{Fewer, past};
+ghost use Rattle.bpf_entries.specs.Status.{has_ended};
+ghost use Rattle.counted_io.specs.Writing.{WritesAfter};
+ghost use Rattle.bpf_journal.specs.Histories.{Record, StandsFor, is_step};
+ghost use Rattle.bpf_journal.specs.Timelines.{GoesBack};
+ghost use Rattle.bpf_machine.specs.declared.moves.Move.{Move};
+ghost use Rattle.bpf_origin.specs.declared.place.Place.{Place};
+ghost use Rattle.bpf_origin.specs.Answers.{answer};
+ghost use Rattle.bpf_origin.specs.Reads as reads;
+ghost use Rattle.bpf_origin.specs.Turns.{TakesTurn, TellsRest, WentBack};
+ghost use Rattle.bpf_origin.specs.Wanted as spec;
+ghost use Rattle.bpf_origin.specs.Writes as writes;
+
+use crate::left::put_left;
+use crate::line::{put_head, put_tail};
+use crate::place::Part;
+use crate::question::{Extent, Question, Told};
+use crate::reads::{Parts, followed};
+use crate::wanted::Wanted;
+use crate::written::written;
+use bpf_journal::{Keeper, Taken, Timeline};
+use bpf_machine::{Cpu, Entry};
+use counted_io::{Counted, WriteFault, put};
+use std::io::Write;
+
+/// What became of one move of the pass.
+#[derive(Drop)]
+pub struct Turn {
+    /// Whether what was told could be written.
+    pub written: Result<(), WriteFault>,
+    /// How many more lines there may be.
+    pub lines: u64,
+    /// Where the answer is cut.
+    pub cut: Option<Extent>,
+}
+
+/// Writes where the values at the wanted places came from: a line a move that wrote one of them,
+/// the newest first, and then a line a place that is left. Each move is taken back, so the timeline
+/// ends at the oldest state that is kept, or where the answer is cut.
+pub fn put_origin<K: Keeper, W: Write>(
+    timeline: &mut Timeline<K>,
+    wanted: &mut Wanted,
+    question: Question,
+    writer: &mut Counted<W>,
+    so_far: Result<(), WriteFault>,
+) -> Told
+    ensures text { (h : List Record) →
+        StandsFor K.holds timeline.old.keeper timeline.old.state h →
+        WritesAfter W.contents writer.old so_far writer.new result.written
+        (answer question 0 question.lines wanted.old h timeline.old.state).text }
+    ensures extent { (h : List Record) →
+        StandsFor K.holds timeline.old.keeper timeline.old.state h →
+        result.extent ≡ (answer question 0 question.lines wanted.old h timeline.old.state).extent }
+{
+    let mut told = so_far;
+    let mut lines = question.lines;
+    for k in 0..timeline.len() {
+        let turn = take_turn(timeline, wanted, question, k as u64, lines, writer, told);
+        match turn.cut {
+            Some(extent) => {
+                return Told {
+                    written: turn.written,
+                    extent,
+                };
+            }
+            None => {
+                told = turn.written;
+                lines = turn.lines;
+            }
+        }
+    }
+    let last = put_left(
+        writer,
+        told,
+        question.opening,
+        timeline.cpu(),
+        wanted.as_slice(),
+    );
+    Told {
+        written: last,
+        extent: Extent::Whole,
+    }
+}
+
+/// Takes the newest move back, after `moves` that were taken back before, and tells it where it
+/// wrote a wanted place.
+fn take_turn<K: Keeper, W: Write>(
+    timeline: &mut Timeline<K>,
+    wanted: &mut Wanted,
+    question: Question,
+    moves: u64,
+    lines: u64,
+    writer: &mut Counted<W>,
+    so_far: Result<(), WriteFault>,
+) -> Turn
+    requires { moves + 1 < 2 ^ 64 }
+    ensures { (r : Record) (h : List Record) →
+        StandsFor K.holds timeline.old.keeper timeline.old.state (r ∷ h) →
+        TakesTurn K.holds W.contents question moves lines wanted.old wanted.new r h
+        timeline.old.state timeline.new writer.old so_far writer.new result }
+{
+    let Some((entry, _)) = timeline.last() else {
+        return go_on(so_far, lines);
+    };
+    let wrote = written(timeline.cpu(), &entry);
+    if !wanted.are_hit(wrote.as_slice()) {
+        pass(wanted, timeline.cpu(), &entry, wrote.as_slice());
+        let _taken = take_back(timeline);
+        return go_on(so_far, lines);
+    }
+    if lines == 0 {
+        let last = put(writer, so_far, b"cut: there are more lines\n");
+        return cut(last, Extent::Lines);
+    }
+    let headed = put_head(writer, so_far, moves + 1, timeline.cpu(), wrote.as_slice());
+    pass(wanted, timeline.cpu(), &entry, wrote.as_slice());
+    tell_rest(timeline, wanted, question, lines - 1, writer, headed)
+}
+
+/// Takes the newest move back, tells which it was and what it read, and wants that.
+fn tell_rest<K: Keeper, W: Write>(
+    timeline: &mut Timeline<K>,
+    wanted: &mut Wanted,
+    question: Question,
+    lines: u64,
+    writer: &mut Counted<W>,
+    so_far: Result<(), WriteFault>,
+) -> Turn
+    ensures back { (r : Record) (h : List Record) →
+        StandsFor K.holds timeline.old.keeper timeline.old.state (r ∷ h) →
+        WentBack K.holds W.contents r h timeline.new }
+    ensures tells { (r : Record) (h : List Record) →
+        StandsFor K.holds timeline.old.keeper timeline.old.state (r ∷ h) →
+        TellsRest K.holds W.contents question r wanted.old wanted.new
+        writer.old so_far writer.new result }
+    ensures lines { result.cut ≡ None → result.lines ≡ lines }
+{
+    let Some(taken) = take_back(timeline) else {
+        return go_on(so_far, lines);
+    };
+    let read = read_by(timeline.cpu(), taken.is_step, question.addresses);
+    let told = put_tail(
+        writer,
+        so_far,
+        timeline.cpu(),
+        taken.is_step,
+        read.as_slice(),
+    );
+    if !wanted.want_parts(read.as_slice()) {
+        let last = put(writer, told, b"cut: more than 4096 places are wanted\n");
+        return cut(last, Extent::Places);
+    }
+    let _places = wanted.as_slice();
+    go_on(told, lines)
+}
+
+/// The pass goes on, with room for so many lines.
+fn go_on(written: Result<(), WriteFault>, lines: u64) -> Turn
+    ensures { result ≡ record { written = written; lines = lines; cut = None } }
+{
+    Turn {
+        written,
+        lines,
+        cut: None,
+    }
+}
+
+/// The answer is cut.
+fn cut(written: Result<(), WriteFault>, extent: Extent) -> Turn
+    ensures { result ≡ record { written = written; lines = 0; cut = Some extent } }
+{
+    Turn {
+        written,
+        lines: 0,
+        cut: Some(extent),
+    }
+}
+
+/// What is wanted before a move that led to a machine's state, without what it reads.
+fn pass(wanted: &mut Wanted, cpu: &Cpu, entry: &Entry, wrote: &[Part])
+    requires { wrote.now ≡ writes.written cpu.now entry.now }
+    ensures { wanted.new ≡ spec.still_wanted cpu.now entry.now wanted.old }
+{
+    wanted.spare(wrote);
+    if is_call(entry) {
+        wanted.carry(cpu.depth());
+    }
+}
+
+/// Whether an entry is a local call's.
+fn is_call(entry: &Entry) -> bool
+    ensures { (deep d : ℕ) (places : List Place) →
+        (if result then spec.carried Fewer d places else places)
+        ≡ spec.carried (past deep entry.now).frames d places }
+{
+    match entry {
+        Entry::Call { .. } => true,
+        _ => false,
+    }
+}
+
+/// Takes the newest move back. The machine runs before a step.
+fn take_back<K: Keeper>(timeline: &mut Timeline<K>) -> Option<Taken>
+    ensures back { (h : List Record) →
+        StandsFor K.holds timeline.old.keeper timeline.old.state h →
+        GoesBack K.holds result h timeline.old timeline.new }
+    ensures runs { IfSome result (λ taken. taken.is_step ≡ true →
+        has_ended timeline.new.state.status ≡ false) }
+{
+    timeline.invariant();
+    timeline.back()
+}
+
+/// What a move read that was taken back: a step in the state before it, or an edit nothing.
+fn read_by(cpu: &Cpu, is_a_step: bool, addresses: bool) -> Parts
+    requires { is_a_step ≡ true → has_ended cpu.now.status ≡ false }
+    ensures { (m : Move) → is_a_step ≡ is_step m →
+        result.items ≡ reads.followed addresses cpu.now m }
+{
+    if is_a_step {
+        followed(cpu, addresses)
+    } else {
+        Parts::new()
+    }
+}
