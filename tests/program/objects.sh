@@ -1,6 +1,6 @@
 # link: objects that clang made, the words that come of them, and what is refused. The objects stand in crates/bpf_link_tests.
 
-for name in calls maps arrays text two extern data point; do
+for name in calls maps arrays text two extern data point programs; do
     object $name
 done
 
@@ -67,6 +67,7 @@ refused 'cannot read /dev/zero' link /dev/zero
 refused 'refused E8: no such code section' link --section frob calls.o
 refused 'refused E8: no such code section' link --section text calls.o
 refused 'refused E9: more than one code section' link two.o
+refused 'refused E30: more than one program in the code section' link programs.o
 refused 'refused E19 at slot 1: symbol is not defined in the object' link extern.o
 long_name=$(printf '%0255d' 0)
 refused 'refused E8: no such code section' link --section "$long_name" calls.o
@@ -308,6 +309,16 @@ C
     "$program" link constants.o > constants 2> told
     printf 'abc' > context
     result '0x64\n' run $(cat told) -m context constants
+    # A static function of the section before the entry is none; the entry is reached by a jump, or from the setup.
+    for first in 'static __attribute__((noinline, used, section("prog"))) long twice(long n) { return 2 * n; }' \
+        'static volatile long two = 2; static __attribute__((noinline, used, section("prog"))) long twice(long n) { return two * n; }'; do
+        printf '%s\n' "$first" '__attribute__((section("prog"))) long entry(void *at, unsigned long size) { return twice(size) + 1; }' > second.c
+        for level in 0 1 2; do
+            clang -O$level -target bpf -c -o second.o second.c
+            "$program" link second.o > second 2> told
+            result '0x7\n' run $(cat told) -m context second
+        done
+    done
     # An address of a function is none of data, in code and in data.
     printf '%s\n' 'static __attribute__((noinline)) long f(long n) { return n + 1; }' \
         '__attribute__((section("prog"))) long entry(void *at, unsigned long size) { long (*volatile call)(long) = f; return call(size); }' > address.c

@@ -1,5 +1,5 @@
 -- How the words of a program are laid out.
-use Rattle.std.proofs.Common.{◌≡◌, ◌<◌, ◌+◌, ◌*◌, nat_le, ℕ, List, Ok, length, get_or, ap, sym, ◌∙◌, subst, arith}
+use Rattle.std.proofs.Common.{◌≡◌, ◌<◌, ◌+◌, ◌*◌, nat_le, ℕ, List, Result, Ok, length, get_or, ap, sym, ◌∙◌, subst, arith}
 use Rattle.std.specs.Prelude.{is_some, if◌then◌else◌}
 use Rattle.bpf_link.specs.declared.plan.Plan.{Plan}
 use Rattle.bpf_isa.specs.Checker.{most_slots}
@@ -7,8 +7,12 @@ use Rattle.bpf_link.specs.declared.fault.LinkFault.TheVariants.{TooLong}
 use Rattle.bpf_link.specs.Header.{provided}
 use Rattle.bpf_link.specs.Plans.{after, LiesPlan}
 use Rattle.bpf_link.specs.Data.{data_of}
+use Rattle.bpf_link.specs.Entries.{entry_of}
 use Rattle.bpf_link.specs.Setup.{stores_of, with_setup}
-use Rattle.bpf_link.specs.Links.{patch_width, maps_of, words_of, program_words}
+use Rattle.bpf_link.specs.Stubs.{answered, answers}
+use Rattle.bpf_link.specs.declared.stubs.Stub.{Stub}
+use Rattle.bpf_link.specs.declared.fault.LinkFault.{LinkFault}
+use Rattle.bpf_link.specs.Links.{patch_width, maps_of, Answered, words_of, program_words}
 use Rattle.bpf_link.specs.Laid.{IsDone, IsLaid, IsLaidOut}
 use Rattle.bpf_link.proofs.Inversions.{after_ok, ok_same, provided_ok, names_slot}
 use Rattle.bpf_link.proofs.LaidOut.{Apart, Done, raw, raw_length, raw_code, raw_text, done, both_kept, byte_kept, plain_apart, behind, text_behind}
@@ -72,13 +76,16 @@ laid object plan maps taken words lies numbered referred e =
       text_done = λ i inside. all_done object plan maps taken plan.text d.between words plan.text.relocations.count i d.text (fresh_text object plan maps taken words lies d) inside;
     }
 
-pub laid_out : (object : List ℕ) (plan : Plan) (maps taken words : List ℕ) → LiesPlan object plan → maps_of object plan ≡ Ok maps → data_of object plan ≡ Ok taken
-    → program_words object plan maps taken ≡ Ok words → IsLaidOut object plan words
-laid_out object plan maps taken words lies numbered referred e =
-    let a = after_ok (words_of object plan maps taken)
-    (λ code. after (stores_of object plan maps taken) (λ stores. provided (nat_le (length code + length stores) (8 * most_slots)) TooLong (Ok (with_setup code stores)))) words e in
-    let b = after_ok (stores_of object plan maps taken) (λ stores. provided (nat_le (length a.0 + length stores) (8 * most_slots)) TooLong (Ok (with_setup a.0 stores))) words a.2 in
-    let c = provided_ok (nat_le (length a.0 + length b.0) (8 * most_slots)) TooLong (Ok (with_setup a.0 b.0)) words b.2 in
+abbrev finished : ℕ → List Stub → List ℕ → List ℕ → Result Answered LinkFault
+finished entry stubs code stores =
+    provided (nat_le (length code + length stores) (8 * most_slots)) TooLong (Ok (record { words = with_setup (answered stubs code) stores entry; count = answers stubs code }))
+
+pub laid_out : (object : List ℕ) (plan : Plan) (maps taken entry : List ℕ) (slot : ℕ) (stubs : List Stub) (made : Answered) → LiesPlan object plan → maps_of object plan ≡ Ok maps
+    → data_of object plan ≡ Ok taken → entry_of object plan entry ≡ Ok slot → program_words object plan maps taken slot stubs ≡ Ok made → IsLaidOut object plan entry stubs made.words
+laid_out object plan maps taken entry slot stubs made lies numbered referred begins e =
+    let a = after_ok (words_of object plan maps taken) (λ code. after (stores_of object plan maps taken) (λ stores. finished slot stubs code stores)) made e in
+    let b = after_ok (stores_of object plan maps taken) (λ stores. finished slot stubs a.0 stores) made a.2 in
+    let c = provided_ok (nat_le (length a.0 + length b.0) (8 * most_slots)) TooLong (Ok (record { words = with_setup (answered stubs a.0) b.0 slot; count = answers stubs a.0 })) made b.2 in
     record {
       maps = maps;
       taken = taken;
@@ -88,5 +95,7 @@ laid_out object plan maps taken words lies numbered referred e =
       laid = laid object plan maps taken a.0 lies numbered referred a.1;
       stores = b.0;
       stored = b.1;
-      whole = sym (ok_same (with_setup a.0 b.0) words c.1);
+      slot = slot;
+      begins = begins;
+      whole = sym (ap (λ done. done.words) (ok_same (record { words = with_setup (answered stubs a.0) b.0 slot; count = answers stubs a.0 }) made c.1));
     }

@@ -2,7 +2,7 @@
 use Rattle.std.specs.Prelude.{ℕ, List, codes}
 use Rattle.bpf_isa.specs.Faults.{load_fault}
 use Rattle.bpf_link.specs.declared.fault.LinkFault.{LinkFault}
-use Rattle.bpf_link.specs.declared.fault.LinkFault.TheVariants.{NotElf, Class, Order, Kind, Machine, SectionTable, LongName, NoSection, ManySections, Section, TooLong, RunsOff, SymbolTable, ManyMapSections, TooManyMaps, RelocationTable, Place, Symbol, Extern, RelocationKind, CallTarget, NoCall, Data, NoLoad, Program, Memory, LongData, DataSection, Pointer}
+use Rattle.bpf_link.specs.declared.fault.LinkFault.TheVariants.{NotElf, Class, Order, Kind, Machine, SectionTable, LongName, NoSection, ManySections, Section, TooLong, RunsOff, SymbolTable, ManyMapSections, TooManyMaps, RelocationTable, Place, Symbol, Extern, RelocationKind, CallTarget, NoCall, Data, NoLoad, Program, Memory, LongData, DataSection, Pointer, ManyPrograms, NoEntry}
 
 abbrev pub link_fault_number : LinkFault → ℕ
 link_fault_number NotElf = 1
@@ -34,6 +34,8 @@ link_fault_number Memory = 26
 link_fault_number LongData = 27
 link_fault_number DataSection = 28
 link_fault_number Pointer = 29
+link_fault_number ManyPrograms = 30
+link_fault_number NoEntry = 31
 
 abbrev pub link_fault_text : LinkFault → List ℕ
 link_fault_text NotElf = codes "no ELF file"
@@ -65,3 +67,5 @@ link_fault_text Memory = codes "out of memory"
 link_fault_text LongData = codes "data longer than 65536 bytes"
 link_fault_text DataSection = codes "malformed data section"
 link_fault_text Pointer = codes "address in data of what is no data"
+link_fault_text ManyPrograms = codes "more than one program in the code section"
+link_fault_text NoEntry = codes "no such function in the code section"

@@ -7,7 +7,10 @@ use Rattle.bpf_link.specs.declared.patch.Patch.{Patch}
 use Rattle.bpf_link.specs.Plans.{relocation_at}
 use Rattle.bpf_link.specs.Patches.{patch_of}
 use Rattle.bpf_link.specs.Data.{data_of}
+use Rattle.bpf_link.specs.Entries.{entry_of}
 use Rattle.bpf_link.specs.Setup.{stores_of, with_setup}
+use Rattle.bpf_link.specs.Stubs.{answered}
+use Rattle.bpf_link.specs.declared.stubs.Stub.{Stub}
 use Rattle.bpf_link.specs.Links.{maps_of}
 
 -- No relocation of a part changes a slot of it: none names it, and none of a wide load the slot before it.
@@ -47,8 +50,8 @@ pub record IsLaid (object : List ℕ) (plan : Plan) (words : List ℕ) : Type 0 
   pub code_done : (i : ℕ) → i < plan.code.relocations.count → IsDone object plan maps taken plan.code words i
   pub text_done : (i : ℕ) → i < plan.text.relocations.count → IsDone object plan maps taken plan.text words i
 
--- A program is that, and the setup with it where its data aren't zeros at the start.
-pub record IsLaidOut (object : List ℕ) (plan : Plan) (words : List ℕ) : Type 0 where
+-- A program is that with calls answered; with the setup where its data aren't zeros at the start, and else, where it doesn't begin with the entry, with a jump there.
+pub record IsLaidOut (object : List ℕ) (plan : Plan) (entry : List ℕ) (stubs : List Stub) (words : List ℕ) : Type 0 where
   pub maps : List ℕ
   pub taken : List ℕ
   pub numbered : maps_of object plan ≡ Ok maps
@@ -57,4 +60,6 @@ pub record IsLaidOut (object : List ℕ) (plan : Plan) (words : List ℕ) : Type
   pub laid : IsLaid object plan code
   pub stores : List ℕ
   pub stored : stores_of object plan maps taken ≡ Ok stores
-  pub whole : words ≡ with_setup code stores
+  pub slot : ℕ
+  pub begins : entry_of object plan entry ≡ Ok slot
+  pub whole : words ≡ with_setup (answered stubs code) stores slot

@@ -1,5 +1,5 @@
 -- The layout of an object: an ELF file of 64 bits, little-endian (System V gABI, chapter 4). A number stands with its low byte first.
-use Rattle.std.specs.Prelude.{ℕ, ◌+◌, ◌*◌, ◌%◌, List, slice_index}
+use Rattle.std.specs.Prelude.{ℕ, ◌+◌, ◌*◌, ◌/◌, ◌%◌, List, slice_index}
 use Rattle.bpf_isa.specs.Words.{u16_at, u32_at}
 use Rattle.bpf_link.specs.declared.layout.FileHeader.{FileHeader}
 use Rattle.bpf_link.specs.declared.layout.SectionHeader.{SectionHeader}
@@ -37,9 +37,15 @@ section_header object at = record {
   info = u32_at object (at + 44);
 }
 
--- A symbol, Elf64_Sym: the low half of st_info (its type), st_shndx, st_value.
+-- A symbol, Elf64_Sym: st_name, the low half of st_info (its type) and the high one (its binding), st_shndx, st_value.
 abbrev pub symbol_entry : List ℕ → ℕ → SymbolEntry
-symbol_entry object at = record { kind = slice_index object (at + 4) % 16; section = u16_at object (at + 6); value = u64_at object (at + 8) }
+symbol_entry object at = record {
+  name = u32_at object at;
+  kind = slice_index object (at + 4) % 16;
+  binding = slice_index object (at + 4) / 16;
+  section = u16_at object (at + 6);
+  value = u64_at object (at + 8);
+}
 
 -- A relocation, Elf64_Rel: r_offset, and of r_info the type (its low half) and the symbol (its high half).
 abbrev pub relocation_entry : List ℕ → ℕ → RelocationEntry

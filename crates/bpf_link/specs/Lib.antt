@@ -3,10 +3,12 @@ pub mod Faults
 pub mod Header
 pub mod Sections
 pub mod Plans
+pub mod Entries
 pub mod Data
 pub mod Patches
 pub mod Images
 pub mod Setup
+pub mod Stubs
 pub mod Links
 pub mod Laid
 pub mod Shapes

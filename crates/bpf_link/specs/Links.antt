@@ -14,8 +14,11 @@ use Rattle.bpf_link.specs.Header.{provided, opened}
 use Rattle.bpf_link.specs.Sections.{section_at, roles_below}
 use Rattle.bpf_link.specs.Plans.{after, steps, symbol_at, plan_of}
 use Rattle.bpf_link.specs.Data.{data_of}
+use Rattle.bpf_link.specs.Entries.{entry_of}
 use Rattle.bpf_link.specs.Patches.{is_map, patch_of, with_u32}
 use Rattle.bpf_link.specs.Setup.{stores_of, with_setup}
+use Rattle.bpf_link.specs.Stubs.{answered, answers}
+use Rattle.bpf_link.specs.declared.stubs.Stub.{Stub}
 
 -- One more symbol: its value, where it names a map. There are at most 16 maps.
 abbrev pub with_symbol : ℕ → SymbolEntry → List ℕ → Result (List ℕ) LinkFault
@@ -85,32 +88,40 @@ data_shapes object plan taken = map (shape_of_data object plan) taken
 abbrev pub AllShapes : List MapShape → Type 0
 AllShapes shapes = All IsShape shapes
 
--- A program: its words, how many maps the object has of its own, and the shapes of those that its data become, which come after them.
+-- A program: its words, how many maps the object has of its own, and the shapes of those that its data become, which come after them; and how many calls of
+-- helpers are answered.
 pub record Made : Type 0 where
   pub words : List ℕ
   pub maps : ℕ
   pub data_maps : List MapShape
+  pub answered : ℕ
 
--- The words of a plan, with the setup. They are at most as many as a program may have.
-abbrev pub program_words : List ℕ → Plan → List ℕ → List ℕ → Result (List ℕ) LinkFault
-program_words object plan maps taken =
+-- Words, and how many calls of helpers are answered in them.
+pub record Answered : Type 0 where
+  pub words : List ℕ
+  pub count : ℕ
+
+-- The words of a plan with calls answered, and with the setup. They are at most as many as a program may have.
+abbrev pub program_words : List ℕ → Plan → List ℕ → List ℕ → ℕ → List Stub → Result Answered LinkFault
+program_words object plan maps taken entry stubs =
     after (words_of object plan maps taken) (λ code.
     after (stores_of object plan maps taken) (λ stores.
     provided (nat_le (length code + length stores) (8 * most_slots)) TooLong
-    (Ok (with_setup code stores))))
+    (Ok (record { words = with_setup (answered stubs code) stores entry; count = answers stubs code }))))
 
 -- The program of a plan: its words with relocations done and, where its data aren't zeros at the start, the setup.
-abbrev pub program_of : List ℕ → Plan → Result Made LinkFault
-program_of object plan =
+abbrev pub program_of : List ℕ → List ℕ → List Stub → Plan → Result Made LinkFault
+program_of object entry stubs plan =
+    after (entry_of object plan entry) (λ slot.
     after (maps_of object plan) (λ maps.
     after (data_of object plan) (λ taken.
     provided (nat_le (length maps + length taken) 16) TooManyMaps
-    (after (program_words object plan maps taken) (λ words.
-    Ok (record { words = words; maps = length maps; data_maps = data_shapes object plan taken })))))
+    (after (program_words object plan maps taken slot stubs) (λ done.
+    Ok (record { words = done.words; maps = length maps; data_maps = data_shapes object plan taken; answered = done.count }))))))
 
--- The program of a section, or the first fault.
-abbrev pub linked : List ℕ → List ℕ → Result Made LinkFault
-linked object name = after (planned object name) (program_of object)
+-- The program of a section from a function of that name on, with the calls of some helpers answered, or the first fault.
+abbrev pub linked : List ℕ → List ℕ → List ℕ → List Stub → Result Made LinkFault
+linked object name entry stubs = after (planned object name) (program_of object entry stubs)
 
 -- Maps of one byte each: the object's own shapes are its loader's matter.
 abbrev pub plain_maps : ℕ → List MapShape
@@ -122,20 +133,20 @@ abbrev pub least_maps : ℕ → List MapShape → List MapShape
 least_maps own shapes = plain_maps own ++ shapes
 
 -- The words that come out for an object. The checker accepts them, with maps of at least one byte, and those of its data.
-pub record AreWordsOf (object name code : List ℕ) : Type 0 where
+pub record AreWordsOf (object name entry : List ℕ) (stubs : List Stub) (code : List ℕ) : Type 0 where
   pub program : Made
-  pub linked : linked object name ≡ Ok program
+  pub linked : linked object name entry stubs ≡ Ok program
   pub words : code ≡ program.words
   pub accepted : IsAccepted code (least_maps program.maps program.data_maps)
 
 -- The words are no program.
-pub record IsRejected (object name : List ℕ) (fault : LinkFault) : Type 0 where
+pub record IsRejected (object name entry : List ℕ) (stubs : List Stub) (fault : LinkFault) : Type 0 where
   pub program : Made
   pub refusal : LoadFault
   pub told : fault ≡ Program refusal
-  pub linked : linked object name ≡ Ok program
+  pub linked : linked object name entry stubs ≡ Ok program
   pub refused : IsRefused program.words (least_maps program.maps program.data_maps) refusal
 
 -- Why no program is made of an object.
-abbrev pub IsLinkFault : List ℕ → List ℕ → LinkFault → Type 0
-IsLinkFault object name fault = MemoryOr (linked object name) fault ⊎ IsRejected object name fault
+abbrev pub IsLinkFault : List ℕ → List ℕ → List ℕ → List Stub → LinkFault → Type 0
+IsLinkFault object name entry stubs fault = MemoryOr (linked object name entry stubs) fault ⊎ IsRejected object name entry stubs fault

@@ -128,6 +128,12 @@ definitions_in object sections (Only i) =
     else no_entries
 definitions_in object sections Several = no_entries
 
+-- Where the names of symbols begin: in the section to which the one of the symbols links.
+abbrev pub names_in : List ℕ → Sections → Found → ℕ
+names_in object sections (Only i) =
+    let link = (section_at object sections i).link in if nat_lt link sections.count then (section_at object sections link).offset else 0
+names_in object sections _ = 0
+
 abbrev pub plan_with : List ℕ → Sections → Roles → Entries → ℕ → ℕ → Result Plan LinkFault
 plan_with object sections roles symbols maps chosen =
     after (part_of object sections roles.symbols chosen 0) (λ code.
@@ -138,6 +144,7 @@ plan_with object sections roles symbols maps chosen =
       sections = sections;
       table = roles.symbols;
       symbols = symbols;
+      names = names_in object sections roles.symbols;
       maps = maps;
       definitions = definitions_in object sections roles.maps;
       code = code;

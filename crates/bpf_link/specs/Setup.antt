@@ -57,8 +57,12 @@ jump_words distance = 0x06 ∷ (0 ∷ (0 ∷ (0 ∷ little_bytes 4 distance)))
 abbrev pub clear_words : List ℕ
 clear_words = 0xb7 ∷ (0x03 ∷ (0 ∷ (0 ∷ (0 ∷ (0 ∷ (0 ∷ (0 ∷ (0xb7 ∷ (0x04 ∷ (0 ∷ (0 ∷ (0 ∷ (0 ∷ (0 ∷ (0 ∷ [])))))))))))))))
 
--- A program with the setup: slot 0 jumps behind the code, and from the end of the stores it goes on in slot 1, where the code begins.
-abbrev pub with_setup : List ℕ → List ℕ → List ℕ
-with_setup code stores =
-    if length stores == 0 then code
-    else (jump_words (length code / 8) ++ code) ++ (stores ++ clear_words) ++ jump_words (4294967296 - (length code + length stores + 24) / 8)
+-- A program without a setup. Where its entry isn't the first slot of the code, slot 0 jumps there, and the code begins at slot 1.
+abbrev pub with_entry : List ℕ → ℕ → List ℕ
+with_entry code entry = if entry == 0 then code else jump_words entry ++ code
+
+-- A program with the setup: slot 0 jumps behind the code, and from the end of the stores it goes on at the entry. The code begins at slot 1.
+abbrev pub with_setup : List ℕ → List ℕ → ℕ → List ℕ
+with_setup code stores entry =
+    if length stores == 0 then with_entry code entry
+    else (jump_words (length code / 8) ++ code) ++ (stores ++ clear_words) ++ jump_words ((4294967296 + entry - (length code + length stores + 24) / 8) % 4294967296)

@@ -71,12 +71,16 @@ pub enum LinkFault {
     DataSection,
     /// A relocation of data is no address of data, or doesn't lie in them.
     Pointer,
+    /// More than one function of the code section may be the entry.
+    ManyPrograms,
+    /// The code section has no function of the name that is asked for, or it begins at no slot of it.
+    NoEntry,
 }
 
 impl LinkFault {
     ghost use Rattle.bpf_link.specs.Faults.{link_fault_number, link_fault_text};
 
-    /// The number that is printed after E, 1 to 29; that of a program's fault is 25.
+    /// The number that is printed after E, 1 to 31; that of a program's fault is 25.
     pub fn number(self) -> u8
         ensures { result ≡ link_fault_number self }
     {
@@ -110,6 +114,8 @@ impl LinkFault {
             LinkFault::LongData => 27,
             LinkFault::DataSection => 28,
             LinkFault::Pointer => 29,
+            LinkFault::ManyPrograms => 30,
+            LinkFault::NoEntry => 31,
         }
     }
 
@@ -147,6 +153,8 @@ impl LinkFault {
             LinkFault::LongData => "data longer than 65536 bytes",
             LinkFault::DataSection => "malformed data section",
             LinkFault::Pointer => "address in data of what is no data",
+            LinkFault::ManyPrograms => "more than one program in the code section",
+            LinkFault::NoEntry => "no such function in the code section",
         }
     }
 }

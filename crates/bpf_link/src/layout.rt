@@ -50,8 +50,12 @@ pub struct SectionHeader {
 /// A symbol.
 #[derive(Clone, Copy)]
 pub struct SymbolEntry {
+    /// Where its name stands among the names of symbols.
+    pub name: u32,
     /// 1 for an object, 2 for a function, 3 for a section.
     pub kind: u8,
+    /// 0 for a local symbol, 1 for a global one, 2 for a weak one.
+    pub binding: u8,
     /// The section that it lies in, 0 where it is defined elsewhere.
     pub section: u16,
     /// Where it lies in its section.
@@ -122,7 +126,9 @@ pub fn symbol_entry(object: &[u8], at: usize) -> SymbolEntry
     ensures { result ≡ symbol_entry object.now at }
 {
     SymbolEntry {
+        name: u32_at(object, at),
         kind: object[at + 4] % 16,
+        binding: object[at + 4] / 16,
         section: u16_at(object, at + 6),
         value: u64_at(object, at + 8),
     }

@@ -2,6 +2,7 @@
 #![tactic(auto)]
 
 mod data_sections;
+mod entry;
 mod fault;
 mod fields;
 mod header;
@@ -13,7 +14,9 @@ mod plan;
 mod sections;
 mod setup;
 mod shapes;
+mod stubs;
 mod words;
 
 pub use fault::LinkFault;
-pub use linker::{Linked, link};
+pub use linker::{LinkOptions, Linked, link, link_with};
+pub use stubs::Stub;

@@ -1,5 +1,5 @@
 //! The linker: from an object to the words of a program.
-ghost use Rattle.std.specs.Prelude.{◌≡◌, ◌≤◌, ◌<◌, ◌+◌, length, IfOk, IfErr, Ok, Err};
+ghost use Rattle.std.specs.Prelude.{◌≡◌, ◌≤◌, ◌<◌, ◌+◌, [], length, IfOk, IfErr, Ok, Err};
 ghost use Rattle.bpf_isa.specs.Checker.{IsAccepted};
 ghost use Rattle.bpf_isa.specs.Maps.{IsShape};
 ghost use Rattle.bpf_link.specs.Data.{AllBelow};
@@ -10,16 +10,38 @@ ghost use Rattle.bpf_link.specs.Shapes.{HasShapes};
 ghost use Rattle.bpf_link.specs.declared.plan.Plan.{Plan};
 
 use crate::data_sections::data_of;
+use crate::entry::entry_of;
 use crate::fault::LinkFault;
 use crate::header::open;
 use crate::plan::{Plan, plan_of};
 use crate::sections::{roles_of, section_at};
 use crate::setup::{stores_of, with_setup};
 use crate::shapes::all_shapes;
+use crate::stubs::{Stub, answered, answers};
 use crate::words::{maps_of, words_of};
 use arrayvec::ArrayVec;
 use bpf_isa::{LoadFault, MOST_SLOTS, MapShape, MapTable, check};
 use std::alloc::Global;
+
+/// What is asked of a link.
+#[derive(Clone, Copy)]
+pub struct LinkOptions<'a> {
+    /// The name of the code section, at most 255 bytes; where it is empty, the section is the only
+    /// one with code besides `.text`, or else `.text`.
+    pub section: &'a [u8],
+    /// The name of the function of that section at which the program begins; where it is empty, the
+    /// only one that is known outside the object, or else the section's first slot.
+    pub entry: &'a [u8],
+    /// The helpers whose calls are answered by a constant: each call is `mov r0, VALUE` instead.
+    pub stubs: &'a [Stub],
+}
+
+/// Words, and how many calls of helpers are answered in them.
+#[derive(Drop)]
+struct Answered {
+    words: Vec<u8>,
+    count: usize,
+}
 
 /// A program that was made of an object.
 #[derive(Drop)]
@@ -33,6 +55,8 @@ pub struct Linked {
     /// that the program refers to, in the order of the sections' numbers. There are at most 16 maps
     /// in all.
     pub data_maps: ArrayVec<MapShape, 16>,
+    /// How many calls of helpers are answered by a stub.
+    pub answered: usize,
     /// The shapes of all maps, in the order of their numbers: those that the object's section
     /// `maps` gives them, of any size, and those of data. None unless it defines each of its own as
     /// an array.
@@ -119,21 +143,25 @@ fn data_shapes(object: &[u8], plan: &Plan, taken: &[usize]) -> ArrayVec<MapShape
     shapes
 }
 
-/// The words of a plan, with the setup.
+/// The words of a plan with calls answered, and with the setup.
 fn program_words(
     alloc: Global,
     object: &[u8],
     plan: &Plan,
     maps: &[u64],
     taken: &[usize],
-) -> Result<Vec<u8>, LinkFault>
+    entry: usize,
+    stubs: &[Stub],
+) -> Result<Answered, LinkFault>
     requires plan { LiesPlan object.now plan.now }
     requires few { length maps.now + length taken.now ≤ 16 }
     requires below { AllBelow plan.now.sections.count taken.now }
-    ensures ok { IfOk result (λ words.
-        program_words object.now plan.now maps.now taken.now ≡ Ok words.items) }
+    requires begins { entry < 65535 }
+    ensures ok { IfOk result (λ done.
+        program_words object.now plan.now maps.now taken.now entry stubs.now
+        ≡ Ok (record { words = done.words.items; count = done.count })) }
     ensures err { IfErr result (MemoryOr
-        (program_words object.now plan.now maps.now taken.now)) }
+        (program_words object.now plan.now maps.now taken.now entry stubs.now)) }
 {
     let code = match words_of(alloc, object, plan, maps, taken) {
         Ok(code) => code,
@@ -146,24 +174,39 @@ fn program_words(
     if code.len() + stores.len() > 8 * MOST_SLOTS {
         return Err(LinkFault::TooLong);
     }
-    with_setup(alloc, code, &stores)
+    let count = answers(stubs, &code);
+    match with_setup(alloc, answered(stubs, code), &stores, entry) {
+        Ok(words) => Ok(Answered { words, count }),
+        Err(fault) => Err(fault),
+    }
 }
 
 /// The words of a plan, how many maps there are, and their shapes.
-fn program_of(alloc: Global, object: &[u8], plan: &Plan) -> Result<Linked, LinkFault>
+fn program_of(
+    alloc: Global,
+    object: &[u8],
+    entry: &[u8],
+    stubs: &[Stub],
+    plan: &Plan,
+) -> Result<Linked, LinkFault>
     requires { LiesPlan object.now plan.now }
-    ensures ok { IfOk result (λ program. program_of object.now plan.now
+    ensures ok { IfOk result (λ program. program_of object.now entry.now stubs.now plan.now
         ≡ Ok (record {
           words = program.words.items;
           maps = program.maps;
           data_maps = program.data_maps.items;
+          answered = program.answered;
         })) }
-    ensures err { IfErr result (MemoryOr (program_of object.now plan.now)) }
-    ensures laid { IfOk result (λ program. IsLaidOut object.now plan.now program.words.items) }
+    ensures err { IfErr result (MemoryOr (program_of object.now entry.now stubs.now plan.now)) }
+    ensures laid { IfOk result (λ program. IsLaidOut object.now plan.now entry.now stubs.now program.words.items) }
     ensures few { IfOk result (λ program. program.maps + length program.data_maps.items ≤ 16) }
     ensures possible { IfOk result (λ program. AllShapes program.data_maps.items) }
     ensures shapes { IfOk result (λ program. HasShapes object.now plan.now program.shapes.items) }
 {
+    let slot = match entry_of(object, plan, entry) {
+        Ok(slot) => slot,
+        Err(fault) => return Err(fault),
+    };
     let maps = match maps_of(object, plan) {
         Ok(maps) => maps,
         Err(fault) => return Err(fault),
@@ -177,13 +220,14 @@ fn program_of(alloc: Global, object: &[u8], plan: &Plan) -> Result<Linked, LinkF
     if own.len() + taken.len() > 16 {
         return Err(LinkFault::TooManyMaps);
     }
-    let words = match program_words(alloc, object, plan, own, taken) {
-        Ok(words) => words,
+    let done = match program_words(alloc, object, plan, own, taken, slot, stubs) {
+        Ok(done) => done,
         Err(fault) => return Err(fault),
     };
     let data_maps = data_shapes(object, plan, taken);
     Ok(Linked {
-        words,
+        words: done.words,
+        answered: done.count,
         maps: own.len(),
         shapes: all_shapes(object, &plan.definitions, own, data_maps.as_slice()),
         data_maps,
@@ -192,35 +236,44 @@ fn program_of(alloc: Global, object: &[u8], plan: &Plan) -> Result<Linked, LinkF
 
 /// The program of a code section of a relocatable ELF object for BPF (64 bits, little-endian).
 ///
-/// `section` is the section's name, at most 255 bytes; where it is empty, the section is the only
-/// one with code besides `.text`, or else `.text`. The words are those of the section, and after
-/// them those of `.text`, if the section calls it. Calls get their distances, and wide loads of
-/// maps the maps' numbers: 0 for the one that stands first in the section `maps` or `.maps`. The
-/// sections of data that the program refers to are maps after those, and wide loads of addresses
-/// in them become those of places in these maps. The entry is slot 0; where data aren't zeros at
-/// the start, slot 0 jumps to a setup behind the code, which stores them and goes on in slot 1,
-/// where the code begins. The words pass the checker, for maps that have at least one byte. Takes
-/// time in proportion to the length of the object.
-pub fn link(alloc: Global, object: &[u8], section: &[u8]) -> Result<Linked, LinkFault>
-    ensures ok { IfOk result (λ program. linked object.now section.now ≡ Ok (record {
-      words = program.words.items;
-      maps = program.maps;
-      data_maps = program.data_maps.items;
-    })) }
+/// The words are those of the section, and after them those of `.text`, if the section calls it.
+/// Calls get their distances, and wide loads of maps the maps' numbers: 0 for the one that stands
+/// first in the section `maps` or `.maps`. The sections of data that the program refers to are maps
+/// after those, and wide loads of addresses in them become those of places in these maps. Where the
+/// entry isn't the first slot of the section, slot 0 jumps to it; where data aren't zeros at the
+/// start, slot 0 jumps to a setup behind the code, which stores them and goes on at the entry. In
+/// both cases the code begins at slot 1. The words pass the checker, for maps that have at least
+/// one byte. Takes time in proportion to the length of the object, and to the number of stubs.
+pub fn link_with(
+    alloc: Global,
+    object: &[u8],
+    options: &LinkOptions<'_>,
+) -> Result<Linked, LinkFault>
+    ensures ok { IfOk result (λ program.
+        linked object.now options.now.section.now options.now.entry.now
+        options.now.stubs.now ≡ Ok (record {
+          words = program.words.items;
+          maps = program.maps;
+          data_maps = program.data_maps.items;
+          answered = program.answered;
+        })) }
     ensures laid { IfOk result (λ program. (plan : Plan)
-        × (planned object.now section.now ≡ Ok plan) × IsLaidOut object.now plan program.words.items) }
+        × (planned object.now options.now.section.now ≡ Ok plan)
+        × IsLaidOut object.now plan options.now.entry.now options.now.stubs.now program.words.items) }
     ensures shapes { IfOk result (λ program. (plan : Plan)
-        × (planned object.now section.now ≡ Ok plan)
+        × (planned object.now options.now.section.now ≡ Ok plan)
         × HasShapes object.now plan program.shapes.items) }
     ensures accepted { IfOk result
         (λ program. IsAccepted program.words.items (least_maps program.maps program.data_maps.items)) }
-    ensures err { IfErr result (IsLinkFault object.now section.now) }
+    ensures err { IfErr result
+        (IsLinkFault object.now options.now.section.now options.now.entry.now
+        options.now.stubs.now) }
 {
-    let plan = match planned(object, section) {
+    let plan = match planned(object, options.section) {
         Ok(plan) => plan,
         Err(fault) => return Err(fault),
     };
-    let program = match program_of(alloc, object, &plan) {
+    let program = match program_of(alloc, object, options.entry, options.stubs, &plan) {
         Ok(program) => program,
         Err(fault) => return Err(fault),
     };
@@ -233,4 +286,33 @@ pub fn link(alloc: Global, object: &[u8], section: &[u8]) -> Result<Linked, Link
         Err(LoadFault::Memory) => Err(LinkFault::Memory),
         Err(fault) => Err(LinkFault::Program(fault)),
     }
+}
+
+/// The program of a code section: that of `link_with`, where nothing but the section is asked for.
+pub fn link(alloc: Global, object: &[u8], section: &[u8]) -> Result<Linked, LinkFault>
+    ensures ok { IfOk result (λ program. linked object.now section.now [] [] ≡ Ok (record {
+      words = program.words.items;
+      maps = program.maps;
+      data_maps = program.data_maps.items;
+      answered = program.answered;
+    })) }
+    ensures laid { IfOk result (λ program. (plan : Plan)
+        × (planned object.now section.now ≡ Ok plan)
+        × IsLaidOut object.now plan [] [] program.words.items) }
+    ensures shapes { IfOk result (λ program. (plan : Plan)
+        × (planned object.now section.now ≡ Ok plan)
+        × HasShapes object.now plan program.shapes.items) }
+    ensures accepted { IfOk result
+        (λ program. IsAccepted program.words.items (least_maps program.maps program.data_maps.items)) }
+    ensures err { IfErr result (IsLinkFault object.now section.now [] []) }
+{
+    link_with(
+        alloc,
+        object,
+        &LinkOptions {
+            section,
+            entry: &[],
+            stubs: &[],
+        },
+    )
 }

@@ -1,7 +1,7 @@
 //! What a program is put together from.
 ghost use Rattle.std.specs.Prelude.{◌≡◌, ◌≤◌, ◌<◌, ◌==◌, ◌⊎◌, length, IfOk, ℕ, Bool};
 ghost use Rattle.bpf_link.specs.Header.{HasTable};
-ghost use Rattle.bpf_link.specs.Plans.{entries_of, symbols_in, maps_in, chosen_in, is_only, relocations_in, part_of, relocation_at, symbol_at, is_reference, refers_below, text_in, is_closed, has_definitions, definitions_in, plan_with, plan_of, Lies, LiesPart, LiesPlan};
+ghost use Rattle.bpf_link.specs.Plans.{entries_of, symbols_in, maps_in, chosen_in, is_only, relocations_in, part_of, relocation_at, symbol_at, is_reference, refers_below, text_in, is_closed, has_definitions, definitions_in, names_in, plan_with, plan_of, Lies, LiesPart, LiesPlan};
 ghost use Rattle.bpf_link.specs.Sections.{FoundBelow};
 
 use crate::fault::LinkFault;
@@ -37,6 +37,8 @@ pub struct Plan {
     /// The section of symbols.
     pub table: Found,
     pub symbols: Entries,
+    /// Where the names of symbols begin in the file, or behind it.
+    pub names: u64,
     /// The index of the section of maps, 0 of none.
     pub maps: usize,
     /// The bytes of that section, where they are definitions of maps.
@@ -333,6 +335,25 @@ fn definitions_in(object: &[u8], sections: &Sections, found: Found) -> Entries
     }
 }
 
+/// Where the names of symbols begin: in the section to which the one of the symbols links.
+fn names_in(object: &[u8], sections: &Sections, found: Found) -> u64
+    requires table { HasTable object.now sections.now }
+    requires found { FoundBelow sections.now.count found }
+    ensures { result ≡ names_in object.now sections.now found }
+{
+    match found {
+        Found::Nothing => 0,
+        Found::Only(i) => {
+            let link = section_at(object, sections, i).link as usize;
+            if link >= sections.count {
+                return 0;
+            }
+            section_at(object, sections, link).offset
+        }
+        Found::Several => 0,
+    }
+}
+
 fn plan_with(
     object: &[u8],
     sections: &Sections,
@@ -343,6 +364,7 @@ fn plan_with(
 ) -> Result<Plan, LinkFault>
     requires table { HasTable object.now sections.now }
     requires text { FoundBelow sections.now.count roles.now.text }
+    requires table_of_symbols { FoundBelow sections.now.count roles.now.symbols }
     requires maps { FoundBelow sections.now.count roles.now.maps }
     requires chosen { chosen < sections.now.count }
     requires symbols { Lies object.now 24 symbols.now }
@@ -361,6 +383,7 @@ fn plan_with(
         sections: *sections,
         table: roles.symbols,
         symbols: *symbols,
+        names: names_in(object, sections, roles.symbols),
         maps,
         definitions: definitions_in(object, sections, roles.maps),
         code,

@@ -17,7 +17,7 @@ pub enum Found {
 
 impl Found {
     /// With one more section, where it is one that is looked for.
-    fn with(self, is_one: bool, i: usize) -> Found
+    pub fn with(self, is_one: bool, i: usize) -> Found
         ensures { result ≡ found_with self is_one i }
     {
         if !is_one {
@@ -54,7 +54,7 @@ pub fn section_at(object: &[u8], sections: &Sections, i: usize) -> SectionHeader
 }
 
 /// Whether a name stands at a place in the file, and a zero after it.
-fn name_at(object: &[u8], at: usize, name: &[u8]) -> bool
+pub fn name_at(object: &[u8], at: usize, name: &[u8]) -> bool
     requires { at ≤ length object.now }
     ensures { result ≡ name_at object.now at name.now }
 {

@@ -3,7 +3,7 @@ ghost use Rattle.std.specs.Prelude.{◌≡◌, ◌≤◌, ◌<◌, ◌+◌, ◌/
 ghost use Rattle.bpf_link.specs.Data.{AllBelow};
 ghost use Rattle.bpf_link.specs.Links.{MemoryOr};
 ghost use Rattle.bpf_link.specs.Plans.{LiesPlan};
-ghost use Rattle.bpf_link.specs.Setup.{with_place, store_words, with_store, with_stores, is_zero, with_image, with_section_image, stores_of, jump_words, with_setup};
+ghost use Rattle.bpf_link.specs.Setup.{with_place, store_words, with_store, with_stores, is_zero, with_image, with_section_image, stores_of, jump_words, with_entry, with_setup};
 ghost use Rattle.bpf_link.specs.declared.fault.LinkFault.TheVariants.{Memory};
 
 use crate::fault::LinkFault;
@@ -188,14 +188,33 @@ fn with_jump(words: Vec<u8>, distance: u32) -> Result<Vec<u8>, LinkFault>
     with(words, &jump)
 }
 
-/// A program with the setup, unless there is nothing to store.
-pub fn with_setup(alloc: Global, code: Vec<u8>, stores: &[u8]) -> Result<Vec<u8>, LinkFault>
-    requires { length code.items + length stores.now < 4294967296 }
-    ensures ok { IfOk result (λ words. words.items ≡ with_setup code.items stores.now) }
+/// A program without a setup, which begins at its entry.
+fn with_entry(alloc: Global, code: Vec<u8>, entry: usize) -> Result<Vec<u8>, LinkFault>
+    requires { entry < 65535 }
+    ensures ok { IfOk result (λ words. words.items ≡ with_entry code.items entry) }
+    ensures err { IfErr result (λ fault. fault ≡ Memory) }
+{
+    if entry == 0 {
+        return Ok(code);
+    }
+    let jump = with_jump(Vec::new(alloc), entry as u32)?;
+    with(jump, &code)
+}
+
+/// A program with the setup, if there is something to store, and from there on its entry.
+pub fn with_setup(
+    alloc: Global,
+    code: Vec<u8>,
+    stores: &[u8],
+    entry: usize,
+) -> Result<Vec<u8>, LinkFault>
+    requires short { length code.items + length stores.now < 4294967296 }
+    requires inside { entry < 65535 }
+    ensures ok { IfOk result (λ words. words.items ≡ with_setup code.items stores.now entry) }
     ensures err { IfErr result (λ fault. fault ≡ Memory) }
 {
     if stores.is_empty() {
-        return Ok(code);
+        return with_entry(alloc, code, entry);
     }
     let end = (code.len() + stores.len() + 24) / 8;
     let jump = with_jump(Vec::new(alloc), (code.len() / 8) as u32)?;
@@ -205,5 +224,6 @@ pub fn with_setup(alloc: Global, code: Vec<u8>, stores: &[u8]) -> Result<Vec<u8>
         stored,
         &[0xb7, 3, 0, 0, 0, 0, 0, 0, 0xb7, 4, 0, 0, 0, 0, 0, 0],
     )?;
-    with_jump(cleared, (4_294_967_296 - end as u64) as u32)
+    let distance = (4_294_967_296 + entry as u64 - end as u64) % 4_294_967_296;
+    with_jump(cleared, distance as u32)
 }

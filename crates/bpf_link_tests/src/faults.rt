@@ -34,7 +34,9 @@ E25 empty program\n\
 E26 out of memory\n\
 E27 data longer than 65536 bytes\n\
 E28 malformed data section\n\
-E29 address in data of what is no data";
+E29 address in data of what is no data\n\
+E30 more than one program in the code section\n\
+E31 no such function in the code section";
 
 /// The first half of the faults, by their numbers.
 fn early_fault(number: usize) -> LinkFault {
@@ -73,6 +75,8 @@ fn fault(number: usize) -> LinkFault {
         27 => LinkFault::LongData,
         28 => LinkFault::DataSection,
         29 => LinkFault::Pointer,
+        30 => LinkFault::ManyPrograms,
+        31 => LinkFault::NoEntry,
         _ => early_fault(number),
     }
 }
@@ -88,7 +92,7 @@ fn check_fault(rt: &impl Abort, alloc: Global, number: usize, wanted: &str) {
 }
 
 fn check_faults(rt: &impl Abort, alloc: Global, table: &str) {
-    for (number, wanted) in (1..=29usize).zip(table.lines()) {
+    for (number, wanted) in (1..=31usize).zip(table.lines()) {
         check_fault(rt, alloc, number, wanted);
     }
 }

@@ -1,14 +1,15 @@
 //! Objects, changed or not, and what they are linked to.
-use crate::objects::{ARRAYS, CALLS, DATA, EXTERN, MAPS, POINT, TEXT, TWO};
+use crate::objects::{ARRAYS, CALLS, DATA, EXTERN, MAPS, POINT, PROGRAMS, TEXT, TWO};
 use bpf_isa::MapShape;
-use bpf_link::{Linked, link};
+use bpf_link::{LinkFault, LinkOptions, Linked, Stub, link, link_with};
 use bpf_testing::{bytes_of, row_of};
 use std::alloc::{AllocError, Global};
 use std::process::Abort;
 
-/// An object; the section that is asked for, `-` for none, and what is changed of the object, as
-/// places and bytes; and the answer: how many maps, after a colon their shapes where the object
-/// gives them, and the words; or the fault's number. Places, shapes and words are worked out from
+/// An object; the section that is asked for, `-` for none, behind a colon the entry, and behind
+/// another one a helper and the number that answers it; what is changed of the object, as places and
+/// bytes; and the answer: how many maps, after a colon their shapes where the object gives them,
+/// after a plus how many calls are answered, and the words; or the fault's number. Places, shapes and words are worked out from
 /// what `llvm-readelf -Ssr`, `llvm-objdump -s -j maps` and `llvm-objdump -dr` print of the objects.
 const ROWS: &str = "\
 calls | - | 0 8510000006000000 bf01000000000000 8510000001000000 9500000000000000 bf10000000000000 0700000001000000 9500000000000000 bf10000000000000 \
@@ -68,6 +69,32 @@ calls | - 136=05 | 0 8510000006000000 bf01000000000000 8510000001000000 05000000
 9500000000000000 bf10000000000000 2700000003000000 9500000000000000
 calls | - 136=06 | 0 8510000006000000 bf01000000000000 8510000001000000 0600000000000000 bf10000000000000 0700000001000000 \
 9500000000000000 bf10000000000000 2700000003000000 9500000000000000
+programs | - | E30
+programs | prog::5=7 | E30
+programs | -:first:5=7 | 0+1 bf21000000000000 8510000002000000 0700000001000000 9500000000000000 bf10000000000000 6700000001000000 9500000000000000 b700000007000000 \
+bf06000000000000 b701000005000000 85100000f9ffffff 0f60000000000000 9500000000000000
+programs | prog:second:5=4294967295 | 0+1 0600000007000000 bf21000000000000 8510000002000000 0700000001000000 9500000000000000 bf10000000000000 6700000001000000 9500000000000000 \
+b7000000ffffffff bf06000000000000 b701000005000000 85100000f9ffffff 0f60000000000000 9500000000000000
+programs | -:twice:5=0 | 0+1 0600000004000000 bf21000000000000 8510000002000000 0700000001000000 9500000000000000 bf10000000000000 6700000001000000 9500000000000000 \
+b700000000000000 bf06000000000000 b701000005000000 85100000f9ffffff 0f60000000000000 9500000000000000
+programs | -:first | E25
+programs | -:first:6=7 | E25
+programs | -:third:5=7 | E31
+programs | -:firs:5=7 | E31
+programs | -:irst:5=7 | E31
+programs | -::5=7 244=02 | 0+1 0600000007000000 bf21000000000000 8510000002000000 0700000001000000 9500000000000000 bf10000000000000 6700000001000000 9500000000000000 \
+b700000007000000 bf06000000000000 b701000005000000 85100000f9ffffff 0f60000000000000 9500000000000000
+programs | -::5=7 268=11 | 0+1 bf21000000000000 8510000002000000 0700000001000000 9500000000000000 bf10000000000000 6700000001000000 9500000000000000 b700000007000000 \
+bf06000000000000 b701000005000000 85100000f9ffffff 0f60000000000000 9500000000000000
+programs | -::5=7 268=22 | E30
+programs | -::5=7 244=02 268=02 | 0+1 bf21000000000000 8510000002000000 0700000001000000 9500000000000000 bf10000000000000 6700000001000000 9500000000000000 b700000007000000 \
+bf06000000000000 b701000005000000 85100000f9ffffff 0f60000000000000 9500000000000000
+programs | -:first:5=7 248=04 | E31
+programs | -:first:5=7 248=68 | E31
+programs | -:first:5=7 248=60 | 0+1 060000000c000000 bf21000000000000 8510000002000000 0700000001000000 9500000000000000 bf10000000000000 6700000001000000 9500000000000000 \
+b700000007000000 bf06000000000000 b701000005000000 85100000f9ffffff 0f60000000000000 9500000000000000
+programs | -:first:5=7 246=02 | E31
+programs | -:first:5=7 720=07 | E31
 calls | - 0=00 | E1
 calls | - 3=47 | E1
 calls | - 4=01 | E2
@@ -182,6 +209,7 @@ fn object_named(name: &str) -> &'static str {
         "text" => TEXT,
         "data" => DATA,
         "point" => POINT,
+        "programs" => PROGRAMS,
         "extern" => EXTERN,
         _ => TWO,
     }
@@ -216,13 +244,47 @@ fn changed(rt: &impl Abort, alloc: Global, name: &str, input: &str) -> Vec<u8> {
     object
 }
 
-/// The section that is asked for.
-fn section_of(input: &str) -> &str {
-    let section = match input.split_once(' ') {
-        Some((section, _)) => section,
-        None => input,
+/// A text up to a mark, and what stands behind that.
+fn cut(text: &str, mark: char) -> (&str, &str) {
+    match text.split_once(mark) {
+        Some(parts) => parts,
+        None => (text, ""),
+    }
+}
+
+/// A helper and the number that answers it.
+fn stub_of(text: &str) -> Option<Stub> {
+    let (helper, value) = text.split_once('=')?;
+    Some(Stub {
+        helper: helper.parse().ok()?,
+        value: value.parse().ok()?,
+    })
+}
+
+fn link_asked(
+    alloc: Global,
+    object: &[u8],
+    section: &str,
+    entry: &str,
+    stubs: &[Stub],
+) -> Result<Linked, LinkFault> {
+    let options = LinkOptions {
+        section: section.as_bytes(),
+        entry: entry.as_bytes(),
+        stubs,
     };
-    if section == "-" { "" } else { section }
+    link_with(alloc, object, &options)
+}
+
+/// Links an object as a row asks for it.
+fn link_row(alloc: Global, object: &[u8], asked: &str) -> Result<Linked, LinkFault> {
+    let (section, rest) = cut(asked, ':');
+    let (entry, answer) = cut(rest, ':');
+    let section = if section == "-" { "" } else { section };
+    match stub_of(answer) {
+        Some(stub) => link_asked(alloc, object, section, entry, &[stub]),
+        None => link_asked(alloc, object, section, entry, &[]),
+    }
 }
 
 /// The shapes of maps as text: a colon before the first, a comma before each further one.
@@ -240,11 +302,14 @@ fn shapes_text(alloc: Global, shapes: &[MapShape]) -> Result<String, AllocError>
 fn program_text(alloc: Global, program: &Linked) -> Result<String, AllocError> {
     let shapes = shapes_text(alloc, program.shapes.as_slice())?;
     let digits = hex::encode(alloc, &program.words)?;
+    if program.answered > 0 {
+        return format!(in alloc; "{}{shapes}+{} {digits}", program.maps, program.answered);
+    }
     format!(in alloc; "{}{shapes} {digits}", program.maps)
 }
 
-fn answer_text(alloc: Global, object: &[u8], section: &str) -> Result<String, AllocError> {
-    match link(alloc, object, section.as_bytes()) {
+fn answer_text(alloc: Global, object: &[u8], asked: &str) -> Result<String, AllocError> {
+    match link_row(alloc, object, asked) {
         Ok(program) => program_text(alloc, &program),
         Err(fault) => format!(in alloc; "E{}", fault.number()),
     }
@@ -271,7 +336,7 @@ fn wanted_text(alloc: Global, answer: &str) -> Result<String, AllocError> {
 fn check_row(rt: &impl Abort, alloc: Global, line: &str) {
     let row = row_of(line).expect(rt, "no row");
     let object = changed(rt, alloc, row.name, row.input);
-    let found = answer_text(alloc, &object, section_of(row.input))
+    let found = answer_text(alloc, &object, cut(row.input, ' ').0)
         .ok()
         .expect(rt, "no memory");
     let wanted = wanted_text(alloc, row.expected)

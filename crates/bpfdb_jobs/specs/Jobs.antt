@@ -70,7 +70,7 @@ section_of job = name_or_empty job.options.section
 -- an array.
 pub record IsLinkedTo (job : Job) (words : List ℕ) (shapes : List MapShape) : Type 0 where
   pub plan : Plan
-  pub made : AreWordsOf job.file.now (section_of job) words
+  pub made : AreWordsOf job.file.now (section_of job) [] [] words
   pub plans : planned job.file.now (section_of job) ≡ Ok plan
   pub shaped : HasShapes job.file.now plan shapes
 

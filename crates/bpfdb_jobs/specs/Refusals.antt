@@ -1,5 +1,5 @@
 -- Why a job is refused, in this order: its maps, its listing, its program, its context, its journal; or its object.
-use Rattle.std.specs.Prelude.{◌≡◌, List, ℕ, Some, true}
+use Rattle.std.specs.Prelude.{◌≡◌, List, [], ℕ, Some, true}
 use Rattle.std.specs.Borrow.{Bor}
 use Rattle.bpf_isa.specs.Checker.{IsRefused}
 use Rattle.bpf_isa.specs.Maps.{IsListFault}
@@ -42,7 +42,7 @@ RefusesListing job (Listing fault) = IsFaultOf job.file.now fault
 RefusesListing job refusal = ⊥
 
 abbrev pub RefusesObject : Job → JobRefusal → Type 0
-RefusesObject job (Object fault) = IsLinkFault job.file.now (section_of job) fault
+RefusesObject job (Object fault) = IsLinkFault job.file.now (section_of job) [] [] fault
 RefusesObject job refusal = ⊥
 
 abbrev pub RefusesAs : Subcommand → Job → JobRefusal → Type 0

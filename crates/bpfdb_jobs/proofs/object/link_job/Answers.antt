@@ -1,4 +1,4 @@
-use Rattle.std.proofs.Common.{◌≡◌, Ok, refl}
+use Rattle.std.proofs.Common.{◌≡◌, [], Ok, refl}
 use Rattle.bpf_isa.specs.Checker.{IsAccepted}
 use Rattle.bpf_link.specs.Links.{least_maps, linked, planned}
 use Rattle.bpf_link.specs.Shapes.{HasShapes}
@@ -15,7 +15,7 @@ use Rattle.bpfdb_jobs.proofs.object.link_job.Goals as goal
 
 -- what is printed of a program that was linked
 linked-prints : (job : Job) (program : Linked)
-    → linked job.file.now (section_of job) ≡ Ok (record { words = program.words.items; maps = program.maps; data_maps = program.data_maps.items })
+    → linked job.file.now (section_of job) [] [] ≡ Ok (record { words = program.words.items; maps = program.maps; data_maps = program.data_maps.items; answered = program.answered })
     → IsAccepted program.words.items (least_maps program.maps program.data_maps.items)
     → (plan : Plan) × (planned job.file.now (section_of job) ≡ Ok plan) × HasShapes job.file.now plan program.shapes.items
     → Prints Link job (record (printed program.words.items) { err = maps_told program.shapes.items })
@@ -25,7 +25,7 @@ linked-prints job program e accepted shapes = (
   record {
     plan = shapes.0;
     made = record {
-      program = record { words = program.words.items; maps = program.maps; data_maps = program.data_maps.items };
+      program = record { words = program.words.items; maps = program.maps; data_maps = program.data_maps.items; answered = program.answered };
       linked = e;
       words = refl;
       accepted = accepted;

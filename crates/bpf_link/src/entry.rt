@@ -1,0 +1,118 @@
+//! The entry of a program: one of the functions of its section.
+ghost use Rattle.std.specs.Prelude.{◌≡◌, ◌<◌, ◌+◌, ◌==◌, length, IfOk};
+ghost use Rattle.bpf_link.specs.Entries.{is_function, is_program, is_entry, entry_found, slot_in, entry_at, entry_of};
+ghost use Rattle.bpf_link.specs.Plans.{LiesPlan};
+ghost use Rattle.bpf_link.specs.Sections.{FoundBelow, name_at};
+
+use crate::fault::LinkFault;
+use crate::layout::SymbolEntry;
+use crate::plan::{Part, Plan, symbol_at};
+use crate::sections::{Found, name_at};
+
+/// The most bytes of a function's name.
+const LONGEST_NAME: usize = 255;
+
+/// Whether a symbol is a function of a section.
+fn is_function(section: usize, symbol: &SymbolEntry) -> bool
+    ensures { result ≡ is_function section symbol.now }
+{
+    symbol.kind == 2 && usize::from(symbol.section) == section
+}
+
+/// Whether a symbol is a function of a section that is known outside the object.
+fn is_program(section: usize, symbol: &SymbolEntry) -> bool
+    ensures { result ≡ is_program section symbol.now }
+{
+    is_function(section, symbol) && symbol.binding > 0
+}
+
+/// Whether a name stands at a place behind where names begin.
+fn has_name(object: &[u8], names: u64, place: u32, name: &[u8]) -> bool
+    ensures { result ≡ name_at object.now (names + place) name.now }
+{
+    let len = object.len() as u64;
+    if names > len {
+        return false;
+    }
+    let at = names + u64::from(place);
+    if at > len {
+        return false;
+    }
+    name_at(object, at as usize, name)
+}
+
+/// Whether a symbol may be the entry.
+fn is_entry(object: &[u8], plan: &Plan, name: &[u8], symbol: &SymbolEntry) -> bool
+    ensures { result ≡ is_entry object.now plan.now name.now symbol.now }
+{
+    if name.is_empty() {
+        return is_program(plan.code.section, symbol);
+    }
+    is_function(plan.code.section, symbol) && has_name(object, plan.names, symbol.name, name)
+}
+
+/// The symbols that may be the entry.
+fn entry_found(object: &[u8], plan: &Plan, name: &[u8]) -> Found
+    requires { LiesPlan object.now plan.now }
+    ensures value { result ≡ entry_found object.now plan.now name.now }
+    ensures within { FoundBelow plan.now.symbols.count result }
+{
+    let mut found = Found::Nothing;
+    for i in 0..plan.symbols.count {
+        let symbol = symbol_at(object, &plan.symbols, i);
+        found = found.with(is_entry(object, plan, name, &symbol), i);
+    }
+    found
+}
+
+/// The slot of a part in which a function begins.
+fn slot_in(part: &Part, symbol: &SymbolEntry) -> Result<usize, LinkFault>
+    ensures value { result ≡ slot_in part.now symbol.now }
+    ensures inside { IfOk result (λ slot. slot < part.now.slots.count) }
+{
+    if symbol.value % 8 != 0 {
+        return Err(LinkFault::NoEntry);
+    }
+    let slot = symbol.value / 8;
+    if slot >= part.slots.count as u64 {
+        return Err(LinkFault::NoEntry);
+    }
+    Ok(slot as usize)
+}
+
+/// The slot of the entry, by the symbols that may be it.
+fn entry_at(object: &[u8], plan: &Plan, unnamed: bool, found: Found) -> Result<usize, LinkFault>
+    requires plan { LiesPlan object.now plan.now }
+    requires found { FoundBelow plan.now.symbols.count found }
+    ensures value { result ≡ entry_at object.now plan.now unnamed found }
+    ensures small { IfOk result (λ slot. slot < 65535) }
+{
+    match found {
+        Found::Nothing => {
+            if !unnamed {
+                return Err(LinkFault::NoEntry);
+            }
+            Ok(0)
+        }
+        Found::Only(i) => slot_in(&plan.code, &symbol_at(object, &plan.symbols, i)),
+        Found::Several => Err(LinkFault::ManyPrograms),
+    }
+}
+
+/// The slot of the code in which a program begins: that of the function of a name, or, where the
+/// name is empty, of the section's only program.
+pub fn entry_of(object: &[u8], plan: &Plan, name: &[u8]) -> Result<usize, LinkFault>
+    requires { LiesPlan object.now plan.now }
+    ensures value { result ≡ entry_of object.now plan.now name.now }
+    ensures small { IfOk result (λ slot. slot < 65535) }
+{
+    if name.len() > LONGEST_NAME {
+        return Err(LinkFault::NoEntry);
+    }
+    entry_at(
+        object,
+        plan,
+        name.is_empty(),
+        entry_found(object, plan, name),
+    )
+}
