@@ -1,5 +1,6 @@
 pub mod Cuts
 pub mod Lists
+pub mod Patterns
 pub mod Reporting
 pub mod Tests
 pub mod Texts

@@ -1,5 +1,6 @@
 -- What stands in a section: a text, bytes, or a number. bpfdb's own choice.
-use Rattle.std.specs.Prelude.{ℕ, Bool, true, ◌==◌, ◌&&◌, ◌||◌, not, nat_le, nat_lt, if◌then◌else◌, List, [], ◌∷◌, length, drop, filter, Option, Some, None}
+use Rattle.std.specs.Prelude.{ℕ, ◌/◌, ◌%◌, Bool, true, false, ◌==◌, ◌&&◌, ◌||◌, not, nat_le, nat_lt, if◌then◌else◌, List, [], ◌∷◌, length, drop, filter, Option, Some, None}
+use Rattle.std.specs.Char.{digit_value, is_digit}
 use Rattle.std.specs.List.{list_all, position_or_len, slice_split}
 use Rattle.std.specs.Option.{option_and_then}
 use Rattle.std.specs.Result.{result_ok}
@@ -47,9 +48,29 @@ is_remark (b ∷ s) = b == 35
 abbrev pub are_remarks : List ℕ → Bool
 are_remarks text = list_all (λ line. is_remark (trim_start line)) (slice_split (λ b. b == 10) text)
 
+-- A body without its spaces.
+abbrev pub solid : List ℕ → List ℕ
+solid body = filter (λ b. not (is_space b)) body
+
 -- Bytes: two hexadecimal digits each, with spaces anywhere.
 abbrev pub bytes_of : List ℕ → Option (List ℕ)
-bytes_of body = result_ok (decode_of (filter (λ b. not (is_space b)) body))
+bytes_of body = result_ok (decode_of (solid body))
+
+-- A pattern of bytes: the same, where a dot (46) stands for any digit.
+abbrev pub fits_digit : ℕ → ℕ → Bool
+fits_digit digit value = digit == 46 || digit_value digit == value
+
+abbrev pub fits_byte : List ℕ → ℕ → Bool
+fits_byte (high ∷ low ∷ digits) b = fits_digit high (b / 16) && fits_digit low (b % 16)
+fits_byte _ b = false
+
+-- All bytes fit a pattern, and it has no more digits.
+abbrev pub fits : List ℕ → List ℕ → Bool
+fits digits [] = length digits == 0
+fits digits (b ∷ bytes) = fits_byte digits b && fits (drop 2 digits) bytes
+
+abbrev pub is_pattern : List ℕ → Bool
+is_pattern digits = length digits % 2 == 0 && list_all (λ d. d == 46 || is_digit d 16) digits
 
 -- A number below 2^64.
 abbrev pub number_of : List ℕ → Option ℕ

@@ -20,6 +20,7 @@ kind_named name =
     else if bytes_eq name (codes "fault") then kind.Fault
     else if bytes_eq name (codes "limit") then kind.Limit
     else if bytes_eq name (codes "refused") then kind.Refused
+    else if bytes_eq name (codes "mem-after") then kind.MemAfter
     else kind.Unknown
 
 -- What a section is of its test. A test has each part once at most.
@@ -34,6 +35,7 @@ part_of kind.Result = part.Expected
 part_of kind.Fault = part.Expected
 part_of kind.Limit = part.Expected
 part_of kind.Refused = part.Expected
+part_of kind.MemAfter = part.After
 part_of kind.Unknown = part.Nothing
 
 -- The parts, numbered.
@@ -44,7 +46,8 @@ part_number part.Context = 2
 part_number part.Maps = 3
 part_number part.Steps = 4
 part_number part.Expected = 5
-part_number part.Nothing = 6
+part_number part.After = 6
+part_number part.Nothing = 7
 
 abbrev pub is_part : Part → Kind → Bool
 is_part p k = part_number (part_of k) == part_number p

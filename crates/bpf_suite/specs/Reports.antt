@@ -2,6 +2,7 @@
 use Rattle.std.specs.Prelude.{ℕ, ◌≡◌, Bool, true, false, ◌&&◌, List, [], ◌∷◌, ◌++◌, codes, decimal}
 use Rattle.std.specs.Option.{option_map_or}
 use Rattle.counted_io.specs.Counted.{one_more}
+use Rattle.bpf_suite.specs.Faults.{has_part}
 use Rattle.bpf_suite.specs.Outcomes.{Comes, Outcome, outcome_text}
 use Rattle.bpf_suite.specs.Tests.{first_line, section_for, setting, title}
 use Rattle.bpf_suite.specs.Verdicts.{expected_text, passes}
@@ -20,8 +21,15 @@ named_text [] = []
 named_text (b ∷ s) = codes " - " ++ b ∷ s
 
 -- What is said of a test that fails.
-abbrev pub wanted : List Section → List ℕ
-wanted test = option_map_or (λ section. expected_text section.kind section.body) (section_for part.Expected test) []
+abbrev pub wanted_outcome : List Section → List ℕ
+wanted_outcome test = option_map_or (λ section. expected_text section.kind section.body) (section_for part.Expected test) []
+
+abbrev pub after_word : Bool → List ℕ
+after_word true = codes ", and mem-after"
+after_word false = []
+
+unfoldable pub wanted : List Section → List ℕ
+wanted test = wanted_outcome test ++ after_word (has_part part.After test)
 
 unfoldable pub diagnosis : List Section → Outcome → List ℕ
 diagnosis test outcome =

@@ -1,14 +1,16 @@
 -- When a test passes.
-use Rattle.std.specs.Prelude.{ℕ, Bool, true, false, ◌==◌, ◌&&◌, ◌||◌, List, [], ◌∷◌, ◌++◌, codes, drop, length, Ok, Err}
+use Rattle.std.specs.Prelude.{ℕ, Bool, true, false, ◌==◌, ◌&&◌, ◌||◌, List, [], ◌∷◌, ◌++◌, codes, drop, length, Ok, Err, if◌then◌else◌, unwrap_or}
 use Rattle.std.specs.List.{starts_with}
 use Rattle.std.specs.Option.{option_map_or}
-use Rattle.bpf_machine.specs.State.{register}
+use Rattle.bpf_machine.specs.Platform.{context_base}
+use Rattle.bpf_machine.specs.Regions.{run_at}
+use Rattle.bpf_machine.specs.State.{State, register}
 use Rattle.bpf_entries.specs.declared.status.Status.{Status}
 use Rattle.bpf_entries.specs.declared.status.Status.TheVariants as status
-use Rattle.bpf_suite.specs.Bodies.{number_of, trimmed}
+use Rattle.bpf_suite.specs.Bodies.{fits, number_of, solid, trimmed}
 use Rattle.bpf_suite.specs.Kinds.{word_of}
 use Rattle.bpf_suite.specs.Outcomes.{Outcome, outcome_text}
-use Rattle.bpf_suite.specs.Tests.{section_for}
+use Rattle.bpf_suite.specs.Tests.{context, section_for}
 use Rattle.bpf_suite.specs.declared.kind.Kind.{Kind}
 use Rattle.bpf_suite.specs.declared.kind.Kind.TheVariants as kind
 use Rattle.bpf_suite.specs.declared.kind.Part.TheVariants as part
@@ -49,6 +51,21 @@ abbrev pub meets : Kind → List ℕ → Outcome → Bool
 meets kind.Result body outcome = option_map_or (λ n. results n outcome) (number_of body) false
 meets k body outcome = tells (expected_text k body) (outcome_text outcome)
 
--- A test passes where its program comes to what is expected.
+abbrev pub is_met : List Section → Outcome → Bool
+is_met test outcome = option_map_or (λ section. meets section.kind section.body outcome) (section_for part.Expected test) false
+
+-- The bytes of a context of n bytes, where the program has ended.
+abbrev pub context_after : ℕ → State → List ℕ
+context_after n x = if n == 0 then [] else unwrap_or (run_at x.memory context_base n) []
+
+-- All of them fit a pattern.
+abbrev pub leaves : List Section → List ℕ → Outcome → Bool
+leaves test body (Ok x) = fits (solid body) (context_after (length (context test)) x)
+leaves test body (Err refusal) = false
+
+abbrev pub is_left : List Section → Outcome → Bool
+is_left test outcome = option_map_or (λ section. leaves test section.body outcome) (section_for part.After test) true
+
+-- A test passes where its program comes to what is expected, and leaves the context that is expected.
 abbrev pub passes : List Section → Outcome → Bool
-passes test outcome = option_map_or (λ section. meets section.kind section.body outcome) (section_for part.Expected test) false
+passes test outcome = is_met test outcome && is_left test outcome

@@ -1,8 +1,9 @@
 //! What stands in a section: a text, bytes, or a number.
-ghost use Rattle.std.specs.Prelude.{◌≡◌, ◌≤◌, ◌==◌, ◌&&◌, IfOk, length, not, position};
-ghost use Rattle.std.specs.List.{filter, list_all, position_or_len};
+ghost use Rattle.std.specs.Prelude.{◌≡◌, ◌≤◌, ◌==◌, ◌&&◌, ◌||◌, IfOk, IsTrue, length, not, position};
+ghost use Rattle.std.specs.Char.{digit_value, is_digit};
+ghost use Rattle.std.specs.List.{list_all, position_or_len};
 ghost use Rattle.std.specs.Option.{option_map};
-ghost use Rattle.bpf_suite.specs.Bodies.{are_remarks, bytes_of, is_line, is_phrase, is_remark, is_shown, is_space, is_title, limit_of, number_of, trim_end, trimmed};
+ghost use Rattle.bpf_suite.specs.Bodies.{are_remarks, bytes_of, fits, fits_byte, fits_digit, is_line, is_pattern, is_phrase, is_remark, is_shown, is_space, is_title, limit_of, number_of, solid, trim_end, trimmed};
 
 use bpfdb_limits::is_limit;
 use counted_io::{is_blank, natural, trim_start};
@@ -113,7 +114,7 @@ pub fn are_remarks(text: &[u8]) -> bool
 pub fn bytes_of(alloc: Global, body: &[u8]) -> Result<Option<Vec<u8>>, AllocError>
     ensures { IfOk result (λ bytes. option_map (λ v. v.items) bytes ≡ bytes_of body.now) }
 {
-    let digits = digits_of(alloc, body)?;
+    let digits = solid(alloc, body)?;
     match decode(alloc, digits.as_slice()) {
         Ok(bytes) => Ok(Some(bytes)),
         Err(FromHexError::OutOfMemory) => Err(AllocError),
@@ -122,13 +123,72 @@ pub fn bytes_of(alloc: Global, body: &[u8]) -> Result<Option<Vec<u8>>, AllocErro
 }
 
 /// A body without its spaces.
-fn digits_of(alloc: Global, body: &[u8]) -> Result<Vec<u8>, AllocError>
-    ensures { IfOk result (λ digits. digits.items ≡ filter (λ b. not (is_space b)) body.now) }
+pub fn solid(alloc: Global, body: &[u8]) -> Result<Vec<u8>, AllocError>
+    ensures { IfOk result (λ digits. digits.items ≡ solid body.now) }
 {
     body.iter()
         .copied()
         .filter(|byte| !is_space(*byte))
         .collect(alloc)
+}
+
+/// Whether digits are a pattern of bytes.
+pub fn is_pattern(digits: &[u8]) -> bool
+    ensures { result ≡ is_pattern digits.now }
+{
+    digits.len() % 2 == 0 && are_pattern_digits(digits)
+}
+
+fn are_pattern_digits(digits: &[u8]) -> bool
+    ensures { result ≡ list_all (λ d. d == 46 || is_digit d 16) digits.now }
+{
+    digits.iter().all(|digit| is_pattern_digit(*digit))
+}
+
+fn is_pattern_digit(digit: u8) -> bool
+    ensures { result ≡ (digit == 46 || is_digit digit 16) }
+{
+    digit == b'.' || digit_value(digit) < 16
+}
+
+/// The value of a digit or a letter, and 36 for any other byte.
+fn digit_value(byte: u8) -> u32
+    ensures { result ≡ digit_value byte }
+{
+    char::from(byte).to_digit(36).unwrap_or(36)
+}
+
+/// Whether a digit of a pattern fits the value of four bits.
+fn fits_digit(digit: u8, value: u8) -> bool
+    ensures { result ≡ fits_digit digit value }
+{
+    digit == b'.' || digit_value(digit) == u32::from(value)
+}
+
+/// Whether two digits fit a byte.
+fn fits_byte(digits: &[u8], byte: u8) -> bool
+    ensures value { result ≡ fits_byte digits.now byte }
+    ensures long { IsTrue result → 2 ≤ length digits.now }
+{
+    match digits {
+        [high, low, ..] => fits_digit(*high, byte / 16) && fits_digit(*low, byte % 16),
+        _ => false,
+    }
+}
+
+/// Whether all bytes fit a pattern.
+pub fn fits(digits: &[u8], bytes: &[u8]) -> bool
+    ensures { result ≡ fits digits.now bytes.now }
+{
+    let mut rest = digits;
+    for byte in bytes {
+        if fits_byte(rest, *byte) {
+            rest = &rest[2..];
+        } else {
+            return false;
+        }
+    }
+    rest.is_empty()
 }
 
 /// The number that a body is, None where it is none below 2^64.

@@ -26,6 +26,9 @@ pub enum Kind {
     Limit,
     /// A refusal of the program.
     Refused,
+    /// The bytes of the context where the program has ended, in hexadecimal, with `.` for any
+    /// digit.
+    MemAfter,
     /// Its name is none of these.
     Unknown,
 }
@@ -39,6 +42,7 @@ pub enum Part {
     Maps,
     Steps,
     Expected,
+    After,
     Nothing,
 }
 
@@ -54,7 +58,8 @@ impl Part {
             Part::Maps => 3,
             Part::Steps => 4,
             Part::Expected => 5,
-            Part::Nothing => 6,
+            Part::After => 6,
+            Part::Nothing => 7,
         }
     }
 }
@@ -86,6 +91,8 @@ impl Kind {
             Kind::Limit
         } else if is(name, "refused") {
             Kind::Refused
+        } else if is(name, "mem-after") {
+            Kind::MemAfter
         } else {
             Kind::Unknown
         }
@@ -106,6 +113,7 @@ impl Kind {
             Kind::Fault => Part::Expected,
             Kind::Limit => Part::Expected,
             Kind::Refused => Part::Expected,
+            Kind::MemAfter => Part::After,
             Kind::Unknown => Part::Nothing,
         }
     }

@@ -3,7 +3,7 @@ ghost use Rattle.std.specs.Prelude.{◌≡◌, ◌&&◌, List, IfErr, IfOk};
 ghost use Rattle.counted_io.specs.Writing.{Writes, WritesAfter};
 ghost use Rattle.bpf_suite.specs.Files.{named, own_of, tests, with_shared};
 ghost use Rattle.bpf_suite.specs.Outcomes.{Comes, Outcome};
-ghost use Rattle.bpf_suite.specs.Reports.{AreOutcomes, Counts, all_pass, diagnosis, named_text, plan, report_text, test_text, tests_text, verdict_text, verdict_word, wanted};
+ghost use Rattle.bpf_suite.specs.Reports.{AreOutcomes, Counts, after_word, all_pass, diagnosis, named_text, plan, report_text, test_text, tests_text, verdict_text, verdict_word, wanted, wanted_outcome};
 ghost use Rattle.bpf_suite.specs.Tests.{setting};
 ghost use Rattle.bpf_suite.specs.Verdicts.{passes};
 
@@ -286,8 +286,36 @@ fn put_wanted<W: Write>(
 ) -> Result<(), WriteFault>
     ensures { WritesAfter W.contents writer.old so_far writer.new result (wanted test.now) }
 {
+    let begun = put_wanted_outcome(writer, so_far, test);
+    put_after_word(writer, begun, test.has(Part::After))
+}
+
+/// Writes which outcome is wanted of a test.
+fn put_wanted_outcome<W: Write>(
+    writer: &mut Counted<W>,
+    so_far: Result<(), WriteFault>,
+    test: &Test<'_, '_>,
+) -> Result<(), WriteFault>
+    ensures { WritesAfter W.contents writer.old so_far writer.new result
+        (wanted_outcome test.now) }
+{
     match test.section(Part::Expected) {
         Some(section) => put_expected(writer, so_far, section.kind, section.text()),
         None => put(writer, so_far, b""),
+    }
+}
+
+/// Writes that a context is wanted, too.
+fn put_after_word<W: Write>(
+    writer: &mut Counted<W>,
+    so_far: Result<(), WriteFault>,
+    has: bool,
+) -> Result<(), WriteFault>
+    ensures { WritesAfter W.contents writer.old so_far writer.new result (after_word has) }
+{
+    if has {
+        put(writer, so_far, b", and mem-after")
+    } else {
+        put(writer, so_far, b"")
     }
 }

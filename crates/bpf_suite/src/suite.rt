@@ -1,13 +1,14 @@
 //! A test file without a fault.
 ghost use Rattle.std.specs.Prelude.{◌≡◌, ◌≤◌, ◌<◌, ◌++◌, List, None, IfErr, IfOk, count_by, get_or, is_some, length, slice_range, []};
-ghost use Rattle.bpf_suite.specs.Bodies.{bytes_of};
+ghost use Rattle.bpf_suite.specs.Bodies.{bytes_of, is_pattern, solid};
 ghost use Rattle.bpf_suite.specs.Faults.{IsFaultOf, alone_fault, fault_at, file_fault, first_fault, is_well_formed, same_test, section_fault, sections_fault};
 ghost use Rattle.bpf_suite.specs.Files.{begins_name, sections, tests, until_name};
 ghost use Rattle.bpf_suite.specs.Kinds.{is_name};
 ghost use Rattle.bpf_suite.specs.declared.section.Section.{Section};
 
 use crate::body::{
-    are_remarks, bytes_of, is_line, is_phrase, is_title, limit_of, number_of, trimmed,
+    are_remarks, bytes_of, is_line, is_pattern, is_phrase, is_title, limit_of, number_of, solid,
+    trimmed,
 };
 use crate::fault::{FileFault, SectionFault};
 use crate::kind::{Kind, Part};
@@ -198,8 +199,17 @@ fn is_well_formed(alloc: Global, kind: Kind, body: &[u8]) -> Result<bool, AllocE
         Kind::Result => Ok(number_of(body).is_some()),
         Kind::Maps | Kind::Limit => Ok(is_line(trimmed(body))),
         Kind::Fault | Kind::Refused => Ok(is_phrase(trimmed(body))),
+        Kind::MemAfter => is_pattern_body(alloc, body),
         Kind::Listing | Kind::Unknown => Ok(true),
     }
+}
+
+/// Whether a body is a pattern of bytes.
+fn is_pattern_body(alloc: Global, body: &[u8]) -> Result<bool, AllocError>
+    ensures { IfOk result (λ is. is ≡ is_pattern (solid body.now)) }
+{
+    let digits = solid(alloc, body)?;
+    Ok(is_pattern(digits.as_slice()))
 }
 
 /// Whether a body is bytes.

@@ -60,7 +60,7 @@ impl<'b, 'a> Test<'b, 'a> {
     }
 
     /// Whether it has a part.
-    fn has(&self, part: Part) -> bool
+    pub fn has(&self, part: Part) -> bool
         ensures { result ≡ has_part part self.now }
     {
         has_part(self.own, part) || has_part(self.shared, part)

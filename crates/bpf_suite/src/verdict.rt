@@ -4,9 +4,9 @@ ghost use Rattle.std.specs.Option.{option_map_or};
 ghost use Rattle.counted_io.specs.Writing.{Writes, WritesAfter};
 ghost use Rattle.bpf_suite.specs.Bodies.{number_of};
 ghost use Rattle.bpf_suite.specs.Outcomes.{outcome_text};
-ghost use Rattle.bpf_suite.specs.Verdicts.{apart, begins, expected_text, has_exited, is_stop, meets, passes, results, tells};
+ghost use Rattle.bpf_suite.specs.Verdicts.{apart, context_after, expected_text, has_exited, is_left, is_met, is_stop, leaves, meets, passes, results, tells};
 
-use crate::body::{number_of, trimmed};
+use crate::body::{fits, number_of, solid, trimmed};
 use crate::kind::{Kind, Part};
 use crate::outcome::put_outcome;
 use crate::refusal::Refusal;
@@ -17,6 +17,9 @@ use counted_io::{Counted, WriteFault, put};
 use std::alloc::{AllocError, Global};
 use std::io::Write;
 
+/// The address of the context's first byte.
+const CONTEXT_BASE: u64 = 0x1_0000_0000;
+
 /// Whether a test passes with this outcome.
 pub fn passes(
     alloc: Global,
@@ -25,9 +28,68 @@ pub fn passes(
 ) -> Result<bool, AllocError>
     ensures { IfOk result (λ passed. passed ≡ passes test.now outcome.now) }
 {
+    let met = is_met(alloc, test, outcome)?;
+    let left = is_left(alloc, test, outcome)?;
+    Ok(met && left)
+}
+
+/// Whether an outcome is what a test expects.
+fn is_met(
+    alloc: Global,
+    test: &Test<'_, '_>,
+    outcome: &Result<Cpu, Refusal>,
+) -> Result<bool, AllocError>
+    ensures { IfOk result (λ met. met ≡ is_met test.now outcome.now) }
+{
     match test.section(Part::Expected) {
         Some(section) => meets(alloc, section.kind, section.text(), outcome),
         None => Ok(false),
+    }
+}
+
+/// Whether the context that is left is what a test expects.
+fn is_left(
+    alloc: Global,
+    test: &Test<'_, '_>,
+    outcome: &Result<Cpu, Refusal>,
+) -> Result<bool, AllocError>
+    ensures { IfOk result (λ left. left ≡ is_left test.now outcome.now) }
+{
+    match test.section(Part::After) {
+        Some(section) => leaves(alloc, test, section.text(), outcome),
+        None => Ok(true),
+    }
+}
+
+/// Whether the context that is left fits a pattern.
+fn leaves(
+    alloc: Global,
+    test: &Test<'_, '_>,
+    body: &[u8],
+    outcome: &Result<Cpu, Refusal>,
+) -> Result<bool, AllocError>
+    ensures { IfOk result (λ left. left ≡ leaves test.now body.now outcome.now) }
+{
+    match outcome {
+        Ok(cpu) => {
+            let context = test.context(alloc)?;
+            let digits = solid(alloc, body)?;
+            Ok(fits(digits.as_slice(), context_after(context.len(), cpu)))
+        }
+        Err(_) => Ok(false),
+    }
+}
+
+/// The bytes of a context of n bytes, where the program has ended.
+pub fn context_after(n: usize, cpu: &Cpu) -> &[u8]
+    ensures { result.now ≡ context_after n cpu.now }
+{
+    if n == 0 {
+        return &[];
+    }
+    match cpu.peek(CONTEXT_BASE, n) {
+        Some(run) => run,
+        None => &[],
     }
 }
 

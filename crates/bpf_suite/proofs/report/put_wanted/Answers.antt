@@ -1,6 +1,9 @@
-use Rattle.std.proofs.Common.{◌∙◌, sym}
+use Rattle.std.proofs.Common.{append_assoc}
+use Rattle.bpf_suite.specs.Reports.{wanted}
 use Rattle.bpf_suite.proofs.report.put_wanted.Goals as goal
 
-pub returns-in-Some : goal.returns-in-Some
-returns-in-Some g c = λ first front known.
-    rw (sym c.section.ensures ∙ c.in-Some.is) (rw c.text.ensures at (c.put_expected.ensures first front known))
+pub returns : goal.returns
+unfolding wanted
+returns g c = λ first front known.
+    let begun = c.put_wanted_outcome-begun.ensures first front known in
+    simp append_assoc at (rw c.has.ensures at (c.put_after_word.ensures first _ begun))

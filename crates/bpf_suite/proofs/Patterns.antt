@@ -1,0 +1,27 @@
+-- Bytes held against a pattern.
+use Rattle.std.proofs.Common.{ℕ, ◌≡◌, ◌<◌, ◌≤◌, ◌+◌, ◌/◌, ◌%◌, true, false, ◌&&◌, List, [], ◌∷◌, drop, length, get_or, refl, ap, ◌∙◌, arith}
+use Rattle.std.proofs.lemmas.List.{drop_more}
+use Rattle.bpf_suite.specs.Bodies.{fits, fits_byte, fits_digit}
+
+-- a byte that doesn't fit
+pub fits-no : (digits bytes : List ℕ) (i : ℕ) → i < length bytes → fits_byte digits (get_or bytes i 0) ≡ false → fits digits (drop i bytes) ≡ false
+fits-no digits bytes i h e =
+    ap (fits digits) (drop_more bytes i 0 h) ∙ ap (λ b. b && fits (drop 2 digits) (drop (i + 1) bytes)) e
+
+-- a byte that fits
+pub fits-yes : (digits bytes : List ℕ) (i : ℕ) → i < length bytes → fits_byte digits (get_or bytes i 0) ≡ true
+    → fits digits (drop i bytes) ≡ fits (drop 2 digits) (drop (i + 1) bytes)
+fits-yes digits bytes i h e =
+    ap (fits digits) (drop_more bytes i 0 h) ∙ ap (λ b. b && fits (drop 2 digits) (drop (i + 1) bytes)) e
+
+-- too few digits, and enough
+pub fits_byte-short : (digits : List ℕ) (b : ℕ) → length digits < 2 → fits_byte digits b ≡ false
+fits_byte-short [] b h = refl
+fits_byte-short (x ∷ []) b h = refl
+fits_byte-short (x ∷ y ∷ s) b h = absurd (omega (arith, h))
+
+pub fits_byte-long : (digits : List ℕ) (b : ℕ) → 2 ≤ length digits
+    → fits_byte digits b ≡ (fits_digit (get_or digits 0 0) (b / 16) && fits_digit (get_or digits 1 0) (b % 16))
+fits_byte-long [] b h = absurd (omega (arith, h))
+fits_byte-long (x ∷ []) b h = absurd (omega (arith, h))
+fits_byte-long (x ∷ y ∷ s) b h = refl
