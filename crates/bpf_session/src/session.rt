@@ -1,7 +1,7 @@
 //! Sessions: commands over a machine and the keeper of its moves.
-ghost use Rattle.std.specs.Prelude.{◌≡◌, ◌≤◌, List, []};
+ghost use Rattle.std.specs.Prelude.{◌≡◌, ◌≤◌, List, [], length};
 ghost use Rattle.bpf_journal.specs.Histories.{HasHistory, Record, StandsFor};
-ghost use Rattle.bpf_journal.specs.Tracks.{IsCourse, RingHolds, ring_room, track_of};
+ghost use Rattle.bpf_journal.specs.Tracks.{IsCourse, RingHolds, Track, ring_room, track_of};
 ghost use Rattle.bpfdb_commands.specs.Limits.{greatest_count};
 ghost use Rattle.bpf_session.specs.Accepted.{Accepts};
 ghost use Rattle.bpf_session.specs.Meaning.{accepted, does};
@@ -102,6 +102,20 @@ impl<K: Keeper> Session<K> {
         ensures { result.now ≡ self.now.moment.keeper }
     {
         self.timeline.keeper()
+    }
+
+    /// The most steps of a command.
+    pub fn limit(&self) -> u64
+        ensures { result ≡ self.now.limit }
+    {
+        self.limit
+    }
+
+    /// How many moves are kept.
+    pub fn kept(&self) -> usize
+        ensures { (t : Track) → HasPast K.holds self.now t → result ≡ length t.history }
+    {
+        self.timeline.len()
     }
 
     /// Brings into a proof that there is a history, and what was taken back from it.
