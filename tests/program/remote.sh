@@ -15,22 +15,22 @@ answered() {
 
 # The sums of these are of the bodies, by hand.
 printf 'mov r0, 42\nexit\n' > answer.s
-row 'a step, the way back, and the end' 0 '$s#73$bs#d5$bs#d5$D#44' '+$T05#b9+$T05#b9+$T05replaylog:begin;#02+$OK#9a' '' gdb --listing answer.s
+row 'a step, the way back, and the end' 0 '$s#73$bs#d5$bs#d5$D#44' '+$T05thread:0;0a:0002000002000000;0b:0800000000000000;40:0100000000000000;#c9+$T05thread:0;0a:0002000002000000;0b:0000000000000000;40:0000000000000000;#c0+$T05replaylog:begin;thread:0;0a:0002000002000000;0b:0000000000000000;40:0000000000000000;#09+$OK#9a' '' gdb --listing answer.s
 row 'nothing' 0 '' '' '' gdb --listing answer.s
-row 'a damaged packet, and one behind it' 0 '$s#00$?#3f' '-+$T05#b9' '' gdb --listing answer.s
-row 'sums that are none' 0 '$?#3g$?#g3$?##3f$?#3f' '---+$T05#b9' '' gdb --listing answer.s
-row 'the last answer again' 0 '$s#73-' '+$T05#b9$T05#b9' '' gdb --listing answer.s
-row 'noise' 0 'noise#3f+\003$?#3f++' '+$T05#b9' '' gdb --listing answer.s
+row 'a damaged packet, and one behind it' 0 '$s#00$?#3f' '-+$T05thread:0;0a:0002000002000000;0b:0000000000000000;40:0000000000000000;#c0' '' gdb --listing answer.s
+row 'sums that are none' 0 '$?#3g$?#g3$?##3f$?#3f' '---+$T05thread:0;0a:0002000002000000;0b:0000000000000000;40:0000000000000000;#c0' '' gdb --listing answer.s
+row 'the last answer again' 0 '$s#73-' '+$T05thread:0;0a:0002000002000000;0b:0800000000000000;40:0100000000000000;#c9$T05thread:0;0a:0002000002000000;0b:0800000000000000;40:0100000000000000;#c9' '' gdb --listing answer.s
+row 'noise' 0 'noise#3f+\003$?#3f++' '+$T05thread:0;0a:0002000002000000;0b:0000000000000000;40:0000000000000000;#c0' '' gdb --listing answer.s
 row 'nothing is answered behind the end of a connection' 0 '$D#44$?#3f' '+$OK#9a' '' gdb --listing answer.s
 row 'the end without an answer' 0 '$k#6b$?#3f' '+' '' gdb --listing answer.s
-row 'no more acknowledgements' 0 '$QStartNoAckMode#b0$?#3f$?#00' '+$OK#9a$T05#b9-' '' gdb --listing answer.s
-row 'a limit of steps' 0 '$c#63' '+$T02#b6' '' gdb --listing --steps 1 answer.s
+row 'no more acknowledgements' 0 '$QStartNoAckMode#b0$?#3f$?#00' '+$OK#9a$T05thread:0;0a:0002000002000000;0b:0000000000000000;40:0000000000000000;#c0-' '' gdb --listing answer.s
+row 'a limit of steps' 0 '$c#63' '+$O6c696d6974206f6620312073746570733a20636f6e74696e756520676f6573206f6e0a#ba$T02thread:0;0a:0002000002000000;0b:0800000000000000;40:0100000000000000;#c6' '' gdb --listing --steps 1 answer.s
 for cut in '$' '$?' '$?#' '$?#3'; do
-    row "a packet that is cut: $cut" 0 "\$s#73$cut" '+$T05#b9' '' gdb --listing answer.s
+    row "a packet that is cut: $cut" 0 "\$s#73$cut" '+$T05thread:0;0a:0002000002000000;0b:0800000000000000;40:0100000000000000;#c9' '' gdb --listing answer.s
 done
 { printf '$'; head -c 16385 /dev/zero | tr '\0' 'p'; printf '#70$?#3f'; } > script
 run gdb --listing answer.s
-check 'a packet that is too long' 0 '-+$T05#b9' ''
+check 'a packet that is too long' 0 '-+$T05thread:0;0a:0002000002000000;0b:0000000000000000;40:0000000000000000;#c0' ''
 printf 'frob\n' > wrong.s
 row 'a refused listing' 2 '$?#3f' '' 'refused A1 at line 1: unknown mnemonic\n' gdb --listing wrong.s
 row 'a refused journal' 2 '$?#3f' '' 'refused J1: journal size out of range\n' gdb --journal 1 --listing answer.s
@@ -127,7 +127,6 @@ vMustReplyEmpty|
 qC|
 qfThreadInfo|
 X0,0:|
-Z1,8,1|
 Z3,8,1|
 Z4,8,1|
 R00|
@@ -146,6 +145,13 @@ qRcmd,73657420726567207230203961g|E02
 qRcmd,|OK
 vKill;1|OK
 ROWS
+
+# The line `help` lists the commands, but for quit, whose place in gdb is gdb's own.
+packet qRcmd,68656c70 > script
+run gdb --registers bpf --listing answer.s
+sed 's/^+\$//; s/#..$//' found/out | LC_ALL=C awk "$packets"'BEGIN { prepare(); ORS = "" } { print spelled($0) }' > found/help
+awk -F ' *[|] *' '!/^#/ && $2 != "quit" { print $2 ": " $4 }' "$top/docs/commands.txt" > wanted/help
+same 'help lists the commands' wanted/help found/help
 
 # Lines of 30 bytes and of the digits of their slots: 256 are 8,338 bytes, and 8,192 fit a packet. 251 are 8,173.
 { yes 'stdw [r10-256], -2147483648' | head -n 256; echo exit; } > long.s

@@ -12,7 +12,9 @@ use Rattle.bpf_session.specs.declared.reply.Reply.{Reply}
 use Rattle.bpf_session.specs.Replies.{text_of_answer}
 use Rattle.bpf_session.specs.Sessions.{SessionValue, HasPast, bounds_of, point_of}
 use Rattle.bpf_remote.specs.Answers.{error_text}
-use Rattle.bpf_remote.specs.Connections.{Obeyed, ObeysCommand, ObeysLine, Tells}
+use Rattle.bpf_remote.specs.Connections.{Heeds, Obeyed, ObeysCommand, ObeysLine, Tells, line_of}
+use Rattle.bpf_remote.specs.Help.{help_text}
+use Rattle.bpf_remote.specs.Moves.{moves_after}
 use Rattle.bpf_remote.specs.Numbers.{hex_text}
 use Rattle.bpf_remote.specs.Packets.{Buffer, Holds}
 
@@ -44,9 +46,10 @@ told items (Ok a) buffer text h e = (hex_text (items a), h, inl (ap hex_text e))
 told items (Err fault) buffer text h e = (error_text 16, h, inr refl)
 
 module _ {K : Type 0} (holds : K → List Kept → Type 0) (refusals room : K → ℕ) where
-  pub told-quit : (s : SessionValue K) (command : Command) (quits : Bool) (buffer : Buffer) → quits ≡ true → Holds buffer (79 ∷ 75 ∷ [])
-      → (body : List ℕ) × Holds buffer body × ObeysCommand holds refusals room s s command quits body
-  told-quit s command quits buffer e h = (79 ∷ 75 ∷ [], h, subst (λ (v : Bool). ObeysCommand holds refusals room s s command v (79 ∷ 75 ∷ [])) (sym e) (refl, refl))
+  pub told-quit : (s : SessionValue K) (command : Command) (quits : Bool) (moves : ℕ) (buffer : Buffer) → quits ≡ true → Holds buffer (79 ∷ 75 ∷ [])
+      → (body : List ℕ) × Holds buffer body × ObeysCommand holds refusals room s s command quits body moves moves
+  told-quit s command quits moves buffer e h =
+      (79 ∷ 75 ∷ [], h, subst (λ (v : Bool). ObeysCommand holds refusals room s s command v (79 ∷ 75 ∷ []) moves moves) (sym e) (refl, refl, refl))
 
   -- what a command printed
   told-all : {A E : Type 0} (items : A → List ℕ) (r : Result A E) (buffer : Buffer) (new : SessionValue K) (said : Result Reply Refusal)
@@ -57,18 +60,32 @@ module _ {K : Type 0} (holds : K → List Kept → Type 0) (refusals room : K �
   told-all items (Err fault) buffer new said h e = (error_text 16, h, λ past had. inr refl)
 
   pub told-command : {A E : Type 0} (items : A → List ℕ) (r : Result A E) (buffer : Buffer) (old new : SessionValue K) (command : Command) (quits : Bool) (said : Result Reply Refusal)
-      → quits ≡ false → Obeyed holds refusals room old new command said
+      (moves now : ℕ) → quits ≡ false → Obeyed holds refusals room old new command said → now ≡ moves_after said command moves
       → MatchResult r (λ a. Holds buffer (hex_text (items a))) (λ _. Holds buffer (error_text 16))
       → IfOk r (λ a. (t : Track) → HasPast holds new t → items a ≡ text_of_answer (bounds_of room new) said (point_of new t))
-      → (body : List ℕ) × Holds buffer body × ObeysCommand holds refusals room old new command quits body
-  told-command items r buffer old new command quits said e o h texts =
+      → (body : List ℕ) × Holds buffer body × ObeysCommand holds refusals room old new command quits body moves now
+  told-command items r buffer old new command quits said moves now e o m h texts =
       let t = told-all items r buffer new said h texts in
-      (t.0, t.1, subst (λ (v : Bool). ObeysCommand holds refusals room old new command v t.0) (sym e) (said, o, t.2))
+      (t.0, t.1, subst (λ (v : Bool). ObeysCommand holds refusals room old new command v t.0 moves now) (sym e) (said, o, t.2, m))
 
-  pub line-wrong : (s : SessionValue K) (said : Option (Result (Option Command) Refusal)) (buffer : Buffer) → said ≡ None → Holds buffer (error_text 2)
-      → (body : List ℕ) × Holds buffer body × ObeysLine holds refusals room s s said body
-  line-wrong s said buffer e h = (error_text 2, h, subst (λ (v : Option (Result (Option Command) Refusal)). ObeysLine holds refusals room s s v (error_text 2)) (sym e) (refl, refl))
+  pub line-wrong : (s : SessionValue K) (said : Option (Result (Option Command) Refusal)) (moves : ℕ) (buffer : Buffer) → said ≡ None → Holds buffer (error_text 2)
+      → (body : List ℕ) × Holds buffer body × ObeysLine holds refusals room s s said body moves moves
+  line-wrong s said moves buffer e h =
+      (error_text 2, h, subst (λ (v : Option (Result (Option Command) Refusal)). ObeysLine holds refusals room s s v (error_text 2) moves moves) (sym e) (refl, refl, refl))
 
-  pub line-blank : (s : SessionValue K) (said : Option (Result (Option Command) Refusal)) (buffer : Buffer) → said ≡ Some (Ok None) → Holds buffer (79 ∷ 75 ∷ [])
-      → (body : List ℕ) × Holds buffer body × ObeysLine holds refusals room s s said body
-  line-blank s said buffer e h = (79 ∷ 75 ∷ [], h, subst (λ (v : Option (Result (Option Command) Refusal)). ObeysLine holds refusals room s s v (79 ∷ 75 ∷ [])) (sym e) (refl, refl))
+  pub line-blank : (s : SessionValue K) (said : Option (Result (Option Command) Refusal)) (moves : ℕ) (buffer : Buffer) → said ≡ Some (Ok None) → Holds buffer (79 ∷ 75 ∷ [])
+      → (body : List ℕ) × Holds buffer body × ObeysLine holds refusals room s s said body moves moves
+  line-blank s said moves buffer e h =
+      (79 ∷ 75 ∷ [], h, subst (λ (v : Option (Result (Option Command) Refusal)). ObeysLine holds refusals room s s v (79 ∷ 75 ∷ []) moves moves) (sym e) (refl, refl, refl))
+
+  -- a line that asks for help, and one that doesn't
+  pub heeded-help : (s : SessionValue K) (digits : List ℕ) (asks : Bool) (moves : ℕ) (buffer : Buffer) → asks ≡ true → Holds buffer (hex_text help_text)
+      → (body : List ℕ) × Holds buffer body × Heeds holds refusals room s s asks digits body moves moves
+  heeded-help s digits asks moves buffer e h =
+      (hex_text help_text, h, subst (λ (v : Bool). Heeds holds refusals room s s v digits (hex_text help_text) moves moves) (sym e) (refl, refl, refl))
+
+  pub heeded-line : (old new : SessionValue K) (digits : List ℕ) (asks : Bool) (moves now : ℕ) (buffer : Buffer) → asks ≡ false
+      → (body : List ℕ) × Holds buffer body × ObeysLine holds refusals room old new (line_of digits) body moves now
+      → (body : List ℕ) × Holds buffer body × Heeds holds refusals room old new asks digits body moves now
+  heeded-line old new digits asks moves now buffer e (body, h, o) =
+      (body, h, subst (λ (v : Bool). Heeds holds refusals room old new v digits body moves now) (sym e) o)

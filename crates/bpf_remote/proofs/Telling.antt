@@ -1,11 +1,14 @@
 -- Texts that are appended to a body.
-use Rattle.std.proofs.Common.{◌≡◌, ◌<◌, ◌≤◌, ℕ, suc, ◌+◌, ◌-◌, true, false, List, [], ◌∷◌, ◌++◌, Option, None, Some, refl, sym, ap, subst, ◌∙◌, append_assoc, arith, add-one, length, take}
+use Rattle.std.proofs.Common.{◌≡◌, ◌<◌, ◌≤◌, ◌==◌, ℕ, suc, ◌+◌, ◌-◌, true, false, List, [], ◌∷◌, ◌++◌, Option, None, Some, refl, sym, ap, subst, ◌∙◌, append_assoc, arith, add-one, length, take}
 use lib.Chars.{codes}
 use Rattle.std.proofs.lemmas.List.{append-nil}
 use Rattle.bpf_machine.specs.State.{State}
 use Rattle.bpf_remote.specs.Packets.{Buffer, Holds}
 use Rattle.bpf_remote.specs.Numbers.{address_text, hex_text, word_text}
-use Rattle.bpf_remote.specs.Answers.{byte_at, error_text, register_text, present, registers_below, value_of, memory_part, has_memory, part_of, watched_text}
+use Rattle.bpf_remote.specs.Answers.{byte_at, error_text, moves_text, other_text, register_text, present, registers_below, stop_text, value_of, memory_part, has_memory, part_of, watched_text}
+use Rattle.bpf_remote.specs.Layouts.{has_moves}
+use Rattle.bpf_remote.specs.declared.layout.Layout.{Layout}
+use Rattle.bpf_remote.specs.declared.manners.Manners.{Manners}
 use Rattle.bpf_remote.proofs.HexText.{hex_text-append, hex_text-none}
 
 -- the same text in other words
@@ -19,6 +22,30 @@ error-parts text number = append_assoc text (69 ∷ []) (hex_text (number ∷ []
 -- the address of a watched byte
 pub watched-parts : (text : List ℕ) (address : ℕ) → ((text ++ codes "T05watch:") ++ address_text address) ++ codes ";" ≡ text ++ watched_text address
 watched-parts text address = append_assoc (text ++ codes "T05watch:") (address_text address) (codes ";") ∙ append_assoc text (codes "T05watch:") (address_text address ++ codes ";")
+
+-- six texts behind another
+one-more : (text s t u : List ℕ) → u ≡ text ++ s → u ++ t ≡ text ++ (s ++ t)
+one-more text s t u e = ap (λ (v : List ℕ). v ++ t) e ∙ append_assoc text s t
+
+six-parts : (text a p b q c e : List ℕ) → text ++ a ++ p ++ b ++ q ++ c ++ e ≡ text ++ (a ++ p ++ b ++ q ++ c ++ e)
+six-parts text a p b q c e =
+    one-more text (a ++ p ++ b ++ q ++ c) e (text ++ a ++ p ++ b ++ q ++ c)
+    (one-more text (a ++ p ++ b ++ q) c (text ++ a ++ p ++ b ++ q)
+    (one-more text (a ++ p ++ b) q (text ++ a ++ p ++ b) (one-more text (a ++ p) b (text ++ a ++ p) (append_assoc text a p))))
+
+-- r10, pc and the moves before a stop
+pub stop-parts : (text : List ℕ) (m : Manners) (x : State) (pointer counter : ℕ) → pointer ≡ value_of x 10 → counter ≡ value_of x 11
+    → (((((text ++ codes "thread:0;0a:") ++ word_text pointer) ++ codes ";0b:") ++ word_text counter) ++ codes ";") ++ moves_text m.layout m.moves ≡ text ++ stop_text m x
+stop-parts text m x pointer counter e f =
+    rw (e, f) (six-parts text (codes "thread:0;0a:") (word_text (value_of x 10)) (codes ";0b:") (word_text (value_of x 11)) (codes ";") (moves_text m.layout m.moves))
+
+pub moves-there : (text : List ℕ) (gdb : Layout) (moves : ℕ) → has_moves gdb ≡ true → ((text ++ codes "40:") ++ word_text moves) ++ codes ";" ≡ text ++ moves_text gdb moves
+moves-there text gdb moves e =
+    append_assoc (text ++ codes "40:") (word_text moves) (codes ";") ∙ append_assoc text (codes "40:") (word_text moves ++ codes ";")
+    ∙ ap (λ (v : List ℕ). text ++ v) (rw e refl)
+
+pub moves-absent : (text : List ℕ) (gdb : Layout) (moves : ℕ) → has_moves gdb ≡ false → text ≡ text ++ moves_text gdb moves
+moves-absent text gdb moves e = sym (append-nil text) ∙ ap (λ (v : List ℕ). text ++ v) (rw e refl)
 
 -- no register yet, and one more
 pub registers-none : (text : List ℕ) (x : State) → text ≡ text ++ registers_below x 0
@@ -78,11 +105,17 @@ pub part-absent : (m : State) (a n : ℕ) → has_memory m a n ≡ false → err
 part-absent m a n h = rw h refl
 
 -- a register that there is, and one that there isn't
-pub register-there : (x : State) (n value : ℕ) → n ≤ 22 → value ≡ value_of x n → word_text value ≡ register_text x n
-register-there x n value h e = ap word_text e ∙ grind (arith)
+pub register-there : (m : Manners) (x : State) (n value : ℕ) → n ≤ 22 → value ≡ value_of x n → word_text value ≡ register_text m x n
+register-there m x n value h e = ap word_text e ∙ grind (arith)
 
-pub register-absent : (x : State) (n : ℕ) → 22 < n → codes "xxxxxxxxxxxxxxxx" ≡ register_text x n
-register-absent x n h = grind (arith)
+pub register-other : (m : Manners) (x : State) (n : ℕ) → 22 < n → other_text m.moves n ≡ register_text m x n
+register-other m x n h = grind (arith)
+
+pub other-count : (moves n : ℕ) → n == 64 ≡ true → word_text moves ≡ other_text moves n
+other-count moves n e = rw e refl
+
+pub other-none : (moves n : ℕ) → n == 64 ≡ false → codes "xxxxxxxxxxxxxxxx" ≡ other_text moves n
+other-none moves n e = rw e refl
 
 -- the last part of a text, and one that isn't
 part-all : (rest : List ℕ) (count : ℕ) → length rest ≤ count → 108 ∷ rest ≡ part_of rest count

@@ -74,7 +74,7 @@ module _ {K R W : Type 0} (holds : K → List Kept → Type 0) (refusals room : 
     pub told : Appends (contents writer.inner) (contents writer'.inner) (told_in holds refusals room turns)
     pub same : writer'.failures ≡ writer.failures
 
-  pub Serving-start : (gdb : Layout) (from : SessionValue K) (manners : Manners) (answer : Buffer) (reader : Tally R) (writer : Tally W) → (record { acknowledges = true; swbreak = false; layout = gdb }) ≡ manners → Holds answer []
+  pub Serving-start : (gdb : Layout) (from : SessionValue K) (manners : Manners) (answer : Buffer) (reader : Tally R) (writer : Tally W) → (record { acknowledges = true; swbreak = false; layout = gdb; moves = 0 }) ≡ manners → Holds answer []
       → Serving gdb from from manners answer reader reader writer writer
   Serving-start gdb from manners answer reader writer e h = record {
     nearer = omega arith;

@@ -13,8 +13,7 @@ use Rattle.bpfdb_replies.specs.declared.why.Why.{Why}
 use Rattle.bpfdb_replies.specs.declared.why.Why.TheVariants as why
 use Rattle.bpf_session.specs.declared.reply.Reply.{Reply}
 use Rattle.bpf_session.specs.declared.reply.Reply.TheVariants as reply
-use Rattle.bpf_remote.specs.Layouts.{described, described_again}
-use Rattle.bpfdb_replies.specs.Texts.{place}
+use Rattle.bpf_remote.specs.Layouts.{described, described_again, has_moves}
 use Rattle.bpf_remote.specs.Numbers.{address_text, hex_text, word_text}
 use Rattle.bpf_remote.specs.Packets.{longest_body, two_digits}
 use Rattle.bpf_remote.specs.declared.answer.Answer.{Answer}
@@ -39,7 +38,7 @@ halt_of why.Watch status = halt.Step
 halt_of why.Done status = halt.Step
 halt_of why.All status = halt.Step
 halt_of why.Limit status = halt.Limit
-halt_of why.Memory status = halt.Limit
+halt_of why.Memory status = halt.Memory
 halt_of why.Start status = halt.Begin
 
 -- The same with the first watched byte that has changed since before the command. (There may be none behind a way back over edits.)
@@ -68,16 +67,13 @@ text_of_halt swbreak halt.Break = if swbreak then codes "T05swbreak:;" else code
 text_of_halt swbreak halt.Begin = codes "T05replaylog:begin;"
 text_of_halt swbreak halt.End = codes "T05replaylog:end;"
 text_of_halt swbreak halt.Limit = codes "T02"
+text_of_halt swbreak halt.Memory = codes "T02"
 text_of_halt swbreak halt.Access = codes "T0b"
 text_of_halt swbreak halt.Fault = codes "T04"
 
 -- The address of a watched byte that has changed.
 abbrev pub watched_text : ℕ → List ℕ
 watched_text address = codes "T05watch:" ++ address_text address ++ codes ";"
-
--- A line PLACE, which gdb shows to its user.
-abbrev pub console_text : State → List ℕ
-console_text x = codes "O" ++ hex_text (place x ++ codes "\n")
 
 -- An error's number.
 abbrev pub error_text : ℕ → List ℕ
@@ -87,9 +83,20 @@ error_text number = codes "E" ++ two_digits number
 abbrev pub value_of : State → ℕ → ℕ
 value_of x n = if n == 11 then 8 * x.pc else register x (if nat_lt n 11 then n else n - 12)
 
--- Any other has no value.
-abbrev pub register_text : State → ℕ → List ℕ
-register_text x n = if nat_le n 22 then word_text (value_of x n) else codes "xxxxxxxxxxxxxxxx"
+-- How many moves lie before the state has a number of its own. Any other register has no value.
+abbrev pub other_text : ℕ → ℕ → List ℕ
+other_text moves n = if n == 64 then word_text moves else codes "xxxxxxxxxxxxxxxx"
+
+abbrev pub register_text : Manners → State → ℕ → List ℕ
+register_text m x n = if nat_le n 22 then word_text (value_of x n) else other_text m.moves n
+
+-- With each stop come r10 and pc, which say in which frame the machine stands, and where gdb is told of it how many moves lie before. gdb
+-- heeds registers only where a thread is named; 0 is any.
+abbrev pub moves_text : Layout → ℕ → List ℕ
+moves_text gdb moves = if has_moves gdb then codes "40:" ++ word_text moves ++ codes ";" else []
+
+abbrev pub stop_text : Manners → State → List ℕ
+stop_text m x = codes "thread:0;0a:" ++ word_text (value_of x 10) ++ codes ";0b:" ++ word_text (value_of x 11) ++ codes ";" ++ moves_text m.layout m.moves
 
 -- The first n of them.
 unfoldable pub registers_below : State → ℕ → List ℕ
@@ -138,11 +145,11 @@ description_text gdb offset count = part_of (drop offset (described gdb)) count
 abbrev pub text_of : Manners → State → Answer → List ℕ
 text_of m x answer.Done = codes "OK"
 text_of m x (answer.Error number) = error_text number
-text_of m x (answer.Halted halt) = text_of_halt m.swbreak halt
-text_of m x (answer.Watched address) = watched_text address
+text_of m x (answer.Halted halt) = text_of_halt m.swbreak halt ++ stop_text m x
+text_of m x (answer.Watched address) = watched_text address ++ stop_text m x
 text_of m x answer.Actions = codes "vCont;c;C;s;S"
 text_of m x answer.Registers = registers_text m.layout x
-text_of m x (answer.Register n) = register_text x n
+text_of m x (answer.Register n) = register_text m x n
 text_of m x (answer.Memory address count) = memory_text x address count
 text_of m x answer.Supported = supported_text m.layout
 text_of m x (answer.Description offset count) = description_text m.layout offset count

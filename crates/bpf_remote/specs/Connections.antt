@@ -1,12 +1,10 @@
 -- What a connection comes to: turns, one after another, each of them an item of the stream with what was done and told.
-use Rattle.std.specs.Prelude.{◌≡◌, ℕ, Bool, true, false, if◌then◌else◌, List, [], ◌∷◌, ◌++◌, ◌⊎◌, Option, Some, None, Result, Ok, Err}
+use Rattle.std.specs.Prelude.{◌≡◌, ℕ, ◌-◌, Bool, true, false, if◌then◌else◌, List, [], ◌∷◌, ◌++◌, ◌⊎◌, length, Option, Some, None, Result, Ok, Err}
 use lib.Chars.{codes}
 use Rattle.std.specs.Option.{option_map}
 use Rattle.std.specs.Result.{result_ok}
 use Rattle.hex.specs.Hex.{decode_of}
 use Rattle.bpf_entries.specs.Keeping.{Kept}
-use Rattle.bpf_entries.specs.Status.{has_ended}
-use Rattle.bpf_machine.specs.State.{State}
 use Rattle.bpf_journal.specs.Tracks.{Track}
 use Rattle.bpfdb_commands.specs.Commands.{command_of}
 use Rattle.bpfdb_commands.specs.Refusals.{refusal_text}
@@ -21,10 +19,14 @@ use Rattle.bpf_session.specs.WatchRuns.{SetsWatches, first_changed, seen_at, wit
 use Rattle.bpf_remote.specs.Numbers.{behind, hex_text}
 use Rattle.bpf_remote.specs.Packets.{framed, IsItem}
 use Rattle.bpf_remote.specs.Requests.{request_of}
-use Rattle.bpf_remote.specs.Answers.{answer_of_move, answer_of_set, console_text, error_text, halt_of_status, sent, text_of}
+use Rattle.bpf_remote.specs.Answers.{answer_of_move, answer_of_set, error_text, halt_of_status, sent, text_of}
+use Rattle.bpf_remote.specs.Help.{asks_help, help_text}
+use Rattle.bpf_remote.specs.Moves.{moves_after}
+use Rattle.bpf_remote.specs.Remarks.{console_text, is_told, remark_of, remark_text}
 use Rattle.bpf_remote.specs.declared.answer.Answer.{Answer}
 use Rattle.bpf_remote.specs.declared.answer.Answer.TheVariants as answer
 use Rattle.bpf_remote.specs.declared.manners.Manners.{Manners}
+use Rattle.bpf_remote.specs.declared.remark.Remark.{Remark}
 use Rattle.bpf_remote.specs.declared.request.Request.{Request}
 use Rattle.bpf_remote.specs.declared.request.Request.TheVariants as request
 use Rattle.bpf_remote.specs.declared.stream.Item.{Item}
@@ -50,11 +52,11 @@ answer_to request.Wrong s = answer.Error 2
 answer_to request.Unknown s = answer.Empty
 answer_to _ s = answer.Done
 
--- How gdb is talked to behind a request.
-abbrev pub manners_after : Request → Manners → Manners
-manners_after request.Silence m = record m { acknowledges = false }
-manners_after (request.Supported swbreak) m = record m { swbreak = swbreak }
-manners_after _ m = m
+-- How gdb is talked to behind a request, before whose state so many moves lie then.
+abbrev pub manners_after : Request → ℕ → Manners → Manners
+manners_after request.Silence moves m = record m { acknowledges = false; moves = moves }
+manners_after (request.Supported swbreak) moves m = record m { swbreak = swbreak; moves = moves }
+manners_after _ moves m = record m { moves = moves }
 
 -- Whether the connection goes on behind a request, and whether it is answered.
 abbrev pub goes_on : Request → Bool
@@ -66,15 +68,10 @@ abbrev pub is_answered : Request → Bool
 is_answered request.Kill = false
 is_answered _ = true
 
--- Whether a line PLACE comes before an answer: behind a request that moves, where the machine has ended.
-abbrev pub tells_place : Request → State → Bool
-tells_place (request.Move command) x = has_ended x.status
-tells_place _ x = false
-
--- The packet of that line, or none: that it is left out only where the line doesn't fit a packet isn't said.
-abbrev pub IsConsole : Bool → State → List ℕ → Type 0
-IsConsole false x text = text ≡ []
-IsConsole true x text = (text ≡ framed (console_text x)) ⊎ (text ≡ [])
+-- The packet of a line for gdb's user, where there is one; that it is left out only where the line doesn't fit a packet isn't said.
+abbrev pub IsConsole : Bool → List ℕ → List ℕ → Type 0
+IsConsole false line text = text ≡ []
+IsConsole true line text = (text ≡ framed (console_text line)) ⊎ (text ≡ [])
 
 -- A packet is acknowledged.
 abbrev pub acknowledgement : Manners → List ℕ
@@ -97,35 +94,53 @@ module _ {K : Type 0} (holds : K → List Kept → Type 0) (refusals room : K �
   abbrev pub Obeyed : SessionValue K → SessionValue K → Command → Result Reply Refusal → Type 0
   Obeyed old new command said = Obeys holds refusals room old new (λ gap. does gap (bounds_of room old) command) said
 
-  -- A request is answered as the session answers the command that it stands for; one that stands for none changes nothing.
-  abbrev pub Answers : SessionValue K → SessionValue K → Request → Answer → Type 0
-  Answers old new (request.Move command) told = (said : Result Reply Refusal) × Obeyed old new command said
+  -- A request is answered as the session answers the command that it stands for, which makes some moves or takes some back; one that stands
+  -- for none changes nothing.
+  abbrev pub Answers : SessionValue K → SessionValue K → Request → Answer → ℕ → ℕ → Type 0
+  Answers old new (request.Move command) told moves now = (said : Result Reply Refusal) × Obeyed old new command said
       × (told ≡ answer_of_move said new.moment.state.status (first_changed (seen_at old.watches old.moment.state) new.moment.state))
-  Answers old new (request.Set command) told = (said : Result Reply Refusal) × Obeyed old new command said × (told ≡ answer_of_set said)
-  Answers old new (request.Watch run) told = (said : Result (Unit {0}) Refusal) × SetsWatches old new (with_run run old.watches old.moment.state) said × (told ≡ answer_of_set said)
-  Answers old new (request.Unwatch run) told = (said : Result (Unit {0}) Refusal) × SetsWatches old new (without_run run old.watches) said × (told ≡ answer_of_set said)
-  Answers old new r told = (new ≡ old) × (told ≡ answer_to r old)
+      × (now ≡ moves_after said command moves)
+  Answers old new (request.Set command) told moves now = (said : Result Reply Refusal) × Obeyed old new command said
+      × (told ≡ answer_of_set said) × (now ≡ moves_after said command moves)
+  Answers old new (request.Watch run) told moves now = (said : Result (Unit {0}) Refusal)
+      × SetsWatches old new (with_run run old.watches old.moment.state) said × (told ≡ answer_of_set said) × (now ≡ moves)
+  Answers old new (request.Unwatch run) told moves now = (said : Result (Unit {0}) Refusal)
+      × SetsWatches old new (without_run run old.watches) said × (told ≡ answer_of_set said) × (now ≡ moves)
+  Answers old new r told moves now = (new ≡ old) × (told ≡ answer_to r old) × (now ≡ moves)
 
-  abbrev pub ObeysCommand : SessionValue K → SessionValue K → Command → Bool → List ℕ → Type 0
-  ObeysCommand old new command true body = (new ≡ old) × (body ≡ codes "OK")
-  ObeysCommand old new command false body = (said : Result Reply Refusal) × Obeyed old new command said
+  abbrev pub ObeysCommand : SessionValue K → SessionValue K → Command → Bool → List ℕ → ℕ → ℕ → Type 0
+  ObeysCommand old new command true body moves now = (new ≡ old) × (body ≡ codes "OK") × (now ≡ moves)
+  ObeysCommand old new command false body moves now = (said : Result Reply Refusal) × Obeyed old new command said
       × ((t : Track) → HasPast holds new t → Tells (text_of_answer (bounds_of room new) said (point_of new t)) body)
+      × (now ≡ moves_after said command moves)
 
-  abbrev pub ObeysLine : SessionValue K → SessionValue K → Option (Result (Option Command) Refusal) → List ℕ → Type 0
-  ObeysLine old new None body = (new ≡ old) × (body ≡ error_text 2)
-  ObeysLine old new (Some (Ok None)) body = (new ≡ old) × (body ≡ codes "OK")
-  ObeysLine old new (Some (Err refusal)) body = (new ≡ old) × Tells (refusal_text refusal) body
-  ObeysLine old new (Some (Ok (Some command))) body = ObeysCommand old new command (is_quit command) body
+  abbrev pub ObeysLine : SessionValue K → SessionValue K → Option (Result (Option Command) Refusal) → List ℕ → ℕ → ℕ → Type 0
+  ObeysLine old new None body moves now = (new ≡ old) × (body ≡ error_text 2) × (now ≡ moves)
+  ObeysLine old new (Some (Ok None)) body moves now = (new ≡ old) × (body ≡ codes "OK") × (now ≡ moves)
+  ObeysLine old new (Some (Err refusal)) body moves now = (new ≡ old) × Tells (refusal_text refusal) body × (now ≡ moves)
+  ObeysLine old new (Some (Ok (Some command))) body moves now = ObeysCommand old new command (is_quit command) body moves now
+
+  -- A line asks for help, or is one of a script.
+  abbrev pub Heeds : SessionValue K → SessionValue K → Bool → List ℕ → List ℕ → ℕ → ℕ → Type 0
+  Heeds old new true digits body moves now = (new ≡ old) × (body ≡ hex_text help_text) × (now ≡ moves)
+  Heeds old new false digits body moves now = ObeysLine old new (line_of digits) body moves now
+
+  -- What is told beside the answer to a request. Moves that were made, and are neither kept nor taken back, were dropped.
+  abbrev pub Remarked : SessionValue K → Request → Answer → ℕ → Remark → Type 0
+  Remarked s r told moves remark = (t : Track) → HasPast holds s t → remark ≡ remark_of r told s.moment.state s.limit (moves - length t.history)
 
   -- A packet with this body was answered.
   abbrev pub DoesRequest : Place K → Place K → Request → List ℕ → Bool → Type 0
-  DoesRequest old new r told on = (answer : Answer) × Answers old.session new.session r answer × (new.manners ≡ manners_after r old.manners)
-      × (new.last ≡ text_of old.manners new.session.moment.state answer)
-      × (console : List ℕ) × IsConsole (tells_place r new.session.moment.state) new.session.moment.state console
+  DoesRequest old new r told on = (answer : Answer) × (moves : ℕ) × Answers old.session new.session r answer old.manners.moves moves
+      × (new.manners ≡ manners_after r moves old.manners)
+      × (new.last ≡ text_of new.manners new.session.moment.state answer)
+      × (remark : Remark) × Remarked new.session r answer moves remark
+      × (console : List ℕ) × IsConsole (is_told remark) (remark_text remark new.session.moment.state) console
       × (told ≡ acknowledgement old.manners ++ console ++ packet (is_answered r) new.last) × (on ≡ goes_on r)
 
   abbrev pub DoesLine : Place K → Place K → List ℕ → List ℕ → Bool → Type 0
-  DoesLine old new digits told on = ObeysLine old.session new.session (line_of digits) new.last × (new.manners ≡ old.manners)
+  DoesLine old new digits told on = (moves : ℕ) × Heeds old.session new.session (asks_help digits) digits new.last old.manners.moves moves
+      × (new.manners ≡ record old.manners { moves = moves })
       × (told ≡ acknowledgement old.manners ++ framed (sent new.last)) × (on ≡ true)
 
   abbrev pub DoesBody : Place K → Place K → List ℕ → Option (List ℕ) → List ℕ → Bool → Type 0

@@ -5,6 +5,9 @@ pub mod Numbers
 pub mod Layouts
 pub mod Requests
 pub mod Answers
+pub mod Moves
+pub mod Remarks
+pub mod Help
 pub mod Connections
 pub mod Turning
 pub mod Serving

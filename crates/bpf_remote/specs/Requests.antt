@@ -124,17 +124,32 @@ words =
     ∷ (codes "vCont?", request.Actions)
     ∷ []
 
--- The requests that begin with a name.
+-- Those that set what stops the machine, or take it away. There is one kind of breakpoint.
+abbrev pub stops : List (List ℕ × Arguments)
+stops =
+    (codes "Z0,", breakpoint command.Add)
+    ∷ (codes "z0,", breakpoint command.Remove)
+    ∷ (codes "Z1,", breakpoint command.Add)
+    ∷ (codes "z1,", breakpoint command.Remove)
+    ∷ (codes "Z2,", watch request.Watch)
+    ∷ (codes "z2,", watch request.Unwatch)
+    ∷ []
+
+-- Those that ask what is understood, and about the machine.
+abbrev pub questions : List (List ℕ × Arguments)
+questions =
+    (codes "qSupported", supported)
+    ∷ (codes "qAttached", any request.Attached)
+    ∷ (codes "qXfer:features:read:target.xml:", description)
+    ∷ []
+
+-- The requests that begin with another name.
 abbrev pub names : List (List ℕ × Arguments)
 names =
     (codes "p", register)
     ∷ (codes "P", set_register)
     ∷ (codes "m", memory)
     ∷ (codes "M", set_memory)
-    ∷ (codes "Z0,", breakpoint command.Add)
-    ∷ (codes "z0,", breakpoint command.Remove)
-    ∷ (codes "Z2,", watch request.Watch)
-    ∷ (codes "z2,", watch request.Unwatch)
     ∷ (codes "S", with_signal (goal.Steps 1))
     ∷ (codes "C", with_signal goal.Continue)
     ∷ (codes "vCont;", actions)
@@ -142,17 +157,22 @@ names =
     ∷ (codes "D", any request.Leave)
     ∷ (codes "vKill", any request.Leave)
     ∷ (codes "k", any request.Kill)
-    ∷ (codes "qSupported", supported)
-    ∷ (codes "qAttached", any request.Attached)
-    ∷ (codes "qXfer:features:read:target.xml:", description)
     ∷ []
 
 -- What a body asks for.
 unfoldable pub word_request : List ℕ → Option Request
 word_request body = word_of words body
 
+unfoldable pub stop_request : List ℕ → Option Request
+stop_request body = begun stops body
+
+unfoldable pub question : List ℕ → Option Request
+question body = begun questions body
+
 unfoldable pub begun_request : List ℕ → Option Request
 begun_request body = begun names body
 
 abbrev pub request_of : List ℕ → Request
-request_of body = unwrap_or (word_request body) (unwrap_or (begun_request body) request.Unknown)
+request_of body =
+    unwrap_or (word_request body)
+    (unwrap_or (stop_request body) (unwrap_or (question body) (unwrap_or (begun_request body) request.Unknown)))

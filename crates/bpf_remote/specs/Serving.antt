@@ -12,9 +12,9 @@ use Rattle.bpf_remote.specs.Connections.{Place, Turn, AreTurns, GoOn, end_of, re
 use Rattle.bpf_remote.specs.declared.layout.Layout.{Layout}
 use Rattle.bpf_remote.specs.declared.manners.Manners.{Manners}
 
--- At first packets are acknowledged, gdb is not known to understand `swbreak`, and there is no last answer.
+-- At first packets are acknowledged, gdb is not known to understand `swbreak`, nothing has moved, and there is no last answer.
 abbrev pub first_manners : Layout → Manners
-first_manners gdb = record { acknowledges = true; swbreak = false; layout = gdb }
+first_manners gdb = record { acknowledges = true; swbreak = false; layout = gdb; moves = 0 }
 
 abbrev pub opening : {K : Type 0} → Layout → SessionValue K → Place K
 opening gdb session = record { session = session; manners = first_manners gdb; last = [] }

@@ -1,11 +1,11 @@
 //! Answers: what the bodies of packets tell gdb.
-ghost use Rattle.std.specs.Prelude.{◌≡◌, ◌≤◌, ◌<◌, ◌+◌, ◌-◌, ◌^◌, ◌++◌, if◌then◌else◌, nat_le, option_map, List, drop, true, ℕ};
-ghost use Rattle.bpf_remote.specs.Answers.{answer_of_move, answer_of_set, answer_of_why, byte_at, description_text, error_text, halt_of, halt_of_status, has_memory, memory_text, part_of, present, register_text, registers_text, supported_text, text_of, text_of_halt, value_of, watched_text};
+ghost use Rattle.std.specs.Prelude.{◌≡◌, ◌==◌, ◌≤◌, ◌<◌, ◌+◌, ◌-◌, ◌^◌, ◌++◌, if◌then◌else◌, nat_le, option_map, List, drop, true, ℕ};
+ghost use Rattle.bpf_remote.specs.Answers.{answer_of_move, answer_of_set, answer_of_why, byte_at, description_text, error_text, halt_of, halt_of_status, has_memory, memory_text, moves_text, other_text, part_of, present, register_text, registers_text, stop_text, supported_text, text_of, text_of_halt, value_of, watched_text};
 ghost use Rattle.bpf_remote.specs.Numbers.{hex_text};
 ghost use Rattle.bpf_remote.specs.Packets.{Holds};
 
 use crate::body::Body;
-use crate::layout::{Layout, described, described_again};
+use crate::layout::{Layout, described, described_again, has_moves};
 use crate::manners::Manners;
 use bpf_isa::Reg;
 use bpf_machine::{Cpu, Fault, Status};
@@ -22,8 +22,10 @@ pub enum Halt {
     Begin,
     /// The program has returned.
     End,
-    /// The limit of steps is reached, or there was no memory for a further one.
+    /// The limit of steps is reached.
     Limit,
+    /// There was no memory for a further step.
+    Memory,
     /// The access of a step failed.
     Access,
     /// A step could not be taken for another reason.
@@ -86,7 +88,8 @@ fn halt_of(why: Why, status: Status) -> Halt
         Why::End => halt_of_status(status),
         Why::Break => Halt::Break,
         Why::Watch | Why::Done | Why::All => Halt::Step,
-        Why::Limit | Why::Memory => Halt::Limit,
+        Why::Limit => Halt::Limit,
+        Why::Memory => Halt::Memory,
         Why::Start => Halt::Begin,
     }
 }
@@ -138,10 +141,16 @@ pub(crate) fn append_answer(answer: Answer, cpu: &Cpu, manners: Manners, body: &
     match answer {
         Answer::Done => body.append(b"OK"),
         Answer::Error(number) => append_error(number, body),
-        Answer::Halted(halt) => body.append(text_of_halt(halt, manners.swbreak).as_bytes()),
-        Answer::Watched(address) => append_watched(address, body),
+        Answer::Halted(halt) => {
+            body.append(text_of_halt(halt, manners.swbreak).as_bytes());
+            append_stop(cpu, manners, body);
+        }
+        Answer::Watched(address) => {
+            append_watched(address, body);
+            append_stop(cpu, manners, body);
+        }
         Answer::Registers => append_registers(cpu, manners.layout, body),
-        Answer::Register(n) => append_register(cpu, n, body),
+        Answer::Register(n) => append_register(cpu, manners, n, body),
         Answer::Memory { address, count } => append_memory(cpu, address, count, body),
         Answer::Supported => body.append(supported_text(manners.layout).as_bytes()),
         Answer::Description { offset, count } => {
@@ -162,7 +171,7 @@ fn text_of_halt(halt: Halt, swbreak: bool) -> &'static str
         Halt::Break => { if swbreak { "T05swbreak:;" } else { "T05" } }
         Halt::Begin => "T05replaylog:begin;",
         Halt::End => "T05replaylog:end;",
-        Halt::Limit => "T02",
+        Halt::Limit | Halt::Memory => "T02",
         Halt::Access => "T0b",
         Halt::Fault => "T04",
     }
@@ -175,6 +184,32 @@ fn append_watched(address: u64, body: &mut Body)
 {
     body.append(b"T05watch:");
     body.append_address(address);
+    body.append(b";");
+}
+
+/// Writes r10, pc and how many moves lie before behind a body.
+fn append_stop(cpu: &Cpu, manners: Manners, body: &mut Body)
+    ensures { (text : List ℕ) → Holds body.old text →
+        Holds body.new (text ++ stop_text manners cpu.now) }
+{
+    body.append(b"thread:0;0a:");
+    body.append_word(value_of(cpu, 10));
+    body.append(b";0b:");
+    body.append_word(value_of(cpu, 11));
+    body.append(b";");
+    append_moves(manners.layout, manners.moves, body);
+}
+
+/// Writes how many moves lie before behind a body, where gdb is told of that register.
+fn append_moves(layout: Layout, moves: u64, body: &mut Body)
+    ensures { (text : List ℕ) → Holds body.old text →
+        Holds body.new (text ++ moves_text layout moves) }
+{
+    if !has_moves(layout) {
+        return;
+    }
+    body.append(b"40:");
+    body.append_word(moves);
     body.append(b";");
 }
 
@@ -268,15 +303,33 @@ fn register_of(n: u8) -> u8
 }
 
 /// Writes the value of a register behind a body.
-fn append_register(cpu: &Cpu, n: u64, body: &mut Body)
+fn append_register(cpu: &Cpu, manners: Manners, n: u64, body: &mut Body)
     ensures { (text : List ℕ) → Holds body.old text →
-        Holds body.new (text ++ register_text cpu.now n) }
+        Holds body.new (text ++ register_text manners cpu.now n) }
 {
     if n <= 22 {
         body.append_word(value_of(cpu, n as u8));
     } else {
+        append_other(manners.moves, n, body);
+    }
+}
+
+/// Writes the value of a register that isn't one of BPF behind a body.
+fn append_other(moves: u64, n: u64, body: &mut Body)
+    ensures { (text : List ℕ) → Holds body.old text → Holds body.new (text ++ other_text moves n) }
+{
+    if is_count(n) {
+        body.append_word(moves);
+    } else {
         body.append(b"xxxxxxxxxxxxxxxx");
     }
+}
+
+/// Whether a register says how many moves lie before the state.
+fn is_count(n: u64) -> bool
+    ensures { result ≡ n == 64 }
+{
+    n == 64
 }
 
 /// Writes bytes from an address on behind a body, up to the first that isn't there.

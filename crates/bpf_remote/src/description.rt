@@ -1,6 +1,6 @@
 //! The descriptions of machines that gdb knows, in its XML. The numbers of registers are those of
 //! `g`, `p` and `P`: r0 to r10 and pc, from 12 on r0 and so on once more, and behind them registers
-//! that have no value.
+//! that have no value, but for 64, how many moves lie before the state.
 
 /// x86-64. gdb wants all registers of its feature `core`.
 pub(crate) const X86_XML: &str = r#"<?xml version="1.0"?>
@@ -59,6 +59,7 @@ pub(crate) const X86_XML: &str = r#"<?xml version="1.0"?>
 <reg name="r5" bitsize="64" type="int64"/>
 <reg name="r6" bitsize="64" type="int64"/>
 <reg name="r7" bitsize="64" type="int64"/>
+<reg name="moves" bitsize="64" type="uint64" regnum="64"/>
 </feature>
 </target>
 "#;
@@ -116,6 +117,7 @@ pub(crate) const RISCV_XML: &str = r#"<?xml version="1.0"?>
 <reg name="r8" bitsize="64" type="int64"/>
 <reg name="r9" bitsize="64" type="int64"/>
 <reg name="r10" bitsize="64" type="int64"/>
+<reg name="moves" bitsize="64" type="uint64" regnum="64"/>
 </feature>
 </target>
 "#;

@@ -1,6 +1,6 @@
 //! Which machine gdb takes this one for.
 ghost use Rattle.std.specs.Prelude.{◌≡◌, ◌≤◌};
-ghost use Rattle.bpf_remote.specs.Layouts.{described, described_again};
+ghost use Rattle.bpf_remote.specs.Layouts.{described, described_again, has_moves};
 
 use crate::description::{RISCV_XML, X86_XML};
 
@@ -39,4 +39,11 @@ pub(crate) fn described_again(layout: Layout) -> u8
         Layout::X86 => 8,
         Layout::Riscv => 11,
     }
+}
+
+/// Whether gdb is told of a register that says how many moves lie before the state.
+pub(crate) fn has_moves(layout: Layout) -> bool
+    ensures { result ≡ has_moves layout }
+{
+    !matches!(layout, Layout::Bpf)
 }

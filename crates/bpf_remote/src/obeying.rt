@@ -5,43 +5,67 @@ ghost use Rattle.bpfdb_commands.specs.Refusals.{refusal_text};
 ghost use Rattle.bpf_session.specs.Output.{is_quit};
 ghost use Rattle.bpf_session.specs.Replies.{IsThere, text_of_answer};
 ghost use Rattle.bpf_session.specs.Sessions.{HasPast, bounds_of, point_of};
-ghost use Rattle.bpfdb_replies.specs.Texts.{place};
-ghost use Rattle.bpf_remote.specs.Answers.{console_text, error_text};
+ghost use Rattle.bpf_remote.specs.Answers.{error_text};
+ghost use Rattle.bpf_remote.specs.Help.{asks_help, help_text};
+ghost use Rattle.bpf_remote.specs.Remarks.{console_text, remark_text};
 ghost use Rattle.bpf_remote.specs.Numbers.{hex_text};
-ghost use Rattle.bpf_remote.specs.Connections.{Answers, ObeysCommand, ObeysLine, Tells, goes_on, is_answered, line_of, manners_after, tells_place};
+ghost use Rattle.bpf_remote.specs.Connections.{Answers, Heeds, ObeysCommand, ObeysLine, Tells, goes_on, is_answered, answer_to, line_of, manners_after};
 ghost use Rattle.bpf_remote.specs.Packets.{Holds, longest_body};
 
 use crate::answer::{
     Answer, TOO_LONG, answer_of_move, answer_of_set, append_error, halt_of_status,
 };
 use crate::body::{Body, LONGEST_BODY};
+use crate::help::help;
 use crate::manners::Manners;
+use crate::moves::moves_after;
+use crate::parser::is;
+use crate::remark::{Remark, write_remark};
 use crate::request::Request;
 use arrayvec::ArrayVec;
 use bpf_journal::Keeper;
 use bpf_machine::Cpu;
 use bpf_session::{Command, Refusal, Reply, Session, parse_command};
-use bpfdb_replies::{put_refusal, write_place};
+use bpfdb_replies::put_refusal;
 use counted_io::{Counted, WriteFault, put};
 
 /// The longest text of a reply that fits a packet, in bytes, and the longest line that a packet
 /// spells.
 const LONGEST_TEXT: usize = LONGEST_BODY / 2;
 
-/// Obeys a request, and says how it is answered.
-pub(crate) fn obey<K: Keeper>(session: &mut Session<K>, request: &Request) -> Answer
-    ensures { Answers K.holds K.refused K.room session.old session.new request.now result }
+/// Obeys a request, before whose state so many moves lie. Says how it is answered, and how many lie
+/// before then.
+pub(crate) fn obey<K: Keeper>(
+    session: &mut Session<K>,
+    request: &Request,
+    moves: u64,
+) -> (Answer, u64)
+    ensures { Answers K.holds K.refused K.room session.old session.new request.now result.0
+        moves result.1 }
 {
     match request {
         Request::Move(command) => {
             let sight = session.sight();
             let said = session.apply(command);
             let changed = sight.first_changed(session.cpu());
-            answer_of_move(&said, session.cpu().status(), changed)
+            let told = answer_of_move(&said, session.cpu().status(), changed);
+            (told, moves_after(&said, command, moves))
         }
-        Request::Set(command) => answer_of_set(&session.apply(command)),
-        Request::Watch(run) => answer_of_set(&session.watch(run)),
-        Request::Unwatch(run) => answer_of_set(&session.unwatch(run)),
+        Request::Set(command) => {
+            let said = session.apply(command);
+            (answer_of_set(&said), moves_after(&said, command, moves))
+        }
+        Request::Watch(run) => (answer_of_set(&session.watch(run)), moves),
+        Request::Unwatch(run) => (answer_of_set(&session.unwatch(run)), moves),
+        _ => (answer_to(session, request), moves),
+    }
+}
+
+/// The answer to a request that asks, and changes nothing.
+fn answer_to<K: Keeper>(session: &Session<K>, request: &Request) -> Answer
+    ensures { result ≡ answer_to request.now session.now }
+{
+    match request {
         Request::Stop => Answer::Halted(halt_of_status(session.cpu().status())),
         Request::Registers => Answer::Registers,
         Request::Register(n) => Answer::Register(*n),
@@ -58,26 +82,40 @@ pub(crate) fn obey<K: Keeper>(session: &mut Session<K>, request: &Request) -> An
         Request::Actions => Answer::Actions,
         Request::Wrong => Answer::Error(2),
         Request::Unknown => Answer::Empty,
-        Request::Silence | Request::Thread | Request::Leave | Request::Kill => Answer::Done,
+        _ => Answer::Done,
     }
 }
 
-/// How gdb is talked to behind a request.
-pub(crate) fn manners_after(request: &Request, manners: Manners) -> Manners
-    ensures { result ≡ manners_after request.now manners }
+/// How gdb is talked to behind a request, before whose state so many moves lie then.
+pub(crate) fn manners_after(request: &Request, moves: u64, manners: Manners) -> Manners
+    ensures { result ≡ manners_after request.now moves manners }
 {
     match request {
         Request::Silence => Manners {
             acknowledges: false,
             swbreak: manners.swbreak,
             layout: manners.layout,
+            moves,
         },
         Request::Supported { swbreak } => Manners {
             acknowledges: manners.acknowledges,
             swbreak: *swbreak,
             layout: manners.layout,
+            moves,
         },
-        _ => manners,
+        _ => with_moves(moves, manners),
+    }
+}
+
+/// The same with another count of moves.
+pub(crate) fn with_moves(moves: u64, manners: Manners) -> Manners
+    ensures { result ≡ record manners { moves = moves } }
+{
+    Manners {
+        acknowledges: manners.acknowledges,
+        swbreak: manners.swbreak,
+        layout: manners.layout,
+        moves,
     }
 }
 
@@ -101,35 +139,25 @@ pub(crate) fn is_answered(request: &Request) -> bool
     }
 }
 
-/// Whether a line PLACE comes before an answer: behind a move, where the machine has ended.
-pub(crate) fn tells_place(request: &Request, cpu: &Cpu) -> bool
-    ensures { result ≡ tells_place request.now cpu.now }
-{
-    match request {
-        Request::Move(_) => cpu.status().has_ended(),
-        _ => false,
-    }
-}
-
-/// A line PLACE.
-fn place_text(cpu: &Cpu) -> Result<Text, WriteFault>
-    ensures { IfOk result (λ text. text.items ≡ place cpu.now ++ codes "\n") }
+/// The line of a remark.
+fn line_text(remark: Remark, cpu: &Cpu) -> Result<Text, WriteFault>
+    ensures { IfOk result (λ text. text.items ≡ remark_text remark cpu.now ++ codes "\n") }
 {
     let mut writer = Counted::new(ArrayVec::new());
-    let placed = write_place(cpu, &mut writer);
-    match put(&mut writer, placed, b"\n") {
+    let told = write_remark(remark, cpu, &mut writer);
+    match put(&mut writer, told, b"\n") {
         Ok(()) => Ok(writer.into_inner()),
         Err(fault) => Err(fault),
     }
 }
 
-/// Writes a line PLACE into an empty body, as gdb shows it to its user. Answers whether it is
-/// there.
-pub(crate) fn append_place(cpu: &Cpu, body: &mut Body) -> bool
+/// Writes the line of a remark into an empty body, as gdb shows it to its user. Answers whether it
+/// is there.
+pub(crate) fn append_remark(remark: Remark, cpu: &Cpu, body: &mut Body) -> bool
     requires { Holds body.old [] }
-    ensures { result ≡ true → Holds body.new (console_text cpu.now) }
+    ensures { result ≡ true → Holds body.new (console_text (remark_text remark cpu.now)) }
 {
-    match place_text(cpu) {
+    match line_text(remark, cpu) {
         Ok(text) => {
             body.append(b"O");
             body.append_hex(text.as_slice());
@@ -152,34 +180,86 @@ fn line_of(digits: &[u8]) -> Option<Result<Option<Command>, Refusal>>
     }
 }
 
-/// Obeys the line that hexadecimal digits spell, and writes what it prints into an empty body.
-pub(crate) fn obey_line<K: Keeper>(session: &mut Session<K>, digits: &[u8], body: &mut Body)
+/// Heeds the line that hexadecimal digits spell, before whose state so many moves lie, and writes
+/// what it prints into an empty body. Answers how many lie before then.
+pub(crate) fn heed_line<K: Keeper>(
+    session: &mut Session<K>,
+    digits: &[u8],
+    moves: u64,
+    body: &mut Body,
+) -> u64
     requires short { length digits.now ≤ longest_body }
     requires empty { Holds body.old [] }
     ensures { (text : List ℕ) × Holds body.new text
-        × ObeysLine K.holds K.refused K.room session.old session.new (line_of digits.now) text }
+        × Heeds K.holds K.refused K.room session.old session.new (asks_help digits.now)
+        digits.now text moves result }
+{
+    if asks_help(digits) {
+        append_help(body);
+        return moves;
+    }
+    obey_line(session, digits, moves, body)
+}
+
+/// Whether a line asks for the list of lines.
+fn asks_help(digits: &[u8]) -> bool
+    ensures { result ≡ asks_help digits.now }
+{
+    is(digits, "68656c70")
+}
+
+/// Writes the list of lines into an empty body, in hexadecimal.
+fn append_help(body: &mut Body)
+    requires { Holds body.old [] }
+    ensures { Holds body.new (hex_text help_text) }
+{
+    body.append_hex(help().as_bytes());
+}
+
+/// Obeys a line of a script.
+fn obey_line<K: Keeper>(session: &mut Session<K>, digits: &[u8], moves: u64, body: &mut Body) -> u64
+    requires short { length digits.now ≤ longest_body }
+    requires empty { Holds body.old [] }
+    ensures { (text : List ℕ) × Holds body.new text
+        × ObeysLine K.holds K.refused K.room session.old session.new (line_of digits.now) text
+        moves result }
 {
     match line_of(digits) {
-        None => append_error(2, body),
-        Some(Ok(None)) => body.append(b"OK"),
-        Some(Ok(Some(command))) => obey_command(session, &command, body),
-        Some(Err(refusal)) => tell_refusal(refusal, body),
+        None => {
+            append_error(2, body);
+            moves
+        }
+        Some(Ok(None)) => {
+            body.append(b"OK");
+            moves
+        }
+        Some(Ok(Some(command))) => obey_command(session, &command, moves, body),
+        Some(Err(refusal)) => {
+            tell_refusal(refusal, body);
+            moves
+        }
     }
 }
 
-/// Obeys a command, and writes what it prints into an empty body.
-fn obey_command<K: Keeper>(session: &mut Session<K>, command: &Command, body: &mut Body)
+/// Obeys a command.
+fn obey_command<K: Keeper>(
+    session: &mut Session<K>,
+    command: &Command,
+    moves: u64,
+    body: &mut Body,
+) -> u64
     requires { Holds body.old [] }
     ensures { (text : List ℕ) × Holds body.new text
         × ObeysCommand K.holds K.refused K.room session.old session.new command.now
-        (is_quit command.now) text }
+        (is_quit command.now) text moves result }
 {
     if is_quit(command) {
         body.append(b"OK");
-        return;
+        return moves;
     }
     let said = session.apply(command);
     append_text(answer_text(session, &said), body);
+    moves_after(&said, command, moves)
 }
 
 /// Whether a command ends the session.

@@ -1,11 +1,11 @@
 //! The parser of requests.
 ghost use Rattle.std.specs.Prelude.{◌≡◌, is_some};
-ghost use Rattle.std.specs.Option.{option_and_then};
+ghost use Rattle.std.specs.Option.{option_and_then, unwrap_or};
 ghost use Rattle.bpf_session.specs.WatchRuns.{run_of};
 ghost use Rattle.bpf_remote.specs.Numbers.{behind, pair};
 ghost use Rattle.std.specs.Str.{bytes_eq};
 ghost use Rattle.bpfdb_commands.specs.Commands.{bytes_of};
-ghost use Rattle.bpf_remote.specs.Requests.{action, actions, begun_request, breakpoint, contains, description, edit_of, memory, register, request_of, set_memory, set_register, slot_of, supported, watch, with_signal, word_request};
+ghost use Rattle.bpf_remote.specs.Requests.{action, actions, begun_request, breakpoint, contains, description, edit_of, memory, question, register, request_of, set_memory, set_register, slot_of, stop_request, supported, watch, with_signal, word_request};
 
 use crate::number::{before, behind, cut, number, pair, word};
 use crate::request::Request;
@@ -21,6 +21,20 @@ pub fn request_of(body: &[u8]) -> Request
     ensures { result ≡ request_of body.now }
 {
     match word_request(body) {
+        Some(request) => request,
+        None => match stop_request(body) {
+            Some(request) => request,
+            None => named_request(body),
+        },
+    }
+}
+
+/// A question, or the request that begins with another name.
+fn named_request(body: &[u8]) -> Request
+    ensures { result ≡ unwrap_or (question body.now)
+        (unwrap_or (begun_request body.now) Request.Unknown) }
+{
+    match question(body) {
         Some(request) => request,
         None => match begun_request(body) {
             Some(request) => request,
@@ -55,7 +69,45 @@ fn word_request(body: &[u8]) -> Option<Request>
     }
 }
 
-/// The request that begins with a name.
+/// The request that sets what stops the machine, or takes it away.
+#[tactic(auto, unfolding(crate::specs::Requests::stop_request))]
+fn stop_request(body: &[u8]) -> Option<Request>
+    ensures { result ≡ stop_request body.now }
+{
+    if let Some(rest) = behind("Z0,", body) {
+        Some(set_break(rest))
+    } else if let Some(rest) = behind("z0,", body) {
+        Some(delete(rest))
+    } else if let Some(rest) = behind("Z1,", body) {
+        Some(set_break(rest))
+    } else if let Some(rest) = behind("z1,", body) {
+        Some(delete(rest))
+    } else if let Some(rest) = behind("Z2,", body) {
+        Some(watch(rest))
+    } else if let Some(rest) = behind("z2,", body) {
+        Some(unwatch(rest))
+    } else {
+        None
+    }
+}
+
+/// The request that asks what is understood, or about the machine.
+#[tactic(auto, unfolding(crate::specs::Requests::question))]
+fn question(body: &[u8]) -> Option<Request>
+    ensures { result ≡ question body.now }
+{
+    if let Some(rest) = behind("qSupported", body) {
+        Some(supported(rest))
+    } else if begins("qAttached", body) {
+        Some(Request::Attached)
+    } else if let Some(rest) = behind("qXfer:features:read:target.xml:", body) {
+        Some(description(rest))
+    } else {
+        None
+    }
+}
+
+/// The request that begins with another name.
 #[tactic(auto, unfolding(crate::specs::Requests::begun_request))]
 fn begun_request(body: &[u8]) -> Option<Request>
     ensures { result ≡ begun_request body.now }
@@ -68,14 +120,6 @@ fn begun_request(body: &[u8]) -> Option<Request>
         Some(memory(rest))
     } else if let Some(rest) = behind("M", body) {
         Some(set_memory(rest))
-    } else if let Some(rest) = behind("Z0,", body) {
-        Some(set_break(rest))
-    } else if let Some(rest) = behind("z0,", body) {
-        Some(delete(rest))
-    } else if let Some(rest) = behind("Z2,", body) {
-        Some(watch(rest))
-    } else if let Some(rest) = behind("z2,", body) {
-        Some(unwatch(rest))
     } else if let Some(rest) = behind("S", body) {
         Some(with_signal(Goal::Steps(Count::ONE), rest))
     } else if let Some(rest) = behind("C", body) {
@@ -90,12 +134,6 @@ fn begun_request(body: &[u8]) -> Option<Request>
         Some(Request::Leave)
     } else if begins("k", body) {
         Some(Request::Kill)
-    } else if let Some(rest) = behind("qSupported", body) {
-        Some(supported(rest))
-    } else if begins("qAttached", body) {
-        Some(Request::Attached)
-    } else if let Some(rest) = behind("qXfer:features:read:target.xml:", body) {
-        Some(description(rest))
     } else {
         None
     }
@@ -332,7 +370,7 @@ fn begins(name: &str, text: &[u8]) -> bool
 }
 
 /// Whether a body is this text; case matters.
-fn is(body: &[u8], text: &str) -> bool
+pub(crate) fn is(body: &[u8], text: &str) -> bool
     ensures { result ≡ bytes_eq body.now text.now }
 {
     body == text.as_bytes()

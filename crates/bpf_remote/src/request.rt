@@ -8,7 +8,7 @@ pub enum Request {
     /// `s`, `c`, `S`, `C`, `vCont;`, `bs`, `bc`: a command that moves. It is answered by where it
     /// stopped.
     Move(Command),
-    /// `P`, `M`, `Z0`, `z0`: a command that changes something. It is answered by `OK`.
+    /// `P`, `M`, `Z0`, `z0`, `Z1`, `z1`: a command that changes something. It is answered by `OK`.
     Set(Command),
     /// `Z2`: bytes that are watched from now on.
     Watch(Run),

@@ -3,7 +3,8 @@ ghost use Rattle.std.specs.Prelude.{◌≡◌, ◌≤◌, ◌⊎◌, Bool, IfErr
 ghost use Rattle.counted_io.specs.Counted.{Tally};
 ghost use Rattle.counted_io.specs.Writing.{Writes, WritesAfter};
 ghost use Rattle.bpf_remote.specs.Answers.{sent};
-ghost use Rattle.bpf_remote.specs.Connections.{IsConsole, acknowledgement, packet, tells_place};
+ghost use Rattle.bpf_remote.specs.Connections.{IsConsole, acknowledgement, packet};
+ghost use Rattle.bpf_remote.specs.Remarks.{is_told, remark_text};
 ghost use Rattle.bpf_remote.specs.Packets.{Holds, framed, longest_body};
 ghost use Rattle.bpf_remote.specs.Serving.{Breaks, Serves};
 ghost use Rattle.bpf_remote.specs.Turning.{AnswersBody, AnswersLine, AnswersRequest, TakesTurn};
@@ -14,11 +15,11 @@ use crate::layout::Layout;
 use crate::manners::Manners;
 use crate::number::behind;
 use crate::obeying::{
-    append_place, goes_on, is_answered, manners_after, obey, obey_line, tells_place,
+    append_remark, goes_on, heed_line, is_answered, manners_after, obey, with_moves,
 };
 use crate::packet::put_packet;
 use crate::parser::request_of;
-use crate::request::Request;
+use crate::remark::{Remark, remark_of};
 use crate::stream::{Item, next_item};
 use bpf_journal::Keeper;
 use bpf_machine::Cpu;
@@ -60,6 +61,7 @@ pub fn serve<K: Keeper, R: Read, W: Write>(
         acknowledges: true,
         swbreak: false,
         layout: gdb,
+        moves: 0,
     };
     let mut request = Body::new();
     let mut answer = Body::new();
@@ -188,7 +190,7 @@ fn answer_body<K: Keeper, W: Write>(
         }) result.0 result.1 body.now }
 {
     match behind("qRcmd,", body) {
-        Some(digits) => (answer_line(session, *manners, digits, answer, writer), true),
+        Some(digits) => (answer_line(session, manners, digits, answer, writer), true),
         None => answer_request(session, manners, body, answer, writer),
     }
 }
@@ -196,7 +198,7 @@ fn answer_body<K: Keeper, W: Write>(
 /// Answers a line of a script, which hexadecimal digits spell.
 fn answer_line<K: Keeper, W: Write>(
     session: &mut Session<K>,
-    manners: Manners,
+    manners: &mut Manners,
     digits: &[u8],
     answer: &mut Body,
     writer: &mut Counted<W>,
@@ -205,20 +207,21 @@ fn answer_line<K: Keeper, W: Write>(
     ensures { AnswersLine K.holds K.refused K.room W.contents
         (record {
           session = session.old;
-          manners = manners;
+          manners = manners.old;
           answer = answer.old;
           writer = writer.old;
         })
         (record {
           session = session.new;
-          manners = manners;
+          manners = manners.new;
           answer = answer.new;
           writer = writer.new;
         }) result digits.now }
 {
-    let begun = acknowledge(manners, writer);
+    let begun = acknowledge(*manners, writer);
     answer.clear();
-    obey_line(session, digits, answer);
+    let moves = heed_line(session, digits, manners.moves, answer);
+    *manners = with_moves(moves, *manners);
     put_sent(writer, begun, answer)
 }
 
@@ -246,31 +249,33 @@ fn answer_request<K: Keeper, W: Write>(
 {
     let begun = acknowledge(*manners, writer);
     let request = request_of(body);
-    let told = obey(session, &request);
-    let placed = put_console(writer, begun, &request, session.cpu(), answer);
+    let (told, moves) = obey(session, &request, manners.moves);
+    let dropped = moves.saturating_sub(session.kept() as u64);
+    let remark = remark_of(&request, told, session.cpu(), session.limit(), dropped);
+    let remarked = put_console(writer, begun, remark, session.cpu(), answer);
     answer.clear();
+    *manners = manners_after(&request, moves, *manners);
     append_answer(told, session.cpu(), *manners, answer);
-    *manners = manners_after(&request, *manners);
-    let wrote = put_answer(writer, placed, answer, is_answered(&request));
+    let wrote = put_answer(writer, remarked, answer, is_answered(&request));
     (wrote, goes_on(&request))
 }
 
-/// Writes the packet of a line PLACE, where there is to be one. The body is used for it.
+/// Writes the packet of a remark, where there is to be one. The body is used for it.
 fn put_console<W: Write>(
     writer: &mut Counted<W>,
     so_far: Result<(), WriteFault>,
-    request: &Request,
+    remark: Remark,
     cpu: &Cpu,
     body: &mut Body,
 ) -> Result<(), WriteFault>
-    ensures { (text : List ℕ) × IsConsole (tells_place request.now cpu.now) cpu.now text
+    ensures { (text : List ℕ) × IsConsole (is_told remark) (remark_text remark cpu.now) text
         × WritesAfter W.contents writer.old so_far writer.new result text }
 {
-    if !tells_place(request, cpu) {
+    if !remark.is_told() {
         return so_far;
     }
     body.clear();
-    if !append_place(cpu, body) {
+    if !append_remark(remark, cpu, body) {
         return so_far;
     }
     match body.bytes() {

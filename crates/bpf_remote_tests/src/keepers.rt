@@ -105,10 +105,10 @@ const ENDLESS: &[u8] = b"\x07\x00\x00\x00\x01\x00\x00\x00\x05\x00\xfe\xff\x00\x0
 /// doesn't go on by itself, as at the limit of steps. The lines of a script are `stepi` and `redo`,
 /// and their reply is `refused Q15: out of memory`.
 const REFUSED: &str = "$P1=0700000000000000#c5|+$OK#9a
-$c#63|+$T02#b6
+$c#63|+$T02thread:0;0a:0002000002000000;0b:0800000000000000;#ec
 $p0#a0|+$0200000000000000#02
 $pb#d2|+$0800000000000000#08
-$?#3f|+$T05#b9
+$?#3f|+$T05thread:0;0a:0002000002000000;0b:0800000000000000;#ef
 $c#63|+$E0f#db
 $s#73|+$E0f#db
 $vCont;c#a8|+$E0f#db
@@ -121,7 +121,7 @@ $pb#d2|+$0800000000000000#08
 $Z0,0,1#43|+$OK#9a
 $Z2,200000000,1#c7|+$OK#9a
 $qRcmd,7374657069#39|+$72656675736564205131353a206f7574206f66206d656d6f72790a#59
-$bs#d5|+$T05#b9
+$bs#d5|+$T05thread:0;0a:0002000002000000;0b:0000000000000000;#e7
 $pb#d2|+$0000000000000000#00
 $qRcmd,7265646f#fd|+$72656675736564205131353a206f7574206f66206d656d6f72790a#59
 $s#73|+$E0f#db

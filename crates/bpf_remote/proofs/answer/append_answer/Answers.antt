@@ -1,6 +1,6 @@
-use Rattle.std.proofs.Common.{◌≡◌, ℕ, List, ◌++◌, ap, sym, ◌∙◌}
+use Rattle.std.proofs.Common.{◌≡◌, ℕ, List, ◌++◌, ap, append_assoc, sym, ◌∙◌}
 use Rattle.bpf_machine.specs.State.{State}
-use Rattle.bpf_remote.specs.Answers.{text_of}
+use Rattle.bpf_remote.specs.Answers.{stop_text, text_of}
 use Rattle.bpf_remote.specs.declared.answer.Answer.{Answer}
 use Rattle.bpf_remote.specs.declared.manners.Manners.{Manners}
 use Rattle.bpf_remote.proofs.Telling.{Holds-text}
@@ -16,10 +16,15 @@ pub returns-in-Error : goal.returns-in-Error
 returns-in-Error c = λ text held. Holds-text _ _ _ (c.append_error.ensures text held) (answered text c.args.manners c.args.cpu.now _ _ c.in-Error.is)
 
 pub returns-in-Halted : goal.returns-in-Halted
-returns-in-Halted c = λ text held. Holds-text _ _ _ (c.append-in-Halted.ensures text held) (ap (λ (v : List ℕ). text ++ v) (c.as_bytes.ensures.value ∙ c.text_of_halt.ensures) ∙ answered text c.args.manners c.args.cpu.now _ _ c.in-Halted.is)
+returns-in-Halted c = λ text held.
+    Holds-text _ _ _ (c.append_stop.ensures _ (c.append-in-Halted.ensures text held))
+    (append_assoc text _ _ ∙ ap (λ (v : List ℕ). text ++ (v ++ stop_text c.args.manners c.args.cpu.now)) (c.as_bytes.ensures.value ∙ c.text_of_halt.ensures)
+    ∙ answered text c.args.manners c.args.cpu.now _ _ c.in-Halted.is)
 
 pub returns-in-Watched : goal.returns-in-Watched
-returns-in-Watched c = λ text held. Holds-text _ _ _ (c.append_watched.ensures text held) (answered text c.args.manners c.args.cpu.now _ _ c.in-Watched.is)
+returns-in-Watched c = λ text held.
+    Holds-text _ _ _ (c.append_stop-in-Watched.ensures _ (c.append_watched.ensures text held))
+    (append_assoc text _ _ ∙ answered text c.args.manners c.args.cpu.now _ _ c.in-Watched.is)
 
 pub returns-in-Actions : goal.returns-in-Actions
 returns-in-Actions c = λ text held. Holds-text _ _ _ (c.append-in-Actions.ensures text held) (answered text c.args.manners c.args.cpu.now _ _ c.in-Actions.is)

@@ -1,15 +1,19 @@
 use Rattle.std.proofs.Common.{ap, subst, ◌++◌, Bool, []}
 use Rattle.bpf_machine.specs.State.{State}
 use Rattle.bpf_remote.specs.Answers.{text_of}
-use Rattle.bpf_remote.specs.Connections.{acknowledgement, packet, tells_place, DoesRequest, IsConsole}
+use Rattle.bpf_remote.specs.Connections.{acknowledgement, packet, DoesRequest, IsConsole}
+use Rattle.bpf_remote.specs.Remarks.{is_told, remark_text}
 use Rattle.bpf_remote.specs.Turning.{Tells}
 use Rattle.bpf_remote.specs.declared.request.Request.{Request}
+use Rattle.bpf_remote.proofs.Consoles.{remarked}
 use Rattle.bpf_remote.proofs.serving.answer_request.Goals as goal
 
 pub returns : goal.returns
 returns g c = λ before.
-    let text = text_of c.args.manners.now c.cpu-2.result.now c.obey-told.result in
-    let console = c.put_console-placed.ensures in
+    let told = c.obey-told.result.0 in
+    let moves = c.obey-told.result.1 in
+    let text = text_of c.manners_after.result c.cpu-3.result.now told in
+    let console = c.put_console-remarked.ensures in
     subst (λ (r : Request). Tells {E = _} g.W.Write.contents
     (record { session = c.args.session.now; manners = c.args.manners.now; answer = c.args.answer.now; writer = c.args.writer.now })
     (record { session = c.obey-told.new.session; manners = c.manners_after.result; answer = c.append_answer.new.body; writer = c.put_answer-wrote.new.writer })
@@ -23,12 +27,15 @@ returns g c = λ before.
       last = text;
       told = acknowledgement c.args.manners.now ++ console.0 ++ packet c.is_answered.result text;
       done = (
-        c.obey-told.result,
+        told,
+        moves,
         c.obey-told.ensures,
         c.manners_after.ensures,
-        ap (λ (x : State). text_of c.args.manners.now x c.obey-told.result) c.cpu-2.ensures,
+        ap (λ (x : State). text_of c.manners_after.result x told) c.cpu-3.ensures,
+        c.remark_of-remark.result,
+        (λ t past. remarked _ _ _ _ _ _ _ _ _ _ _ c.remark_of-remark.ensures c.cpu.ensures c.limit.ensures c.saturating_sub-dropped.ensures (c.kept.ensures t past)),
         console.0,
-        subst (λ (x : State). IsConsole (tells_place c.request_of-request.result x) x console.0) c.cpu.ensures console.1,
+        subst (λ (x : State). IsConsole (is_told c.remark_of-remark.result) (remark_text c.remark_of-remark.result x) console.0) c.cpu-2.ensures console.1,
         ap (λ (b : Bool). acknowledgement c.args.manners.now ++ console.0 ++ packet b text) c.is_answered.ensures,
         c.goes_on.ensures,
       );
