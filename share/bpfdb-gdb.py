@@ -18,6 +18,8 @@ REGISTERS = {
     "i386:x86-64": "rax rdx rcx rbx rsi rdi rbp rsp r8 r9 r10".split(),
     "riscv:rv64": "zero ra sp gp tp t0 t1 t2 fp s1 a0".split(),
 }
+# The register that says how many moves lie before the state, and its number.
+MOVES, MOVES_NUMBER = "moves", 64
 # r10 at depth 0, and what a call adds to it.
 FIRST_POINTER, POINTER_STRIDE = 0x200000200, 0x400
 SLOT = 8
@@ -27,34 +29,71 @@ FIRST_TOKEN, FIRST_MAP, MAP_STRIDE, MOST_MAPS = 0x400000000, 0x300000000, 0x1000
 # Kinds of watches that stop at reads; and how the header of an object for BPF tells its kind and machine.
 READ_WATCHES = (gdb.BP_READ_WATCHPOINT, gdb.BP_ACCESS_WATCHPOINT)
 OBJECT_FOR_BPF = b"\x01\x00\xf7\x00"
-# Where programs are looked for that belong to this file: beside it, in 'bin' of where it is installed, and then as the shell does.
+# Where programs are looked for that belong to this file: in 'bin' of where it is installed, or beside it, and then as the shell does.
 HERE = os.path.dirname(os.path.abspath(__file__))
-PLACES = os.pathsep.join([HERE, os.path.join(HERE, "..", "..", "bin"), os.environ.get("PATH", "")])
+BIN = os.path.join(HERE, "..", "..", "bin") if os.path.basename(HERE) == "bpfdb" else HERE
+PLACES = os.pathsep.join([BIN, os.environ.get("PATH", "")])
 
 
 class Commands:
-    """How many commands of bpfdb were kept behind each command of gdb's user, in ascending order."""
+    """How many moves lay before the state behind each command of gdb's user, in ascending order."""
 
     def __init__(self):
         self.ends = [0]
 
-    def note(self, event=None):
-        """Notes where a command ended. One that went back ends before others, which then are no more."""
+    def stop(self, event):
+        """Notes where a command stopped."""
         if is_connected():
-            kept = self.kept()
-            self.ends = [end for end in self.ends if end < kept] + [kept]
+            self.note(int(gdb.newest_frame().read_register(MOVES)))
 
-    def kept(self):
-        """How many commands bpfdb keeps."""
-        return int(ask("info history").split()[2])
+    def edit(self, event):
+        """Notes an edit, of which gdb has no new count of moves."""
+        if is_connected():
+            self.note(moves())
 
-    def last(self):
-        """How many commands of bpfdb the last one of gdb's user is."""
-        kept = self.kept()
-        return kept - max((end for end in self.ends if end < kept), default=kept - 1)
+    def note(self, end):
+        """Notes where a command ended. One that went back ends before others, which then are no more."""
+        self.ends = [other for other in self.ends if other < end] + [end]
+
+    def start(self, now):
+        """How many moves lay before the last command."""
+        return max((end for end in self.ends if end < now), default=0)
+
+
+class Returns:
+    """What comes back where calls return, as bpfdb told it behind so many moves: for each depth registers with their values."""
+
+    def __init__(self):
+        self.forget()
+
+    def forget(self, event=None):
+        self.moves, self.deepest, self.saved = None, None, {}
+
+    def of(self, depth, moves, architecture):
+        """Of the call that made this depth. Of a new state that of the innermost frame is wanted first: where one move led there that left the
+        depth as it was, no call and no return, all is as before."""
+        if self.moves != moves:
+            if self.moves is None or abs(self.moves - moves) != 1 or self.deepest != depth:
+                self.read(ask("info frames").splitlines(), architecture)
+            self.moves = moves
+        return self.saved[depth]
+
+    def read(self, lines, architecture):
+        """Reads the answer to 'info frames'."""
+        name = architecture.name()
+        word, known = architecture.integer_type(64), architecture.registers()
+        self.deepest = int(lines[0].split()[1])
+        for count, line in enumerate(lines[1:]):
+            words = line.split()
+            # (r6 to r9 under the name that BPF has for each, too, where that is a register of its own)
+            pairs = [word.split("=") for word in words[3:]]
+            values = [(names, int(value, 16)) for register, value in pairs for names in {REGISTERS[name][int(register[1:])], register}]
+            saved = [(register, gdb.Value(value).cast(word)) for register, value in values if known.find(register)]
+            self.saved[self.deepest - count] = [(COUNTERS[name], gdb.Value(SLOT * int(words[2])).cast(word)), *saved]
 
 
 commands = Commands()
+returns = Returns()
 # What was asked of machines and of the debug information: whether a machine is bpfdb's, and where the functions of instructions begin.
 known_machines, known_functions = {}, {}
 
@@ -76,20 +115,31 @@ def is_connected():
     return connection() is not None and is_bpf(gdb.selected_inferior().architecture())
 
 
-def ask(line):
-    """What bpfdb answers to a line of its script."""
-    if connection() is None:
+def answer_to(packet):
+    """What bpfdb answers to a packet."""
+    if not is_connected():
         raise gdb.GdbError("bpfdb isn't connected: bpf-load OBJECT starts a program")
     # (gdb's own way to send a packet forgets the frames that it is about to find)
-    told = gdb.execute("maintenance packet qRcmd," + line.encode().hex(), to_string=True)
-    answer = re.search('received: "(.*)"', told).group(1)
+    answer = re.search('received: "(.*)"', gdb.execute("maintenance packet " + packet, to_string=True)).group(1)
     if answer.startswith("E"):
         raise gdb.GdbError("bpfdb answers %s" % answer)
+    return answer
+
+
+def ask(line):
+    """What bpfdb answers to a line of its script."""
+    answer = answer_to("qRcmd," + line.encode().hex())
     return "" if answer == "OK" else bytes.fromhex(answer).decode()
+
+
+def moves():
+    """How many moves lie before the state now."""
+    return int.from_bytes(bytes.fromhex(answer_to("p%x" % MOVES_NUMBER)), "little")
 
 
 def forget():
     """Lets gdb forget what it has read of the machine: registers, memory, and the old values of watches."""
+    returns.forget()
     gdb.execute("maintenance flush register-cache", to_string=True)
     gdb.execute("maintenance flush dcache", to_string=True)
     for stop in gdb.breakpoints():
@@ -117,17 +167,9 @@ def function_start(counter):
     return gdb.Value(known_functions[place]).cast(counter.type)
 
 
-def returning(depth):
-    """Where the call that made this depth returns to, and the registers that come back then, with their values."""
-    lines = ask("info frames").splitlines()
-    deepest = int(lines[0].split()[1])
-    words = lines[1 + deepest - depth].split()
-    return int(words[2]), [word.split("=") for word in words[3:]]
-
-
 class Unwinder(gdb.unwinder.Unwinder):
-    """Frames of local calls: r10 says how deep one is, and bpfdb where each returns to, and its r6 to r9. It reads r10 and pc alone, which
-    come with each stop."""
+    """Frames of local calls: r10 says how deep one is, and bpfdb where each returns to, and its r6 to r9. It reads r10, pc and the count of
+    moves alone, which come with each stop, and asks once a stop."""
 
     def __init__(self):
         super().__init__("bpfdb")
@@ -147,14 +189,10 @@ class Unwinder(gdb.unwinder.Unwinder):
         place = gdb.Value(2 * FIRST_POINTER - int(pointer)).cast(pointer.type)
         frame = pending.create_unwind_info(FrameId(place, function_start(counter)))
         if depth > 0:
-            slot, saved = returning(depth)
-            frame.add_saved_register(COUNTERS[name], gdb.Value(SLOT * slot).cast(counter.type))
-            word = architecture.integer_type(64)
-            for register, value in saved:
-                # (under the name that BPF has for it, too, where that is a register of its own)
-                for known in {registers[int(register[1:])], register}:
-                    if architecture.registers().find(known):
-                        frame.add_saved_register(known, gdb.Value(int(value, 16)).cast(word))
+            count = pending.read_register(MOVES)
+            frame.add_saved_register(MOVES, count)
+            for register, value in returns.of(depth, int(count), architecture):
+                frame.add_saved_register(register, value)
         else:
             frame.add_saved_register(COUNTERS[name], counter)
         # The outermost frame has no caller. Where a file of symbols is loaded gdb knows by its entry, and asks only for a frame that differs.
@@ -197,10 +235,11 @@ class Mover(Asker):
     def __init__(self, name):
         super().__init__(name, gdb.COMMAND_RUNNING)
 
-    def move(self, line):
-        print(ask(line), end="")
-        commands.note()
+    def tell(self, reply):
+        """Shows what bpfdb replied, and where the machine stands then."""
+        print(reply, end="")
         forget()
+        commands.note(moves())
         gdb.execute("frame")
 
 
@@ -208,14 +247,28 @@ class Undo(Mover):
     """bpf-undo [COUNT]: takes back the last command, as a whole next or continue, or the last COUNT commands of bpfdb; edits too."""
 
     def obey(self, argument):
-        self.move("undo %s" % (argument or commands.last()))
+        now = moves()
+        start = commands.start(now)
+        if argument or start == now:
+            self.tell(ask("undo " + argument))
+            return
+        if int(ask("info history").split()[0]) < now - start:
+            raise gdb.GdbError("the journal has dropped moves of that command: a larger --journal keeps more")
+        reply = ask("reverse-stepi %d" % (now - start))
+        left = moves() - start
+        # (edits before the first step are left, and among the steps they came back with them)
+        if left > 0:
+            reply = ask("undo %d" % left)
+        elif left < 0:
+            reply = ask("redo %d" % -left)
+        self.tell("%d back; done; %s" % (now - start, reply.split("; ", 2)[2]))
 
 
 class Redo(Mover):
     """bpf-redo [COUNT]: makes the next COUNT moves again that were taken back, edits too."""
 
     def obey(self, argument):
-        self.move("redo " + argument)
+        self.tell(ask("redo " + argument))
 
 
 class LastWrite(Asker):
@@ -392,8 +445,10 @@ def look_at_file(event):
         gdb.write("this is an object for BPF: load what bpfdb-symbols makes of it\n", gdb.STDERR)
 
 
-for happens in (gdb.events.stop, gdb.events.memory_changed, gdb.events.register_changed):
-    happens.connect(commands.note)
+gdb.events.cont.connect(returns.forget)
+gdb.events.stop.connect(commands.stop)
+gdb.events.memory_changed.connect(commands.edit)
+gdb.events.register_changed.connect(commands.edit)
 gdb.events.breakpoint_created.connect(refuse_reads)
 gdb.events.new_objfile.connect(look_at_file)
 gdb.unwinder.register_unwinder(None, Unwinder(), replace=True)

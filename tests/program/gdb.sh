@@ -91,6 +91,13 @@ else
             transcript gdb "$sessions/$name.txt"
         done
         transcript gdb story.txt
+
+        # Where the commands end at a fault, without `kill` or `detach`, gdb ends bpfdb.
+        printf 'target remote | bpfdb gdb --listing access.s; echo "$?" > ended\ncontinue\n' > typed
+        talk gdb
+        for _ in 1 2 3 4 5 6 7 8 9 10; do [ -s ended ] || sleep 0.5; done
+        echo 0 > wanted/ended
+        same 'the end of commands at a fault' wanted/ended ended
         if compiled flows && compiled sized; then
             transcript gdb "$sessions/maps.txt"
         else
