@@ -38,8 +38,8 @@ PLACES = os.pathsep.join([BIN, os.environ.get("PATH", "")])
 class Commands:
     """How many moves lay before the state behind each command of gdb's user, in ascending order."""
 
-    def __init__(self):
-        self.ends = [0]
+    def __init__(self, begin=0):
+        self.begin, self.ends = begin, []
 
     def stop(self, event):
         """Notes where a command stopped."""
@@ -57,7 +57,7 @@ class Commands:
 
     def start(self, now):
         """How many moves lay before the last command."""
-        return max((end for end in self.ends if end < now), default=0)
+        return max((end for end in self.ends if end < now), default=min(self.begin, now))
 
 
 class Returns:
@@ -249,9 +249,11 @@ class Undo(Mover):
     def obey(self, argument):
         now = moves()
         start = commands.start(now)
-        if argument or start == now:
+        if argument:
             self.tell(ask("undo " + argument))
             return
+        if start == now:
+            raise gdb.GdbError("nothing to take back")
         if int(ask("info history").split()[0]) < now - start:
             raise gdb.GdbError("the journal has dropped moves of that command: a larger --journal keeps more")
         reply = ask("reverse-stepi %d" % (now - start))
@@ -374,9 +376,14 @@ class Load(Asker):
             gdb.execute("with confirm off -- kill", to_string=True)
         gdb.execute("with confirm off -- file %s" % base + ".sym", to_string=True)
         command = shlex.join([found("bpfdb"), "gdb", *options, base + ".bin"])
-        gdb.execute("target remote | " + command, to_string=True)
         self.words = words
-        commands.__init__()
+        if gdb.execute("info symbol 0", to_string=True).startswith("No symbol"):
+            # (the program begins with a setup of its data, and the entry is behind its first slot)
+            gdb.execute("with suppress-cli-notifications on -- target remote | " + command, to_string=True)
+            gdb.execute("advance *%d" % SLOT)
+        else:
+            gdb.execute("target remote | " + command, to_string=True)
+        commands.__init__(moves())
 
 
 def taken(words, option):

@@ -98,7 +98,7 @@ else
         for _ in 1 2 3 4 5 6 7 8 9 10; do [ -s ended ] || sleep 0.5; done
         echo 0 > wanted/ended
         same 'the end of commands at a fault' wanted/ended ended
-        if compiled flows && compiled sized; then
+        if compiled flows && compiled sized && compiled data; then
             transcript gdb "$sessions/maps.txt"
         else
             echo 'tests/program/gdb.sh: there is no clang for BPF here, so no map is shown in gdb'
