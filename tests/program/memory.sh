@@ -149,7 +149,7 @@ wants_usage "unexpected argument '--frob' found" run --frob program
 wants_usage "invalid value '0' for '--steps <N>': 0 is not in 1..=1000000000" run --steps 0 program
 
 printf '$s#73' > script
-wants "$plain$c13$o2$j2" 0 '+$T05#b9' '' gdb --maps 8x2 program
+wants "$plain$c13$o2$j2" 0 '+$T05thread:0;0a:0002000002000000;0b:0800000000000000;40:0100000000000000;#c9' '' gdb --maps 8x2 program
 : > script
 
 # Sessions: each request that can be refused is one before the first command, and then nothing is replied. A session that has begun
