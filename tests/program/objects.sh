@@ -326,7 +326,7 @@ C
         '__attribute__((section("prog"))) long entry(void *at, unsigned long size) { return call(size); }' > table.c
     clang -O2 -target bpf -c -o address.o address.c
     clang -O2 -target bpf -c -o table.o table.c
-    refused 'refused E23 at slot 0: reference to data that is no map' link address.o
+    refused 'refused E23 at slot 1: reference to data that is no map' link address.o
     refused 'refused E29: address in data of what is no data' link table.o
     # Sixteen sections of data, one for each variable, and a seventeenth.
     for most in 16 17; do
