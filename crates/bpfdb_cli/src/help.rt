@@ -2,7 +2,7 @@
 //! defaults; it doesn't wrap lines.
 
 /// The version, and the toolchain that proved it.
-pub const VERSION: &str = "0.9.0 (rattle-kit-13f logic dac8208d650f15bf)";
+pub const VERSION: &str = "0.10.0 (rattle-kit-13f logic dac8208d650f15bf)";
 
 /// What bpfdb is.
 pub const BPFDB: &str = "Runs BPF programs (RFC 9669) forwards and backwards";
