@@ -4,7 +4,7 @@ ghost use Rattle.counted_io.specs.Writing.{Writes, hexadecimal};
 ghost use Rattle.bpf_session.specs.Plain.{ending_of, plain_end, text_of_ending};
 
 use crate::fault::RunFault;
-use bpf_machine::{Cpu, Ended, Status};
+use bpf_machine::{Cpu, Status};
 use bpfdb_replies::number_in;
 use counted_io::{Counted, WriteFault, put, put_hexadecimal};
 use std::io::Write;
@@ -52,12 +52,7 @@ pub fn run_plain<W: Write>(
 fn take_steps(cpu: &mut Cpu, limit: u64)
     ensures { cpu.new ≡ plain_end limit cpu.old }
 {
-    for _ in 0..limit {
-        match cpu.advance() {
-            Ok(()) => {}
-            Err(Ended) => return,
-        }
-    }
+    cpu.run(limit);
 }
 
 /// Writes a result and a line feed, and flushes.

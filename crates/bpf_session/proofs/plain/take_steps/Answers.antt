@@ -1,60 +1,36 @@
-use Rattle.std.proofs.Common.{◌≡◌, ◌+◌, ◌-◌, ℕ, suc, Bool, true, false, refl, sym, ap, ◌∙◌, arith}
+use Rattle.std.proofs.Common.{◌≡◌, ◌+◌, ◌<◌, ◌≤◌, ℕ, zero, suc, Bool, true, false, sym, ap, ◌∙◌, refl, arith, inl, inr}
+use Rattle.std.proofs.lemmas.Bool.{cases_lt}
 use Rattle.bpf_machine.specs.Next.{next}
+use Rattle.bpf_machine.specs.Runs as machine
 use Rattle.bpf_machine.specs.State.{State}
 use Rattle.bpf_entries.specs.Status.{has_ended}
 use Rattle.bpf_ring.specs.Runs.{state_after}
 use Rattle.bpf_session.specs.Forward.{least}
 use Rattle.bpf_session.proofs.plain.take_steps.Goals as goal
 
--- one of n numbers that doesn't pass is followed by the next
-least-on : (test : ℕ → Bool) (k n m : ℕ) → n ≡ suc m → test k ≡ false → least test k n ≡ least test (k + 1) m
-least-on test k n m e off = rw e (rw off refl)
+-- the least number that passes, where each before it doesn't
+least_is : (test : ℕ → Bool) (left k n : ℕ) → k ≤ n → n ≤ k + left → ((j : ℕ) → j < n → test j ≡ false) → (n < k + left → test n ≡ true) → least test k left ≡ n
+least_is test zero k n low high before here = omega (arith, low, high)
+least_is test (suc left) k n low high before here = elim (cases_lt k n) [
+  | inl below ↦ rw (before k below) (least_is test left (k + 1) n (omega (arith, below)) (omega (arith, high)) before (λ less. here (omega (arith, less))))
+  | inr past ↦
+      let same : n ≡ k = omega (arith, low, past) in
+      let on : test k ≡ true = ap test (sym same) ∙ here (omega (arith, same)) in
+      rw on (sym same)
+]
 
--- one that passes is the least
-least-here : (test : ℕ → Bool) (k n m : ℕ) → n ≡ suc m → test k ≡ true → least test k n ≡ k
-least-here test k n m e on = rw e (rw on refl)
-
--- none is left
-least-end : (test : ℕ → Bool) (k n : ℕ) → n ≡ 0 → least test k n ≡ k
-least-end test k n e = rw e refl
-
-after-next : (k : ℕ) (x : State) → state_after (k + 1) x ≡ next (state_after k x)
-after-next k x = let e : k + 1 ≡ suc k = omega arith in ap (λ (n : ℕ). state_after n x) e
-
-off : (b : Bool) → (b ≡ true → false ≡ true) → b ≡ false
-off true h = sym (h refl)
-off false h = refl
-
-pub loop-init : goal.loop-init
-loop-init c =
-    let e : c.args.limit - 0 ≡ c.args.limit = omega arith in
-    record { stands = refl; rest = ap (least (λ k. has_ended (state_after k c.args.cpu.now).status) 0) e }
-
-pub loop-preserved : goal.loop-preserved
-loop-preserved c =
-    let x = c.args.cpu.now in
-    let k = c.loop.counter in
-    let left : c.args.limit - k ≡ suc (c.args.limit - (k + 1)) = omega (arith, c.loop-test.true) in
-    let running = off (has_ended c.loop.cpu.status) c.in-Ok.ensures.err.1 in
-    let running' : has_ended (state_after k x).status ≡ false = sym (ap (λ (y : State). has_ended y.status) c.loop.invariant.stands) ∙ running in
-    record {
-      stands = c.in-Ok.ensures.next ∙ ap next c.loop.invariant.stands ∙ sym (after-next k x);
-      rest = sym (least-on (λ k. has_ended (state_after k x).status) k _ _ left running') ∙ c.loop.invariant.rest;
-    }
-
-pub returns-in-Err : goal.returns-in-Err
-returns-in-Err c =
-    let x = c.args.cpu.now in
-    let k = c.loop.counter in
-    let left : c.args.limit - k ≡ suc (c.args.limit - (k + 1)) = omega (arith, c.loop-test.true) in
-    let ended : has_ended (state_after k x).status ≡ true = sym (ap (λ (y : State). has_ended y.status) c.loop.invariant.stands) ∙ c.in-Err.ensures.err.0 refl in
-    c.in-Err.ensures.same ∙ c.loop.invariant.stands
-    ∙ ap (λ (n : ℕ). state_after n x) (sym (least-here (λ k. has_ended (state_after k x).status) k _ _ left ended) ∙ c.loop.invariant.rest)
+-- the same state by either definition
+same_after : (k : ℕ) (x : State) → machine.state_after k x ≡ state_after k x
+same_after zero x = refl
+same_after (suc k) x = ap next (same_after k x)
 
 pub returns : goal.returns
 returns c =
     let x = c.args.cpu.now in
-    let k = c.loop.counter in
-    let left : c.args.limit - k ≡ 0 = omega (arith, c.loop-test.false) in
-    c.loop.invariant.stands
-    ∙ ap (λ (n : ℕ). state_after n x) (sym (least-end (λ k. has_ended (state_after k x).status) k _ left) ∙ c.loop.invariant.rest)
+    let n = c.run.result in
+    let run = c.run.ensures in
+    let test : ℕ → Bool = λ k. has_ended (state_after k x).status in
+    let here = run.steps.state ∙ same_after n x in
+    let running = λ (k : ℕ) (low : k < n). ap (λ (y : State). has_ended y.status) (sym (same_after k x)) ∙ run.steps.running k low in
+    let count = least_is test c.args.limit 0 n (omega arith) (omega (arith, run.within)) running (λ less. sym (ap (λ (y : State). has_ended y.status) here) ∙ run.all (omega (arith, less))) in
+    here ∙ ap (λ (n : ℕ). state_after n x) (sym count)
