@@ -86,7 +86,7 @@ clauses() {
         match($0, /pub record [A-Za-z_0-9]+/) { name = substr($0, RSTART + 11, RLENGTH - 11); print name }
         match($0, /pub data [A-Za-z_0-9]+/) { name = substr($0, RSTART + 9, RLENGTH - 9); print name }
         match($0, /abbrev pub [A-Za-z_0-9]+/) { print substr($0, RSTART + 11, RLENGTH - 11) }
-        match($0, /^ +[A-Z][A-Za-z]+ : \(/) { split(substr($0, RSTART, RLENGTH), words, " "); print name, words[1]; print words[1] }
+        match($0, /^ +[A-Z][A-Za-z]+ : /) { split(substr($0, RSTART, RLENGTH), words, " "); print name, words[1]; print words[1] }
         match($0, /^ +pub [a-z_]+ :/) { split(substr($0, RSTART, RLENGTH), words, " "); print name, words[2] }
     ' {} +
 }

@@ -12,7 +12,7 @@ _bpfdb() {
     --section) :; return ;;
     esac
     if [ "$COMP_CWORD" -eq "$first" ]; then
-        mapfile -t COMPREPLY < <(compgen -W "run debug asm disasm check link gdb help --help --version" -- "$word")
+        mapfile -t COMPREPLY < <(compgen -W "run debug asm disasm check link gdb test help --help --version" -- "$word")
         return
     fi
     case $job in
@@ -23,8 +23,9 @@ _bpfdb() {
     check) words="--maps --listing -h --help" ;;
     link) words="--section -h --help" ;;
     gdb) words="-m --mem --maps --journal --steps --listing --registers -h --help" ;;
+    test) words="-h --help" ;;
     shell) words="-m --mem --maps --journal --steps --listing --section -h --help" ;;
-    help) words="run debug asm disasm check link gdb" ;;
+    help) words="run debug asm disasm check link gdb test" ;;
     *) return ;;
     esac
     case $word in

@@ -6,6 +6,7 @@ complete -c bpfdb -n __fish_use_subcommand -f -a disasm -d "checks the program a
 complete -c bpfdb -n __fish_use_subcommand -f -a check -d "checks the program"
 complete -c bpfdb -n __fish_use_subcommand -f -a link -d "links a code section of the object FILE"
 complete -c bpfdb -n __fish_use_subcommand -f -a gdb -d "answers gdb"
+complete -c bpfdb -n __fish_use_subcommand -f -a test -d "runs the tests of the file FILE"
 complete -c bpfdb -n __fish_use_subcommand -f -a help -d "describes a subcommand"
 complete -c bpfdb -n "__fish_seen_subcommand_from run debug gdb" -s m -l mem -r -F -d "The file that holds the context"
 complete -c bpfdb-shell -s m -l mem -r -F -d "The file that holds the context"

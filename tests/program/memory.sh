@@ -120,6 +120,8 @@ bytes stored \
     00 00 00 00 03 00 00 00 7b 43 18 00 00 00 00 00 b7 03 00 00 00 00 00 00 b7 04 00 00 00 00 00 00 \
     06 00 00 00 e4 ff ff ff
 wants "$plain$e26" 0 "$text" '--maps 8x5\n' link point.o
+printf -- '-- listing\nmov r0, 2\nexit\n-- result\n2\n' > two.test
+wants "$plain" 0 '1..1\nok 1\n' '' test two.test
 wants "$plain" 2 '' 'cannot read missing\n' run missing
 wants "$plain" 0 "$(text "$parts/help/bpfdb.txt")" '' --help
 wants "$plain" 0 "$(version)" '' --version

@@ -60,6 +60,15 @@ result 'ok 3 instructions in 4 slots\n' check --maps 8x2 --listing mapped.s
 result 'ok 3 instructions in 4 slots\n' check mapped --maps=8x1
 result 'ok 2 instructions in 2 slots\n' check first
 result 'ok 1 instructions in 1 slots\n' check endless
+# test: a report, a test that fails, and a file with a fault
+printf -- '-- listing\nmov r0, 2\nexit\n-- name\ntwo\n-- result\n2\n' > two.test
+printf -- '-- listing\nmov r0, 2\nexit\n-- result\n3\n' > three.test
+printf -- '-- listing\nexit\n' > lacking.test
+result '1..1\nok 1 - two\n' test two.test
+result '1..1\nok 1 - two\n' test -- two.test
+row 'bpfdb test of a test that fails' 1 '' '1..1\nnot ok 1\n# the test in line 1\n# came: exited at 1: r0 0x2\n# wanted: result 3\n' '' test three.test
+refused 'refused T6 at line 1: test without an expectation' test lacking.test
+
 printf '%b' "$script_unread" > script
 run asm first.s
 cp first wanted/out
@@ -72,7 +81,7 @@ for absent in 'run --journal=65536' 'debug -j=65536' 'asm -m=context' 'asm --mem
     'asm --steps=7' 'asm --listing' 'disasm -m=context' 'disasm --mem=context' 'disasm --journal=65536' 'disasm --steps=7' \
     'check -m=context' 'check --mem=context' 'check --journal=65536' 'check --steps=7' 'run --section=a' 'debug --section=a' 'asm --section=a' \
     'disasm --section=a' 'check --section=a' 'link -m=context' 'link --mem=context' 'link --maps=8x2' 'link --journal=65536' 'link --steps=7' 'link --listing' 'gdb --section=a' \
-    'run --registers=x86' 'debug --registers=x86'
+    'run --registers=x86' 'debug --registers=x86' 'test --listing' 'test --maps=8x2' 'test --steps=7'
 do
     subcommand=${absent%% *} option=${absent#* }
     name=${option%%=*}

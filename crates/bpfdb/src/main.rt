@@ -185,6 +185,7 @@ fn file_of<'a>(rt: &HostRuntime, plan: &Plan<'a>) -> Result<Vec<u8>, JobFault<'a
     match plan.subcommand {
         Subcommand::Asm => source_at(rt, plan.file),
         Subcommand::Link => source_at(rt, plan.file),
+        Subcommand::Test => source_at(rt, plan.file),
         _ => {
             if plan.options.is_listing {
                 source_at(rt, plan.file)

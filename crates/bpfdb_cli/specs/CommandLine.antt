@@ -1,4 +1,4 @@
--- The command line as `clap` is told of it: seven subcommands, the options of each, and FILE.
+-- The command line as `clap` is told of it: eight subcommands, the options of each, and FILE.
 use Rattle.std.specs.Prelude.{[], ◌∷◌, Some, true, codes}
 use Rattle.clap.specs.Words.{App, Rule, new_app, new_rule, with_rule, with_subcommand}
 use Rattle.clap.specs.declared.builder.action.ArgAction.TheVariants.{SetTrue}
@@ -68,6 +68,9 @@ check_app = with_rule (with_rule (with_rule (new_app (codes "check")) maps_rule)
 abbrev pub link_app : App
 link_app = with_rule (with_rule (new_app (codes "link")) section_rule) file_rule
 
+abbrev pub test_app : App
+test_app = with_rule (new_app (codes "test")) file_rule
+
 -- `gdb` opens a session as `debug` does.
 abbrev pub gdb_app : App
 gdb_app = with_rule (with_rule (with_rule (with_rule (with_rule (with_rule (with_rule (new_app (codes "gdb"))
@@ -79,5 +82,5 @@ bare_app = record (new_app (codes "bpfdb")) { top = record (new_app (codes "bpfd
 
 -- The command with its subcommands.
 unfoldable pub command_app : App
-command_app = with_subcommand (with_subcommand (with_subcommand (with_subcommand (with_subcommand (with_subcommand (with_subcommand bare_app
-    run_app.top) debug_app.top) gdb_app.top) asm_app.top) disasm_app.top) check_app.top) link_app.top
+command_app = with_subcommand (with_subcommand (with_subcommand (with_subcommand (with_subcommand (with_subcommand (with_subcommand (with_subcommand bare_app
+    run_app.top) debug_app.top) gdb_app.top) asm_app.top) disasm_app.top) check_app.top) link_app.top) test_app.top

@@ -124,6 +124,29 @@ pub const LINK_EXAMPLE: &str = "Example:
   $ clang -O2 -target bpf -c count.c
   $ bpfdb link count.o > count.bin";
 
+pub const TEST: &str = "Runs the tests of a file";
+
+pub const TEST_LONG: &str = "Runs the tests of a file.
+
+Reads the test file FILE: programs, each with what it is expected to come to
+(docs/TESTS.md describes it). Writes a report in the Test Anything Protocol to standard
+output: `ok 1 - NAME` for a test that passes, and what came and what was wanted for one
+that doesn't. If a test fails, the exit status is 1. If something is wrong with FILE, no
+test runs; a line on standard error says what and where, and the exit status is 2.";
+
+pub const TEST_EXAMPLE: &str = "Example:
+  $ cat two.test
+  -- listing
+  mov r0, 2
+  exit
+  -- name
+  two
+  -- result
+  2
+  $ bpfdb test two.test
+  1..1
+  ok 1 - two";
+
 pub const GDB: &str = "Serves gdb's remote protocol, forwards and backwards";
 
 pub const GDB_LONG: &str = "Serves gdb's remote protocol, forwards and backwards.
@@ -194,3 +217,5 @@ pub const PROGRAM: &str = "Program: its raw words, or with --listing its listing
 pub const LISTING_FILE: &str = "Listing to be assembled";
 
 pub const OBJECT_FILE: &str = "Relocatable ELF object for BPF";
+
+pub const TEST_FILE: &str = "Test file (docs/TESTS.md)";

@@ -32,7 +32,7 @@ pub(crate) struct CliSubcommand<'a> {
 }
 
 /// The subcommands, as help lists them.
-pub(crate) const SUBCOMMANDS: [CliSubcommand<'static>; 7] = [
+pub(crate) const SUBCOMMANDS: [CliSubcommand<'static>; 8] = [
     CliSubcommand {
         name: "run",
         about: help::RUN,
@@ -106,5 +106,13 @@ pub(crate) const SUBCOMMANDS: [CliSubcommand<'static>; 7] = [
         example: help::LINK_EXAMPLE,
         options: &[CliOption::Section],
         file: help::OBJECT_FILE,
+    },
+    CliSubcommand {
+        name: "test",
+        about: help::TEST,
+        long_about: help::TEST_LONG,
+        example: help::TEST_EXAMPLE,
+        options: &[],
+        file: help::TEST_FILE,
     },
 ];

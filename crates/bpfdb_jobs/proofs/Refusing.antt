@@ -2,7 +2,7 @@
 use Rattle.bpfdb_jobs.specs.Refusals.{Refuses, RefusesMachine, RefusesProgram}
 use Rattle.bpfdb_jobs.specs.declared.job.Job.{Job}
 use Rattle.bpfdb_jobs.specs.declared.refusal.JobRefusal.{JobRefusal}
-use Rattle.bpfdb_jobs.specs.declared.refusal.JobRefusal.TheVariants.{Maps, Listing, Load, Open, Journal, Object}
+use Rattle.bpfdb_jobs.specs.declared.refusal.JobRefusal.TheVariants.{Maps, Listing, Load, Open, Journal, Object, Tests}
 
 -- a refusal of a program is one of a machine on it, and that one of a session over it
 pub program-machine : (job : Job) (refusal : JobRefusal) → RefusesProgram job refusal → RefusesMachine job refusal
@@ -12,6 +12,7 @@ program-machine job (Load fault) p = p
 program-machine job (Open fault) p = absurd p
 program-machine job (Journal fault) p = absurd p
 program-machine job (Object fault) p = absurd p
+program-machine job (Tests fault line) p = absurd p
 
 pub machine-session : (job : Job) (refusal : JobRefusal) → RefusesMachine job refusal → Refuses job refusal
 machine-session job (Maps fault) p = p
@@ -20,3 +21,4 @@ machine-session job (Load fault) p = p
 machine-session job (Open fault) p = p
 machine-session job (Journal fault) p = absurd p
 machine-session job (Object fault) p = absurd p
+machine-session job (Tests fault line) p = absurd p

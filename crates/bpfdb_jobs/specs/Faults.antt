@@ -7,13 +7,14 @@ use Rattle.bpf_isa.specs.declared.fault.LoadFault.TheVariants as load
 use Rattle.bpf_link.specs.Faults.{link_fault_number, link_fault_text}
 use Rattle.bpf_link.specs.declared.fault.LinkFault.{LinkFault}
 use Rattle.bpf_link.specs.declared.fault.LinkFault.TheVariants as linking
+use Rattle.bpf_suite.specs.Faults as suite
 use Rattle.bpf_text.specs.Faults.{fault_line, fault_number, fault_text}
 use Rattle.bpf_machine.specs.Opening as opening
 use Rattle.bpf_journal.specs.Opening as journal
 use Rattle.bpfdb_jobs.specs.declared.fault.JobFault.{JobFault}
 use Rattle.bpfdb_jobs.specs.declared.fault.JobFault.TheVariants.{Unreadable, NotText, Refused, Input, Output, Memory, StepLimit}
 use Rattle.bpfdb_jobs.specs.declared.refusal.JobRefusal.{JobRefusal}
-use Rattle.bpfdb_jobs.specs.declared.refusal.JobRefusal.TheVariants.{Maps, Listing, Load, Open, Journal, Object}
+use Rattle.bpfdb_jobs.specs.declared.refusal.JobRefusal.TheVariants.{Maps, Listing, Load, Open, Journal, Object, Tests}
 
 -- A name as it is shown: each control byte as `\x` and two hexadecimal digits.
 abbrev pub shown_byte : ℕ → List ℕ
@@ -66,6 +67,8 @@ refusal_line (Load fault) = refusal_text (codes "refused C") (load_fault fault).
 refusal_line (Open fault) = refusal_text (codes "refused O") (opening.number_of fault) [] (opening.text_of fault)
 refusal_line (Journal fault) = refusal_text (codes "refused J") (journal.number_of fault) [] (journal.text_of fault)
 refusal_line (Object fault) = refusal_text (codes "refused E") (link_fault_number fault) (placed (codes " at slot ") (slot_of_words fault)) (link_fault_text fault)
+refusal_line (Tests fault line) =
+    refusal_text (codes "refused T") (suite.fault_number fault) (placed (codes " at line ") (Some line)) (suite.fault_text fault)
 
 -- A file that can't be read, and a run that took as many steps as it may.
 abbrev pub unreadable_line : List ℕ → List ℕ

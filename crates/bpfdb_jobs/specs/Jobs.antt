@@ -22,7 +22,7 @@ use Rattle.bpfdb_replies.specs.Texts.{place}
 use Rattle.bpfdb_jobs.specs.MapLines.{maps_told}
 use Rattle.bpfdb_jobs.specs.declared.job.Job.{Job}
 use Rattle.bpfdb_options.specs.declared.subcommand.Subcommand.{Subcommand}
-use Rattle.bpfdb_options.specs.declared.subcommand.Subcommand.TheVariants.{Run, Debug, Gdb, Asm, Disasm, Check, Link}
+use Rattle.bpfdb_options.specs.declared.subcommand.Subcommand.TheVariants.{Run, Debug, Gdb, Asm, Disasm, Check, Link, Test}
 
 -- The map table that a text names; no map where there is no text.
 abbrev pub HasMaps : Option (Bor (List ℕ)) → List MapShape → Type 0
@@ -102,11 +102,12 @@ unfoldable pub check_line : Checked → List ℕ
 check_line code =
     codes "ok " ++ decimal (count_by is_some code.insns) ++ codes " instructions in " ++ decimal (length code.insns) ++ codes " slots\n"
 
--- What a subcommand prints of a job that has what it needs: one that reads no standard input.
+-- What a subcommand prints of a job that has what it needs: one that reads no standard input. (`test` has a definition of its own.)
 abbrev pub Prints : Subcommand → Job → Print → Type 0
 Prints Run job a = (code : Checked) × Opens job code × (a ≡ run_print job.options.limit (ending_of (run_end job code).status) (run_end job code))
 Prints Debug job a = ⊥
 Prints Gdb job a = ⊥
+Prints Test job a = ⊥
 Prints Asm job a = (words : List ℕ) × IsListing job.file.now words × (a ≡ printed words)
 Prints Disasm job a = (code : Checked) × IsProgramOf job code × (a ≡ printed (canon code))
 Prints Check job a = (code : Checked) × IsProgramOf job code × (a ≡ printed (check_line code))

@@ -7,3 +7,4 @@ pub mod MapLines
 pub mod Openings
 pub mod Refusals
 pub mod Scripts
+pub mod Suites

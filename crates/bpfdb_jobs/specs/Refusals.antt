@@ -1,4 +1,4 @@
--- Why a job is refused, in this order: its maps, its listing, its program, its context, its journal; or its object.
+-- Why a job is refused, in this order: its maps, its listing, its program, its context, its journal; its object; or its tests.
 use Rattle.std.specs.Prelude.{◌≡◌, List, [], ℕ, Some, true}
 use Rattle.std.specs.Borrow.{Bor}
 use Rattle.bpf_isa.specs.Checker.{IsRefused}
@@ -7,14 +7,16 @@ use Rattle.bpf_isa.specs.Programs.{Checked}
 use Rattle.bpf_isa.specs.declared.maps.MapShape.{MapShape}
 use Rattle.bpf_text.specs.Listing.{IsFaultOf}
 use Rattle.bpf_link.specs.Links.{IsLinkFault}
+use Rattle.bpf_suite.specs.Faults as suite
+use Rattle.bpf_suite.specs.declared.fault.FileFault.TheVariants.{Line}
 use Rattle.bpf_machine.specs.Opening.{Refused}
 use Rattle.bpf_journal.specs.Opening.{RefusesSize}
 use Rattle.bpfdb_jobs.specs.Jobs.{HasMaps, HasWords, IsProgramOf, Opens, section_of}
 use Rattle.bpfdb_jobs.specs.declared.job.Job.{Job}
 use Rattle.bpfdb_jobs.specs.declared.refusal.JobRefusal.{JobRefusal}
-use Rattle.bpfdb_jobs.specs.declared.refusal.JobRefusal.TheVariants.{Maps, Listing, Load, Open, Journal, Object}
+use Rattle.bpfdb_jobs.specs.declared.refusal.JobRefusal.TheVariants.{Maps, Listing, Load, Open, Journal, Object, Tests}
 use Rattle.bpfdb_options.specs.declared.subcommand.Subcommand.{Subcommand}
-use Rattle.bpfdb_options.specs.declared.subcommand.Subcommand.TheVariants.{Run, Debug, Gdb, Asm, Disasm, Check, Link}
+use Rattle.bpfdb_options.specs.declared.subcommand.Subcommand.TheVariants.{Run, Debug, Gdb, Asm, Disasm, Check, Link, Test}
 
 -- Each refusal comes where those before don't.
 abbrev pub Refuses : Job → JobRefusal → Type 0
@@ -26,6 +28,7 @@ Refuses job (Load fault) = (shapes : List MapShape) × HasMaps job.options.maps 
 Refuses job (Open fault) = (code : Checked) × IsProgramOf job code × Refused job.context.now fault
 Refuses job (Journal fault) = (code : Checked) × Opens job code × RefusesSize job.options.journal fault
 Refuses job (Object fault) = ⊥
+Refuses job (Tests fault line) = ⊥
 
 -- Those that a subcommand looks at: `asm` its listing alone and `link` its object, a program has no context, a run no journal.
 abbrev pub RefusesProgram : Job → JobRefusal → Type 0
@@ -45,6 +48,10 @@ abbrev pub RefusesObject : Job → JobRefusal → Type 0
 RefusesObject job (Object fault) = IsLinkFault job.file.now (section_of job) [] [] fault
 RefusesObject job refusal = ⊥
 
+abbrev pub RefusesTests : Job → JobRefusal → Type 0
+RefusesTests job (Tests fault line) = suite.IsFaultOf job.file.now (Line fault line)
+RefusesTests job refusal = ⊥
+
 abbrev pub RefusesAs : Subcommand → Job → JobRefusal → Type 0
 RefusesAs Run job refusal = RefusesMachine job refusal
 RefusesAs Debug job refusal = Refuses job refusal
@@ -53,3 +60,4 @@ RefusesAs Asm job refusal = RefusesListing job refusal
 RefusesAs Disasm job refusal = RefusesProgram job refusal
 RefusesAs Check job refusal = RefusesProgram job refusal
 RefusesAs Link job refusal = RefusesObject job refusal
+RefusesAs Test job refusal = RefusesTests job refusal

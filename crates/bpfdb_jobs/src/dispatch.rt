@@ -10,13 +10,14 @@ use crate::job::Job;
 use crate::listing::{asm_job, disasm_job};
 use crate::object::link_job;
 use crate::run::run_job;
+use crate::suite::test_job;
 use bpfdb_options::Subcommand;
 use counted_io::Counted;
 use std::alloc::Global;
 use std::io::{Read, Write};
 
 /// Does a job, and answers the exit status: 0; 1 where `run` ends in a fault of the program or at
-/// the limit of steps; 2 where the job is refused, where input or output fails, and where memory
+/// the limit of steps, and where a test fails; 2 where the job is refused, where input or output fails, and where memory
 /// runs out.
 ///
 /// Results, replies and answers go to the writer. A refusal, a fault or a limit is one line on
@@ -42,5 +43,6 @@ pub fn tool<R: Read, W: Write, E: Write>(
         Subcommand::Disasm => disasm_job(alloc, job, writer, errors),
         Subcommand::Check => check_job(alloc, job, writer, errors),
         Subcommand::Link => link_job(alloc, job, writer, errors),
+        Subcommand::Test => test_job(alloc, job, writer, errors),
     }
 }

@@ -16,6 +16,7 @@ mod opening;
 mod refusal;
 mod report;
 mod run;
+mod suite;
 
 pub use dispatch::tool;
 pub use fault::JobFault;

@@ -8,6 +8,7 @@ use crate::name::put_name;
 use crate::refusal::JobRefusal;
 use bpf_isa::LoadFault;
 use bpf_link::LinkFault;
+use bpf_suite::SectionFault;
 use bpf_text::AsmFault;
 use counted_io::{Counted, WriteFault, put, put_decimal};
 use std::io::Write;
@@ -90,6 +91,7 @@ fn put_refusal<E: Write>(
             put_unplaced(errors, so_far, b"refused J", fault.number(), fault.text())
         }
         JobRefusal::Object(fault) => put_object(errors, so_far, fault),
+        JobRefusal::Tests(fault, line) => put_tests(errors, so_far, fault, *line),
     }
 }
 
@@ -149,6 +151,27 @@ fn put_object<E: Write>(
         fault.number(),
         b" at slot ",
         slot_of_words(fault),
+        fault.text(),
+    )
+}
+
+/// Writes the line of a test file's fault.
+fn put_tests<E: Write>(
+    errors: &mut Counted<E>,
+    so_far: Result<(), WriteFault>,
+    fault: &SectionFault,
+    line: usize,
+) -> Result<(), WriteFault>
+    ensures { WritesAfter E.contents errors.old so_far errors.new result
+        (refusal_line (JobRefusal.Tests fault.now line)) }
+{
+    put_numbered(
+        errors,
+        so_far,
+        b"refused T",
+        fault.number(),
+        b" at line ",
+        Some(line),
         fault.text(),
     )
 }

@@ -3,6 +3,7 @@ use bpf_isa::{LoadFault, MapFault};
 use bpf_journal::JournalFault;
 use bpf_link::LinkFault;
 use bpf_machine::OpenFault;
+use bpf_suite::SectionFault;
 use bpf_text::AsmFault;
 
 /// Why a job is refused, in the order in which it is looked at.
@@ -20,4 +21,6 @@ pub enum JobRefusal {
     Journal(JournalFault),
     /// No program is made of the object.
     Object(LinkFault),
+    /// A test file has this fault, in this line.
+    Tests(SectionFault, usize),
 }

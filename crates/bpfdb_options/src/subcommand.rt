@@ -19,6 +19,8 @@ pub enum Subcommand {
     Check,
     /// An object is linked.
     Link,
+    /// The tests of a file are run.
+    Test,
 }
 
 impl Subcommand {
@@ -36,6 +38,7 @@ impl Subcommand {
             "disasm" => Some(Subcommand::Disasm),
             "check" => Some(Subcommand::Check),
             "link" => Some(Subcommand::Link),
+            "test" => Some(Subcommand::Test),
             _ => None,
         }
     }

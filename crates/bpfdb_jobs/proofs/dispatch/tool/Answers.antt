@@ -37,3 +37,8 @@ pub returns-in-Link-clause-does : goal.returns-in-Link-clause-does
 returns-in-Link-clause-does g c =
     subst (λ (s : Subcommand). DoesJob g.R.Read.remaining g.W.Write.contents g.E.Write.contents s c.args.job.now c.args.reader.now c.args.reader.now
     c.args.writer.now c.link_job.new.writer c.args.errors.now c.link_job.new.errors c.link_job.result) (sym c.in-Link.is) (refl, c.link_job.ensures.does)
+
+pub returns-in-Test-clause-does : goal.returns-in-Test-clause-does
+returns-in-Test-clause-does g c =
+    subst (λ (s : Subcommand). DoesJob g.R.Read.remaining g.W.Write.contents g.E.Write.contents s c.args.job.now c.args.reader.now c.args.reader.now
+    c.args.writer.now c.test_job.new.writer c.args.errors.now c.test_job.new.errors c.test_job.result) (sym c.in-Test.is) (refl, c.test_job.ensures.does)

@@ -1,0 +1,46 @@
+-- What `test` comes to.
+use Rattle.std.specs.Prelude.{ℕ, ◌≡◌, Bool, true, false, List, ◌++◌, Option, Some, None, length}
+use Rattle.bpf_suite.specs.Faults.{file_fault}
+use Rattle.bpf_suite.specs.Files.{sections, tests}
+use Rattle.bpf_suite.specs.Outcomes.{Outcome}
+use Rattle.bpf_suite.specs.Reports.{AreOutcomes, all_pass, plan, tests_text}
+use Rattle.bpf_suite.specs.declared.fault.FileFault.{FileFault}
+use Rattle.bpf_suite.specs.declared.fault.FileFault.TheVariants as file
+use Rattle.bpf_suite.specs.declared.section.Section.{Section}
+use Rattle.counted_io.specs.Counted.{Tally}
+use Rattle.bpfdb_jobs.specs.Endings.{FailedOnce, Gets, Spared, Told}
+use Rattle.bpfdb_jobs.specs.Faults.{line_of}
+use Rattle.bpfdb_jobs.specs.Refusals.{RefusesTests}
+use Rattle.bpfdb_jobs.specs.declared.fault.JobFault.{JobFault}
+use Rattle.bpfdb_jobs.specs.declared.fault.JobFault.TheVariants as fault
+use Rattle.bpfdb_jobs.specs.declared.job.Job.{Job}
+use Rattle.bpfdb_jobs.specs.declared.refusal.JobRefusal.{JobRefusal}
+use Rattle.bpfdb_jobs.specs.declared.refusal.JobRefusal.TheVariants.{Tests}
+
+-- The report on tests, and the exit status: 1 where one fails.
+abbrev pub report : List (List Section) → List Outcome → List ℕ
+report ts outcomes = plan (length ts) ++ tests_text 1 ts outcomes
+
+abbrev pub status_of : Bool → ℕ
+status_of true = 0
+status_of false = 1
+
+-- Why the tests of a file aren't run.
+abbrev pub fault_of_file : FileFault → JobFault
+fault_of_file (file.Line why line) = fault.Refused (Tests why line)
+fault_of_file file.Memory = fault.Memory
+
+-- How a job of `test` ends: its tests were run, and reported on; or its file was refused, and nothing written; or memory ran out before or
+-- while tests ran, or standard output failed, and what was written is not said.
+pub data EndsTests {W E : Type 0} (contents : W → Option (List ℕ)) (lines : E → Option (List ℕ)) (job : Job) (writer writer' : Tally W)
+    (errors errors' : Tally E) (status : ℕ) : Type 0 where
+  Reported : (outcomes : List Outcome) → file_fault job.file.now ≡ None → AreOutcomes (tests (sections job.file.now)) outcomes
+      → Gets contents writer writer' (Some (report (tests (sections job.file.now)) outcomes)) → errors' ≡ errors
+      → status ≡ status_of (all_pass (tests (sections job.file.now)) outcomes)
+      → EndsTests contents lines job writer writer' errors errors' status
+  Refused : (refusal : JobRefusal) → RefusesTests job refusal → writer' ≡ writer → Told lines errors errors' (line_of (fault.Refused refusal))
+      → status ≡ 2 → EndsTests contents lines job writer writer' errors errors' status
+  Exhausted : Spared writer writer' → Told lines errors errors' (line_of fault.Memory) → status ≡ 2
+      → EndsTests contents lines job writer writer' errors errors' status
+  OutLost : file_fault job.file.now ≡ None → FailedOnce writer writer' → Told lines errors errors' (line_of fault.Output) → status ≡ 2
+      → EndsTests contents lines job writer writer' errors errors' status
