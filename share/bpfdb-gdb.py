@@ -343,7 +343,7 @@ def value_type(name, size):
 
 class Load(Asker):
     """bpf-load OBJECT [OPTIONS]: links an object of clang, loads its symbols, and starts it in bpfdb. OPTIONS are those of 'bpfdb gdb', and
-    --section NAME. Without words it starts the same anew. Breakpoints stay."""
+    --section and --entry NAME. Without words it starts the same anew. Breakpoints stay."""
 
     def __init__(self):
         super().__init__("bpf-load", gdb.COMMAND_RUNNING, gdb.COMPLETE_FILENAME)
@@ -363,11 +363,12 @@ class Load(Asker):
         # (a folder for each time, since gdb takes a file of the same name and second for the one that it knows)
         base = os.path.join(tempfile.mkdtemp(dir=self.folder.name), os.path.splitext(os.path.basename(file))[0])
         section, options = taken(options, "--section")
-        program = called("bpfdb", ["link", *section, file])
+        entry, options = taken(options, "--entry")
+        program = called("bpfdb", ["link", *section, *entry, file])
         with open(base + ".bin", "wb") as output:
             output.write(program.stdout)
         machine_words, _ = taken(options, "--registers")
-        symbols = called("bpfdb-symbols", [*section, *machine_words, file, base + ".sym"])
+        symbols = called("bpfdb-symbols", [*section, *entry, *machine_words, file, base + ".sym"])
         said = program.stderr.decode(errors="replace")
         if said.startswith("--maps ") and not taken(options, "--maps")[0]:
             options = [*options, *said.split()]

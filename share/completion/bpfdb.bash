@@ -10,6 +10,7 @@ _bpfdb() {
     --steps) :; return ;;
     --registers) mapfile -t COMPREPLY < <(compgen -W "x86 riscv bpf" -- "$word"); return ;;
     --section) :; return ;;
+    --entry) :; return ;;
     esac
     if [ "$COMP_CWORD" -eq "$first" ]; then
         mapfile -t COMPREPLY < <(compgen -W "run debug asm disasm check link gdb test help --help --version" -- "$word")
@@ -21,10 +22,10 @@ _bpfdb() {
     asm) words="-h --help" ;;
     disasm) words="--maps --listing -h --help" ;;
     check) words="--maps --listing -h --help" ;;
-    link) words="--section -h --help" ;;
+    link) words="--section --entry -h --help" ;;
     gdb) words="-m --mem --maps --journal --steps --listing --registers -h --help" ;;
     test) words="-h --help" ;;
-    shell) words="-m --mem --maps --journal --steps --listing --section -h --help" ;;
+    shell) words="-m --mem --maps --journal --steps --listing --section --entry -h --help" ;;
     help) words="run debug asm disasm check link gdb test" ;;
     *) return ;;
     esac

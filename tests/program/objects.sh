@@ -68,6 +68,10 @@ refused 'refused E8: no such code section' link --section frob calls.o
 refused 'refused E8: no such code section' link --section text calls.o
 refused 'refused E9: more than one code section' link two.o
 refused 'refused E30: more than one program in the code section' link programs.o
+refused 'refused E31: no such function in the code section' link --entry third programs.o
+# (both call helper 5, which isn't there; behind the jump to `second` that is a slot later)
+refused 'refused E25 at slot 7: unknown helper' link --entry first programs.o
+refused 'refused E25 at slot 8: unknown helper' link --section=prog --entry=second programs.o
 refused 'refused E19 at slot 1: symbol is not defined in the object' link extern.o
 long_name=$(printf '%0255d' 0)
 refused 'refused E8: no such code section' link --section "$long_name" calls.o
@@ -277,6 +281,17 @@ C
     for key in 001 002 377; do
         printf "\\$key\\000\\000\\000" > context
         result "$([ $key = 001 ] && echo 0x3 || echo 0x2)\n" run $(cat told) -m context keys
+    done
+    # Of two programs in a section the one that is asked for runs; without a name both are refused.
+    cat > entries.c <<'C'
+__attribute__((section("prog"))) int first(void) { return 1; }
+__attribute__((section("prog"))) int second(void) { return 2; }
+C
+    clang -O1 -target bpf -c -o entries.o entries.c
+    refused 'refused E30: more than one program in the code section' link entries.o
+    for entry in first second; do
+        "$program" link --entry $entry entries.o > entries
+        result "$([ $entry = first ] && echo 0x1 || echo 0x2)\n" run entries
     done
     # Data are maps after the object's own.
     echo 'static int count; __attribute__((section("prog"))) int entry(void) { return ++count; }' > zeros.c

@@ -79,7 +79,7 @@ compare 'bpfdb asm first.s'
 # Options that the subcommand doesn't have.
 for absent in 'run --journal=65536' 'debug -j=65536' 'asm -m=context' 'asm --mem=context' 'asm --maps=8x2' 'asm --journal=65536' \
     'asm --steps=7' 'asm --listing' 'disasm -m=context' 'disasm --mem=context' 'disasm --journal=65536' 'disasm --steps=7' \
-    'check -m=context' 'check --mem=context' 'check --journal=65536' 'check --steps=7' 'run --section=a' 'debug --section=a' 'asm --section=a' \
+    'check -m=context' 'check --mem=context' 'check --journal=65536' 'check --steps=7' 'run --section=a' 'debug --section=a' 'asm --section=a' 'run --entry=a' 'asm --entry=a' \
     'disasm --section=a' 'check --section=a' 'link -m=context' 'link --mem=context' 'link --maps=8x2' 'link --journal=65536' 'link --steps=7' 'link --listing' 'gdb --section=a' \
     'run --registers=x86' 'debug --registers=x86' 'test --listing' 'test --maps=8x2' 'test --steps=7'
 do
@@ -137,6 +137,8 @@ for subcommand in run debug disasm check; do
 done
 usage "a value is required for '--section <NAME>' but none was supplied" link first --section
 usage "the argument '--section <NAME>' cannot be used multiple times" link --section a --section a first
+usage "a value is required for '--entry <NAME>' but none was supplied" link first --entry
+usage "the argument '--entry <NAME>' cannot be used multiple times" link --entry a --entry a first
 for number in 0x400 1k 1024.0; do
     usage "invalid value '$number' for '--journal <J>': invalid digit found in string" debug --journal $number first
 done

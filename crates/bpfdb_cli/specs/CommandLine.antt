@@ -1,6 +1,6 @@
 -- The command line as `clap` is told of it: eight subcommands, the options of each, and FILE.
 use Rattle.std.specs.Prelude.{[], ◌∷◌, Some, true, codes}
-use Rattle.clap.specs.Words.{App, Rule, new_app, new_rule, with_rule, with_subcommand}
+use Rattle.clap.specs.Words.{App, Rule, Text, new_app, new_rule, with_rule, with_subcommand}
 use Rattle.clap.specs.declared.builder.action.ArgAction.TheVariants.{SetTrue}
 use Rattle.clap.specs.declared.builder.value_parser.ValueParser.TheVariants as vp
 use Rattle.bpfdb_limits.specs.Limits.{greatest_count}
@@ -13,14 +13,20 @@ mem_rule = record (new_rule (codes "mem")) { short = Some 109; long = Some (code
 abbrev pub maps_rule : Rule
 maps_rule = record (new_rule (codes "maps")) { long = Some (codes "maps"); value_names = 1 }
 
--- `--journal J`: a number below 2^64.
-abbrev pub journal_rule : Rule
-journal_rule = record (new_rule (codes "journal")) {
+-- `--journal J`: a number below 2^64, with a default. That of `gdb`, whose sessions are longer, is greater.
+abbrev pub journal_rule_with : Text → Rule
+journal_rule_with default = record (new_rule (codes "journal")) {
   long = Some (codes "journal");
   value_names = 1;
   parser = Some (vp.Unsigned 0 18446744073709551615);
-  defaults = codes "65536" ∷ [];
+  defaults = default ∷ [];
 }
+
+abbrev pub journal_rule : Rule
+journal_rule = journal_rule_with (codes "65536")
+
+abbrev pub gdb_journal_rule : Rule
+gdb_journal_rule = journal_rule_with (codes "4194304")
 
 -- `--steps N`: a number from 1 to the greatest count.
 abbrev pub steps_rule : Rule
@@ -38,6 +44,10 @@ listing_rule = record (new_rule (codes "listing")) { long = Some (codes "listing
 -- `--section NAME`: the code section that is linked.
 abbrev pub section_rule : Rule
 section_rule = record (new_rule (codes "section")) { long = Some (codes "section"); value_names = 1 }
+
+-- `--entry NAME`: the function at which the program begins.
+abbrev pub entry_rule : Rule
+entry_rule = record (new_rule (codes "entry")) { long = Some (codes "entry"); value_names = 1 }
 
 -- `--registers NAME`: the machine that gdb is told of.
 abbrev pub registers_rule : Rule
@@ -66,15 +76,15 @@ abbrev pub check_app : App
 check_app = with_rule (with_rule (with_rule (new_app (codes "check")) maps_rule) listing_rule) file_rule
 
 abbrev pub link_app : App
-link_app = with_rule (with_rule (new_app (codes "link")) section_rule) file_rule
+link_app = with_rule (with_rule (with_rule (new_app (codes "link")) section_rule) entry_rule) file_rule
 
 abbrev pub test_app : App
 test_app = with_rule (new_app (codes "test")) file_rule
 
--- `gdb` opens a session as `debug` does.
+-- `gdb` opens a session as `debug` does, over a larger journal.
 abbrev pub gdb_app : App
 gdb_app = with_rule (with_rule (with_rule (with_rule (with_rule (with_rule (with_rule (new_app (codes "gdb"))
-    mem_rule) maps_rule) journal_rule) steps_rule) listing_rule) registers_rule) file_rule
+    mem_rule) maps_rule) gdb_journal_rule) steps_rule) listing_rule) registers_rule) file_rule
 
 -- The command without its subcommands: it can't stand without one, and it tells its version.
 abbrev pub bare_app : App

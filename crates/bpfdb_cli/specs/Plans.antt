@@ -41,6 +41,7 @@ pub record Says (name : Text) (rows : List Row) (plan : Plan) : Type 0 where
   pub limit : plan.options.limit ≡ number_or default_limit (first_of (codes "steps") rows)
   pub listing : plan.options.is_listing ≡ is_given (first_of (codes "listing") rows)
   pub section : option_map (λ s. s.now) plan.options.section ≡ first_of (codes "section") rows
+  pub entry : option_map (λ s. s.now) plan.options.entry ≡ first_of (codes "entry") rows
   pub registers : NamesRegisters (first_of (codes "registers") rows) plan.options.registers
 
 -- A number that is given is one below 2^64.

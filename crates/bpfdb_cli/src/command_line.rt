@@ -1,7 +1,7 @@
 //! The command line, as `clap` is told of it.
 ghost use Rattle.std.specs.Prelude.{◌≡◌, IfOk, false, fold};
 ghost use Rattle.clap.specs.Words.{app_of, new_app, rule_of, with_subcommand};
-ghost use Rattle.bpfdb_cli.specs.CommandLine.{bare_app, command_app, file_rule};
+ghost use Rattle.bpfdb_cli.specs.CommandLine.{bare_app, command_app, file_rule, journal_rule_with};
 ghost use Rattle.bpfdb_cli.specs.Subcommands.{entry_app, option_rule, text_rule, with_entry};
 
 use crate::help;
@@ -36,9 +36,8 @@ fn argument_of<'a>(alloc: Global, option: CliOption) -> Arg<'a>
     match option {
         CliOption::Mem => text_option(alloc, "mem", "PATH", help::MEM, help::MEM_LONG).short('m'),
         CliOption::Maps => text_option(alloc, "maps", "VxN,VxN", help::MAPS, help::MAPS_LONG),
-        CliOption::Journal => text_option(alloc, "journal", "J", help::JOURNAL, help::JOURNAL_LONG)
-            .value_parser(value_parser!(u64))
-            .default_value("65536"),
+        CliOption::Journal => journal_option(alloc, "65536"),
+        CliOption::GdbJournal => journal_option(alloc, "4194304"),
         CliOption::Steps => text_option(alloc, "steps", "N", help::STEPS, help::STEPS_LONG)
             .value_parser(value_parser!(u64).range(1..=GREATEST_COUNT.cast_signed()))
             .default_value("1000000"),
@@ -61,7 +60,18 @@ fn argument_of<'a>(alloc: Global, option: CliOption) -> Arg<'a>
             help::SECTION,
             help::SECTION_LONG,
         ),
+        CliOption::Entry => text_option(alloc, "entry", "NAME", help::ENTRY, help::ENTRY_LONG),
     }
+}
+
+/// `--journal J`, with a default.
+fn journal_option<'a>(alloc: Global, default: &'a str) -> Arg<'a>
+    ensures value { rule_of result ≡ journal_rule_with default.now }
+    ensures local { result.global ≡ false }
+{
+    text_option(alloc, "journal", "J", help::JOURNAL, help::JOURNAL_LONG)
+        .value_parser(value_parser!(u64))
+        .default_value(default)
 }
 
 /// FILE.

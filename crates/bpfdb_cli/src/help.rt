@@ -211,6 +211,13 @@ pub const SECTION_LONG: &str =
     "Name of the code section to be linked, at most 255 bytes. Without it that is the only
 one besides .text, or else .text. Example: --section xdp";
 
+/// `--entry`.
+pub const ENTRY: &str = "Function at which the program begins; without it the only one";
+
+pub const ENTRY_LONG: &str =
+    "Name of the function of that section at which the program begins. Without it that is the
+only one that isn't static. Example: --entry handle";
+
 /// FILE.
 pub const PROGRAM: &str = "Program: its raw words, or with --listing its listing";
 

@@ -111,6 +111,7 @@ fn plan_in<'a>(name: &'a str, found: &ArgMatches<'a>) -> Option<Plan<'a>>
             limit,
             is_listing: is_given(text_of(found, "listing")),
             section: text_of(found, "section"),
+            entry: text_of(found, "entry"),
             registers,
         },
     })

@@ -10,6 +10,8 @@ pub(crate) enum CliOption {
     Maps,
     /// `--journal J`.
     Journal,
+    /// `--journal J` of `gdb`, whose sessions are longer.
+    GdbJournal,
     /// `--steps N`.
     Steps,
     /// `--listing`.
@@ -18,6 +20,8 @@ pub(crate) enum CliOption {
     Registers,
     /// `--section NAME`.
     Section,
+    /// `--entry NAME`.
+    Entry,
 }
 
 /// A subcommand: its texts of help, and the options that it takes besides FILE.
@@ -68,7 +72,7 @@ pub(crate) const SUBCOMMANDS: [CliSubcommand<'static>; 8] = [
         options: &[
             CliOption::Mem,
             CliOption::Maps,
-            CliOption::Journal,
+            CliOption::GdbJournal,
             CliOption::Steps,
             CliOption::Listing,
             CliOption::Registers,
@@ -104,7 +108,7 @@ pub(crate) const SUBCOMMANDS: [CliSubcommand<'static>; 8] = [
         about: help::LINK,
         long_about: help::LINK_LONG,
         example: help::LINK_EXAMPLE,
-        options: &[CliOption::Section],
+        options: &[CliOption::Section, CliOption::Entry],
         file: help::OBJECT_FILE,
     },
     CliSubcommand {

@@ -66,11 +66,15 @@ name_or_empty None = []
 abbrev pub section_of : Job → List ℕ
 section_of job = name_or_empty job.options.section
 
+-- The name of the function at which the program begins: empty where the only one is meant.
+abbrev pub entry_of : Job → List ℕ
+entry_of job = name_or_empty job.options.entry
+
 -- The words that the object is linked to; and the shapes of the maps, in the order of their numbers: none unless the object defines each as
 -- an array.
 pub record IsLinkedTo (job : Job) (words : List ℕ) (shapes : List MapShape) : Type 0 where
   pub plan : Plan
-  pub made : AreWordsOf job.file.now (section_of job) [] [] words
+  pub made : AreWordsOf job.file.now (section_of job) (entry_of job) [] words
   pub plans : planned job.file.now (section_of job) ≡ Ok plan
   pub shaped : HasShapes job.file.now plan shapes
 

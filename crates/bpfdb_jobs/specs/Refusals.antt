@@ -11,7 +11,7 @@ use Rattle.bpf_suite.specs.Faults as suite
 use Rattle.bpf_suite.specs.declared.fault.FileFault.TheVariants.{Line}
 use Rattle.bpf_machine.specs.Opening.{Refused}
 use Rattle.bpf_journal.specs.Opening.{RefusesSize}
-use Rattle.bpfdb_jobs.specs.Jobs.{HasMaps, HasWords, IsProgramOf, Opens, section_of}
+use Rattle.bpfdb_jobs.specs.Jobs.{HasMaps, HasWords, IsProgramOf, Opens, entry_of, section_of}
 use Rattle.bpfdb_jobs.specs.declared.job.Job.{Job}
 use Rattle.bpfdb_jobs.specs.declared.refusal.JobRefusal.{JobRefusal}
 use Rattle.bpfdb_jobs.specs.declared.refusal.JobRefusal.TheVariants.{Maps, Listing, Load, Open, Journal, Object, Tests}
@@ -45,7 +45,7 @@ RefusesListing job (Listing fault) = IsFaultOf job.file.now fault
 RefusesListing job refusal = ⊥
 
 abbrev pub RefusesObject : Job → JobRefusal → Type 0
-RefusesObject job (Object fault) = IsLinkFault job.file.now (section_of job) [] [] fault
+RefusesObject job (Object fault) = IsLinkFault job.file.now (section_of job) (entry_of job) [] fault
 RefusesObject job refusal = ⊥
 
 abbrev pub RefusesTests : Job → JobRefusal → Type 0

@@ -1,7 +1,11 @@
 //! What a job of `link` does.
-ghost use Rattle.std.specs.Prelude.{◌≡◌, ◌≤◌};
+ghost use Rattle.std.specs.Prelude.{◌≡◌, ◌≤◌, IfErr, IfOk, Ok, []};
+ghost use Rattle.bpf_isa.specs.Checker.{IsAccepted};
+ghost use Rattle.bpf_link.specs.Links.{IsLinkFault, least_maps, linked, planned};
+ghost use Rattle.bpf_link.specs.Shapes.{HasShapes};
+ghost use Rattle.bpf_link.specs.declared.plan.Plan.{Plan};
 ghost use Rattle.bpfdb_jobs.specs.Endings.{EndsPrinted};
-ghost use Rattle.bpfdb_jobs.specs.Jobs.{section_of};
+ghost use Rattle.bpfdb_jobs.specs.Jobs.{entry_of, section_of};
 ghost use Rattle.bpfdb_options.specs.declared.subcommand.Subcommand.TheVariants.{Link};
 
 use crate::fault::JobFault;
@@ -9,7 +13,7 @@ use crate::job::Job;
 use crate::maps::tell_maps;
 use crate::refusal::JobRefusal;
 use crate::report::{give_up, told_as, write_out};
-use bpf_link::link;
+use bpf_link::{LinkFault, LinkOptions, Linked, link_with};
 use counted_io::{Counted, WriteFault};
 use std::alloc::Global;
 use std::io::Write;
@@ -26,7 +30,7 @@ pub fn link_job<W: Write, E: Write>(
         errors.new result }
     ensures status { result ≤ 2 }
 {
-    let linked = match link(alloc, job.file, section_of(job)) {
+    let linked = match linked_from(alloc, job.file, section_of(job), entry_of(job)) {
         Ok(linked) => linked,
         Err(fault) => return give_up(errors, &JobFault::Refused(JobRefusal::Object(fault))),
     };
@@ -36,11 +40,53 @@ pub fn link_job<W: Write, E: Write>(
     }
 }
 
+/// The program of an object's code section, from an entry.
+fn linked_from(
+    alloc: Global,
+    object: &[u8],
+    section: &[u8],
+    entry: &[u8],
+) -> Result<Linked, LinkFault>
+    ensures ok { IfOk result (λ program.
+        linked object.now section.now entry.now [] ≡ Ok (record {
+          words = program.words.items;
+          maps = program.maps;
+          data_maps = program.data_maps.items;
+          answered = program.answered;
+        })) }
+    ensures shapes { IfOk result (λ program. (plan : Plan)
+        × (planned object.now section.now ≡ Ok plan)
+        × HasShapes object.now plan program.shapes.items) }
+    ensures accepted { IfOk result
+        (λ program. IsAccepted program.words.items (least_maps program.maps program.data_maps.items)) }
+    ensures err { IfErr result (IsLinkFault object.now section.now entry.now []) }
+{
+    link_with(
+        alloc,
+        object,
+        &LinkOptions {
+            section,
+            entry,
+            stubs: &[],
+        },
+    )
+}
+
 /// The name of the section that is linked: empty where the only one is meant.
 fn section_of<'a>(job: &Job<'a>) -> &'a [u8]
     ensures { result.now ≡ section_of job.now }
 {
     match job.options.section {
+        Some(name) => name.as_bytes(),
+        None => b"",
+    }
+}
+
+/// The name of the function at which the program begins: empty where the only one is meant.
+fn entry_of<'a>(job: &Job<'a>) -> &'a [u8]
+    ensures { result.now ≡ entry_of job.now }
+{
+    match job.options.entry {
         Some(name) => name.as_bytes(),
         None => b"",
     }

@@ -15,6 +15,9 @@ pub struct Options<'a> {
     pub is_listing: bool,
     /// The name of the code section that is linked; without one it is the only one.
     pub section: Option<&'a str>,
+    /// The name of the function of that section at which the program begins; without one it is the
+    /// only one that is known outside the object, or else the section's first slot.
+    pub entry: Option<&'a str>,
     /// The machine that gdb takes this one for.
     pub registers: Registers,
 }
@@ -26,5 +29,6 @@ pub const NO_OPTIONS: Options<'static> = Options {
     limit: DEFAULT_LIMIT,
     is_listing: false,
     section: None,
+    entry: None,
     registers: Registers::X86,
 };

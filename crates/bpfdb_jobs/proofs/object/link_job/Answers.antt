@@ -5,7 +5,7 @@ use Rattle.bpf_link.specs.Shapes.{HasShapes}
 use Rattle.bpf_link.specs.declared.linker.Linked.{Linked}
 use Rattle.bpf_link.specs.declared.plan.Plan.{Plan}
 use Rattle.bpfdb_jobs.specs.Endings.{OutLost, Refused}
-use Rattle.bpfdb_jobs.specs.Jobs.{Prints, printed, section_of}
+use Rattle.bpfdb_jobs.specs.Jobs.{Prints, entry_of, printed, section_of}
 use Rattle.bpfdb_jobs.specs.MapLines.{maps_told}
 use Rattle.bpfdb_jobs.specs.declared.job.Job.{Job}
 use Rattle.bpfdb_jobs.specs.declared.refusal.JobRefusal.TheVariants.{Object}
@@ -15,7 +15,7 @@ use Rattle.bpfdb_jobs.proofs.object.link_job.Goals as goal
 
 -- what is printed of a program that was linked
 linked-prints : (job : Job) (program : Linked)
-    → linked job.file.now (section_of job) [] [] ≡ Ok (record { words = program.words.items; maps = program.maps; data_maps = program.data_maps.items; answered = program.answered })
+    → linked job.file.now (section_of job) (entry_of job) [] ≡ Ok (record { words = program.words.items; maps = program.maps; data_maps = program.data_maps.items; answered = program.answered })
     → IsAccepted program.words.items (least_maps program.maps program.data_maps.items)
     → (plan : Plan) × (planned job.file.now (section_of job) ≡ Ok plan) × HasShapes job.file.now plan program.shapes.items
     → Prints Link job (record (printed program.words.items) { err = maps_told program.shapes.items })
@@ -42,19 +42,19 @@ returns-in-Ok-write_out-clause-does g c =
     err-printed g.W.Write.contents g.E.Write.contents Link c.args.job.now
     (record (printed c.in-Ok.linked.words.items) { err = maps_told c.in-Ok.linked.shapes.items })
     c.args.writer.now c.write_out.new.writer c.args.errors.now c.tell_maps.new.errors c.tell_maps.result c.told_as.result
-    (linked-prints c.args.job.now c.in-Ok.linked (rw c.section_of.ensures at c.in-Ok.ensures.ok) c.in-Ok.ensures.accepted
-    (rw c.section_of.ensures at c.in-Ok.ensures.shapes))
+    (linked-prints c.args.job.now c.in-Ok.linked (rw c.entry_of.ensures at (rw c.section_of.ensures at c.in-Ok.ensures.ok))
+    c.in-Ok.ensures.accepted (rw c.section_of.ensures at c.in-Ok.ensures.shapes))
     (w.ok, w.same) (rw c.as_slice-in-Ok-write_out.ensures.value at c.tell_maps.ensures.ok) (rw c.as_slice-in-Ok-write_out.ensures.value at c.tell_maps.ensures.err)
     c.told_as.ensures.ok c.told_as.ensures.err
 
 pub returns-in-Err-clause-does : goal.returns-in-Err-clause-does
 returns-in-Err-clause-does g c =
-    Refused (Object c.in-Err.fault) (rw c.section_of.ensures at c.in-Err.ensures.err) refl c.give_up.ensures.told c.give_up.ensures.value
+    Refused (Object c.in-Err.fault) (rw c.entry_of.ensures at (rw c.section_of.ensures at c.in-Err.ensures.err)) refl c.give_up.ensures.told c.give_up.ensures.value
 
 pub returns-clause-does : goal.returns-clause-does
 returns-clause-does g c =
     let w = rw c.in-Err-write_out.is at (rw c.as_slice.ensures.value at c.write_out.ensures) in
     OutLost (record (printed c.in-Ok.linked.words.items) { err = maps_told c.in-Ok.linked.shapes.items })
-    (linked-prints c.args.job.now c.in-Ok.linked (rw c.section_of.ensures at c.in-Ok.ensures.ok) c.in-Ok.ensures.accepted
-    (rw c.section_of.ensures at c.in-Ok.ensures.shapes))
+    (linked-prints c.args.job.now c.in-Ok.linked (rw c.entry_of.ensures at (rw c.section_of.ensures at c.in-Ok.ensures.ok))
+    c.in-Ok.ensures.accepted (rw c.section_of.ensures at c.in-Ok.ensures.shapes))
     (w.err, w.fault) c.give_up-in-Err-write_out.ensures.told c.give_up-in-Err-write_out.ensures.value
