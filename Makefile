@@ -46,7 +46,7 @@ install:
 uninstall:
 	@rm -f "$(DESTDIR)$(BIN)/bpfdb" "$(DESTDIR)$(BIN)/bpfdb-shell" "$(DESTDIR)$(BIN)/bpfdb-symbols" "$(DESTDIR)$(BIN)/bpfdb-conformance"
 	@rm -f "$(DESTDIR)$(MAN)/bpfdb.1"
-	@[ ! -d "$(DESTDIR)$(PREFIX)/share" ] || { cd "$(DESTDIR)$(PREFIX)/share" && rm -f bpfdb/bpfdb-gdb.py bpfdb/bpfdb.vim bpfdb/bpfdb.tmLanguage.json bpfdb/package.json \
+	@[ ! -d "$(DESTDIR)$(PREFIX)/share" ] || { cd "$(DESTDIR)$(PREFIX)/share" && rm -f bpfdb/bpfdb-gdb.py bpfdb/bpfdb.h bpfdb/bpfdb.vim bpfdb/bpfdb.tmLanguage.json bpfdb/package.json \
 		bash-completion/completions/bpfdb bash-completion/completions/bpfdb-shell zsh/site-functions/_bpfdb zsh/vendor-completions/_bpfdb \
 		fish/vendor_completions.d/bpfdb.fish fish/vendor_completions.d/bpfdb-shell.fish; }
 	@rm -rf "$(DESTDIR)$(DOC)"

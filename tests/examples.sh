@@ -125,7 +125,7 @@ for folder in examples/*/; do
     cd "$top" || exit 1
     count=$((count + 1))
 done
-[ "$count" -ge 8 ] || fault "there are $count examples"
+[ "$count" -ge 9 ] || fault "there are $count examples"
 plain count 0 0x3 ''
 plain checksum 0 0xb861 ''
 plain counters 0 0x1 ''
@@ -134,6 +134,7 @@ plain overrun 1 '' 'fault access 0x10077656d at 25'
 plain records 1 '' 'fault access 0x10000000f at 0'
 plain suite 0 0x1 ''
 plain wrong-byte 0 0x0 ''
+plain xdp 0 0x1 ''
 suite
 pages
 [ ! -s "$work/faults" ] || exit 1

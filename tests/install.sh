@@ -24,7 +24,7 @@ put_as() {
 
 put 755 bin crates/bpfdb/out/bpfdb share/bpfdb-shell share/bpfdb-symbols share/bpfdb-conformance
 put 644 share/man/man1 docs/bpfdb.1
-put 644 share/bpfdb share/bpfdb-gdb.py share/editors/bpfdb.vim share/editors/bpfdb.tmLanguage.json share/editors/package.json
+put 644 share/bpfdb share/bpfdb-gdb.py share/editors/bpfdb.vim share/editors/bpfdb.tmLanguage.json share/editors/package.json share/bpfdb.h
 # (each shell looks for a completion by the name of the command; zsh of Debian's packages in a folder of its own)
 for name in bpfdb bpfdb-shell; do
     put_as 644 share/bash-completion/completions "$name" share/completion/bpfdb.bash

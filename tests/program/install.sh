@@ -16,6 +16,7 @@ else
 644 share/bash-completion/completions/bpfdb
 644 share/bash-completion/completions/bpfdb-shell
 644 share/bpfdb/bpfdb-gdb.py
+644 share/bpfdb/bpfdb.h
 644 share/bpfdb/bpfdb.tmLanguage.json
 644 share/bpfdb/bpfdb.vim
 644 share/bpfdb/package.json
