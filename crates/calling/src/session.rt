@@ -15,8 +15,14 @@ fn a_script_is_run(rt: HostRuntime) {
     let program = check(alloc, &WORDS, &MapTable::empty());
     let program = program.expect(&rt, "no program");
     let cpu = Cpu::open(alloc, program, b"").expect(&rt, "no machine");
-    let ring = RingKeeper::open(alloc, 65_536).expect(&rt, "no memory");
-    let redo = RingKeeper::open(alloc, 65_536).expect(&rt, "no memory");
+    let ring = match RingKeeper::open(alloc, 65_536) {
+        Ok(ring) => ring,
+        Err(fault) => panic!(&rt; "{fault}"),
+    };
+    let redo = match RingKeeper::open(alloc, 65_536) {
+        Ok(redo) => redo,
+        Err(fault) => panic!(&rt; "{fault}"),
+    };
     let mut session = Session::open(cpu, ring, redo, 1_000_000);
     let mut replies = Vec::new(alloc);
     let script: &[u8] = b"stepi 2\nreverse-stepi\n";
