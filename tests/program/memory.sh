@@ -120,8 +120,32 @@ bytes stored \
     00 00 00 00 03 00 00 00 7b 43 18 00 00 00 00 00 b7 03 00 00 00 00 00 00 b7 04 00 00 00 00 00 00 \
     06 00 00 00 e4 ff ff ff
 wants "$plain$e26" 0 "$text" '--maps 8x5\n' link point.o
+# A file of tests: where memory runs out while its program is read or opened, the test fails by that refusal; else nothing more is
+# reported, and the line says so.
 printf -- '-- listing\nmov r0, 2\nexit\n-- result\n2\n' > two.test
-wants "$plain" 0 '1..1\nok 1\n' '' test two.test
+: > met
+request=1
+while refuse "$request" '' test two.test && [ "$found" != 0 ] && [ "$request" -le "$most" ]; do
+    for all in '' all; do
+        refuse "$request" "$all" test two.test
+        if [ "$found" = 1 ]; then
+            sed -n 's/^# came: //p' found/out >> met
+            check "bpfdb test: request $request for memory refused, $all" 1 "1..1\nnot ok 1\n# the test in line 1\n# came: $(tail -n 1 met)\n# wanted: result 2\n" ''
+        else
+            cat found/err >> met
+            reported=$(cat found/out)
+            check "bpfdb test: request $request for memory refused, $all" 2 "${reported:+1..1\n}" "$plain"
+        fi
+    done
+    request=$((request + 1))
+done
+check 'bpfdb test: no request for memory refused' 0 '1..1\nok 1\n' ''
+sort -u met > found/out
+printf '%b' "$plain$a7$c13$o2" | sort > wanted/out
+: > found/err
+: > wanted/err
+cp wanted/status found/status
+compare 'bpfdb test: what is said of refused requests'
 wants "$plain" 2 '' 'cannot read missing\n' run missing
 wants "$plain" 0 "$(text "$parts/help/bpfdb.txt")" '' --help
 wants "$plain" 0 "$(version)" '' --version
