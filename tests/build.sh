@@ -1,12 +1,12 @@
 #!/bin/sh
-# Proves and builds crates/bpfdb/out/bpfdb, or the program of the crate that is named, unless it stands there and is newer than each source
+# Proves and builds crates/bpfdb/out/bpfdb, unless it stands there and is newer than each source
 # that it is made of, as after rt ci. It is rt ci that proves, over a copy that has only the crates below the program, without wrong bodies:
 # where the toolchain keeps what rt ci proved on this machine, that is taken over. Over one's own checks `rt run` in the crate's folder is
 # quicker. A line says which crate is proved, and how many are left.
 set -u
 cd "$(dirname "$0")/.." || exit 1
 . tests/machine.sh
-crate=${1:-bpfdb}
+crate=bpfdb
 program=crates/$crate/out/$crate
 crates=$(below "$crate")
 
