@@ -1,4 +1,9 @@
 pub mod Keeping
+pub mod Agreeing
+pub mod Writing
+pub mod Alike
+pub mod Meaning
+pub mod Leaving
 pub mod Wanting
 pub mod Turning
 pub mod Going

@@ -1,8 +1,9 @@
 pub mod Places
 pub mod Writes
 pub mod Reads
-pub mod Laws
 pub mod Wanted
+pub mod Laws
 pub mod Texts
 pub mod Answers
+pub mod Meaning
 pub mod Turns

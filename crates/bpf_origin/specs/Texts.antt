@@ -5,7 +5,6 @@ use Rattle.std.specs.Option.{option_map_or}
 use Rattle.byteorder.specs.Endian.{little_number}
 use Rattle.counted_io.specs.Writing.{hexadecimal}
 use Rattle.bpf_machine.specs.Platform.{context_base, frame_base}
-use Rattle.bpf_machine.specs.Moves.{overwritten}
 use Rattle.bpf_machine.specs.Regions.{run_at}
 use Rattle.bpf_machine.specs.State.{State}
 use Rattle.bpf_machine.specs.declared.moves.Move.{Move}

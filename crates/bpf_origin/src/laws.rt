@@ -1,8 +1,34 @@
 //! Laws of the definitions, each proved as the contract of a function that does nothing.
-ghost use Rattle.bpf_origin.specs.Laws.{MovesKeepOtherPlaces};
+ghost use Rattle.bpf_origin.specs.Laws.{MovesKeepOtherPlaces, MovesWriteWhatTheyRead, StepsGoByConditions};
+ghost use Rattle.bpf_origin.specs.Meaning.{AnswersTellWhatIsLeft, LeftIsAll};
 
 /// A move changes no place but those that it writes.
 #[tactic(none)]
 pub fn moves_are_local()
     ensures { MovesKeepOtherPlaces }
+{}
+
+/// What a move writes depends on nothing but what it reads and the registers of its addresses: from
+/// two states at one point of a program that agree on these it writes the same values to the same
+/// places.
+#[tactic(none)]
+pub fn moves_write_what_they_read()
+    ensures { MovesWriteWhatTheyRead }
+{}
+
+/// Where a step leads depends besides on nothing but the registers of its conditions: states that
+/// agree on these too are at one point of the program after it, with the same status.
+#[tactic(none)]
+pub fn steps_go_by_conditions()
+    ensures { StepsGoByConditions }
+{}
+
+/// What is left is all that an answer depends on: two histories along one path with the same
+/// addresses, from states that agree on the places that are left, lead to states that agree on the
+/// places asked for. An answer that is not cut ends with a line for each of the places that are
+/// left.
+#[tactic(none)]
+pub fn what_is_left_is_all()
+    ensures all { LeftIsAll }
+    ensures told { AnswersTellWhatIsLeft }
 {}

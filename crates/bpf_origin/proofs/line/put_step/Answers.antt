@@ -1,4 +1,4 @@
-use Rattle.std.proofs.Common.{◌≡◌, ◌∙◌, append_assoc, sym}
+use Rattle.std.proofs.Common.{◌∙◌, append_assoc, sym}
 use Rattle.std.proofs.lemmas.List.{append-nil}
 use Rattle.bpf_origin.proofs.line.put_step.Goals as goal
 

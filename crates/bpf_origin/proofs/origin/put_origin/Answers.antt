@@ -1,4 +1,4 @@
-use Rattle.std.proofs.Common.{◌≡◌, refl, sym, ◌∙◌, arith}
+use Rattle.std.proofs.Common.{refl, arith}
 use Rattle.bpf_origin.proofs.Going.{going_start, going_step, going_cut, going_end}
 use Rattle.bpf_origin.proofs.origin.put_origin.Goals as goal
 

@@ -1,4 +1,4 @@
-use Rattle.std.proofs.Common.{◌≡◌, ◌<◌, ◌∷◌, Some, None, refl, sym, ◌∙◌, arith}
+use Rattle.std.proofs.Common.{◌<◌, ◌∷◌, sym, ◌∙◌, arith}
 use Rattle.bpf_origin.proofs.Turning.{entry_of_last, turn_unhit, turn_no_lines, turn_told}
 use Rattle.bpf_origin.proofs.origin.take_turn.Goals as goal
 

@@ -1,4 +1,4 @@
-use Rattle.std.proofs.Common.{◌≡◌, ◌∷◌, Some, None, refl, sym, ◌∙◌}
+use Rattle.std.proofs.Common.{◌∷◌, refl}
 use Rattle.bpf_origin.proofs.Turning.{step_of, rest_cut, rest_on}
 use Rattle.bpf_origin.proofs.origin.tell_rest.Goals as goal
 

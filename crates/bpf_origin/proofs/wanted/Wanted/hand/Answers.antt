@@ -1,4 +1,4 @@
-use Rattle.std.proofs.Common.{◌≡◌, not, ap, ◌∙◌, sym, rules, filter}
+use Rattle.std.proofs.Common.{not, ap, ◌∙◌, sym, rules, filter}
 use Rattle.arrayvec.proofs.ArrayVecLemmas.{filter-from_retain}
 use Rattle.bpf_origin.specs.declared.place.Place.TheVariants.{Register}
 use Rattle.bpf_origin.specs.Places.{same}

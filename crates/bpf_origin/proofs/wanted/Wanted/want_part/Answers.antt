@@ -1,4 +1,3 @@
-use Rattle.std.proofs.Common.{refl}
 use Rattle.bpf_origin.specs.Wanted.{want_all}
 use Rattle.bpf_origin.proofs.wanted.Wanted.want_part.Goals as goal
 
