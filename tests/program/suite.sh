@@ -11,8 +11,26 @@ tested() {
     compare "$1"
 }
 
+# passing FILE: the report on a file of tests that all pass.
+passing() {
+    sed -n '/^-- name/{n;p;}' "$1" | awk '{ name[NR] = $0 } END { print "1.." NR; for (i = 1; i <= NR; i++) print "ok " i " - " name[i] }'
+}
+
+# (a file beside which no report stands is a table: all of its tests pass, and one whose expectation is changed is seen)
 for file in "$parts"/suites/*.test; do
-    cp "${file%.test}.out" wanted/out
+    if [ -e "${file%.test}.out" ]; then
+        cp "${file%.test}.out" wanted/out
+    else
+        for expected in 'C[0-9]* at slot 0' 0x200000001; do
+            grep -q -x "$expected" "$file" || continue
+            awk -v expected="^$expected\$" '!planted && $0 ~ expected { $0 = "B" $0; sub(/^B0x/, "1"); planted = 1 } { print }' "$file" > planted
+            : > script
+            run test planted
+            count=$((count + 1))
+            [ "$(cat found/status) $(grep -c '^not ok' found/out)" = '1 1' ] || complain "bpfdb test $(basename "$file") with another $expected"
+        done
+        passing "$file" > wanted/out
+    fi
     status=0
     grep -q '^not ok' wanted/out && status=1
     tested "bpfdb test $(basename "$file")" "$status" "$file"

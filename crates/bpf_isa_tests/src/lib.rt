@@ -8,10 +8,6 @@ mod faults;
 #[cfg(test)]
 mod maps;
 #[cfg(test)]
-mod programs;
-#[cfg(test)]
-mod refusals;
-#[cfg(test)]
 mod stops;
 #[cfg(test)]
 mod words;

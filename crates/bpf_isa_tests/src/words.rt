@@ -1,14 +1,14 @@
-//! Words: what the instruction of each does, which words are refused, and how many opcodes there
-//! are. (What each says is in its text: `bpf_text_tests` holds the same words against their texts.)
-use crate::refusals::REFUSALS;
+//! Words: what the instruction of each does, and how many opcodes there are. (What each says is in
+//! its text: `bpf_text_tests` holds the same words against their texts. Words that are refused are
+//! tests of the built program, `tests/program/suites/words.test`.)
 use crate::stops::{bytes, check_text, row, stop_unless};
 use bpf_isa::{Insn, Reg, SignedSize, Size, decode};
 use bpf_testing::{EDGES, INSTRUCTIONS};
 use std::alloc::{AllocError, Global};
 use std::process::Abort;
 
-/// Words in slot 0 that lead as far as they can, and one with a slot behind it that is no part of
-/// it.
+/// Words in slot 0 that lead as far as they can, one with a slot behind it that is no part of it,
+/// and one that is refused, in a program, for its register and not for what is missing.
 const FAR: &str = "\
 a condition, 32767 slots on | 2d21ff7f00000000 | to 32768
 a condition, 32768 slots back | 2d21008000000000 | to -32767
@@ -18,6 +18,7 @@ a long jump, 2^31 - 1 slots on | 06000000ffffff7f | to 2147483648, stops
 a long jump, 2^31 slots back | 0600000000000080 | to -2147483647, stops
 a local call, 2^31 slots back | 8510000000000080 | to -2147483647
 an exit before another slot | 9500000000000000 ffffffffffffffff | stops
+cut off to r10 | 180a000000000000 | C9
 ";
 
 /// Which register an instruction replaces.
@@ -78,8 +79,7 @@ fn check_words(rt: &impl Abort, alloc: Global, table: &str, count: usize) {
 fn words(rt: HostRuntime) {
     check_words(&rt, rt.alloc(), INSTRUCTIONS, 160);
     check_words(&rt, rt.alloc(), EDGES, 14);
-    check_words(&rt, rt.alloc(), FAR, 8);
-    check_words(&rt, rt.alloc(), REFUSALS, 88);
+    check_words(&rt, rt.alloc(), FAR, 9);
 }
 
 /// Whether a number up to 10 is that of a register, and no other.
