@@ -128,6 +128,16 @@ printf 'context' > context
 result '0x3\n' run $(cat told) -m context point
 result '0x3\n' run $(cat told) point
 
+# At the entry the data stand in their map, and all else is as at the opening. The setup of point.o takes ja32, ldmapval, lddw and stxdw for each of its four
+# numbers, two moves and ja32; that of data.o has one number.
+zeros='r3=0x0 r4=0x0 r5=0x0 r6=0x0 r7=0x0 r8=0x0 r9=0x0 r10=0x200000200'
+session 'the setup of point.o' 'stepi 13\ninfo regs\nx 0x300000000 40\nx 0x100000000 7\nx 0x200000000 8\ninfo frames\n' \
+    "13 forward; done; at 1: ldmapval r2, 0, 0\nr0=0x0 r1=0x100000000 r2=0x7 $zeros\nat 1: ldmapval r2, 0, 0\n\
+0x300000000: 01000000000000000200000000000000030000000000000010000000030000000000000000000000\n\
+0x100000000: 636f6e74657874\n0x200000000: 0000000000000000\ndepth 0\n" debug $(cat told) -m context point
+session 'the setup of data.o' 'stepi 7\ninfo regs\nx 0x300000000 8\n' \
+    "7 forward; done; at 1: ldmapval r1, 0, 0\nr0=0x0 r1=0x0 r2=0x0 $zeros\nat 1: ldmapval r1, 0, 0\n0x300000000: 0300000000000000\n" debug --maps 8x1 data
+
 # deep.o has the size of its data at 792, and what the load adds to their address at 68: the map's shape, where the size is at a limit of it, and the place.
 sized() {
     { head -c 792 deep.o; printf "$2"; tail -c +797 deep.o; } > sized.o
