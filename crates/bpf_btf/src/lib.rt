@@ -1,0 +1,17 @@
+//! The shapes of maps, and the relocations of fields, from the BTF of an object.
+#![tactic(auto)]
+
+mod core_relocations;
+mod fault;
+mod fields;
+mod layout;
+mod map_kinds;
+mod maps;
+mod members;
+mod section;
+mod sizes;
+mod types;
+
+pub use core_relocations::CoreRelocations;
+pub use fault::BtfFault;
+pub use section::Btf;
