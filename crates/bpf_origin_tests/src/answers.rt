@@ -2,7 +2,7 @@
 
 use bpf_isa::{MapTable, Reg, check};
 use bpf_journal::{ListKeeper, Timeline};
-use bpf_machine::{Cpu, Edit};
+use bpf_machine::{ByteString, Cpu, Edit};
 use bpf_origin::{Question, Wanted, asked, put_origin, register_part};
 use bpf_text::assemble;
 use counted_io::Counted;
@@ -146,6 +146,22 @@ const POINTER_CUT: &str = "\
 cut: there are more lines
 ";
 
+/// Bytes that a person wrote before the run; it was begun again by an edit of pc, which writes no
+/// place.
+const EDITED: &str = "\
+        ldxdw r0, [r10-8]
+        exit
+";
+
+const EDITED_ANSWER: &str = "\
+-1 r0 = 0x1; 0: ldxdw r0, [r10-8]; from 0x2000001f8:8
+-5 0x2000001f8:4 = 0x1; edit
+left 0x2000001fc = 0x0; at the opening
+left 0x2000001fd = 0x0; at the opening
+left 0x2000001fe = 0x0; at the opening
+left 0x2000001ff = 0x0; at the opening
+";
+
 /// An answer to its end, by values alone.
 const PLAIN: Question = Question {
     addresses: false,
@@ -180,18 +196,33 @@ fn machine(rt: &impl Abort, alloc: Global, listing: &str, context: &[u8]) -> Cpu
         .expect(rt, "not opened")
 }
 
-/// The machine after all its steps, with the keeper of them.
-fn ended(rt: &impl Abort, alloc: Global, cpu: Cpu) -> Timeline<ListKeeper> {
+/// A machine with a keeper of its moves.
+fn started(rt: &impl Abort, alloc: Global, cpu: Cpu) -> Timeline<ListKeeper> {
     let keeper = ListKeeper::open(alloc, 1_000_000)
         .ok()
         .expect(rt, "no journal");
-    let mut timeline = Timeline::start(cpu, keeper);
+    Timeline::start(cpu, keeper)
+}
+
+/// The machine after all its steps, with the keeper of them.
+fn ended(rt: &impl Abort, alloc: Global, cpu: Cpu) -> Timeline<ListKeeper> {
+    let mut timeline = started(rt, alloc, cpu);
     for _ in 0..10_000 {
         if timeline.step(false).is_err() {
             return timeline;
         }
     }
     timeline
+}
+
+/// Stops unless an edit is made.
+fn make(rt: &impl Abort, timeline: &mut Timeline<ListKeeper>, edit: &Edit) {
+    assert!(rt; timeline.edit(edit, true).is_ok());
+}
+
+/// Stops unless a step is taken.
+fn step(rt: &impl Abort, timeline: &mut Timeline<ListKeeper>) {
+    assert!(rt; timeline.step(false).is_ok());
 }
 
 /// What is asked about: a register, or, where none is named, what `asked` says.
@@ -299,4 +330,19 @@ fn an_edit(rt: HostRuntime) {
     assert!(&rt; timeline.edit(&edit, true).is_ok());
     let found = told(&rt, rt.alloc(), &mut timeline, PLAIN, None);
     check_text(&rt, &found, "-1 r0 = 0x5; edit\n");
+}
+
+#[test]
+fn edits_of_bytes_and_pc(rt: HostRuntime) {
+    let cpu = machine(&rt, rt.alloc(), EDITED, b"");
+    let mut timeline = started(&rt, rt.alloc(), cpu);
+    let bytes = ByteString::new(&[1, 0, 0, 0]).expect(&rt, "no bytes");
+    let address = 0x2_0000_01f8;
+    make(&rt, &mut timeline, &Edit::Bytes { address, bytes });
+    step(&rt, &mut timeline);
+    step(&rt, &mut timeline);
+    make(&rt, &mut timeline, &Edit::Pc { slot: 0 });
+    step(&rt, &mut timeline);
+    let found = told(&rt, rt.alloc(), &mut timeline, PLAIN, None);
+    check_text(&rt, &found, EDITED_ANSWER);
 }
