@@ -7,3 +7,4 @@ pub mod Leaving
 pub mod Wanting
 pub mod Turning
 pub mod Going
+pub mod Asking

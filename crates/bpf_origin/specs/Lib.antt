@@ -7,3 +7,4 @@ pub mod Texts
 pub mod Answers
 pub mod Meaning
 pub mod Turns
+pub mod Asked

@@ -2,6 +2,8 @@
 //! depends on.
 #![tactic(auto)]
 
+mod answer;
+mod fault;
 pub mod laws;
 mod left;
 mod line;
@@ -10,10 +12,14 @@ mod place;
 mod question;
 mod reads;
 mod wanted;
+mod what;
 mod written;
 
+pub use answer::put_answer;
+pub use fault::WhatFault;
 pub use origin::put_origin;
 pub use place::{Part, Place};
 pub use question::{Extent, Question, Told};
 pub use reads::{MOST_PARTS, Parts, asked, followed, register_part};
 pub use wanted::{MOST_PLACES, Wanted};
+pub use what::{What, parts_asked};
