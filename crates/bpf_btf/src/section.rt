@@ -95,7 +95,7 @@ fn strings_in<'a>(bytes: &'a [u8], header: &BtfHeader) -> &'a [u8]
 impl<'a> Btf<'a> {
     /// Reads a section `.BTF`, in time in proportion to its length.
     ///
-    /// Takes memory for the places of its types, at most a third of the length of these.
+    /// Takes memory for the places of its types: at most two thirds of the bytes that these have.
     pub fn read(alloc: Global, bytes: &'a [u8]) -> Result<Btf<'a>, BtfFault>
         ensures ok { IfOk result (λ types. IsRead bytes.now types) }
         ensures err { IfErr result (IsReadFault bytes.now) }
