@@ -5,6 +5,7 @@ pub mod CanonicalTexts
 pub mod Cutting
 pub mod Grammar
 pub mod LineGrammar
+pub mod LineTables
 pub mod Listings
 pub mod MnemonicNames
 pub mod Offsets

@@ -242,7 +242,7 @@ has-outline labels p k (line ∷ text) h =
 
 -- ---- the second round
 
-blank-read : (rest : List ℕ) → list_all is_blank rest ≡ true → read_statement (trim rest) ≡ Ok None
+pub blank-read : (rest : List ℕ) → list_all is_blank rest ≡ true → read_statement (trim rest) ≡ Ok None
 blank-read rest k = says-statement rest (Ok None) k
 
 pub insns-read : (labels : Labels) (places : List Place) (r : Result (List Insn) AsmFault) → AreInsns labels places r

@@ -4,6 +4,7 @@ pub mod Faults
 pub mod Labels
 pub mod Laws
 pub mod LineGrammar
+pub mod LineTable
 pub mod Listing
 pub mod Mnemonics
 pub mod Operands

@@ -5,6 +5,7 @@ pub mod Labels
 pub mod Lines
 pub mod Named
 pub mod Rounds
+pub mod Rows
 pub mod Slots
 pub mod Terms
 pub mod TextKey

@@ -9,5 +9,5 @@ mod write;
 
 pub use counted_io::{Counted, WriteFault};
 pub use fault::{AsmFault, LineFault};
-pub use read::assemble;
+pub use read::{assemble, line_table};
 pub use write::{disassemble, put_insn, put_label, write_insn};
