@@ -54,6 +54,16 @@ lacks() {
     fi
 }
 
+# said NAME LINES: what the runs in which a request was refused said, in the file `met`, is LINES, each of them at least once.
+said() {
+    sort -u met > found/out
+    printf '%b' "$2" | sort > wanted/out
+    : > found/err
+    : > wanted/err
+    cp wanted/status found/status
+    compare "$1: what is said of refused requests"
+}
+
 # wants LINES STATUS OUTPUT ERRORS ARGUMENT..: the runs of this command line in which a request is refused say LINES, each of
 # them at least once; the first run in which none is refused comes to what is said.
 wants() {
@@ -73,12 +83,7 @@ wants() {
     check "$name $*: request $request for memory, if there is one, refused" "$status" "$output" "$errors"
     refuse "$request" all "$@"
     check "$name $*: there is no request for memory after $((request - 1))" "$status" "$output" "$errors"
-    sort -u met > found/out
-    printf '%b' "$lines" | sort > wanted/out
-    : > found/err
-    : > wanted/err
-    cp wanted/status found/status
-    compare "$name $*: what is said of refused requests"
+    said "$name $*" "$lines"
 }
 
 # Each subcommand, with and without a listing, and with its other ends; help; and a command line that is none.
@@ -140,12 +145,7 @@ while refuse "$request" '' test two.test && [ "$found" != 0 ] && [ "$request" -l
     request=$((request + 1))
 done
 check 'bpfdb test: no request for memory refused' 0 '1..1\nok 1\n' ''
-sort -u met > found/out
-printf '%b' "$plain$a7$c13$o2" | sort > wanted/out
-: > found/err
-: > wanted/err
-cp wanted/status found/status
-compare 'bpfdb test: what is said of refused requests'
+said 'bpfdb test' "$plain$a7$c13$o2"
 wants "$plain" 2 '' 'cannot read missing\n' run missing
 wants "$plain" 0 "$(text "$parts/help/bpfdb.txt")" '' --help
 wants "$plain" 0 "$(version)" '' --version
