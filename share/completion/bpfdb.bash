@@ -13,7 +13,7 @@ _bpfdb() {
     --entry) :; return ;;
     esac
     if [ "$COMP_CWORD" -eq "$first" ]; then
-        mapfile -t COMPREPLY < <(compgen -W "run debug asm disasm check link gdb test help --help --version" -- "$word")
+        mapfile -t COMPREPLY < <(compgen -W "run debug asm disasm lines check link gdb test help --help --version" -- "$word")
         return
     fi
     case $job in
@@ -21,12 +21,13 @@ _bpfdb() {
     debug) words="-m --mem --maps --journal --steps --listing -h --help" ;;
     asm) words="-h --help" ;;
     disasm) words="--maps --listing -h --help" ;;
+    lines) words="-h --help" ;;
     check) words="--maps --listing -h --help" ;;
     link) words="--section --entry -h --help" ;;
     gdb) words="-m --mem --maps --journal --steps --listing --registers -h --help" ;;
     test) words="-h --help" ;;
     shell) words="-m --mem --maps --journal --steps --listing --section --entry -h --help" ;;
-    help) words="run debug asm disasm check link gdb test" ;;
+    help) words="run debug asm disasm lines check link gdb test" ;;
     *) return ;;
     esac
     case $word in

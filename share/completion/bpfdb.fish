@@ -3,6 +3,7 @@ complete -c bpfdb -n __fish_use_subcommand -f -a run -d "runs the program until 
 complete -c bpfdb -n __fish_use_subcommand -f -a debug -d "obeys the commands of a script from standard input"
 complete -c bpfdb -n __fish_use_subcommand -f -a asm -d "assembles the listing FILE"
 complete -c bpfdb -n __fish_use_subcommand -f -a disasm -d "checks the program and writes it as a listing"
+complete -c bpfdb -n __fish_use_subcommand -f -a lines -d "tells where each instruction of the listing FILE stands"
 complete -c bpfdb -n __fish_use_subcommand -f -a check -d "checks the program"
 complete -c bpfdb -n __fish_use_subcommand -f -a link -d "links a code section of the object FILE"
 complete -c bpfdb -n __fish_use_subcommand -f -a gdb -d "answers gdb"

@@ -305,6 +305,8 @@ for all in '' all; do
             state 0 "$words" ''
             sweep write 1 $piece $kind asm program.s
             hold_bytes
+            state 0 '0 1\n1 2\n' ''
+            output $piece $kind lines program.s
             state 0 'mov r0, 42\nexit\n' ''
             output $piece $kind disasm answer
             state 0 'ok 2 instructions in 2 slots\n' ''

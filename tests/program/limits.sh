@@ -28,6 +28,8 @@ result 'ok 65535 instructions in 65535 slots\n' check --maps $sixteen --listing 
 output 'asm of the longest program' longest asm longest.s
 output 'disasm of the longest program' longest.s disasm --maps $sixteen longest
 output 'disasm of the longest listing' longest.s disasm --maps $sixteen --listing longest.s
+seq 0 65534 | awk '{ print $1, $1 + 1 }' > rows
+output 'lines of the longest listing' rows lines longest.s
 value=$(printf '%0512d' 1)
 # full NAME ARGUMENT..: a session in the largest machine: to its end, edits of its last bytes, and all of that taken back.
 full() {

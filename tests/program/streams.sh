@@ -60,6 +60,7 @@ run --listing program.s
 debug program
 debug --listing program.s
 asm program.s
+lines program.s
 disasm program
 check program
 check --listing program.s
@@ -158,6 +159,7 @@ while read -r arguments; do
 done <<'ROWS'
 run program
 asm program.s
+lines program.s
 disasm program
 check program
 --help

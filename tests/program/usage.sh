@@ -60,6 +60,16 @@ result 'ok 3 instructions in 4 slots\n' check --maps 8x2 --listing mapped.s
 result 'ok 3 instructions in 4 slots\n' check mapped --maps=8x1
 result 'ok 2 instructions in 2 slots\n' check first
 result 'ok 1 instructions in 1 slots\n' check endless
+# lines: each form of a line, of which a label may stand in one of its own; a wide load takes two slots, and a label behind all instructions stands at
+# none.
+printf '; a comment\n\nfirst:\nsecond: lddw r1, 7 ; and one here\n  third:\n\n\tmov r0, 1\nloop: add r0, 1\njlt r0, 3, loop\nexit\nlast:\n' > labels.s
+result '0 4 first second\n2 7 third\n3 8 loop\n4 9\n5 10\n' lines labels.s
+result '0 1\n1 2\n' lines -- first.s
+result '0 1\n2 2\n3 3\n' lines mapped.s
+: > empty.s
+result '' lines empty.s
+printf 'mov r0\n' > wrong.s
+refused 'refused A2 at line 1: wrong operands' lines wrong.s
 # test: a report, a test that fails, and a file with a fault
 printf -- '-- listing\nmov r0, 2\nexit\n-- name\ntwo\n-- result\n2\n' > two.test
 printf -- '-- listing\nmov r0, 2\nexit\n-- result\n3\n' > three.test
@@ -81,7 +91,7 @@ for absent in 'run --journal=65536' 'debug -j=65536' 'asm -m=context' 'asm --mem
     'asm --steps=7' 'asm --listing' 'disasm -m=context' 'disasm --mem=context' 'disasm --journal=65536' 'disasm --steps=7' \
     'check -m=context' 'check --mem=context' 'check --journal=65536' 'check --steps=7' 'run --section=a' 'debug --section=a' 'asm --section=a' 'run --entry=a' 'asm --entry=a' \
     'disasm --section=a' 'check --section=a' 'link -m=context' 'link --mem=context' 'link --maps=8x2' 'link --journal=65536' 'link --steps=7' 'link --listing' 'gdb --section=a' \
-    'run --registers=x86' 'debug --registers=x86' 'test --listing' 'test --maps=8x2' 'test --steps=7'
+    'lines --listing' 'lines --maps=8x2' 'lines -m=context' 'lines --steps=7' 'lines --section=a' 'run --registers=x86' 'debug --registers=x86' 'test --listing' 'test --maps=8x2' 'test --steps=7'
 do
     subcommand=${absent%% *} option=${absent#* }
     name=${option%%=*}

@@ -177,13 +177,14 @@ fn do_plan(
     do_over_streams(rt, &job, GREETING, errors)
 }
 
-/// The bytes of FILE, which is a listing for `asm` and where the plan says so, and an object for
+/// The bytes of FILE, which is a listing for `asm` and `lines` and where the plan says so, and an object for
 /// `link`.
 fn file_of<'a>(rt: &HostRuntime, plan: &Plan<'a>) -> Result<Vec<u8>, JobFault<'a>>
     ensures err { IfErr result (Names plan.now.file.now) }
 {
     match plan.subcommand {
         Subcommand::Asm => source_at(rt, plan.file),
+        Subcommand::Lines => source_at(rt, plan.file),
         Subcommand::Link => source_at(rt, plan.file),
         Subcommand::Test => source_at(rt, plan.file),
         _ => {

@@ -1,4 +1,4 @@
--- The command line as `clap` is told of it: eight subcommands, the options of each, and FILE.
+-- The command line as `clap` is told of it: nine subcommands, the options of each, and FILE.
 use Rattle.std.specs.Prelude.{[], ◌∷◌, Some, true, codes}
 use Rattle.clap.specs.Words.{App, Rule, Text, new_app, new_rule, with_rule, with_subcommand}
 use Rattle.clap.specs.declared.builder.action.ArgAction.TheVariants.{SetTrue}
@@ -72,6 +72,9 @@ asm_app = with_rule (new_app (codes "asm")) file_rule
 abbrev pub disasm_app : App
 disasm_app = with_rule (with_rule (with_rule (new_app (codes "disasm")) maps_rule) listing_rule) file_rule
 
+abbrev pub lines_app : App
+lines_app = with_rule (new_app (codes "lines")) file_rule
+
 abbrev pub check_app : App
 check_app = with_rule (with_rule (with_rule (new_app (codes "check")) maps_rule) listing_rule) file_rule
 
@@ -92,5 +95,5 @@ bare_app = record (new_app (codes "bpfdb")) { top = record (new_app (codes "bpfd
 
 -- The command with its subcommands.
 unfoldable pub command_app : App
-command_app = with_subcommand (with_subcommand (with_subcommand (with_subcommand (with_subcommand (with_subcommand (with_subcommand (with_subcommand bare_app
-    run_app.top) debug_app.top) gdb_app.top) asm_app.top) disasm_app.top) check_app.top) link_app.top) test_app.top
+command_app = with_subcommand (with_subcommand (with_subcommand (with_subcommand (with_subcommand (with_subcommand (with_subcommand (with_subcommand (with_subcommand bare_app
+    run_app.top) debug_app.top) gdb_app.top) asm_app.top) disasm_app.top) lines_app.top) check_app.top) link_app.top) test_app.top

@@ -97,6 +97,21 @@ pub const DISASM_EXAMPLE: &str = "Example:
   jlt r0, 3, L0
   exit";
 
+pub const LINES: &str = "Tells in which line of a listing each instruction stands";
+
+pub const LINES_LONG: &str = "Tells in which line of a listing each instruction stands.
+
+Reads the listing FILE. Writes one line an instruction to standard output, with blanks
+between: its slot, the line of FILE in which it stands, counted from 1, and the labels
+that stand at it. If something is wrong with FILE, a line on standard error says what
+and where, and the exit status is 2.";
+
+pub const LINES_EXAMPLE: &str = "Example:
+  $ bpfdb lines count.s
+  0 1 loop
+  1 2
+  2 3";
+
 pub const CHECK: &str = "Checks a program";
 
 pub const CHECK_LONG: &str = "Checks a program.
@@ -222,6 +237,8 @@ only one that isn't static. Example: --entry handle";
 pub const PROGRAM: &str = "Program: its raw words, or with --listing its listing";
 
 pub const LISTING_FILE: &str = "Listing to be assembled";
+
+pub const LINES_FILE: &str = "Listing (docs/LISTING.md)";
 
 pub const OBJECT_FILE: &str = "Relocatable ELF object for BPF";
 

@@ -36,7 +36,7 @@ pub(crate) struct CliSubcommand<'a> {
 }
 
 /// The subcommands, as help lists them.
-pub(crate) const SUBCOMMANDS: [CliSubcommand<'static>; 8] = [
+pub(crate) const SUBCOMMANDS: [CliSubcommand<'static>; 9] = [
     CliSubcommand {
         name: "run",
         about: help::RUN,
@@ -94,6 +94,14 @@ pub(crate) const SUBCOMMANDS: [CliSubcommand<'static>; 8] = [
         example: help::DISASM_EXAMPLE,
         options: &[CliOption::Maps, CliOption::Listing],
         file: help::PROGRAM,
+    },
+    CliSubcommand {
+        name: "lines",
+        about: help::LINES,
+        long_about: help::LINES_LONG,
+        example: help::LINES_EXAMPLE,
+        options: &[],
+        file: help::LINES_FILE,
     },
     CliSubcommand {
         name: "check",

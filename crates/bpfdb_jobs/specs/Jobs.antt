@@ -16,13 +16,14 @@ use Rattle.bpf_session.specs.Runs.{Standing}
 use Rattle.bpf_session.specs.declared.plain.Ending.{Ending}
 use Rattle.bpf_session.specs.declared.plain.Ending.TheVariants.{Exited, Faulted, Limit}
 use Rattle.bpf_text.specs.Canonical.{canon}
+use Rattle.bpf_text.specs.LineTable.{IsLineTable}
 use Rattle.bpf_text.specs.Listing.{IsListing}
 use Rattle.bpfdb_jobs.specs.Faults.{limit_line}
 use Rattle.bpfdb_replies.specs.Texts.{place}
 use Rattle.bpfdb_jobs.specs.MapLines.{maps_told}
 use Rattle.bpfdb_jobs.specs.declared.job.Job.{Job}
 use Rattle.bpfdb_options.specs.declared.subcommand.Subcommand.{Subcommand}
-use Rattle.bpfdb_options.specs.declared.subcommand.Subcommand.TheVariants.{Run, Debug, Gdb, Asm, Disasm, Check, Link, Test}
+use Rattle.bpfdb_options.specs.declared.subcommand.Subcommand.TheVariants.{Run, Debug, Gdb, Asm, Disasm, Lines, Check, Link, Test}
 
 -- The map table that a text names; no map where there is no text.
 abbrev pub HasMaps : Option (Bor (List ℕ)) → List MapShape → Type 0
@@ -114,6 +115,7 @@ Prints Gdb job a = ⊥
 Prints Test job a = ⊥
 Prints Asm job a = (words : List ℕ) × IsListing job.file.now words × (a ≡ printed words)
 Prints Disasm job a = (code : Checked) × IsProgramOf job code × (a ≡ printed (canon code))
+Prints Lines job a = (table : List ℕ) × IsLineTable job.file.now table × (a ≡ printed table)
 Prints Check job a = (code : Checked) × IsProgramOf job code × (a ≡ printed (check_line code))
 Prints Link job a = (words : List ℕ) × (shapes : List MapShape) × IsLinkedTo job words shapes
     × (a ≡ record (printed words) { err = maps_told shapes })

@@ -16,7 +16,7 @@ use Rattle.bpfdb_jobs.specs.declared.job.Job.{Job}
 use Rattle.bpfdb_jobs.specs.declared.refusal.JobRefusal.{JobRefusal}
 use Rattle.bpfdb_jobs.specs.declared.refusal.JobRefusal.TheVariants.{Maps, Listing, Load, Open, Journal, Object, Tests}
 use Rattle.bpfdb_options.specs.declared.subcommand.Subcommand.{Subcommand}
-use Rattle.bpfdb_options.specs.declared.subcommand.Subcommand.TheVariants.{Run, Debug, Gdb, Asm, Disasm, Check, Link, Test}
+use Rattle.bpfdb_options.specs.declared.subcommand.Subcommand.TheVariants.{Run, Debug, Gdb, Asm, Disasm, Lines, Check, Link, Test}
 
 -- Each refusal comes where those before don't.
 abbrev pub Refuses : Job → JobRefusal → Type 0
@@ -30,7 +30,7 @@ Refuses job (Journal fault) = (code : Checked) × Opens job code × RefusesSize 
 Refuses job (Object fault) = ⊥
 Refuses job (Tests fault line) = ⊥
 
--- Those that a subcommand looks at: `asm` its listing alone and `link` its object, a program has no context, a run no journal.
+-- Those that a subcommand looks at: `asm` and `lines` their listing alone and `link` its object, a program has no context, a run no journal.
 abbrev pub RefusesProgram : Job → JobRefusal → Type 0
 RefusesProgram job (Open fault) = ⊥
 RefusesProgram job (Journal fault) = ⊥
@@ -58,6 +58,7 @@ RefusesAs Debug job refusal = Refuses job refusal
 RefusesAs Gdb job refusal = Refuses job refusal
 RefusesAs Asm job refusal = RefusesListing job refusal
 RefusesAs Disasm job refusal = RefusesProgram job refusal
+RefusesAs Lines job refusal = RefusesListing job refusal
 RefusesAs Check job refusal = RefusesProgram job refusal
 RefusesAs Link job refusal = RefusesObject job refusal
 RefusesAs Test job refusal = RefusesTests job refusal

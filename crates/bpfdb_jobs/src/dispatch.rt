@@ -7,7 +7,7 @@ use crate::check::check_job;
 use crate::debug::debug_job;
 use crate::gdb::gdb_job;
 use crate::job::Job;
-use crate::listing::{asm_job, disasm_job};
+use crate::listing::{asm_job, disasm_job, lines_job};
 use crate::object::link_job;
 use crate::run::run_job;
 use crate::suite::test_job;
@@ -41,6 +41,7 @@ pub fn tool<R: Read, W: Write, E: Write>(
         Subcommand::Gdb => gdb_job(alloc, job, reader, writer, errors),
         Subcommand::Asm => asm_job(alloc, job, writer, errors),
         Subcommand::Disasm => disasm_job(alloc, job, writer, errors),
+        Subcommand::Lines => lines_job(alloc, job, writer, errors),
         Subcommand::Check => check_job(alloc, job, writer, errors),
         Subcommand::Link => link_job(alloc, job, writer, errors),
         Subcommand::Test => test_job(alloc, job, writer, errors),

@@ -1,14 +1,14 @@
-//! What the jobs of `asm` and `disasm` do.
+//! What the jobs of `asm`, `lines` and `disasm` do.
 ghost use Rattle.std.specs.Prelude.{◌≤◌};
 ghost use Rattle.bpfdb_jobs.specs.Endings.{EndsPrinted};
-ghost use Rattle.bpfdb_options.specs.declared.subcommand.Subcommand.TheVariants.{Asm, Disasm};
+ghost use Rattle.bpfdb_options.specs.declared.subcommand.Subcommand.TheVariants.{Asm, Disasm, Lines};
 
 use crate::fault::JobFault;
 use crate::job::Job;
 use crate::opening::program_of;
 use crate::refusal::JobRefusal;
 use crate::report::{ended, give_up, write_out};
-use bpf_text::{assemble, disassemble};
+use bpf_text::{assemble, disassemble, line_table};
 use counted_io::Counted;
 use std::alloc::Global;
 use std::io::Write;
@@ -27,6 +27,26 @@ pub fn asm_job<W: Write, E: Write>(
     match assemble(alloc, job.file) {
         Ok(words) => {
             let written = write_out(writer, words.as_slice());
+            ended(written, errors)
+        }
+        Err(fault) => give_up(errors, &JobFault::Refused(JobRefusal::Listing(fault))),
+    }
+}
+
+/// Writes the table of a listing's lines. The program isn't checked.
+pub fn lines_job<W: Write, E: Write>(
+    alloc: Global,
+    job: &Job<'_>,
+    writer: &mut Counted<W>,
+    errors: &mut Counted<E>,
+) -> u8
+    ensures does { EndsPrinted W.contents E.contents Lines job.now writer.old writer.new errors.old
+        errors.new result }
+    ensures status { result ≤ 2 }
+{
+    match line_table(alloc, job.file) {
+        Ok(table) => {
+            let written = write_out(writer, table.as_slice());
             ended(written, errors)
         }
         Err(fault) => give_up(errors, &JobFault::Refused(JobRefusal::Listing(fault))),

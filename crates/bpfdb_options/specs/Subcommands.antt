@@ -1,7 +1,7 @@
 -- The names of the subcommands.
 use Rattle.std.specs.Prelude.{ℕ, List, codes}
 use Rattle.bpfdb_options.specs.declared.subcommand.Subcommand.{Subcommand}
-use Rattle.bpfdb_options.specs.declared.subcommand.Subcommand.TheVariants.{Run, Debug, Gdb, Asm, Disasm, Check, Link, Test}
+use Rattle.bpfdb_options.specs.declared.subcommand.Subcommand.TheVariants.{Run, Debug, Gdb, Asm, Disasm, Lines, Check, Link, Test}
 
 -- As help lists them.
 abbrev pub subcommand_name : Subcommand → List ℕ
@@ -10,6 +10,7 @@ subcommand_name Debug = codes "debug"
 subcommand_name Gdb = codes "gdb"
 subcommand_name Asm = codes "asm"
 subcommand_name Disasm = codes "disasm"
+subcommand_name Lines = codes "lines"
 subcommand_name Check = codes "check"
 subcommand_name Link = codes "link"
 subcommand_name Test = codes "test"

@@ -15,6 +15,8 @@ pub enum Subcommand {
     Asm,
     /// A program is written as a listing.
     Disasm,
+    /// A listing's table of lines is written.
+    Lines,
     /// A program is checked.
     Check,
     /// An object is linked.
@@ -36,6 +38,7 @@ impl Subcommand {
             "gdb" => Some(Subcommand::Gdb),
             "asm" => Some(Subcommand::Asm),
             "disasm" => Some(Subcommand::Disasm),
+            "lines" => Some(Subcommand::Lines),
             "check" => Some(Subcommand::Check),
             "link" => Some(Subcommand::Link),
             "test" => Some(Subcommand::Test),

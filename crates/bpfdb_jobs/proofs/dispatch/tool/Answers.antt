@@ -28,6 +28,11 @@ returns-in-Disasm-clause-does g c =
     subst (λ (s : Subcommand). DoesJob g.R.Read.remaining g.W.Write.contents g.E.Write.contents s c.args.job.now c.args.reader.now c.args.reader.now
     c.args.writer.now c.disasm_job.new.writer c.args.errors.now c.disasm_job.new.errors c.disasm_job.result) (sym c.in-Disasm.is) (refl, c.disasm_job.ensures.does)
 
+pub returns-in-Lines-clause-does : goal.returns-in-Lines-clause-does
+returns-in-Lines-clause-does g c =
+    subst (λ (s : Subcommand). DoesJob g.R.Read.remaining g.W.Write.contents g.E.Write.contents s c.args.job.now c.args.reader.now c.args.reader.now
+    c.args.writer.now c.lines_job.new.writer c.args.errors.now c.lines_job.new.errors c.lines_job.result) (sym c.in-Lines.is) (refl, c.lines_job.ensures.does)
+
 pub returns-in-Check-clause-does : goal.returns-in-Check-clause-does
 returns-in-Check-clause-does g c =
     subst (λ (s : Subcommand). DoesJob g.R.Read.remaining g.W.Write.contents g.E.Write.contents s c.args.job.now c.args.reader.now c.args.reader.now
