@@ -1,4 +1,4 @@
-# bpfdb in gdb 13 or later: 'source bpfdb-gdb.py', then 'bpf-load OBJECT', or 'file' and 'target remote | bpfdb gdb FILE' by hand.
+# bpfdb in gdb 13 or later: 'source bpfdb-gdb.py', then 'bpf-load FILE', or 'file' and 'target remote | bpfdb gdb FILE' by hand.
 #
 # It shows frames of local calls and instructions as bpfdb has them, and adds commands, whose names begin with bpf- but for last-write. What it
 # asks of bpfdb are lines of its script, as gdb's 'monitor' does; docs/COMMANDS.md has them.
@@ -118,7 +118,7 @@ def is_connected():
 def answer_to(packet):
     """What bpfdb answers to a packet."""
     if not is_connected():
-        raise gdb.GdbError("bpfdb isn't connected: bpf-load OBJECT starts a program")
+        raise gdb.GdbError("bpfdb isn't connected: bpf-load FILE starts a program")
     # (gdb's own way to send a packet forgets the frames that it is about to find)
     answer = re.search('received: "(.*)"', gdb.execute("maintenance packet " + packet, to_string=True)).group(1)
     if answer.startswith("E"):
@@ -342,8 +342,8 @@ def value_type(name, size):
 
 
 class Load(Asker):
-    """bpf-load OBJECT [OPTIONS]: links an object of clang, loads its symbols, and starts it in bpfdb. OPTIONS are those of 'bpfdb gdb', and
-    --section and --entry NAME. Without words it starts the same anew. Breakpoints stay."""
+    """bpf-load FILE [OPTIONS]: links an object of clang, or assembles a listing, loads its symbols, and starts it in bpfdb. OPTIONS are those of
+    'bpfdb gdb', and --section and --entry NAME. Without words it starts the same anew. Breakpoints stay."""
 
     def __init__(self):
         super().__init__("bpf-load", gdb.COMMAND_RUNNING, gdb.COMPLETE_FILENAME)
@@ -353,30 +353,20 @@ class Load(Asker):
     def obey(self, argument):
         words = gdb.string_to_argv(argument) or self.words
         if not words:
-            raise gdb.GdbError("bpf-load OBJECT [OPTIONS]")
+            raise gdb.GdbError("bpf-load FILE [OPTIONS]")
         inferior = gdb.selected_inferior()
         if inferior.pid and not is_connected():
             raise gdb.GdbError("gdb runs another program: kill it first")
-        file, options = words[0], words[1:]
         if not self.folder:
             self.folder = tempfile.TemporaryDirectory(prefix="bpfdb-")
         # (a folder for each time, since gdb takes a file of the same name and second for the one that it knows)
-        base = os.path.join(tempfile.mkdtemp(dir=self.folder.name), os.path.splitext(os.path.basename(file))[0])
-        section, options = taken(options, "--section")
-        entry, options = taken(options, "--entry")
-        program = called("bpfdb", ["link", *section, *entry, file])
-        with open(base + ".bin", "wb") as output:
-            output.write(program.stdout)
-        machine_words, _ = taken(options, "--registers")
-        symbols = called("bpfdb-symbols", [*section, *entry, *machine_words, file, base + ".sym"])
-        said = program.stderr.decode(errors="replace")
-        if said.startswith("--maps ") and not taken(options, "--maps")[0]:
-            options = [*options, *said.split()]
-        gdb.write(symbols.stderr.decode(errors="replace"), gdb.STDERR)
+        base = os.path.join(tempfile.mkdtemp(dir=self.folder.name), os.path.splitext(os.path.basename(words[0]))[0])
+        load = load_object if is_object(words[0]) else load_listing
+        options = load(words[0], words[1:], base)
         if inferior.pid:
             gdb.execute("with confirm off -- kill", to_string=True)
         gdb.execute("with confirm off -- file %s" % base + ".sym", to_string=True)
-        command = shlex.join([found("bpfdb"), "gdb", *options, base + ".bin"])
+        command = shlex.join([found("bpfdb"), "gdb", *options])
         self.words = words
         if gdb.execute("info symbol 0", to_string=True).startswith("No symbol"):
             # (the program begins with a setup of its data, and the entry is behind its first slot)
@@ -385,6 +375,39 @@ class Load(Asker):
         else:
             gdb.execute("target remote | " + command, to_string=True)
         commands.__init__(moves())
+
+
+def is_object(file):
+    """Whether a file is an object, not a listing. (What can't be read is left to who reads it next.)"""
+    try:
+        with open(file, "rb") as opened:
+            return opened.read(4) == b"\x7fELF"
+    except OSError:
+        return True
+
+
+def load_object(file, options, base):
+    """Links an object to files of this name. Answers the options with which bpfdb starts it, FILE behind them."""
+    section, options = taken(options, "--section")
+    entry, options = taken(options, "--entry")
+    program = called("bpfdb", ["link", *section, *entry, file])
+    with open(base + ".bin", "wb") as output:
+        output.write(program.stdout)
+    machine_words, _ = taken(options, "--registers")
+    symbols = called("bpfdb-symbols", [*section, *entry, *machine_words, file, base + ".sym"])
+    said = program.stderr.decode(errors="replace")
+    if said.startswith("--maps ") and not taken(options, "--maps")[0]:
+        options = [*options, *said.split()]
+    gdb.write(symbols.stderr.decode(errors="replace"), gdb.STDERR)
+    return [*options, base + ".bin"]
+
+
+def load_listing(file, options, base):
+    """Makes the symbols of a listing. Answers the options with which bpfdb starts it, FILE behind them."""
+    machine_words, _ = taken(options, "--registers")
+    os.environ.setdefault("BPFDB", found("bpfdb"))
+    called("bpfdb-symbols", ["--listing", *machine_words, file, base + ".sym"])
+    return [*options, "--listing", file]
 
 
 def taken(words, option):

@@ -58,9 +58,12 @@ compiled() {
     cp "$sessions/$1.c" . && clang -g -O1 -fstack-size-section -target bpf -c "$1.c" 2> /dev/null
 }
 
-# story: the session that docs/GDB.md shows in gdb, with an end.
+# story NUMBER: the session of this number that docs/GDB.md shows in gdb, with an end.
 story() {
-    awk '/^```/ { if (inside) exit; getline; if (/^\(gdb\) /) inside = 1 } inside' "$top/docs/GDB.md"
+    awk -v wanted="$1" '
+        /^```/ { if (count == wanted && inside) exit; inside = 0; getline; if (/^\(gdb\) /) { inside = 1; count++ } }
+        inside && count == wanted
+    ' "$top/docs/GDB.md"
     printf '(gdb) kill\n[Inferior 1 (Remote target) killed]\n'
 }
 
@@ -82,15 +85,26 @@ else
     same 'examples/overrun/program.bin is linked from its object' "$top/examples/overrun/program.bin" overrun.bin
     "$top/share/bpfdb-symbols" overrun.o overrun.sym
     "$top/share/bpfdb-symbols" --registers riscv overrun.o overrun.riscv
-    story > story.txt
-    [ "$(wc -l < story.txt)" -gt 2 ] || complain 'docs/GDB.md shows no session'
+    for number in 1 2; do
+        story $number > story$number.txt
+        [ "$(wc -l < story$number.txt)" -gt 2 ] || complain "docs/GDB.md shows no session $number"
+    done
 
     sessions=$parts/gdb
     if serves gdb; then
         for name in steps stops edits faults calls limits source sections traps bare load; do
             transcript gdb "$sessions/$name.txt"
         done
-        transcript gdb story.txt
+        transcript gdb story1.txt
+
+        # Listings: the program's functions are what it calls.
+        cp "$sessions/sum.s" .
+        printf 'exit\nmove r0, 1\n' > bad.s
+        printf '\001\002\003' > three.bin
+        transcript gdb "$sessions/listing.txt"
+        cp "$top/examples/fault/program.s" "$top/examples/fault/context.bin" .
+        transcript gdb story2.txt
+        cp "$top/examples/overrun/context.bin" .
 
         # Where the commands end at a fault, without `kill` or `detach`, gdb ends bpfdb.
         printf 'target remote | bpfdb gdb --listing access.s; echo "$?" > ended\ncontinue\n' > typed

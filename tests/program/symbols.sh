@@ -80,6 +80,27 @@ else
     converted calls.o calls.sym
     [ "$(wc -c < calls.sym)" = "$(wc -c < calls.o)" ] || complain 'bpfdb-symbols: the size of its file'
 
+    # Of a listing: what bpfdb refuses is refused, and the file begins with its header of 64 bytes and the program's words. Without the program
+    # nothing is known of a listing.
+    export BPFDB=$program
+    cp "$parts/gdb/sum.s" .
+    printf 'exit\nmove r0, 1\n' > bad.s
+    : > empty.s
+    refused_object 'cannot read nothing.s' nothing.s --listing
+    refused_object 'refused A1 at line 2: unknown mnemonic' bad.s --listing
+    refused_object 'refused A6 at line 1: byte outside ASCII text' calls.o --listing
+    for registers in x86 riscv; do
+        converted --listing --registers $registers sum.s $registers.sym
+        "$program" asm sum.s > words
+        tail -c +65 $registers.sym | head -c "$(wc -c < words)" > begun
+        same "bpfdb-symbols --listing --registers $registers has the words" words begun
+    done
+    [ "$(field x86.sym 16)" = $((2 + 65536 * 62 + 4294967296)) ] || complain 'bpfdb-symbols --listing: a program for x86-64'
+    [ "$(field riscv.sym 16)" = $((2 + 65536 * 243 + 4294967296)) ] || complain 'bpfdb-symbols --listing: a program for RISC-V'
+    converted --listing empty.s empty.sym
+    PATH=/usr/bin:/bin BPFDB= refused_object 'there is no program bpfdb' sum.s --listing
+    unset BPFDB
+
     # The object that the clang which is here makes of the same C, where it knows BPF, has the same fault.
     if clang -g -O1 -fstack-size-section -target bpf -c -o compiled.o "$top/examples/overrun/overrun.c" 2> /dev/null; then
         converted compiled.o compiled.sym
