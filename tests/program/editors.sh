@@ -27,7 +27,7 @@ if command -v bash > /dev/null; then
     completed '\n' bpfdb run --steps ''
     completed 'program.bin\n' bpfdb run -m prog
     completed 'program.bin\n' bpfdb check prog
-    completed 'link\n' bpfdb help l
+    completed 'lines\nlink\n' bpfdb help l
     completed '--journal\n' bpfdb-shell --j
     completed '--section\n' bpfdb-shell --sec
     completed '\n' bpfdb-shell --reg

@@ -106,7 +106,7 @@ for bytes_of_context in page whole; do
 done
 wants "$plain$a7$c13$o2$j2" 0 '' '' debug --listing program.s
 wants "$plain$a7" 0 "$words" '' asm program.s
-wants "$plain$a7" 0 '0 1\n1 2\n' '' lines program.s
+wants "$plain$a7" 0 '0 1 start\n1 2\n' '' lines program.s
 wants "$plain$c13" 0 'mov r0, 42\nexit\n' '' disasm --maps 8x2 program
 wants "$plain$a7$c13" 0 'mov r0, 42\nexit\n' '' disasm --listing program.s
 wants "$plain$c13" 0 'ok 2 instructions in 2 slots\n' '' check --maps 8x2 program
