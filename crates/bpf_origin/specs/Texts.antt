@@ -47,9 +47,12 @@ part_value y (part.Register d r) = value_text (value y (place.Register d r))
 part_value y (part.Word i) = value_text (value y (place.Word i))
 part_value y (part.Bytes a n) = bytes_value y a n
 
+unfoldable pub part_text : State → Part → List ℕ
+part_text y p = part_name p ++ part_value y p
+
 -- What a move wrote, each part with its value.
 unfoldable pub written_text : State → Part → List ℕ
-written_text y p = part_name p ++ part_value y p ++ codes "; "
+written_text y p = part_text y p ++ codes "; "
 
 -- Which move it was: the instruction of a step, or an edit.
 abbrev pub move_text : State → Move → List ℕ

@@ -13,13 +13,15 @@ mod question;
 mod reads;
 mod wanted;
 mod what;
-mod written;
+mod writes;
 
 pub use answer::put_answer;
 pub use fault::WhatFault;
+pub use line::put_part;
 pub use origin::put_origin;
 pub use place::{Part, Place};
 pub use question::{Extent, Question, Told};
 pub use reads::{MOST_PARTS, Parts, asked, followed, register_part};
 pub use wanted::{MOST_PLACES, Wanted};
 pub use what::{What, parts_asked};
+pub use writes::written;

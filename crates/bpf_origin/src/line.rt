@@ -192,6 +192,20 @@ fn put_part_value<W: Write>(
     }
 }
 
+/// Writes a part with its value in a machine.
+pub fn put_part<W: Write>(
+    writer: &mut Counted<W>,
+    so_far: Result<(), WriteFault>,
+    cpu: &Cpu,
+    part: Part,
+) -> Result<(), WriteFault>
+    ensures { WritesAfter W.contents writer.old so_far writer.new result
+        (spec.part_text cpu.now part) }
+{
+    let named = put_part_name(writer, so_far, part);
+    put_part_value(writer, named, cpu, part)
+}
+
 /// Writes a part that a move wrote, with its value.
 fn put_written<W: Write>(
     writer: &mut Counted<W>,
@@ -202,9 +216,8 @@ fn put_written<W: Write>(
     ensures { WritesAfter W.contents writer.old so_far writer.new result
         (spec.written_text cpu.now part) }
 {
-    let named = put_part_name(writer, so_far, part);
-    let valued = put_part_value(writer, named, cpu, part);
-    put(writer, valued, b"; ")
+    let told = put_part(writer, so_far, cpu, part);
+    put(writer, told, b"; ")
 }
 
 /// Writes the parts that a move wrote.

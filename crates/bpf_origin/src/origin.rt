@@ -19,7 +19,7 @@ use crate::place::Part;
 use crate::question::{Extent, Question, Told};
 use crate::reads::{Parts, followed};
 use crate::wanted::Wanted;
-use crate::written::written;
+use crate::writes::written;
 use bpf_journal::{Keeper, Taken, Timeline};
 use bpf_machine::{Cpu, Entry};
 use counted_io::{Counted, WriteFault, put};

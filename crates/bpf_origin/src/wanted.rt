@@ -4,7 +4,7 @@ ghost use Rattle.bpf_origin.specs.Places.{bytes_from, places_of, same};
 ghost use Rattle.bpf_origin.specs.Wanted as spec;
 
 use crate::place::{Part, Place};
-use crate::written::{is_among, is_same};
+use crate::writes::{is_among, is_same};
 use arrayvec::ArrayVec;
 use std::marker::Model;
 

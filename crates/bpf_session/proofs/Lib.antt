@@ -14,3 +14,4 @@ pub mod Running
 pub mod Watching
 pub mod WatchRuns
 mod WholeScripts
+pub mod Advancing

@@ -5,6 +5,5 @@ use Rattle.bpf_origin.proofs.line.put_written.Goals as goal
 pub returns : goal.returns
 unfolding written_text
 returns g c = λ first front known.
-    let named = c.put_part_name-named.ensures first front known in
-    let valued = c.put_part_value-valued.ensures first _ named in
-    simp append_assoc (simp append_assoc at (c.put.ensures first _ valued))
+    let told = c.put_part-told.ensures first front known in
+    simp append_assoc at (c.put.ensures first _ told)
