@@ -1,0 +1,4 @@
+pub mod Stepping
+pub mod Lines
+pub mod Counting
+pub mod TheRuns

@@ -1,0 +1,19 @@
+use Rattle.std.proofs.Common.{codes, decimal, refl}
+use Rattle.bpfdb_replies.specs.Texts.{text_at}
+use Rattle.bpfdb_replies.proofs.Telling.{WritesAfter-nothing}
+use Rattle.counted_io.proofs.Appending.{WritesAfter-WritesAfter, WritesAfter-text}
+use Rattle.bpf_trace.proofs.Counting.{count_there, count_nowhere}
+use Rattle.bpf_trace.proofs.profile.put_count.Goals as goal
+
+pub returns-in-Some : goal.returns-in-Some
+returns-in-Some g c =
+    let after = WritesAfter-WritesAfter g.W.Write.contents in
+    let p = c.args.program.now in
+    let one = after _ _ _ _ _ _ (decimal c.args.count) (codes " ") _ c.put_decimal-counted.ensures c.put-parted.ensures refl in
+    let two = after _ _ _ _ _ _ _ (text_at p c.args.slot) _ one c.put_at-named.ensures refl in
+    after _ _ _ _ _ _ _ (codes "\n") _ two c.put.ensures (count_there p c.args.slot c.args.count _ c.in-Some.ensures)
+
+pub returns-in-None : goal.returns-in-None
+returns-in-None g c =
+    WritesAfter-text g.W.Write.contents _ _ _ _ _ _ (WritesAfter-nothing g.W.Write.contents c.args.writer.now c.args.so_far)
+    (count_nowhere c.args.program.now c.args.slot c.args.count c.in-None.ensures)

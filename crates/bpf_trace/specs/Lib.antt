@@ -1,0 +1,4 @@
+pub mod Runs
+pub mod Traces
+pub mod Profiles
+pub mod Laws

@@ -1,0 +1,46 @@
+-- The text of a trace. bpfdb's own choice.
+use Rattle.std.specs.Prelude.{ℕ, ◌+◌, ◌-◌, if◌then◌else◌, List, [], ◌∷◌, ◌++◌, decimal, drop, flat_map, take}
+use lib.Chars.{codes}
+use Rattle.bpf_entries.specs.Status.{has_ended}
+use Rattle.bpf_machine.specs.Entries.{step_entry}
+use Rattle.bpf_machine.specs.Next.{next}
+use Rattle.bpf_machine.specs.State.{State}
+use Rattle.bpf_origin.specs.Texts.{part_text}
+use Rattle.bpf_origin.specs.Writes.{written}
+use Rattle.bpf_origin.specs.declared.place.Part.{Part}
+use Rattle.bpf_session.specs.Plain.{plain_end}
+use Rattle.bpfdb_replies.specs.Texts.{place, text_at}
+use Rattle.bpf_trace.specs.Runs.{steps_of}
+use Rattle.bpf_trace.specs.declared.trace.Shown.{Shown}
+
+-- A place that a step wrote, with its value after it.
+unfoldable pub written_text : State → Part → List ℕ
+written_text y part = codes "; " ++ part_text y part
+
+-- The line of the step numbered k from a state: its instruction, and what it wrote, whether the value changed or not.
+unfoldable pub step_line : ℕ → State → List ℕ
+step_line k x =
+    decimal k ++ codes " " ++ text_at x.program x.pc
+    ++ flat_map (written_text (next x)) (written (next x) (step_entry x)) ++ codes "\n"
+
+-- The lines of steps, numbered from k on.
+abbrev pub lines_from : ℕ → List State → List ℕ
+lines_from k [] = []
+lines_from k (x ∷ xs) = step_line k x ++ lines_from (k + 1) xs
+
+-- The steps that are shown of all.
+abbrev pub shown_of : Shown → List State → List State
+shown_of shown xs = take shown.count (drop (shown.from - 1) xs)
+
+-- That a run took as many steps as it may, and the slot where it stands.
+unfoldable pub limit_line : ℕ → ℕ → List ℕ
+limit_line limit slot = codes "step limit " ++ decimal limit ++ codes " reached at " ++ decimal slot ++ codes "\n"
+
+-- Where a run ended.
+abbrev pub end_line : ℕ → State → List ℕ
+end_line limit y = if has_ended y.status then place y ++ codes "\n" else limit_line limit y.pc
+
+-- The trace of a run: a line a step that is shown, and where it ended.
+abbrev pub trace_text : ℕ → Shown → State → List ℕ
+trace_text limit shown x =
+    lines_from (shown.from - 1 + 1) (shown_of shown (steps_of limit x)) ++ end_line limit (plain_end limit x)
