@@ -1,6 +1,6 @@
 #!/bin/sh
 # The examples, through the built program (or the one that BPFDB names): each script gives its replies, each program assembles
-# and disassembles to itself, the example of a test suite passes and can fail, and the examples in docs/COMMANDS.md, examples/README.md and
+# and disassembles to itself, the example of a test suite passes and can fail, and the examples in docs/COMMANDS.md, README.md, examples/README.md and
 # examples/RECIPES.md print what they show. What is wrong is a line each.
 set -u
 cd "$(dirname "$0")/.." || exit 1
@@ -106,6 +106,29 @@ shown() {
     [ "$n" -gt 1 ] || fault "$1 has no examples in '$2'"
 }
 
+# origins PAGE SECTION EXAMPLE: each command `bpfdb origin` that a section of a page (all of it, where the section is empty) shows prints the lines
+# that follow it there, in the folder of the example, where the program also stands under the example's name.
+origins() {
+    rm -rf "$work/origins"
+    mkdir "$work/origins" || exit 1
+    cp -R "$top/examples/$3" "$work/origins/files" || exit 1
+    [ ! -f "$work/origins/files/program.bin" ] || cp "$work/origins/files/program.bin" "$work/origins/files/$3.bin"
+    awk -v section="## $2" -v work="$work/origins" '
+        BEGIN { inside = section == "## " }
+        /^## / { inside = section == "## " || $0 == section }
+        /^```/ { block = !block; on = 0; next }
+        inside && block && /^\$ / { on = /^\$ bpfdb origin /; if (on) { n++; print substr($0, 3) > (work "/command-" n); printf "" > (work "/text-" n) }; next }
+        inside && block && on { print > (work "/text-" n) }
+    ' "$1"
+    n=1
+    while [ -f "$work/origins/command-$n" ]; do
+        (cd "$work/origins/files" && PATH=$work/bin:$PATH && export PATH && sh "$work/origins/command-$n") > "$work/out" 2>&1
+        cmp -s "$work/origins/text-$n" "$work/out" || fault "$1, '$2': '$(cat "$work/origins/command-$n")': $(first_difference "$work/origins/text-$n" "$work/out")"
+        n=$((n + 1))
+    done
+    [ "$n" -gt 1 ] || fault "$1 asks nowhere where a value came from in '$2'"
+}
+
 # pages: the examples of the manual, the recipes, and those on words and, where there is a clang for BPF, on C.
 pages() {
     mkdir "$work/bin" || exit 1
@@ -113,6 +136,10 @@ pages() {
     ln -s "$top/share/bpfdb-conformance" "$work/bin" || exit 1
     shown docs/COMMANDS.md EXAMPLES
     shown examples/RECIPES.md ''
+    origins README.md '' overrun
+    for name in overrun fault records; do
+        origins examples/README.md "$name" "$name"
+    done
     if command -v xxd > /dev/null; then shown examples/README.md 'From words'; fi
     if echo | clang -target bpf -x c -c -o /dev/null - 2> /dev/null; then shown examples/README.md 'From C'; fi
 }

@@ -148,8 +148,9 @@ examples() {
         name=$(basename "$folder")
         awk -v name="$name" '
             /^## / { inside = $0 == "## " name }
-            /^```/ { block = !block; next }
-            inside && block && !/^\$ /
+            /^```/ { block = !block; shell = 0; next }
+            /^\$ / { shell = 1 }
+            inside && block && !shell
         ' examples/README.md > "$work/session"
         [ -s "$work/session" ] || continue
         sed -n 's/^> //p' "$work/session" | cmp -s - "${folder}script" || fault "examples/README.md has other commands than ${folder}script"
@@ -240,7 +241,7 @@ refusals() {
         BEGIN {
             letter["LoadFault"] = letter["PieceFault"] = letter["WordFault"] = "C"
             letter["LineFault"] = letter["AsmFault"] = "A"
-            letter["MapFault"] = "M"; letter["LinkFault"] = "E"; letter["OpenFault"] = "O"; letter["JournalFault"] = "J"; letter["Refusal"] = "Q"
+            letter["MapFault"] = "M"; letter["LinkFault"] = "E"; letter["OpenFault"] = "O"; letter["JournalFault"] = "J"; letter["Refusal"] = "Q"; letter["WhatFault"] = "V"
             # (those of test files count from when the page has them)
             if (tested) letter["SectionFault"] = "T"
         }
@@ -253,7 +254,7 @@ refusals() {
             else number[parts[1]] = parts[2]
         }
     ' | sort -u > "$work/numbers"
-    sed -n 's/^| \([CAMEOJQT][0-9]*\) | \([^|]*\) |.*/\1 \2/p' docs/COMMANDS.md | sort > "$work/rows"
+    sed -n 's/^| \([CAMEOJQTV][0-9]*\) | \([^|]*\) |.*/\1 \2/p' docs/COMMANDS.md | sort > "$work/rows"
     diff "$work/numbers" "$work/rows" > "$work/diff" && [ -s "$work/numbers" ] && return
     fault "docs/COMMANDS.md has other refusals ('>') than the crates ('<'):"
     cat "$work/diff"

@@ -11,14 +11,16 @@ _bpfdb() {
     --registers) mapfile -t COMPREPLY < <(compgen -W "x86 riscv bpf" -- "$word"); return ;;
     --section) :; return ;;
     --entry) :; return ;;
+    --lines) :; return ;;
     esac
     if [ "$COMP_CWORD" -eq "$first" ]; then
-        mapfile -t COMPREPLY < <(compgen -W "run debug asm disasm lines check link gdb test help --help --version" -- "$word")
+        mapfile -t COMPREPLY < <(compgen -W "run debug origin asm disasm lines check link gdb test help --help --version" -- "$word")
         return
     fi
     case $job in
     run) words="-m --mem --maps --steps --listing -h --help" ;;
     debug) words="-m --mem --maps --journal --steps --listing -h --help" ;;
+    origin) words="-m --mem --maps --journal --steps --listing --lines --addresses -h --help" ;;
     asm) words="-h --help" ;;
     disasm) words="--maps --listing -h --help" ;;
     lines) words="-h --help" ;;
@@ -27,7 +29,7 @@ _bpfdb() {
     gdb) words="-m --mem --maps --journal --steps --listing --registers -h --help" ;;
     test) words="-h --help" ;;
     shell) words="-m --mem --maps --journal --steps --listing --section --entry -h --help" ;;
-    help) words="run debug asm disasm lines check link gdb test" ;;
+    help) words="run debug origin asm disasm lines check link gdb test" ;;
     *) return ;;
     esac
     case $word in

@@ -28,6 +28,7 @@ if command -v bash > /dev/null; then
     completed 'program.bin\n' bpfdb run -m prog
     completed 'program.bin\n' bpfdb check prog
     completed 'lines\nlink\n' bpfdb help l
+    completed '--addresses\n' bpfdb origin --ad
     completed '--journal\n' bpfdb-shell --j
     completed '--section\n' bpfdb-shell --sec
     completed '\n' bpfdb-shell --reg

@@ -305,6 +305,8 @@ for all in '' all; do
             state 0 "$words" ''
             sweep write 1 $piece $kind asm program.s
             hold_bytes
+            state 0 'exited at 1: r0 0x2a\n-2 r0 = 0x2a; 0: mov r0, 42\n' ''
+            output $piece $kind origin answer
             state 0 '0 1\n1 2\n' ''
             output $piece $kind lines program.s
             state 0 'mov r0, 42\nexit\n' ''
@@ -332,6 +334,8 @@ for all in '' all; do
             errors $piece $kind run missing
             state 2 '' 'refused C1: empty program\n'
             errors $piece $kind debug empty
+            state 2 '' 'refused V2: address not present\n'
+            errors $piece $kind origin answer 0
             state 1 '' 'step limit 7 reached at 0\n'
             errors $piece $kind run --steps 7 endless
             cp linked stated

@@ -8,7 +8,7 @@ mkdir folder
 
 # unreadable NAME: it can't be read, as FILE of each subcommand nor as PATH.
 unreadable() {
-    for subcommand in run debug gdb asm disasm lines check link; do
+    for subcommand in run debug gdb origin asm disasm lines check link; do
         refused "cannot read $1" $subcommand "$1"
     done
     for subcommand in run debug disasm check; do
@@ -38,7 +38,7 @@ chmod 000 secret
 # Control bytes in a name are shown as `\xNN`, so that it ends no line and steers no terminal; all others as they are.
 while IFS='|' read -r shown name; do
     name=$(printf '%b' "$name")
-    for subcommand in run debug gdb asm disasm lines check link; do
+    for subcommand in run debug gdb origin asm disasm lines check link; do
         printf 'stepi\n' > script
         run $subcommand -- "$name"
         printf 'cannot read %s\n' "$shown" > line

@@ -61,6 +61,7 @@ debug program
 debug --listing program.s
 asm program.s
 lines program.s
+origin program
 disasm program
 check program
 check --listing program.s
@@ -137,6 +138,7 @@ run faulting
 run --maps 0x1 program
 debug empty
 debug --journal 1023 program
+origin program r10
 asm program
 disasm empty
 check empty
@@ -160,6 +162,7 @@ done <<'ROWS'
 run program
 asm program.s
 lines program.s
+origin program
 disasm program
 check program
 --help

@@ -91,7 +91,7 @@ for absent in 'run --journal=65536' 'debug -j=65536' 'asm -m=context' 'asm --mem
     'asm --steps=7' 'asm --listing' 'disasm -m=context' 'disasm --mem=context' 'disasm --journal=65536' 'disasm --steps=7' \
     'check -m=context' 'check --mem=context' 'check --journal=65536' 'check --steps=7' 'run --section=a' 'debug --section=a' 'asm --section=a' 'run --entry=a' 'asm --entry=a' \
     'disasm --section=a' 'check --section=a' 'link -m=context' 'link --mem=context' 'link --maps=8x2' 'link --journal=65536' 'link --steps=7' 'link --listing' 'gdb --section=a' \
-    'lines --listing' 'lines --maps=8x2' 'lines -m=context' 'lines --steps=7' 'lines --section=a' 'run --registers=x86' 'debug --registers=x86' 'test --listing' 'test --maps=8x2' 'test --steps=7'
+    'origin --section=a' 'origin --entry=a' 'origin --registers=x86' 'run --lines=7' 'debug --lines=7' 'debug --addresses' 'gdb --lines=7' 'lines --lines=7' 'lines --listing' 'lines --maps=8x2' 'lines -m=context' 'lines --steps=7' 'lines --section=a' 'run --registers=x86' 'debug --registers=x86' 'test --listing' 'test --maps=8x2' 'test --steps=7'
 do
     subcommand=${absent%% *} option=${absent#* }
     name=${option%%=*}
@@ -119,10 +119,13 @@ usage "unexpected argument 'second' found" run first second
 usage 'a value is none of those that its option takes' gdb --registers arm first
 for subcommand in $subcommands; do
     usage 'the following required arguments were not provided:' $subcommand
-    usage "unexpected argument 'second' found" $subcommand first second
+    case $subcommand in
+        origin) usage "unexpected argument 'third' found" origin first second third ;;
+        *) usage "unexpected argument 'second' found" $subcommand first second ;;
+    esac
     usage "unexpected argument '--frob' found" $subcommand --frob first
 done
-for subcommand in run debug; do
+for subcommand in run debug origin; do
     for number in 0 1000000001 18446744073709551615; do
         usage "invalid value '$number' for '--steps <N>': $number is not in 1..=1000000000" $subcommand --steps $number first
         usage "invalid value '$number' for '--steps <N>': $number is not in 1..=1000000000" $subcommand --steps=$number first
@@ -139,12 +142,21 @@ for subcommand in run debug; do
     usage "a value is required for '--mem <PATH>' but none was supplied" $subcommand first -m
     usage "a value is required for '--mem <PATH>' but none was supplied" $subcommand first --mem
 done
-for subcommand in run debug disasm check; do
+for subcommand in run debug origin disasm check; do
     usage "a value is required for '--maps <VxN,VxN>' but none was supplied" $subcommand first --maps
     usage "the argument '--maps <VxN,VxN>' cannot be used multiple times" $subcommand --maps 8x2 --maps 8x2 mapped
     usage "the argument '--listing' cannot be used multiple times" $subcommand --listing --listing first.s
     usage "unexpected value 'yes' for '--listing' found; no more were expected" $subcommand --listing=yes first.s
 done
+for number in 0 1000000001 18446744073709551615; do
+    usage "invalid value '$number' for '--lines <N>': $number is not in 1..=1000000000" origin --lines $number first
+done
+usage "invalid value '0x10' for '--lines <N>': invalid digit found in string" origin --lines=0x10 first
+usage "invalid value '-1' for '--lines <N>': invalid digit found in string" origin --lines=-1 first
+usage "a value is required for '--lines <N>' but none was supplied" origin first r0 --lines
+usage "the argument '--lines <N>' cannot be used multiple times" origin --lines 7 --lines 7 first
+usage "the argument '--addresses' cannot be used multiple times" origin --addresses --addresses first
+usage "unexpected value 'yes' for '--addresses' found; no more were expected" origin --addresses=yes first
 usage "a value is required for '--section <NAME>' but none was supplied" link first --section
 usage "the argument '--section <NAME>' cannot be used multiple times" link --section a --section a first
 usage "a value is required for '--entry <NAME>' but none was supplied" link first --entry

@@ -603,7 +603,7 @@ static int try_script(void) {
 
 /* A random command line. */
 static int try_words(void) {
-    static char *some[] = { "run", "debug", "asm", "disasm", "lines", "check", "link", "help", "-m", "--mem", "--maps", "--journal", "--steps", "--listing", "-h", "--help",
+    static char *some[] = { "run", "debug", "origin", "asm", "disasm", "lines", "check", "link", "help", "-m", "--mem", "--maps", "--journal", "--steps", "--listing", "-h", "--help",
         "program", "context", "missing", "1024", "0", "-1", "8x2", "", "--", "-", "--steps=7", "--journal=1024", "--maps=8x2", "-mcontext", "--mem=context",
         "--listing=1", "--frob", "-x", "frob", "\xc3\xa9", "\xff", "a b", "--steps=0", "18446744073709551616", "--version", "-V", "\n", "\033[1m" };
     int count = below(7);
@@ -615,7 +615,7 @@ static int try_words(void) {
     put_file("script", "stepi\n", 6);
     word_count = 1;
     while (count-- > 0)
-        add_word(some[chance(25) && word_count == 1 ? below(7) : below(sizeof some / sizeof *some)]);
+        add_word(some[chance(25) && word_count == 1 ? below(8) : below(sizeof some / sizeof *some)]);
     run_words(&left);
     if (left.status > 2 || (left.status == 0 && left.error_length) || (left.status && (left.length || !left.error_length)))
         return fails("a command line");

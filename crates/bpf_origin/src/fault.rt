@@ -12,7 +12,7 @@ pub enum WhatFault {
 }
 
 impl WhatFault {
-    /// The fault's number, behind the letter W.
+    /// The fault's number.
     pub fn number(&self) -> u8
         ensures { result ≡ spec.number_of self.now }
     {

@@ -1,4 +1,4 @@
--- The command line as `clap` is told of it: nine subcommands, the options of each, and FILE.
+-- The command line as `clap` is told of it: ten subcommands, the options of each, and FILE.
 use Rattle.std.specs.Prelude.{[], ◌∷◌, Some, true, codes}
 use Rattle.clap.specs.Words.{App, Rule, Text, new_app, new_rule, with_rule, with_subcommand}
 use Rattle.clap.specs.declared.builder.action.ArgAction.TheVariants.{SetTrue}
@@ -13,7 +13,7 @@ mem_rule = record (new_rule (codes "mem")) { short = Some 109; long = Some (code
 abbrev pub maps_rule : Rule
 maps_rule = record (new_rule (codes "maps")) { long = Some (codes "maps"); value_names = 1 }
 
--- `--journal J`: a number below 2^64, with a default. That of `gdb`, whose sessions are longer, is greater.
+-- `--journal J`: a number below 2^64, with a default. That of `gdb` and `origin`, whose histories are longer, is greater.
 abbrev pub journal_rule_with : Text → Rule
 journal_rule_with default = record (new_rule (codes "journal")) {
   long = Some (codes "journal");
@@ -53,6 +53,23 @@ entry_rule = record (new_rule (codes "entry")) { long = Some (codes "entry"); va
 abbrev pub registers_rule : Rule
 registers_rule = record (new_rule (codes "registers")) { long = Some (codes "registers"); value_names = 1; defaults = codes "x86" ∷ [] }
 
+-- `--lines N`: a number from 1 to the greatest count.
+abbrev pub lines_rule : Rule
+lines_rule = record (new_rule (codes "lines")) {
+  long = Some (codes "lines");
+  value_names = 1;
+  parser = Some (vp.Unsigned 1 greatest_count);
+  defaults = codes "1000" ∷ [];
+}
+
+-- `--addresses`: the registers that make addresses are followed, too.
+abbrev pub addresses_rule : Rule
+addresses_rule = record (new_rule (codes "addresses")) { long = Some (codes "addresses"); action = Some SetTrue }
+
+-- WHAT, behind FILE: what is asked about.
+abbrev pub what_rule : Rule
+what_rule = record (new_rule (codes "what")) { index = Some 2; value_names = 1 }
+
 -- FILE, which each subcommand needs.
 abbrev pub file_rule : Rule
 file_rule = record (new_rule (codes "file")) { required = true; value_names = 1 }
@@ -89,11 +106,16 @@ abbrev pub gdb_app : App
 gdb_app = with_rule (with_rule (with_rule (with_rule (with_rule (with_rule (with_rule (new_app (codes "gdb"))
     mem_rule) maps_rule) gdb_journal_rule) steps_rule) listing_rule) registers_rule) file_rule
 
+-- `origin` runs the program as `debug` does, over that journal, too.
+abbrev pub origin_app : App
+origin_app = with_rule (with_rule (with_rule (with_rule (with_rule (with_rule (with_rule (with_rule (with_rule (new_app (codes "origin"))
+    mem_rule) maps_rule) gdb_journal_rule) steps_rule) listing_rule) lines_rule) addresses_rule) what_rule) file_rule
+
 -- The command without its subcommands: it can't stand without one, and it tells its version.
 abbrev pub bare_app : App
 bare_app = record (new_app (codes "bpfdb")) { top = record (new_app (codes "bpfdb")).top { subcommand_required = true; has_version = true } }
 
 -- The command with its subcommands.
 unfoldable pub command_app : App
-command_app = with_subcommand (with_subcommand (with_subcommand (with_subcommand (with_subcommand (with_subcommand (with_subcommand (with_subcommand (with_subcommand bare_app
-    run_app.top) debug_app.top) gdb_app.top) asm_app.top) disasm_app.top) lines_app.top) check_app.top) link_app.top) test_app.top
+command_app = with_subcommand (with_subcommand (with_subcommand (with_subcommand (with_subcommand (with_subcommand (with_subcommand (with_subcommand (with_subcommand (with_subcommand bare_app
+    run_app.top) debug_app.top) origin_app.top) gdb_app.top) asm_app.top) disasm_app.top) lines_app.top) check_app.top) link_app.top) test_app.top

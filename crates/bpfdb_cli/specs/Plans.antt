@@ -12,6 +12,7 @@ use Rattle.bpfdb_cli.specs.declared.plans.Plan.{Plan}
 use Rattle.bpfdb_cli.specs.declared.plans.PlanFault.{PlanFault}
 use Rattle.bpfdb_cli.specs.declared.plans.PlanFault.TheVariants.{Usage, Memory}
 use Rattle.bpfdb_limits.specs.Limits.{IsLimit, default_journal, default_limit}
+use Rattle.bpfdb_options.specs.Lines.{default_lines}
 use Rattle.bpfdb_options.specs.Registers.{registers_name}
 use Rattle.bpfdb_options.specs.Subcommands.{subcommand_name}
 use Rattle.bpfdb_options.specs.declared.registers.Registers.{Registers}
@@ -43,6 +44,9 @@ pub record Says (name : Text) (rows : List Row) (plan : Plan) : Type 0 where
   pub section : option_map (λ s. s.now) plan.options.section ≡ first_of (codes "section") rows
   pub entry : option_map (λ s. s.now) plan.options.entry ≡ first_of (codes "entry") rows
   pub registers : NamesRegisters (first_of (codes "registers") rows) plan.options.registers
+  pub what : option_map (λ s. s.now) plan.options.what ≡ first_of (codes "what") rows
+  pub lines : plan.options.lines ≡ number_or default_lines (first_of (codes "lines") rows)
+  pub addresses : plan.options.addresses ≡ is_given (first_of (codes "addresses") rows)
 
 -- A number that is given is one below 2^64.
 abbrev pub IsNumber : Option Text → Type 0
@@ -54,7 +58,9 @@ pub record IsPlanOf (name : Text) (rows : List Row) (plan : Plan) : Type 0 where
   pub says : Says name rows plan
   pub journal : IsNumber (first_of (codes "journal") rows)
   pub steps : IsNumber (first_of (codes "steps") rows)
+  pub lines : IsNumber (first_of (codes "lines") rows)
   pub limit : IsLimit plan.options.limit
+  pub most : IsLimit plan.options.lines
 
 -- A plan says what the words say, the program's name first, and `clap` finds no fault in these words.
 pub record IsPlan (words : List Text) (plan : Plan) : Type 0 where

@@ -61,6 +61,22 @@ fn argument_of<'a>(alloc: Global, option: CliOption) -> Arg<'a>
             help::SECTION_LONG,
         ),
         CliOption::Entry => text_option(alloc, "entry", "NAME", help::ENTRY, help::ENTRY_LONG),
+        CliOption::Lines => text_option(
+            alloc,
+            "lines",
+            "N",
+            help::LINES_MOST,
+            help::LINES_MOST_LONG,
+        ).value_parser(value_parser!(u64).range(1..=GREATEST_COUNT.cast_signed()))
+            .default_value("1000"),
+        CliOption::Addresses => Arg::new(alloc, "addresses")
+            .long("addresses")
+            .action(ArgAction::SetTrue)
+            .help(help::ADDRESSES),
+        CliOption::What => Arg::new(alloc, "what")
+            .index(2)
+            .value_name("WHAT")
+            .help(help::WHAT),
     }
 }
 

@@ -28,8 +28,9 @@ pub const BPFDB_EXAMPLE: &str = "Example:
   1 back; done; at 0: add r0, 1
   2 back; done; at 0: add r0, 1
 
-Exit status: 0; 1 where `run` ends in a fault or at the limit of steps; 2 where the
-command line or the program is refused, input or output fails, or memory runs out.
+Exit status: 0; 1 where `run` ends in a fault or at the limit of steps, a test fails or
+an answer of `origin` is cut; 2 where the command line or the program is refused, input
+or output fails, or memory runs out.
 Results go to standard output, and so do the replies of a session, refusals among them.
 What ends bpfdb with status 1 or 2 is told on standard error.";
 
@@ -71,6 +72,29 @@ pub const DEBUG_EXAMPLE: &str = "Example:
   ok
   1 forward; break; at 1: jlt r0, 3, L0
   1 back; done; at 0: add r0, 1";
+
+pub const ORIGIN: &str = "Runs a program to its end and tells where a value came from";
+
+pub const ORIGIN_LONG: &str = "Runs a program to its end and tells where a value came from.
+
+Reads FILE and the context, and runs the program to its end or to the limit of steps. WHAT
+is r0 to r9, or ADDRESS:COUNT for 1 to 256 bytes of memory (ADDRESS alone is one byte).
+Without WHAT it is r0, or at a fault the registers of the address that isn't there.
+
+Writes to standard output where the program stands, then a line for each move that the
+value depends on, the newest first: how many moves back, what was written, the
+instruction, and what that read. At the end there is a line for each value that was there
+before the first kept move. What a branch decided by is not followed, and which register
+made an address only with --addresses. If the answer is cut (--lines), its last line says
+so, and the exit status is 1.";
+
+pub const ORIGIN_EXAMPLE: &str = "Example:
+  $ bpfdb origin --listing count.s
+  exited at 2: r0 0x3
+  -3 r0 = 0x3; 0: add r0, 1; from r0
+  -5 r0 = 0x2; 0: add r0, 1; from r0
+  -7 r0 = 0x1; 0: add r0, 1; from r0
+  left r0 = 0x0; at the opening";
 
 pub const ASM: &str = "Assembles a listing to raw words";
 
@@ -198,14 +222,14 @@ pub const JOURNAL: &str = "Bytes for moves that can be taken back, 1024 to 16777
 
 pub const JOURNAL_LONG: &str =
     "Size of the journal of moves that can be taken back, in bytes, 1024 to 16777216. Most
-steps take 7 or 16 of them. When it is full the oldest moves are dropped. As many bytes
-again are taken for redo. Example: --journal 1048576";
+steps take 7 or 16 of them. When it is full the oldest moves are dropped. `debug` and `gdb`
+take as many bytes again for redo. Example: --journal 1048576";
 
 /// `--steps`.
 pub const STEPS: &str = "Most steps of a run, or of one forward command, 1 to 1000000000";
 
 pub const STEPS_LONG: &str =
-    "Most steps of a run, or of one forward command, 1 to 1000000000. At this limit a run ends
+    "Most steps of a run, or of one forward command, 1 to 1000000000. At this limit `run` ends
 with exit status 1, and a command with the word limit. Example: --steps 5000";
 
 /// `--listing`.
@@ -232,6 +256,19 @@ pub const ENTRY: &str = "Function at which the program begins; without it the on
 pub const ENTRY_LONG: &str =
     "Name of the function of that section at which the program begins. Without it that is the
 only one that isn't static. Example: --entry handle";
+
+/// `--lines`.
+pub const LINES_MOST: &str = "Most lines of moves in an answer, 1 to 1000000000";
+
+pub const LINES_MOST_LONG: &str =
+    "Most lines of moves in an answer, 1 to 1000000000. If there are more, the last line is
+`cut: there are more lines`, and the exit status is 1. Example: --lines 20";
+
+/// `--addresses`.
+pub const ADDRESSES: &str = "Follows the registers that make addresses, too";
+
+/// WHAT.
+pub const WHAT: &str = "r0 to r9, or ADDRESS:COUNT; without it r0, or the address of a bad access";
 
 /// FILE.
 pub const PROGRAM: &str = "Program: its raw words, or with --listing its listing";

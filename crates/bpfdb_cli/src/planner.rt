@@ -8,7 +8,7 @@ ghost use Rattle.bpfdb_cli.specs.Plans.{HasKindIfTold, IsFaultOf, IsPlan, IsPlan
 use crate::command_line::command_line;
 use crate::plans::{Plan, PlanFault};
 use bpfdb_limits::{DEFAULT_JOURNAL, DEFAULT_LIMIT, is_limit};
-use bpfdb_options::{Options, Registers, Subcommand};
+use bpfdb_options::{DEFAULT_LINES, Options, Registers, Subcommand};
 use clap::error::ErrorKind;
 use clap::{ArgMatches, Command, Error};
 use std::alloc::Global;
@@ -94,11 +94,18 @@ fn plan_in<'a>(name: &'a str, found: &ArgMatches<'a>) -> Option<Plan<'a>>
         Some(limit) => limit,
         None => return None,
     };
+    let lines = match number_or(text_of(found, "lines"), DEFAULT_LINES) {
+        Some(lines) => lines,
+        None => return None,
+    };
     let registers = match registers_of(text_of(found, "registers")) {
         Some(registers) => registers,
         None => return None,
     };
     if !is_limit(limit) {
+        return None;
+    }
+    if !is_limit(lines) {
         return None;
     }
     Some(Plan {
@@ -113,6 +120,9 @@ fn plan_in<'a>(name: &'a str, found: &ArgMatches<'a>) -> Option<Plan<'a>>
             section: text_of(found, "section"),
             entry: text_of(found, "entry"),
             registers,
+            what: text_of(found, "what"),
+            lines,
+            addresses: is_given(text_of(found, "addresses")),
         },
     })
 }

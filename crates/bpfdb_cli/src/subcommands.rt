@@ -1,7 +1,7 @@
 //! The subcommands, as a table.
 use crate::help;
 
-/// An option that some of the subcommands take.
+/// An option that some of the subcommands take, or what follows FILE.
 #[derive(Clone, Copy)]
 pub(crate) enum CliOption {
     /// `-m PATH`, `--mem PATH`.
@@ -10,7 +10,7 @@ pub(crate) enum CliOption {
     Maps,
     /// `--journal J`.
     Journal,
-    /// `--journal J` of `gdb`, whose sessions are longer.
+    /// `--journal J` of `gdb` and `origin`, whose histories are longer.
     GdbJournal,
     /// `--steps N`.
     Steps,
@@ -22,6 +22,12 @@ pub(crate) enum CliOption {
     Section,
     /// `--entry NAME`.
     Entry,
+    /// `--lines N`.
+    Lines,
+    /// `--addresses`.
+    Addresses,
+    /// WHAT, behind FILE.
+    What,
 }
 
 /// A subcommand: its texts of help, and the options that it takes besides FILE.
@@ -36,7 +42,7 @@ pub(crate) struct CliSubcommand<'a> {
 }
 
 /// The subcommands, as help lists them.
-pub(crate) const SUBCOMMANDS: [CliSubcommand<'static>; 9] = [
+pub(crate) const SUBCOMMANDS: [CliSubcommand<'static>; 10] = [
     CliSubcommand {
         name: "run",
         about: help::RUN,
@@ -61,6 +67,23 @@ pub(crate) const SUBCOMMANDS: [CliSubcommand<'static>; 9] = [
             CliOption::Journal,
             CliOption::Steps,
             CliOption::Listing,
+        ],
+        file: help::PROGRAM,
+    },
+    CliSubcommand {
+        name: "origin",
+        about: help::ORIGIN,
+        long_about: help::ORIGIN_LONG,
+        example: help::ORIGIN_EXAMPLE,
+        options: &[
+            CliOption::Mem,
+            CliOption::Maps,
+            CliOption::GdbJournal,
+            CliOption::Steps,
+            CliOption::Listing,
+            CliOption::Lines,
+            CliOption::Addresses,
+            CliOption::What,
         ],
         file: help::PROGRAM,
     },

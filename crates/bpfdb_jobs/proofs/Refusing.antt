@@ -1,8 +1,8 @@
 -- Which refusals of a program, of a machine and of a session are the same.
-use Rattle.bpfdb_jobs.specs.Refusals.{Refuses, RefusesMachine, RefusesProgram}
+use Rattle.bpfdb_jobs.specs.Refusals.{Refuses, RefusesMachine, RefusesOrigin, RefusesProgram}
 use Rattle.bpfdb_jobs.specs.declared.job.Job.{Job}
 use Rattle.bpfdb_jobs.specs.declared.refusal.JobRefusal.{JobRefusal}
-use Rattle.bpfdb_jobs.specs.declared.refusal.JobRefusal.TheVariants.{Maps, Listing, Load, Open, Journal, Object, Tests}
+use Rattle.bpfdb_jobs.specs.declared.refusal.JobRefusal.TheVariants.{Maps, Listing, Load, Open, Journal, What, Object, Tests}
 
 -- a refusal of a program is one of a machine on it, and that one of a session over it
 pub program-machine : (job : Job) (refusal : JobRefusal) → RefusesProgram job refusal → RefusesMachine job refusal
@@ -11,6 +11,7 @@ program-machine job (Listing fault) p = p
 program-machine job (Load fault) p = p
 program-machine job (Open fault) p = absurd p
 program-machine job (Journal fault) p = absurd p
+program-machine job (What fault) p = absurd p
 program-machine job (Object fault) p = absurd p
 program-machine job (Tests fault line) p = absurd p
 
@@ -20,5 +21,17 @@ machine-session job (Listing fault) p = p
 machine-session job (Load fault) p = p
 machine-session job (Open fault) p = p
 machine-session job (Journal fault) p = absurd p
+machine-session job (What fault) p = absurd p
 machine-session job (Object fault) p = absurd p
 machine-session job (Tests fault line) p = absurd p
+
+-- a refusal of a session is one of `origin`
+pub session-origin : (job : Job) (refusal : JobRefusal) → Refuses job refusal → RefusesOrigin job refusal
+session-origin job (Maps fault) p = p
+session-origin job (Listing fault) p = p
+session-origin job (Load fault) p = p
+session-origin job (Open fault) p = p
+session-origin job (Journal fault) p = p
+session-origin job (What fault) p = absurd p
+session-origin job (Object fault) p = p
+session-origin job (Tests fault line) p = p

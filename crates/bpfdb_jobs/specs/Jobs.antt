@@ -10,6 +10,8 @@ use Rattle.bpf_link.specs.Shapes.{HasShapes}
 use Rattle.bpf_link.specs.declared.plan.Plan.{Plan}
 use Rattle.bpf_machine.specs.Platform.{context_limit}
 use Rattle.bpf_machine.specs.State.{State, initial}
+use Rattle.bpf_origin.specs.Answers.{Answer}
+use Rattle.bpf_origin.specs.declared.what.What.{What}
 use Rattle.bpf_session.specs.Plain.{ending_of, plain_end, text_of_ending}
 use Rattle.bpf_session.specs.Points.{opening}
 use Rattle.bpf_session.specs.Runs.{Standing}
@@ -21,9 +23,10 @@ use Rattle.bpf_text.specs.Listing.{IsListing}
 use Rattle.bpfdb_jobs.specs.Faults.{limit_line}
 use Rattle.bpfdb_replies.specs.Texts.{place}
 use Rattle.bpfdb_jobs.specs.MapLines.{maps_told}
+use Rattle.bpfdb_jobs.specs.Origins.{Asks, answer_by, found_text, status_of_extent}
 use Rattle.bpfdb_jobs.specs.declared.job.Job.{Job}
 use Rattle.bpfdb_options.specs.declared.subcommand.Subcommand.{Subcommand}
-use Rattle.bpfdb_options.specs.declared.subcommand.Subcommand.TheVariants.{Run, Debug, Gdb, Asm, Disasm, Lines, Check, Link, Test}
+use Rattle.bpfdb_options.specs.declared.subcommand.Subcommand.TheVariants.{Run, Debug, Origin, Gdb, Asm, Disasm, Lines, Check, Link, Test}
 
 -- The map table that a text names; no map where there is no text.
 abbrev pub HasMaps : Option (Bor (List ℕ)) → List MapShape → Type 0
@@ -102,6 +105,10 @@ run_print limit Limit end = stopped (limit_line limit end.pc)
 abbrev pub run_end : Job → Checked → State
 run_end job code = plain_end job.options.limit (initial code job.context.now)
 
+-- `origin`: where the machine stands, and where the values came from that are asked about.
+abbrev pub origin_print : State → Answer → Print
+origin_print end answer = record (printed (found_text end answer)) { status = status_of_extent answer.extent }
+
 -- `check`: how many instructions, and in how many slots.
 unfoldable pub check_line : Checked → List ℕ
 check_line code =
@@ -111,6 +118,8 @@ check_line code =
 abbrev pub Prints : Subcommand → Job → Print → Type 0
 Prints Run job a = (code : Checked) × Opens job code × (a ≡ run_print job.options.limit (ending_of (run_end job code).status) (run_end job code))
 Prints Debug job a = ⊥
+Prints Origin job a = (code : Checked) × (what : Option What) × OpensSession job code × Asks job.options.what (run_end job code) what
+    × (a ≡ origin_print (run_end job code) (answer_by job.options what (initial code job.context.now)))
 Prints Gdb job a = ⊥
 Prints Test job a = ⊥
 Prints Asm job a = (words : List ℕ) × IsListing job.file.now words × (a ≡ printed words)

@@ -5,6 +5,7 @@ pub mod Faults
 pub mod Jobs
 pub mod MapLines
 pub mod Openings
+pub mod Origins
 pub mod Refusals
 pub mod Scripts
 pub mod Suites

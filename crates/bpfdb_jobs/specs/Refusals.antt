@@ -1,4 +1,5 @@
--- Why a job is refused, in this order: its maps, its listing, its program, its context, its journal; its object; or its tests.
+-- Why a job is refused, in this order: its maps, its listing, its program, its context, its journal; what it asks about; its object; or its
+-- tests.
 use Rattle.std.specs.Prelude.{◌≡◌, List, [], ℕ, Some, true}
 use Rattle.std.specs.Borrow.{Bor}
 use Rattle.bpf_isa.specs.Checker.{IsRefused}
@@ -11,12 +12,13 @@ use Rattle.bpf_suite.specs.Faults as suite
 use Rattle.bpf_suite.specs.declared.fault.FileFault.TheVariants.{Line}
 use Rattle.bpf_machine.specs.Opening.{Refused}
 use Rattle.bpf_journal.specs.Opening.{RefusesSize}
-use Rattle.bpfdb_jobs.specs.Jobs.{HasMaps, HasWords, IsProgramOf, Opens, entry_of, section_of}
+use Rattle.bpfdb_jobs.specs.Jobs.{HasMaps, HasWords, IsProgramOf, Opens, OpensSession, entry_of, run_end, section_of}
+use Rattle.bpfdb_jobs.specs.Origins.{RefusesWhat}
 use Rattle.bpfdb_jobs.specs.declared.job.Job.{Job}
 use Rattle.bpfdb_jobs.specs.declared.refusal.JobRefusal.{JobRefusal}
-use Rattle.bpfdb_jobs.specs.declared.refusal.JobRefusal.TheVariants.{Maps, Listing, Load, Open, Journal, Object, Tests}
+use Rattle.bpfdb_jobs.specs.declared.refusal.JobRefusal.TheVariants.{Maps, Listing, Load, Open, Journal, What, Object, Tests}
 use Rattle.bpfdb_options.specs.declared.subcommand.Subcommand.{Subcommand}
-use Rattle.bpfdb_options.specs.declared.subcommand.Subcommand.TheVariants.{Run, Debug, Gdb, Asm, Disasm, Lines, Check, Link, Test}
+use Rattle.bpfdb_options.specs.declared.subcommand.Subcommand.TheVariants.{Run, Debug, Origin, Gdb, Asm, Disasm, Lines, Check, Link, Test}
 
 -- Each refusal comes where those before don't.
 abbrev pub Refuses : Job → JobRefusal → Type 0
@@ -27,6 +29,7 @@ Refuses job (Load fault) = (shapes : List MapShape) × HasMaps job.options.maps 
     × (words : List ℕ) × HasWords job.options.is_listing job.file.now words × IsRefused words shapes fault
 Refuses job (Open fault) = (code : Checked) × IsProgramOf job code × Refused job.context.now fault
 Refuses job (Journal fault) = (code : Checked) × Opens job code × RefusesSize job.options.journal fault
+Refuses job (What fault) = ⊥
 Refuses job (Object fault) = ⊥
 Refuses job (Tests fault line) = ⊥
 
@@ -39,6 +42,11 @@ RefusesProgram job refusal = Refuses job refusal
 abbrev pub RefusesMachine : Job → JobRefusal → Type 0
 RefusesMachine job (Journal fault) = ⊥
 RefusesMachine job refusal = Refuses job refusal
+
+-- `origin` looks at a session's, and then at what is asked about where the run has ended.
+abbrev pub RefusesOrigin : Job → JobRefusal → Type 0
+RefusesOrigin job (What fault) = (code : Checked) × OpensSession job code × RefusesWhat job.options.what (run_end job code) fault
+RefusesOrigin job refusal = Refuses job refusal
 
 abbrev pub RefusesListing : Job → JobRefusal → Type 0
 RefusesListing job (Listing fault) = IsFaultOf job.file.now fault
@@ -55,6 +63,7 @@ RefusesTests job refusal = ⊥
 abbrev pub RefusesAs : Subcommand → Job → JobRefusal → Type 0
 RefusesAs Run job refusal = RefusesMachine job refusal
 RefusesAs Debug job refusal = Refuses job refusal
+RefusesAs Origin job refusal = RefusesOrigin job refusal
 RefusesAs Gdb job refusal = Refuses job refusal
 RefusesAs Asm job refusal = RefusesListing job refusal
 RefusesAs Disasm job refusal = RefusesProgram job refusal

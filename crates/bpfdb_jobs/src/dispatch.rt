@@ -9,6 +9,7 @@ use crate::gdb::gdb_job;
 use crate::job::Job;
 use crate::listing::{asm_job, disasm_job, lines_job};
 use crate::object::link_job;
+use crate::origin::origin_job;
 use crate::run::run_job;
 use crate::suite::test_job;
 use bpfdb_options::Subcommand;
@@ -17,7 +18,7 @@ use std::alloc::Global;
 use std::io::{Read, Write};
 
 /// Does a job, and answers the exit status: 0; 1 where `run` ends in a fault of the program or at
-/// the limit of steps, and where a test fails; 2 where the job is refused, where input or output fails, and where memory
+/// the limit of steps, where a test fails, and where an answer of `origin` is cut; 2 where the job is refused, where input or output fails, and where memory
 /// runs out.
 ///
 /// Results, replies and answers go to the writer. A refusal, a fault or a limit is one line on
@@ -38,6 +39,7 @@ pub fn tool<R: Read, W: Write, E: Write>(
     match job.subcommand {
         Subcommand::Run => run_job(alloc, job, writer, errors),
         Subcommand::Debug => debug_job(alloc, job, reader, writer, errors),
+        Subcommand::Origin => origin_job(alloc, job, writer, errors),
         Subcommand::Gdb => gdb_job(alloc, job, reader, writer, errors),
         Subcommand::Asm => asm_job(alloc, job, writer, errors),
         Subcommand::Disasm => disasm_job(alloc, job, writer, errors),

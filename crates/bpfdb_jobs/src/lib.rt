@@ -13,6 +13,7 @@ mod maps;
 mod name;
 mod object;
 mod opening;
+mod origin;
 mod refusal;
 mod report;
 mod run;

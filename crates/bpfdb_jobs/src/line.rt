@@ -90,6 +90,9 @@ fn put_refusal<E: Write>(
         JobRefusal::Journal(fault) => {
             put_unplaced(errors, so_far, b"refused J", fault.number(), fault.text())
         }
+        JobRefusal::What(fault) => {
+            put_unplaced(errors, so_far, b"refused V", fault.number(), fault.text())
+        }
         JobRefusal::Object(fault) => put_object(errors, so_far, fault),
         JobRefusal::Tests(fault, line) => put_tests(errors, so_far, fault, *line),
     }

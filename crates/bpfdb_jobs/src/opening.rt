@@ -1,16 +1,17 @@
-//! What a job is done with: its program, a machine, a session.
-ghost use Rattle.std.specs.Prelude.{◌≡◌, IfErr, IfOk, true};
+//! What a job is done with: its program, a machine, a machine with its journal, a session.
+ghost use Rattle.std.specs.Prelude.{◌≡◌, IfErr, IfOk, false, true};
+ghost use Rattle.bpf_entries.specs.Status.{has_ended};
 ghost use Rattle.bpf_isa.specs.Programs.{Checked};
 ghost use Rattle.bpf_machine.specs.State.{initial};
 ghost use Rattle.bpfdb_jobs.specs.Jobs.{HasMaps, HasWords, IsProgramOf, Opens};
-ghost use Rattle.bpfdb_jobs.specs.Openings.{IsOpening};
+ghost use Rattle.bpfdb_jobs.specs.Openings.{IsOpening, IsStart};
 ghost use Rattle.bpfdb_jobs.specs.Refusals.{Refuses, RefusesMachine, RefusesProgram};
 ghost use Rattle.bpfdb_limits.specs.Limits.{IsLimit};
 
 use crate::job::Job;
 use crate::refusal::JobRefusal;
 use bpf_isa::{MapTable, Program, check};
-use bpf_journal::RingKeeper;
+use bpf_journal::{RingKeeper, Timeline};
 use bpf_machine::Cpu;
 use bpf_session::Session;
 use bpf_text::assemble;
@@ -94,6 +95,22 @@ pub fn machine_of(alloc: Global, job: &Job<'_>) -> Result<Cpu, JobRefusal>
     match Cpu::open(alloc, program, job.context) {
         Ok(cpu) => Ok(cpu),
         Err(fault) => Err(JobRefusal::Open(fault)),
+    }
+}
+
+/// A machine before its first step, with an empty journal.
+pub fn timeline_of(alloc: Global, job: &Job<'_>) -> Result<Timeline<RingKeeper>, JobRefusal>
+    ensures ok { IfOk result (IsStart job.now) }
+    ensures runs { IfOk result (λ timeline. has_ended timeline.state.status ≡ false) }
+    ensures err { IfErr result (Refuses job.now) }
+{
+    let cpu = match machine_of(alloc, job) {
+        Ok(cpu) => cpu,
+        Err(refusal) => return Err(refusal),
+    };
+    match RingKeeper::open(alloc, job.options.journal as usize) {
+        Ok(keeper) => Ok(Timeline::start(cpu, keeper)),
+        Err(fault) => Err(JobRefusal::Journal(fault)),
     }
 }
 

@@ -3,6 +3,7 @@ use bpf_isa::{LoadFault, MapFault};
 use bpf_journal::JournalFault;
 use bpf_link::LinkFault;
 use bpf_machine::OpenFault;
+use bpf_origin::WhatFault;
 use bpf_suite::SectionFault;
 use bpf_text::AsmFault;
 
@@ -19,6 +20,8 @@ pub enum JobRefusal {
     Open(OpenFault),
     /// The journal can't be opened.
     Journal(JournalFault),
+    /// What is asked about isn't in the machine.
+    What(WhatFault),
     /// No program is made of the object.
     Object(LinkFault),
     /// A test file has this fault, in this line.

@@ -5,6 +5,6 @@ mod options;
 mod registers;
 mod subcommand;
 
-pub use options::{NO_OPTIONS, Options};
+pub use options::{DEFAULT_LINES, NO_OPTIONS, Options};
 pub use registers::Registers;
 pub use subcommand::Subcommand;

@@ -2,6 +2,9 @@
 use crate::registers::Registers;
 use bpfdb_limits::{DEFAULT_JOURNAL, DEFAULT_LIMIT};
 
+/// The most lines of an answer where no number is given.
+pub const DEFAULT_LINES: u64 = 1_000;
+
 /// Options. One that a subcommand doesn't have stands as when it is absent.
 #[derive(Clone, Copy)]
 pub struct Options<'a> {
@@ -20,6 +23,13 @@ pub struct Options<'a> {
     pub entry: Option<&'a str>,
     /// The machine that gdb takes this one for.
     pub registers: Registers,
+    /// What is asked about, as `r1` or `0x200000000:8`; without it what is of interest where the
+    /// machine stands.
+    pub what: Option<&'a str>,
+    /// The most lines of an answer, 1 to 1,000,000,000.
+    pub lines: u64,
+    /// An answer follows the registers that make addresses, too.
+    pub addresses: bool,
 }
 
 /// The options where each is absent.
@@ -31,4 +41,7 @@ pub const NO_OPTIONS: Options<'static> = Options {
     section: None,
     entry: None,
     registers: Registers::X86,
+    what: None,
+    lines: DEFAULT_LINES,
+    addresses: false,
 };

@@ -9,6 +9,8 @@ pub enum Subcommand {
     Run,
     /// A script of commands is obeyed.
     Debug,
+    /// The program runs, and where a value came from is told.
+    Origin,
     /// gdb is served.
     Gdb,
     /// A listing is assembled.
@@ -35,6 +37,7 @@ impl Subcommand {
         match name {
             "run" => Some(Subcommand::Run),
             "debug" => Some(Subcommand::Debug),
+            "origin" => Some(Subcommand::Origin),
             "gdb" => Some(Subcommand::Gdb),
             "asm" => Some(Subcommand::Asm),
             "disasm" => Some(Subcommand::Disasm),

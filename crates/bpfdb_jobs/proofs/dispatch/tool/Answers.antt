@@ -13,6 +13,11 @@ returns-in-Debug-clause-does g c =
     subst (λ (s : Subcommand). DoesJob g.R.Read.remaining g.W.Write.contents g.E.Write.contents s c.args.job.now c.args.reader.now c.debug_job.new.reader
     c.args.writer.now c.debug_job.new.writer c.args.errors.now c.debug_job.new.errors c.debug_job.result) (sym c.in-Debug.is) c.debug_job.ensures.does
 
+pub returns-in-Origin-clause-does : goal.returns-in-Origin-clause-does
+returns-in-Origin-clause-does g c =
+    subst (λ (s : Subcommand). DoesJob g.R.Read.remaining g.W.Write.contents g.E.Write.contents s c.args.job.now c.args.reader.now c.args.reader.now
+    c.args.writer.now c.origin_job.new.writer c.args.errors.now c.origin_job.new.errors c.origin_job.result) (sym c.in-Origin.is) (refl, c.origin_job.ensures.does)
+
 pub returns-in-Gdb-clause-does : goal.returns-in-Gdb-clause-does
 returns-in-Gdb-clause-does g c =
     subst (λ (s : Subcommand). DoesJob g.R.Read.remaining g.W.Write.contents g.E.Write.contents s c.args.job.now c.args.reader.now c.gdb_job.new.reader

@@ -1,0 +1,16 @@
+use Rattle.std.proofs.Common.{◌++◌, codes}
+use Rattle.std.proofs.lemmas.List.{append-nil}
+use Rattle.bpf_origin.specs.Asked as spec
+use Rattle.bpfdb_replies.specs.Texts.{place}
+use Rattle.counted_io.proofs.Appending.{Writes-text}
+use Rattle.bpfdb_jobs.proofs.origin.put_found.Goals as goal
+
+pub returns-clause-text : goal.returns-clause-text
+returns-clause-text g c = λ h stands.
+    let x = c.args.timeline.now.state in
+    let text = (spec.answer_about c.args.question c.args.parts.now h x).text in
+    let placed = rw c.cpu.ensures at c.write_place-placed.ensures in
+    let ended = c.put-ended.ensures _ _ placed in
+    let told = c.put_answer-told.ensures.text h stands _ _ ended in
+    let last = c.flush_after.ensures _ _ told in
+    Writes-text g.W.Write.contents _ _ _ _ _ last (append-nil (place x ++ codes "\n" ++ text))

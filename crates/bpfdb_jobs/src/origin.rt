@@ -1,0 +1,156 @@
+//! What a job of `origin` does.
+ghost use Rattle.std.specs.Prelude.{◌≡◌, ◌≤◌, [], IfErr, IfOk, List, Option, false};
+ghost use Rattle.bpf_entries.specs.Status.{has_ended};
+ghost use Rattle.bpf_journal.specs.Histories.{Record, StandsFor};
+ghost use Rattle.bpf_journal.specs.Runs.{history_after};
+ghost use Rattle.bpf_journal.specs.Tracks.{RingHolds, ring_room};
+ghost use Rattle.bpf_origin.specs.Asked as spec;
+ghost use Rattle.bpf_origin.specs.declared.what.What.{What as Asked};
+ghost use Rattle.bpf_session.specs.Plain.{plain_end, plain_steps};
+ghost use Rattle.counted_io.specs.Writing.{Writes, WritesAfter};
+ghost use Rattle.bpfdb_jobs.specs.Endings.{EndsPrinted};
+ghost use Rattle.bpfdb_jobs.specs.Origins.{Asks, RefusesWhat, found_text, status_of_extent};
+ghost use Rattle.bpfdb_limits.specs.Limits.{IsLimit};
+ghost use Rattle.bpfdb_options.specs.declared.subcommand.Subcommand.TheVariants.{Origin};
+
+use crate::fault::JobFault;
+use crate::job::Job;
+use crate::opening::timeline_of;
+use crate::refusal::JobRefusal;
+use crate::report::give_up;
+use bpf_journal::{Keeper, RingKeeper, StopTest, Timeline};
+use bpf_machine::Cpu;
+use bpf_origin::{Extent, Part, Parts, Question, Told, What, WhatFault, parts_asked, put_answer};
+use bpfdb_replies::write_place;
+use counted_io::{Counted, WriteFault, put};
+use std::alloc::Global;
+use std::io::Write;
+
+/// A run that nothing stops but the machine's end and the most steps.
+#[derive(Clone, Copy)]
+struct ToTheEnd;
+
+impl StopTest for ToTheEnd {
+    ghost test = { λ s replaced x. false };
+
+    #[inline(always)]
+    fn holds(&self, _cpu: &Cpu, _replaced: bool) -> bool {
+        false
+    }
+}
+
+/// Runs the program to its end or to the limit, and writes where the machine stands and where the
+/// values came from that are asked about.
+pub fn origin_job<W: Write, E: Write>(
+    alloc: Global,
+    job: &Job<'_>,
+    writer: &mut Counted<W>,
+    errors: &mut Counted<E>,
+) -> u8
+    requires limit { IsLimit job.now.options.limit }
+    ensures does { EndsPrinted W.contents E.contents Origin job.now writer.old writer.new errors.old
+        errors.new result }
+    ensures status { result ≤ 2 }
+{
+    let mut timeline = match timeline_of(alloc, job) {
+        Ok(timeline) => timeline,
+        Err(refusal) => return give_up(errors, &JobFault::Refused(refusal)),
+    };
+    let steps = take_steps(&mut timeline, job.options.limit);
+    let parts = match parts_of(job, timeline.cpu()) {
+        Ok(parts) => parts,
+        Err(fault) => return give_up(errors, &JobFault::Refused(JobRefusal::What(fault))),
+    };
+    let question = Question {
+        addresses: job.options.addresses,
+        lines: job.options.lines,
+        opening: timeline.len() as u64 == steps,
+    };
+    let told = put_found(&mut timeline, parts.as_slice(), question, writer);
+    match told.written {
+        Ok(()) => status_of(told.extent),
+        Err(WriteFault) => give_up(errors, &JobFault::Output),
+    }
+}
+
+/// Takes steps until the machine has ended, at most the limit, and keeps them. Answers how many.
+fn take_steps(timeline: &mut Timeline<RingKeeper>, limit: u64) -> u64
+    requires limit { IsLimit limit }
+    requires runs { has_ended timeline.old.state.status ≡ false }
+    ensures steps { result ≡ plain_steps limit timeline.old.state }
+    ensures state { timeline.new.state ≡ plain_end limit timeline.old.state }
+    ensures kept { (h : List Record) →
+        StandsFor RingHolds timeline.old.keeper timeline.old.state h →
+        StandsFor RingHolds timeline.new.keeper timeline.new.state
+        (history_after (ring_room timeline.old.keeper) result timeline.old.state h) }
+{
+    let run = timeline.run(limit, &ToTheEnd);
+    run.steps
+}
+
+/// What is asked about of a machine.
+fn parts_of(job: &Job<'_>, cpu: &Cpu) -> Result<Parts, WhatFault>
+    ensures ok { IfOk result (λ parts. (what : Option Asked)
+        × Asks job.now.options.what cpu.now what
+        × (parts.items ≡ spec.parts_asked cpu.now what)) }
+    ensures err { IfErr result (RefusesWhat job.now.options.what cpu.now) }
+{
+    match job.options.what {
+        Some(text) => match What::find(text.as_bytes(), cpu) {
+            Ok(what) => Ok(parts_asked(cpu, Some(what))),
+            Err(fault) => Err(fault),
+        },
+        None => Ok(parts_asked(cpu, None)),
+    }
+}
+
+/// Writes where a machine stands, and where the values of these parts came from, and flushes.
+fn put_found<K: Keeper, W: Write>(
+    timeline: &mut Timeline<K>,
+    parts: &[Part],
+    question: Question,
+    writer: &mut Counted<W>,
+) -> Told
+    ensures text { (h : List Record) →
+        StandsFor K.holds timeline.old.keeper timeline.old.state h →
+        Writes W.contents writer.old writer.new result.written (found_text timeline.old.state
+        (spec.answer_about question parts.now h timeline.old.state)) }
+    ensures extent { (h : List Record) →
+        StandsFor K.holds timeline.old.keeper timeline.old.state h →
+        result.extent ≡ (spec.answer_about question parts.now h timeline.old.state).extent }
+{
+    let placed = write_place(timeline.cpu(), writer);
+    let ended = put(writer, placed, b"\n");
+    let told = put_answer(timeline, parts, question, writer, ended);
+    Told {
+        written: flush_after(writer, told.written),
+        extent: told.extent,
+    }
+}
+
+/// Flushes after what was written so far, unless that failed.
+fn flush_after<W: Write>(
+    writer: &mut Counted<W>,
+    so_far: Result<(), WriteFault>,
+) -> Result<(), WriteFault>
+    ensures { WritesAfter W.contents writer.old so_far writer.new result [] }
+{
+    match so_far {
+        Ok(()) => {}
+        Err(fault) => return Err(fault),
+    }
+    match writer.flush() {
+        Ok(()) => Ok(()),
+        Err(_) => Err(WriteFault),
+    }
+}
+
+/// The exit status of an answer: 1 where it is cut.
+fn status_of(extent: Extent) -> u8
+    ensures { result ≡ status_of_extent extent }
+{
+    match extent {
+        Extent::Whole => 0,
+        Extent::Lines | Extent::Places => 1,
+    }
+}

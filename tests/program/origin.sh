@@ -1,0 +1,184 @@
+# Where a value came from: what is asked about and what is refused, what is told, where an answer is cut, and what a journal has dropped. What is wanted was
+# worked out by hand from what each instruction reads and writes, and from what its entry weighs (docs/JOURNAL.md).
+
+# listing NAME LINE: writes a listing; the line is as printf's %b reads it, with `;` between instructions.
+listing() {
+    printf '%b\n' "$2" | tr ';' '\n' > "$1"
+}
+
+# tells STATUS OUTPUT ARGUMENT..: the answer and the status; nothing is on standard error, and the script stays unread.
+tells() {
+    status=$1 output=$2
+    shift 2
+    row "bpfdb $*" "$status" "$script_unread" "$output" '' "$@"
+}
+
+listing count.s 'loop: add r0, 1;jlt r0, 3, loop;exit'
+listing one.s 'mov r0, 1;exit'
+listing load.s 'ldxb r0, [r1+0];exit'
+listing endless.s 'l: ja l'
+bytes context 2a 01 00
+bytes count.bin 07 00 00 00 01 00 00 00 a5 00 fe ff 03 00 00 00 EXIT
+
+# A register, by its name or where nothing is named; an end at the limit of steps, and one step before the program's.
+three='-3 r0 = 0x3; 0: add r0, 1; from r0\n-5 r0 = 0x2; 0: add r0, 1; from r0\n-7 r0 = 0x1; 0: add r0, 1; from r0\nleft r0 = 0x0; at the opening\n'
+tells 0 "exited at 2: r0 0x3\n$three" origin --listing count.s
+tells 0 "exited at 2: r0 0x3\n$three" origin --listing count.s r0
+tells 0 "exited at 2: r0 0x3\n$three" origin count.bin r0
+tells 0 "exited at 2: r0 0x3\n$three" origin --steps 7 count.bin
+tells 0 'at 2: exit\n-2 r0 = 0x3; 0: add r0, 1; from r0\n-4 r0 = 0x2; 0: add r0, 1; from r0\n-6 r0 = 0x1; 0: add r0, 1; from r0\nleft r0 = 0x0; at the opening\n' \
+    origin --steps 6 count.bin
+tells 0 'at 0: add r0, 1\n-2 r0 = 0x1; 0: add r0, 1; from r0\nleft r0 = 0x0; at the opening\n' origin --steps 2 count.bin
+tells 0 'at 1: jlt r0, 3, L0\n-1 r0 = 0x1; 0: add r0, 1; from r0\nleft r0 = 0x0; at the opening\n' origin --steps 1 count.bin
+# (a jump weighs 7 bytes: the journal of 4,194,304 has room for 599,186 of them)
+tells 0 'at 0: ja L0\nleft r0 = 0x0; at the opening\n' origin --steps 599186 --listing endless.s
+tells 0 'at 0: ja L0\nleft r0 = 0x0; before the kept history\n' origin --steps 599187 --listing endless.s
+tells 0 'at 0: ja L0\nleft r0 = 0x0; before the kept history\n' origin --listing endless.s
+for number in 3 4 5 6 7 8 9; do
+    tells 0 "exited at 1: r0 0x1\nleft r$number = 0x0; at the opening\n" origin --listing one.s r$number
+done
+tells 0 'exited at 1: r0 0x2a\nleft r1 = 0x100000000; at the opening\n' origin -m context --listing load.s r1
+tells 0 'exited at 1: r0 0x2a\nleft r2 = 0x3; at the opening\n' origin --listing load.s r2 -m context
+
+# Faults: of an access the registers of its address, of which r10 is none; of another kind r0.
+listing far.s 'mov r3, 5;stxdw [r3+0], r1;exit'
+tells 0 'fault access 0x5 at 1\n-2 r3 = 0x5; 0: mov r3, 5\n' origin --listing far.s
+tells 0 'fault access 0x5 at 1\nleft r1 = 0x0; at the opening\n' origin --listing far.s r1
+listing frame.s 'ldxb r0, [r10+0];exit'
+tells 0 'fault access 0x200000200 at 0\n' origin --listing frame.s
+listing deep.s 'f: callf f;exit'
+tells 0 'fault depth at 0\nleft r0 = 0x0; at the opening\n' origin --listing deep.s
+
+# Bytes: of the context, with their place there; of a frame; of a map. Decimal and hexadecimal, with leading zeros, 1 to 256 of them.
+tells 0 'exited at 1: r0 0x2a\nleft 0x100000000 = 0x2a; byte 0 of the context; at the opening\nleft 0x100000001 = 0x1; byte 1 of the context; at the opening\nleft 0x100000002 = 0x0; byte 2 of the context; at the opening\n' \
+    origin -m context --listing load.s 0x100000000:3
+for what in 0x100000001 0x100000001:1 4294967297 4294967297:0x1 0x0100000001:01; do
+    tells 0 'exited at 1: r0 0x2a\nleft 0x100000001 = 0x1; byte 1 of the context; at the opening\n' origin -m context --listing load.s $what
+done
+listing store.s 'stw [r10-8], 0x1234;stb [r10-7], 7;mov r0, 0;exit'
+tells 0 'exited at 3: r0 0x0\n-3 0x2000001f9:1 = 0x7; 1: stb [r10-7], 7\n-4 0x2000001f8:4 = 0x1234; 0: stw [r10-8], 4660\n' origin --listing store.s 0x2000001f8:2
+tells 0 'exited at 3: r0 0x0\n-4 0x2000001f8:4 = 0x1234; 0: stw [r10-8], 4660\nleft 0x2000001fc = 0x0; at the opening\n' origin --listing store.s 0x2000001fb:2
+listing cell.s 'ldmapval r1, 0, 8;ldxb r0, [r1+7];exit'
+tells 0 'exited at 3: r0 0x0\n-2 r0 = 0x0; 2: ldxb r0, [r1+7]; from 0x30000000f:1\nleft 0x30000000f = 0x0; at the opening\n' origin --maps 8x2 --listing cell.s
+whole=$(awk 'BEGIN { for (i = 0; i < 256; i++) printf "left 0x2000000%02x = 0x0; at the opening\\n", i }')
+tells 0 "exited at 1: r0 0x1\n$whole" origin --listing one.s 0x200000000:256
+tells 0 "exited at 1: r0 0x1\n$whole" origin --listing one.s 0x200000000:0x100
+
+# What names nothing, and what isn't there. It is looked at last.
+v1='refused V1: neither r0 to r9 nor ADDRESS:COUNT'
+v2='refused V2: address not present'
+for what in r10 r11 r R0 r00 r0: r0:1 '' ' ' ' r0' 'r0 ' x 0x 0x200000000: :1 : 0x200000000:0 0x200000000:257 0x200000000:1:1 '0x200000000: 1' 0x200000000:-1 0x200000000,1 \
+    18446744073709551616 0x10000000000000000 0x200000000:18446744073709551616 pc word
+do
+    refused "$v1" origin --listing one.s "$what"
+done
+for what in 0 0x0 0x1ffffffff 0x200000200 0x2000001ff:2 0x100000000 0x300000000 18446744073709551615 0xffffffffffffffff:256 0x200000101:256; do
+    refused "$v2" origin --listing one.s "$what"
+done
+refused "$v2" origin -m context --listing load.s 0x100000003
+refused "$v2" origin -m context --listing load.s 0x100000000:4
+refused "$v2" origin --maps 8x2 --listing cell.s 0x300000010
+refused "$v2" origin --maps 8x2 --listing cell.s 0x30000000f:2
+head -c 65537 /dev/zero > long
+refused 'cannot read absent' origin -m missing absent r10
+refused 'cannot read missing' origin -m missing --maps 0x1 one.s r10
+refused 'refused M1: value size not 1 to 256' origin -m long --maps 0x1 --listing count.bin r10
+refused 'refused A6 at line 1: byte outside ASCII text' origin -m long --listing count.bin r10
+refused 'refused C3: length is no multiple of 8' origin -m long context r10
+refused 'refused O1: context too long' origin -m long --journal 1023 count.bin r10
+refused 'refused J1: journal size out of range' origin --journal 1023 count.bin r10
+refused 'refused J1: journal size out of range' origin --journal 16777217 count.bin
+tells 0 "exited at 2: r0 0x3\n$three" origin --journal 16777216 count.bin
+
+# An answer that is cut, and one that has as many lines as there may be.
+tells 0 "exited at 2: r0 0x3\n$three" origin --lines 3 count.bin
+tells 0 "exited at 2: r0 0x3\n$three" origin --lines=1000000000 count.bin
+tells 1 'exited at 2: r0 0x3\n-3 r0 = 0x3; 0: add r0, 1; from r0\n-5 r0 = 0x2; 0: add r0, 1; from r0\ncut: there are more lines\n' origin --lines 2 count.bin
+tells 1 'exited at 2: r0 0x3\n-3 r0 = 0x3; 0: add r0, 1; from r0\ncut: there are more lines\n' origin --lines 1 count.bin
+listing further.s 'mov r3, 4;add r3, 1;ldxb r0, [r3+0];exit'
+tells 1 'fault access 0x5 at 2\n-2 r3 = 0x5; 1: add r3, 1; from r3\ncut: there are more lines\n' origin --lines 1 --listing further.s
+
+# loads N: the program that adds up N numbers of eight bytes of the context, and what is told of its r0. Backwards each of them adds eight wanted
+# places and needs a ninth, r0, but the first one, which r0 is.
+loads() {
+    awk -v n="$1" 'BEGIN {
+        print "ldxdw r0, [r1+0]"
+        for (i = 1; i < n; i++) printf "ldxdw r2, [r1+%d]\nadd r0, r2\n", 8 * i
+        print "exit"
+    }' > loads.s
+    awk -v n="$1" -v most="$2" 'BEGIN {
+        steps = 2 * n
+        printf "exited at %d: r0 0x0\n", steps - 1
+        for (i = n - 1; i >= 1; i--) {
+            if (lines++ == most) { print "cut: there are more lines"; exit }
+            printf "-%d r0 = 0x0; %d: add r0, r2; from r0 r2\n", steps - 2 * i, 2 * i
+            if (lines++ == most) { print "cut: there are more lines"; exit }
+            printf "-%d r2 = 0x0; %d: ldxdw r2, [r1+%d]; from 0x1%08x:8\n", steps - 2 * i + 1, 2 * i - 1, 8 * i, 8 * i
+            if (8 * (n - i) + 1 > 4096) { print "cut: more than 4096 places are wanted"; exit }
+        }
+        if (lines == most) { print "cut: there are more lines"; exit }
+        printf "-%d r0 = 0x0; 0: ldxdw r0, [r1+0]; from 0x100000000:8\n", steps
+        for (i = n - 1; i >= 0; i--) for (k = 8 * i; k < 8 * i + 8; k++) printf "left 0x1%08x = 0x0; byte %d of the context; at the opening\n", k, k
+    }' > told
+}
+
+# tells_loads STATUS N MOST ARGUMENT..: the answer about that program.
+tells_loads() {
+    status=$1 n=$2
+    loads "$2" "$3"
+    shift 3
+    run origin -m page --listing loads.s "$@"
+    echo "$status" > wanted/status
+    cp told wanted/out
+    : > wanted/err
+    compare "bpfdb origin of $n loads, $*"
+}
+
+head -c 4104 /dev/zero > page
+tells_loads 0 2 1000
+tells_loads 0 512 2000 --lines 2000
+tells_loads 0 512 1023 --lines 1023
+tells_loads 1 512 1022 --lines 1022
+tells_loads 1 512 1000
+tells_loads 1 513 2000 --lines 2000
+tells_loads 1 513 1024 --lines 1024
+tells_loads 1 513 1023 --lines 1023
+
+# What the journal has dropped. The end weighs 5 bytes, a jump 7, an addition 16: so 1,024 bytes hold the end and 44 rounds with 7 to spare, and of 45
+# all but the first addition.
+for rounds in 44 45; do
+    listing rounds.s "loop: add r0, 1;jlt r0, $rounds, loop;exit"
+    output=$(awk -v n="$rounds" 'BEGIN {
+        printf "exited at 2: r0 0x%x\\n", n
+        for (i = n; i > n - 44; i--) printf "-%d r0 = 0x%x; 0: add r0, 1; from r0\\n", 2 * (n - i) + 3, i
+        printf "left r0 = 0x%x; %s\\n", n - 44, n == 44 ? "at the opening" : "before the kept history"
+    }')
+    tells 0 "$output" origin --journal 1024 --listing rounds.s
+done
+tells 0 'exited at 2: r0 0x2d\nleft r1 = 0x0; before the kept history\n' origin --journal 1024 --listing rounds.s r1
+tells 0 'exited at 2: r0 0x2d\nleft r1 = 0x0; at the opening\n' origin --journal 1040 --listing rounds.s r1
+tells 0 'exited at 2: r0 0x2d\nleft r1 = 0x0; before the kept history\n' origin --journal 1039 --listing rounds.s r1
+
+# Registers that make addresses, on demand: the base of a load and of a store. r10 is none.
+listing pointer.s 'stxdw [r10-8], r1;mov r2, r10;ldxdw r0, [r2-8];exit'
+tells 0 'exited at 3: r0 0x0\n-2 r0 = 0x0; 2: ldxdw r0, [r2-8]; from 0x2000001f8:8\n-4 0x2000001f8:8 = 0x0; 0: stxdw [r10-8], r1; from r1\nleft r1 = 0x0; at the opening\n' \
+    origin --listing pointer.s
+tells 0 'exited at 3: r0 0x0\n-2 r0 = 0x0; 2: ldxdw r0, [r2-8]; from 0x2000001f8:8 r2\n-3 r2 = 0x200000200; 1: mov r2, r10\n-4 0x2000001f8:8 = 0x0; 0: stxdw [r10-8], r1; from r1\nleft r1 = 0x0; at the opening\n' \
+    origin --addresses --listing pointer.s
+tells 1 'exited at 3: r0 0x0\n-2 r0 = 0x0; 2: ldxdw r0, [r2-8]; from 0x2000001f8:8 r2\n-3 r2 = 0x200000200; 1: mov r2, r10\ncut: there are more lines\n' \
+    origin --listing --lines 2 pointer.s r0 --addresses
+
+# Functions: each has r6 to r9 of its own, which begin as the caller's; a frame that is entered is zero.
+listing calls.s 'mov r6, 5;callf other;callf sum;exit;sum: mov r0, r6;ldxdw r2, [r10-8];add r0, r2;exit;other: mov r6, 7;stdw [r10-8], 3;exit'
+tells 0 'exited at 3: r0 0x5\n-3 r0 = 0x5; 6: add r0, r2; from r0 r2\n-4 r2 = 0x0; 5: ldxdw r2, [r10-8]; from 0x2000005f8:8\n-5 r0 = 0x5; 4: mov r0, r6; from r6 at depth 1\n-6 0x200000400:512; 2: callf L4\n-11 r6 = 0x5; 0: mov r6, 5\n' \
+    origin --listing calls.s
+tells 0 'exited at 3: r0 0x5\n-11 r6 = 0x5; 0: mov r6, 5\n' origin --listing calls.s r6
+tells 0 'at 9: stdw [r10-8], 3\n-1 r6 at depth 1 = 0x7; 8: mov r6, 7\n' origin --listing --steps 3 calls.s r6
+tells 0 'at 8: mov r6, 7\n-2 r6 = 0x5; 0: mov r6, 5\n' origin --listing --steps 2 calls.s r6
+
+# A jump is not followed, and a move of two parts is one line.
+listing jump.s 'mov r1, 1;jne r1, 0, far;mov r0, 2;far: mov r0, 3;exit'
+tells 0 'exited at 4: r0 0x3\n-2 r0 = 0x3; 3: mov r0, 3\n' origin --listing jump.s
+listing fetch.s 'stdw [r10-8], 1;mov r1, 2;stb [r10-7], 3;atomic_fetch_add64 [r10-8], r1;ldxb r0, [r10-6];exit'
+tells 0 'exited at 5: r0 0x0\n-2 r0 = 0x0; 4: ldxb r0, [r10-6]; from 0x2000001fa:1\n-3 r1 = 0x301; 0x2000001f8:8 = 0x303; 3: atomic_fetch_add64 [r10-8], r1; from r1 0x2000001f8:8\n-4 0x2000001f9:1 = 0x3; 2: stb [r10-7], 3\n-5 r1 = 0x2; 1: mov r1, 2\n-6 0x2000001f8:8 = 0x1; 0: stdw [r10-8], 1\n' \
+    origin --listing fetch.s
