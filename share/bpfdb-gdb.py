@@ -343,7 +343,7 @@ def value_type(name, size):
 
 class Load(Asker):
     """bpf-load FILE [OPTIONS]: links an object of clang, or assembles a listing, loads its symbols, and starts it in bpfdb. OPTIONS are those of
-    'bpfdb gdb', and --section and --entry NAME. Without words it starts the same anew. Breakpoints stay."""
+    'bpfdb gdb', and --section NAME, --entry NAME and --stub NUMBER=VALUE. Without words it starts the same anew. Breakpoints stay."""
 
     def __init__(self):
         super().__init__("bpf-load", gdb.COMMAND_RUNNING, gdb.COMPLETE_FILENAME)
@@ -390,14 +390,15 @@ def load_object(file, options, base):
     """Links an object to files of this name. Answers the options with which bpfdb starts it, FILE behind them."""
     section, options = taken(options, "--section")
     entry, options = taken(options, "--entry")
-    program = called("bpfdb", ["link", *section, *entry, file])
+    stubs, options = taken(options, "--stub")
+    program = called("bpfdb", ["link", *section, *entry, *stubs, file])
     with open(base + ".bin", "wb") as output:
         output.write(program.stdout)
     machine_words, _ = taken(options, "--registers")
     symbols = called("bpfdb-symbols", [*section, *entry, *machine_words, file, base + ".sym"])
     said = program.stderr.decode(errors="replace")
     if said.startswith("--maps ") and not taken(options, "--maps")[0]:
-        options = [*options, *said.split()]
+        options = [*options, *said.split()[:2]]
     gdb.write(symbols.stderr.decode(errors="replace"), gdb.STDERR)
     return [*options, base + ".bin"]
 

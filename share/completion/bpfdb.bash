@@ -11,6 +11,7 @@ _bpfdb() {
     --registers) mapfile -t COMPREPLY < <(compgen -W "x86 riscv bpf" -- "$word"); return ;;
     --section) :; return ;;
     --entry) :; return ;;
+    --stub) :; return ;;
     --lines) :; return ;;
     esac
     if [ "$COMP_CWORD" -eq "$first" ]; then
@@ -25,10 +26,10 @@ _bpfdb() {
     disasm) words="--maps --listing -h --help" ;;
     lines) words="-h --help" ;;
     check) words="--maps --listing -h --help" ;;
-    link) words="--section --entry -h --help" ;;
+    link) words="--section --entry --stub -h --help" ;;
     gdb) words="-m --mem --maps --journal --steps --listing --registers -h --help" ;;
     test) words="-h --help" ;;
-    shell) words="-m --mem --maps --journal --steps --listing --section --entry -h --help" ;;
+    shell) words="-m --mem --maps --journal --steps --listing --section --entry --stub -h --help" ;;
     help) words="run debug origin asm disasm lines check link gdb test" ;;
     *) return ;;
     esac

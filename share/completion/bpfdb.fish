@@ -25,6 +25,8 @@ complete -c bpfdb -n "__fish_seen_subcommand_from link" -l section -x -d "The co
 complete -c bpfdb-shell -l section -x -d "The code section to link"
 complete -c bpfdb -n "__fish_seen_subcommand_from link" -l entry -x -d "The function of that section at which the program begins"
 complete -c bpfdb-shell -l entry -x -d "The function of that section at which the program begins"
+complete -c bpfdb -n "__fish_seen_subcommand_from link" -l stub -x -d "Helpers whose calls are answered by a constant"
+complete -c bpfdb-shell -l stub -x -d "Helpers whose calls are answered by a constant"
 complete -c bpfdb -n "__fish_seen_subcommand_from origin" -l lines -x -d "The most lines of moves in an answer"
 complete -c bpfdb -n "__fish_seen_subcommand_from origin" -l addresses -d "The registers that make addresses are followed"
 complete -c bpfdb -s h -l help -d "Writes help to standard output"

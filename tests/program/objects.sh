@@ -70,8 +70,9 @@ refused 'refused E9: more than one code section' link two.o
 refused 'refused E30: more than one program in the code section' link programs.o
 refused 'refused E31: no such function in the code section' link --entry third programs.o
 # (both call helper 5, which isn't there; behind the jump to `second` that is a slot later)
-refused 'refused E25 at slot 7: unknown helper' link --entry first programs.o
-refused 'refused E25 at slot 8: unknown helper' link --section=prog --entry=second programs.o
+refused 'refused E25 at slot 7: unknown helper 5: --stub 5=VALUE answers it' link --entry first programs.o
+refused 'refused E25 at slot 8: unknown helper 5: --stub 5=VALUE answers it' link --section=prog --entry=second programs.o
+refused 'refused E25 at slot 7: unknown helper 5: --stub 5=VALUE answers it' link --entry first --stub 4=0,6=0 programs.o
 refused 'refused E19 at slot 1: symbol is not defined in the object' link extern.o
 long_name=$(printf '%0255d' 0)
 refused 'refused E8: no such code section' link --section "$long_name" calls.o
@@ -79,6 +80,41 @@ refused 'refused E7: section name longer than 255 bytes' link --section "${long_
 refused 'refused E7: section name longer than 255 bytes' link --section "${long_name}0" empty
 { head -c 64 text.o; printf '\377'; tail -c +66 text.o; } > unknown.o
 refused 'refused E25 at slot 0: unknown instruction' link unknown.o
+
+# Lists of stubs that are none, before all else. The first item with a fault is told: a helper that is answered already comes before what stands behind it. At each
+# limit of the numbers a list is taken (and `programs.o`, whose helper isn't in it, refused for that).
+for list in '' , 5 5= =0 5=0, ,5=0 5:0 5=0,,6=0 '5 =0' '5= 0' '5=0 ' 5=+0 +5=0 -5=0 5=- 5=--1 5=0x 5==0 5=0=0 5=a 'bpf_get_prandom_u32=0' 5=0,a=0 5=0;6=0; do
+    refused 'refused E32: malformed list of stubs' link --stub="$list" programs.o
+done
+for list in 4294967296=0 5=2147483648 5=-2147483649 5=18446744073709551616 99999999999999999999999=0 5=0xffffffff 5=0,6=2147483648; do
+    refused 'refused E33: helper or value of a stub out of range' link --stub "$list" programs.o
+done
+for list in 5=0,5=0 5=0,0x5=1 5=0,6=0,05=0 5=0,5=0,a 0=0,0=0; do
+    refused 'refused E34: two stubs of one helper' link --stub "$list" programs.o
+done
+sixteen=$(seq -s , 101 116 | sed 's/,/=0,/g')=0
+refused 'refused E35: more than 16 stubs' link --stub "$sixteen,117=0" programs.o
+refused 'refused E34: two stubs of one helper' link --stub "$sixteen,116=0" programs.o
+refused 'refused E32: malformed list of stubs' link --stub a empty
+for list in "$sixteen" 4294967295=0 0=0 4=2147483647 4=-2147483648 4=-0 4=0x7fffffff 4=-0x80000000 0004=0000; do
+    refused 'refused E25 at slot 7: unknown helper 5: --stub 5=VALUE answers it' link --entry first --stub "$list" programs.o
+done
+
+# Calls of helpers that a list answers are `mov r0, VALUE`: in `first` and `second` those of helper 5, whichever of them runs. What is told follows the maps.
+while IFS='|' read -r list value; do
+    bytes words $(printf '%s' "bf21000000000000 8510000002000000 0700000001000000 9500000000000000 bf10000000000000 6700000001000000 9500000000000000 b7000000$value bf06000000000000 b701000005000000 85100000f9ffffff 0f60000000000000 9500000000000000" | tr -d ' ' | sed 's/../& /g')
+    row "bpfdb link --stub $list" 0 "$script_unread" "$text" 'calls answered by --stub: 1\n' link --entry first --stub "$list" programs.o
+done <<'ROWS'
+5=7|07000000
+5=-1|ffffffff
+6=3,5=0x7fffffff|ffffff7f
+5=-2147483648|00000080
+ROWS
+"$program" link --entry first --stub 5=7 programs.o > found/out 2> /dev/full
+echo $? > found/status
+: > found/err
+bytes words $(printf '%s' 'bf21000000000000 8510000002000000 0700000001000000 9500000000000000 bf10000000000000 6700000001000000 9500000000000000 b700000007000000 bf06000000000000 b701000005000000 85100000f9ffffff 0f60000000000000 9500000000000000' | tr -d ' ' | sed 's/../& /g')
+check 'bpfdb link --stub, and standard error is full' 2 "$text" ''
 
 # The slot that is told of a relocation is one of the program that would come out: slots of `.text` count behind those of the section. In deep.o, which clang 14
 # made by -O2, `entry` has two slots, and the first one of `next` refers to data:
@@ -115,6 +151,17 @@ check_told() {
     count=$((count + 1))
     [ "$(cat told)" = "$1" ] || complain "what is told of maps: $1"
 }
+
+# What is told of calls follows the maps, also where nothing calls the helper; each call is counted, and none but that helper's is answered: the two of arrays.o
+# are of helper 1, and with r0 = 0 neither key is found.
+"$program" link --stub 5=0 arrays.o > arrays 2> told
+check_told '--maps 8x2,16x256
+calls answered by --stub: 0'
+"$program" link --stub 2=7,1=0 arrays.o > arrays 2> told
+check_told '--maps 8x2,16x256
+calls answered by --stub: 2'
+printf '\002\000\000\000' > context
+result '0x1\n' run --maps 8x2,16x256 -m context arrays
 
 # Data that aren't zeros at the start: the program stores them before its entry, which is slot 1, and needs no option but `--maps`. (In point.o the second
 # variable is the address of the last of three numbers, which is 3.)

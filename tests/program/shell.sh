@@ -124,7 +124,7 @@ if command -v python3 > /dev/null; then
 #!/bin/sh
 echo "$*" | sed 's|/dev/fd/[0-9]*|LINKED|' >> called
 case $1 in
-link) printf '\225\0\0\0\0\0\0\0' && printf -- '--maps 8x2 counters\nanswered 1 calls of helpers\n' >&2 ;;
+link) printf '\225\0\0\0\0\0\0\0' && printf -- '--maps 8x2 counters\ncalls answered by --stub: 1\n' >&2 ;;
 *) exec "$REAL" ;;
 esac
 SCRIPT
@@ -133,6 +133,7 @@ SCRIPT
         '-m context overrun.o|link -- overrun.o|debug -m context --maps 8x2 -- LINKED' \
         '--section filter overrun.o --steps 9|link --section filter -- overrun.o|debug --steps 9 --maps 8x2 -- LINKED' \
         '--entry=entry --section xdp --maps=1x1 overrun.o|link --entry=entry --section xdp -- overrun.o|debug --maps=1x1 -- LINKED' \
+        '--stub 5=0,14=-1 overrun.o|link --stub 5=0,14=-1 -- overrun.o|debug --maps 8x2 -- LINKED' \
         '--journal=1024 sum.s|debug --journal=1024 --listing -- sum.s' \
         '--listing -m context -- sum.s|debug --listing -m context -- sum.s' \
         '--entry entry context|debug --entry entry -- context'; do

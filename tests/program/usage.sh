@@ -89,7 +89,7 @@ compare 'bpfdb asm first.s'
 # Options that the subcommand doesn't have.
 for absent in 'run --journal=65536' 'debug -j=65536' 'asm -m=context' 'asm --mem=context' 'asm --maps=8x2' 'asm --journal=65536' \
     'asm --steps=7' 'asm --listing' 'disasm -m=context' 'disasm --mem=context' 'disasm --journal=65536' 'disasm --steps=7' \
-    'check -m=context' 'check --mem=context' 'check --journal=65536' 'check --steps=7' 'run --section=a' 'debug --section=a' 'asm --section=a' 'run --entry=a' 'asm --entry=a' \
+    'check -m=context' 'check --mem=context' 'check --journal=65536' 'check --steps=7' 'run --section=a' 'debug --section=a' 'asm --section=a' 'run --entry=a' 'asm --entry=a' 'run --stub=5=0' 'debug --stub=5=0' \
     'disasm --section=a' 'check --section=a' 'link -m=context' 'link --mem=context' 'link --maps=8x2' 'link --journal=65536' 'link --steps=7' 'link --listing' 'gdb --section=a' \
     'origin --section=a' 'origin --entry=a' 'origin --registers=x86' 'run --lines=7' 'debug --lines=7' 'debug --addresses' 'gdb --lines=7' 'lines --lines=7' 'lines --listing' 'lines --maps=8x2' 'lines -m=context' 'lines --steps=7' 'lines --section=a' 'run --registers=x86' 'debug --registers=x86' 'test --listing' 'test --maps=8x2' 'test --steps=7'
 do
@@ -161,6 +161,8 @@ usage "a value is required for '--section <NAME>' but none was supplied" link fi
 usage "the argument '--section <NAME>' cannot be used multiple times" link --section a --section a first
 usage "a value is required for '--entry <NAME>' but none was supplied" link first --entry
 usage "the argument '--entry <NAME>' cannot be used multiple times" link --entry a --entry a first
+usage "a value is required for '--stub <NUMBER=VALUE>' but none was supplied" link first --stub
+usage "the argument '--stub <NUMBER=VALUE>' cannot be used multiple times" link --stub 5=0 --stub 6=0 first
 for number in 0x400 1k 1024.0; do
     usage "invalid value '$number' for '--journal <J>': invalid digit found in string" debug --journal $number first
 done

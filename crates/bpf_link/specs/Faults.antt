@@ -2,7 +2,7 @@
 use Rattle.std.specs.Prelude.{ℕ, List, codes}
 use Rattle.bpf_isa.specs.Faults.{load_fault}
 use Rattle.bpf_link.specs.declared.fault.LinkFault.{LinkFault}
-use Rattle.bpf_link.specs.declared.fault.LinkFault.TheVariants.{NotElf, Class, Order, Kind, Machine, SectionTable, LongName, NoSection, ManySections, Section, TooLong, RunsOff, SymbolTable, ManyMapSections, TooManyMaps, RelocationTable, Place, Symbol, Extern, RelocationKind, CallTarget, NoCall, Data, NoLoad, Program, Memory, LongData, DataSection, Pointer, ManyPrograms, NoEntry}
+use Rattle.bpf_link.specs.declared.fault.LinkFault.TheVariants.{NotElf, Class, Order, Kind, Machine, SectionTable, LongName, NoSection, ManySections, Section, TooLong, RunsOff, SymbolTable, ManyMapSections, TooManyMaps, RelocationTable, Place, Symbol, Extern, RelocationKind, CallTarget, NoCall, Data, NoLoad, Program, Memory, LongData, DataSection, Pointer, ManyPrograms, NoEntry, Helper, StubList, StubRange, StubTwice, ManyStubs}
 
 abbrev pub link_fault_number : LinkFault → ℕ
 link_fault_number NotElf = 1
@@ -36,6 +36,11 @@ link_fault_number DataSection = 28
 link_fault_number Pointer = 29
 link_fault_number ManyPrograms = 30
 link_fault_number NoEntry = 31
+link_fault_number (Helper slot helper) = 25
+link_fault_number StubList = 32
+link_fault_number StubRange = 33
+link_fault_number StubTwice = 34
+link_fault_number ManyStubs = 35
 
 abbrev pub link_fault_text : LinkFault → List ℕ
 link_fault_text NotElf = codes "no ELF file"
@@ -69,3 +74,8 @@ link_fault_text DataSection = codes "malformed data section"
 link_fault_text Pointer = codes "address in data of what is no data"
 link_fault_text ManyPrograms = codes "more than one program in the code section"
 link_fault_text NoEntry = codes "no such function in the code section"
+link_fault_text (Helper slot helper) = codes "unknown helper"
+link_fault_text StubList = codes "malformed list of stubs"
+link_fault_text StubRange = codes "helper or value of a stub out of range"
+link_fault_text StubTwice = codes "two stubs of one helper"
+link_fault_text ManyStubs = codes "more than 16 stubs"

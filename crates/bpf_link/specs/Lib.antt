@@ -9,6 +9,7 @@ pub mod Patches
 pub mod Images
 pub mod Setup
 pub mod Stubs
+pub mod StubLists
 pub mod Links
 pub mod Laid
 pub mod Shapes

@@ -4,8 +4,11 @@ use Rattle.bpf_isa.specs.Checker.{IsAccepted, IsRefused, most_slots}
 use Rattle.bpf_isa.specs.Maps.{IsShape}
 use Rattle.bpf_isa.specs.declared.maps.MapShape.{MapShape}
 use Rattle.bpf_isa.specs.declared.fault.LoadFault.{LoadFault}
+use Rattle.bpf_isa.specs.declared.fault.LoadFault.TheVariants.{At}
+use Rattle.bpf_isa.specs.declared.fault.PieceFault.TheVariants.{UnknownHelper}
+use Rattle.bpf_isa.specs.Words.{u32_at}
 use Rattle.bpf_link.specs.declared.fault.LinkFault.{LinkFault}
-use Rattle.bpf_link.specs.declared.fault.LinkFault.TheVariants.{LongName, TooLong, TooManyMaps, Program, Memory}
+use Rattle.bpf_link.specs.declared.fault.LinkFault.TheVariants.{LongName, TooLong, TooManyMaps, Program, Helper, Memory}
 use Rattle.bpf_link.specs.declared.layout.SymbolEntry.{SymbolEntry}
 use Rattle.bpf_link.specs.declared.plan.Part.{Part}
 use Rattle.bpf_link.specs.declared.plan.Plan.{Plan}
@@ -139,11 +142,16 @@ pub record AreWordsOf (object name entry : List ℕ) (stubs : List Stub) (code :
   pub words : code ≡ program.words
   pub accepted : IsAccepted code (least_maps program.maps program.data_maps)
 
+-- What is told of words that the checker refuses: of a call of a helper that there isn't the helper's number, too.
+abbrev pub told_of : List ℕ → LoadFault → LinkFault
+told_of words (At slot UnknownHelper) = Helper slot (u32_at words (8 * slot + 4))
+told_of words refusal = Program refusal
+
 -- The words are no program.
 pub record IsRejected (object name entry : List ℕ) (stubs : List Stub) (fault : LinkFault) : Type 0 where
   pub program : Made
   pub refusal : LoadFault
-  pub told : fault ≡ Program refusal
+  pub told : fault ≡ told_of program.words refusal
   pub linked : linked object name entry stubs ≡ Ok program
   pub refused : IsRefused program.words (least_maps program.maps program.data_maps) refusal
 

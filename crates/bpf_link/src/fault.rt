@@ -75,12 +75,23 @@ pub enum LinkFault {
     ManyPrograms,
     /// The code section has no function of the name that is asked for, or it begins at no slot of it.
     NoEntry,
+    /// The words at this slot call the helper of this number, which the machine doesn't have.
+    Helper { slot: usize, helper: u32 },
+    /// A text is no list of stubs.
+    StubList,
+    /// The number of a stub's helper isn't of 32 bits, or its value isn't -2147483648 to
+    /// 2147483647.
+    StubRange,
+    /// A list of stubs names a helper twice.
+    StubTwice,
+    /// A list has more than 16 stubs.
+    ManyStubs,
 }
 
 impl LinkFault {
     ghost use Rattle.bpf_link.specs.Faults.{link_fault_number, link_fault_text};
 
-    /// The number that is printed after E, 1 to 31; that of a program's fault is 25.
+    /// The number that is printed after E, 1 to 35; that of a program's fault is 25.
     pub fn number(self) -> u8
         ensures { result ≡ link_fault_number self }
     {
@@ -116,6 +127,11 @@ impl LinkFault {
             LinkFault::Pointer => 29,
             LinkFault::ManyPrograms => 30,
             LinkFault::NoEntry => 31,
+            LinkFault::Helper { .. } => 25,
+            LinkFault::StubList => 32,
+            LinkFault::StubRange => 33,
+            LinkFault::StubTwice => 34,
+            LinkFault::ManyStubs => 35,
         }
     }
 
@@ -155,6 +171,11 @@ impl LinkFault {
             LinkFault::Pointer => "address in data of what is no data",
             LinkFault::ManyPrograms => "more than one program in the code section",
             LinkFault::NoEntry => "no such function in the code section",
+            LinkFault::Helper { .. } => "unknown helper",
+            LinkFault::StubList => "malformed list of stubs",
+            LinkFault::StubRange => "helper or value of a stub out of range",
+            LinkFault::StubTwice => "two stubs of one helper",
+            LinkFault::ManyStubs => "more than 16 stubs",
         }
     }
 }

@@ -14,9 +14,11 @@ mod plan;
 mod sections;
 mod setup;
 mod shapes;
+mod stub_lists;
 mod stubs;
 mod words;
 
 pub use fault::LinkFault;
 pub use linker::{LinkOptions, Linked, link, link_with};
+pub use stub_lists::stubs_in;
 pub use stubs::Stub;

@@ -1,10 +1,11 @@
 //! The linker: from an object to the words of a program.
-ghost use Rattle.std.specs.Prelude.{◌≡◌, ◌≤◌, ◌<◌, ◌+◌, [], length, IfOk, IfErr, Ok, Err};
-ghost use Rattle.bpf_isa.specs.Checker.{IsAccepted};
+ghost use Rattle.std.specs.Prelude.{◌≡◌, ◌≤◌, ◌<◌, ◌+◌, List, [], length, IfOk, IfErr, Ok, Err};
+ghost use Rattle.bpf_isa.specs.Checker.{IsAccepted, IsRefused};
+ghost use Rattle.bpf_isa.specs.declared.maps.MapShape.{MapShape};
 ghost use Rattle.bpf_isa.specs.Maps.{IsShape};
 ghost use Rattle.bpf_link.specs.Data.{AllBelow};
 ghost use Rattle.bpf_link.specs.Laid.{IsLaidOut};
-ghost use Rattle.bpf_link.specs.Links.{AllShapes, IsLinkFault, MemoryOr, linked, planned, program_of, program_words, plain_maps, least_maps, data_shape, data_shapes};
+ghost use Rattle.bpf_link.specs.Links.{AllShapes, IsLinkFault, MemoryOr, linked, planned, program_of, program_words, plain_maps, least_maps, data_shape, data_shapes, told_of};
 ghost use Rattle.bpf_link.specs.Plans.{LiesPlan};
 ghost use Rattle.bpf_link.specs.Shapes.{HasShapes};
 ghost use Rattle.bpf_link.specs.declared.plan.Plan.{Plan};
@@ -12,6 +13,7 @@ ghost use Rattle.bpf_link.specs.declared.plan.Plan.{Plan};
 use crate::data_sections::data_of;
 use crate::entry::entry_of;
 use crate::fault::LinkFault;
+use crate::fields::u32_at;
 use crate::header::open;
 use crate::plan::{Plan, plan_of};
 use crate::sections::{roles_of, section_at};
@@ -20,7 +22,7 @@ use crate::shapes::all_shapes;
 use crate::stubs::{Stub, answered, answers};
 use crate::words::{maps_of, words_of};
 use arrayvec::ArrayVec;
-use bpf_isa::{LoadFault, MOST_SLOTS, MapShape, MapTable, check};
+use bpf_isa::{LoadFault, MOST_SLOTS, MapShape, MapTable, PieceFault, check};
 use std::alloc::Global;
 
 /// What is asked of a link.
@@ -284,7 +286,24 @@ pub fn link_with(
     ) {
         Ok(_) => Ok(program),
         Err(LoadFault::Memory) => Err(LinkFault::Memory),
-        Err(fault) => Err(LinkFault::Program(fault)),
+        Err(fault) => Err(told_of(&program.words, fault)),
+    }
+}
+
+/// What is told of words that the checker refuses.
+fn told_of(words: &[u8], fault: LoadFault) -> LinkFault
+    requires { (maps : List MapShape) × IsRefused words.now maps fault }
+    ensures { result ≡ told_of words.now fault }
+{
+    match fault {
+        LoadFault::At {
+            slot,
+            fault: PieceFault::UnknownHelper,
+        } => LinkFault::Helper {
+            slot,
+            helper: u32_at(words, 8 * slot + 4),
+        },
+        _ => LinkFault::Program(fault),
     }
 }
 

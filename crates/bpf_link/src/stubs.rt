@@ -1,12 +1,12 @@
 //! Helpers whose calls are answered by a constant.
-ghost use Rattle.std.specs.Prelude.{◌≡◌, ◌≤◌, ◌<◌, ◌+◌, ◌*◌, ◌/◌, length};
+ghost use Rattle.std.specs.Prelude.{◌≡◌, ◌≤◌, ◌<◌, ◌+◌, ◌*◌, ◌/◌, is_some, length};
 ghost use Rattle.bpf_link.specs.Stubs.{answer_of, calls_helper, answer_in, with_move, answered, answers};
 
 use crate::fields::u32_at;
 use byteorder::{ByteOrder, LittleEndian};
 
 /// A helper whose calls are answered by a constant.
-#[derive(Clone, Copy)]
+#[derive(Clone, Copy, Default)]
 pub struct Stub {
     /// Its number.
     pub helper: u32,
@@ -24,6 +24,13 @@ fn answer_of(stubs: &[Stub], helper: u32) -> Option<u32>
         }
     }
     None
+}
+
+/// Whether a helper is answered.
+pub fn is_answered(stubs: &[Stub], helper: u32) -> bool
+    ensures { result ≡ is_some (answer_of stubs.now helper) }
+{
+    answer_of(stubs, helper).is_some()
 }
 
 /// Whether a slot calls a helper by its number.

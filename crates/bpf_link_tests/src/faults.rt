@@ -4,7 +4,8 @@ use bpf_link::LinkFault;
 use std::alloc::{AllocError, Global};
 use std::process::Abort;
 
-/// The faults, in the order of their numbers. That of a program has the text of its own fault.
+/// The faults, in the order of their numbers. That of a program has the text of its own fault, and
+/// the last row is the one that has a helper's number.
 const FAULTS: &str = "\
 E1 no ELF file\n\
 E2 not of 64 bits\n\
@@ -36,7 +37,12 @@ E27 data longer than 65536 bytes\n\
 E28 malformed data section\n\
 E29 address in data of what is no data\n\
 E30 more than one program in the code section\n\
-E31 no such function in the code section";
+E31 no such function in the code section\n\
+E32 malformed list of stubs\n\
+E33 helper or value of a stub out of range\n\
+E34 two stubs of one helper\n\
+E35 more than 16 stubs\n\
+E25 unknown helper";
 
 /// The first half of the faults, by their numbers.
 fn early_fault(number: usize) -> LinkFault {
@@ -77,6 +83,11 @@ fn fault(number: usize) -> LinkFault {
         29 => LinkFault::Pointer,
         30 => LinkFault::ManyPrograms,
         31 => LinkFault::NoEntry,
+        32 => LinkFault::StubList,
+        33 => LinkFault::StubRange,
+        34 => LinkFault::StubTwice,
+        35 => LinkFault::ManyStubs,
+        36 => LinkFault::Helper { slot: 0, helper: 5 },
         _ => early_fault(number),
     }
 }
@@ -92,7 +103,7 @@ fn check_fault(rt: &impl Abort, alloc: Global, number: usize, wanted: &str) {
 }
 
 fn check_faults(rt: &impl Abort, alloc: Global, table: &str) {
-    for (number, wanted) in (1..=31usize).zip(table.lines()) {
+    for (number, wanted) in (1..=36usize).zip(table.lines()) {
         check_fault(rt, alloc, number, wanted);
     }
 }

@@ -49,6 +49,10 @@ section_rule = record (new_rule (codes "section")) { long = Some (codes "section
 abbrev pub entry_rule : Rule
 entry_rule = record (new_rule (codes "entry")) { long = Some (codes "entry"); value_names = 1 }
 
+-- `--stub NUMBER=VALUE,NUMBER=VALUE`: the helpers whose calls are answered by a constant.
+abbrev pub stub_rule : Rule
+stub_rule = record (new_rule (codes "stub")) { long = Some (codes "stub"); value_names = 1 }
+
 -- `--registers NAME`: the machine that gdb is told of.
 abbrev pub registers_rule : Rule
 registers_rule = record (new_rule (codes "registers")) { long = Some (codes "registers"); value_names = 1; defaults = codes "x86" ∷ [] }
@@ -96,7 +100,7 @@ abbrev pub check_app : App
 check_app = with_rule (with_rule (with_rule (new_app (codes "check")) maps_rule) listing_rule) file_rule
 
 abbrev pub link_app : App
-link_app = with_rule (with_rule (with_rule (new_app (codes "link")) section_rule) entry_rule) file_rule
+link_app = with_rule (with_rule (with_rule (with_rule (new_app (codes "link")) section_rule) entry_rule) stub_rule) file_rule
 
 abbrev pub test_app : App
 test_app = with_rule (new_app (codes "test")) file_rule

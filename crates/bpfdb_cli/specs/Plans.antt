@@ -43,6 +43,7 @@ pub record Says (name : Text) (rows : List Row) (plan : Plan) : Type 0 where
   pub listing : plan.options.is_listing ≡ is_given (first_of (codes "listing") rows)
   pub section : option_map (λ s. s.now) plan.options.section ≡ first_of (codes "section") rows
   pub entry : option_map (λ s. s.now) plan.options.entry ≡ first_of (codes "entry") rows
+  pub stubs : option_map (λ s. s.now) plan.options.stubs ≡ first_of (codes "stub") rows
   pub registers : NamesRegisters (first_of (codes "registers") rows) plan.options.registers
   pub what : option_map (λ s. s.now) plan.options.what ≡ first_of (codes "what") rows
   pub lines : plan.options.lines ≡ number_or default_lines (first_of (codes "lines") rows)

@@ -1,7 +1,7 @@
 -- Scaffolding: no public contract cites this. What an entry of the table of subcommands tells `clap`.
 use Rattle.std.specs.Prelude.{Some, fold}
 use Rattle.clap.specs.Words.{App, Rule, Text, new_app, new_rule, with_rule, with_subcommand}
-use Rattle.bpfdb_cli.specs.CommandLine.{addresses_rule, entry_rule, file_rule, gdb_journal_rule, journal_rule, lines_rule, listing_rule, maps_rule, mem_rule, registers_rule, section_rule, steps_rule, what_rule}
+use Rattle.bpfdb_cli.specs.CommandLine.{addresses_rule, entry_rule, file_rule, gdb_journal_rule, journal_rule, lines_rule, listing_rule, maps_rule, mem_rule, registers_rule, section_rule, steps_rule, stub_rule, what_rule}
 use Rattle.bpfdb_cli.specs.declared.subcommands.CliOption.{CliOption}
 use Rattle.bpfdb_cli.specs.declared.subcommands.CliOption.TheVariants as option
 use Rattle.bpfdb_cli.specs.declared.subcommands.CliSubcommand.{CliSubcommand}
@@ -20,6 +20,7 @@ option_rule option.Listing = listing_rule
 option_rule option.Registers = registers_rule
 option_rule option.Section = section_rule
 option_rule option.Entry = entry_rule
+option_rule option.Stub = stub_rule
 option_rule option.Lines = lines_rule
 option_rule option.Addresses = addresses_rule
 option_rule option.What = what_rule

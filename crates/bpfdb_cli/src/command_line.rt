@@ -61,6 +61,7 @@ fn argument_of<'a>(alloc: Global, option: CliOption) -> Arg<'a>
             help::SECTION_LONG,
         ),
         CliOption::Entry => text_option(alloc, "entry", "NAME", help::ENTRY, help::ENTRY_LONG),
+        CliOption::Stub => text_option(alloc, "stub", "NUMBER=VALUE", help::STUB, help::STUB_LONG),
         CliOption::Lines => text_option(
             alloc,
             "lines",

@@ -257,6 +257,14 @@ pub const ENTRY_LONG: &str =
     "Name of the function of that section at which the program begins. Without it that is the
 only one that isn't static. Example: --entry handle";
 
+/// `--stub`.
+pub const STUB: &str = "Helpers whose calls are answered by a constant; without it none";
+
+pub const STUB_LONG: &str =
+    "Helpers whose calls are answered by a constant in r0, at most 16: each its number, an =,
+and -2147483648 to 2147483647. Nothing else happens at such a call.
+Example: --stub 5=0,14=-1";
+
 /// `--lines`.
 pub const LINES_MOST: &str = "Most lines of moves in an answer, 1 to 1000000000";
 

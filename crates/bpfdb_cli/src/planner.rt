@@ -119,6 +119,7 @@ fn plan_in<'a>(name: &'a str, found: &ArgMatches<'a>) -> Option<Plan<'a>>
             is_listing: is_given(text_of(found, "listing")),
             section: text_of(found, "section"),
             entry: text_of(found, "entry"),
+            stubs: text_of(found, "stub"),
             registers,
             what: text_of(found, "what"),
             lines,

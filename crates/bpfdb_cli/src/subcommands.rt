@@ -22,6 +22,8 @@ pub(crate) enum CliOption {
     Section,
     /// `--entry NAME`.
     Entry,
+    /// `--stub NUMBER=VALUE,NUMBER=VALUE`.
+    Stub,
     /// `--lines N`.
     Lines,
     /// `--addresses`.
@@ -139,7 +141,7 @@ pub(crate) const SUBCOMMANDS: [CliSubcommand<'static>; 10] = [
         about: help::LINK,
         long_about: help::LINK_LONG,
         example: help::LINK_EXAMPLE,
-        options: &[CliOption::Section, CliOption::Entry],
+        options: &[CliOption::Section, CliOption::Entry, CliOption::Stub],
         file: help::OBJECT_FILE,
     },
     CliSubcommand {

@@ -41,6 +41,14 @@ placed unit None = []
 abbrev pub refusal_text : List ℕ → ℕ → List ℕ → List ℕ → List ℕ
 refusal_text family number at text = family ++ decimal number ++ at ++ codes ": " ++ text ++ codes "\n"
 
+-- What stands behind the text of an object's fault: of a call of a helper that there isn't its number, and the option that answers it.
+abbrev pub helper_text : ℕ → List ℕ
+helper_text helper = codes " " ++ decimal helper ++ codes ": --stub " ++ decimal helper ++ codes "=VALUE answers it"
+
+abbrev pub more_of : LinkFault → List ℕ
+more_of (linking.Helper slot helper) = helper_text helper
+more_of fault = []
+
 -- The slot of a program's fault, where it has one.
 abbrev pub slot_of : LoadFault → Option ℕ
 slot_of (load.At slot fault) = Some slot
@@ -59,6 +67,7 @@ slot_of_words (linking.NoCall slot) = Some slot
 slot_of_words (linking.Data slot) = Some slot
 slot_of_words (linking.NoLoad slot) = Some slot
 slot_of_words (linking.Program fault) = slot_of fault
+slot_of_words (linking.Helper slot helper) = Some slot
 slot_of_words fault = None
 
 abbrev pub refusal_line : JobRefusal → List ℕ
@@ -68,7 +77,7 @@ refusal_line (Load fault) = refusal_text (codes "refused C") (load_fault fault).
 refusal_line (Open fault) = refusal_text (codes "refused O") (opening.number_of fault) [] (opening.text_of fault)
 refusal_line (Journal fault) = refusal_text (codes "refused J") (journal.number_of fault) [] (journal.text_of fault)
 refusal_line (What fault) = refusal_text (codes "refused V") (asked.number_of fault) [] (asked.text_of fault)
-refusal_line (Object fault) = refusal_text (codes "refused E") (link_fault_number fault) (placed (codes " at slot ") (slot_of_words fault)) (link_fault_text fault)
+refusal_line (Object fault) = refusal_text (codes "refused E") (link_fault_number fault) (placed (codes " at slot ") (slot_of_words fault)) (link_fault_text fault ++ more_of fault)
 refusal_line (Tests fault line) =
     refusal_text (codes "refused T") (suite.fault_number fault) (placed (codes " at line ") (Some line)) (suite.fault_text fault)
 

@@ -1,5 +1,5 @@
 -- What a job asks for: its program and its session, and what each subcommand prints that reads no standard input.
-use Rattle.std.specs.Prelude.{◌≡◌, ◌≤◌, ℕ, Bool, true, false, List, [], ◌++◌, Option, Some, None, Ok, is_some, length, map, count_by, codes, decimal}
+use Rattle.std.specs.Prelude.{◌≡◌, ◌≤◌, ℕ, Bool, true, false, List, [], ◌++◌, Option, Some, None, Result, Ok, is_some, length, map, count_by, codes, decimal}
 use Rattle.std.specs.Borrow.{Bor}
 use Rattle.bpf_entries.specs.Keeping.{IsSize}
 use Rattle.bpf_isa.specs.Maps.{IsMapList, items_of, shape_of}
@@ -7,7 +7,10 @@ use Rattle.bpf_isa.specs.Programs.{Checked, IsProgram}
 use Rattle.bpf_isa.specs.declared.maps.MapShape.{MapShape}
 use Rattle.bpf_link.specs.Links.{AreWordsOf, planned}
 use Rattle.bpf_link.specs.Shapes.{HasShapes}
+use Rattle.bpf_link.specs.StubLists.{stubs_in}
+use Rattle.bpf_link.specs.declared.fault.LinkFault.{LinkFault}
 use Rattle.bpf_link.specs.declared.plan.Plan.{Plan}
+use Rattle.bpf_link.specs.declared.stubs.Stub.{Stub}
 use Rattle.bpf_machine.specs.Platform.{context_limit}
 use Rattle.bpf_machine.specs.State.{State, initial}
 use Rattle.bpf_origin.specs.Answers.{Answer}
@@ -22,7 +25,7 @@ use Rattle.bpf_text.specs.LineTable.{IsLineTable}
 use Rattle.bpf_text.specs.Listing.{IsListing}
 use Rattle.bpfdb_jobs.specs.Faults.{limit_line}
 use Rattle.bpfdb_replies.specs.Texts.{place}
-use Rattle.bpfdb_jobs.specs.MapLines.{maps_told}
+use Rattle.bpfdb_jobs.specs.MapLines.{linked_told}
 use Rattle.bpfdb_jobs.specs.Origins.{Asks, answer_by, found_text, status_of_extent}
 use Rattle.bpfdb_jobs.specs.declared.job.Job.{Job}
 use Rattle.bpfdb_options.specs.declared.subcommand.Subcommand.{Subcommand}
@@ -74,13 +77,29 @@ section_of job = name_or_empty job.options.section
 abbrev pub entry_of : Job → List ℕ
 entry_of job = name_or_empty job.options.entry
 
--- The words that the object is linked to; and the shapes of the maps, in the order of their numbers: none unless the object defines each as
--- an array.
-pub record IsLinkedTo (job : Job) (words : List ℕ) (shapes : List MapShape) : Type 0 where
+-- The helpers whose calls are answered; none without the option.
+abbrev pub listed_stubs : Option (Bor (List ℕ)) → Result (List Stub) LinkFault
+listed_stubs (Some text) = stubs_in text.now
+listed_stubs None = Ok []
+
+abbrev pub stubs_of : Job → Result (List Stub) LinkFault
+stubs_of job = listed_stubs job.options.stubs
+
+-- The words that the object is linked to; the shapes of the maps, in the order of their numbers: none unless the object defines each as
+-- an array; and how many calls are answered.
+pub record IsLinkedTo (job : Job) (words : List ℕ) (shapes : List MapShape) (answered : ℕ) : Type 0 where
   pub plan : Plan
-  pub made : AreWordsOf job.file.now (section_of job) (entry_of job) [] words
+  pub stubs : List Stub
+  pub asked : stubs_of job ≡ Ok stubs
+  pub made : AreWordsOf job.file.now (section_of job) (entry_of job) stubs words
   pub plans : planned job.file.now (section_of job) ≡ Ok plan
   pub shaped : HasShapes job.file.now plan shapes
+  pub counted : answered ≡ made.program.answered
+
+-- How many calls are answered is told with the option alone.
+abbrev pub answered_if : Option (Bor (List ℕ)) → ℕ → Option ℕ
+answered_if (Some text) count = Some count
+answered_if None count = None
 
 -- What is printed on standard output and on standard error, and the exit status. A stream to which nothing is said to go is left as it was.
 pub record Print : Type 0 where
@@ -126,5 +145,5 @@ Prints Asm job a = (words : List ℕ) × IsListing job.file.now words × (a ≡ 
 Prints Disasm job a = (code : Checked) × IsProgramOf job code × (a ≡ printed (canon code))
 Prints Lines job a = (table : List ℕ) × IsLineTable job.file.now table × (a ≡ printed table)
 Prints Check job a = (code : Checked) × IsProgramOf job code × (a ≡ printed (check_line code))
-Prints Link job a = (words : List ℕ) × (shapes : List MapShape) × IsLinkedTo job words shapes
-    × (a ≡ record (printed words) { err = maps_told shapes })
+Prints Link job a = (words : List ℕ) × (shapes : List MapShape) × (count : ℕ) × IsLinkedTo job words shapes count
+    × (a ≡ record (printed words) { err = linked_told shapes (answered_if job.options.stubs count) })

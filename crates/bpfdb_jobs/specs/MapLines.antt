@@ -1,4 +1,4 @@
--- The line that tells the maps of an object. bpfdb's own choice.
+-- The lines that tell of an object that was linked. bpfdb's own choice.
 use Rattle.std.specs.Prelude.{ℕ, List, [], ◌∷◌, ◌++◌, Option, Some, None, codes, decimal}
 use Rattle.std.specs.List.{join_by}
 use Rattle.bpf_isa.specs.declared.maps.MapShape.{MapShape}
@@ -14,7 +14,21 @@ maps_text shapes = join_by shape_text (codes ",") shapes
 abbrev pub maps_line : List MapShape → List ℕ
 maps_line shapes = codes "--maps " ++ maps_text shapes ++ codes "\n"
 
--- What is told of an object's maps; of none nothing.
-abbrev pub maps_told : List MapShape → Option (List ℕ)
-maps_told [] = None
-maps_told (first ∷ rest) = Some (maps_line (first ∷ rest))
+-- The line of its maps, if it has some.
+abbrev pub maps_lines : List MapShape → List ℕ
+maps_lines [] = []
+maps_lines (first ∷ rest) = maps_line (first ∷ rest)
+
+-- How many calls of helpers are answered, if that is to be told.
+abbrev pub answered_lines : Option ℕ → List ℕ
+answered_lines None = []
+answered_lines (Some count) = codes "calls answered by --stub: " ++ decimal count ++ codes "\n"
+
+-- Both, one after the other.
+unfoldable pub linked_text : List MapShape → Option ℕ → List ℕ
+linked_text shapes answered = maps_lines shapes ++ answered_lines answered
+
+-- What is told of an object: its maps, and then how many calls are answered; of neither nothing.
+abbrev pub linked_told : List MapShape → Option ℕ → Option (List ℕ)
+linked_told [] None = None
+linked_told shapes answered = Some (linked_text shapes answered)

@@ -1,6 +1,6 @@
--- Why a job is refused, in this order: its maps, its listing, its program, its context, its journal; what it asks about; its object; or its
--- tests.
-use Rattle.std.specs.Prelude.{◌≡◌, List, [], ℕ, Some, true}
+-- Why a job is refused, in this order: its maps, its listing, its program, its context, its journal; what it asks about; its stubs, its
+-- object; or its tests.
+use Rattle.std.specs.Prelude.{◌≡◌, ◌⊎◌, List, ℕ, Some, Ok, Err, true}
 use Rattle.std.specs.Borrow.{Bor}
 use Rattle.bpf_isa.specs.Checker.{IsRefused}
 use Rattle.bpf_isa.specs.Maps.{IsListFault}
@@ -8,11 +8,12 @@ use Rattle.bpf_isa.specs.Programs.{Checked}
 use Rattle.bpf_isa.specs.declared.maps.MapShape.{MapShape}
 use Rattle.bpf_text.specs.Listing.{IsFaultOf}
 use Rattle.bpf_link.specs.Links.{IsLinkFault}
+use Rattle.bpf_link.specs.declared.stubs.Stub.{Stub}
 use Rattle.bpf_suite.specs.Faults as suite
 use Rattle.bpf_suite.specs.declared.fault.FileFault.TheVariants.{Line}
 use Rattle.bpf_machine.specs.Opening.{Refused}
 use Rattle.bpf_journal.specs.Opening.{RefusesSize}
-use Rattle.bpfdb_jobs.specs.Jobs.{HasMaps, HasWords, IsProgramOf, Opens, OpensSession, entry_of, run_end, section_of}
+use Rattle.bpfdb_jobs.specs.Jobs.{HasMaps, HasWords, IsProgramOf, Opens, OpensSession, entry_of, run_end, section_of, stubs_of}
 use Rattle.bpfdb_jobs.specs.Origins.{RefusesWhat}
 use Rattle.bpfdb_jobs.specs.declared.job.Job.{Job}
 use Rattle.bpfdb_jobs.specs.declared.refusal.JobRefusal.{JobRefusal}
@@ -53,7 +54,8 @@ RefusesListing job (Listing fault) = IsFaultOf job.file.now fault
 RefusesListing job refusal = ⊥
 
 abbrev pub RefusesObject : Job → JobRefusal → Type 0
-RefusesObject job (Object fault) = IsLinkFault job.file.now (section_of job) (entry_of job) [] fault
+RefusesObject job (Object fault) = (stubs_of job ≡ Err fault)
+    ⊎ ((stubs : List Stub) × (stubs_of job ≡ Ok stubs) × IsLinkFault job.file.now (section_of job) (entry_of job) stubs fault)
 RefusesObject job refusal = ⊥
 
 abbrev pub RefusesTests : Job → JobRefusal → Type 0

@@ -1,7 +1,7 @@
 //! The line of a fault.
-ghost use Rattle.std.specs.Prelude.{◌≡◌, []};
+ghost use Rattle.std.specs.Prelude.{◌≡◌, ◌++◌, [], codes, decimal};
 ghost use Rattle.counted_io.specs.Writing.{Writes, WritesAfter};
-ghost use Rattle.bpfdb_jobs.specs.Faults.{limit_line, line_of, placed, refusal_line, refusal_text, slot_of, slot_of_words, unreadable_line};
+ghost use Rattle.bpfdb_jobs.specs.Faults.{helper_text, limit_line, line_of, more_of, placed, refusal_line, refusal_text, slot_of, slot_of_words, unreadable_line};
 
 use crate::fault::JobFault;
 use crate::name::put_name;
@@ -147,7 +147,7 @@ fn put_object<E: Write>(
     ensures { WritesAfter E.contents errors.old so_far errors.new result
         (refusal_line (JobRefusal.Object fault.now)) }
 {
-    put_numbered(
+    let begun = put_begun(
         errors,
         so_far,
         b"refused E",
@@ -155,7 +155,38 @@ fn put_object<E: Write>(
         b" at slot ",
         slot_of_words(fault),
         fault.text(),
-    )
+    );
+    let said = put_more(errors, begun, fault);
+    put(errors, said, b"\n")
+}
+
+/// Writes what stands behind the text of an object's fault.
+fn put_more<E: Write>(
+    errors: &mut Counted<E>,
+    so_far: Result<(), WriteFault>,
+    fault: &LinkFault,
+) -> Result<(), WriteFault>
+    ensures { WritesAfter E.contents errors.old so_far errors.new result (more_of fault.now) }
+{
+    match fault {
+        LinkFault::Helper { helper, .. } => put_helper(errors, so_far, *helper),
+        _ => put(errors, so_far, b""),
+    }
+}
+
+/// Writes the number of a helper, and the option that answers it.
+fn put_helper<E: Write>(
+    errors: &mut Counted<E>,
+    so_far: Result<(), WriteFault>,
+    helper: u32,
+) -> Result<(), WriteFault>
+    ensures { WritesAfter E.contents errors.old so_far errors.new result (helper_text helper) }
+{
+    let begun = put(errors, so_far, b" ");
+    let named = put_decimal(errors, begun, u64::from(helper));
+    let parted = put(errors, named, b": --stub ");
+    let again = put_decimal(errors, parted, u64::from(helper));
+    put(errors, again, b"=VALUE answers it")
 }
 
 /// Writes the line of a test file's fault.
@@ -205,11 +236,12 @@ fn slot_of_words(fault: &LinkFault) -> Option<usize>
         LinkFault::Data(slot) => Some(*slot),
         LinkFault::NoLoad(slot) => Some(*slot),
         LinkFault::Program(fault) => slot_of(fault),
+        LinkFault::Helper { slot, .. } => Some(*slot),
         _ => None,
     }
 }
 
-/// Writes a refusal: how it begins, its number, where it is in this unit, and its text.
+/// Writes the line of a refusal: how it begins, its number, where it is in this unit, and its text.
 fn put_numbered<E: Write>(
     errors: &mut Counted<E>,
     so_far: Result<(), WriteFault>,
@@ -222,12 +254,28 @@ fn put_numbered<E: Write>(
     ensures { WritesAfter E.contents errors.old so_far errors.new result
         (refusal_text family.now number (placed unit.now at) text.now) }
 {
+    let said = put_begun(errors, so_far, family, number, unit, at, text);
+    put(errors, said, b"\n")
+}
+
+/// Writes the line of a refusal up to its text.
+fn put_begun<E: Write>(
+    errors: &mut Counted<E>,
+    so_far: Result<(), WriteFault>,
+    family: &[u8],
+    number: u8,
+    unit: &[u8],
+    at: Option<usize>,
+    text: &str,
+) -> Result<(), WriteFault>
+    ensures { WritesAfter E.contents errors.old so_far errors.new result
+        (family.now ++ decimal number ++ placed unit.now at ++ codes ": " ++ text.now) }
+{
     let begun = put(errors, so_far, family);
     let numbered = put_decimal(errors, begun, u64::from(number));
     let placed = put_place(errors, numbered, unit, at);
     let parted = put(errors, placed, b": ");
-    let said = put(errors, parted, text.as_bytes());
-    put(errors, said, b"\n")
+    put(errors, parted, text.as_bytes())
 }
 
 /// Writes a refusal that has no place.

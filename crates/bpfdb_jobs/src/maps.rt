@@ -1,30 +1,40 @@
-//! The line that tells the maps of an object.
+//! The lines that tell of an object that was linked.
 ghost use Rattle.std.specs.Prelude.{◌++◌, OnErr, OnOk, flat_map, codes};
 ghost use Rattle.counted_io.specs.Writing.{Writes, WritesAfter};
 ghost use Rattle.bpfdb_jobs.specs.Endings.{Gets, Loses};
-ghost use Rattle.bpfdb_jobs.specs.MapLines.{maps_line, maps_text, maps_told, shape_text};
+ghost use Rattle.bpfdb_jobs.specs.MapLines.{answered_lines, linked_text, linked_told, maps_line, maps_lines, maps_text, shape_text};
 
 use bpf_isa::MapShape;
 use counted_io::{Counted, WriteFault, put, put_decimal};
 use std::io::Write;
 
-/// Tells the maps of an object on standard error, as `--maps` takes them: a line, or nothing where
-/// there are none.
-pub fn tell_maps<E: Write>(errors: &mut Counted<E>, shapes: &[MapShape]) -> Result<(), WriteFault>
-    ensures ok { OnOk result (Gets E.contents errors.old errors.new (maps_told shapes.now)) }
-    ensures err { OnErr result (Loses E.contents errors.old errors.new (maps_told shapes.now)) }
+/// Tells on standard error the maps of an object, as `--maps` takes them, and how many calls of
+/// helpers are answered, a line each; nothing where there is neither.
+pub fn tell_linked<E: Write>(
+    errors: &mut Counted<E>,
+    shapes: &[MapShape],
+    answered: Option<usize>,
+) -> Result<(), WriteFault>
+    ensures ok { OnOk result
+        (Gets E.contents errors.old errors.new (linked_told shapes.now answered)) }
+    ensures err { OnErr result
+        (Loses E.contents errors.old errors.new (linked_told shapes.now answered)) }
 {
-    if shapes.is_empty() {
+    if shapes.is_empty() && answered.is_none() {
         return Ok(());
     }
-    write_maps(errors, shapes)
+    write_linked(errors, shapes, answered)
 }
 
-/// Writes the line of maps, and flushes.
-fn write_maps<E: Write>(errors: &mut Counted<E>, shapes: &[MapShape]) -> Result<(), WriteFault>
-    ensures { Writes E.contents errors.old errors.new result (maps_line shapes.now) }
+/// Writes both lines, and flushes.
+fn write_linked<E: Write>(
+    errors: &mut Counted<E>,
+    shapes: &[MapShape],
+    answered: Option<usize>,
+) -> Result<(), WriteFault>
+    ensures { Writes E.contents errors.old errors.new result (linked_text shapes.now answered) }
 {
-    match write_line(errors, shapes) {
+    match write_lines(errors, shapes, answered) {
         Ok(()) => {}
         Err(fault) => return Err(fault),
     }
@@ -34,11 +44,59 @@ fn write_maps<E: Write>(errors: &mut Counted<E>, shapes: &[MapShape]) -> Result<
     }
 }
 
-/// Writes the line of maps.
-fn write_line<E: Write>(errors: &mut Counted<E>, shapes: &[MapShape]) -> Result<(), WriteFault>
-    ensures { Writes E.contents errors.old errors.new result (maps_line shapes.now) }
+/// Writes both lines.
+fn write_lines<E: Write>(
+    errors: &mut Counted<E>,
+    shapes: &[MapShape],
+    answered: Option<usize>,
+) -> Result<(), WriteFault>
+    ensures { Writes E.contents errors.old errors.new result (linked_text shapes.now answered) }
 {
-    let begun = put(errors, Ok(()), b"--maps ");
+    let told = put_lines(errors, Ok(()), shapes);
+    put_answered(errors, told, answered)
+}
+
+/// Writes how many calls are answered, if that is to be told.
+fn put_answered<E: Write>(
+    errors: &mut Counted<E>,
+    so_far: Result<(), WriteFault>,
+    answered: Option<usize>,
+) -> Result<(), WriteFault>
+    ensures { WritesAfter E.contents errors.old so_far errors.new result (answered_lines answered) }
+{
+    match answered {
+        Some(count) => {
+            let begun = put(errors, so_far, b"calls answered by --stub: ");
+            let counted = put_decimal(errors, begun, count as u64);
+            put(errors, counted, b"\n")
+        }
+        None => put(errors, so_far, b""),
+    }
+}
+
+/// Writes the line of maps, if there are some.
+fn put_lines<E: Write>(
+    errors: &mut Counted<E>,
+    so_far: Result<(), WriteFault>,
+    shapes: &[MapShape],
+) -> Result<(), WriteFault>
+    ensures { WritesAfter E.contents errors.old so_far errors.new result (maps_lines shapes.now) }
+{
+    if shapes.is_empty() {
+        return put(errors, so_far, b"");
+    }
+    put_line(errors, so_far, shapes)
+}
+
+/// Writes the line of maps.
+fn put_line<E: Write>(
+    errors: &mut Counted<E>,
+    so_far: Result<(), WriteFault>,
+    shapes: &[MapShape],
+) -> Result<(), WriteFault>
+    ensures { WritesAfter E.contents errors.old so_far errors.new result (maps_line shapes.now) }
+{
+    let begun = put(errors, so_far, b"--maps ");
     let told = put_maps(errors, begun, shapes);
     put(errors, told, b"\n")
 }

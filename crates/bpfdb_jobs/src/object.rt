@@ -1,25 +1,26 @@
 //! What a job of `link` does.
-ghost use Rattle.std.specs.Prelude.{◌≡◌, ◌≤◌, IfErr, IfOk, Ok, []};
+ghost use Rattle.std.specs.Prelude.{◌≡◌, ◌≤◌, IfErr, IfOk, Ok, Err};
 ghost use Rattle.bpf_isa.specs.Checker.{IsAccepted};
 ghost use Rattle.bpf_link.specs.Links.{IsLinkFault, least_maps, linked, planned};
 ghost use Rattle.bpf_link.specs.Shapes.{HasShapes};
 ghost use Rattle.bpf_link.specs.declared.plan.Plan.{Plan};
 ghost use Rattle.bpfdb_jobs.specs.Endings.{EndsPrinted};
-ghost use Rattle.bpfdb_jobs.specs.Jobs.{entry_of, section_of};
+ghost use Rattle.bpfdb_jobs.specs.Jobs.{answered_if, entry_of, section_of, stubs_of};
 ghost use Rattle.bpfdb_options.specs.declared.subcommand.Subcommand.TheVariants.{Link};
 
 use crate::fault::JobFault;
 use crate::job::Job;
-use crate::maps::tell_maps;
+use crate::maps::tell_linked;
 use crate::refusal::JobRefusal;
 use crate::report::{give_up, told_as, write_out};
-use bpf_link::{LinkFault, LinkOptions, Linked, link_with};
+use arrayvec::ArrayVec;
+use bpf_link::{LinkFault, LinkOptions, Linked, Stub, link_with, stubs_in};
 use counted_io::{Counted, WriteFault};
 use std::alloc::Global;
 use std::io::Write;
 
 /// Writes the words that an object's code section is linked to, and tells the maps that the object
-/// defines.
+/// defines, and how many calls are answered where that is asked for.
 pub fn link_job<W: Write, E: Write>(
     alloc: Global,
     job: &Job<'_>,
@@ -30,25 +31,32 @@ pub fn link_job<W: Write, E: Write>(
         errors.new result }
     ensures status { result ≤ 2 }
 {
-    let linked = match linked_from(alloc, job.file, section_of(job), entry_of(job)) {
+    let stubs = match stubs_of(job) {
+        Ok(stubs) => stubs,
+        Err(fault) => return give_up(errors, &JobFault::Refused(JobRefusal::Object(fault))),
+    };
+    let named = stubs.as_slice();
+    let linked = match linked_from(alloc, job.file, section_of(job), entry_of(job), named) {
         Ok(linked) => linked,
         Err(fault) => return give_up(errors, &JobFault::Refused(JobRefusal::Object(fault))),
     };
+    let answered = answered_if(job, linked.answered);
     match write_out(writer, linked.words.as_slice()) {
-        Ok(()) => told_as(tell_maps(errors, linked.shapes.as_slice()), 0),
+        Ok(()) => told_as(tell_linked(errors, linked.shapes.as_slice(), answered), 0),
         Err(WriteFault) => give_up(errors, &JobFault::Output),
     }
 }
 
-/// The program of an object's code section, from an entry.
+/// The program of an object's code section, from an entry, with the calls of some helpers answered.
 fn linked_from(
     alloc: Global,
     object: &[u8],
     section: &[u8],
     entry: &[u8],
+    stubs: &[Stub],
 ) -> Result<Linked, LinkFault>
     ensures ok { IfOk result (λ program.
-        linked object.now section.now entry.now [] ≡ Ok (record {
+        linked object.now section.now entry.now stubs.now ≡ Ok (record {
           words = program.words.items;
           maps = program.maps;
           data_maps = program.data_maps.items;
@@ -59,7 +67,7 @@ fn linked_from(
         × HasShapes object.now plan program.shapes.items) }
     ensures accepted { IfOk result
         (λ program. IsAccepted program.words.items (least_maps program.maps program.data_maps.items)) }
-    ensures err { IfErr result (IsLinkFault object.now section.now entry.now []) }
+    ensures err { IfErr result (IsLinkFault object.now section.now entry.now stubs.now) }
 {
     link_with(
         alloc,
@@ -67,9 +75,30 @@ fn linked_from(
         &LinkOptions {
             section,
             entry,
-            stubs: &[],
+            stubs,
         },
     )
+}
+
+/// The helpers whose calls are answered.
+fn stubs_of(job: &Job<'_>) -> Result<ArrayVec<Stub, 16>, LinkFault>
+    ensures ok { IfOk result (λ stubs. stubs_of job.now ≡ Ok stubs.items) }
+    ensures err { IfErr result (λ fault. stubs_of job.now ≡ Err fault) }
+{
+    match job.options.stubs {
+        Some(text) => stubs_in(text.as_bytes()),
+        None => Ok(ArrayVec::new()),
+    }
+}
+
+/// How many calls are answered, if that is to be told.
+fn answered_if(job: &Job<'_>, count: usize) -> Option<usize>
+    ensures { result ≡ answered_if job.now.options.stubs count }
+{
+    match job.options.stubs {
+        Some(_) => Some(count),
+        None => None,
+    }
 }
 
 /// The name of the section that is linked: empty where the only one is meant.

@@ -21,6 +21,8 @@ pub struct Options<'a> {
     /// The name of the function of that section at which the program begins; without one it is the
     /// only one that is known outside the object, or else the section's first slot.
     pub entry: Option<&'a str>,
+    /// The helpers whose calls are answered by a constant, as `5=0,14=-1`; without it none is.
+    pub stubs: Option<&'a str>,
     /// The machine that gdb takes this one for.
     pub registers: Registers,
     /// What is asked about, as `r1` or `0x200000000:8`; without it what is of interest where the
@@ -40,6 +42,7 @@ pub const NO_OPTIONS: Options<'static> = Options {
     is_listing: false,
     section: None,
     entry: None,
+    stubs: None,
     registers: Registers::X86,
     what: None,
     lines: DEFAULT_LINES,

@@ -3,9 +3,5 @@ use Rattle.bpfdb_jobs.proofs.line.put_numbered.Goals as goal
 
 pub returns : goal.returns
 returns g c = λ first front known.
-    let begun = c.put-begun.ensures first front known in
-    let numbered = rw c.from.ensures at (c.put_decimal-numbered.ensures first _ begun) in
-    let placed = c.put_place-placed.ensures first _ numbered in
-    let parted = c.put-parted.ensures first _ placed in
-    let said = rw c.as_bytes.ensures.value at (c.put-said.ensures first _ parted) in
+    let said = c.put_begun-said.ensures first front known in
     simp append_assoc (simp append_assoc at (c.put.ensures first _ said))

@@ -1,12 +1,13 @@
-use Rattle.std.proofs.Common.{◌≡◌, [], Ok, refl}
+use Rattle.std.proofs.Common.{◌≡◌, Ok, List, inl, inr, ap, refl, sym, ◌∙◌}
 use Rattle.bpf_isa.specs.Checker.{IsAccepted}
 use Rattle.bpf_link.specs.Links.{least_maps, linked, planned}
 use Rattle.bpf_link.specs.Shapes.{HasShapes}
 use Rattle.bpf_link.specs.declared.linker.Linked.{Linked}
 use Rattle.bpf_link.specs.declared.plan.Plan.{Plan}
+use Rattle.bpf_link.specs.declared.stubs.Stub.{Stub}
 use Rattle.bpfdb_jobs.specs.Endings.{OutLost, Refused}
-use Rattle.bpfdb_jobs.specs.Jobs.{Prints, entry_of, printed, section_of}
-use Rattle.bpfdb_jobs.specs.MapLines.{maps_told}
+use Rattle.bpfdb_jobs.specs.Jobs.{Prints, answered_if, entry_of, printed, section_of, stubs_of}
+use Rattle.bpfdb_jobs.specs.MapLines.{linked_told}
 use Rattle.bpfdb_jobs.specs.declared.job.Job.{Job}
 use Rattle.bpfdb_jobs.specs.declared.refusal.JobRefusal.TheVariants.{Object}
 use Rattle.bpfdb_jobs.proofs.Printing.{err-printed}
@@ -14,16 +15,19 @@ use Rattle.bpfdb_options.specs.declared.subcommand.Subcommand.TheVariants.{Link}
 use Rattle.bpfdb_jobs.proofs.object.link_job.Goals as goal
 
 -- what is printed of a program that was linked
-linked-prints : (job : Job) (program : Linked)
-    → linked job.file.now (section_of job) (entry_of job) [] ≡ Ok (record { words = program.words.items; maps = program.maps; data_maps = program.data_maps.items; answered = program.answered })
+linked-prints : (job : Job) (stubs : List Stub) (program : Linked) → stubs_of job ≡ Ok stubs
+    → linked job.file.now (section_of job) (entry_of job) stubs ≡ Ok (record { words = program.words.items; maps = program.maps; data_maps = program.data_maps.items; answered = program.answered })
     → IsAccepted program.words.items (least_maps program.maps program.data_maps.items)
     → (plan : Plan) × (planned job.file.now (section_of job) ≡ Ok plan) × HasShapes job.file.now plan program.shapes.items
-    → Prints Link job (record (printed program.words.items) { err = maps_told program.shapes.items })
-linked-prints job program e accepted shapes = (
+    → Prints Link job (record (printed program.words.items) { err = linked_told program.shapes.items (answered_if job.options.stubs program.answered) })
+linked-prints job stubs program asked e accepted shapes = (
   program.words.items,
   program.shapes.items,
+  program.answered,
   record {
     plan = shapes.0;
+    stubs = stubs;
+    asked = asked;
     made = record {
       program = record { words = program.words.items; maps = program.maps; data_maps = program.data_maps.items; answered = program.answered };
       linked = e;
@@ -32,6 +36,7 @@ linked-prints job program e accepted shapes = (
     };
     plans = shapes.1;
     shaped = shapes.2;
+    counted = refl;
   },
   refl,
 )
@@ -39,22 +44,33 @@ linked-prints job program e accepted shapes = (
 pub returns-in-Ok-write_out-clause-does : goal.returns-in-Ok-write_out-clause-does
 returns-in-Ok-write_out-clause-does g c =
     let w = rw c.in-Ok-write_out.is at (rw c.as_slice.ensures.value at c.write_out.ensures) in
+    let program = c.in-Ok-linked_from.linked in
+    let asked = c.in-Ok.ensures.ok ∙ ap Ok (sym c.as_slice-named.ensures.value) in
     err-printed g.W.Write.contents g.E.Write.contents Link c.args.job.now
-    (record (printed c.in-Ok.linked.words.items) { err = maps_told c.in-Ok.linked.shapes.items })
-    c.args.writer.now c.write_out.new.writer c.args.errors.now c.tell_maps.new.errors c.tell_maps.result c.told_as.result
-    (linked-prints c.args.job.now c.in-Ok.linked (rw c.entry_of.ensures at (rw c.section_of.ensures at c.in-Ok.ensures.ok))
-    c.in-Ok.ensures.accepted (rw c.section_of.ensures at c.in-Ok.ensures.shapes))
-    (w.ok, w.same) (rw c.as_slice-in-Ok-write_out.ensures.value at c.tell_maps.ensures.ok) (rw c.as_slice-in-Ok-write_out.ensures.value at c.tell_maps.ensures.err)
+    (record (printed program.words.items) { err = linked_told program.shapes.items (answered_if c.args.job.now.options.stubs program.answered) })
+    c.args.writer.now c.write_out.new.writer c.args.errors.now c.tell_linked.new.errors c.tell_linked.result c.told_as.result
+    (linked-prints c.args.job.now c.as_slice-named.result.now program asked (rw c.entry_of.ensures at (rw c.section_of.ensures at c.in-Ok-linked_from.ensures.ok))
+    c.in-Ok-linked_from.ensures.accepted (rw c.section_of.ensures at c.in-Ok-linked_from.ensures.shapes))
+    (w.ok, w.same) (rw (c.as_slice-in-Ok-write_out.ensures.value, c.answered_if-answered.ensures) at c.tell_linked.ensures.ok)
+    (rw (c.as_slice-in-Ok-write_out.ensures.value, c.answered_if-answered.ensures) at c.tell_linked.ensures.err)
     c.told_as.ensures.ok c.told_as.ensures.err
 
 pub returns-in-Err-clause-does : goal.returns-in-Err-clause-does
 returns-in-Err-clause-does g c =
-    Refused (Object c.in-Err.fault) (rw c.entry_of.ensures at (rw c.section_of.ensures at c.in-Err.ensures.err)) refl c.give_up.ensures.told c.give_up.ensures.value
+    Refused (Object c.in-Err.fault) (inl c.in-Err.ensures.err) refl c.give_up.ensures.told c.give_up.ensures.value
+
+pub returns-in-Err-linked_from-clause-does : goal.returns-in-Err-linked_from-clause-does
+returns-in-Err-linked_from-clause-does g c =
+    let asked = c.in-Ok.ensures.ok ∙ ap Ok (sym c.as_slice-named.ensures.value) in
+    Refused (Object c.in-Err-linked_from.fault) (inr (c.as_slice-named.result.now, asked, rw c.entry_of.ensures at (rw c.section_of.ensures at c.in-Err-linked_from.ensures.err))) refl
+    c.give_up-in-Err-linked_from.ensures.told c.give_up-in-Err-linked_from.ensures.value
 
 pub returns-clause-does : goal.returns-clause-does
 returns-clause-does g c =
     let w = rw c.in-Err-write_out.is at (rw c.as_slice.ensures.value at c.write_out.ensures) in
-    OutLost (record (printed c.in-Ok.linked.words.items) { err = maps_told c.in-Ok.linked.shapes.items })
-    (linked-prints c.args.job.now c.in-Ok.linked (rw c.entry_of.ensures at (rw c.section_of.ensures at c.in-Ok.ensures.ok))
-    c.in-Ok.ensures.accepted (rw c.section_of.ensures at c.in-Ok.ensures.shapes))
+    let program = c.in-Ok-linked_from.linked in
+    let asked = c.in-Ok.ensures.ok ∙ ap Ok (sym c.as_slice-named.ensures.value) in
+    OutLost (record (printed program.words.items) { err = linked_told program.shapes.items (answered_if c.args.job.now.options.stubs program.answered) })
+    (linked-prints c.args.job.now c.as_slice-named.result.now program asked (rw c.entry_of.ensures at (rw c.section_of.ensures at c.in-Ok-linked_from.ensures.ok))
+    c.in-Ok-linked_from.ensures.accepted (rw c.section_of.ensures at c.in-Ok-linked_from.ensures.shapes))
     (w.err, w.fault) c.give_up-in-Err-write_out.ensures.told c.give_up-in-Err-write_out.ensures.value

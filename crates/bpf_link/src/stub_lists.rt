@@ -1,0 +1,112 @@
+//! Stubs as the command line lists them.
+ghost use Rattle.std.specs.Prelude.{◌≡◌, ◌≤◌, ◌<◌, ◌++◌, ◌∷◌, [], IfOk, IfErr, IfNone, IfSome, Ok, Err, length, position};
+ghost use Rattle.counted_io.specs.Numerals.{natural};
+ghost use Rattle.bpf_link.specs.StubLists.{number_below, helper_in, value_in, is_equals, stub_in, with_stub, stubs_in};
+
+use crate::fault::LinkFault;
+use crate::stubs::{Stub, is_answered};
+use arrayvec::ArrayVec;
+use counted_io::natural;
+
+/// The number that a text is, if it is below a bound.
+fn number_below(text: &[u8], bound: u64) -> Result<u32, LinkFault>
+    requires { bound ≤ 4294967296 }
+    ensures { result ≡ number_below bound (natural text.now) }
+{
+    let Some(numeral) = natural(text) else {
+        return Err(LinkFault::StubList);
+    };
+    match numeral.to_u64() {
+        Some(n) => {
+            if n < bound {
+                Ok(n as u32)
+            } else {
+                Err(LinkFault::StubRange)
+            }
+        }
+        None => Err(LinkFault::StubRange),
+    }
+}
+
+/// The number of a helper.
+fn helper_in(text: &[u8]) -> Result<u32, LinkFault>
+    ensures { result ≡ helper_in text.now }
+{
+    number_below(text, 4_294_967_296)
+}
+
+/// What answers a helper.
+fn value_in(text: &[u8]) -> Result<u32, LinkFault>
+    ensures { result ≡ value_in text.now }
+{
+    match text.strip_prefix(b"-") {
+        Some(digits) => match number_below(digits, 2_147_483_649) {
+            Ok(n) => Ok(n.wrapping_neg()),
+            Err(fault) => Err(fault),
+        },
+        None => number_below(text, 2_147_483_648),
+    }
+}
+
+/// Where the first `=` stands.
+fn equals_in(item: &[u8]) -> Option<usize>
+    ensures { result ≡ position is_equals item.now }
+{
+    item.iter().position(|byte| *byte == b'=')
+}
+
+/// The stub that an item of a list is.
+fn stub_in(item: &[u8]) -> Result<Stub, LinkFault>
+    ensures { result ≡ stub_in item.now }
+{
+    let Some(at) = equals_in(item) else {
+        return Err(LinkFault::StubList);
+    };
+    let helper = match helper_in(&item[..at]) {
+        Ok(helper) => helper,
+        Err(fault) => return Err(fault),
+    };
+    match value_in(&item[at + 1..]) {
+        Ok(value) => Ok(Stub { helper, value }),
+        Err(fault) => Err(fault),
+    }
+}
+
+/// Why a stub can't be added to those before it.
+fn stub_fault(stubs: &[Stub], stub: Stub) -> Option<LinkFault>
+    requires { length stubs.now ≤ 16 }
+    ensures none { IfNone result (with_stub stub stubs.now ≡ Ok (stubs.now ++ stub ∷ [])) }
+    ensures few { IfNone result (length stubs.now < 16) }
+    ensures some { IfSome result (λ fault. with_stub stub stubs.now ≡ Err fault) }
+{
+    if is_answered(stubs, stub.helper) {
+        return Some(LinkFault::StubTwice);
+    }
+    if stubs.len() == 16 {
+        return Some(LinkFault::ManyStubs);
+    }
+    None
+}
+
+/// The stubs that a text lists, as `5=0,14=-1`: numbers of helpers, each once, and what answers
+/// them, -2147483648 to 2147483647; 1 to 16 of them.
+///
+/// The fault is that of the first item that has one. Takes time in proportion to the length of the
+/// text.
+pub fn stubs_in(text: &[u8]) -> Result<ArrayVec<Stub, 16>, LinkFault>
+    ensures ok { IfOk result (λ stubs. stubs_in text.now ≡ Ok stubs.items) }
+    ensures err { IfErr result (λ fault. stubs_in text.now ≡ Err fault) }
+{
+    let mut stubs = ArrayVec::new();
+    for item in text.split(|byte| *byte == b',') {
+        let stub = match stub_in(item) {
+            Ok(stub) => stub,
+            Err(fault) => return Err(fault),
+        };
+        match stub_fault(stubs.as_slice(), stub) {
+            Some(fault) => return Err(fault),
+            None => stubs.push(stub),
+        }
+    }
+    Ok(stubs)
+}
