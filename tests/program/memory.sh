@@ -128,27 +128,30 @@ bytes stored \
     00 00 00 00 03 00 00 00 7b 43 18 00 00 00 00 00 b7 03 00 00 00 00 00 00 b7 04 00 00 00 00 00 00 \
     06 00 00 00 e4 ff ff ff
 wants "$plain$e26" 0 "$text" '--maps 8x5\n' link point.o
-# A file of tests: where memory runs out while its program is read or opened, the test fails by that refusal; else nothing more is
-# reported, and the line says so.
-printf -- '-- listing\nmov r0, 2\nexit\n-- result\n2\n' > two.test
+# A file of tests: where memory runs out, no test fails by it. Nothing is reported, or the plan and the tests before; each of these is seen.
+printf -- '-- maps\n2x2\n-- listing\nmov r0, 2\nexit\n-- name\na\n-- result\n2\n' > two.test
+printf -- '-- name\nb\n-- cells\n0 1 0102\n-- result\n3\n-- map-after\n0 0 0.01\n0 1 ..02\n' >> two.test
+plan='1..2\n' one='ok 1 - a\n'
+two='not ok 2 - b\n# the test in line 10\n# came: exited at 1: r0 0x2\n# wanted: result 3, and map-after\n'
+cell='# cell 0 0 came: 0x300000000: 0000\n# cell 0 0 wanted: 0.01\n'
 : > met
 request=1
-while refuse "$request" '' test two.test && [ "$found" != 0 ] && [ "$request" -le "$most" ]; do
+while refuse "$request" '' test two.test && [ "$found" != 1 ] && [ "$request" -le "$most" ]; do
     for all in '' all; do
         refuse "$request" "$all" test two.test
-        if [ "$found" = 1 ]; then
-            sed -n 's/^# came: //p' found/out >> met
-            check "bpfdb test: request $request for memory refused, $all" 1 "1..1\nnot ok 1\n# the test in line 1\n# came: $(tail -n 1 met)\n# wanted: result 2\n" ''
-        else
-            cat found/err >> met
-            reported=$(cat found/out)
-            check "bpfdb test: request $request for memory refused, $all" 2 "${reported:+1..1\n}" "$plain"
-        fi
+        lines=$(wc -l < found/out)
+        echo "$lines lines" >> met
+        case $lines in
+            0) reported= ;;
+            1) reported=$plan ;;
+            *) reported=$plan$one ;;
+        esac
+        check "bpfdb test: request $request for memory refused, $all" 2 "$reported" "$plain"
     done
     request=$((request + 1))
 done
-check 'bpfdb test: no request for memory refused' 0 '1..1\nok 1\n' ''
-said 'bpfdb test' "$plain$a7$c13$o2"
+check 'bpfdb test: no request for memory refused' 1 "$plan$one$two$cell" ''
+said 'bpfdb test' '0 lines\n1 lines\n2 lines\n'
 wants "$plain" 2 '' 'cannot read missing\n' run missing
 wants "$plain" 0 "$(text "$parts/help/bpfdb.txt")" '' --help
 wants "$plain" 0 "$(version)" '' --version

@@ -43,6 +43,19 @@ while IFS= read -r wanted; do
     row "bpfdb test: ${wanted#* | }" 2 '' '' "refused ${wanted%% | *}\n" test p
 done < rows
 
+# A cell of 256 bytes, the most, which the program reads and writes at their ends; one of 257 is refused.
+bytes=$(awk 'BEGIN { for (i = 0; i < 256; i++) printf "%02x", i }')
+{
+    printf -- '-- maps\n256x2\n-- listing\nldmapval r1, 0, 256\nldxb r0, [r1+255]\nstb [r1+0], 1\nexit\n'
+    printf -- '-- cells\n0 1 %s\n-- result\n255\n-- map-after\n0 1 01%s\n' "$bytes" "${bytes#00}"
+} > p
+printf '1..1\nok 1\n' > wanted/out
+tested 'bpfdb test of a cell of 256 bytes' 0 p
+for section in cells map-after; do
+    printf -- '-- listing\nexit\n-- result\n0\n-- %s\n0 0 %s00\n' "$section" "$bytes" > p
+    row "bpfdb test of $section with 257 bytes" 2 '' '' 'refused T4 at line 5: malformed section\n' test p
+done
+
 # A file of a megabyte: a listing with a long comment, and 10,000 tests.
 {
     printf -- '-- listing\n;'

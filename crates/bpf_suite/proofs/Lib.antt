@@ -1,3 +1,4 @@
+pub mod CellValues
 pub mod Cuts
 pub mod Lists
 pub mod Patterns

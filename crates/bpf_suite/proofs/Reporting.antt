@@ -1,17 +1,16 @@
 -- Reports on tests, one after another.
-use Rattle.std.proofs.Common.{ℕ, ◌≡◌, ◌<◌, ◌+◌, Bool, true, false, ◌&&◌, List, [], ◌∷◌, ◌++◌, append_assoc, drop, length, get_or, Option, Ok, refl, sym, ap, ◌∙◌}
-use Rattle.std.specs.List.{list_any}
-use Rattle.std.proofs.lemmas.List.{append-nil, drop_more}
+use Rattle.std.proofs.Common.{ℕ, suc, ◌≡◌, ◌+◌, Bool, true, false, ◌&&◌, List, [], ◌∷◌, ◌++◌, append_assoc, length, length-append, Option, Ok, Err, refl, sym, ap, ◌∙◌, arith}
+use Rattle.std.proofs.lemmas.List.{append-nil}
 use Rattle.counted_io.specs.Counted.{Tally, one_more}
 use Rattle.counted_io.specs.Writing.{Writes}
-use Rattle.counted_io.proofs.Appending.{Appends-Appends, Appends-nil}
-use Rattle.bpf_suite.specs.Files.{begins_name, named, or_alone, own_of, tests, until_name, with_shared}
-use Rattle.bpf_suite.specs.Kinds.{is_name}
+use Rattle.std.specs.Io.KnownBytes.{Keeps}
+use Rattle.counted_io.proofs.Appending.{Appends-Keeps, Appends-nil, Writes-Writes, Writes-text}
 use Rattle.bpf_suite.specs.Outcomes.{Comes, Outcome}
-use Rattle.bpf_suite.specs.Reports.{AreOutcomes, all_pass, test_text, tests_text}
+use Rattle.bpf_suite.specs.Reports.{AreOutcomes, BreaksAt, BreaksOff, all_pass, test_text, tests_text}
 use Rattle.bpf_suite.specs.Tests.{setting}
 use Rattle.bpf_suite.specs.Verdicts.{passes}
 use Rattle.bpf_suite.specs.declared.report.SuiteFault.{SuiteFault}
+use Rattle.bpf_suite.specs.declared.report.SuiteFault.TheVariants.{Memory, Write}
 use Rattle.bpf_suite.specs.declared.section.Section.{Section}
 
 -- a text that was written, whatever is answered beside it
@@ -19,20 +18,14 @@ pub Writes-answer : {T A B E F : Type 0} (contents : T → Option (List ℕ)) (a
     → Writes {E = E} contents a b (Ok x) text → Writes {E = F} contents a b (Ok y) text
 Writes-answer contents a b x y text w = record { ok = w.ok; same = w.same; err = tt; fault = tt }
 
--- all tests, of which some are reported on and the others come to outcomes
-pub record Reported {T : Type 0} (contents : T → Option (List ℕ)) (old now : Tally T) (all left : List (List Section)) (first number : ℕ)
-    (passed : Bool) (rest : List Outcome) : Type 0 where
-  pub outcomes : List Outcome
-  pub told : List ℕ
-  pub come : AreOutcomes all outcomes
-  pub written : Writes {A = Bool} {E = SuiteFault} contents old now (Ok passed) told
-  pub text : tests_text first all outcomes ≡ told ++ tests_text number left rest
-  pub pass : all_pass all outcomes ≡ (passed && all_pass left rest)
+-- the number of the test behind these
+abbrev pub number_after : ℕ → List (List Section) → ℕ
+number_after k [] = k
+number_after k (test ∷ tests) = number_after (one_more k) tests
 
--- whatever the others come to
-abbrev pub Reports : {T : Type 0} → (T → Option (List ℕ)) → Tally T → Tally T → List (List Section) → List (List Section) → ℕ → ℕ → Bool → Type 0
-Reports contents old now all left first number passed =
-    (rest : List Outcome) → AreOutcomes left rest → Reported contents old now all left first number passed rest
+number-more : (k : ℕ) (done : List (List Section)) (test : List Section) → number_after k (done ++ test ∷ []) ≡ one_more (number_after k done)
+number-more k [] test = refl
+number-more k (t ∷ done) test = number-more (one_more k) done test
 
 and-assoc : (a b c : Bool) → (a && (b && c)) ≡ ((a && b) && c)
 and-assoc true b c = refl
@@ -42,100 +35,164 @@ and-true : (b : Bool) → (b && true) ≡ b
 and-true true = refl
 and-true false = refl
 
-module _ {T : Type 0} (contents : T → Option (List ℕ)) (old : Tally T) (all : List (List Section)) (first : ℕ) where
+-- one test more
+shorter : (m n : ℕ) → suc m ≡ suc n → m ≡ n
+shorter m n e = omega (arith, e)
+
+longer : (m : ℕ) → suc m ≡ 0 → ⊥
+longer m e = omega (arith, e)
+
+length-more : {X Y : Type 0} (xs : List X) (ys : List Y) (x : X) (y : Y) → length xs ≡ length ys → length (xs ++ x ∷ []) ≡ length (ys ++ y ∷ [])
+length-more xs ys x y e = length-append xs (x ∷ []) ∙ ap (λ n. n + 1) e ∙ sym (length-append ys (y ∷ []))
+
+come-more : (done : List (List Section)) (test : List Section) (outcomes : List Outcome) (outcome : Outcome) → length outcomes ≡ length done
+    → AreOutcomes done outcomes → Comes (setting test) outcome → AreOutcomes (done ++ test ∷ []) (outcomes ++ outcome ∷ [])
+come-more [] test [] outcome e come comes = (comes, tt)
+come-more [] test (o ∷ os) outcome e come comes = absurd (longer (length os) e)
+come-more (t ∷ done) test [] outcome e come comes = absurd come
+come-more (t ∷ done) test (o ∷ os) outcome e come comes =
+    (come.0, come-more done test os outcome (shorter (length os) (length done) e) come.1 comes)
+
+text-more : (k : ℕ) (done : List (List Section)) (test : List Section) (outcomes : List Outcome) (outcome : Outcome) → length outcomes ≡ length done
+    → tests_text k (done ++ test ∷ []) (outcomes ++ outcome ∷ []) ≡ tests_text k done outcomes ++ test_text (number_after k done) test outcome
+text-more k [] test [] outcome e = append-nil (test_text k test outcome)
+text-more k [] test (o ∷ os) outcome e = absurd (longer (length os) e)
+text-more k (t ∷ done) test [] outcome e = absurd (longer (length done) (sym e))
+text-more k (t ∷ done) test (o ∷ os) outcome e =
+    ap (λ s. test_text k t o ++ s) (text-more (one_more k) done test os outcome (shorter (length os) (length done) e))
+    ∙ sym (append_assoc (test_text k t o) (tests_text (one_more k) done os) (test_text (number_after (one_more k) done) test outcome))
+
+pass-more : (done : List (List Section)) (test : List Section) (outcomes : List Outcome) (outcome : Outcome) → length outcomes ≡ length done
+    → all_pass (done ++ test ∷ []) (outcomes ++ outcome ∷ []) ≡ (all_pass done outcomes && passes test outcome)
+pass-more [] test [] outcome e = and-true (passes test outcome)
+pass-more [] test (o ∷ os) outcome e = absurd (longer (length os) e)
+pass-more (t ∷ done) test [] outcome e = absurd (longer (length done) (sym e))
+pass-more (t ∷ done) test (o ∷ os) outcome e =
+    ap (λ b. passes t o && b) (pass-more done test os outcome (shorter (length os) (length done) e))
+    ∙ and-assoc (passes t o) (all_pass done os) (passes test outcome)
+
+-- tests that are reported on
+pub record Reported {T : Type 0} (contents : T → Option (List ℕ)) (old now : Tally T) (done : List (List Section)) (first number : ℕ) (passed : Bool)
+    : Type 0 where
+  pub outcomes : List Outcome
+  pub long : length outcomes ≡ length done
+  pub come : AreOutcomes done outcomes
+  pub written : Writes {A = Bool} {E = SuiteFault} contents old now (Ok passed) (tests_text first done outcomes)
+  pub pass : passed ≡ all_pass done outcomes
+  pub next : number ≡ number_after first done
+
+module _ {T : Type 0} (contents : T → Option (List ℕ)) (old : Tally T) (first : ℕ) where
   -- none yet
-  pub Reports-start : Reports contents old old all all first first true
-  Reports-start rest come = record {
-    outcomes = rest;
-    told = [];
-    come = come;
+  pub Reported-start : Reported contents old old [] first first true
+  Reported-start = record {
+    outcomes = [];
+    long = refl;
+    come = tt;
     written = record { ok = Appends-nil (contents old.inner); same = refl; err = tt; fault = tt };
-    text = refl;
     pass = refl;
+    next = refl;
   }
 
   -- one more
-  pub Reports-step : (now new : Tally T) (test : List Section) (left : List (List Section)) (number : ℕ) (passed ok : Bool)
-      → Reports contents old now all (test ∷ left) first number passed
+  pub Reported-step : (now new : Tally T) (done : List (List Section)) (test : List Section) (number : ℕ) (passed ok : Bool)
+      → Reported contents old now done first number passed
       → (outcome : Outcome) → Comes (setting test) outcome → ok ≡ passes test outcome
       → Writes {A = Bool} {E = SuiteFault} contents now new (Ok ok) (test_text number test outcome)
-      → Reports contents old new all left first (one_more number) (passed && ok)
-  Reports-step now new test left number passed ok before outcome comes verdict w rest come =
-      let r = before (outcome ∷ rest) (comes, come) in
+      → Reported contents old new (done ++ test ∷ []) first (one_more number) (passed && ok)
+  Reported-step now new done test number passed ok r outcome comes verdict w =
+      let told = Writes-Writes contents old now new (Ok passed) (Ok ok) passed (tests_text first done r.outcomes) (test_text number test outcome) refl r.written w in
+      let text : tests_text first done r.outcomes ++ test_text number test outcome ≡ tests_text first (done ++ test ∷ []) (r.outcomes ++ outcome ∷ []) =
+      ap (λ n. tests_text first done r.outcomes ++ test_text n test outcome) r.next ∙ sym (text-more first done test r.outcomes outcome r.long) in
       record {
-        outcomes = r.outcomes;
-        told = r.told ++ test_text number test outcome;
-        come = r.come;
-        written = record {
-          ok = Appends-Appends (contents old.inner) (contents now.inner) (contents new.inner) r.told (test_text number test outcome) r.written.ok w.ok;
-          same = w.same ∙ r.written.same;
-          err = tt;
-          fault = tt;
-        };
-        text = r.text ∙ sym (append_assoc r.told (test_text number test outcome) (tests_text (one_more number) left rest));
-        pass = r.pass ∙ and-assoc passed (passes test outcome) (all_pass left rest) ∙ ap (λ b. (passed && b) && all_pass left rest) (sym verdict);
+        outcomes = r.outcomes ++ outcome ∷ [];
+        long = length-more r.outcomes done outcome test r.long;
+        come = come-more done test r.outcomes outcome r.long r.come comes;
+        written = Writes-answer contents old new ok (passed && ok) _ (Writes-text contents old new (Ok ok) _ _ told text);
+        pass = ap (λ b. b && ok) r.pass ∙ ap (λ b. all_pass done r.outcomes && b) verdict ∙ sym (pass-more done test r.outcomes outcome r.long);
+        next = ap one_more r.next ∙ sym (number-more first done test);
       }
 
   -- no more
-  pub Reports-end : (now : Tally T) (number : ℕ) (passed : Bool) → Reports contents old now all [] first number passed
-      → (outcomes : List Outcome) × AreOutcomes all outcomes × (passed ≡ all_pass all outcomes)
-      × Writes {A = Bool} {E = SuiteFault} contents old now (Ok passed) (tests_text first all outcomes)
-  Reports-end now number passed before =
-      let r = before [] tt in
-      let text : tests_text first all r.outcomes ≡ r.told = r.text ∙ append-nil r.told in
-      (r.outcomes, r.come, sym (r.pass ∙ and-true passed), rw text r.written)
+  pub Reported-end : (now : Tally T) (done tests : List (List Section)) (number : ℕ) (passed : Bool) → Reported contents old now done first number passed
+      → done ≡ tests
+      → (outcomes : List Outcome) × AreOutcomes tests outcomes × (passed ≡ all_pass tests outcomes)
+      × Writes {A = Bool} {E = SuiteFault} contents old now (Ok passed) (tests_text first tests outcomes)
+  Reported-end now done tests number passed r all = rw (← all) (r.outcomes, r.come, r.pass, r.written)
 
--- a name, and a section that is none
-pub named-yes : (sections : List Section) (at : ℕ) (d : Section) → at < length sections → begins_name (drop at sections) ≡ true
-    → named (drop at sections) ≡ own_of (drop at sections) ∷ named (drop (at + 1) sections)
-named-yes sections at d h e =
-    let more = drop_more sections at d h in
-    let here : is_name (get_or sections at d).kind ≡ true = sym (ap begins_name more) ∙ e in
-    rw more (rw here refl)
+  -- a test at which the run breaks off
+  pub Reported-broken : (now new : Tally T) (done left tests : List (List Section)) (test : List Section) (number : ℕ) (passed : Bool) (why : SuiteFault)
+      → Reported contents old now done first number passed → BreaksAt contents why now new number test → tests ≡ done ++ test ∷ left
+      → BreaksOff contents why old new [] first tests
+  Reported-broken now new done left tests test number passed Memory r same all = record {
+    done = done;
+    left = test ∷ left;
+    all = all;
+    outcomes = r.outcomes;
+    come = r.come;
+    written = rw same (Writes-answer contents old now passed tt (tests_text first done r.outcomes) r.written);
+  }
+  Reported-broken now new done left tests test number passed Write r b all =
+      let told = Writes-Writes {A = Unit {0}} contents old now new (Ok passed) (Err Write) passed (tests_text first done r.outcomes) (test_text number test b.0) refl r.written b.2 in
+      let text : tests_text first done r.outcomes ++ test_text number test b.0 ≡ tests_text first (done ++ test ∷ []) (r.outcomes ++ b.0 ∷ []) =
+      ap (λ n. tests_text first done r.outcomes ++ test_text n test b.0) r.next ∙ sym (text-more first done test r.outcomes b.0 r.long) in
+      record {
+        done = done ++ test ∷ [];
+        left = left;
+        all = all ∙ sym (append_assoc done (test ∷ []) left);
+        outcomes = r.outcomes ++ b.0 ∷ [];
+        come = come-more done test r.outcomes b.0 r.long r.come b.1;
+        written = Writes-text contents old new (Err Write) _ _ told text;
+      }
 
-pub named-no : (sections : List Section) (at : ℕ) (d : Section) → at < length sections → begins_name (drop at sections) ≡ false
-    → named (drop at sections) ≡ named (drop (at + 1) sections)
-named-no sections at d h e =
-    let more = drop_more sections at d h in
-    let here : is_name (get_or sections at d).kind ≡ false = sym (ap begins_name more) ∙ e in
-    rw more (rw here refl)
+-- a run that breaks off behind a text, or in it
+pub BreaksOff-behind : {T A E : Type 0} (contents : T → Option (List ℕ)) (a b c : Tally T) (x : A) (why : SuiteFault) (front : List ℕ) (k : ℕ)
+    (tests : List (List Section)) → Writes {A = A} {E = E} contents a b (Ok x) front → BreaksOff contents why b c [] k tests
+    → BreaksOff contents why a c front k tests
+BreaksOff-behind contents a b c x Memory front k tests w r = record {
+  done = r.done;
+  left = r.left;
+  all = r.all;
+  outcomes = r.outcomes;
+  come = r.come;
+  written = Writes-Writes contents a b c (Ok x) (Ok tt) x front (tests_text k r.done r.outcomes) refl (Writes-answer contents a b x x front w) r.written;
+}
+BreaksOff-behind contents a b c x Write front k tests w r = record {
+  done = r.done;
+  left = r.left;
+  all = r.all;
+  outcomes = r.outcomes;
+  come = r.come;
+  written = Writes-Writes contents a b c (Ok x) (Err Write) x front (tests_text k r.done r.outcomes) refl (Writes-answer contents a b x x front w) r.written;
+}
 
--- sections with a name among them, and without
-named-is : (shared : List Section) (section : Section) (more : List Section) (b : Bool) → is_name section.kind ≡ b
-    → (list_any (λ s. is_name s.kind) more ≡ true → or_alone shared (named more) ≡ with_shared shared (named more))
-    → list_any (λ s. is_name s.kind) (section ∷ more) ≡ true
-    → or_alone shared (named (section ∷ more)) ≡ with_shared shared (named (section ∷ more))
-named-is shared section more true e next h = rw e refl
-named-is shared section more false e next h = rw e (next (rw e at h))
+pub BreaksOff-first : {T A E : Type 0} (contents : T → Option (List ℕ)) (a b : Tally T) (e : E) (front : List ℕ) (k : ℕ)
+    (tests : List (List Section)) → Writes {A = A} {E = E} contents a b (Err e) front → BreaksOff contents Write a b front k tests
+BreaksOff-first contents a b e front k tests w = record {
+  done = [];
+  left = tests;
+  all = refl;
+  outcomes = [];
+  come = tt;
+  written = rw (append-nil front) (record { ok = tt; same = tt; err = w.err; fault = w.fault });
+}
 
-pub named-some : (shared sections : List Section) → list_any (λ s. is_name s.kind) sections ≡ true
-    → or_alone shared (named sections) ≡ with_shared shared (named sections)
-named-some shared [] h = cc
-named-some shared (section ∷ more) h = named-is shared section more (is_name section.kind) refl (named-some shared more) h
-
-named-isnt : (section : Section) (more : List Section) (b : Bool) → is_name section.kind ≡ b
-    → (list_any (λ s. is_name s.kind) more ≡ false → named more ≡ [])
-    → list_any (λ s. is_name s.kind) (section ∷ more) ≡ false → named (section ∷ more) ≡ []
-named-isnt section more true e next h = let wrong = rw e at h in cc
-named-isnt section more false e next h = rw e (next (rw e at h))
-
-pub named-none : (sections : List Section) → list_any (λ s. is_name s.kind) sections ≡ false → named sections ≡ []
-named-none [] h = refl
-named-none (section ∷ more) h = named-isnt section more (is_name section.kind) refl (named-none more) h
-
-pub tests-some : (sections : List Section) → list_any (λ s. is_name s.kind) sections ≡ true
-    → tests sections ≡ with_shared (until_name sections) (named sections)
-tests-some sections h = named-some (until_name sections) sections h
-
-pub tests-none : (sections : List Section) → list_any (λ s. is_name s.kind) sections ≡ false
-    → tests sections ≡ until_name sections ∷ []
-tests-none sections h = ap (or_alone (until_name sections)) (named-none sections h)
-
--- one test
-pub Reports-alone : {T : Type 0} (contents : T → Option (List ℕ)) (old new : Tally T) (test : List Section) (first : ℕ) (passed : Bool)
-    → (outcome : Outcome) × Comes (setting test) outcome × (passed ≡ passes test outcome)
-    × Writes {A = Bool} {E = SuiteFault} contents old new (Ok passed) (test_text first test outcome)
-    → (outcomes : List Outcome) × AreOutcomes (test ∷ []) outcomes × (passed ≡ all_pass (test ∷ []) outcomes)
-    × Writes {A = Bool} {E = SuiteFault} contents old new (Ok passed) (tests_text first (test ∷ []) outcomes)
-Reports-alone contents old new test first passed r =
-    (r.0 ∷ [], (r.1, tt), r.2 ∙ sym (and-true (passes test r.0)), rw (append-nil (test_text first test r.0)) r.3)
+-- a run whose report stands whole, and isn't flushed
+pub BreaksOff-last : {T A E : Type 0} (contents : T → Option (List ℕ)) (a b c : Tally T) (x : A) (front : List ℕ) (k : ℕ)
+    (tests : List (List Section)) (outcomes : List Outcome) → AreOutcomes tests outcomes
+    → Writes {A = A} {E = E} contents a b (Ok x) (front ++ tests_text k tests outcomes) → Keeps (contents b.inner) (contents c.inner)
+    → c.failures ≡ one_more b.failures → BreaksOff contents Write a c front k tests
+BreaksOff-last contents a b c x front k tests outcomes come w kept failed =
+    let text = front ++ tests_text k tests outcomes in
+    record {
+      done = tests;
+      left = [];
+      all = sym (append-nil tests);
+      outcomes = outcomes;
+      come = come;
+      written = record {
+        ok = tt;
+        same = tt;
+        err = (text, [], sym (append-nil text), Appends-Keeps (contents a.inner) (contents b.inner) (contents c.inner) text w.ok kept);
+        fault = failed ∙ ap one_more w.same;
+      };
+    }

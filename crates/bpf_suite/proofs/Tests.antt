@@ -1,36 +1,46 @@
--- How many tests a file has, and the faults of its sections.
-use Rattle.std.proofs.Common.{ℕ, ◌≡◌, ◌<◌, ◌+◌, suc, Bool, true, false, List, [], ◌∷◌, ◌++◌, drop, length, get_or, cond, refl, sym, ap, ◌∙◌, arith}
-use Rattle.std.specs.List.{count_by}
+-- The tests of a file, and the faults of its sections.
+use Rattle.std.proofs.Common.{ℕ, ◌≡◌, ◌<◌, ◌+◌, true, false, List, [], ◌∷◌, ◌++◌, append_assoc, drop, length, get_or, refl, sym, ap, ◌∙◌, arith}
 use Rattle.std.proofs.lemmas.List.{drop_more}
-use Rattle.std.proofs.lemmas.List.Sums.{sum_by-cons}
 use Rattle.bpf_suite.specs.Faults.{fault_at, first_fault, or_next, same_test}
-use Rattle.bpf_suite.specs.Files.{named, or_alone, until_name, with_shared}
+use Rattle.bpf_suite.specs.Files.{begins_name, named, or_alone, own_of, with_shared}
 use Rattle.bpf_suite.specs.Kinds.{is_name}
 use Rattle.bpf_suite.specs.declared.section.Section.{Section}
 
--- each name is a test
-named-first : (b : Bool) (test : List Section) (more : List (List Section)) → length (cond b (test ∷ more) more) ≡ cond b 1 0 + length more
-named-first true test more = omega arith
-named-first false test more = omega arith
+-- a name begins a test, and another section doesn't
+named-yes : (shared sections : List Section) → begins_name sections ≡ true
+    → with_shared shared (named sections) ≡ (own_of sections ++ shared) ∷ with_shared shared (named (drop 1 sections))
+named-yes shared [] e = cc
+named-yes shared (section ∷ more) e = let here : is_name section.kind ≡ true = e in rw here refl
 
-pub length-named : (s : List Section) → length (named s) ≡ count_by (λ section. is_name section.kind) s
-length-named [] = refl
-length-named (section ∷ more) =
-    named-first (is_name section.kind) (section ∷ until_name more) (named more)
-    ∙ ap (λ n. cond (is_name section.kind) 1 0 + n) (length-named more)
-    ∙ sym (sum_by-cons (λ s. cond (is_name s.kind) 1 0) section more)
+named-no : (sections : List Section) → begins_name sections ≡ false → named sections ≡ named (drop 1 sections)
+named-no [] e = refl
+named-no (section ∷ more) e = let here : is_name section.kind ≡ false = e in rw here refl
 
-length-shared : (shared : List Section) (tests : List (List Section)) → length (with_shared shared tests) ≡ length tests
-length-shared shared [] = refl
-length-shared shared (test ∷ more) = ap suc (length-shared shared more)
+pub found-yes : (found : List (List Section)) (shared sections own : List Section) → begins_name sections ≡ true → own ≡ own_of sections
+    → (found ++ (own ++ shared) ∷ []) ++ with_shared shared (named (drop 1 sections)) ≡ found ++ with_shared shared (named sections)
+found-yes found shared sections own e same =
+    append_assoc found ((own ++ shared) ∷ []) (with_shared shared (named (drop 1 sections)))
+    ∙ ap (λ o. found ++ (o ++ shared) ∷ with_shared shared (named (drop 1 sections))) same
+    ∙ ap (λ t. found ++ t) (sym (named-yes shared sections e))
 
-pub length-alone : (shared : List Section) (tests : List (List Section)) → length tests ≡ 0 → length (or_alone shared tests) ≡ 1
-length-alone shared [] e = refl
-length-alone shared (test ∷ more) e = absurd (omega (arith, e))
+pub found-no : (found : List (List Section)) (shared sections : List Section) → begins_name sections ≡ false
+    → found ++ with_shared shared (named (drop 1 sections)) ≡ found ++ with_shared shared (named sections)
+found-no found shared sections e = ap (λ n. found ++ with_shared shared n) (sym (named-no sections e))
 
-pub length-tests : (shared : List Section) (tests : List (List Section)) (n : ℕ) → length tests ≡ n → 0 < n → length (or_alone shared tests) ≡ n
-length-tests shared [] n e h = absurd (omega (arith, e, h))
-length-tests shared (test ∷ more) n e h = length-shared shared (test ∷ more) ∙ e
+-- sections from a place on, without the first
+pub drop-one : {X : Type 0} (xs : List X) (at : ℕ) (d : X) → at < length xs → drop 1 (drop at xs) ≡ drop (at + 1) xs
+drop-one xs at d h = ap (drop 1) (drop_more xs at d h)
+
+-- a file without names is one test
+pub or_alone-none : (found : List (List Section)) (shared : List Section) (tests : List (List Section)) → found ≡ with_shared shared tests → length found ≡ 0
+    → found ++ shared ∷ [] ≡ or_alone shared tests
+or_alone-none found shared [] e none = ap (λ f. f ++ shared ∷ []) e
+or_alone-none found shared (test ∷ tests) e none = absurd (let long = ap length e in omega (arith, none, long))
+
+pub or_alone-some : (found : List (List Section)) (shared : List Section) (tests : List (List Section)) → found ≡ with_shared shared tests → 0 < length found
+    → found ≡ or_alone shared tests
+or_alone-some found shared [] e some = absurd (let long = ap length e in omega (arith, some, long))
+or_alone-some found shared (test ∷ tests) e some = e
 
 -- the first fault from a section on
 pub first_fault-at : (shared earlier earlier' sections : List Section) (at : ℕ) (d : Section) → at < length sections

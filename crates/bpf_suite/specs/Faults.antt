@@ -2,6 +2,7 @@
 use Rattle.std.specs.Prelude.{ℕ, ◌≡◌, ⊤, Bool, true, not, if◌then◌else◌, List, [], ◌∷◌, ◌++◌, codes, Option, Some, None, is_some}
 use Rattle.std.specs.List.{list_any}
 use Rattle.bpf_suite.specs.Bodies.{are_remarks, bytes_of, is_line, is_pattern, is_phrase, is_title, limit_of, number_of, solid, trimmed}
+use Rattle.bpf_suite.specs.Cells.{are_cells, are_patterns}
 use Rattle.bpf_suite.specs.Files.{front, sections, until_name}
 use Rattle.bpf_suite.specs.Kinds.{is_name, is_part, part_of}
 use Rattle.bpf_suite.specs.Tests.{first_line}
@@ -43,12 +44,14 @@ is_well_formed kind.Listing body = true
 is_well_formed kind.Words body = is_some (bytes_of body)
 is_well_formed kind.Mem body = is_some (bytes_of body)
 is_well_formed kind.Maps body = is_line (trimmed body)
+is_well_formed kind.Cells body = are_cells body
 is_well_formed kind.Steps body = is_some (limit_of body)
 is_well_formed kind.Result body = is_some (number_of body)
 is_well_formed kind.Fault body = is_phrase (trimmed body)
 is_well_formed kind.Limit body = is_line (trimmed body)
 is_well_formed kind.Refused body = is_phrase (trimmed body)
 is_well_formed kind.MemAfter body = is_pattern (solid body)
+is_well_formed kind.MapAfter body = are_patterns body
 is_well_formed kind.Unknown body = true
 
 -- A test that lacks its program, or its expectation.

@@ -15,12 +15,14 @@ kind_named name =
     else if bytes_eq name (codes "words") then kind.Words
     else if bytes_eq name (codes "mem") then kind.Mem
     else if bytes_eq name (codes "maps") then kind.Maps
+    else if bytes_eq name (codes "cells") then kind.Cells
     else if bytes_eq name (codes "steps") then kind.Steps
     else if bytes_eq name (codes "result") then kind.Result
     else if bytes_eq name (codes "fault") then kind.Fault
     else if bytes_eq name (codes "limit") then kind.Limit
     else if bytes_eq name (codes "refused") then kind.Refused
     else if bytes_eq name (codes "mem-after") then kind.MemAfter
+    else if bytes_eq name (codes "map-after") then kind.MapAfter
     else kind.Unknown
 
 -- What a section is of its test. A test has each part once at most.
@@ -30,12 +32,14 @@ part_of kind.Listing = part.Program
 part_of kind.Words = part.Program
 part_of kind.Mem = part.Context
 part_of kind.Maps = part.Maps
+part_of kind.Cells = part.Cells
 part_of kind.Steps = part.Steps
 part_of kind.Result = part.Expected
 part_of kind.Fault = part.Expected
 part_of kind.Limit = part.Expected
 part_of kind.Refused = part.Expected
 part_of kind.MemAfter = part.After
+part_of kind.MapAfter = part.CellsAfter
 part_of kind.Unknown = part.Nothing
 
 -- The parts, numbered.
@@ -44,10 +48,12 @@ part_number part.Title = 0
 part_number part.Program = 1
 part_number part.Context = 2
 part_number part.Maps = 3
-part_number part.Steps = 4
-part_number part.Expected = 5
-part_number part.After = 6
-part_number part.Nothing = 7
+part_number part.Cells = 4
+part_number part.Steps = 5
+part_number part.Expected = 6
+part_number part.After = 7
+part_number part.CellsAfter = 8
+part_number part.Nothing = 9
 
 abbrev pub is_part : Part → Kind → Bool
 is_part p k = part_number (part_of k) == part_number p

@@ -1,4 +1,5 @@
 pub mod Bodies
+pub mod Cells
 pub mod Faults
 pub mod Files
 pub mod Kinds

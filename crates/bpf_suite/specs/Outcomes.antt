@@ -1,5 +1,5 @@
 -- What comes of a test's program: it is refused, or it runs to its end or to the limit.
-use Rattle.std.specs.Prelude.{ℕ, ◌≡◌, ◌≤◌, true, false, Bool, List, [], ◌++◌, codes, decimal, length, map, Option, Some, None, Result, Ok, Err}
+use Rattle.std.specs.Prelude.{ℕ, ◌≡◌, ◌≤◌, true, false, Bool, not, List, [], ◌∷◌, ◌++◌, codes, decimal, find, length, map, Option, Some, None, Result, Ok, Err, slice_get}
 use Rattle.bpf_isa.specs.Checker.{IsRefused}
 use Rattle.bpf_isa.specs.Faults.{load_fault, map_fault}
 use Rattle.bpf_isa.specs.Maps.{IsListFault, IsMapList, items_of, shape_of}
@@ -9,15 +9,21 @@ use Rattle.bpf_isa.specs.declared.fault.LoadFault.TheVariants as load
 use Rattle.bpf_isa.specs.declared.maps.MapShape.{MapShape}
 use Rattle.bpf_text.specs.Faults.{fault_line, fault_number, fault_text}
 use Rattle.bpf_text.specs.Listing.{IsFaultOf, IsListing}
+use Rattle.bpf_text.specs.declared.fault.AsmFault.TheVariants as assembly
+use Rattle.bpf_machine.specs.Edits.{edited, has_cell}
 use Rattle.bpf_machine.specs.Opening as opening
 use Rattle.bpf_machine.specs.Platform.{context_limit}
 use Rattle.bpf_machine.specs.State.{State, initial}
+use Rattle.bpf_machine.specs.declared.edit.Edit.{Edit}
+use Rattle.bpf_machine.specs.declared.edit.Edit.TheVariants as edit
+use Rattle.bpf_machine.specs.declared.fault.OpenFault.TheVariants as unopened
 use Rattle.bpf_entries.specs.declared.status.Status.{Status}
 use Rattle.bpf_entries.specs.declared.status.Status.TheVariants as status
 use Rattle.bpf_session.specs.Plain.{plain_end}
 use Rattle.bpfdb_replies.specs.Texts.{place}
+use Rattle.bpf_suite.specs.declared.cells.Cell.{Cell}
 use Rattle.bpf_suite.specs.declared.refusal.Refusal.{Refusal}
-use Rattle.bpf_suite.specs.declared.refusal.Refusal.TheVariants.{Maps, Listing, Load, Open}
+use Rattle.bpf_suite.specs.declared.refusal.Refusal.TheVariants.{Maps, Listing, Load, Open, NoCell}
 use Rattle.bpf_suite.specs.declared.setting.Setting.{Setting}
 
 -- The map table that a text names; no map where there is no text.
@@ -36,6 +42,26 @@ pub record IsProgramOf (t : Setting) (code : Checked) : Type 0 where
   pub words : HasWords t.is_listing t.program code.bytes
   pub accepted : IsProgram code
 
+-- The first cell that no map of these shapes has, or whose values have another length.
+abbrev pub is_there : List MapShape → Cell → Bool
+is_there maps cell = has_cell (slice_get maps cell.map) cell.index (length cell.value)
+
+abbrev pub missing : List MapShape → List Cell → Option Cell
+missing maps cells = find (λ cell. not (is_there maps cell)) cells
+
+-- Cells get their values, one after another, as `set cell` of the debugger gives them.
+abbrev pub edit_of : Cell → Edit
+edit_of cell = edit.Cell cell.map cell.index cell.value
+
+abbrev pub with_cells : List Cell → State → State
+with_cells [] x = x
+with_cells (cell ∷ cells) x = with_cells cells (edited x (edit_of cell))
+
+-- The machine is opened on the program and the context.
+pub record IsOpened (t : Setting) (code : Checked) : Type 0 where
+  pub program : IsProgramOf t code
+  pub short : length t.context ≤ context_limit
+
 -- Why it is refused. Each refusal comes where those before don't.
 abbrev pub Refuses : Setting → Refusal → Type 0
 Refuses t (Maps fault) = (text : List ℕ) × (t.maps ≡ Some text) × IsListFault text fault
@@ -43,14 +69,28 @@ Refuses t (Listing fault) = (shapes : List MapShape) × HasMaps t.maps shapes ×
 Refuses t (Load fault) = (shapes : List MapShape) × HasMaps t.maps shapes
     × (words : List ℕ) × HasWords t.is_listing t.program words × IsRefused words shapes fault
 Refuses t (Open fault) = (code : Checked) × IsProgramOf t code × opening.Refused t.context fault
+Refuses t (NoCell map index) = (code : Checked) × IsOpened t code
+    × (cell : Cell) × (missing code.maps t.cells ≡ Some cell) × (map ≡ cell.map) × (index ≡ cell.index)
 
--- An outcome: why the program is refused, or the state in which it ended, or had taken as many steps as it may.
+-- Want of memory is no outcome.
+abbrev pub is_memory : Refusal → Bool
+is_memory (Listing assembly.Memory) = true
+is_memory (Load load.Memory) = true
+is_memory (Open unopened.OutOfMemory) = true
+is_memory _ = false
+
+-- The state in which a program ends, or has taken as many steps as it may, from the opening with its cells on.
+abbrev pub Ends : Setting → State → Type 0
+Ends t x = (code : Checked) × IsOpened t code × (missing code.maps t.cells ≡ None)
+    × (x ≡ plain_end t.limit (with_cells t.cells (initial code t.context)))
+
+-- An outcome: that state, or why the program is refused.
 abbrev pub Outcome : Type 0
 Outcome = Result State Refusal
 
 abbrev pub Comes : Setting → Outcome → Type 0
-Comes t (Ok x) = (code : Checked) × IsProgramOf t code × (length t.context ≤ context_limit) × (x ≡ plain_end t.limit (initial code t.context))
-Comes t (Err refusal) = Refuses t refusal
+Comes t (Ok x) = Ends t x
+Comes t (Err refusal) = Refuses t refusal × (is_memory refusal ≡ false)
 
 -- A refusal as it is printed: a letter and a number, where it is if that is known, and a text.
 abbrev pub placed : List ℕ → Option ℕ → List ℕ
@@ -67,11 +107,18 @@ slot_of load.TooLong = None
 slot_of load.Ragged = None
 slot_of load.Memory = None
 
+abbrev pub cell_name : ℕ → ℕ → List ℕ
+cell_name map index = codes "cell " ++ decimal map ++ codes " " ++ decimal index
+
+unfoldable pub cell_place : ℕ → ℕ → List ℕ
+cell_place map index = codes " at " ++ cell_name map index
+
 abbrev pub refusal_text : Refusal → List ℕ
 refusal_text (Maps fault) = text_of_refusal (codes "refused M") (map_fault fault).0 [] (map_fault fault).1
 refusal_text (Listing fault) = text_of_refusal (codes "refused A") (fault_number fault) (placed (codes " at line ") (fault_line fault)) (fault_text fault)
 refusal_text (Load fault) = text_of_refusal (codes "refused C") (load_fault fault).0 (placed (codes " at slot ") (slot_of fault)) (load_fault fault).1
 refusal_text (Open fault) = text_of_refusal (codes "refused O") (opening.number_of fault) [] (opening.text_of fault)
+refusal_text (NoCell map index) = text_of_refusal (codes "refused Q") 14 (cell_place map index) (codes "no such cell or wrong length")
 
 -- The word in front of where a machine stands that still runs.
 abbrev pub limit_word : Status → List ℕ

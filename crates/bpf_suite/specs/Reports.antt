@@ -1,11 +1,17 @@
 -- The report on tests, in the Test Anything Protocol.
-use Rattle.std.specs.Prelude.{ℕ, ◌≡◌, Bool, true, false, ◌&&◌, List, [], ◌∷◌, ◌++◌, codes, decimal}
+use Rattle.std.specs.Prelude.{ℕ, ◌≡◌, Bool, true, false, ◌&&◌, List, [], ◌∷◌, ◌++◌, codes, decimal, flat_map, Option, Ok, Err}
 use Rattle.std.specs.Option.{option_map_or}
-use Rattle.counted_io.specs.Counted.{one_more}
+use Rattle.bpf_machine.specs.Platform.{cell_address}
+use Rattle.bpf_machine.specs.State.{State}
+use Rattle.bpfdb_replies.specs.Texts.{text_of_bytes}
+use Rattle.counted_io.specs.Counted.{Tally, one_more}
+use Rattle.counted_io.specs.Writing.{Writes}
+use Rattle.bpf_suite.specs.Bodies.{trimmed}
 use Rattle.bpf_suite.specs.Faults.{has_part}
-use Rattle.bpf_suite.specs.Outcomes.{Comes, Outcome, outcome_text}
+use Rattle.bpf_suite.specs.Outcomes.{Comes, Outcome, cell_name, outcome_text}
 use Rattle.bpf_suite.specs.Tests.{first_line, section_for, setting, title}
-use Rattle.bpf_suite.specs.Verdicts.{expected_text, passes}
+use Rattle.bpf_suite.specs.Verdicts.{cell_size, expected_text, passes, wrong_cells}
+use Rattle.bpf_suite.specs.declared.cells.CellLine.{CellLine}
 use Rattle.bpf_suite.specs.declared.kind.Part.TheVariants as part
 use Rattle.bpf_suite.specs.declared.report.SuiteFault.{SuiteFault}
 use Rattle.bpf_suite.specs.declared.report.SuiteFault.TheVariants.{Memory, Write}
@@ -24,16 +30,33 @@ named_text (b ∷ s) = codes " - " ++ b ∷ s
 abbrev pub wanted_outcome : List Section → List ℕ
 wanted_outcome test = option_map_or (λ section. expected_text section.kind section.body) (section_for part.Expected test) []
 
-abbrev pub after_word : Bool → List ℕ
-after_word true = codes ", and mem-after"
-after_word false = []
+abbrev pub after_word : Bool → List ℕ → List ℕ
+after_word true name = codes ", and " ++ name
+after_word false name = []
 
 unfoldable pub wanted : List Section → List ℕ
-wanted test = wanted_outcome test ++ after_word (has_part part.After test)
+wanted test =
+    wanted_outcome test ++ after_word (has_part part.After test) (codes "mem-after") ++ after_word (has_part part.CellsAfter test) (codes "map-after")
+
+-- What is said of a cell that doesn't hold what is wanted of it: its address and its value, as `x` of the debugger shows them, and the pattern.
+abbrev pub value_text : State → ℕ → ℕ → List ℕ
+value_text x map index = option_map_or (λ n. text_of_bytes x (cell_address map index n) n) (cell_size x map index) (codes "none\n")
+
+unfoldable pub cell_head : CellLine → List ℕ → List ℕ
+cell_head line word = codes "# " ++ cell_name line.map line.index ++ word
+
+unfoldable pub cell_text : State → CellLine → List ℕ
+cell_text x line =
+    cell_head line (codes " came: ") ++ value_text x line.map line.index ++ cell_head line (codes " wanted: ") ++ trimmed line.digits ++ codes "\n"
+
+abbrev pub cells_text : List CellLine → Outcome → List ℕ
+cells_text wrong (Ok x) = flat_map (cell_text x) wrong
+cells_text wrong (Err refusal) = []
 
 unfoldable pub diagnosis : List Section → Outcome → List ℕ
 diagnosis test outcome =
     codes "# the test in line " ++ decimal (first_line test) ++ codes "\n# came: " ++ outcome_text outcome ++ codes "\n# wanted: " ++ wanted test ++ codes "\n"
+    ++ cells_text (wrong_cells test outcome) outcome
 
 -- The lines of a test.
 abbrev pub verdict_word : Bool → List ℕ
@@ -68,7 +91,23 @@ AreOutcomes [] outcomes = Unit {0}
 AreOutcomes (test ∷ tests) [] = ⊥
 AreOutcomes (test ∷ tests) (outcome ∷ outcomes) = Comes (setting test) outcome × AreOutcomes tests outcomes
 
--- What is counted of a run of tests that breaks off: a write that failed, or nothing.
-abbrev pub Counts : SuiteFault → ℕ → ℕ → Type 0
-Counts Memory old new = new ≡ old
-Counts Write old new = new ≡ one_more old
+-- What stands of a text where a run of tests breaks off: all of it where memory ran out behind it, a beginning where a write of it failed.
+abbrev pub WritesUntil : {T : Type 0} → (T → Option (List ℕ)) → SuiteFault → Tally T → Tally T → List ℕ → Type 0
+WritesUntil contents Memory old new text = Writes {A = Unit {0}} {E = SuiteFault} contents old new (Ok tt) text
+WritesUntil contents Write old new text = Writes {A = Unit {0}} {E = SuiteFault} contents old new (Err Write) text
+
+-- A run of tests, the first of which has a number, breaks off: behind a text stand the reports on the first ones, which came to these outcomes.
+pub record BreaksOff {T : Type 0} (contents : T → Option (List ℕ)) (why : SuiteFault) (old new : Tally T) (front : List ℕ) (k : ℕ)
+    (tests : List (List Section)) : Type 0 where
+  pub done : List (List Section)
+  pub left : List (List Section)
+  pub all : tests ≡ done ++ left
+  pub outcomes : List Outcome
+  pub come : AreOutcomes done outcomes
+  pub written : WritesUntil contents why old new (front ++ tests_text k done outcomes)
+
+-- A test at which a run breaks off: nothing was written of it, or its report in part.
+abbrev pub BreaksAt : {T : Type 0} → (T → Option (List ℕ)) → SuiteFault → Tally T → Tally T → ℕ → List Section → Type 0
+BreaksAt contents Memory old new k test = new ≡ old
+BreaksAt contents Write old new k test =
+    (outcome : Outcome) × Comes (setting test) outcome × WritesUntil contents Write old new (test_text k test outcome)

@@ -1,10 +1,13 @@
 -- What the sections of a test say of its program, and what they expect.
-use Rattle.std.specs.Prelude.{ℕ, Bool, true, false, List, [], ◌∷◌, Option, find}
+use Rattle.std.specs.Prelude.{ℕ, Bool, true, false, List, [], ◌∷◌, Option, filter, find}
+use Rattle.std.specs.Str.{bytes_eq}
 use Rattle.std.specs.Option.{option_map, option_map_or, option_and_then}
 use Rattle.std.specs.Prelude.{unwrap_or}
 use Rattle.bpfdb_limits.specs.Limits.{default_limit}
 use Rattle.bpf_suite.specs.Bodies.{bytes_of, limit_of, trimmed}
+use Rattle.bpf_suite.specs.Cells.{cells_of}
 use Rattle.bpf_suite.specs.Kinds.{is_part}
+use Rattle.bpf_suite.specs.declared.cells.Cell.{Cell}
 use Rattle.bpf_suite.specs.declared.kind.Kind.{Kind}
 use Rattle.bpf_suite.specs.declared.kind.Kind.TheVariants as kind
 use Rattle.bpf_suite.specs.declared.kind.Part.{Part}
@@ -23,6 +26,13 @@ body_for p sections = option_map_or (λ section. section.body) (section_for p se
 -- The name of a test, without spaces around it.
 abbrev pub title : List Section → List ℕ
 title sections = trimmed (body_for part.Title sections)
+
+-- A test of a name, and those of tests.
+abbrev pub is_named : List ℕ → List Section → Bool
+is_named name test = bytes_eq (title test) name
+
+abbrev pub chosen : List ℕ → List (List Section) → List (List Section)
+chosen name tests = filter (is_named name) tests
 
 -- The line in which a test begins.
 abbrev pub first_line : List Section → ℕ
@@ -52,6 +62,10 @@ context sections = unwrap_or (bytes_of (body_for part.Context sections)) []
 abbrev pub maps : List Section → Option (List ℕ)
 maps sections = option_map (λ section. trimmed section.body) (section_for part.Maps sections)
 
+-- The cells that it gives values to.
+abbrev pub cells : List Section → List Cell
+cells sections = cells_of (body_for part.Cells sections)
+
 -- The most steps that it takes.
 abbrev pub limit : List Section → ℕ
 limit sections = unwrap_or (option_and_then (λ section. limit_of section.body) (section_for part.Steps sections)) default_limit
@@ -63,5 +77,6 @@ setting sections = record {
   is_listing = has_listing sections;
   program = program sections;
   context = context sections;
+  cells = cells sections;
   limit = limit sections;
 }

@@ -1,16 +1,20 @@
 -- When a test passes.
-use Rattle.std.specs.Prelude.{ℕ, Bool, true, false, ◌==◌, ◌&&◌, ◌||◌, List, [], ◌∷◌, ◌++◌, codes, drop, length, Ok, Err, if◌then◌else◌, unwrap_or}
+use Rattle.std.specs.Prelude.{ℕ, Bool, true, false, not, ◌==◌, ◌&&◌, ◌||◌, nat_lt, List, [], ◌∷◌, ◌++◌, codes, drop, filter, length, Option, Some, None, Ok, Err, if◌then◌else◌, slice_get, unwrap_or}
 use Rattle.std.specs.List.{starts_with}
-use Rattle.std.specs.Option.{option_map_or}
-use Rattle.bpf_machine.specs.Platform.{context_base}
+use Rattle.std.specs.Option.{option_and_then, option_map_or}
+use Rattle.bpf_isa.specs.declared.maps.MapShape.{MapShape}
+use Rattle.bpf_machine.specs.Platform.{cell_address, context_base}
 use Rattle.bpf_machine.specs.Regions.{run_at}
 use Rattle.bpf_machine.specs.State.{State, register}
 use Rattle.bpf_entries.specs.declared.status.Status.{Status}
 use Rattle.bpf_entries.specs.declared.status.Status.TheVariants as status
 use Rattle.bpf_suite.specs.Bodies.{fits, number_of, solid, trimmed}
+use Rattle.bpf_suite.specs.Cells.{cell_lines}
+use Rattle.bpf_suite.specs.Faults.{has_part}
 use Rattle.bpf_suite.specs.Kinds.{word_of}
 use Rattle.bpf_suite.specs.Outcomes.{Outcome, outcome_text}
-use Rattle.bpf_suite.specs.Tests.{context, section_for}
+use Rattle.bpf_suite.specs.Tests.{body_for, context, section_for}
+use Rattle.bpf_suite.specs.declared.cells.CellLine.{CellLine}
 use Rattle.bpf_suite.specs.declared.kind.Kind.{Kind}
 use Rattle.bpf_suite.specs.declared.kind.Kind.TheVariants as kind
 use Rattle.bpf_suite.specs.declared.kind.Part.TheVariants as part
@@ -66,6 +70,31 @@ leaves test body (Err refusal) = false
 abbrev pub is_left : List Section → Outcome → Bool
 is_left test outcome = option_map_or (λ section. leaves test section.body outcome) (section_for part.After test) true
 
--- A test passes where its program comes to what is expected, and leaves the context that is expected.
+-- How many bytes a value of a map has, where the map has a cell of this index.
+abbrev pub size_in : ℕ → MapShape → Option ℕ
+size_in index shape = if nat_lt index shape.entries then Some shape.value_size else None
+
+abbrev pub cell_size : State → ℕ → ℕ → Option ℕ
+cell_size x map index = option_and_then (size_in index) (slice_get x.program.maps map)
+
+-- The value of a cell, None where there is no such cell.
+abbrev pub cell_value : State → ℕ → ℕ → Option (List ℕ)
+cell_value x map index = option_and_then (λ n. run_at x.memory (cell_address map index n) n) (cell_size x map index)
+
+-- A cell holds what a line says.
+abbrev pub holds : State → CellLine → Bool
+holds x line = option_map_or (λ value. fits (solid line.digits) value) (cell_value x line.map line.index) false
+
+-- What the lines of a test say of cells that they don't hold where the program has ended.
+abbrev pub wrong_cells : List Section → Outcome → List CellLine
+wrong_cells test (Ok x) = filter (λ line. not (holds x line)) (cell_lines (body_for part.CellsAfter test))
+wrong_cells test (Err refusal) = []
+
+-- None is wrong, and where the program is refused nothing is said of cells.
+abbrev pub cells_left : List Section → Outcome → Bool
+cells_left test (Ok x) = length (wrong_cells test (Ok x)) == 0
+cells_left test (Err refusal) = not (has_part part.CellsAfter test)
+
+-- A test passes where its program comes to what is expected, and leaves the context and the cells that are expected.
 abbrev pub passes : List Section → Outcome → Bool
-passes test outcome = is_met test outcome && is_left test outcome
+passes test outcome = is_met test outcome && is_left test outcome && cells_left test outcome

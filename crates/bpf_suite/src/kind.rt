@@ -16,6 +16,8 @@ pub enum Kind {
     Mem,
     /// The maps, as `8x2,4x256`.
     Maps,
+    /// What cells of maps hold before the first step, a line each.
+    Cells,
     /// The most steps that are taken.
     Steps,
     /// r0 of the program that has exited.
@@ -29,6 +31,8 @@ pub enum Kind {
     /// The bytes of the context where the program has ended, in hexadecimal, with `.` for any
     /// digit.
     MemAfter,
+    /// What cells of maps hold where the program has ended, a line each, with `.` for any digit.
+    MapAfter,
     /// Its name is none of these.
     Unknown,
 }
@@ -40,9 +44,11 @@ pub enum Part {
     Program,
     Context,
     Maps,
+    Cells,
     Steps,
     Expected,
     After,
+    CellsAfter,
     Nothing,
 }
 
@@ -56,10 +62,12 @@ impl Part {
             Part::Program => 1,
             Part::Context => 2,
             Part::Maps => 3,
-            Part::Steps => 4,
-            Part::Expected => 5,
-            Part::After => 6,
-            Part::Nothing => 7,
+            Part::Cells => 4,
+            Part::Steps => 5,
+            Part::Expected => 6,
+            Part::After => 7,
+            Part::CellsAfter => 8,
+            Part::Nothing => 9,
         }
     }
 }
@@ -81,6 +89,8 @@ impl Kind {
             Kind::Mem
         } else if is(name, "maps") {
             Kind::Maps
+        } else if is(name, "cells") {
+            Kind::Cells
         } else if is(name, "steps") {
             Kind::Steps
         } else if is(name, "result") {
@@ -93,6 +103,8 @@ impl Kind {
             Kind::Refused
         } else if is(name, "mem-after") {
             Kind::MemAfter
+        } else if is(name, "map-after") {
+            Kind::MapAfter
         } else {
             Kind::Unknown
         }
@@ -108,12 +120,14 @@ impl Kind {
             Kind::Words => Part::Program,
             Kind::Mem => Part::Context,
             Kind::Maps => Part::Maps,
+            Kind::Cells => Part::Cells,
             Kind::Steps => Part::Steps,
             Kind::Result => Part::Expected,
             Kind::Fault => Part::Expected,
             Kind::Limit => Part::Expected,
             Kind::Refused => Part::Expected,
             Kind::MemAfter => Part::After,
+            Kind::MapAfter => Part::CellsAfter,
             Kind::Unknown => Part::Nothing,
         }
     }

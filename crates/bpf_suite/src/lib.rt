@@ -2,6 +2,7 @@
 #![tactic(auto)]
 
 mod body;
+mod cells;
 mod fault;
 mod kind;
 mod outcome;
@@ -11,8 +12,10 @@ mod section;
 mod setting;
 mod suite;
 mod test;
+mod values;
 mod verdict;
 
 pub use fault::{FileFault, SectionFault};
-pub use report::{SuiteFault, write_plan};
+pub use report::{SuiteFault, run_tests, write_plan};
 pub use suite::Suite;
+pub use test::{Test, choose};

@@ -1,23 +1,26 @@
 //! What comes of a test's program.
-ghost use Rattle.std.specs.Prelude.{◌≡◌, ◌≤◌, ◌++◌, IfErr, IfOk, [], true, length};
+ghost use Rattle.std.specs.Prelude.{◌≡◌, ◌++◌, IfErr, IfOk, OnErr, OnOk, None, Some, [], false, true};
 ghost use Rattle.bpf_isa.specs.Programs.{Checked};
-ghost use Rattle.bpf_machine.specs.Platform.{context_limit};
+ghost use Rattle.bpf_machine.specs.Edits.{edited};
 ghost use Rattle.bpf_machine.specs.State.{initial};
-ghost use Rattle.bpf_session.specs.Plain.{plain_end};
 ghost use Rattle.bpfdb_replies.specs.Texts.{place};
 ghost use Rattle.counted_io.specs.Writing.{WritesAfter};
-ghost use Rattle.bpf_suite.specs.Outcomes.{Comes, HasMaps, HasWords, IsProgramOf, Refuses, limit_word, outcome_text, placed, refusal_text, slot_of, text_of_refusal};
+ghost use Rattle.bpf_suite.specs.Outcomes.{Ends, HasMaps, HasWords, IsOpened, IsProgramOf, Refuses, cell_name, cell_place, edit_of, is_there, limit_word, missing, outcome_text, placed, refusal_text, slot_of, text_of_refusal, with_cells};
 
+use crate::cells::Cell;
 use crate::refusal::Refusal;
 use crate::setting::Setting;
 use bpf_isa::{LoadFault, MapTable, Program, check};
-use bpf_machine::{Cpu, Status};
+use bpf_machine::{Cpu, Edit, Status};
 use bpf_session::run_plain;
 use bpf_text::{AsmFault, assemble};
 use bpfdb_replies::write_place;
 use counted_io::{Counted, WriteFault, put, put_decimal};
 use std::alloc::Global;
 use std::io::{Write, sink};
+
+/// The number of the refusal of a cell, in the debugger too.
+const NO_CELL: u64 = 14;
 
 /// The map table.
 fn maps_of(setting: &Setting<'_>) -> Result<MapTable, Refusal>
@@ -84,10 +87,9 @@ fn checked(
     }
 }
 
-/// A machine before its first step.
+/// A machine that is opened on the program and the context.
 fn machine_of(alloc: Global, setting: &Setting<'_>) -> Result<Cpu, Refusal>
-    ensures ok { IfOk result (λ cpu. (code : Checked) × IsProgramOf setting.now code
-        × (length setting.now.context ≤ context_limit)
+    ensures ok { IfOk result (λ cpu. (code : Checked) × IsOpened setting.now code
         × (cpu ≡ initial code setting.now.context)) }
     ensures err { IfErr result (Refuses setting.now) }
 {
@@ -101,15 +103,56 @@ fn machine_of(alloc: Global, setting: &Setting<'_>) -> Result<Cpu, Refusal>
     }
 }
 
+/// Gives a cell its value.
+fn set_cell(cpu: &mut Cpu, cell: &Cell) -> Result<(), Refusal>
+    ensures ok { OnOk result (is_there cpu.old.program.maps cell.now ≡ true) }
+    ensures next { OnOk result (cpu.new ≡ edited cpu.old (edit_of cell.now)) }
+    ensures err { OnErr result (is_there cpu.old.program.maps cell.now ≡ false) }
+    ensures told { IfErr result (λ refusal.
+        refusal ≡ Refusal.NoCell cell.now.map cell.now.index) }
+{
+    let edit = Edit::Cell {
+        map: cell.map,
+        index: cell.index,
+        bytes: cell.value.copied(),
+    };
+    match cpu.edit(&edit) {
+        Ok(_) => Ok(()),
+        Err(_) => Err(Refusal::NoCell(cell.map, cell.index)),
+    }
+}
+
+/// Gives cells their values, one after another, up to the first that isn't there.
+fn set_cells(cpu: &mut Cpu, cells: &[Cell]) -> Result<(), Refusal>
+    ensures ok { OnOk result (missing cpu.old.program.maps cells.now ≡ None) }
+    ensures next { OnOk result (cpu.new ≡ with_cells cells.now cpu.old) }
+    ensures err { IfErr result (λ refusal. (cell : Cell)
+        × (missing cpu.old.program.maps cells.now ≡ Some cell)
+        × (refusal ≡ Refusal.NoCell cell.map cell.index)) }
+{
+    for cell in cells {
+        match set_cell(cpu, cell) {
+            Ok(()) => {}
+            Err(refusal) => return Err(refusal),
+        }
+    }
+    Ok(())
+}
+
 /// What comes of a program: it is refused, or the machine in which it ended, or had taken as many
 /// steps as it may.
 pub fn outcome_of(alloc: Global, setting: &Setting<'_>) -> Result<Cpu, Refusal>
-    ensures { Comes setting.now result }
+    ensures ok { IfOk result (Ends setting.now) }
+    ensures err { IfErr result (Refuses setting.now) }
 {
     let mut cpu = match machine_of(alloc, setting) {
         Ok(cpu) => cpu,
         Err(refusal) => return Err(refusal),
     };
+    match set_cells(&mut cpu, setting.cells.as_slice()) {
+        Ok(()) => {}
+        Err(refusal) => return Err(refusal),
+    }
     let _ending = run_plain(&mut cpu, setting.limit, &mut Counted::new(sink()));
     Ok(cpu)
 }
@@ -189,7 +232,64 @@ fn put_refusal<W: Write>(
         Refusal::Open(fault) => {
             put_unplaced(writer, so_far, b"refused O", fault.number(), fault.text())
         }
+        Refusal::NoCell(map, index) => put_no_cell(
+            writer,
+            so_far,
+            b"refused Q",
+            NO_CELL,
+            *map,
+            *index,
+            b"no such cell or wrong length",
+        ),
     }
+}
+
+/// Writes the refusal of a cell: how it begins, its number, which cell it is, and its text.
+fn put_no_cell<W: Write>(
+    writer: &mut Counted<W>,
+    so_far: Result<(), WriteFault>,
+    family: &[u8],
+    number: u64,
+    map: u64,
+    index: u64,
+    text: &[u8],
+) -> Result<(), WriteFault>
+    ensures { WritesAfter W.contents writer.old so_far writer.new result
+        (text_of_refusal family.now number (cell_place map index) text.now) }
+{
+    let begun = put(writer, so_far, family);
+    let numbered = put_decimal(writer, begun, number);
+    let placed = put_cell_place(writer, numbered, map, index);
+    let parted = put(writer, placed, b": ");
+    put(writer, parted, text)
+}
+
+/// Writes at which cell it is.
+fn put_cell_place<W: Write>(
+    writer: &mut Counted<W>,
+    so_far: Result<(), WriteFault>,
+    map: u64,
+    index: u64,
+) -> Result<(), WriteFault>
+    ensures { WritesAfter W.contents writer.old so_far writer.new result (cell_place map index) }
+{
+    let begun = put(writer, so_far, b" at ");
+    put_cell_name(writer, begun, map, index)
+}
+
+/// Writes which cell it is.
+pub fn put_cell_name<W: Write>(
+    writer: &mut Counted<W>,
+    so_far: Result<(), WriteFault>,
+    map: u64,
+    index: u64,
+) -> Result<(), WriteFault>
+    ensures { WritesAfter W.contents writer.old so_far writer.new result (cell_name map index) }
+{
+    let begun = put(writer, so_far, b"cell ");
+    let counted = put_decimal(writer, begun, map);
+    let parted = put(writer, counted, b" ");
+    put_decimal(writer, parted, index)
 }
 
 /// Writes the fault of a listing.

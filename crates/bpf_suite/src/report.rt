@@ -1,19 +1,19 @@
 //! The report on tests, in the Test Anything Protocol.
-ghost use Rattle.std.specs.Prelude.{◌≡◌, ◌&&◌, List, IfErr, IfOk};
+ghost use Rattle.std.specs.Prelude.{◌≡◌, ◌&&◌, List, [], IfErr, IfOk};
 ghost use Rattle.counted_io.specs.Writing.{Writes, WritesAfter};
-ghost use Rattle.bpf_suite.specs.Files.{named, own_of, tests, with_shared};
 ghost use Rattle.bpf_suite.specs.Outcomes.{Comes, Outcome};
-ghost use Rattle.bpf_suite.specs.Reports.{AreOutcomes, Counts, after_word, all_pass, diagnosis, named_text, plan, report_text, test_text, tests_text, verdict_text, verdict_word, wanted, wanted_outcome};
+ghost use Rattle.bpf_suite.specs.Reports.{AreOutcomes, BreaksAt, BreaksOff, after_word, all_pass, diagnosis, named_text, plan, report_text, test_text, tests_text, verdict_text, verdict_word, wanted, wanted_outcome};
 ghost use Rattle.bpf_suite.specs.Tests.{setting};
-ghost use Rattle.bpf_suite.specs.Verdicts.{passes};
+ghost use Rattle.bpf_suite.specs.Verdicts.{passes, wrong_cells};
 
+use crate::cells::CellLine;
 use crate::kind::Part;
 use crate::outcome::{outcome_of, put_outcome};
 use crate::refusal::Refusal;
-use crate::section::{Section, Text, until_name};
+use crate::section::Text;
 use crate::setting::Setting;
-use crate::suite::{Suite, begins_name};
-use crate::test::{Test, has_part};
+use crate::test::Test;
+use crate::values::{put_cells, wrong_cells};
 use crate::verdict::{passes, put_expected};
 use bpf_machine::Cpu;
 use counted_io::{Counted, WriteFault, put, put_decimal};
@@ -38,87 +38,30 @@ pub fn write_plan<W: Write>(writer: &mut Counted<W>, tests: usize) -> Result<(),
     put(writer, counted, b"\n")
 }
 
-impl<'a> Suite<'a> {
-    /// Runs the tests, the first of which has a number, and reports on each. Answers whether all
-    /// passed.
-    pub fn run<W: Write>(
-        &self,
-        alloc: Global,
-        first: u64,
-        writer: &mut Counted<W>,
-    ) -> Result<bool, SuiteFault>
-        ensures ok { IfOk result (λ passed. (outcomes : List Outcome)
-            × AreOutcomes (tests self.now) outcomes
-            × (passed ≡ all_pass (tests self.now) outcomes)
-            × Writes W.contents writer.old writer.new result
-            (tests_text first (tests self.now) outcomes)) }
-        ensures err { IfErr result (λ why.
-            Counts why writer.old.failures writer.new.failures) }
-    {
-        run_tests(alloc, self.sections.as_slice(), first, writer)
-    }
-}
-
-/// Runs the tests of sections, and reports on each. Answers whether all passed.
-fn run_tests<W: Write>(
+/// Runs tests, the first of which has a number, and reports on each. Answers whether all passed.
+pub fn run_tests<W: Write>(
     alloc: Global,
-    sections: &[Section<'_>],
+    tests: &[Test<'_, '_>],
     first: u64,
     writer: &mut Counted<W>,
 ) -> Result<bool, SuiteFault>
     ensures ok { IfOk result (λ passed. (outcomes : List Outcome)
-        × AreOutcomes (tests sections.now) outcomes
-        × (passed ≡ all_pass (tests sections.now) outcomes)
+        × AreOutcomes tests.now outcomes
+        × (passed ≡ all_pass tests.now outcomes)
         × Writes W.contents writer.old writer.new result
-        (tests_text first (tests sections.now) outcomes)) }
+        (tests_text first tests.now outcomes)) }
     ensures err { IfErr result (λ why.
-        Counts why writer.old.failures writer.new.failures) }
-{
-    let shared = until_name(sections);
-    if has_part(sections, Part::Title) {
-        match report_named(alloc, sections, shared, first, writer) {
-            Ok(passed) => Ok(passed),
-            Err(fault) => Err(fault),
-        }
-    } else {
-        match report(alloc, &Test { own: &[], shared }, first, writer) {
-            Ok(passed) => Ok(passed),
-            Err(fault) => Err(fault),
-        }
-    }
-}
-
-/// Runs the tests that names begin, and reports on each. Answers whether all passed.
-fn report_named<'b, 'a, W: Write>(
-    alloc: Global,
-    sections: &'b [Section<'a>],
-    shared: &'b [Section<'a>],
-    first: u64,
-    writer: &mut Counted<W>,
-) -> Result<bool, SuiteFault>
-    ensures ok { IfOk result (λ passed. (outcomes : List Outcome)
-        × AreOutcomes (with_shared shared.now (named sections.now)) outcomes
-        × (passed ≡ all_pass (with_shared shared.now (named sections.now)) outcomes)
-        × Writes W.contents writer.old writer.new result
-        (tests_text first (with_shared shared.now (named sections.now)) outcomes)) }
-    ensures err { IfErr result (λ why.
-        Counts why writer.old.failures writer.new.failures) }
+        BreaksOff W.contents why writer.old writer.new [] first tests.now) }
 {
     let mut passed = true;
     let mut number = first;
-    for at in 0..sections.len() {
-        if begins_name(&sections[at..]) {
-            let test = Test {
-                own: own_of(&sections[at..]),
-                shared,
-            };
-            match report(alloc, &test, number, writer) {
-                Ok(ok) => {
-                    passed = both(passed, ok);
-                    number = number.saturating_add(1);
-                }
-                Err(fault) => return Err(fault),
+    for test in tests {
+        match report(alloc, test, number, writer) {
+            Ok(ok) => {
+                passed = both(passed, ok);
+                number = number.saturating_add(1);
             }
+            Err(fault) => return Err(fault),
         }
     }
     Ok(passed)
@@ -128,19 +71,6 @@ fn both(one: bool, other: bool) -> bool
     ensures { result ≡ (one && other) }
 {
     one && other
-}
-
-/// The first section, and those up to the next name.
-fn own_of<'b, 'a>(sections: &'b [Section<'a>]) -> &'b [Section<'a>]
-    ensures { result.now ≡ own_of sections.now }
-{
-    match sections {
-        [_, more @ ..] => {
-            let others = until_name(more);
-            &sections[..1 + others.len()]
-        }
-        [] => &[],
-    }
 }
 
 /// Runs a test, and reports on it. Answers whether it passed.
@@ -154,28 +84,33 @@ fn report<W: Write>(
         × (passed ≡ passes test.now outcome)
         × Writes W.contents writer.old writer.new result (test_text number test.now outcome)) }
     ensures err { IfErr result (λ why.
-        Counts why writer.old.failures writer.new.failures) }
+        BreaksAt W.contents why writer.old writer.new number test.now) }
 {
     let outcome = match test_outcome(alloc, test) {
         Ok(outcome) => outcome,
         Err(_) => return Err(SuiteFault::Memory),
     };
-    let passed = match passes(alloc, test, &outcome) {
+    let wrong = match wrong_cells(alloc, test, &outcome) {
+        Ok(wrong) => wrong,
+        Err(_) => return Err(SuiteFault::Memory),
+    };
+    let passed = match passes(alloc, test, &outcome, wrong.as_slice()) {
         Ok(passed) => passed,
         Err(_) => return Err(SuiteFault::Memory),
     };
-    match write_test(writer, passed, number, test, &outcome) {
+    match write_test(writer, passed, number, test, &outcome, wrong.as_slice()) {
         Ok(()) => Ok(passed),
         Err(WriteFault) => Err(SuiteFault::Write),
     }
 }
 
-/// What a test's program comes to.
+/// What a test's program comes to. Want of memory is no outcome.
 fn test_outcome(alloc: Global, test: &Test<'_, '_>) -> Result<Result<Cpu, Refusal>, AllocError>
     ensures { IfOk result (Comes (setting test.now)) }
 {
     let program = test.program(alloc)?;
     let context = test.context(alloc)?;
+    let cells = test.cells(alloc)?;
     let setting = Setting {
         maps: test.maps(),
         is_listing: test.has_listing(),
@@ -185,9 +120,19 @@ fn test_outcome(alloc: Global, test: &Test<'_, '_>) -> Result<Result<Cpu, Refusa
         context: Text {
             bytes: context.as_slice(),
         },
+        cells,
         limit: test.limit(),
     };
-    Ok(outcome_of(alloc, &setting))
+    match outcome_of(alloc, &setting) {
+        Ok(cpu) => Ok(Ok(cpu)),
+        Err(refusal) => {
+            if refusal.is_memory() {
+                Err(AllocError)
+            } else {
+                Ok(Err(refusal))
+            }
+        }
+    }
 }
 
 /// Writes the lines of a test.
@@ -197,7 +142,9 @@ fn write_test<W: Write>(
     number: u64,
     test: &Test<'_, '_>,
     outcome: &Result<Cpu, Refusal>,
+    wrong: &[CellLine<'_>],
 ) -> Result<(), WriteFault>
+    requires { wrong.now ≡ wrong_cells test.now outcome.now }
     ensures { Writes W.contents writer.old writer.new result
         (report_text passed number test.now outcome.now) }
 {
@@ -205,7 +152,7 @@ fn write_test<W: Write>(
         put_verdict(writer, Ok(()), true, number, test)
     } else {
         let told = put_verdict(writer, Ok(()), false, number, test);
-        put_diagnosis(writer, told, test, outcome)
+        put_diagnosis(writer, told, test, outcome, wrong)
     }
 }
 
@@ -259,13 +206,15 @@ fn put_title<W: Write>(
     }
 }
 
-/// Writes what came of a test, and what was wanted.
+/// Writes what came of a test, what was wanted, and which cells are wrong.
 fn put_diagnosis<W: Write>(
     writer: &mut Counted<W>,
     so_far: Result<(), WriteFault>,
     test: &Test<'_, '_>,
     outcome: &Result<Cpu, Refusal>,
+    wrong: &[CellLine<'_>],
 ) -> Result<(), WriteFault>
+    requires { wrong.now ≡ wrong_cells test.now outcome.now }
     ensures { WritesAfter W.contents writer.old so_far writer.new result
         (diagnosis test.now outcome.now) }
 {
@@ -275,7 +224,8 @@ fn put_diagnosis<W: Write>(
     let told = put_outcome(writer, parted, outcome);
     let followed = put(writer, told, b"\n# wanted: ");
     let said = put_wanted(writer, followed, test);
-    put(writer, said, b"\n")
+    let ended = put(writer, said, b"\n");
+    put_cells(writer, ended, outcome, wrong)
 }
 
 /// Writes what is wanted of a test.
@@ -287,7 +237,8 @@ fn put_wanted<W: Write>(
     ensures { WritesAfter W.contents writer.old so_far writer.new result (wanted test.now) }
 {
     let begun = put_wanted_outcome(writer, so_far, test);
-    put_after_word(writer, begun, test.has(Part::After))
+    let told = put_after_word(writer, begun, test.has(Part::After), b"mem-after");
+    put_after_word(writer, told, test.has(Part::CellsAfter), b"map-after")
 }
 
 /// Writes which outcome is wanted of a test.
@@ -305,16 +256,19 @@ fn put_wanted_outcome<W: Write>(
     }
 }
 
-/// Writes that a context is wanted, too.
+/// Writes that a section's bytes are wanted, too.
 fn put_after_word<W: Write>(
     writer: &mut Counted<W>,
     so_far: Result<(), WriteFault>,
     has: bool,
+    name: &[u8],
 ) -> Result<(), WriteFault>
-    ensures { WritesAfter W.contents writer.old so_far writer.new result (after_word has) }
+    ensures { WritesAfter W.contents writer.old so_far writer.new result
+        (after_word has name.now) }
 {
     if has {
-        put(writer, so_far, b", and mem-after")
+        let begun = put(writer, so_far, b", and ");
+        put(writer, begun, name)
     } else {
         put(writer, so_far, b"")
     }

@@ -1,4 +1,5 @@
 //! What a test says of its program.
+use crate::cells::Cells;
 use crate::section::Text;
 
 /// A program, and what it runs on.
@@ -10,6 +11,8 @@ pub struct Setting<'a> {
     pub is_listing: bool,
     pub program: Text<'a>,
     pub context: Text<'a>,
+    /// The cells of maps that have a value before the first step.
+    pub cells: Cells,
     /// The most steps.
     pub limit: u64,
 }

@@ -1,15 +1,15 @@
 //! A test file without a fault.
-ghost use Rattle.std.specs.Prelude.{◌≡◌, ◌≤◌, ◌<◌, ◌++◌, List, None, IfErr, IfOk, count_by, get_or, is_some, length, slice_range, []};
+ghost use Rattle.std.specs.Prelude.{◌≡◌, ◌≤◌, ◌<◌, ◌∷◌, ◌++◌, drop, List, None, IfErr, IfOk, OnOk, get_or, is_some, length, slice_range, []};
 ghost use Rattle.bpf_suite.specs.Bodies.{bytes_of, is_pattern, solid};
 ghost use Rattle.bpf_suite.specs.Faults.{IsFaultOf, alone_fault, fault_at, file_fault, first_fault, is_well_formed, same_test, section_fault, sections_fault};
-ghost use Rattle.bpf_suite.specs.Files.{begins_name, sections, tests, until_name};
-ghost use Rattle.bpf_suite.specs.Kinds.{is_name};
+ghost use Rattle.bpf_suite.specs.Files.{begins_name, named, own_of, sections, tests, until_name, with_shared};
 ghost use Rattle.bpf_suite.specs.declared.section.Section.{Section};
 
 use crate::body::{
     are_remarks, bytes_of, is_line, is_pattern, is_phrase, is_title, limit_of, number_of, solid,
     trimmed,
 };
+use crate::cells::{are_cells, are_patterns};
 use crate::fault::{FileFault, SectionFault};
 use crate::kind::{Kind, Part};
 use crate::section::{Section, front, sections, until_name};
@@ -53,23 +53,86 @@ impl<'a> Suite<'a> {
         }
     }
 
-    /// How many tests it has.
-    pub fn len(&self) -> usize
-        ensures { result ≡ length (tests self.now) }
+    /// Its tests.
+    pub fn tests<'b>(&'b self, alloc: Global) -> Result<Vec<Test<'b, 'a>>, AllocError>
+        ensures { IfOk result (λ found. found.items ≡ tests self.now) }
     {
-        let names = name_count(self.sections.as_slice());
-        if names == 0 { 1 } else { names }
+        tests(alloc, self.sections.as_slice())
     }
 }
 
-/// How many sections are names.
-fn name_count(sections: &[Section<'_>]) -> usize
-    ensures { result ≡ count_by (λ section. is_name section.kind) sections.now }
+/// The tests of sections.
+fn tests<'b, 'a>(
+    alloc: Global,
+    sections: &'b [Section<'a>],
+) -> Result<Vec<Test<'b, 'a>>, AllocError>
+    ensures { IfOk result (λ found. found.items ≡ tests sections.now) }
 {
-    sections
-        .iter()
-        .filter(|section| section.kind.is(Part::Title))
-        .count()
+    let shared = until_name(sections);
+    let mut found = named(alloc, sections, shared)?;
+    if found.is_empty() {
+        push_test(&mut found, &shared[..0], shared)?;
+    }
+    Ok(found)
+}
+
+/// The tests that names begin.
+fn named<'b, 'a>(
+    alloc: Global,
+    sections: &'b [Section<'a>],
+    shared: &'b [Section<'a>],
+) -> Result<Vec<Test<'b, 'a>>, AllocError>
+    ensures { IfOk result (λ found. found.items ≡ with_shared shared.now (named sections.now)) }
+{
+    let mut found = Vec::new(alloc);
+    for at in 0..sections.len() {
+        push_named(&mut found, &sections[at..], shared)?;
+    }
+    Ok(found)
+}
+
+/// Adds the test that the first section begins, if that is a name.
+fn push_named<'b, 'a>(
+    found: &mut Vec<Test<'b, 'a>>,
+    sections: &'b [Section<'a>],
+    shared: &'b [Section<'a>],
+) -> Result<(), AllocError>
+    ensures { OnOk result (found.new.items ++ with_shared shared.now (named (drop 1 sections.now))
+        ≡ found.old.items ++ with_shared shared.now (named sections.now)) }
+{
+    if begins_name(sections) {
+        push_test(found, own_of(sections), shared)
+    } else {
+        Ok(())
+    }
+}
+
+/// Adds a test.
+fn push_test<'b, 'a>(
+    found: &mut Vec<Test<'b, 'a>>,
+    own: &'b [Section<'a>],
+    shared: &'b [Section<'a>],
+) -> Result<(), AllocError>
+    ensures { OnOk result (found.new.items
+        ≡ found.old.items ++ (own.now ++ shared.now) ∷ []) }
+{
+    match found.push(Test { own, shared }) {
+        Ok(()) => Ok(()),
+        Err(_) => Err(AllocError),
+    }
+}
+
+/// The first section, and those up to the next name.
+fn own_of<'b, 'a>(sections: &'b [Section<'a>]) -> &'b [Section<'a>]
+    ensures { result.now ≡ own_of sections.now }
+{
+    match sections {
+        [_, more @ ..] => {
+            let others = until_name(more);
+            &sections[..1 + others.len()]
+        }
+        [] => &[],
+    }
 }
 
 /// The first fault of sections.
@@ -131,7 +194,7 @@ fn test_start(sections: &[Section<'_>], start: usize, at: usize) -> usize
 }
 
 /// Whether the first section is a name.
-pub fn begins_name(sections: &[Section<'_>]) -> bool
+fn begins_name(sections: &[Section<'_>]) -> bool
     ensures { result ≡ begins_name sections.now }
 {
     match sections {
@@ -200,6 +263,8 @@ fn is_well_formed(alloc: Global, kind: Kind, body: &[u8]) -> Result<bool, AllocE
         Kind::Maps | Kind::Limit => Ok(is_line(trimmed(body))),
         Kind::Fault | Kind::Refused => Ok(is_phrase(trimmed(body))),
         Kind::MemAfter => is_pattern_body(alloc, body),
+        Kind::Cells => are_cells(alloc, body),
+        Kind::MapAfter => are_patterns(alloc, body),
         Kind::Listing | Kind::Unknown => Ok(true),
     }
 }

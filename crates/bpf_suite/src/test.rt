@@ -1,10 +1,11 @@
 //! The parts of a test.
 ghost use Rattle.std.specs.Prelude.{◌≡◌, ◌++◌, IfOk, [], unwrap_or};
 ghost use Rattle.bpf_suite.specs.Bodies.{bytes_of};
-ghost use Rattle.bpf_suite.specs.Tests.{body_for, context, first_line, has_listing, is_listing, limit, maps, program, section_for, text_or_bytes, title};
+ghost use Rattle.bpf_suite.specs.Tests.{body_for, cells, chosen, context, first_line, has_listing, is_listing, is_named, limit, maps, program, section_for, text_or_bytes, title};
 ghost use Rattle.bpf_suite.specs.Faults.{has_part, lack};
 
 use crate::body::{bytes_of, limit_of, trimmed};
+use crate::cells::Cells;
 use crate::fault::SectionFault;
 use crate::kind::{Kind, Part};
 use crate::section::{Section, Text};
@@ -16,8 +17,8 @@ use std::marker::Model;
 /// behind the other.
 #[derive(Drop)]
 pub struct Test<'b, 'a> {
-    pub own: &'b [Section<'a>],
-    pub shared: &'b [Section<'a>],
+    pub(crate) own: &'b [Section<'a>],
+    pub(crate) shared: &'b [Section<'a>],
 }
 
 impl<'b, 'a> Model for Test<'b, 'a> {
@@ -90,6 +91,13 @@ impl<'b, 'a> Test<'b, 'a> {
         }
     }
 
+    /// The text of a part's body; nothing where there is none.
+    pub fn text(&self, part: Part) -> &'a [u8]
+        ensures { result.now ≡ body_for part self.now }
+    {
+        self.body(part).bytes
+    }
+
     /// The body of a part; nothing where there is none.
     fn body(&self, part: Part) -> Text<'a>
         ensures { result ≡ body_for part self.now }
@@ -105,6 +113,13 @@ impl<'b, 'a> Test<'b, 'a> {
         ensures { result.now ≡ title self.now }
     {
         trimmed(self.body(Part::Title).bytes)
+    }
+
+    /// Whether it has this name.
+    fn is_named(&self, name: &[u8]) -> bool
+        ensures { result ≡ is_named name.now self.now }
+    {
+        self.title() == name
     }
 
     /// Whether its program is a listing.
@@ -146,6 +161,13 @@ impl<'b, 'a> Test<'b, 'a> {
         }
     }
 
+    /// The cells that it gives values to.
+    pub fn cells(&self, alloc: Global) -> Result<Cells, AllocError>
+        ensures { IfOk result (λ found. found ≡ cells self.now) }
+    {
+        Cells::of(alloc, self.body(Part::Cells).bytes)
+    }
+
     /// The most steps that it takes.
     pub fn limit(&self) -> u64
         ensures { result ≡ limit self.now }
@@ -155,6 +177,13 @@ impl<'b, 'a> Test<'b, 'a> {
             None => DEFAULT_LIMIT,
         }
     }
+}
+
+/// Keeps the tests of a name alone.
+pub fn choose(tests: &mut Vec<Test<'_, '_>>, name: &[u8])
+    ensures { tests.new.items ≡ chosen name.now tests.old.items }
+{
+    tests.retain(|test| test.is_named(name));
 }
 
 fn is_listing(kind: Kind) -> bool

@@ -4,9 +4,10 @@ ghost use Rattle.std.specs.Option.{option_map_or};
 ghost use Rattle.counted_io.specs.Writing.{Writes, WritesAfter};
 ghost use Rattle.bpf_suite.specs.Bodies.{number_of};
 ghost use Rattle.bpf_suite.specs.Outcomes.{outcome_text};
-ghost use Rattle.bpf_suite.specs.Verdicts.{apart, context_after, expected_text, has_exited, is_left, is_met, is_stop, leaves, meets, passes, results, tells};
+ghost use Rattle.bpf_suite.specs.Verdicts.{apart, cells_left, context_after, expected_text, has_exited, is_left, is_met, is_stop, leaves, meets, passes, results, tells, wrong_cells};
 
 use crate::body::{fits, number_of, solid, trimmed};
+use crate::cells::CellLine;
 use crate::kind::{Kind, Part};
 use crate::outcome::put_outcome;
 use crate::refusal::Refusal;
@@ -20,17 +21,30 @@ use std::io::Write;
 /// The address of the context's first byte.
 const CONTEXT_BASE: u64 = 0x1_0000_0000;
 
-/// Whether a test passes with this outcome.
+/// Whether a test passes with this outcome, and with these cells that are wrong.
 pub fn passes(
     alloc: Global,
     test: &Test<'_, '_>,
     outcome: &Result<Cpu, Refusal>,
+    wrong: &[CellLine<'_>],
 ) -> Result<bool, AllocError>
+    requires { wrong.now ≡ wrong_cells test.now outcome.now }
     ensures { IfOk result (λ passed. passed ≡ passes test.now outcome.now) }
 {
     let met = is_met(alloc, test, outcome)?;
     let left = is_left(alloc, test, outcome)?;
-    Ok(met && left)
+    Ok(met && left && cells_left(test, outcome, wrong))
+}
+
+/// Whether no cell is wrong, of these.
+fn cells_left(test: &Test<'_, '_>, outcome: &Result<Cpu, Refusal>, wrong: &[CellLine<'_>]) -> bool
+    requires { wrong.now ≡ wrong_cells test.now outcome.now }
+    ensures { result ≡ cells_left test.now outcome.now }
+{
+    match outcome {
+        Ok(_) => wrong.is_empty(),
+        Err(_) => !test.has(Part::CellsAfter),
+    }
 }
 
 /// Whether an outcome is what a test expects.

@@ -3,12 +3,14 @@ use Rattle.std.specs.Prelude.{ℕ, ◌≡◌, Bool, true, false, List, ◌++◌,
 use Rattle.bpf_suite.specs.Faults.{file_fault}
 use Rattle.bpf_suite.specs.Files.{sections, tests}
 use Rattle.bpf_suite.specs.Outcomes.{Outcome}
-use Rattle.bpf_suite.specs.Reports.{AreOutcomes, all_pass, plan, tests_text}
+use Rattle.bpf_suite.specs.Reports.{AreOutcomes, BreaksOff, all_pass, plan, tests_text}
 use Rattle.bpf_suite.specs.declared.fault.FileFault.{FileFault}
 use Rattle.bpf_suite.specs.declared.fault.FileFault.TheVariants as file
+use Rattle.bpf_suite.specs.declared.report.SuiteFault.{SuiteFault}
+use Rattle.bpf_suite.specs.declared.report.SuiteFault.TheVariants as suite
 use Rattle.bpf_suite.specs.declared.section.Section.{Section}
 use Rattle.counted_io.specs.Counted.{Tally}
-use Rattle.bpfdb_jobs.specs.Endings.{FailedOnce, Gets, Spared, Told}
+use Rattle.bpfdb_jobs.specs.Endings.{Gets, Told}
 use Rattle.bpfdb_jobs.specs.Faults.{line_of}
 use Rattle.bpfdb_jobs.specs.Refusals.{RefusesTests}
 use Rattle.bpfdb_jobs.specs.declared.fault.JobFault.{JobFault}
@@ -30,8 +32,13 @@ abbrev pub fault_of_file : FileFault → JobFault
 fault_of_file (file.Line why line) = fault.Refused (Tests why line)
 fault_of_file file.Memory = fault.Memory
 
--- How a job of `test` ends: its tests were run, and reported on; or its file was refused, and nothing written; or memory ran out before or
--- while tests ran, or standard output failed, and what was written is not said.
+-- Why a run of tests breaks off.
+abbrev pub fault_of_suite : SuiteFault → JobFault
+fault_of_suite suite.Memory = fault.Memory
+fault_of_suite suite.Write = fault.Output
+
+-- How a job of `test` ends: its tests were run, and reported on; or its file was refused, or memory ran out before, and nothing was written; or
+-- memory ran out at a test, or standard output failed, and what stands are the plan and the reports on the tests before, or a beginning of them.
 pub data EndsTests {W E : Type 0} (contents : W → Option (List ℕ)) (lines : E → Option (List ℕ)) (job : Job) (writer writer' : Tally W)
     (errors errors' : Tally E) (status : ℕ) : Type 0 where
   Reported : (outcomes : List Outcome) → file_fault job.file.now ≡ None → AreOutcomes (tests (sections job.file.now)) outcomes
@@ -40,7 +47,9 @@ pub data EndsTests {W E : Type 0} (contents : W → Option (List ℕ)) (lines : 
       → EndsTests contents lines job writer writer' errors errors' status
   Refused : (refusal : JobRefusal) → RefusesTests job refusal → writer' ≡ writer → Told lines errors errors' (line_of (fault.Refused refusal))
       → status ≡ 2 → EndsTests contents lines job writer writer' errors errors' status
-  Exhausted : Spared writer writer' → Told lines errors errors' (line_of fault.Memory) → status ≡ 2
+  Exhausted : writer' ≡ writer → Told lines errors errors' (line_of fault.Memory) → status ≡ 2
       → EndsTests contents lines job writer writer' errors errors' status
-  OutLost : file_fault job.file.now ≡ None → FailedOnce writer writer' → Told lines errors errors' (line_of fault.Output) → status ≡ 2
+  BrokenOff : (why : SuiteFault) → file_fault job.file.now ≡ None
+      → BreaksOff contents why writer writer' (plan (length (tests (sections job.file.now)))) 1 (tests (sections job.file.now))
+      → Told lines errors errors' (line_of (fault_of_suite why)) → status ≡ 2
       → EndsTests contents lines job writer writer' errors errors' status

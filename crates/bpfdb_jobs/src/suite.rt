@@ -1,18 +1,17 @@
 //! What a job of `test` does.
-ghost use Rattle.std.specs.Prelude.{◌≡◌, ◌≤◌, IfErr, IfOk, List};
-ghost use Rattle.bpf_suite.specs.Files.{tests};
+ghost use Rattle.std.specs.Prelude.{◌≡◌, ◌≤◌, IfErr, IfOk, List, length};
 ghost use Rattle.bpf_suite.specs.Outcomes.{Outcome};
-ghost use Rattle.bpf_suite.specs.Reports.{AreOutcomes, Counts, all_pass};
+ghost use Rattle.bpf_suite.specs.Reports.{AreOutcomes, BreaksOff, all_pass, plan};
 ghost use Rattle.bpfdb_jobs.specs.Endings.{Told};
 ghost use Rattle.bpfdb_jobs.specs.Faults.{line_of};
-ghost use Rattle.bpfdb_jobs.specs.Suites.{EndsTests, fault_of_file, report, status_of};
+ghost use Rattle.bpfdb_jobs.specs.Suites.{EndsTests, fault_of_file, fault_of_suite, report, status_of};
 ghost use Rattle.counted_io.specs.Writing.{Writes};
 
 use crate::fault::JobFault;
 use crate::job::Job;
 use crate::refusal::JobRefusal;
 use crate::report::give_up;
-use bpf_suite::{FileFault, Suite, SuiteFault, write_plan};
+use bpf_suite::{FileFault, Suite, SuiteFault, Test, run_tests, write_plan};
 use counted_io::{Counted, WriteFault};
 use std::alloc::Global;
 use std::io::Write;
@@ -32,10 +31,23 @@ pub fn test_job<W: Write, E: Write>(
         Ok(suite) => suite,
         Err(fault) => return refuse(errors, fault),
     };
-    match run_suite(alloc, &suite, writer) {
+    let tests = match suite.tests(alloc) {
+        Ok(tests) => tests,
+        Err(_) => return give_up(errors, &JobFault::Memory),
+    };
+    match run_suite(alloc, tests.as_slice(), writer) {
         Ok(passed) => status_of(passed),
-        Err(SuiteFault::Memory) => give_up(errors, &JobFault::Memory),
-        Err(SuiteFault::Write) => give_up(errors, &JobFault::Output),
+        Err(why) => give_up(errors, &fault_of_suite(why)),
+    }
+}
+
+/// The fault of a run of tests that breaks off.
+fn fault_of_suite<'a>(why: SuiteFault) -> JobFault<'a>
+    ensures { result ≡ fault_of_suite why }
+{
+    match why {
+        SuiteFault::Memory => JobFault::Memory,
+        SuiteFault::Write => JobFault::Output,
     }
 }
 
@@ -62,16 +74,17 @@ fn status_of(passed: bool) -> u8
 /// Writes the report on tests, and flushes. Answers whether all passed.
 fn run_suite<W: Write>(
     alloc: Global,
-    suite: &Suite<'_>,
+    tests: &[Test<'_, '_>],
     writer: &mut Counted<W>,
 ) -> Result<bool, SuiteFault>
     ensures ok { IfOk result (λ passed. (outcomes : List Outcome)
-        × AreOutcomes (tests suite.now) outcomes
-        × (passed ≡ all_pass (tests suite.now) outcomes)
-        × Writes W.contents writer.old writer.new result (report (tests suite.now) outcomes)) }
-    ensures err { IfErr result (λ why. Counts why writer.old.failures writer.new.failures) }
+        × AreOutcomes tests.now outcomes
+        × (passed ≡ all_pass tests.now outcomes)
+        × Writes W.contents writer.old writer.new result (report tests.now outcomes)) }
+    ensures err { IfErr result (λ why.
+        BreaksOff W.contents why writer.old writer.new (plan (length tests.now)) 1 tests.now) }
 {
-    let passed = match write_report(alloc, suite, writer) {
+    let passed = match write_report(alloc, tests, writer) {
         Ok(passed) => passed,
         Err(fault) => return Err(fault),
     };
@@ -84,20 +97,21 @@ fn run_suite<W: Write>(
 /// Writes how many tests there are, runs them, and reports on each. Answers whether all passed.
 fn write_report<W: Write>(
     alloc: Global,
-    suite: &Suite<'_>,
+    tests: &[Test<'_, '_>],
     writer: &mut Counted<W>,
 ) -> Result<bool, SuiteFault>
     ensures ok { IfOk result (λ passed. (outcomes : List Outcome)
-        × AreOutcomes (tests suite.now) outcomes
-        × (passed ≡ all_pass (tests suite.now) outcomes)
-        × Writes W.contents writer.old writer.new result (report (tests suite.now) outcomes)) }
-    ensures err { IfErr result (λ why. Counts why writer.old.failures writer.new.failures) }
+        × AreOutcomes tests.now outcomes
+        × (passed ≡ all_pass tests.now outcomes)
+        × Writes W.contents writer.old writer.new result (report tests.now outcomes)) }
+    ensures err { IfErr result (λ why.
+        BreaksOff W.contents why writer.old writer.new (plan (length tests.now)) 1 tests.now) }
 {
-    match write_plan(writer, suite.len()) {
+    match write_plan(writer, tests.len()) {
         Ok(()) => {}
         Err(WriteFault) => return Err(SuiteFault::Write),
     }
-    match suite.run(alloc, 1, writer) {
+    match run_tests(alloc, tests, 1, writer) {
         Ok(passed) => Ok(passed),
         Err(fault) => Err(fault),
     }

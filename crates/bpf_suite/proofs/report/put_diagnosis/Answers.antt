@@ -11,4 +11,5 @@ returns g c = λ first front known.
     let told = c.put_outcome-told.ensures first _ parted in
     let followed = c.put-followed.ensures first _ told in
     let said = c.put_wanted-said.ensures first _ followed in
-    simp append_assoc (simp append_assoc at (c.put.ensures first _ said))
+    let ended = c.put-ended.ensures first _ said in
+    simp append_assoc (simp append_assoc at (rw c.requires at (c.put_cells.ensures first _ ended)))

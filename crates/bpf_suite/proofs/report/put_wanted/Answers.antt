@@ -6,4 +6,5 @@ pub returns : goal.returns
 unfolding wanted
 returns g c = λ first front known.
     let begun = c.put_wanted_outcome-begun.ensures first front known in
-    simp append_assoc at (rw c.has.ensures at (c.put_after_word.ensures first _ begun))
+    let told = rw c.has.ensures at (c.put_after_word-told.ensures first _ begun) in
+    simp append_assoc (simp append_assoc at (rw c.has-2.ensures at (c.put_after_word.ensures first _ told)))

@@ -7,7 +7,7 @@ use Rattle.bpf_suite.specs.declared.fault.FileFault.TheVariants as file
 use Rattle.counted_io.specs.Counted.{Tally}
 use Rattle.bpfdb_jobs.specs.Endings.{Told}
 use Rattle.bpfdb_jobs.specs.Faults.{line_of}
-use Rattle.bpfdb_jobs.specs.Suites.{EndsTests, Exhausted, Refused, Reported, fault_of_file, status_of}
+use Rattle.bpfdb_jobs.specs.Suites.{BrokenOff, EndsTests, Exhausted, Refused, Reported, fault_of_file, status_of}
 use Rattle.bpfdb_jobs.specs.declared.job.Job.{Job}
 use Rattle.bpfdb_jobs.specs.declared.refusal.JobRefusal.TheVariants.{Tests}
 use Rattle.bpfdb_jobs.proofs.suite.test_job.Goals as goal
@@ -28,6 +28,16 @@ pub returns-in-Ok-run_suite-clause-does : goal.returns-in-Ok-run_suite-clause-do
 returns-in-Ok-run_suite-clause-does g c =
     let s = c.in-Ok.ensures.ok in
     let o = c.in-Ok-run_suite.ensures.ok in
-    let w = rw s.0 at o.3 in
-    let ends : c.in-Ok-run_suite.passed ≡ all_pass (tests (sections c.args.job.now.file.now)) o.0 = rw s.0 at o.2 in
-    Reported o.0 s.1 (rw s.0 at o.1) (w.ok, w.same) refl (c.status_of.ensures ∙ ap status_of ends)
+    let ts : c.as_slice.result.now ≡ tests (sections c.args.job.now.file.now) =
+    c.as_slice.ensures.value ∙ c.in-Ok-tests.ensures ∙ ap tests s.0 in
+    let w = rw ts at o.3 in
+    let ends : c.in-Ok-run_suite.passed ≡ all_pass (tests (sections c.args.job.now.file.now)) o.0 = rw ts at o.2 in
+    Reported o.0 s.1 (rw ts at o.1) (w.ok, w.same) refl (c.status_of.ensures ∙ ap status_of ends)
+
+pub returns-clause-does : goal.returns-clause-does
+returns-clause-does g c =
+    let s = c.in-Ok.ensures.ok in
+    let ts : c.as_slice.result.now ≡ tests (sections c.args.job.now.file.now) =
+    c.as_slice.ensures.value ∙ c.in-Ok-tests.ensures ∙ ap tests s.0 in
+    BrokenOff c.in-Err-run_suite.why s.1 (rw ts at c.in-Err-run_suite.ensures.err) (rw c.fault_of_suite.ensures at c.give_up-in-Err-run_suite.ensures.told)
+    c.give_up-in-Err-run_suite.ensures.value

@@ -1,7 +1,7 @@
 use Rattle.std.proofs.Common.{◌≡◌, ℕ, List, ◌++◌, Option, Ok, length, ◌∙◌}
 use Rattle.std.specs.Io.KnownBytes.{Appends}
-use Rattle.bpf_suite.specs.Files.{tests}
 use Rattle.bpf_suite.specs.Reports.{plan, tests_text}
+use Rattle.bpf_suite.proofs.Reporting.{BreaksOff-behind, BreaksOff-first}
 use Rattle.counted_io.proofs.Appending.{Appends-Appends}
 use Rattle.counted_io.specs.Counted.{Tally}
 use Rattle.counted_io.specs.Writing.{Writes}
@@ -17,14 +17,25 @@ both contents a b c v s t p same q = record {
   fault = tt;
 }
 
-pub returns-in-Ok-run-clause-ok : goal.returns-in-Ok-run-clause-ok
-returns-in-Ok-run-clause-ok g c =
-    let o = c.in-Ok-run.ensures.ok in
-    let ts = tests c.args.suite.now in
-    let w = rw c.in-Ok.is at (rw c.len.ensures at c.write_plan.ensures) in (
+pub returns-in-Ok-run_tests-clause-ok : goal.returns-in-Ok-run_tests-clause-ok
+returns-in-Ok-run_tests-clause-ok g c =
+    let o = c.in-Ok-run_tests.ensures.ok in
+    let ts = c.args.tests.now in
+    let w = rw c.in-Ok.is at c.write_plan.ensures in (
       o.0,
       o.1,
       o.2,
-      both g.W.Write.contents c.args.writer.now c.write_plan.new.writer c.run.new.writer c.in-Ok-run.passed
-          (plan (length ts)) (tests_text 1 ts o.0) w.ok w.same o.3,
+      both g.W.Write.contents c.args.writer.now c.write_plan.new.writer c.run_tests.new.writer c.in-Ok-run_tests.passed (plan (length ts))
+          (tests_text 1 ts o.0) w.ok w.same o.3,
     )
+
+pub returns-in-Err-run_tests-clause-err : goal.returns-in-Err-run_tests-clause-err
+returns-in-Err-run_tests-clause-err g c =
+    let w = rw c.in-Ok.is at c.write_plan.ensures in
+    BreaksOff-behind g.W.Write.contents c.args.writer.now c.write_plan.new.writer c.run_tests.new.writer _ c.in-Err-run_tests.fault
+    (plan (length c.args.tests.now)) 1 c.args.tests.now w c.in-Err-run_tests.ensures.err
+
+pub returns-in-Err-clause-err : goal.returns-in-Err-clause-err
+returns-in-Err-clause-err g c =
+    BreaksOff-first g.W.Write.contents c.args.writer.now c.write_plan.new.writer _ (plan (length c.args.tests.now)) 1 c.args.tests.now
+    (rw c.in-Err.is at c.write_plan.ensures)

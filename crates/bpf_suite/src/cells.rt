@@ -1,0 +1,259 @@
+//! Cells of maps, as sections name them: a line each.
+ghost use Rattle.std.specs.Prelude.{◌≡◌, ◌∷◌, ◌++◌, IfOk, OnOk, [], filter_map, is_some};
+ghost use Rattle.std.specs.List.{list_all};
+ghost use Rattle.bpf_suite.specs.Cells.{are_cells, are_patterns, behind_word, cell_line, cell_lines, cell_of, cells_of, has_pattern, is_cell_line, is_value_len, line_of, lines, sized, value_of, word};
+
+use crate::body::{bytes_of, is_pattern, number_of, solid};
+use crate::section::Text;
+use bpf_machine::ByteString;
+use counted_io::{find_blank, trim_start};
+use std::alloc::{AllocError, Global};
+use std::marker::Model;
+
+/// What a line says of a cell.
+#[derive(Drop)]
+pub struct CellLine<'a> {
+    /// The number of a map.
+    pub map: u64,
+    pub index: u64,
+    /// What stands behind both numbers, with blanks anywhere.
+    pub digits: Text<'a>,
+}
+
+impl<'a> CellLine<'a> {
+    /// The text of its digits.
+    pub fn text(&self) -> &'a [u8]
+        ensures { result.now ≡ self.now.digits }
+    {
+        self.digits.bytes
+    }
+
+    /// The same line.
+    pub fn copied(&self) -> CellLine<'a>
+        ensures { result ≡ self.now }
+    {
+        CellLine {
+            map: self.map,
+            index: self.index,
+            digits: Text {
+                bytes: self.digits.bytes,
+            },
+        }
+    }
+}
+
+/// A cell of a map, with a value.
+#[derive(Drop)]
+pub struct Cell {
+    /// The number of a map.
+    pub map: u64,
+    pub index: u64,
+    pub value: ByteString,
+}
+
+/// Cells with their values. Contracts see them as a list.
+#[derive(Drop)]
+pub struct Cells {
+    items: Vec<Cell>,
+}
+
+impl Model for Cells {
+    ghost use Rattle.std.specs.Prelude.{List};
+    ghost use Rattle.bpf_suite.specs.declared.cells.Cell.{Cell};
+
+    ghost Value = { List Cell };
+
+    ghost view = { λ c. c.items.items };
+}
+
+impl Cells {
+    /// The cells that a section gives values to.
+    pub fn of(alloc: Global, body: &[u8]) -> Result<Cells, AllocError>
+        ensures { IfOk result (λ cells. cells ≡ cells_of body.now) }
+    {
+        let lines = cell_lines(alloc, body)?;
+        let items = cells_in(alloc, lines.as_slice())?;
+        Ok(Cells { items })
+    }
+
+    /// Each of them.
+    pub fn as_slice(&self) -> &[Cell]
+        ensures { result.now ≡ self.now }
+    {
+        self.items.as_slice()
+    }
+}
+
+/// The cells that lines give values to.
+fn cells_in(alloc: Global, lines: &[CellLine<'_>]) -> Result<Vec<Cell>, AllocError>
+    ensures { IfOk result (λ cells. cells.items ≡ filter_map cell_of lines.now) }
+{
+    let mut cells = Vec::new(alloc);
+    for line in lines {
+        push_cell(alloc, &mut cells, line)?;
+    }
+    Ok(cells)
+}
+
+/// Adds the cell that a line gives a value to, if it does.
+fn push_cell(alloc: Global, cells: &mut Vec<Cell>, line: &CellLine<'_>) -> Result<(), AllocError>
+    ensures { OnOk result (cells.new.items
+        ≡ cells.old.items ++ filter_map cell_of (line.now ∷ [])) }
+{
+    match value_of(alloc, line)? {
+        Some(value) => {
+            let cell = Cell {
+                map: line.map,
+                index: line.index,
+                value,
+            };
+            match cells.push(cell) {
+                Ok(()) => Ok(()),
+                Err(_) => Err(AllocError),
+            }
+        }
+        None => Ok(()),
+    }
+}
+
+/// The value that a line's digits are, None where they are none.
+fn value_of(alloc: Global, line: &CellLine<'_>) -> Result<Option<ByteString>, AllocError>
+    ensures { IfOk result (λ value. value ≡ value_of line.now) }
+{
+    match bytes_of(alloc, line.digits.bytes)? {
+        Some(bytes) => Ok(sized(bytes.as_slice())),
+        None => Ok(None),
+    }
+}
+
+/// Bytes as a value, None where they are none or too many.
+fn sized(bytes: &[u8]) -> Option<ByteString>
+    ensures { result ≡ sized bytes.now }
+{
+    if is_value_len(bytes.len()) {
+        Some(ByteString::of(bytes))
+    } else {
+        None
+    }
+}
+
+/// Whether a value may have n bytes.
+fn is_value_len(n: usize) -> bool
+    ensures { result ≡ is_value_len n }
+{
+    1 <= n && n <= 256
+}
+
+/// What the lines of a section say of cells.
+pub fn cell_lines(alloc: Global, body: &[u8]) -> Result<Vec<CellLine<'_>>, AllocError>
+    ensures { IfOk result (λ found. found.items ≡ cell_lines body.now) }
+{
+    body.split(|byte| *byte == b'\n')
+        .filter_map(|line| cell_line(line))
+        .collect(alloc)
+}
+
+/// What a line says of a cell, None where it says nothing of one.
+fn cell_line(line: &[u8]) -> Option<CellLine<'_>>
+    ensures { result ≡ cell_line line.now }
+{
+    let text = trim_start(line);
+    let rest = behind_word(text);
+    line_of(word(text), word(rest), behind_word(rest))
+}
+
+/// A line about a cell, by its words and its digits.
+fn line_of<'a>(map: &[u8], index: &[u8], digits: &'a [u8]) -> Option<CellLine<'a>>
+    ensures { result ≡ line_of map.now index.now digits.now }
+{
+    let map = number_of(map)?;
+    let index = number_of(index)?;
+    Some(CellLine {
+        map,
+        index,
+        digits: Text { bytes: digits },
+    })
+}
+
+/// A text's first word.
+fn word(text: &[u8]) -> &[u8]
+    ensures { result.now ≡ word text.now }
+{
+    &text[..find_blank(text)]
+}
+
+/// What stands behind a text's first word and the blanks that follow.
+fn behind_word(text: &[u8]) -> &[u8]
+    ensures { result.now ≡ behind_word text.now }
+{
+    trim_start(&text[find_blank(text)..])
+}
+
+/// Whether a section gives values to cells.
+pub fn are_cells(alloc: Global, body: &[u8]) -> Result<bool, AllocError>
+    ensures { IfOk result (λ are. are ≡ are_cells body.now) }
+{
+    if !are_cell_lines(body) {
+        return Ok(false);
+    }
+    let lines = cell_lines(alloc, body)?;
+    have_values(alloc, lines.as_slice())
+}
+
+/// Whether a section says by patterns what cells hold.
+pub fn are_patterns(alloc: Global, body: &[u8]) -> Result<bool, AllocError>
+    ensures { IfOk result (λ are. are ≡ are_patterns body.now) }
+{
+    if !are_cell_lines(body) {
+        return Ok(false);
+    }
+    let lines = cell_lines(alloc, body)?;
+    have_patterns(alloc, lines.as_slice())
+}
+
+/// Whether each line of a section is blank, or says something of a cell.
+fn are_cell_lines(body: &[u8]) -> bool
+    ensures { result ≡ list_all is_cell_line (lines body.now) }
+{
+    body.split(|byte| *byte == b'\n')
+        .all(|line| is_cell_line(line))
+}
+
+/// Whether a line is blank, or says something of a cell.
+fn is_cell_line(line: &[u8]) -> bool
+    ensures { result ≡ is_cell_line line.now }
+{
+    trim_start(line).is_empty() || cell_line(line).is_some()
+}
+
+/// Whether the digits of each line are a value.
+fn have_values(alloc: Global, lines: &[CellLine<'_>]) -> Result<bool, AllocError>
+    ensures { IfOk result (λ have. have ≡ list_all (λ line. is_some (value_of line)) lines.now) }
+{
+    for line in lines {
+        if value_of(alloc, line)?.is_none() {
+            return Ok(false);
+        }
+    }
+    Ok(true)
+}
+
+/// Whether the digits of each line are a pattern.
+fn have_patterns(alloc: Global, lines: &[CellLine<'_>]) -> Result<bool, AllocError>
+    ensures { IfOk result (λ have. have ≡ list_all has_pattern lines.now) }
+{
+    for line in lines {
+        if !has_pattern(alloc, line)? {
+            return Ok(false);
+        }
+    }
+    Ok(true)
+}
+
+/// Whether a line's digits are a pattern.
+fn has_pattern(alloc: Global, line: &CellLine<'_>) -> Result<bool, AllocError>
+    ensures { IfOk result (λ has. has ≡ has_pattern line.now) }
+{
+    let digits = solid(alloc, line.digits.bytes)?;
+    Ok(is_pattern(digits.as_slice()) && is_value_len(digits.len() / 2))
+}

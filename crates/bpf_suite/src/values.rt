@@ -1,0 +1,229 @@
+//! Values of cells where a program has ended.
+ghost use Rattle.std.specs.Prelude.{◌≡◌, ◌≤◌, ◌<◌, ◌∷◌, ◌++◌, IfOk, IfSome, IsSome, OnOk, [], filter, flat_map, not};
+ghost use Rattle.std.specs.Option.{option_map};
+ghost use Rattle.bpf_machine.specs.Platform.{cell_address as cell_address_of};
+ghost use Rattle.bpf_machine.specs.Regions.{index_of};
+ghost use Rattle.counted_io.specs.Writing.{WritesAfter};
+ghost use Rattle.bpf_suite.specs.Reports.{cell_head, cell_text, cells_text, value_text};
+ghost use Rattle.bpf_suite.specs.Verdicts.{cell_size, cell_value, holds, wrong_cells};
+
+use crate::body::{fits, solid, trimmed};
+use crate::cells::{CellLine, cell_lines};
+use crate::kind::Part;
+use crate::outcome::put_cell_name;
+use crate::refusal::Refusal;
+use crate::test::Test;
+use bpf_machine::Cpu;
+use bpfdb_commands::Span;
+use bpfdb_replies::put_bytes;
+use counted_io::{Counted, WriteFault, put};
+use std::alloc::{AllocError, Global};
+use std::io::Write;
+
+/// The address of map 0's first byte, and how far the first bytes of two maps in a row are apart.
+const MAP_BASE: u64 = 0x3_0000_0000;
+
+const MAP_STRIDE: u64 = 0x10_0000;
+
+/// The address of a cell of a map, whose values have n bytes.
+fn cell_address(map: u64, index: u64, n: u64) -> u64
+    requires { (map < 16) × (index < 4096) × (n ≤ 256) }
+    ensures { result ≡ cell_address_of map index n }
+{
+    MAP_BASE + MAP_STRIDE * map + n * index
+}
+
+/// The span of a value.
+fn span_of(n: u32) -> Span
+    requires { (1 ≤ n) × (n ≤ 256) }
+    ensures { result ≡ n }
+{
+    match Span::new(u64::from(n)) {
+        Some(span) => span,
+        None => unreachable!(),
+    }
+}
+
+/// How many bytes a value of a map has, where it has this cell.
+fn cell_size(cpu: &Cpu, map: u64, index: u64) -> Option<Span>
+    ensures value { result ≡ cell_size cpu.now map index }
+    ensures limits { IfSome result (λ n. (map < 16) × (index < 4096) × (n ≤ 256)) }
+    ensures present { IfSome result (λ n.
+        IsSome (index_of cpu.now.memory (cell_address_of map index n) n)) }
+{
+    cpu.invariant();
+    match cpu.program().maps().shape(map as usize) {
+        Some(shape) => {
+            if index < u64::from(shape.entries) {
+                Some(span_of(shape.value_size))
+            } else {
+                None
+            }
+        }
+        None => None,
+    }
+}
+
+/// The value of a cell, None where there is no such cell.
+fn cell_value(cpu: &Cpu, map: u64, index: u64) -> Option<&[u8]>
+    ensures { option_map (λ value. value.now) result ≡ cell_value cpu.now map index }
+{
+    match cell_size(cpu, map, index) {
+        Some(span) => cpu.peek(cell_address(map, index, span.get()), span.get() as usize),
+        None => None,
+    }
+}
+
+/// Whether a cell holds what a line says.
+fn holds(alloc: Global, cpu: &Cpu, line: &CellLine<'_>) -> Result<bool, AllocError>
+    ensures { IfOk result (λ is. is ≡ holds cpu.now line.now) }
+{
+    match cell_value(cpu, line.map, line.index) {
+        Some(value) => {
+            let digits = solid(alloc, line.digits.bytes)?;
+            Ok(fits(digits.as_slice(), value))
+        }
+        None => Ok(false),
+    }
+}
+
+/// What the lines of a test say of cells that they don't hold where the program has ended.
+pub fn wrong_cells<'a>(
+    alloc: Global,
+    test: &Test<'_, 'a>,
+    outcome: &Result<Cpu, Refusal>,
+) -> Result<Vec<CellLine<'a>>, AllocError>
+    ensures { IfOk result (λ wrong. wrong.items ≡ wrong_cells test.now outcome.now) }
+{
+    match outcome {
+        Ok(cpu) => {
+            let lines = cell_lines(alloc, test.text(Part::CellsAfter))?;
+            wrong_in(alloc, cpu, lines.as_slice())
+        }
+        Err(_) => Ok(Vec::new(alloc)),
+    }
+}
+
+/// The lines that don't hold.
+fn wrong_in<'a>(
+    alloc: Global,
+    cpu: &Cpu,
+    lines: &[CellLine<'a>],
+) -> Result<Vec<CellLine<'a>>, AllocError>
+    ensures { IfOk result (λ wrong.
+        wrong.items ≡ filter (λ line. not (holds cpu.now line)) lines.now) }
+{
+    let mut wrong = Vec::new(alloc);
+    for line in lines {
+        push_wrong(alloc, &mut wrong, cpu, line)?;
+    }
+    Ok(wrong)
+}
+
+/// Adds a line, unless it holds.
+fn push_wrong<'a>(
+    alloc: Global,
+    wrong: &mut Vec<CellLine<'a>>,
+    cpu: &Cpu,
+    line: &CellLine<'a>,
+) -> Result<(), AllocError>
+    ensures { OnOk result (wrong.new.items
+        ≡ wrong.old.items ++ filter (λ l. not (holds cpu.now l)) (line.now ∷ [])) }
+{
+    if holds(alloc, cpu, line)? {
+        Ok(())
+    } else {
+        match wrong.push(line.copied()) {
+            Ok(()) => Ok(()),
+            Err(_) => Err(AllocError),
+        }
+    }
+}
+
+/// Writes which cells of a machine are wrong.
+pub fn put_cells<W: Write>(
+    writer: &mut Counted<W>,
+    so_far: Result<(), WriteFault>,
+    outcome: &Result<Cpu, Refusal>,
+    wrong: &[CellLine<'_>],
+) -> Result<(), WriteFault>
+    ensures { WritesAfter W.contents writer.old so_far writer.new result
+        (cells_text wrong.now outcome.now) }
+{
+    match outcome {
+        Ok(cpu) => put_each_cell(writer, so_far, cpu, wrong),
+        Err(_) => put(writer, so_far, b""),
+    }
+}
+
+/// Writes each of these cells.
+fn put_each_cell<W: Write>(
+    writer: &mut Counted<W>,
+    so_far: Result<(), WriteFault>,
+    cpu: &Cpu,
+    wrong: &[CellLine<'_>],
+) -> Result<(), WriteFault>
+    ensures { WritesAfter W.contents writer.old so_far writer.new result
+        (flat_map (cell_text cpu.now) wrong.now) }
+{
+    let mut told = so_far;
+    for line in wrong {
+        told = put_cell(writer, told, cpu, line);
+    }
+    told
+}
+
+/// Writes what a cell holds, and what is wanted of it.
+fn put_cell<W: Write>(
+    writer: &mut Counted<W>,
+    so_far: Result<(), WriteFault>,
+    cpu: &Cpu,
+    line: &CellLine<'_>,
+) -> Result<(), WriteFault>
+    ensures { WritesAfter W.contents writer.old so_far writer.new result
+        (cell_text cpu.now line.now) }
+{
+    let begun = put_cell_head(writer, so_far, line, b" came: ");
+    let told = put_value(writer, begun, cpu, line.map, line.index);
+    let followed = put_cell_head(writer, told, line, b" wanted: ");
+    let said = put(writer, followed, trimmed(line.text()));
+    put(writer, said, b"\n")
+}
+
+/// Writes which cell is spoken of, and how.
+fn put_cell_head<W: Write>(
+    writer: &mut Counted<W>,
+    so_far: Result<(), WriteFault>,
+    line: &CellLine<'_>,
+    word: &[u8],
+) -> Result<(), WriteFault>
+    ensures { WritesAfter W.contents writer.old so_far writer.new result
+        (cell_head line.now word.now) }
+{
+    let begun = put(writer, so_far, b"# ");
+    let named = put_cell_name(writer, begun, line.map, line.index);
+    put(writer, named, word)
+}
+
+/// Writes the address and the value of a cell.
+fn put_value<W: Write>(
+    writer: &mut Counted<W>,
+    so_far: Result<(), WriteFault>,
+    cpu: &Cpu,
+    map: u64,
+    index: u64,
+) -> Result<(), WriteFault>
+    ensures { WritesAfter W.contents writer.old so_far writer.new result
+        (value_text cpu.now map index) }
+{
+    match cell_size(cpu, map, index) {
+        Some(span) => put_bytes(
+            writer,
+            so_far,
+            cpu,
+            cell_address(map, index, span.get()),
+            span,
+        ),
+        None => put(writer, so_far, b"none\n"),
+    }
+}
