@@ -83,7 +83,7 @@ refused 'refused E25 at slot 0: unknown instruction' link unknown.o
 
 # Lists of stubs that are none, before all else. The first item with a fault is told: a helper that is answered already comes before what stands behind it. At each
 # limit of the numbers a list is taken (and `programs.o`, whose helper isn't in it, refused for that).
-for list in '' , 5 5= =0 5=0, ,5=0 5:0 5=0,,6=0 '5 =0' '5= 0' '5=0 ' 5=+0 +5=0 -5=0 5=- 5=--1 5=0x 5==0 5=0=0 5=a 'bpf_get_prandom_u32=0' 5=0,a=0 5=0;6=0; do
+for list in '' , 5 5= =0 5=0, ,5=0 5:0 5=0,,6=0 '5 =0' '5= 0' '5=0 ' 5=+0 +5=0 -5=0 5=- 5=--1 5=0x 5==0 5=0=0 5=a 'bpf_get_prandom_u32=0' 5=0,a=0 '5=0;6=0'; do
     refused 'refused E32: malformed list of stubs' link --stub="$list" programs.o
 done
 for list in 4294967296=0 5=2147483648 5=-2147483649 5=18446744073709551616 99999999999999999999999=0 5=0xffffffff 5=0,6=2147483648; do
