@@ -36,6 +36,12 @@ for file in "$parts"/suites/*.test; do
     tested "bpfdb test $(basename "$file")" "$status" "$file"
 done
 
+# The examples of files of tests.
+for file in "$top"/examples/suite/*.test; do
+    passing "$file" > wanted/out
+    tested "bpfdb test examples/suite/$(basename "$file")" 0 "$file"
+done
+
 # Files that are refused, before anything is run.
 sed '/^#/d' "$parts/suites/refusals.txt" > rows
 while IFS= read -r wanted; do
