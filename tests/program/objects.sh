@@ -1,6 +1,6 @@
 # link: objects that clang made, the words that come of them, and what is refused. The objects stand in crates/bpf_link_tests.
 
-for name in calls maps arrays text two extern data point programs; do
+for name in calls maps arrays typed text two extern data point programs; do
     object $name
 done
 
@@ -38,6 +38,60 @@ printf '\002\000\000\000' > context
 result '0x0\n' run $(cat told) -m context arrays
 printf '\350\003\000\000' > context
 result '0x1\n' run $(cat told) -m context arrays
+
+# The shapes of maps in `.maps` come from BTF, in the order of their places, in which clang lays them out as the code uses them first: the second map of the
+# source is number 0. Where the places are the other way round, so are the numbers; without BTF the words are the same, and nothing is told.
+bytes words $(printf '%s' "bf17000000000000 1851000000000000 0000000000000000 bf72000000000000 8500000001000000 b706000001000000 b708000001000000 5500010000000000 b708000000000000 1851000001000000 0000000000000000 bf72000000000000 8500000001000000 5500010000000000 b706000000000000 6706000001000000 4f86000000000000 bf60000000000000 9500000000000000" | tr -d ' ' | sed 's/../& /g')
+row 'bpfdb link typed.o' 0 "$script_unread" "$text" '--maps 8x2,16x256\n' link typed.o
+{ head -c 1784 typed.o; printf '\000'; tail -c +1786 typed.o; } > untyped.o
+result "$text" link untyped.o
+"$program" link typed.o > typed 2> told
+printf '\001\000\000\000' > context
+result '0x3\n' run $(cat told) -m context typed
+printf '\002\000\000\000' > context
+result '0x2\n' run $(cat told) -m context typed
+{ head -c 1240 typed.o; printf '\040'; tail -c +1242 typed.o | head -c 23; printf '\000'; tail -c +1266 typed.o; } > swapped.o
+"$program" link swapped.o > swapped 2> told
+result '0x2\n' run $(cat told) -m context swapped
+[ "$(cat told)" = '--maps 16x256,8x2' ] || complain 'what is told of maps that changed places'
+
+# Each line has what is changed of typed.o, a place and bytes in octal, and what is told: at each limit of the sizes, and a map that is no array, or too large;
+# then BTF that is damaged, and sections of it that don't lie in the file or are two.
+while IFS='|' read -r place octal told; do
+    count_of=$(printf "$octal" | wc -c)
+    { head -c "$place" typed.o; printf "$octal"; tail -c +$((place + count_of + 1)) typed.o; } > changed.o
+    case $told in
+        --maps*) row "bpfdb link typed.o, with $octal at $place" 0 "$script_unread" "$text" "$told\n" link changed.o ;;
+        *) refused "refused $told" link changed.o ;;
+    esac
+done <<'ROWS'
+352|\002|--maps 8x2,16x256
+352|\001|E50: map is a hash, and no array: totals
+352|\033|E50: map is a ring buffer, and no array: totals
+352|\026|E50: map is a queue, and no array: totals
+352|\013|E50: map is an LPM trie, and no array: totals
+352|\143|E50: map is of unknown kind, and no array: totals
+404|\005|E50: map is a per-CPU hash, and no array: counts
+404|\011|E50: map is an LRU hash, and no array: counts
+596|\000\020|--maps 8x2,16x4096
+596|\001\020|E52: entries not 1 to 4096: counts
+596|\000\000|E52: entries not 1 to 4096: counts
+620|\000\001|--maps 8x2,256x256
+620|\001\001|E52: value size not 1 to 256: counts
+620|\000\000|E52: value size not 1 to 256: counts
+440|\010|E51: keys of an array are not of 4 bytes: totals
+548|\136|E45: map has no description in BTF: totals
+280|\000|E40: no BTF in the section .BTF
+282|\002|E41: BTF of another version than 1
+284|\027|E42: malformed header of BTF
+292|\374\001|E44: BTF has a type that is cut off
+311|\037|E43: BTF has a type of unknown kind
+1810|\001|E40: no BTF in the section .BTF
+1528|\102|E40: no BTF in the section .BTF
+ROWS
+# (a name with control bytes, in the table of names, from 1338 on)
+{ head -c 1338 typed.o; printf '\033['; tail -c +1341 typed.o; } > changed.o
+refused 'refused E45: map has no description in BTF: \\x1b[tals' link changed.o
 
 # Where standard error fails the words came, and the status is 2; where the output fails no maps are told.
 "$program" link arrays.o > found/out 2> /dev/full

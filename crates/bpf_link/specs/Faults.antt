@@ -1,8 +1,9 @@
 -- Faults: their numbers, which are printed after E, and their texts. bpfdb's own choice.
 use Rattle.std.specs.Prelude.{ℕ, List, codes}
 use Rattle.bpf_isa.specs.Faults.{load_fault}
+use Rattle.bpf_btf.specs.Faults.{btf_fault}
 use Rattle.bpf_link.specs.declared.fault.LinkFault.{LinkFault}
-use Rattle.bpf_link.specs.declared.fault.LinkFault.TheVariants.{NotElf, Class, Order, Kind, Machine, SectionTable, LongName, NoSection, ManySections, Section, TooLong, RunsOff, SymbolTable, ManyMapSections, TooManyMaps, RelocationTable, Place, Symbol, Extern, RelocationKind, CallTarget, NoCall, Data, NoLoad, Program, Memory, LongData, DataSection, Pointer, ManyPrograms, NoEntry, Helper, StubList, StubRange, StubTwice, ManyStubs}
+use Rattle.bpf_link.specs.declared.fault.LinkFault.TheVariants.{NotElf, Class, Order, Kind, Machine, SectionTable, LongName, NoSection, ManySections, Section, TooLong, RunsOff, SymbolTable, ManyMapSections, TooManyMaps, RelocationTable, Place, Symbol, Extern, RelocationKind, CallTarget, NoCall, Data, NoLoad, Program, Memory, LongData, DataSection, Pointer, ManyPrograms, NoEntry, Helper, StubList, StubRange, StubTwice, ManyStubs, Types, Map}
 
 abbrev pub link_fault_number : LinkFault → ℕ
 link_fault_number NotElf = 1
@@ -41,6 +42,8 @@ link_fault_number StubList = 32
 link_fault_number StubRange = 33
 link_fault_number StubTwice = 34
 link_fault_number ManyStubs = 35
+link_fault_number (Types fault) = (btf_fault fault).0
+link_fault_number (Map at fault) = (btf_fault fault).0
 
 abbrev pub link_fault_text : LinkFault → List ℕ
 link_fault_text NotElf = codes "no ELF file"
@@ -79,3 +82,5 @@ link_fault_text StubList = codes "malformed list of stubs"
 link_fault_text StubRange = codes "helper or value of a stub out of range"
 link_fault_text StubTwice = codes "two stubs of one helper"
 link_fault_text ManyStubs = codes "more than 16 stubs"
+link_fault_text (Types fault) = (btf_fault fault).1
+link_fault_text (Map at fault) = (btf_fault fault).1

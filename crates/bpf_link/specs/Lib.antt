@@ -10,6 +10,8 @@ pub mod Images
 pub mod Setup
 pub mod Stubs
 pub mod StubLists
+pub mod MapTypes
 pub mod Links
 pub mod Laid
 pub mod Shapes
+pub mod Refusals

@@ -154,7 +154,3 @@ pub record IsRejected (object name entry : List ℕ) (stubs : List Stub) (fault 
   pub told : fault ≡ told_of program.words refusal
   pub linked : linked object name entry stubs ≡ Ok program
   pub refused : IsRefused program.words (least_maps program.maps program.data_maps) refusal
-
--- Why no program is made of an object.
-abbrev pub IsLinkFault : List ℕ → List ℕ → List ℕ → List Stub → LinkFault → Type 0
-IsLinkFault object name entry stubs fault = MemoryOr (linked object name entry stubs) fault ⊎ IsRejected object name entry stubs fault

@@ -1,8 +1,10 @@
--- The shapes of an object's maps, by their definitions in its section `maps`.
-use Rattle.std.specs.Prelude.{◌≡◌, ◌≢◌, ℕ, ◌+◌, ◌==◌, nat_le, nat_lt, Bool, ◌&&◌, if◌then◌else◌, List, [], ◌++◌, Ok, Some, length, map, slice_get, Contains, IsPermutation, IsSorted}
+-- The shapes of an object's maps: by their definitions in its section `maps`, or by BTF.
+use Rattle.std.specs.Prelude.{◌≡◌, ◌≢◌, ℕ, ◌+◌, ◌==◌, nat_le, nat_lt, Bool, true, false, ◌&&◌, if◌then◌else◌, List, [], ◌++◌, Ok, Some, length, map, slice_get, Contains, IsPermutation, IsSorted}
 use Rattle.std.specs.List.{list_all}
 use Rattle.std.specs.Ordering.{nat_cmp}
 use Rattle.bpf_isa.specs.declared.maps.MapShape.{MapShape}
+use Rattle.bpf_btf.specs.Sections.{IsRead}
+use Rattle.bpf_btf.specs.Types.{Types}
 use Rattle.bpf_link.specs.declared.layout.MapDefinition.{MapDefinition}
 use Rattle.bpf_link.specs.declared.plan.Entries.{Entries}
 use Rattle.bpf_link.specs.declared.plan.Plan.{Plan}
@@ -10,6 +12,7 @@ use Rattle.bpf_link.specs.Layout.{map_definition}
 use Rattle.bpf_link.specs.Data.{data_of}
 use Rattle.bpf_link.specs.Links.{maps_of, data_shapes}
 use Rattle.bpf_link.specs.Patches.{map_number}
+use Rattle.bpf_link.specs.MapTypes.{types_found, types_bytes, is_typed, typed_shapes}
 
 -- The definition at a place of the section.
 abbrev pub definition_at : List ℕ → Entries → ℕ → MapDefinition
@@ -52,6 +55,27 @@ is_unknown maps own = nat_lt 0 (length maps) && (length own == 0)
 abbrev pub all_shapes : List ℕ → List MapShape → List MapShape → List MapShape
 all_shapes maps own others = if is_unknown maps own then [] else own ++ others
 
+-- The definitions in the section `maps` give the shapes.
+pub record AreDefined (object : List ℕ) (definitions : Entries) (maps : List ℕ) (shapes : List MapShape) : Type 0 where
+  pub ordered : AreShapes object definitions maps shapes
+  pub numbered : AreNumbered object definitions maps shapes
+
+-- BTF gives those of maps in `.maps`, in the order in which they stand there.
+pub record AreTyped (object : List ℕ) (plan : Plan) (maps : List ℕ) (shapes : List MapShape) : Type 0 where
+  pub types : Types
+  pub read : IsRead (types_bytes object plan.sections (types_found object plan.sections)) types
+  pub ordered : List ℕ
+  pub in_order : IsInOrder maps ordered
+  pub told : typed_shapes object plan types ordered ≡ Ok shapes
+
+abbrev pub AreOwn : Bool → List ℕ → Plan → List ℕ → List MapShape → Type 0
+AreOwn true object plan maps shapes = AreTyped object plan maps shapes
+AreOwn false object plan maps shapes = AreDefined object plan.definitions maps shapes
+
+-- The shapes of the maps that data become.
+abbrev pub AreDataShapes : List ℕ → Plan → List MapShape → Type 0
+AreDataShapes object plan shapes = (taken : List ℕ) × (data_of object plan ≡ Ok taken) × (shapes ≡ data_shapes object plan taken)
+
 -- The shapes of the maps of a plan.
 pub record HasShapes (object : List ℕ) (plan : Plan) (shapes : List MapShape) : Type 0 where
   pub maps : List ℕ
@@ -59,6 +83,5 @@ pub record HasShapes (object : List ℕ) (plan : Plan) (shapes : List MapShape) 
   pub found : maps_of object plan ≡ Ok maps
   pub referred : data_of object plan ≡ Ok taken
   pub own : List MapShape
-  pub ordered : AreShapes object plan.definitions maps own
-  pub numbered : AreNumbered object plan.definitions maps own
+  pub shaped : AreOwn (is_typed object plan maps) object plan maps own
   pub all : shapes ≡ all_shapes maps own (data_shapes object plan taken)

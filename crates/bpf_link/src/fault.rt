@@ -2,6 +2,7 @@
 ghost use Rattle.std.specs.Prelude.{◌≡◌};
 ghost use Rattle.bpf_isa.specs.declared.fault.LoadFault.{LoadFault};
 
+use bpf_btf::BtfFault;
 use bpf_isa::LoadFault;
 
 /// Why no program is made of an object.
@@ -86,12 +87,18 @@ pub enum LinkFault {
     StubTwice,
     /// A list has more than 16 stubs.
     ManyStubs,
+    /// The section `.BTF`, which tells the shapes of maps, isn't read.
+    Types(BtfFault),
+    /// BTF doesn't say of the map, whose name stands at this place in the file, what the machine may
+    /// have.
+    Map { at: usize, fault: BtfFault },
 }
 
 impl LinkFault {
     ghost use Rattle.bpf_link.specs.Faults.{link_fault_number, link_fault_text};
 
-    /// The number that is printed after E, 1 to 35; that of a program's fault is 25.
+    /// The number that is printed after E, 1 to 35, and 40 to 53 of BTF; that of a program's fault
+    /// is 25.
     pub fn number(self) -> u8
         ensures { result ≡ link_fault_number self }
     {
@@ -132,6 +139,8 @@ impl LinkFault {
             LinkFault::StubRange => 33,
             LinkFault::StubTwice => 34,
             LinkFault::ManyStubs => 35,
+            LinkFault::Types(fault) => fault.number(),
+            LinkFault::Map { fault, .. } => fault.number(),
         }
     }
 
@@ -176,6 +185,8 @@ impl LinkFault {
             LinkFault::StubRange => "helper or value of a stub out of range",
             LinkFault::StubTwice => "two stubs of one helper",
             LinkFault::ManyStubs => "more than 16 stubs",
+            LinkFault::Types(fault) => fault.text(),
+            LinkFault::Map { fault, .. } => fault.text(),
         }
     }
 }

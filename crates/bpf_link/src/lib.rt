@@ -9,6 +9,7 @@ mod header;
 mod image;
 mod layout;
 mod linker;
+mod map_types;
 mod patch;
 mod plan;
 mod sections;
@@ -20,5 +21,6 @@ mod words;
 
 pub use fault::LinkFault;
 pub use linker::{LinkOptions, Linked, link, link_with};
+pub use map_types::fault_name;
 pub use stub_lists::stubs_in;
 pub use stubs::Stub;

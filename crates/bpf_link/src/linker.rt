@@ -5,9 +5,10 @@ ghost use Rattle.bpf_isa.specs.declared.maps.MapShape.{MapShape};
 ghost use Rattle.bpf_isa.specs.Maps.{IsShape};
 ghost use Rattle.bpf_link.specs.Data.{AllBelow};
 ghost use Rattle.bpf_link.specs.Laid.{IsLaidOut};
-ghost use Rattle.bpf_link.specs.Links.{AllShapes, IsLinkFault, MemoryOr, linked, planned, program_of, program_words, plain_maps, least_maps, data_shape, data_shapes, told_of};
+ghost use Rattle.bpf_link.specs.Links.{AllShapes, MemoryOr, linked, planned, program_of, program_words, plain_maps, least_maps, data_shape, data_shapes, maps_of, told_of};
 ghost use Rattle.bpf_link.specs.Plans.{LiesPlan};
-ghost use Rattle.bpf_link.specs.Shapes.{HasShapes};
+ghost use Rattle.bpf_link.specs.Refusals.{IsLinkFault, IsShapeFault};
+ghost use Rattle.bpf_link.specs.Shapes.{HasShapes, AreDataShapes};
 ghost use Rattle.bpf_link.specs.declared.plan.Plan.{Plan};
 
 use crate::data_sections::data_of;
@@ -38,6 +39,16 @@ pub struct LinkOptions<'a> {
     pub stubs: &'a [Stub],
 }
 
+/// The program of a plan, whose maps have no shapes yet.
+#[derive(Drop)]
+struct Program {
+    words: Vec<u8>,
+    /// Where the object's own maps stand in their section.
+    maps: ArrayVec<u64, 16>,
+    data_maps: ArrayVec<MapShape, 16>,
+    answered: usize,
+}
+
 /// Words, and how many calls of helpers are answered in them.
 #[derive(Drop)]
 struct Answered {
@@ -59,9 +70,10 @@ pub struct Linked {
     pub data_maps: ArrayVec<MapShape, 16>,
     /// How many calls of helpers are answered by a stub.
     pub answered: usize,
-    /// The shapes of all maps, in the order of their numbers: those that the object's section
-    /// `maps` gives them, of any size, and those of data. None unless it defines each of its own as
-    /// an array.
+    /// The shapes of all maps, in the order of their numbers: those that BTF gives maps in `.maps`,
+    /// which the machine may have, or those that the object's section `maps` gives them, of any
+    /// size; and those of data. None where there is no BTF and the object doesn't define each of
+    /// its own as an array.
     pub shapes: ArrayVec<MapShape, 16>,
 }
 
@@ -183,27 +195,30 @@ fn program_words(
     }
 }
 
-/// The words of a plan, how many maps there are, and their shapes.
+/// The words of a plan, and its maps.
 fn program_of(
     alloc: Global,
     object: &[u8],
     entry: &[u8],
     stubs: &[Stub],
     plan: &Plan,
-) -> Result<Linked, LinkFault>
+) -> Result<Program, LinkFault>
     requires { LiesPlan object.now plan.now }
     ensures ok { IfOk result (λ program. program_of object.now entry.now stubs.now plan.now
         ≡ Ok (record {
           words = program.words.items;
-          maps = program.maps;
+          maps = length program.maps.items;
           data_maps = program.data_maps.items;
           answered = program.answered;
         })) }
     ensures err { IfErr result (MemoryOr (program_of object.now entry.now stubs.now plan.now)) }
     ensures laid { IfOk result (λ program. IsLaidOut object.now plan.now entry.now stubs.now program.words.items) }
-    ensures few { IfOk result (λ program. program.maps + length program.data_maps.items ≤ 16) }
+    ensures few { IfOk result
+        (λ program. length program.maps.items + length program.data_maps.items ≤ 16) }
     ensures possible { IfOk result (λ program. AllShapes program.data_maps.items) }
-    ensures shapes { IfOk result (λ program. HasShapes object.now plan.now program.shapes.items) }
+    ensures maps { IfOk result (λ program. maps_of object.now plan.now ≡ Ok program.maps.items) }
+    ensures data { IfOk result
+        (λ program. AreDataShapes object.now plan.now program.data_maps.items) }
 {
     let slot = match entry_of(object, plan, entry) {
         Ok(slot) => slot,
@@ -227,13 +242,44 @@ fn program_of(
         Err(fault) => return Err(fault),
     };
     let data_maps = data_shapes(object, plan, taken);
-    Ok(Linked {
+    Ok(Program {
         words: done.words,
         answered: done.count,
-        maps: own.len(),
-        shapes: all_shapes(object, &plan.definitions, own, data_maps.as_slice()),
+        maps,
         data_maps,
     })
+}
+
+/// A program with the shapes of its maps.
+fn with_shapes(
+    alloc: Global,
+    object: &[u8],
+    plan: &Plan,
+    program: Program,
+) -> Result<Linked, LinkFault>
+    requires plan { LiesPlan object.now plan.now }
+    requires few { length program.maps.items + length program.data_maps.items ≤ 16 }
+    requires maps { maps_of object.now plan.now ≡ Ok program.maps.items }
+    requires data { AreDataShapes object.now plan.now program.data_maps.items }
+    ensures words { IfOk result (λ linked. linked.words.items ≡ program.words.items) }
+    ensures maps { IfOk result (λ linked. linked.maps ≡ length program.maps.items) }
+    ensures data_maps { IfOk result (λ linked. linked.data_maps.items ≡ program.data_maps.items) }
+    ensures answered { IfOk result (λ linked. linked.answered ≡ program.answered) }
+    ensures shapes { IfOk result (λ linked. HasShapes object.now plan.now linked.shapes.items) }
+    ensures err { IfErr result (IsShapeFault object.now plan.now) }
+{
+    let own = program.maps.as_slice();
+    let others = program.data_maps.as_slice();
+    match all_shapes(alloc, object, plan, own, others) {
+        Ok(shapes) => Ok(Linked {
+            words: program.words,
+            maps: program.maps.len(),
+            answered: program.answered,
+            data_maps: program.data_maps,
+            shapes,
+        }),
+        Err(fault) => Err(fault),
+    }
 }
 
 /// The program of a code section of a relocatable ELF object for BPF (64 bits, little-endian).
@@ -282,9 +328,12 @@ pub fn link_with(
     match check(
         alloc,
         &program.words,
-        &least_maps(program.maps, program.data_maps.as_slice()),
+        &least_maps(program.maps.len(), program.data_maps.as_slice()),
     ) {
-        Ok(_) => Ok(program),
+        Ok(_) => match with_shapes(alloc, object, &plan, program) {
+            Ok(linked) => Ok(linked),
+            Err(fault) => Err(fault),
+        },
         Err(LoadFault::Memory) => Err(LinkFault::Memory),
         Err(fault) => Err(told_of(&program.words, fault)),
     }

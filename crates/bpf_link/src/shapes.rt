@@ -1,13 +1,18 @@
-//! The shapes of the maps that an object defines.
-ghost use Rattle.std.specs.Prelude.{◌≡◌, ◌≤◌, ◌<◌, ◌+◌, ◌++◌, nat_le, length, IsTrue, List};
-ghost use Rattle.bpf_link.specs.Plans.{Lies};
-ghost use Rattle.bpf_link.specs.Shapes.{definition_at, is_array, shape_at, shapes_at, IsInOrder, AreShapes, AreNumbered, is_unknown, all_shapes};
+//! The shapes of the maps of an object.
+ghost use Rattle.std.specs.Prelude.{◌≡◌, ◌≤◌, ◌<◌, ◌+◌, ◌++◌, nat_le, length, true, IfOk, IfErr, IsTrue, List};
+ghost use Rattle.bpf_link.specs.Plans.{Lies, LiesPlan};
+ghost use Rattle.bpf_link.specs.MapTypes.{is_typed};
+ghost use Rattle.bpf_link.specs.Refusals.{IsTypeFault};
+ghost use Rattle.bpf_link.specs.Shapes.{definition_at, is_array, shape_at, shapes_at, IsInOrder, AreShapes, AreNumbered, AreOwn, is_unknown, all_shapes};
 ghost use Rattle.bpf_isa.specs.declared.maps.MapShape.{MapShape};
 
 use crate::layout::{MapDefinition, map_definition};
-use crate::plan::Entries;
+use crate::fault::LinkFault;
+use crate::map_types::{is_typed, shapes_by_types};
+use crate::plan::{Entries, Plan};
 use arrayvec::ArrayVec;
 use bpf_isa::MapShape;
+use std::alloc::Global;
 
 /// The definition at a place of the section.
 fn definition_at(object: &[u8], definitions: &Entries, place: u64) -> MapDefinition
@@ -69,7 +74,7 @@ fn shapes_at(object: &[u8], definitions: &Entries, places: &[u64]) -> ArrayVec<M
 }
 
 /// Places in ascending order.
-fn in_order(places: &[u64]) -> ArrayVec<u64, 16>
+pub fn in_order(places: &[u64]) -> ArrayVec<u64, 16>
     requires { length places.now ≤ 16 }
     ensures value { IsInOrder places.now result.items }
     ensures length { length result.items ≤ 16 }
@@ -93,25 +98,53 @@ fn shapes_of(object: &[u8], definitions: &Entries, maps: &[u64]) -> ArrayVec<Map
     shapes_at(object, definitions, ordered.as_slice())
 }
 
-/// The shapes of all maps: those that stand at places of the section, and after them those of data.
-/// None where the object has maps of its own and not each is an array.
-pub fn all_shapes(
+/// The shapes of the maps that stand at places of their section: by BTF, or by their definitions.
+fn own_shapes(
+    alloc: Global,
     object: &[u8],
-    definitions: &Entries,
+    plan: &Plan,
+    maps: &[u64],
+) -> Result<ArrayVec<MapShape, 16>, LinkFault>
+    requires plan { LiesPlan object.now plan.now }
+    requires few { length maps.now ≤ 16 }
+    ensures ok { IfOk result (λ own. AreOwn (is_typed object.now plan.now maps.now)
+        object.now plan.now maps.now own.items) }
+    ensures few { IfOk result (λ own. length own.items ≤ length maps.now) }
+    ensures err { IfErr result (IsTypeFault object.now plan.now maps.now) }
+    ensures typed { IfErr result (λ fault. is_typed object.now plan.now maps.now ≡ true) }
+{
+    if is_typed(object, plan, maps) {
+        return shapes_by_types(alloc, object, plan, maps);
+    }
+    Ok(shapes_of(object, &plan.definitions, maps))
+}
+
+/// The shapes of all maps: those that stand at places of their section, and after them those of
+/// data. None where the object has maps of its own, BTF doesn't tell of them and not each is an
+/// array.
+pub fn all_shapes(
+    alloc: Global,
+    object: &[u8],
+    plan: &Plan,
     maps: &[u64],
     others: &[MapShape],
-) -> ArrayVec<MapShape, 16>
-    requires lies { Lies object.now 1 definitions.now }
+) -> Result<ArrayVec<MapShape, 16>, LinkFault>
+    requires plan { LiesPlan object.now plan.now }
     requires few { length maps.now + length others.now ≤ 16 }
-    ensures { (own : List MapShape) × AreShapes object.now definitions.now maps.now own
-        × AreNumbered object.now definitions.now maps.now own
-        × (result.items ≡ all_shapes maps.now own others.now) }
+    ensures ok { IfOk result (λ shapes. (own : List MapShape)
+        × AreOwn (is_typed object.now plan.now maps.now) object.now plan.now maps.now own
+        × (shapes.items ≡ all_shapes maps.now own others.now)) }
+    ensures err { IfErr result (IsTypeFault object.now plan.now maps.now) }
+    ensures typed { IfErr result (λ fault. is_typed object.now plan.now maps.now ≡ true) }
 {
-    let own = shapes_of(object, definitions, maps);
+    let own = match own_shapes(alloc, object, plan, maps) {
+        Ok(own) => own,
+        Err(fault) => return Err(fault),
+    };
     if is_unknown(maps, own.as_slice()) {
-        return ArrayVec::new();
+        return Ok(ArrayVec::new());
     }
-    with_data(own, others)
+    Ok(with_data(own, others))
 }
 
 /// Whether the object has maps of its own and their shapes aren't known.

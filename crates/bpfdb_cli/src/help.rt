@@ -155,9 +155,10 @@ pub const LINK_LONG: &str = "Makes the words of a program from an ELF object.
 Reads the relocatable object FILE, as `clang -target bpf -c` writes it. Writes the words
 of one code section to standard output, 8 bytes a slot, and after them those of .text
 where the section calls it: calls have their distances, and loads of maps the maps'
-numbers, 0 for the one that stands first in its section. Where the section maps defines
-each as an array, standard error tells their sizes, as --maps takes them. The first thing
-that is wrong is one line on standard error, with its number; then the exit status is 2.";
+numbers, 0 for the one that stands first in its section. Where debug information (-g) or
+the section maps tells their sizes, standard error has them, as --maps takes them. The
+first thing that is wrong is one line on standard error, with its number; then the exit
+status is 2.";
 
 pub const LINK_EXAMPLE: &str = "Example:
   $ clang -O2 -target bpf -c count.c

@@ -12,7 +12,7 @@ program-machine job (Load fault) p = p
 program-machine job (Open fault) p = absurd p
 program-machine job (Journal fault) p = absurd p
 program-machine job (What fault) p = absurd p
-program-machine job (Object fault) p = absurd p
+program-machine job (Object fault name) p = absurd p
 program-machine job (Tests fault line) p = absurd p
 
 pub machine-session : (job : Job) (refusal : JobRefusal) → RefusesMachine job refusal → Refuses job refusal
@@ -22,7 +22,7 @@ machine-session job (Load fault) p = p
 machine-session job (Open fault) p = p
 machine-session job (Journal fault) p = absurd p
 machine-session job (What fault) p = absurd p
-machine-session job (Object fault) p = absurd p
+machine-session job (Object fault name) p = absurd p
 machine-session job (Tests fault line) p = absurd p
 
 -- a refusal of a session is one of `origin`
@@ -33,5 +33,5 @@ session-origin job (Load fault) p = p
 session-origin job (Open fault) p = p
 session-origin job (Journal fault) p = p
 session-origin job (What fault) p = absurd p
-session-origin job (Object fault) p = p
+session-origin job (Object fault name) p = p
 session-origin job (Tests fault line) p = p

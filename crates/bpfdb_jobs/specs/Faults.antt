@@ -70,6 +70,15 @@ slot_of_words (linking.Program fault) = slot_of fault
 slot_of_words (linking.Helper slot helper) = Some slot
 slot_of_words fault = None
 
+-- The name of what is wrong with an object.
+abbrev pub name_text : List ℕ → List ℕ
+name_text [] = []
+name_text (byte ∷ bytes) = codes ": " ++ shown (byte ∷ bytes)
+
+abbrev pub object_line : LinkFault → List ℕ → List ℕ
+object_line fault name =
+    refusal_text (codes "refused E") (link_fault_number fault) (placed (codes " at slot ") (slot_of_words fault)) (link_fault_text fault ++ more_of fault ++ name_text name)
+
 abbrev pub refusal_line : JobRefusal → List ℕ
 refusal_line (Maps fault) = refusal_text (codes "refused M") (map_fault fault).0 [] (map_fault fault).1
 refusal_line (Listing fault) = refusal_text (codes "refused A") (fault_number fault) (placed (codes " at line ") (fault_line fault)) (fault_text fault)
@@ -77,7 +86,7 @@ refusal_line (Load fault) = refusal_text (codes "refused C") (load_fault fault).
 refusal_line (Open fault) = refusal_text (codes "refused O") (opening.number_of fault) [] (opening.text_of fault)
 refusal_line (Journal fault) = refusal_text (codes "refused J") (journal.number_of fault) [] (journal.text_of fault)
 refusal_line (What fault) = refusal_text (codes "refused V") (asked.number_of fault) [] (asked.text_of fault)
-refusal_line (Object fault) = refusal_text (codes "refused E") (link_fault_number fault) (placed (codes " at slot ") (slot_of_words fault)) (link_fault_text fault ++ more_of fault)
+refusal_line (Object fault name) = object_line fault name.now
 refusal_line (Tests fault line) =
     refusal_text (codes "refused T") (suite.fault_number fault) (placed (codes " at line ") (Some line)) (suite.fault_text fault)
 

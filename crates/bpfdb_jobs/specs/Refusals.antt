@@ -7,7 +7,8 @@ use Rattle.bpf_isa.specs.Maps.{IsListFault}
 use Rattle.bpf_isa.specs.Programs.{Checked}
 use Rattle.bpf_isa.specs.declared.maps.MapShape.{MapShape}
 use Rattle.bpf_text.specs.Listing.{IsFaultOf}
-use Rattle.bpf_link.specs.Links.{IsLinkFault}
+use Rattle.bpf_link.specs.MapTypes.{fault_name}
+use Rattle.bpf_link.specs.Refusals.{IsLinkFault}
 use Rattle.bpf_link.specs.declared.stubs.Stub.{Stub}
 use Rattle.bpf_suite.specs.Faults as suite
 use Rattle.bpf_suite.specs.declared.fault.FileFault.TheVariants.{Line}
@@ -31,7 +32,7 @@ Refuses job (Load fault) = (shapes : List MapShape) × HasMaps job.options.maps 
 Refuses job (Open fault) = (code : Checked) × IsProgramOf job code × Refused job.context.now fault
 Refuses job (Journal fault) = (code : Checked) × Opens job code × RefusesSize job.options.journal fault
 Refuses job (What fault) = ⊥
-Refuses job (Object fault) = ⊥
+Refuses job (Object fault name) = ⊥
 Refuses job (Tests fault line) = ⊥
 
 -- Those that a subcommand looks at: `asm` and `lines` their listing alone and `link` its object, a program has no context, a run no journal.
@@ -54,8 +55,8 @@ RefusesListing job (Listing fault) = IsFaultOf job.file.now fault
 RefusesListing job refusal = ⊥
 
 abbrev pub RefusesObject : Job → JobRefusal → Type 0
-RefusesObject job (Object fault) = (stubs_of job ≡ Err fault)
-    ⊎ ((stubs : List Stub) × (stubs_of job ≡ Ok stubs) × IsLinkFault job.file.now (section_of job) (entry_of job) stubs fault)
+RefusesObject job (Object fault name) = (name.now ≡ fault_name job.file.now fault) × ((stubs_of job ≡ Err fault)
+    ⊎ ((stubs : List Stub) × (stubs_of job ≡ Ok stubs) × IsLinkFault job.file.now (section_of job) (entry_of job) stubs fault))
 RefusesObject job refusal = ⊥
 
 abbrev pub RefusesTests : Job → JobRefusal → Type 0

@@ -9,7 +9,7 @@ pub enum JobFault<'a> {
     /// The words of the command line are no text.
     NotText,
     /// What is asked for is refused: a letter for what, a number and a text for why.
-    Refused(JobRefusal),
+    Refused(JobRefusal<'a>),
     /// A read of standard input failed.
     Input,
     /// A write to standard output failed.

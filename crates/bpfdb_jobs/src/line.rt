@@ -1,7 +1,7 @@
 //! The line of a fault.
 ghost use Rattle.std.specs.Prelude.{◌≡◌, ◌++◌, [], codes, decimal};
 ghost use Rattle.counted_io.specs.Writing.{Writes, WritesAfter};
-ghost use Rattle.bpfdb_jobs.specs.Faults.{helper_text, limit_line, line_of, more_of, placed, refusal_line, refusal_text, slot_of, slot_of_words, unreadable_line};
+ghost use Rattle.bpfdb_jobs.specs.Faults.{helper_text, limit_line, line_of, more_of, name_text, object_line, placed, refusal_line, refusal_text, shown, slot_of, slot_of_words, unreadable_line};
 
 use crate::fault::JobFault;
 use crate::name::put_name;
@@ -73,7 +73,7 @@ fn put_limit<E: Write>(
 fn put_refusal<E: Write>(
     errors: &mut Counted<E>,
     so_far: Result<(), WriteFault>,
-    refusal: &JobRefusal,
+    refusal: &JobRefusal<'_>,
 ) -> Result<(), WriteFault>
     ensures { WritesAfter E.contents errors.old so_far errors.new result
         (refusal_line refusal.now) }
@@ -93,7 +93,7 @@ fn put_refusal<E: Write>(
         JobRefusal::What(fault) => {
             put_unplaced(errors, so_far, b"refused V", fault.number(), fault.text())
         }
-        JobRefusal::Object(fault) => put_object(errors, so_far, fault),
+        JobRefusal::Object(fault, name) => put_object(errors, so_far, fault, name),
         JobRefusal::Tests(fault, line) => put_tests(errors, so_far, fault, *line),
     }
 }
@@ -143,9 +143,10 @@ fn put_object<E: Write>(
     errors: &mut Counted<E>,
     so_far: Result<(), WriteFault>,
     fault: &LinkFault,
+    name: &[u8],
 ) -> Result<(), WriteFault>
     ensures { WritesAfter E.contents errors.old so_far errors.new result
-        (refusal_line (JobRefusal.Object fault.now)) }
+        (object_line fault.now name.now) }
 {
     let begun = put_begun(
         errors,
@@ -157,7 +158,35 @@ fn put_object<E: Write>(
         fault.text(),
     );
     let said = put_more(errors, begun, fault);
-    put(errors, said, b"\n")
+    let named = put_named(errors, said, name);
+    put(errors, named, b"\n")
+}
+
+/// Writes the name of what is wrong, if there is one.
+fn put_named<E: Write>(
+    errors: &mut Counted<E>,
+    so_far: Result<(), WriteFault>,
+    name: &[u8],
+) -> Result<(), WriteFault>
+    ensures { WritesAfter E.contents errors.old so_far errors.new result (name_text name.now) }
+{
+    if name.is_empty() {
+        return put(errors, so_far, b"");
+    }
+    put_parted(errors, so_far, name)
+}
+
+/// Writes a colon and a name.
+fn put_parted<E: Write>(
+    errors: &mut Counted<E>,
+    so_far: Result<(), WriteFault>,
+    name: &[u8],
+) -> Result<(), WriteFault>
+    ensures { WritesAfter E.contents errors.old so_far errors.new result
+        (codes ": " ++ shown name.now) }
+{
+    let begun = put(errors, so_far, b": ");
+    put_name(errors, begun, name)
 }
 
 /// Writes what stands behind the text of an object's fault.

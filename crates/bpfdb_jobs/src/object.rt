@@ -1,7 +1,8 @@
 //! What a job of `link` does.
 ghost use Rattle.std.specs.Prelude.{◌≡◌, ◌≤◌, IfErr, IfOk, Ok, Err};
 ghost use Rattle.bpf_isa.specs.Checker.{IsAccepted};
-ghost use Rattle.bpf_link.specs.Links.{IsLinkFault, least_maps, linked, planned};
+ghost use Rattle.bpf_link.specs.Refusals.{IsLinkFault};
+ghost use Rattle.bpf_link.specs.Links.{least_maps, linked, planned};
 ghost use Rattle.bpf_link.specs.Shapes.{HasShapes};
 ghost use Rattle.bpf_link.specs.declared.plan.Plan.{Plan};
 ghost use Rattle.bpfdb_jobs.specs.Endings.{EndsPrinted};
@@ -14,7 +15,7 @@ use crate::maps::tell_linked;
 use crate::refusal::JobRefusal;
 use crate::report::{give_up, told_as, write_out};
 use arrayvec::ArrayVec;
-use bpf_link::{LinkFault, LinkOptions, Linked, Stub, link_with, stubs_in};
+use bpf_link::{LinkFault, LinkOptions, Linked, Stub, fault_name, link_with, stubs_in};
 use counted_io::{Counted, WriteFault};
 use std::alloc::Global;
 use std::io::Write;
@@ -33,12 +34,18 @@ pub fn link_job<W: Write, E: Write>(
 {
     let stubs = match stubs_of(job) {
         Ok(stubs) => stubs,
-        Err(fault) => return give_up(errors, &JobFault::Refused(JobRefusal::Object(fault))),
+        Err(fault) => {
+            let name = fault_name(job.file, &fault);
+            return give_up(errors, &JobFault::Refused(JobRefusal::Object(fault, name)));
+        }
     };
     let named = stubs.as_slice();
     let linked = match linked_from(alloc, job.file, section_of(job), entry_of(job), named) {
         Ok(linked) => linked,
-        Err(fault) => return give_up(errors, &JobFault::Refused(JobRefusal::Object(fault))),
+        Err(fault) => {
+            let name = fault_name(job.file, &fault);
+            return give_up(errors, &JobFault::Refused(JobRefusal::Object(fault, name)));
+        }
     };
     let answered = answered_if(job, linked.answered);
     match write_out(writer, linked.words.as_slice()) {

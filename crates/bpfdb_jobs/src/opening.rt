@@ -18,7 +18,7 @@ use bpf_text::assemble;
 use std::alloc::Global;
 
 /// The map table.
-fn maps_of(job: &Job<'_>) -> Result<MapTable, JobRefusal>
+fn maps_of(job: &Job<'_>) -> Result<MapTable, JobRefusal<'static>>
     ensures ok { IfOk result (HasMaps job.now.options.maps) }
     ensures err { IfErr result (RefusesProgram job.now) }
 {
@@ -33,7 +33,7 @@ fn maps_of(job: &Job<'_>) -> Result<MapTable, JobRefusal>
 
 /// The program: first its maps are read, then the listing, if FILE is one, is assembled, then the
 /// checker looks at the words.
-pub fn program_of(alloc: Global, job: &Job<'_>) -> Result<Program, JobRefusal>
+pub fn program_of(alloc: Global, job: &Job<'_>) -> Result<Program, JobRefusal<'static>>
     ensures ok { IfOk result (IsProgramOf job.now) }
     ensures err { IfErr result (RefusesProgram job.now) }
 {
@@ -49,7 +49,7 @@ pub fn program_of(alloc: Global, job: &Job<'_>) -> Result<Program, JobRefusal>
 }
 
 /// The program of a listing.
-fn assembled(alloc: Global, job: &Job<'_>, maps: &MapTable) -> Result<Program, JobRefusal>
+fn assembled(alloc: Global, job: &Job<'_>, maps: &MapTable) -> Result<Program, JobRefusal<'static>>
     requires maps { HasMaps job.now.options.maps maps.now }
     requires listing { job.now.options.is_listing ≡ true }
     ensures ok { IfOk result (IsProgramOf job.now) }
@@ -67,7 +67,7 @@ fn checked(
     job: &Job<'_>,
     words: &[u8],
     maps: &MapTable,
-) -> Result<Program, JobRefusal>
+) -> Result<Program, JobRefusal<'static>>
     requires maps { HasMaps job.now.options.maps maps.now }
     requires words { HasWords job.now.options.is_listing job.now.file.now words.now }
     ensures ok { IfOk result (IsProgramOf job.now) }
@@ -83,7 +83,7 @@ fn checked(
 }
 
 /// A machine before its first step.
-pub fn machine_of(alloc: Global, job: &Job<'_>) -> Result<Cpu, JobRefusal>
+pub fn machine_of(alloc: Global, job: &Job<'_>) -> Result<Cpu, JobRefusal<'static>>
     ensures ok { IfOk result (λ cpu. (code : Checked) × Opens job.now code
         × (cpu ≡ initial code job.now.context.now)) }
     ensures err { IfErr result (RefusesMachine job.now) }
@@ -99,7 +99,10 @@ pub fn machine_of(alloc: Global, job: &Job<'_>) -> Result<Cpu, JobRefusal>
 }
 
 /// A machine before its first step, with an empty journal.
-pub fn timeline_of(alloc: Global, job: &Job<'_>) -> Result<Timeline<RingKeeper>, JobRefusal>
+pub fn timeline_of(
+    alloc: Global,
+    job: &Job<'_>,
+) -> Result<Timeline<RingKeeper>, JobRefusal<'static>>
     ensures ok { IfOk result (IsStart job.now) }
     ensures runs { IfOk result (λ timeline. has_ended timeline.state.status ≡ false) }
     ensures err { IfErr result (Refuses job.now) }
@@ -115,7 +118,7 @@ pub fn timeline_of(alloc: Global, job: &Job<'_>) -> Result<Timeline<RingKeeper>,
 }
 
 /// A session before its first command.
-pub fn session_of(alloc: Global, job: &Job<'_>) -> Result<Session<RingKeeper>, JobRefusal>
+pub fn session_of(alloc: Global, job: &Job<'_>) -> Result<Session<RingKeeper>, JobRefusal<'static>>
     requires limit { IsLimit job.now.options.limit }
     ensures ok { IfOk result (IsOpening job.now) }
     ensures err { IfErr result (Refuses job.now) }

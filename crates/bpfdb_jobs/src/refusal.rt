@@ -9,7 +9,7 @@ use bpf_text::AsmFault;
 
 /// Why a job is refused, in the order in which it is looked at.
 #[derive(Clone, Copy)]
-pub enum JobRefusal {
+pub enum JobRefusal<'a> {
     /// The map table's text.
     Maps(MapFault),
     /// The listing.
@@ -22,8 +22,9 @@ pub enum JobRefusal {
     Journal(JournalFault),
     /// What is asked about isn't in the machine.
     What(WhatFault),
-    /// No program is made of the object.
-    Object(LinkFault),
+    /// No program is made of the object; the name of what is wrong, as it stands in the object, or
+    /// nothing.
+    Object(LinkFault, &'a [u8]),
     /// A test file has this fault, in this line.
     Tests(SectionFault, usize),
 }

@@ -1,4 +1,4 @@
-use Rattle.std.proofs.Common.{◌∙◌, inr, sym, ap, subst}
+use Rattle.std.proofs.Common.{◌∙◌, inl, inr, length, sym, ap, subst}
 use Rattle.bpf_isa.specs.Checker.{IsRefused}
 use Rattle.bpf_link.specs.Plans.{after}
 use Rattle.bpf_link.specs.Links.{program_of, least_maps, told_of}
@@ -11,21 +11,21 @@ told_of-requires c =
 pub returns : goal.returns
 returns c =
     let program = c.in-Ok-program_of.program in
-    let maps = c.least_maps.ensures ∙ ap (least_maps program.maps) c.as_slice.ensures.value in
+    let maps = rw c.as_slice.ensures.value at (rw c.len.ensures.value at c.least_maps.ensures) in
     record {
       ok = tt;
       laid = tt;
       shapes = tt;
       accepted = tt;
-      err = inr (record {
-        program = record { words = program.words.items; maps = program.maps; data_maps = program.data_maps.items; answered = program.answered };
+      err = inr (inl (record {
+        program = record { words = program.words.items; maps = length program.maps.items; data_maps = program.data_maps.items; answered = program.answered };
         refusal = c.in-Err-check.fault;
         told = c.told_of.ensures ∙ ap (λ words. told_of words c.in-Err-check.fault) c.deref-in-Err-check.ensures.value;
         linked =
             ap (λ r. after r (program_of c.args.object.now c.args.options.now.entry.now c.args.options.now.stubs.now)) (sym c.in-Ok.ensures.value)
             ∙ c.in-Ok-program_of.ensures.ok;
         refused =
-            subst (λ words. IsRefused words (least_maps program.maps program.data_maps.items) c.in-Err-check.fault) c.deref.ensures.value
+            subst (λ words. IsRefused words (least_maps (length program.maps.items) program.data_maps.items) c.in-Err-check.fault) c.deref.ensures.value
             (subst (λ m. IsRefused c.deref.result.now m c.in-Err-check.fault) maps c.in-Err-check.ensures.fault);
-      });
+      }));
     }

@@ -57,12 +57,12 @@ returns-in-Ok-write_out-clause-does g c =
 
 pub returns-in-Err-clause-does : goal.returns-in-Err-clause-does
 returns-in-Err-clause-does g c =
-    Refused (Object c.in-Err.fault) (inl c.in-Err.ensures.err) refl c.give_up.ensures.told c.give_up.ensures.value
+    Refused (Object c.in-Err.fault c.fault_name-name.result) (c.fault_name-name.ensures, inl c.in-Err.ensures.err) refl c.give_up.ensures.told c.give_up.ensures.value
 
 pub returns-in-Err-linked_from-clause-does : goal.returns-in-Err-linked_from-clause-does
 returns-in-Err-linked_from-clause-does g c =
     let asked = c.in-Ok.ensures.ok ∙ ap Ok (sym c.as_slice-named.ensures.value) in
-    Refused (Object c.in-Err-linked_from.fault) (inr (c.as_slice-named.result.now, asked, rw c.entry_of.ensures at (rw c.section_of.ensures at c.in-Err-linked_from.ensures.err))) refl
+    Refused (Object c.in-Err-linked_from.fault c.fault_name-name-2.result) (c.fault_name-name-2.ensures, inr (c.as_slice-named.result.now, asked, rw c.entry_of.ensures at (rw c.section_of.ensures at c.in-Err-linked_from.ensures.err))) refl
     c.give_up-in-Err-linked_from.ensures.told c.give_up-in-Err-linked_from.ensures.value
 
 pub returns-clause-does : goal.returns-clause-does

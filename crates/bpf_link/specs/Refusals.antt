@@ -1,0 +1,50 @@
+-- Why no program is made of an object: in its words, or in the shapes of its maps.
+use Rattle.std.specs.Prelude.{◌≡◌, ◌⊎◌, ℕ, true, List, Ok, Err}
+use Rattle.bpf_btf.specs.Sections.{IsRead, IsReadFault}
+use Rattle.bpf_btf.specs.Types.{Types}
+use Rattle.bpf_btf.specs.declared.fault.BtfFault.{BtfFault}
+use Rattle.bpf_link.specs.declared.fault.LinkFault.{LinkFault}
+use Rattle.bpf_link.specs.declared.fault.LinkFault.TheVariants as link
+use Rattle.bpf_link.specs.declared.plan.Plan.{Plan}
+use Rattle.bpf_link.specs.declared.stubs.Stub.{Stub}
+use Rattle.bpf_link.specs.Links.{AreWordsOf, IsRejected, MemoryOr, linked, maps_of, planned}
+use Rattle.bpf_link.specs.MapTypes.{types_found, types_bytes, is_typed, typed_shapes}
+use Rattle.bpf_link.specs.Shapes.{IsInOrder}
+
+-- The BTF isn't read.
+pub record HasReadFault (object : List ℕ) (plan : Plan) (fault : LinkFault) : Type 0 where
+  pub why : BtfFault
+  pub told : fault ≡ link.Types why
+  pub unread : IsReadFault (types_bytes object plan.sections (types_found object plan.sections)) why
+
+-- It doesn't say of each map what the machine may have.
+pub record HasOtherMap (object : List ℕ) (plan : Plan) (maps : List ℕ) (fault : LinkFault) : Type 0 where
+  pub types : Types
+  pub read : IsRead (types_bytes object plan.sections (types_found object plan.sections)) types
+  pub ordered : List ℕ
+  pub in_order : IsInOrder maps ordered
+  pub told : typed_shapes object plan types ordered ≡ Err fault
+
+-- Why BTF gives no shapes.
+abbrev pub IsTypeFault : List ℕ → Plan → List ℕ → LinkFault → Type 0
+IsTypeFault object plan maps fault = (fault ≡ link.Memory) ⊎ (HasReadFault object plan fault ⊎ HasOtherMap object plan maps fault)
+
+-- Why the maps of a plan have no shapes.
+pub record IsShapeFault (object : List ℕ) (plan : Plan) (fault : LinkFault) : Type 0 where
+  pub maps : List ℕ
+  pub found : maps_of object plan ≡ Ok maps
+  pub typed : is_typed object plan maps ≡ true
+  pub why : IsTypeFault object plan maps fault
+
+-- The words are a program, and its maps have no shapes.
+pub record LacksShapes (object name entry : List ℕ) (stubs : List Stub) (fault : LinkFault) : Type 0 where
+  pub words : List ℕ
+  pub made : AreWordsOf object name entry stubs words
+  pub plan : Plan
+  pub plans : planned object name ≡ Ok plan
+  pub why : IsShapeFault object plan fault
+
+-- Why no program is made of an object.
+abbrev pub IsLinkFault : List ℕ → List ℕ → List ℕ → List Stub → LinkFault → Type 0
+IsLinkFault object name entry stubs fault =
+    MemoryOr (linked object name entry stubs) fault ⊎ (IsRejected object name entry stubs fault ⊎ LacksShapes object name entry stubs fault)
