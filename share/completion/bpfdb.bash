@@ -8,6 +8,8 @@ _bpfdb() {
     --maps) :; return ;;
     --journal) :; return ;;
     --steps) :; return ;;
+    --from) :; return ;;
+    --count) :; return ;;
     --registers) mapfile -t COMPREPLY < <(compgen -W "x86 riscv bpf" -- "$word"); return ;;
     --section) :; return ;;
     --entry) :; return ;;
@@ -15,11 +17,12 @@ _bpfdb() {
     --lines) :; return ;;
     esac
     if [ "$COMP_CWORD" -eq "$first" ]; then
-        mapfile -t COMPREPLY < <(compgen -W "run debug origin asm disasm lines check link gdb test help --help --version" -- "$word")
+        mapfile -t COMPREPLY < <(compgen -W "run trace debug origin asm disasm lines check link gdb test help --help --version" -- "$word")
         return
     fi
     case $job in
     run) words="-m --mem --maps --steps --listing -h --help" ;;
+    trace) words="-m --mem --maps --steps --from --count --profile --listing -h --help" ;;
     debug) words="-m --mem --maps --journal --steps --listing -h --help" ;;
     origin) words="-m --mem --maps --journal --steps --listing --lines --addresses -h --help" ;;
     asm) words="-h --help" ;;
@@ -30,7 +33,7 @@ _bpfdb() {
     gdb) words="-m --mem --maps --journal --steps --listing --registers -h --help" ;;
     test) words="-h --help" ;;
     shell) words="-m --mem --maps --journal --steps --listing --section --entry --stub -h --help" ;;
-    help) words="run debug origin asm disasm lines check link gdb test" ;;
+    help) words="run trace debug origin asm disasm lines check link gdb test" ;;
     *) return ;;
     esac
     case $word in

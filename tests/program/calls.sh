@@ -54,6 +54,7 @@ for how in INTERRUPTED=0 INTERRUPTED=1 INTERRUPTED=5 SHORT=1 'INTERRUPTED=2 SHOR
     under "$how" 0 "$words" '' asm program.s
     under "$how" 0 'exited at 1: r0 0x2a\n-2 r0 = 0x2a; 0: mov r0, 42\n' '' origin program
     under "$how" 0 '0 1 start\n1 2\n' '' lines program.s
+    under "$how" 0 '1 0: mov r0, 42; r0 = 0x2a\n2 1: exit\nexited at 1: r0 0x2a\n' '' trace program
     under "$how" 0 'mov r0, 42\nexit\n' '' disasm program
     under "$how" 0 'ok 5000 instructions in 5000 slots\n' '' check long.bin
     under "$how" 0 'ok 5000 instructions in 5000 slots\n' '' check --listing long.s

@@ -307,6 +307,10 @@ for all in '' all; do
             hold_bytes
             state 0 'exited at 1: r0 0x2a\n-2 r0 = 0x2a; 0: mov r0, 42\n' ''
             output $piece $kind origin answer
+            state 0 '1 0: mov r0, 42; r0 = 0x2a\n2 1: exit\nexited at 1: r0 0x2a\n' ''
+            output $piece $kind trace answer
+            state 0 '1 0: mov r0, 42\n1 1: exit\nexited at 1: r0 0x2a\n' ''
+            output $piece $kind trace --profile answer
             state 0 '0 1\n1 2\n' ''
             output $piece $kind lines program.s
             state 0 'mov r0, 42\nexit\n' ''

@@ -8,10 +8,10 @@ mkdir folder
 
 # unreadable NAME: it can't be read, as FILE of each subcommand nor as PATH.
 unreadable() {
-    for subcommand in run debug gdb origin asm disasm lines check link; do
+    for subcommand in run trace debug gdb origin asm disasm lines check link; do
         refused "cannot read $1" $subcommand "$1"
     done
-    for subcommand in run debug disasm check; do
+    for subcommand in run trace debug disasm check; do
         refused "cannot read $1" $subcommand --listing "$1"
     done
     refused "cannot read $1" run -m "$1" program
@@ -38,7 +38,7 @@ chmod 000 secret
 # Control bytes in a name are shown as `\xNN`, so that it ends no line and steers no terminal; all others as they are.
 while IFS='|' read -r shown name; do
     name=$(printf '%b' "$name")
-    for subcommand in run debug gdb origin asm disasm lines check link; do
+    for subcommand in run trace debug gdb origin asm disasm lines check link; do
         printf 'stepi\n' > script
         run $subcommand -- "$name"
         printf 'cannot read %s\n' "$shown" > line
@@ -81,7 +81,7 @@ session 'FILE and PATH are one' 'x 0x100000000 16\nx 0x100000000 17\n' \
 refused 'refused A6 at line 1: byte outside ASCII text' run --listing -m program program
 
 # Devices: one without bytes, and one without end, of which no more is read than what shows that it is too long.
-for subcommand in run debug disasm check; do
+for subcommand in run trace debug disasm check; do
     refused 'refused C1: empty program' $subcommand /dev/null
     refused 'refused C2: program too long' $subcommand /dev/zero
     refused 'cannot read /dev/zero' $subcommand --listing /dev/zero

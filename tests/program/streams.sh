@@ -57,6 +57,8 @@ each() {
 
 run program
 run --listing program.s
+trace program
+trace --profile program
 debug program
 debug --listing program.s
 asm program.s
@@ -160,6 +162,7 @@ while read -r arguments; do
     found "an output and a standard error whose reader has left: $arguments" 2 '' ''
 done <<'ROWS'
 run program
+trace program
 asm program.s
 lines program.s
 origin program
@@ -175,7 +178,7 @@ exec 5>&-
 
 # Readers that leave in the middle: of a long output, and of a session.
 yes exit | head -n 65535 > long.s
-for arguments in 'disasm --listing long.s' 'asm long.s'; do
+for arguments in 'disasm --listing long.s' 'asm long.s' 'trace endless'; do
     {
         "$program" $arguments 2> found/err
         echo $? > found/status

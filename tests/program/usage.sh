@@ -91,6 +91,7 @@ for absent in 'run --journal=65536' 'debug -j=65536' 'asm -m=context' 'asm --mem
     'asm --steps=7' 'asm --listing' 'disasm -m=context' 'disasm --mem=context' 'disasm --journal=65536' 'disasm --steps=7' \
     'check -m=context' 'check --mem=context' 'check --journal=65536' 'check --steps=7' 'run --section=a' 'debug --section=a' 'asm --section=a' 'run --entry=a' 'asm --entry=a' 'run --stub=5=0' 'debug --stub=5=0' \
     'disasm --section=a' 'check --section=a' 'link -m=context' 'link --mem=context' 'link --maps=8x2' 'link --journal=65536' 'link --steps=7' 'link --listing' 'gdb --section=a' \
+    'run --from=7' 'run --count=7' 'run --profile' 'debug --from=7' 'debug --count=7' 'debug --profile' 'trace --journal=65536' 'trace --section=a' 'trace --registers=x86' \
     'origin --section=a' 'origin --entry=a' 'origin --registers=x86' 'run --lines=7' 'debug --lines=7' 'debug --addresses' 'gdb --lines=7' 'lines --lines=7' 'lines --listing' 'lines --maps=8x2' 'lines -m=context' 'lines --steps=7' 'lines --section=a' 'run --registers=x86' 'debug --registers=x86' 'test --listing' 'test --maps=8x2' 'test --steps=7'
 do
     subcommand=${absent%% *} option=${absent#* }
@@ -125,7 +126,7 @@ for subcommand in $subcommands; do
     esac
     usage "unexpected argument '--frob' found" $subcommand --frob first
 done
-for subcommand in run debug origin; do
+for subcommand in run trace debug origin; do
     for number in 0 1000000001 18446744073709551615; do
         usage "invalid value '$number' for '--steps <N>': $number is not in 1..=1000000000" $subcommand --steps $number first
         usage "invalid value '$number' for '--steps <N>': $number is not in 1..=1000000000" $subcommand --steps=$number first
@@ -142,7 +143,7 @@ for subcommand in run debug origin; do
     usage "a value is required for '--mem <PATH>' but none was supplied" $subcommand first -m
     usage "a value is required for '--mem <PATH>' but none was supplied" $subcommand first --mem
 done
-for subcommand in run debug origin disasm check; do
+for subcommand in run trace debug origin disasm check; do
     usage "a value is required for '--maps <VxN,VxN>' but none was supplied" $subcommand first --maps
     usage "the argument '--maps <VxN,VxN>' cannot be used multiple times" $subcommand --maps 8x2 --maps 8x2 mapped
     usage "the argument '--listing' cannot be used multiple times" $subcommand --listing --listing first.s

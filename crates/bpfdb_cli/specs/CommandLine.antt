@@ -1,4 +1,4 @@
--- The command line as `clap` is told of it: ten subcommands, the options of each, and FILE.
+-- The command line as `clap` is told of it: eleven subcommands, the options of each, and FILE.
 use Rattle.std.specs.Prelude.{[], ◌∷◌, Some, true, codes}
 use Rattle.clap.specs.Words.{App, Rule, Text, new_app, new_rule, with_rule, with_subcommand}
 use Rattle.clap.specs.declared.builder.action.ArgAction.TheVariants.{SetTrue}
@@ -36,6 +36,27 @@ steps_rule = record (new_rule (codes "steps")) {
   parser = Some (vp.Unsigned 1 greatest_count);
   defaults = codes "1000000" ∷ [];
 }
+
+-- `--from K`: a number of a step.
+abbrev pub from_rule : Rule
+from_rule = record (new_rule (codes "from")) {
+  long = Some (codes "from");
+  value_names = 1;
+  parser = Some (vp.Unsigned 1 greatest_count);
+  defaults = codes "1" ∷ [];
+}
+
+-- `--count N`: how many steps, all where it is absent.
+abbrev pub count_rule : Rule
+count_rule = record (new_rule (codes "count")) {
+  long = Some (codes "count");
+  value_names = 1;
+  parser = Some (vp.Unsigned 1 greatest_count);
+}
+
+-- `--profile`: how often each instruction runs.
+abbrev pub profile_rule : Rule
+profile_rule = record (new_rule (codes "profile")) { long = Some (codes "profile"); action = Some SetTrue }
 
 -- `--listing`: FILE is a listing.
 abbrev pub listing_rule : Rule
@@ -83,6 +104,10 @@ abbrev pub run_app : App
 run_app = with_rule (with_rule (with_rule (with_rule (with_rule (new_app (codes "run"))
     mem_rule) maps_rule) steps_rule) listing_rule) file_rule
 
+abbrev pub trace_app : App
+trace_app = with_rule (with_rule (with_rule (with_rule (with_rule (with_rule (with_rule (with_rule (new_app (codes "trace"))
+    mem_rule) maps_rule) steps_rule) from_rule) count_rule) profile_rule) listing_rule) file_rule
+
 abbrev pub debug_app : App
 debug_app = with_rule (with_rule (with_rule (with_rule (with_rule (with_rule (new_app (codes "debug"))
     mem_rule) maps_rule) journal_rule) steps_rule) listing_rule) file_rule
@@ -121,5 +146,5 @@ bare_app = record (new_app (codes "bpfdb")) { top = record (new_app (codes "bpfd
 
 -- The command with its subcommands.
 unfoldable pub command_app : App
-command_app = with_subcommand (with_subcommand (with_subcommand (with_subcommand (with_subcommand (with_subcommand (with_subcommand (with_subcommand (with_subcommand (with_subcommand bare_app
-    run_app.top) debug_app.top) origin_app.top) gdb_app.top) asm_app.top) disasm_app.top) lines_app.top) check_app.top) link_app.top) test_app.top
+command_app = with_subcommand (with_subcommand (with_subcommand (with_subcommand (with_subcommand (with_subcommand (with_subcommand (with_subcommand (with_subcommand (with_subcommand (with_subcommand bare_app
+    run_app.top) trace_app.top) debug_app.top) origin_app.top) gdb_app.top) asm_app.top) disasm_app.top) lines_app.top) check_app.top) link_app.top) test_app.top

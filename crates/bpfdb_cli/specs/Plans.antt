@@ -11,7 +11,7 @@ use Rattle.bpfdb_cli.specs.CommandLine.{command_app}
 use Rattle.bpfdb_cli.specs.declared.plans.Plan.{Plan}
 use Rattle.bpfdb_cli.specs.declared.plans.PlanFault.{PlanFault}
 use Rattle.bpfdb_cli.specs.declared.plans.PlanFault.TheVariants.{Usage, Memory}
-use Rattle.bpfdb_limits.specs.Limits.{IsLimit, default_journal, default_limit}
+use Rattle.bpfdb_limits.specs.Limits.{IsLimit, default_journal, default_limit, greatest_count}
 use Rattle.bpfdb_options.specs.Lines.{default_lines}
 use Rattle.bpfdb_options.specs.Registers.{registers_name}
 use Rattle.bpfdb_options.specs.Subcommands.{subcommand_name}
@@ -40,6 +40,9 @@ pub record Says (name : Text) (rows : List Row) (plan : Plan) : Type 0 where
   pub maps : option_map (λ s. s.now) plan.options.maps ≡ first_of (codes "maps") rows
   pub journal : plan.options.journal ≡ number_or default_journal (first_of (codes "journal") rows)
   pub limit : plan.options.limit ≡ number_or default_limit (first_of (codes "steps") rows)
+  pub from : plan.options.from ≡ number_or 1 (first_of (codes "from") rows)
+  pub count : plan.options.count ≡ number_or greatest_count (first_of (codes "count") rows)
+  pub profile : plan.options.is_profile ≡ is_given (first_of (codes "profile") rows)
   pub listing : plan.options.is_listing ≡ is_given (first_of (codes "listing") rows)
   pub section : option_map (λ s. s.now) plan.options.section ≡ first_of (codes "section") rows
   pub entry : option_map (λ s. s.now) plan.options.entry ≡ first_of (codes "entry") rows
@@ -60,6 +63,8 @@ pub record IsPlanOf (name : Text) (rows : List Row) (plan : Plan) : Type 0 where
   pub journal : IsNumber (first_of (codes "journal") rows)
   pub steps : IsNumber (first_of (codes "steps") rows)
   pub lines : IsNumber (first_of (codes "lines") rows)
+  pub from : IsNumber (first_of (codes "from") rows)
+  pub count : IsNumber (first_of (codes "count") rows)
   pub limit : IsLimit plan.options.limit
   pub most : IsLimit plan.options.lines
 

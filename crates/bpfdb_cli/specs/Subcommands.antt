@@ -1,7 +1,10 @@
 -- Scaffolding: no public contract cites this. What an entry of the table of subcommands tells `clap`.
 use Rattle.std.specs.Prelude.{Some, fold}
 use Rattle.clap.specs.Words.{App, Rule, Text, new_app, new_rule, with_rule, with_subcommand}
-use Rattle.bpfdb_cli.specs.CommandLine.{addresses_rule, entry_rule, file_rule, gdb_journal_rule, journal_rule, lines_rule, listing_rule, maps_rule, mem_rule, registers_rule, section_rule, steps_rule, stub_rule, what_rule}
+use Rattle.clap.specs.declared.builder.action.ArgAction.TheVariants.{SetTrue}
+use Rattle.clap.specs.declared.builder.value_parser.ValueParser.TheVariants as vp
+use Rattle.bpfdb_limits.specs.Limits.{greatest_count}
+use Rattle.bpfdb_cli.specs.CommandLine.{addresses_rule, count_rule, entry_rule, file_rule, from_rule, gdb_journal_rule, journal_rule, lines_rule, listing_rule, maps_rule, mem_rule, profile_rule, registers_rule, section_rule, steps_rule, stub_rule, what_rule}
 use Rattle.bpfdb_cli.specs.declared.subcommands.CliOption.{CliOption}
 use Rattle.bpfdb_cli.specs.declared.subcommands.CliOption.TheVariants as option
 use Rattle.bpfdb_cli.specs.declared.subcommands.CliSubcommand.{CliSubcommand}
@@ -10,12 +13,22 @@ use Rattle.bpfdb_cli.specs.declared.subcommands.CliSubcommand.{CliSubcommand}
 abbrev pub text_rule : Text → Rule
 text_rule name = record (new_rule name) { long = Some name; value_names = 1 }
 
+-- One with a number of steps, and one that takes nothing.
+abbrev pub count_rule_of : Text → Rule
+count_rule_of name = record (text_rule name) { parser = Some (vp.Unsigned 1 greatest_count) }
+
+abbrev pub flag_rule : Text → Rule
+flag_rule name = record (new_rule name) { long = Some name; action = Some SetTrue }
+
 abbrev pub option_rule : CliOption → Rule
 option_rule option.Mem = mem_rule
 option_rule option.Maps = maps_rule
 option_rule option.Journal = journal_rule
 option_rule option.GdbJournal = gdb_journal_rule
 option_rule option.Steps = steps_rule
+option_rule option.From = from_rule
+option_rule option.Count = count_rule
+option_rule option.Profile = profile_rule
 option_rule option.Listing = listing_rule
 option_rule option.Registers = registers_rule
 option_rule option.Section = section_rule

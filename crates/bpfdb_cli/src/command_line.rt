@@ -2,7 +2,7 @@
 ghost use Rattle.std.specs.Prelude.{◌≡◌, IfOk, false, fold};
 ghost use Rattle.clap.specs.Words.{app_of, new_app, rule_of, with_subcommand};
 ghost use Rattle.bpfdb_cli.specs.CommandLine.{bare_app, command_app, file_rule, journal_rule_with};
-ghost use Rattle.bpfdb_cli.specs.Subcommands.{entry_app, option_rule, text_rule, with_entry};
+ghost use Rattle.bpfdb_cli.specs.Subcommands.{count_rule_of, entry_app, flag_rule, option_rule, text_rule, with_entry};
 
 use crate::help;
 use crate::subcommands::{CliOption, CliSubcommand, SUBCOMMANDS};
@@ -28,6 +28,32 @@ fn text_option<'a>(
         .long_help(long_about)
 }
 
+/// An option with a number of steps.
+fn count_option<'a>(
+    alloc: Global,
+    name: &'a str,
+    value: &'a str,
+    about: &'a str,
+    long_about: &'a str,
+) -> Arg<'a>
+    ensures value { rule_of result ≡ count_rule_of name.now }
+    ensures local { result.global ≡ false }
+{
+    text_option(alloc, name, value, about, long_about)
+        .value_parser(value_parser!(u64).range(1..=GREATEST_COUNT.cast_signed()))
+}
+
+/// An option that takes nothing.
+fn flag<'a>(alloc: Global, name: &'a str, about: &'a str) -> Arg<'a>
+    ensures value { rule_of result ≡ flag_rule name.now }
+    ensures local { result.global ≡ false }
+{
+    Arg::new(alloc, name)
+        .long(name)
+        .action(ArgAction::SetTrue)
+        .help(about)
+}
+
 /// What `clap` is told of an option.
 fn argument_of<'a>(alloc: Global, option: CliOption) -> Arg<'a>
     ensures value { rule_of result ≡ option_rule option }
@@ -38,13 +64,16 @@ fn argument_of<'a>(alloc: Global, option: CliOption) -> Arg<'a>
         CliOption::Maps => text_option(alloc, "maps", "VxN,VxN", help::MAPS, help::MAPS_LONG),
         CliOption::Journal => journal_option(alloc, "65536"),
         CliOption::GdbJournal => journal_option(alloc, "4194304"),
-        CliOption::Steps => text_option(alloc, "steps", "N", help::STEPS, help::STEPS_LONG)
-            .value_parser(value_parser!(u64).range(1..=GREATEST_COUNT.cast_signed()))
-            .default_value("1000000"),
-        CliOption::Listing => Arg::new(alloc, "listing")
-            .long("listing")
-            .action(ArgAction::SetTrue)
-            .help(help::LISTING),
+        CliOption::Steps => {
+            count_option(alloc, "steps", "N", help::STEPS, help::STEPS_LONG)
+                .default_value("1000000")
+        }
+        CliOption::From => {
+            count_option(alloc, "from", "K", help::FROM, help::FROM_LONG).default_value("1")
+        }
+        CliOption::Count => count_option(alloc, "count", "N", help::COUNT, help::COUNT_LONG),
+        CliOption::Profile => flag(alloc, "profile", help::PROFILE),
+        CliOption::Listing => flag(alloc, "listing", help::LISTING),
         CliOption::Registers => text_option(
             alloc,
             "registers",

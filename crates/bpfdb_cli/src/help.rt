@@ -28,9 +28,9 @@ pub const BPFDB_EXAMPLE: &str = "Example:
   1 back; done; at 0: add r0, 1
   2 back; done; at 0: add r0, 1
 
-Exit status: 0; 1 where `run` ends in a fault or at the limit of steps, a test fails or
-an answer of `origin` is cut; 2 where the command line or the program is refused, input
-or output fails, or memory runs out.
+Exit status: 0; 1 where `run` or `trace` ends in a fault or at the limit of steps, a test
+fails or an answer of `origin` is cut; 2 where the command line or the program is refused,
+input or output fails, or memory runs out.
 Results go to standard output, and so do the replies of a session, refusals among them.
 What ends bpfdb with status 1 or 2 is told on standard error.";
 
@@ -46,6 +46,28 @@ nothing is on standard output.";
 pub const RUN_EXAMPLE: &str = "Example:
   $ bpfdb run --steps 5000 --listing count.s
   0x3";
+
+pub const TRACE: &str = "Runs a program to its end and tells each step";
+
+pub const TRACE_LONG: &str = "Runs a program to its end and tells each step.
+
+Reads FILE, and the context from the file that -m names. Writes a line a step to standard
+output: its number, its slot and instruction, and each place that it wrote, with the value
+there after it, whether that changed or not. The last line says where the program ended, or
+that the limit of steps is reached; then, and where it faults, the exit status is 1.
+--profile tells how often each instruction ran, in place of the steps.";
+
+pub const TRACE_EXAMPLE: &str = "Example:
+  $ bpfdb trace --from 5 --listing count.s
+  5 0: add r0, 1; r0 = 0x3
+  6 1: jlt r0, 3, L0
+  7 2: exit
+  exited at 2: r0 0x3
+  $ bpfdb trace --profile --listing count.s
+  3 0: add r0, 1
+  3 1: jlt r0, 3, L0
+  1 2: exit
+  exited at 2: r0 0x3";
 
 pub const DEBUG: &str = "Obeys commands from standard input, forwards and backwards";
 
@@ -232,6 +254,23 @@ pub const STEPS: &str = "Most steps of a run, or of one forward command, 1 to 10
 pub const STEPS_LONG: &str =
     "Most steps of a run, or of one forward command, 1 to 1000000000. At this limit `run` ends
 with exit status 1, and a command with the word limit. Example: --steps 5000";
+
+/// `--from`.
+pub const FROM: &str = "Number of the first step that is shown, 1 to 1000000000";
+
+pub const FROM_LONG: &str =
+    "Number of the first step that is shown, 1 to 1000000000. The steps before it take no more
+time than in a run. Example: --from 5000";
+
+/// `--count`.
+pub const COUNT: &str = "Most steps that are shown, 1 to 1000000000; all without it";
+
+pub const COUNT_LONG: &str =
+    "Most steps that are shown, 1 to 1000000000. Without it all are, from the first one on.
+Example: --count 20";
+
+/// `--profile`.
+pub const PROFILE: &str = "Tells how often each instruction ran, and no steps";
 
 /// `--listing`.
 pub const LISTING: &str = "FILE is a listing (docs/LISTING.md); it is assembled first";

@@ -7,7 +7,7 @@ ghost use Rattle.bpfdb_cli.specs.Plans.{HasKindIfTold, IsFaultOf, IsPlan, IsPlan
 
 use crate::command_line::command_line;
 use crate::plans::{Plan, PlanFault};
-use bpfdb_limits::{DEFAULT_JOURNAL, DEFAULT_LIMIT, is_limit};
+use bpfdb_limits::{DEFAULT_JOURNAL, DEFAULT_LIMIT, GREATEST_COUNT, is_limit};
 use bpfdb_options::{DEFAULT_LINES, Options, Registers, Subcommand};
 use clap::error::ErrorKind;
 use clap::{ArgMatches, Command, Error};
@@ -98,6 +98,14 @@ fn plan_in<'a>(name: &'a str, found: &ArgMatches<'a>) -> Option<Plan<'a>>
         Some(lines) => lines,
         None => return None,
     };
+    let from = match number_or(text_of(found, "from"), 1) {
+        Some(from) => from,
+        None => return None,
+    };
+    let count = match number_or(text_of(found, "count"), GREATEST_COUNT) {
+        Some(count) => count,
+        None => return None,
+    };
     let registers = match registers_of(text_of(found, "registers")) {
         Some(registers) => registers,
         None => return None,
@@ -116,6 +124,9 @@ fn plan_in<'a>(name: &'a str, found: &ArgMatches<'a>) -> Option<Plan<'a>>
             maps: text_of(found, "maps"),
             journal,
             limit,
+            from,
+            count,
+            is_profile: is_given(text_of(found, "profile")),
             is_listing: is_given(text_of(found, "listing")),
             section: text_of(found, "section"),
             entry: text_of(found, "entry"),

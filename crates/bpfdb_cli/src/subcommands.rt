@@ -14,6 +14,12 @@ pub(crate) enum CliOption {
     GdbJournal,
     /// `--steps N`.
     Steps,
+    /// `--from K`.
+    From,
+    /// `--count N`.
+    Count,
+    /// `--profile`.
+    Profile,
     /// `--listing`.
     Listing,
     /// `--registers NAME`.
@@ -44,7 +50,7 @@ pub(crate) struct CliSubcommand<'a> {
 }
 
 /// The subcommands, as help lists them.
-pub(crate) const SUBCOMMANDS: [CliSubcommand<'static>; 10] = [
+pub(crate) const SUBCOMMANDS: [CliSubcommand<'static>; 11] = [
     CliSubcommand {
         name: "run",
         about: help::RUN,
@@ -54,6 +60,22 @@ pub(crate) const SUBCOMMANDS: [CliSubcommand<'static>; 10] = [
             CliOption::Mem,
             CliOption::Maps,
             CliOption::Steps,
+            CliOption::Listing,
+        ],
+        file: help::PROGRAM,
+    },
+    CliSubcommand {
+        name: "trace",
+        about: help::TRACE,
+        long_about: help::TRACE_LONG,
+        example: help::TRACE_EXAMPLE,
+        options: &[
+            CliOption::Mem,
+            CliOption::Maps,
+            CliOption::Steps,
+            CliOption::From,
+            CliOption::Count,
+            CliOption::Profile,
             CliOption::Listing,
         ],
         file: help::PROGRAM,

@@ -15,7 +15,7 @@ use Rattle.bpfdb_jobs.specs.declared.fault.JobFault.TheVariants as fault
 use Rattle.bpfdb_jobs.specs.declared.job.Job.{Job}
 use Rattle.bpfdb_jobs.specs.declared.refusal.JobRefusal.{JobRefusal}
 use Rattle.bpfdb_options.specs.declared.subcommand.Subcommand.{Subcommand}
-use Rattle.bpfdb_options.specs.declared.subcommand.Subcommand.TheVariants.{Disasm}
+use Rattle.bpfdb_options.specs.declared.subcommand.Subcommand.TheVariants.{Disasm, Trace}
 
 -- A reader, a writer or standard error counted no failure; it counted one.
 abbrev pub Spared : {T : Type 0} → Tally T → Tally T → Type 0
@@ -40,6 +40,7 @@ Told lines old new line = Gets lines old new (Some line) ⊎ Loses lines old new
 -- Subcommands for which memory may run out where no refusal says so.
 abbrev pub MayExhaust : Subcommand → Type 0
 MayExhaust Disasm = ⊤
+MayExhaust Trace = ⊤
 MayExhaust subcommand = ⊥
 
 -- How a job ends that prints: all was printed; or it was refused; or memory ran out, before anything was written; or standard output failed,

@@ -12,6 +12,7 @@ use Rattle.bpf_text.specs.Faults.{fault_line, fault_number, fault_text}
 use Rattle.bpf_machine.specs.Opening as opening
 use Rattle.bpf_journal.specs.Opening as journal
 use Rattle.bpf_origin.specs.Asked as asked
+use Rattle.bpf_trace.specs.Traces.{limit_line}
 use Rattle.bpfdb_jobs.specs.declared.fault.JobFault.{JobFault}
 use Rattle.bpfdb_jobs.specs.declared.fault.JobFault.TheVariants.{Unreadable, NotText, Refused, Input, Output, Memory, StepLimit}
 use Rattle.bpfdb_jobs.specs.declared.refusal.JobRefusal.{JobRefusal}
@@ -90,12 +91,9 @@ refusal_line (Object fault name) = object_line fault name.now
 refusal_line (Tests fault line) =
     refusal_text (codes "refused T") (suite.fault_number fault) (placed (codes " at line ") (Some line)) (suite.fault_text fault)
 
--- A file that can't be read, and a run that took as many steps as it may.
+-- A file that can't be read.
 abbrev pub unreadable_line : List ℕ → List ℕ
 unreadable_line name = codes "cannot read " ++ shown name ++ codes "\n"
-
-abbrev pub limit_line : ℕ → ℕ → List ℕ
-limit_line limit slot = codes "step limit " ++ decimal limit ++ codes " reached at " ++ decimal slot ++ codes "\n"
 
 -- The line of each fault.
 abbrev pub line_of : JobFault → List ℕ

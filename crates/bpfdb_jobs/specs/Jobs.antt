@@ -1,7 +1,9 @@
 -- What a job asks for: its program and its session, and what each subcommand prints that reads no standard input.
-use Rattle.std.specs.Prelude.{◌≡◌, ◌≤◌, ℕ, Bool, true, false, List, [], ◌++◌, Option, Some, None, Result, Ok, is_some, length, map, count_by, codes, decimal}
+use Rattle.std.specs.Prelude.{◌≡◌, ◌≤◌, ℕ, Bool, true, false, List, [], ◌++◌, Option, Some, None, Result, Ok, is_some, length, map, count_by, codes, decimal, if◌then◌else◌}
 use Rattle.std.specs.Borrow.{Bor}
 use Rattle.bpf_entries.specs.Keeping.{IsSize}
+use Rattle.bpf_entries.specs.declared.status.Status.{Status}
+use Rattle.bpf_entries.specs.declared.status.Status.TheVariants as status
 use Rattle.bpf_isa.specs.Maps.{IsMapList, items_of, shape_of}
 use Rattle.bpf_isa.specs.Programs.{Checked, IsProgram}
 use Rattle.bpf_isa.specs.declared.maps.MapShape.{MapShape}
@@ -23,13 +25,15 @@ use Rattle.bpf_session.specs.declared.plain.Ending.TheVariants.{Exited, Faulted,
 use Rattle.bpf_text.specs.Canonical.{canon}
 use Rattle.bpf_text.specs.LineTable.{IsLineTable}
 use Rattle.bpf_text.specs.Listing.{IsListing}
-use Rattle.bpfdb_jobs.specs.Faults.{limit_line}
+use Rattle.bpf_trace.specs.Profiles.{profile_text}
+use Rattle.bpf_trace.specs.Traces.{limit_line, trace_text}
+use Rattle.bpf_trace.specs.declared.trace.Shown.{Shown}
 use Rattle.bpfdb_replies.specs.Texts.{place}
 use Rattle.bpfdb_jobs.specs.MapLines.{linked_told}
 use Rattle.bpfdb_jobs.specs.Origins.{Asks, answer_by, found_text, status_of_extent}
 use Rattle.bpfdb_jobs.specs.declared.job.Job.{Job}
 use Rattle.bpfdb_options.specs.declared.subcommand.Subcommand.{Subcommand}
-use Rattle.bpfdb_options.specs.declared.subcommand.Subcommand.TheVariants.{Run, Debug, Origin, Gdb, Asm, Disasm, Lines, Check, Link, Test}
+use Rattle.bpfdb_options.specs.declared.subcommand.Subcommand.TheVariants.{Run, Trace, Debug, Origin, Gdb, Asm, Disasm, Lines, Check, Link, Test}
 
 -- The map table that a text names; no map where there is no text.
 abbrev pub HasMaps : Option (Bor (List ℕ)) → List MapShape → Type 0
@@ -124,6 +128,22 @@ run_print limit Limit end = stopped (limit_line limit end.pc)
 abbrev pub run_end : Job → Checked → State
 run_end job code = plain_end job.options.limit (initial code job.context.now)
 
+-- `trace`: the steps that are shown, or with `--profile` how often each instruction ran, and where the run ended. Its status is 1 where `run` has
+-- no result.
+abbrev pub shown_of : Job → Shown
+shown_of job = record { from = job.options.from; count = job.options.count }
+
+abbrev pub trace_out : Job → State → List ℕ
+trace_out job x =
+    if job.options.is_profile then profile_text job.options.limit x else trace_text job.options.limit (shown_of job) x
+
+abbrev pub status_of_end : Status → ℕ
+status_of_end status.Exited = 0
+status_of_end _ = 1
+
+abbrev pub trace_print : Job → State → State → Print
+trace_print job x end = record { out = Some (trace_out job x); err = None; status = status_of_end end.status }
+
 -- `origin`: where the machine stands, and where the values came from that are asked about.
 abbrev pub origin_print : State → Answer → Print
 origin_print end answer = record (printed (found_text end answer)) { status = status_of_extent answer.extent }
@@ -136,6 +156,7 @@ check_line code =
 -- What a subcommand prints of a job that has what it needs: one that reads no standard input. (`test` has a definition of its own.)
 abbrev pub Prints : Subcommand → Job → Print → Type 0
 Prints Run job a = (code : Checked) × Opens job code × (a ≡ run_print job.options.limit (ending_of (run_end job code).status) (run_end job code))
+Prints Trace job a = (code : Checked) × Opens job code × (a ≡ trace_print job (initial code job.context.now) (run_end job code))
 Prints Debug job a = ⊥
 Prints Origin job a = (code : Checked) × (what : Option What) × OpensSession job code × Asks job.options.what (run_end job code) what
     × (a ≡ origin_print (run_end job code) (answer_by job.options what (initial code job.context.now)))

@@ -9,3 +9,4 @@ pub mod Origins
 pub mod Refusals
 pub mod Scripts
 pub mod Suites
+pub mod Tellings

@@ -20,7 +20,7 @@ use Rattle.bpfdb_jobs.specs.declared.job.Job.{Job}
 use Rattle.bpfdb_jobs.specs.declared.refusal.JobRefusal.{JobRefusal}
 use Rattle.bpfdb_jobs.specs.declared.refusal.JobRefusal.TheVariants.{Maps, Listing, Load, Open, Journal, What, Object, Tests}
 use Rattle.bpfdb_options.specs.declared.subcommand.Subcommand.{Subcommand}
-use Rattle.bpfdb_options.specs.declared.subcommand.Subcommand.TheVariants.{Run, Debug, Origin, Gdb, Asm, Disasm, Lines, Check, Link, Test}
+use Rattle.bpfdb_options.specs.declared.subcommand.Subcommand.TheVariants.{Run, Trace, Debug, Origin, Gdb, Asm, Disasm, Lines, Check, Link, Test}
 
 -- Each refusal comes where those before don't.
 abbrev pub Refuses : Job → JobRefusal → Type 0
@@ -65,6 +65,7 @@ RefusesTests job refusal = ⊥
 
 abbrev pub RefusesAs : Subcommand → Job → JobRefusal → Type 0
 RefusesAs Run job refusal = RefusesMachine job refusal
+RefusesAs Trace job refusal = RefusesMachine job refusal
 RefusesAs Debug job refusal = Refuses job refusal
 RefusesAs Origin job refusal = RefusesOrigin job refusal
 RefusesAs Gdb job refusal = Refuses job refusal

@@ -12,14 +12,15 @@ use crate::object::link_job;
 use crate::origin::origin_job;
 use crate::run::run_job;
 use crate::suite::test_job;
+use crate::trace::trace_job;
 use bpfdb_options::Subcommand;
 use counted_io::Counted;
 use std::alloc::Global;
 use std::io::{Read, Write};
 
-/// Does a job, and answers the exit status: 0; 1 where `run` ends in a fault of the program or at
-/// the limit of steps, where a test fails, and where an answer of `origin` is cut; 2 where the job is refused, where input or output fails, and where memory
-/// runs out.
+/// Does a job, and answers the exit status: 0; 1 where `run` or `trace` ends in a fault of the
+/// program or at the limit of steps, where a test fails, and where an answer of `origin` is cut; 2
+/// where the job is refused, where input or output fails, and where memory runs out.
 ///
 /// Results, replies and answers go to the writer. A refusal, a fault or a limit is one line on
 /// `errors`, and so are the maps of an object that is linked. The reader is read by `debug` and
@@ -38,6 +39,7 @@ pub fn tool<R: Read, W: Write, E: Write>(
 {
     match job.subcommand {
         Subcommand::Run => run_job(alloc, job, writer, errors),
+        Subcommand::Trace => trace_job(alloc, job, writer, errors),
         Subcommand::Debug => debug_job(alloc, job, reader, writer, errors),
         Subcommand::Origin => origin_job(alloc, job, writer, errors),
         Subcommand::Gdb => gdb_job(alloc, job, reader, writer, errors),

@@ -18,6 +18,7 @@ mod refusal;
 mod report;
 mod run;
 mod suite;
+mod trace;
 
 pub use dispatch::tool;
 pub use fault::JobFault;

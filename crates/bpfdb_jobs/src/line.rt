@@ -1,7 +1,7 @@
 //! The line of a fault.
 ghost use Rattle.std.specs.Prelude.{◌≡◌, ◌++◌, [], codes, decimal};
 ghost use Rattle.counted_io.specs.Writing.{Writes, WritesAfter};
-ghost use Rattle.bpfdb_jobs.specs.Faults.{helper_text, limit_line, line_of, more_of, name_text, object_line, placed, refusal_line, refusal_text, shown, slot_of, slot_of_words, unreadable_line};
+ghost use Rattle.bpfdb_jobs.specs.Faults.{helper_text, line_of, more_of, name_text, object_line, placed, refusal_line, refusal_text, shown, slot_of, slot_of_words, unreadable_line};
 
 use crate::fault::JobFault;
 use crate::name::put_name;
@@ -10,6 +10,7 @@ use bpf_isa::LoadFault;
 use bpf_link::LinkFault;
 use bpf_suite::SectionFault;
 use bpf_text::AsmFault;
+use bpf_trace::put_limit;
 use counted_io::{Counted, WriteFault, put, put_decimal};
 use std::io::Write;
 
@@ -51,22 +52,6 @@ fn put_unreadable<E: Write>(
     let begun = put(errors, so_far, b"cannot read ");
     let named = put_name(errors, begun, name.as_bytes());
     put(errors, named, b"\n")
-}
-
-/// Writes that a run took as many steps as it may.
-fn put_limit<E: Write>(
-    errors: &mut Counted<E>,
-    so_far: Result<(), WriteFault>,
-    limit: u64,
-    slot: u16,
-) -> Result<(), WriteFault>
-    ensures { WritesAfter E.contents errors.old so_far errors.new result (limit_line limit slot) }
-{
-    let begun = put(errors, so_far, b"step limit ");
-    let counted = put_decimal(errors, begun, limit);
-    let parted = put(errors, counted, b" reached at ");
-    let placed = put_decimal(errors, parted, u64::from(slot));
-    put(errors, placed, b"\n")
 }
 
 /// Writes the line of a refusal.

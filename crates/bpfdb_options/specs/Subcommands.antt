@@ -1,11 +1,12 @@
 -- The names of the subcommands.
 use Rattle.std.specs.Prelude.{ℕ, List, codes}
 use Rattle.bpfdb_options.specs.declared.subcommand.Subcommand.{Subcommand}
-use Rattle.bpfdb_options.specs.declared.subcommand.Subcommand.TheVariants.{Run, Debug, Origin, Gdb, Asm, Disasm, Lines, Check, Link, Test}
+use Rattle.bpfdb_options.specs.declared.subcommand.Subcommand.TheVariants.{Run, Trace, Debug, Origin, Gdb, Asm, Disasm, Lines, Check, Link, Test}
 
 -- As help lists them.
 abbrev pub subcommand_name : Subcommand → List ℕ
 subcommand_name Run = codes "run"
+subcommand_name Trace = codes "trace"
 subcommand_name Debug = codes "debug"
 subcommand_name Origin = codes "origin"
 subcommand_name Gdb = codes "gdb"

@@ -1,6 +1,6 @@
 //! The options that say how a job is done.
 use crate::registers::Registers;
-use bpfdb_limits::{DEFAULT_JOURNAL, DEFAULT_LIMIT};
+use bpfdb_limits::{DEFAULT_JOURNAL, DEFAULT_LIMIT, GREATEST_COUNT};
 
 /// The most lines of an answer where no number is given.
 pub const DEFAULT_LINES: u64 = 1_000;
@@ -14,6 +14,12 @@ pub struct Options<'a> {
     pub journal: u64,
     /// The most steps of a run or of a command, 1 to 1,000,000,000.
     pub limit: u64,
+    /// The number of the first step that is shown, 1 to 1,000,000,000.
+    pub from: u64,
+    /// The most steps that are shown, 1 to 1,000,000,000.
+    pub count: u64,
+    /// How often each instruction runs is told, in place of the steps.
+    pub is_profile: bool,
     /// FILE is a listing, assembled first.
     pub is_listing: bool,
     /// The name of the code section that is linked; without one it is the only one.
@@ -39,6 +45,9 @@ pub const NO_OPTIONS: Options<'static> = Options {
     maps: None,
     journal: DEFAULT_JOURNAL,
     limit: DEFAULT_LIMIT,
+    from: 1,
+    count: GREATEST_COUNT,
+    is_profile: false,
     is_listing: false,
     section: None,
     entry: None,

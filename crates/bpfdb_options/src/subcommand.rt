@@ -7,6 +7,8 @@ ghost use Rattle.bpfdb_options.specs.Subcommands.{subcommand_name};
 pub enum Subcommand {
     /// The program runs to its end, or to the limit of steps.
     Run,
+    /// A run is told step by step, or how often each instruction runs.
+    Trace,
     /// A script of commands is obeyed.
     Debug,
     /// The program runs, and where a value came from is told.
@@ -36,6 +38,7 @@ impl Subcommand {
     {
         match name {
             "run" => Some(Subcommand::Run),
+            "trace" => Some(Subcommand::Trace),
             "debug" => Some(Subcommand::Debug),
             "origin" => Some(Subcommand::Origin),
             "gdb" => Some(Subcommand::Gdb),

@@ -28,6 +28,11 @@ returns-in-Asm-clause-does g c =
     subst (λ (s : Subcommand). DoesJob g.R.Read.remaining g.W.Write.contents g.E.Write.contents s c.args.job.now c.args.reader.now c.args.reader.now
     c.args.writer.now c.asm_job.new.writer c.args.errors.now c.asm_job.new.errors c.asm_job.result) (sym c.in-Asm.is) (refl, c.asm_job.ensures.does)
 
+pub returns-in-Trace-clause-does : goal.returns-in-Trace-clause-does
+returns-in-Trace-clause-does g c =
+    subst (λ (s : Subcommand). DoesJob g.R.Read.remaining g.W.Write.contents g.E.Write.contents s c.args.job.now c.args.reader.now c.args.reader.now
+    c.args.writer.now c.trace_job.new.writer c.args.errors.now c.trace_job.new.errors c.trace_job.result) (sym c.in-Trace.is) (refl, c.trace_job.ensures.does)
+
 pub returns-in-Disasm-clause-does : goal.returns-in-Disasm-clause-does
 returns-in-Disasm-clause-does g c =
     subst (λ (s : Subcommand). DoesJob g.R.Read.remaining g.W.Write.contents g.E.Write.contents s c.args.job.now c.args.reader.now c.args.reader.now

@@ -1,0 +1,154 @@
+//! What a job of `trace` does.
+ghost use Rattle.std.specs.Prelude.{◌≡◌, ◌≤◌, IfErr, OnErr, OnOk};
+ghost use Rattle.bpf_session.specs.Plain.{plain_end};
+ghost use Rattle.bpf_trace.specs.Profiles.{profile_text};
+ghost use Rattle.bpf_trace.specs.Traces.{trace_text};
+ghost use Rattle.bpfdb_jobs.specs.Endings.{EndsPrinted, Told};
+ghost use Rattle.bpfdb_jobs.specs.Faults.{line_of};
+ghost use Rattle.bpfdb_jobs.specs.Jobs.{shown_of, status_of_end, trace_out};
+ghost use Rattle.bpfdb_jobs.specs.Tellings.{Tells, fault_of_told};
+ghost use Rattle.bpfdb_options.specs.declared.subcommand.Subcommand.TheVariants.{Trace};
+
+use crate::fault::JobFault;
+use crate::job::Job;
+use crate::opening::machine_of;
+use crate::report::give_up;
+use bpf_machine::{Cpu, Status};
+use bpf_trace::{Profile, Shown, put_profile, write_trace};
+use counted_io::{Counted, WriteFault};
+use std::alloc::Global;
+use std::io::Write;
+
+/// Why a run isn't told to its end.
+#[derive(Clone, Copy)]
+pub enum TellFault {
+    /// Memory ran out, before the first step.
+    Memory,
+    /// A write failed.
+    Write,
+}
+
+/// Runs the program to its end or to the limit, and tells each step that is shown, or with
+/// `--profile` how often each instruction ran, and where it ended.
+pub fn trace_job<W: Write, E: Write>(
+    alloc: Global,
+    job: &Job<'_>,
+    writer: &mut Counted<W>,
+    errors: &mut Counted<E>,
+) -> u8
+    ensures does { EndsPrinted W.contents E.contents Trace job.now writer.old writer.new errors.old
+        errors.new result }
+    ensures status { result ≤ 2 }
+{
+    let mut cpu = match machine_of(alloc, job) {
+        Ok(cpu) => cpu,
+        Err(refusal) => return give_up(errors, &JobFault::Refused(refusal)),
+    };
+    let told = tell_run(alloc, job, &mut cpu, writer);
+    end_of(told, &cpu, errors)
+}
+
+/// The exit status of a run that was told, or not: that of `run` where its machine stands.
+fn end_of<E: Write>(told: Result<(), TellFault>, cpu: &Cpu, errors: &mut Counted<E>) -> u8
+    ensures ok { OnOk told (result ≡ status_of_end cpu.now.status) }
+    ensures same { OnOk told (errors.new ≡ errors.old) }
+    ensures err { OnErr told (result ≡ 2) }
+    ensures why { IfErr told (λ why. Told E.contents errors.old errors.new
+        (line_of (fault_of_told why))) }
+    ensures status { result ≤ 2 }
+{
+    match told {
+        Ok(()) => status_of(cpu.status()),
+        Err(TellFault::Memory) => give_up(errors, &JobFault::Memory),
+        Err(TellFault::Write) => give_up(errors, &JobFault::Output),
+    }
+}
+
+/// The exit status of a run that ended so.
+fn status_of(status: Status) -> u8
+    ensures value { result ≡ status_of_end status }
+    ensures status { result ≤ 1 }
+{
+    match status {
+        Status::Exited => 0,
+        Status::Running => 1,
+        Status::Faulted(_) => 1,
+    }
+}
+
+/// Writes what is told of a run, and flushes.
+fn tell_run<W: Write>(
+    alloc: Global,
+    job: &Job<'_>,
+    cpu: &mut Cpu,
+    writer: &mut Counted<W>,
+) -> Result<(), TellFault>
+    ensures told { Tells W.contents writer.old writer.new result (trace_out job.now cpu.old) }
+    ensures next { OnOk result (cpu.new ≡ plain_end job.now.options.limit cpu.old) }
+{
+    match write_run(alloc, job, cpu, writer) {
+        Ok(()) => {}
+        Err(fault) => return Err(fault),
+    }
+    match writer.flush() {
+        Ok(()) => Ok(()),
+        Err(_) => Err(TellFault::Write),
+    }
+}
+
+/// Writes what is told of a run: its steps or its profile.
+fn write_run<W: Write>(
+    alloc: Global,
+    job: &Job<'_>,
+    cpu: &mut Cpu,
+    writer: &mut Counted<W>,
+) -> Result<(), TellFault>
+    ensures told { Tells W.contents writer.old writer.new result (trace_out job.now cpu.old) }
+    ensures next { OnOk result (cpu.new ≡ plain_end job.now.options.limit cpu.old) }
+{
+    if job.options.is_profile {
+        write_profile(alloc, job.options.limit, cpu, writer)
+    } else {
+        write_steps(job, cpu, writer)
+    }
+}
+
+/// Writes the steps that are shown.
+fn write_steps<W: Write>(
+    job: &Job<'_>,
+    cpu: &mut Cpu,
+    writer: &mut Counted<W>,
+) -> Result<(), TellFault>
+    ensures told { Tells W.contents writer.old writer.new result
+        (trace_text job.now.options.limit (shown_of job.now) cpu.old) }
+    ensures next { OnOk result (cpu.new ≡ plain_end job.now.options.limit cpu.old) }
+{
+    let shown = Shown {
+        from: job.options.from,
+        count: job.options.count,
+    };
+    match write_trace(cpu, job.options.limit, shown, writer, Ok(())) {
+        Ok(()) => Ok(()),
+        Err(WriteFault) => Err(TellFault::Write),
+    }
+}
+
+/// Writes how often each instruction ran.
+fn write_profile<W: Write>(
+    alloc: Global,
+    limit: u64,
+    cpu: &mut Cpu,
+    writer: &mut Counted<W>,
+) -> Result<(), TellFault>
+    ensures told { Tells W.contents writer.old writer.new result (profile_text limit cpu.old) }
+    ensures next { OnOk result (cpu.new ≡ plain_end limit cpu.old) }
+{
+    let profile = match Profile::run(alloc, cpu, limit) {
+        Ok(profile) => profile,
+        Err(_) => return Err(TellFault::Memory),
+    };
+    match put_profile(writer, Ok(()), &profile, limit, cpu) {
+        Ok(()) => Ok(()),
+        Err(WriteFault) => Err(TellFault::Write),
+    }
+}

@@ -1,0 +1,172 @@
+# Runs that are told step by step. What each kind of step writes was worked out by hand from docs/MACHINE.md, docs/JOURNAL.md and
+# docs/COMMANDS.md.
+if "$program" help trace > /dev/null 2>&1; then
+
+# traced NAME STATUS OUTPUT ARGUMENT..: a run of `trace` over the listing `p` gives this output, and nothing else.
+traced() {
+    name=$1 status=$2 output=$3
+    shift 3
+    row "$name" "$status" "$script_unread" "$output" '' trace --listing "$@" p
+}
+
+# Each kind of step: arithmetic, loads, stores, a wide load, atomic operations, jumps, a call, a return, the helper trace, and an exit. Frame 0 ends at
+# 0x200000200, frame 1 begins at 0x200000400. A place is told whether its value changed or not (slots 0 and 22).
+bytes context 01 02 03
+cat > p <<'LISTING'
+        mov r0, 0
+        mov r6, -2
+        ldxb r3, [r1+1]
+        lddw r5, 0x1234
+        stxdw [r10-8], r3
+        stb [r10-1], 7
+        mov r4, 5
+        atomic_fetch_add64 [r10-8], r4
+        atomic_add64 [r10-8], r6
+        mov r0, 1
+        atomic_cmpxchg64 [r10-8], r6
+        atomic_cmpxchg64 [r10-8], r6
+        jeq r3, 2, on
+        exit
+on:     callf f
+        mov r1, 7
+        call 64
+        stxdw [r10-8], r6
+        jne r3, 2, on
+        exit
+f:      mov r7, 9
+        exit
+LISTING
+cat > all <<'LINES'
+1 0: mov r0, 0; r0 = 0x0
+2 1: mov r6, -2; r6 = 0xfffffffffffffffe
+3 2: ldxb r3, [r1+1]; r3 = 0x2
+4 3: lddw r5, 0x1234; r5 = 0x1234
+5 5: stxdw [r10-8], r3; 0x2000001f8:8 = 0x2
+6 6: stb [r10-1], 7; 0x2000001ff:1 = 0x7
+7 7: mov r4, 5; r4 = 0x5
+8 8: atomic_fetch_add64 [r10-8], r4; r4 = 0x700000000000002; 0x2000001f8:8 = 0x700000000000007
+9 9: atomic_add64 [r10-8], r6; 0x2000001f8:8 = 0x700000000000005
+10 10: mov r0, 1; r0 = 0x1
+11 11: atomic_cmpxchg64 [r10-8], r6; r0 = 0x700000000000005
+12 12: atomic_cmpxchg64 [r10-8], r6; r0 = 0x700000000000005; 0x2000001f8:8 = 0xfffffffffffffffe
+13 13: jeq r3, 2, L15
+14 15: callf L21; 0x200000400:512
+15 21: mov r7, 9; r7 at depth 1 = 0x9
+16 22: exit
+17 16: mov r1, 7; r1 = 0x7
+18 17: call 64; r0 = 0x0; word 0 = 0x7
+19 18: stxdw [r10-8], r6; 0x2000001f8:8 = 0xfffffffffffffffe
+20 19: jne r3, 2, L15
+21 20: exit
+exited at 20: r0 0x0
+LINES
+traced 'a line for each kind of step' 0 "$(text all)" -m context
+traced 'the last step is the limit' 0 "$(text all)" -m context --steps 21
+traced 'as many as there are' 0 "$(text all)" -m context --from 1 --count 21
+
+# Which steps are shown: those of the list above from one on, and so many.
+sed -n '5,7p; 22p' all > some
+traced 'from 5, three' 0 "$(text some)" -m context --from 5 --count 3
+sed -n '20,22p' all > some
+traced 'from 20, five' 0 "$(text some)" -m context --from 20 --count 5
+sed -n '21,22p' all > some
+traced 'from the last' 0 "$(text some)" -m context --from 21
+sed -n '22p' all > some
+traced 'from behind the last' 0 "$(text some)" -m context --from 22
+traced 'from far behind the last' 0 "$(text some)" -m context --from 1000000000 --count 1000000000
+
+# At the limit of steps. No step behind it is shown.
+{ sed -n '1,3p' all; echo 'step limit 3 reached at 3'; } > some
+traced 'the limit of steps' 1 "$(text some)" -m context --steps 3
+sed -n '3,4p' some > last
+traced 'the limit, from 3' 1 "$(text last)" -m context --steps 3 --from 3 --count 9
+traced 'the limit, from behind it' 1 'step limit 3 reached at 3\n' -m context --steps 3 --from 4
+
+# How often each ran; what never ran has a line, and the second slot of a wide load none.
+cat > counts <<'LINES'
+1 0: mov r0, 0
+1 1: mov r6, -2
+1 2: ldxb r3, [r1+1]
+1 3: lddw r5, 0x1234
+1 5: stxdw [r10-8], r3
+1 6: stb [r10-1], 7
+1 7: mov r4, 5
+1 8: atomic_fetch_add64 [r10-8], r4
+1 9: atomic_add64 [r10-8], r6
+1 10: mov r0, 1
+1 11: atomic_cmpxchg64 [r10-8], r6
+1 12: atomic_cmpxchg64 [r10-8], r6
+1 13: jeq r3, 2, L15
+0 14: exit
+1 15: callf L21
+1 16: mov r1, 7
+1 17: call 64
+1 18: stxdw [r10-8], r6
+1 19: jne r3, 2, L15
+1 20: exit
+1 21: mov r7, 9
+1 22: exit
+exited at 20: r0 0x0
+LINES
+traced 'a profile' 0 "$(text counts)" -m context --profile
+traced 'a profile shows all steps' 0 "$(text counts)" -m context --profile --from 9 --count 1
+sed 's/^1/0/; s/^0 \([0-2]: \)/1 \1/; s/^exited.*/step limit 3 reached at 3/' counts > some
+traced 'a profile at the limit' 1 "$(text some)" -m context --steps 3 --profile
+
+# Faults of each kind: the step has a line, writes nothing, and counts.
+printf 'mov r2, 0\nldxb r0, [r2+5]\nexit\n' > p
+traced 'a fault of an access' 1 '1 0: mov r2, 0; r2 = 0x0\n2 1: ldxb r0, [r2+5]\nfault access 0x5 at 1\n'
+traced 'a profile of a fault' 1 '1 0: mov r2, 0\n1 1: ldxb r0, [r2+5]\n0 2: exit\nfault access 0x5 at 1\n' --profile
+printf 'call 1\nexit\n' > p
+traced 'a fault of a token' 1 '1 0: call 1\nfault token 0x0 at 0\n'
+printf 'f: callf f\nexit\n' > p
+traced 'a fault of the depth' 1 '7 0: callf L0; 0x200001c00:512\n8 0: callf L0\nfault depth at 0\n' --from 7
+
+# A loop: three rounds, and the jump out of it.
+printf 'loop: add r0, 1\njlt r0, 3, loop\nexit\n' > p
+traced 'a loop' 0 '1 0: add r0, 1; r0 = 0x1\n2 1: jlt r0, 3, L0\n3 0: add r0, 1; r0 = 0x2\n4 1: jlt r0, 3, L0\n5 0: add r0, 1; r0 = 0x3\n6 1: jlt r0, 3, L0\n\
+7 2: exit\nexited at 2: r0 0x3\n'
+traced 'a profile of a loop' 0 '3 0: add r0, 1\n3 1: jlt r0, 3, L0\n1 2: exit\nexited at 2: r0 0x3\n' --profile
+
+# Helpers over maps: update writes the cell and r0, or r0 alone; lookup r0.
+cat > p <<'LISTING'
+ldmap r1, 0
+stw [r10-4], 1
+mov r2, r10
+add r2, -4
+stdw [r10-16], 42
+mov r3, r10
+add r3, -16
+mov r4, 1
+call 2
+mov r4, 0
+call 2
+call 1
+exit
+LISTING
+traced 'helpers' 0 '9 9: call 2; r0 = 0xffffffffffffffef\n10 10: mov r4, 0; r4 = 0x0\n11 11: call 2; r0 = 0x0; 0x300000008:8 = 0x2a\n\
+12 12: call 1; r0 = 0x300000008\n13 13: exit\nexited at 13: r0 0x300000008\n' --maps 8x2 --from 9
+
+# Without --listing the program is raw words.
+bytes words b7 00 00 00 2a 00 00 00 EXIT
+row 'bpfdb trace words' 0 "$script_unread" '1 0: mov r0, 42; r0 = 0x2a\n2 1: exit\nexited at 1: r0 0x2a\n' '' trace words
+
+# A million steps, of which the last ones are shown.
+printf 'loop: add r0, 1\nja loop\n' > p
+traced 'the last of a million' 1 '999999 0: add r0, 1; r0 = 0x7a120\n1000000 1: ja L0\nstep limit 1000000 reached at 0\n' --from 999999
+traced 'a profile of a million' 1 '500000 0: add r0, 1\n500000 1: ja L0\nstep limit 1000000 reached at 0\n' --profile
+
+# Numbers of steps are those of --steps.
+for option in '--from <K>' '--count <N>'; do
+    word=${option%% *}
+    for number in 0 1000000001; do
+        usage "invalid value '$number' for '$option': $number is not in 1..=1000000000" trace "$word" "$number" words
+    done
+    usage "invalid value 'x' for '$option': invalid digit found in string" trace "$word" x words
+    usage "the argument '$option' cannot be used multiple times" trace "$word" 7 "$word" 7 words
+    usage "a value is required for '$option' but none was supplied" trace words "$word"
+    usage "unexpected argument '$word' found" run "$word" 7 words
+done
+usage "unexpected value 'yes' for '--profile' found; no more were expected" trace --profile=yes words
+
+fi
