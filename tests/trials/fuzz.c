@@ -1,15 +1,17 @@
 /* Random programs, listings, contexts, lists of maps, scripts and command lines through the built program. Each trial is made of its seed
-   alone. What runs, refusals and sessions come to is held against the second machine; where there is no such answer, a status of 0, 1 or 2,
+   alone. What runs, refusals, sessions and answers of origin come to is held against the second machine; where there is no such answer, a status of 0, 1 or 2,
    one line on standard error, and what has to come back does. Words: the program to try, the number of this process and how many there
    are, the first seed and the last one, and after how many seconds no further trial begins. What fails is told with its seed and its command line. */
 #include "trial.h"
 #include "model.h"
+#include "origins.h"
 
 static struct outcome left;
 static struct machine machine;
 static u8 bytes[PROGRAM_ROOM + 64];
 static char line[200], maps_word[400], wanted[TEXT_ROOM], script[TEXT_ROOM];
 static u64 seed, failures, state;
+static int is_steady; /* whether a program's accesses are mostly of a few bytes below r10 */
 
 /* Numbers without a pattern (splitmix64). */
 static u64 any(void) {
@@ -55,11 +57,11 @@ static int sound(void) {
         return fails("no status");
     if (left.status == 0 && left.error_length)
         return fails("words on standard error");
-    if (left.status && left.length)
+    if (left.status == 2 && left.length)
         return fails("output with a refusal");
-    if (left.status == 1 && strcmp(words[1], "run"))
-        return fails("status 1 is for run alone");
-    if (left.status && strncmp(left.errors, "error: ", 7) && (lines_of(left.errors) != 1 || left.errors[left.error_length - 1] != '\n'))
+    if (left.status == 1 && strcmp(words[1], "run") && strcmp(words[1], "origin"))
+        return fails("status 1 is for run and origin alone");
+    if (left.status && !left.length && strncmp(left.errors, "error: ", 7) && (lines_of(left.errors) != 1 || left.errors[left.error_length - 1] != '\n'))
         return fails("more or less than a line on standard error");
     return 1;
 }
@@ -112,9 +114,10 @@ static void put_word(u64 slot, int opcode, int dst, int src, int off, u32 imm) {
 static int make_insn(u64 slot, i64 target, int kinds) {
     static const u8 sizes[] = { 0x00, 0x08, 0x10, 0x18 };
     static const u8 atomics[] = { 0, 1, 0x40, 0x41, 0x50, 0x51, 0xa0, 0xa1, 0xe1, 0xf1 };
-    int dst = below(10), src = below(11), kind, off = chance(70) ? -(int)(8 + below(40)) : (int)odd_number();
+    static const u8 steady_kinds[] = { 0, 3, 3, 4, 6, 6, 6, 7, 7, 7, 8, 8, 10, 10, 10, 11 };
+    int dst = below(10), src = below(11), kind, off = is_steady ? -(int)(8 + below(16)) : chance(70) ? -(int)(8 + below(40)) : (int)odd_number();
     u32 imm = odd_number();
-    switch (below(kinds)) {
+    switch (is_steady ? steady_kinds[below(16)] : below(kinds)) {
     case 0: case 1: case 2: /* arithmetic */
         kind = below(13);
         if (kind == 8)
@@ -146,16 +149,16 @@ static int make_insn(u64 slot, i64 target, int kinds) {
         return 1;
     case 6: /* a load */
         kind = sizes[below(4)];
-        put_word(slot, kind != 0x18 && chance(30) ? 0x81 | kind : 0x61 | kind, dst, chance(60) ? 10 : src, off, 0);
+        put_word(slot, kind != 0x18 && chance(30) ? 0x81 | kind : 0x61 | kind, dst, is_steady || chance(60) ? 10 : src, off, 0);
         return 1;
     case 7: /* a store */
         if (chance(50))
-            put_word(slot, 0x62 | sizes[below(4)], chance(60) ? 10 : dst, 0, off, imm);
+            put_word(slot, 0x62 | sizes[below(4)], is_steady || chance(60) ? 10 : dst, 0, off, imm);
         else
-            put_word(slot, 0x63 | sizes[below(4)], chance(60) ? 10 : dst, src, off, 0);
+            put_word(slot, 0x63 | sizes[below(4)], is_steady || chance(60) ? 10 : dst, src, off, 0);
         return 1;
     case 8: /* an atomic operation */
-        put_word(slot, chance(50) ? 0xdb : 0xc3, chance(60) ? 10 : dst, below(10), off, atomics[below(10)]);
+        put_word(slot, chance(50) ? 0xdb : 0xc3, is_steady || chance(60) ? 10 : dst, below(10), off, atomics[below(10)]);
         return 1;
     case 9: /* a wide load */
         kind = machine.map_count ? below(3) : 0;
@@ -166,7 +169,7 @@ static int make_insn(u64 slot, i64 target, int kinds) {
         if (chance(50))
             put_word(slot, 0x85, 0, 1, 0, target - (i64)slot - 1);
         else
-            put_word(slot, 0x85, 0, 0, 0, chance(30) ? 64 : 1 + below(2));
+            put_word(slot, 0x85, 0, 0, 0, is_steady || chance(30) ? 64 : 1 + below(2));
         return 1;
     default:
         put_word(slot, chance(50) ? 0x95 : 0xbf, 0, 0, 0, 0);
@@ -190,7 +193,7 @@ static u64 make_arguments(u64 slot) {
 /* A random program, its length in bytes. */
 static u64 make_program(void) {
     u64 starts[600], count = 1 + below(chance(90) ? 30 : 400), n = 0, slot = 0, i;
-    int is_sum = chance(50); /* of arithmetic and jumps alone, on numbers at edges */
+    int is_sum = !is_steady && chance(50); /* of arithmetic and jumps alone, on numbers at edges */
     for (i = 0; is_sum && i < 10; i++, slot += 2) {
         starts[n++] = slot;
         put_word(slot, 0x18, i, 0, 0, odd_number());
@@ -376,6 +379,113 @@ static int runs_alike(u64 limit) {
     return left.length == at && !memcmp(left.output, wanted, at) ? 1 : fails("a session is not that of the second machine (see the file wanted)");
 }
 
+/* A number in hexadecimal digits, with 0x in front. */
+static u64 number_at(const char *text) {
+    u64 n = 0;
+    for (text += 2; (*text >= '0' && *text <= '9') || (*text >= 'a' && *text <= 'f'); text++)
+        n = n << 4 | (u64)(*text <= '9' ? *text - '0' : *text - 'a' + 10);
+    return n;
+}
+
+/* What is asked of `origin`: nothing, a register, or bytes. The word for it, 0 for nothing; and its places at the end of the run. */
+static char *make_question(struct places *asked) {
+    static char what[60];
+    int number = below(10);
+    u64 i, address, count, room;
+    asked->count = 0;
+    if (chance(40)) {
+        put_asked(&machine, asked);
+        return 0;
+    }
+    if (chance(50)) {
+        put_register(&machine, asked, number);
+        snprintf(what, sizeof what, "r%d", number);
+        return what;
+    }
+    i = machine.map_count ? below(machine.map_count) : 0;
+    address = machine.context_length && chance(40) ? 0x100000000 : machine.map_count && chance(40) ? 0x300000000 + 0x100000 * i
+        : 0x200000000 + 1024 * (u64)(chance(70) ? machine.depth : below(8));
+    room = address == 0x100000000 ? machine.context_length : address >= 0x300000000 ? machine.maps[i].value * machine.maps[i].entries : 512;
+    count = chance(30) ? 1 : 1 + below(chance(60) && room > 16 ? 16 : room < 256 ? room : 256);
+    address += room < 512 ? below(room - count + 1) : chance(60) ? 512 - count : below(room - count + 1);
+    put_bytes(&machine, asked, address, count);
+    if (count == 1 && chance(50))
+        snprintf(what, sizeof what, "%lu", address);
+    else
+        snprintf(what, sizeof what, chance(50) ? "0x%lx:%lu" : "0x%lx:0x%lx", address, count);
+    return what;
+}
+
+/* Whether the lines of an answer are the moves and the places that the second machine found; of each place its value at the opening. */
+static int tells(const struct origins *wanted_origins, u64 steps, const char *text) {
+    u64 last = 0, moves = 0, left_places = 0, i;
+    int at;
+    for (; *text; text = strchr(text, '\n') + 1) {
+        if (*text == '-') {
+            u64 back = (u64)atoi(text + 1);
+            if (back <= last || back > steps || !has(wanted_origins->moves, (int)(steps - back)))
+                return fails("origin tells a move that the value doesn't depend on");
+            last = back;
+            moves++;
+        } else {
+            at = strncmp(text, "left ", 5) ? -1 : place_named(&machine, text + 5);
+            if (at < 0 || !has(wanted_origins->left, at))
+                return fails("origin leaves a place that the value doesn't depend on");
+            i = at == 1 && machine.context_length ? 0x100000000 : at == 2 ? machine.context_length
+                : at >= FIRST_BYTE && at < FIRST_FRAME ? machine.context[at - FIRST_BYTE] : 0;
+            if (number_at(strstr(text, " = ") + 3) != i)
+                return fails("origin leaves a place with another value than at the opening");
+            left_places++;
+        }
+    }
+    for (i = 0; i < MOST_MOVES; i++)
+        moves -= has(wanted_origins->moves, (int)i);
+    for (i = 0; i < MOST_PLACES; i++)
+        left_places -= has(wanted_origins->left, (int)i);
+    return moves || left_places ? fails("origin leaves out what the value depends on") : 1;
+}
+
+/* Where values came from at the end of a run: `origin` tells the moves and the places on which they depend. */
+static int traces_back(u64 limit) {
+    static struct machine before;
+    static struct places asked;
+    static struct origins all;
+    static char steps[24];
+    char *what, *end;
+    int with_addresses = chance(50), i;
+    u64 taken;
+    if (!fits_origins(&machine))
+        return 1;
+    limit = limit < MOST_MOVES ? limit : MOST_MOVES;
+    snprintf(steps, sizeof steps, "%lu", limit);
+    reopen();
+    open_origins();
+    while (!machine.ended && machine.steps < limit)
+        step_origins(&machine, &before, with_addresses);
+    taken = machine.steps;
+    what = make_question(&asked);
+    memset(&all, 0, sizeof all);
+    for (i = 0; i < asked.count; i++)
+        join(&all, &origins_of[asked.place[i]]);
+    words_for("origin", 1);
+    add_word("--steps");
+    add_word(steps);
+    if (with_addresses)
+        add_word("--addresses");
+    add_word("program");
+    if (what)
+        add_word(what);
+    place(&machine, wanted, TEXT_ROOM);
+    if (!sound())
+        return 0;
+    if (left.status)
+        return strstr(left.output, "cut: ") ? 1 : fails("origin answers nothing");
+    if (strncmp(left.output, wanted, strlen(wanted)) || !(end = strchr(left.output, '\n')))
+        return fails("origin stands elsewhere than the second machine");
+    reopen();
+    return tells(&all, taken, end + 1);
+}
+
 /* A program and its listing: asm gives the words back. */
 static int returns(void) {
     char accepted[sizeof line];
@@ -422,7 +532,18 @@ static int try_program(void) {
         return refuses_all(line, 0, "program");
     words_for("check", 0);
     add_word("program");
-    return gives(0, line) && returns() && runs_alike(1 + below(chance(50) ? 3000 : 20));
+    return gives(0, line) && returns() && runs_alike(1 + below(chance(50) ? 3000 : 20)) && traces_back(1 + below(chance(50) ? 3000 : 20));
+}
+
+/* Where values came from in a program that moves them about below r10, from one function to the next, and through maps. */
+static int try_origin(void) {
+    int is_accepted;
+    make_surroundings();
+    put_file("script", "", 0);
+    is_steady = 1;
+    is_accepted = judged(make_program());
+    is_steady = 0;
+    return !is_accepted || traces_back(1 + below(chance(50) ? 400 : 40));
 }
 
 /* Bytes that were never a program. */
@@ -603,7 +724,7 @@ static int try_script(void) {
 
 /* A random command line. */
 static int try_words(void) {
-    static char *some[] = { "run", "trace", "debug", "origin", "asm", "disasm", "lines", "check", "link", "help", "-m", "--mem", "--maps", "--journal", "--steps", "--from", "--count", "--profile", "--listing", "-h", "--help",
+    static char *some[] = { "run", "trace", "debug", "origin", "asm", "disasm", "lines", "check", "link", "help", "r0", "-m", "--mem", "--maps", "--journal", "--steps", "--from", "--count", "--profile", "--listing", "-h", "--help",
         "program", "context", "missing", "1024", "0", "-1", "8x2", "", "--", "-", "--steps=7", "--journal=1024", "--maps=8x2", "-mcontext", "--mem=context",
         "--listing=1", "--frob", "-x", "frob", "\xc3\xa9", "\xff", "a b", "--steps=0", "18446744073709551616", "--version", "-V", "\n", "\033[1m" };
     int count = below(7);
@@ -635,13 +756,14 @@ int main(int count, char **arguments) {
     end = time(0) + atoi(arguments[6]);
     for (seed = atoi(arguments[4]) + atoi(arguments[2]); seed <= last && time(0) < end; seed += distance, trials++) {
         state = seed * 0x2545f4914f6cdd1d;
-        switch (below(16)) {
+        switch (below(20)) {
         case 0: try_bytes(); break;
         case 1: try_maps(); break;
         case 2: try_context(); break;
         case 3: case 4: try_words(); break;
         case 5: case 6: case 7: try_listing(); break;
         case 8: case 9: case 10: case 11: try_script(); break;
+        case 12: case 13: case 14: case 15: try_origin(); break;
         default: try_program();
         }
         if (failures >= 10)
