@@ -39,7 +39,8 @@ class Commands:
     """How many moves lay before the state behind each command of gdb's user, in ascending order."""
 
     def __init__(self, begin=0):
-        self.begin, self.ends = begin, []
+        # the counts behind gdb's edits, too
+        self.begin, self.ends, self.edits = begin, [], []
 
     def stop(self, event):
         """Notes where a command stopped."""
@@ -49,7 +50,9 @@ class Commands:
     def edit(self, event):
         """Notes an edit, of which gdb has no new count of moves."""
         if is_connected():
-            self.note(moves())
+            now = moves()
+            self.edits = [other for other in self.edits if other < now] + [now]
+            self.note(now)
 
     def note(self, end):
         """Notes where a command ended. One that went back ends before others, which then are no more."""
@@ -284,6 +287,52 @@ class LastWrite(Asker):
         print(ask("last-write 0x%x" % address), end="")
 
 
+class Origin(Asker):
+    """bpf-origin [EXPRESSION]: tells where a value came from, move by move: of a register ($r3), of the bytes of a variable (note.packet), or of
+    ADDRESS:COUNT; left out, of the address of an access that failed, or of r0. It runs the program anew to this state, without edits."""
+
+    def __init__(self):
+        super().__init__("bpf-origin", gdb.COMMAND_DATA, gdb.COMPLETE_EXPRESSION)
+
+    def obey(self, argument):
+        now = moves()
+        if now == 0:
+            raise gdb.GdbError("nothing has run yet: each value is that of the opening")
+        words = shlex.split((connection().details or "").lstrip("| "))
+        for option in ("--registers", "--steps"):
+            words = taken(words, option)[1]
+        program, _, *options, file = words
+        options += ["--steps", str(now)]
+        asked = [file, *self.what(argument.strip())]
+        script = "stepi %d\ninfo regs\n" % now
+        again = subprocess.run([program, "debug", *options, file], input=script, capture_output=True, text=True)
+        if any(edit <= now for edit in commands.edits) or again.stdout.splitlines()[1:] != ask("info regs").splitlines():
+            raise gdb.GdbError("there are edits before this state, and 'bpfdb origin' runs the program without them: bpf-undo them first")
+        done = subprocess.run([program, "origin", *options, *asked], capture_output=True, text=True)
+        for line in (done.stdout.splitlines()[1:] or done.stderr.splitlines()):
+            print(line + self.source_of(line))
+
+    def source_of(self, line):
+        """The line of the source of a move, behind its own."""
+        slot = re.match(r"-\d+ .*?; (\d+): ", line)
+        place = gdb.find_pc_line(SLOT * int(slot.group(1))) if slot else None
+        return " (%s:%d)" % (os.path.basename(place.symtab.filename), place.line) if place and place.symtab else ""
+
+    def what(self, text):
+        """What is asked, in bpfdb's words."""
+        if re.fullmatch(r"\$r[0-9]", text) and gdb.selected_frame() == gdb.newest_frame():
+            return [text[1:]]
+        address, colon, count = text.rpartition(":")
+        if colon:
+            return ["0x%x:%d" % (int(gdb.parse_and_eval(address)) % 2**64, int(gdb.parse_and_eval(count)))]
+        if not text:
+            return []
+        value = gdb.parse_and_eval(text)
+        if value.address is None:
+            raise gdb.GdbError("%s lies in a register: ask for that, as $r3, in the innermost frame" % text)
+        return ["0x%x:%d" % (int(value.address) % 2**64, value.type.sizeof)]
+
+
 class Registers(Asker):
     """bpf-registers: shows r0 to r10 and pc of the present frame."""
 
@@ -489,6 +538,7 @@ Load()
 Undo("bpf-undo")
 Redo("bpf-redo")
 LastWrite()
+Origin()
 Registers()
 Map()
 Break()

@@ -92,7 +92,7 @@ else
 
     sessions=$parts/gdb
     if serves gdb; then
-        for name in steps stops edits faults calls limits source sections traps bare load; do
+        for name in steps stops edits faults calls limits source sections traps bare load origin; do
             transcript gdb "$sessions/$name.txt"
         done
         transcript gdb story1.txt
