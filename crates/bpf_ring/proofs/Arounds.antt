@@ -1,10 +1,11 @@
 -- Bytes around a block's end, item by item.
 use Rattle.std.proofs.Common.{◌≡◌, ℕ, ◌+◌, ◌-◌, ◌≤◌, ◌<◌, ◌⊎◌, List, [], ◌++◌, length, get_or, take, drop, refl, sym, ap, ◌∙◌, append_assoc, arith, inl, inr}
-use Rattle.std.proofs.lemmas.List.{length-append, length-drop, drop-drop, take_all, drop_all, append-nil, take-append-drop, take-append-le, take-take, drop-append-le, length-take, get_or-take, get_or-drop, get_or_append_left, get_or-append_right, same_lists}
+use Rattle.std.proofs.lemmas.List.{drop_at, length-append, length-drop, drop-drop, take_all, drop_all, append-nil, take-append-drop, take-append-le, take-take, drop-append-le, length-take, get_or-take, get_or-drop, get_or_append_left, get_or-append_right, same_lists}
 use Rattle.std.proofs.lemmas.Grind.{common_steps}
 use Rattle.std.proofs.lemmas.Bool.{cases_lt}
 use Rattle.std.proofs.lemmas.Bool.Decides.{nat_tests}
 use borrow.Rule.Slice.PartMut.{put_mid}
+use Rattle.byteorder.specs.Endian.{little_bytes}
 use Rattle.bpf_ring.specs.Blocks.{around, behind, pasted}
 
 pub length-around : (xs : List ℕ) (first n : ℕ) → first ≤ length xs → n ≤ length xs → length (around xs first n) ≡ n
@@ -250,6 +251,16 @@ pub newest_piece : (xs front rest bytes : List ℕ) (first len n at : ℕ) → a
 newest_piece xs front rest bytes first len n at is e a b c cut fits =
     piece_at xs front rest bytes first len (length bytes - n) n at is e a b (omega (arith, c)) cut fits
     ∙ take_all n (drop (length bytes - n) bytes) (omega (arith, length-drop (length bytes - n) bytes, c))
+
+-- The place of the newest bytes, by the place behind them.
+pub back_place : (J first len n end : ℕ) → end ≡ behind J first len → n ≤ end → n ≤ len → first < J → len ≤ J → end - n ≡ behind J first (len - n)
+back_place J first len n end e a b c d = grind (arith, nat_tests)
+
+-- The last two bytes.
+pub last_two : (bytes before : List ℕ) (n : ℕ) → bytes ≡ before ++ little_bytes 2 n → drop (length bytes - 2) bytes ≡ little_bytes 2 n
+last_two bytes before n is =
+    let long : length bytes ≡ length before + 2 = ap length is ∙ length-append before (little_bytes 2 n) in
+    ap (drop (length bytes - 2)) is ∙ drop_at before (little_bytes 2 n) (length bytes - 2) (omega (arith, long))
 
 -- The oldest bytes, read there.
 pub oldest_piece : (xs front rest bytes : List ℕ) (first len n : ℕ) → around xs first len ≡ bytes → front ++ rest ≡ xs → n ≤ len → first + n ≤ length front

@@ -107,8 +107,9 @@ fn copy(into: &mut [u8], bytes: &[u8])
     ensures { into.new ≡ bytes.now }
 {
     match bytes.len() {
-        7 => into.copy_from_slice(bytes),
-        16 => into.copy_from_slice(bytes),
+        7 => into[..7].copy_from_slice(&bytes[..7]),
+        16 => into[..16].copy_from_slice(&bytes[..16]),
+        24 => into[..24].copy_from_slice(&bytes[..24]),
         _ => into.copy_from_slice(bytes),
     }
 }

@@ -177,6 +177,23 @@ impl EntryRing {
             result ≡ Some (head_of k) }
         ensures within { IfSome result (λ head. head.len ≤ length self.now.ring.bytes) }
     {
+        match self.ring.newest_text() {
+            Some(text) => Some(Head {
+                len: text.len(),
+                tag: text[2],
+            }),
+            None => self.newest_apart(),
+        }
+    }
+
+    /// The same of an entry whose bytes go around the block's end, or where none is held.
+    #[inline(never)]
+    fn newest_apart(&self) -> Option<Head>
+        ensures none { IsHeld self.now.ring self.now.counts [] → result ≡ None }
+        ensures some { (ks : List Kept) (k : Kept) → IsHeld self.now.ring self.now.counts (k ∷ ks) →
+            result ≡ Some (head_of k) }
+        ensures within { IfSome result (λ head. head.len ≤ length self.now.ring.bytes) }
+    {
         let len = self.ring.len();
         if len < 5 {
             return None;
@@ -303,6 +320,49 @@ impl EntryRing {
     /// tag; None where none is held, or one of an edit, and then nothing changes.
     #[inline(always)]
     pub fn hand_back(&mut self, cpu: &mut Cpu, other: &mut EntryRing) -> Option<u8>
+        requires { HoldsWay self.old.ring self.old.counts cpu.old }
+        ensures size { (self.new.ring.size ≡ self.old.ring.size)
+            × (other.new.ring.size ≡ other.old.ring.size) }
+        ensures fits { (length self.new.ring.bytes ≤ self.new.ring.size)
+            × (length other.new.ring.bytes ≤ other.new.ring.size) }
+        ensures none { IsHeld self.old.ring self.old.counts [] → result ≡ None }
+        ensures edit { (ks : List Kept) (k : Kept) → IsHeld self.old.ring self.old.counts (k ∷ ks) →
+            of_step k.0 ≡ false → result ≡ None }
+        ensures stays { result ≡ None → (self.new ≡ self.old) × (cpu.new ≡ cpu.old)
+            × (other.new ≡ other.old) }
+        ensures some { (ks : List Kept) (k : Kept) → IsHeld self.old.ring self.old.counts (k ∷ ks) →
+            of_step k.0 ≡ true →
+            (result ≡ Some (tag_of (kind k.0) k.1)) × IsHeld self.new.ring self.new.counts ks }
+        ensures back { (ks : List Kept) (k : Kept) (x : State) (m : Move) →
+            IsHeld self.old.ring self.old.counts (k ∷ ks) → of_step k.0 ≡ true → Leads x m cpu.old →
+            overwritten x m ≡ k.0 → cpu.new ≡ x }
+        ensures handed { (ks ls : List Kept) (k : Kept) →
+            IsHeld self.old.ring self.old.counts (k ∷ ks) → of_step k.0 ≡ true →
+            IsHeld other.old.ring other.old.counts ls →
+            IsHeld other.new.ring other.new.counts (keep kept_weight other.old.ring.size ls k) }
+    {
+        self.invariant();
+        other.invariant();
+        match self.ring.newest_text() {
+            Some(text) => {
+                let count = text.len();
+                match other.take_text(cpu, text) {
+                    Some(tag) => {
+                        self.ring.drop_newest(count);
+                        self.counts.subtract(tag);
+                        self.invariant();
+                        Some(tag)
+                    }
+                    None => None,
+                }
+            }
+            None => self.hand_back_apart(cpu, other),
+        }
+    }
+
+    /// Does the same where the entry's bytes go around the block's end, or where none is held.
+    #[inline(never)]
+    fn hand_back_apart(&mut self, cpu: &mut Cpu, other: &mut EntryRing) -> Option<u8>
         requires { HoldsWay self.old.ring self.old.counts cpu.old }
         ensures size { (self.new.ring.size ≡ self.old.ring.size)
             × (other.new.ring.size ≡ other.old.ring.size) }

@@ -293,6 +293,31 @@ impl Ring {
         }
     }
 
+    /// The text of the newest entry, as many bytes as the last two say, at least 5, where they lie in
+    /// one piece; None where not, or where they are more than there are.
+    #[inline(always)]
+    pub fn newest_text(&self) -> Option<&[u8]>
+        ensures least { IfSome result (λ text. 5 ≤ length text.now) }
+        ensures within { IfSome result (λ text. length text.now ≤ length self.now.bytes) }
+        ensures newest { IfSome result (λ text. text.now
+            ≡ drop (length self.now.bytes - length text.now) self.now.bytes) }
+        ensures len { IfSome result (λ text. (n : ℕ) (before : List ℕ) → n < 2 ^ 16 →
+            self.now.bytes ≡ before ++ little_bytes 2 n → length text.now ≡ n) }
+    {
+        let end = place(self.buffer.len(), self.first, self.len());
+        let (block, _) = self.buffer.as_slices();
+        if end < 2 || end > block.len() {
+            return None;
+        }
+        let last = end - 2;
+        let count = number(&block[last..last + 2]);
+        if count < 5 || count > end || count > self.len {
+            return None;
+        }
+        let from = end - count;
+        Some(&block[from..from + count])
+    }
+
     /// The bytes from an index on, so many, where they lie in one piece; None where they go around
     /// the block's end.
     #[inline(always)]

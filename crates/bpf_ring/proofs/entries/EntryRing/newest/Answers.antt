@@ -1,17 +1,18 @@
-use Rattle.std.proofs.Common.{◌≤◌, ◌-◌, ℕ, Some, length, ap, ◌∙◌, sym, subst}
+use Rattle.std.proofs.Common.{◌≡◌, ◌∙◌, ℕ, Some, length, ap, refl}
+use Rattle.std.specs.Prelude.{slice_index_or}
+use Rattle.bpf_entries.specs.Texts.{kind, tag}
 use Rattle.bpf_entries.specs.Weights.{weight}
 use Rattle.bpf_ring.specs.declared.entries.Head.{Head}
+use Rattle.bpf_ring.proofs.Held.{newest_text}
 use Rattle.bpf_ring.proofs.entries.EntryRing.newest.Goals as goal
-use Rattle.bpf_ring.proofs.Held.{newest_count, newest_tag, TagAt}
 
 abbrev head : ℕ → ℕ → Head
 head len tag = record { len = len; tag = tag }
 
-pub returns-clause-some : goal.returns-clause-some
-returns-clause-some c = λ ks k held.
+pub returns-in-Some-clause-some : goal.returns-in-Some-clause-some
+returns-in-Some-clause-some c = λ ks k held.
     let now = c.args.self.now in
-    let at = ap (λ n. n - c.within-count.result) c.len-len.ensures.value in
-    let same = λ (a : 1 ≤ c.newest_len.result) (b : c.newest_len.result ≤ length now.ring.bytes). c.within-count.ensures.same a (subst (λ n. c.newest_len.result ≤ n) (sym c.len-len.ensures.value) b) in
-    let count = newest_count now.ring now.counts c.newest_len.result c.within-count.result ks k held c.newest_len.ensures same in
-    let tag = newest_tag now.ring now.counts c.newest_len.result c.within-count.result c.tag_at-tag.result ks k held c.newest_len.ensures same (subst (λ p. TagAt now.ring p c.tag_at-tag.result) at c.tag_at-tag.ensures) in
-    ap (λ n. Some (head n c.tag_at-tag.result)) count ∙ ap (λ n. Some (head (weight k.0) n)) tag
+    let there = c.in-Some.text.now in
+    let told = newest_text now.ring now.counts (length there) (length there) ks k there held c.in-Some.ensures.len (λ a b. refl) c.in-Some.ensures.newest in
+    let third : slice_index_or there 2 0 ≡ tag (kind k.0) k.1 = ap (λ l. slice_index_or l 2 0) told.1 in
+    ap (λ n. Some (head n (slice_index_or there 2 0))) told.0 ∙ ap (λ n. Some (head (weight k.0) n)) third

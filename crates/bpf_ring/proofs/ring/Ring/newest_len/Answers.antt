@@ -1,12 +1,7 @@
-use Rattle.std.proofs.Common.{◌≡◌, ◌+◌, ◌-◌, ◌∙◌, ◌++◌, ℕ, List, length, drop, ap, arith}
-use Rattle.std.proofs.lemmas.List.{drop_at, length-append, length-drop}
-use Rattle.byteorder.specs.Endian.{little_bytes}
+use Rattle.std.proofs.Common.{◌-◌, ◌∙◌, length, ap, arith}
+use Rattle.std.proofs.lemmas.List.{length-drop}
+use Rattle.bpf_ring.proofs.Arounds.{last_two}
 use Rattle.bpf_ring.proofs.ring.Ring.newest_len.Goals as goal
-
-last_two : (bytes before : List ℕ) (n : ℕ) → bytes ≡ before ++ little_bytes 2 n → drop (length bytes - 2) bytes ≡ little_bytes 2 n
-last_two bytes before n is =
-    let long : length bytes ≡ length before + 2 = ap length is ∙ length-append before (little_bytes 2 n) in
-    ap (drop (length bytes - 2)) is ∙ drop_at before (little_bytes 2 n) (length bytes - 2) (omega (arith, long))
 
 pub number-requires : goal.number-requires
 number-requires c =
