@@ -24,7 +24,7 @@ use crate::keeper::Keeper;
 use crate::ring_keeper::RingKeeper;
 use crate::run::Run;
 use crate::taken::Taken;
-use bpf_machine::{Cpu, Edit, Ended, Entry, Move};
+use bpf_machine::{Cpu, Edit, Ended, Entry, Move, Sort};
 use bpf_ring::{StopTest, change_replaces_bytes};
 use std::marker::Model;
 
@@ -163,7 +163,45 @@ impl<K: Keeper> Timeline<K> {
 
     /// Takes a step and keeps it. Answers whether it replaced bytes of memory. Nothing changes
     /// where the machine has ended, or where the keeper refuses.
+    #[inline(always)]
     pub fn step(&mut self, mark: bool) -> Result<bool, TimelineFault>
+        ensures ok { OnOk result
+            (Makes K.holds (K.room self.old.keeper) move_of.Step mark self.old self.new) }
+        ensures err { IfErr result (Fails K.holds move_of.Step self.old self.new) }
+        ensures bytes { IfOk result (λ replaced. replaced
+            ≡ replaces_bytes (step_entry self.old.state)) }
+        ensures refused { K.refused self.new.keeper
+            ≡ refusals_by result (K.refused self.old.keeper) }
+        ensures room { K.room self.new.keeper ≡ K.room self.old.keeper }
+    {
+        // The arms are alike. Each is built for its sort of instruction.
+        match self.cpu.next_sort() {
+            Sort::Register => self.step_as(mark),
+            Sort::Jump => self.step_as(mark),
+            Sort::Load => self.step_as(mark),
+            Sort::Store => self.step_as(mark),
+            Sort::Other => self.step_apart(mark),
+        }
+    }
+
+    /// Takes and keeps a step out of the way of the common ones.
+    #[inline(never)]
+    fn step_apart(&mut self, mark: bool) -> Result<bool, TimelineFault>
+        ensures ok { OnOk result
+            (Makes K.holds (K.room self.old.keeper) move_of.Step mark self.old self.new) }
+        ensures err { IfErr result (Fails K.holds move_of.Step self.old self.new) }
+        ensures bytes { IfOk result (λ replaced. replaced
+            ≡ replaces_bytes (step_entry self.old.state)) }
+        ensures refused { K.refused self.new.keeper
+            ≡ refusals_by result (K.refused self.old.keeper) }
+        ensures room { K.room self.new.keeper ≡ K.room self.old.keeper }
+    {
+        self.step_as(mark)
+    }
+
+    /// Takes and keeps a step.
+    #[inline(always)]
+    fn step_as(&mut self, mark: bool) -> Result<bool, TimelineFault>
         ensures ok { OnOk result
             (Makes K.holds (K.room self.old.keeper) move_of.Step mark self.old self.new) }
         ensures err { IfErr result (Fails K.holds move_of.Step self.old self.new) }
@@ -240,7 +278,7 @@ impl<K: Keeper> Timeline<K> {
         ensures room { K.room self.new.keeper ≡ K.room self.old.keeper }
     {
         match change {
-            Move::Step => match self.step(mark) {
+            Move::Step => match self.step_apart(mark) {
                 Ok(_) => Ok(()),
                 Err(fault) => Err(fault),
             },
