@@ -62,7 +62,11 @@ impl Breakpoints {
     pub fn has(&self, slot: u16) -> bool
         ensures { result ≡ has self.now slot }
     {
-        self.table[place_of(u64::from(slot))] && self.has_slot(u64::from(slot))
+        if self.table[place_of(u64::from(slot))] {
+            self.has_slot(u64::from(slot))
+        } else {
+            false
+        }
     }
 
     /// Whether there is one at a slot, which may be any number, by a look at each of them.

@@ -27,12 +27,10 @@ impl<'a> StopTest for Halting<'a> {
     fn holds(&self, cpu: &Cpu, replaced: bool) -> bool {
         if self.breaks.has(cpu.pc()) {
             true
-        } else if cpu.depth() < self.floor {
-            true
         } else if replaced {
-            self.watches.differ_from(cpu, self.seen)
+            cpu.depth() < self.floor || self.watches.differ_from(cpu, self.seen)
         } else {
-            false
+            cpu.depth() < self.floor
         }
     }
 }

@@ -88,12 +88,13 @@ impl Watches {
         }
     }
 
-    /// What is seen after a comparison: the bytes now where they differ, else those that were seen
-    /// before.
-    pub fn seen_now(&self, cpu: &Cpu, seen: Seen, differs: bool) -> Seen
-        ensures { result ≡ (if differs then bytes_at self.now cpu.now else seen) }
+    /// Sees the bytes anew after a comparison where they differ.
+    pub fn see_anew(&self, cpu: &Cpu, seen: &mut Seen, differs: bool)
+        ensures { seen.new ≡ (if differs then bytes_at self.now cpu.now else seen.old) }
     {
-        if differs { self.bytes(cpu) } else { seen }
+        if differs {
+            *seen = self.bytes(cpu);
+        }
     }
 
     /// Whether the bytes at the addresses are not those that were seen.

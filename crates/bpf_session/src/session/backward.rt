@@ -111,7 +111,8 @@ impl<K: Keeper> Session<K> {
             let differs = self
                 .watches
                 .differ(self.timeline.cpu(), &seen, taken.replaced_bytes);
-            seen = self.watches.seen_now(self.timeline.cpu(), seen, differs);
+            self.watches
+                .see_anew(self.timeline.cpu(), &mut seen, differs);
             left -= self.hits(&target, start, taken, differs);
             if left == 0 {
                 return Found {

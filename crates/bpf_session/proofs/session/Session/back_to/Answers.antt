@@ -35,5 +35,5 @@ loop-k-preserved g c =
     let began = c.depth-start.ensures ∙ ap depth c.cpu.ensures in
     let new : SessionValue g.row.K.Denot = record { moment = c.back.new.self; breaks = c.self-in-loop-k.inside.breaks; watches = c.self-in-loop-k.inside.watches; limit = c.self-in-loop-k.inside.limit } in
     seeking_step _ _ _ _ _ _ _ _ _ _ _ _ i (record { breaks = refl; watches = refl; limit = refl }) c.in-Some.ensures.back _ _ _ c.in-Some.ensures.refused c.in-Some.ensures.room
-    (comparing {K = g.row.K.Denot} _ _ new _ _ _ refl (rw c.cpu-in-loop-k.ensures at c.differ-differs.ensures)) (rw c.cpu-in-loop-k-2.ensures at c.seen_now-seen.ensures)
+    (comparing {K = g.row.K.Denot} _ _ new _ _ _ refl (rw c.cpu-in-loop-k.ensures at c.differ-differs.ensures)) (rw c.cpu-in-loop-k-2.ensures at c.see_anew.ensures)
     (looked {K = g.row.K.Denot} c.args.self.now new _ _ _ _ _ i.only.breaks i.only.watches (λ r z. c.hits-left.ensures.value c.args.self.now.moment.state z (track_of []) r began)) c.if-left-eq0.false
