@@ -39,8 +39,9 @@ fn count_option<'a>(
     ensures value { rule_of result ≡ count_rule_of name.now }
     ensures local { result.global ≡ false }
 {
-    text_option(alloc, name, value, about, long_about)
-        .value_parser(value_parser!(u64).range(1..=GREATEST_COUNT.cast_signed()))
+    text_option(alloc, name, value, about, long_about).value_parser(value_parser!(u64).range(
+        1..=GREATEST_COUNT.cast_signed(),
+    ))
 }
 
 /// An option that takes nothing.
@@ -65,8 +66,9 @@ fn argument_of<'a>(alloc: Global, option: CliOption) -> Arg<'a>
         CliOption::Journal => journal_option(alloc, "65536"),
         CliOption::GdbJournal => journal_option(alloc, "4194304"),
         CliOption::Steps => {
-            count_option(alloc, "steps", "N", help::STEPS, help::STEPS_LONG)
-                .default_value("1000000")
+            count_option(alloc, "steps", "N", help::STEPS, help::STEPS_LONG).default_value(
+                "1000000",
+            )
         }
         CliOption::From => {
             count_option(alloc, "from", "K", help::FROM, help::FROM_LONG).default_value("1")

@@ -62,7 +62,7 @@ returns-in-Err-clause-does g c =
 pub returns-in-Err-linked_from-clause-does : goal.returns-in-Err-linked_from-clause-does
 returns-in-Err-linked_from-clause-does g c =
     let asked = c.in-Ok.ensures.ok ∙ ap Ok (sym c.as_slice-named.ensures.value) in
-    Refused (Object c.in-Err-linked_from.fault c.fault_name-name-2.result) (c.fault_name-name-2.ensures, inr (c.as_slice-named.result.now, asked, rw c.entry_of.ensures at (rw c.section_of.ensures at c.in-Err-linked_from.ensures.err))) refl
+    Refused (Object c.in-Err-linked_from.fault c.fault_name-name-in-Err-linked_from.result) (c.fault_name-name-in-Err-linked_from.ensures, inr (c.as_slice-named.result.now, asked, rw c.entry_of.ensures at (rw c.section_of.ensures at c.in-Err-linked_from.ensures.err))) refl
     c.give_up-in-Err-linked_from.ensures.told c.give_up-in-Err-linked_from.ensures.value
 
 pub returns-clause-does : goal.returns-clause-does
