@@ -201,12 +201,7 @@ fn typed_by_name(object: &[u8], types: &Btf<'_>, at: usize) -> Result<MapShape, 
 }
 
 /// The shape of the map at a place.
-fn typed_at(
-    object: &[u8],
-    plan: &Plan,
-    types: &Btf<'_>,
-    place: u64,
-) -> Result<MapShape, LinkFault>
+fn typed_at(object: &[u8], plan: &Plan, types: &Btf<'_>, place: u64) -> Result<MapShape, LinkFault>
     requires { LiesPlan object.now plan.now }
     ensures { result ≡ typed_at object.now plan.now types.now place }
 {

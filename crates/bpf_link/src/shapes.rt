@@ -6,8 +6,8 @@ ghost use Rattle.bpf_link.specs.Refusals.{IsTypeFault};
 ghost use Rattle.bpf_link.specs.Shapes.{definition_at, is_array, shape_at, shapes_at, IsInOrder, AreShapes, AreNumbered, AreOwn, is_unknown, all_shapes};
 ghost use Rattle.bpf_isa.specs.declared.maps.MapShape.{MapShape};
 
-use crate::layout::{MapDefinition, map_definition};
 use crate::fault::LinkFault;
+use crate::layout::{MapDefinition, map_definition};
 use crate::map_types::{is_typed, shapes_by_types};
 use crate::plan::{Entries, Plan};
 use arrayvec::ArrayVec;
