@@ -39,6 +39,7 @@ result '0x0\n' run $(cat told) -m context arrays
 printf '\350\003\000\000' > context
 result '0x1\n' run $(cat told) -m context arrays
 
+text_of_arrays=$text
 # The shapes of maps in `.maps` come from BTF, in the order of their places, in which clang lays them out as the code uses them first: the second map of the
 # source is number 0. Where the places are the other way round, so are the numbers; without BTF the words are the same, and nothing is told.
 bytes words $(printf '%s' "bf17000000000000 1851000000000000 0000000000000000 bf72000000000000 8500000001000000 b706000001000000 b708000001000000 5500010000000000 b708000000000000 1851000001000000 0000000000000000 bf72000000000000 8500000001000000 5500010000000000 b706000000000000 6706000001000000 4f86000000000000 bf60000000000000 9500000000000000" | tr -d ' ' | sed 's/../& /g')
@@ -92,6 +93,8 @@ ROWS
 # (a name with control bytes, in the table of names, from 1338 on)
 { head -c 1338 typed.o; printf '\033['; tail -c +1341 typed.o; } > changed.o
 refused 'refused E45: map has no description in BTF: \\x1b[tals' link changed.o
+
+text=$text_of_arrays
 
 # Where standard error fails the words came, and the status is 2; where the output fails no maps are told.
 "$program" link arrays.o > found/out 2> /dev/full

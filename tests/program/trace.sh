@@ -1,6 +1,5 @@
 # Runs that are told step by step. What each kind of step writes was worked out by hand from docs/MACHINE.md, docs/JOURNAL.md and
 # docs/COMMANDS.md.
-if "$program" help trace > /dev/null 2>&1; then
 
 # traced NAME STATUS OUTPUT ARGUMENT..: a run of `trace` over the listing `p` gives this output, and nothing else.
 traced() {
@@ -124,8 +123,8 @@ traced 'a fault of the depth' 1 '7 0: callf L0; 0x200001c00:512\n8 0: callf L0\n
 
 # A loop: three rounds, and the jump out of it.
 printf 'loop: add r0, 1\njlt r0, 3, loop\nexit\n' > p
-traced 'a loop' 0 '1 0: add r0, 1; r0 = 0x1\n2 1: jlt r0, 3, L0\n3 0: add r0, 1; r0 = 0x2\n4 1: jlt r0, 3, L0\n5 0: add r0, 1; r0 = 0x3\n6 1: jlt r0, 3, L0\n\
-7 2: exit\nexited at 2: r0 0x3\n'
+traced 'a loop' 0 '1 0: add r0, 1; r0 = 0x1\n2 1: jlt r0, 3, L0\n3 0: add r0, 1; r0 = 0x2\n4 1: jlt r0, 3, L0\n5 0: add r0, 1; r0 = 0x3\n6 1: jlt r0, 3, L0\n'\
+'7 2: exit\nexited at 2: r0 0x3\n'
 traced 'a profile of a loop' 0 '3 0: add r0, 1\n3 1: jlt r0, 3, L0\n1 2: exit\nexited at 2: r0 0x3\n' --profile
 
 # Helpers over maps: update writes the cell and r0, or r0 alone; lookup r0.
@@ -144,8 +143,8 @@ call 2
 call 1
 exit
 LISTING
-traced 'helpers' 0 '9 9: call 2; r0 = 0xffffffffffffffef\n10 10: mov r4, 0; r4 = 0x0\n11 11: call 2; r0 = 0x0; 0x300000008:8 = 0x2a\n\
-12 12: call 1; r0 = 0x300000008\n13 13: exit\nexited at 13: r0 0x300000008\n' --maps 8x2 --from 9
+traced 'helpers' 0 '9 9: call 2; r0 = 0xffffffffffffffef\n10 10: mov r4, 0; r4 = 0x0\n11 11: call 2; r0 = 0x0; 0x300000008:8 = 0x2a\n'\
+'12 12: call 1; r0 = 0x300000008\n13 13: exit\nexited at 13: r0 0x300000008\n' --maps 8x2 --from 9
 
 # Without --listing the program is raw words.
 bytes words b7 00 00 00 2a 00 00 00 EXIT
@@ -168,5 +167,3 @@ for option in '--from <K>' '--count <N>'; do
     usage "unexpected argument '$word' found" run "$word" 7 words
 done
 usage "unexpected value 'yes' for '--profile' found; no more were expected" trace --profile=yes words
-
-fi
