@@ -130,7 +130,7 @@ bytes stored \
     00 00 00 00 03 00 00 00 7b 43 18 00 00 00 00 00 b7 03 00 00 00 00 00 00 b7 04 00 00 00 00 00 00 \
     06 00 00 00 e4 ff ff ff
 wants "$plain$e26" 0 "$text" '--maps 8x5\n' link point.o
-# A file of tests: where memory runs out, no test fails by it. Nothing is reported, or the plan and the tests before; each of these is seen.
+# A file of tests: where memory runs out, no test fails by it. (Of a short report nothing is written then: it is still in the buffer of standard output.)
 printf -- '-- maps\n2x2\n-- listing\nmov r0, 2\nexit\n-- name\na\n-- result\n2\n' > two.test
 printf -- '-- name\nb\n-- cells\n0 1 0102\n-- result\n3\n-- map-after\n0 0 0.01\n0 1 ..02\n' >> two.test
 plan='1..2\n' one='ok 1 - a\n'
@@ -153,7 +153,7 @@ while refuse "$request" '' test two.test && [ "$found" != 1 ] && [ "$request" -l
     request=$((request + 1))
 done
 check 'bpfdb test: no request for memory refused' 1 "$plan$one$two$cell" ''
-said 'bpfdb test' '0 lines\n1 lines\n2 lines\n'
+said 'bpfdb test' '0 lines\n'
 wants "$plain" 2 '' 'cannot read missing\n' run missing
 wants "$plain" 0 "$(text "$parts/help/bpfdb.txt")" '' --help
 wants "$plain" 0 "$(version)" '' --version
