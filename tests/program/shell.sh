@@ -76,6 +76,9 @@ if command -v python3 > /dev/null; then
     "$shell" 0> other > found/out 2> found/err
     echo $? > found/status
     check "bpfdb-shell: input that can't be read" 2 '' 'cannot read input\n'
+    "$shell" < "$top" > found/out 2> found/err
+    echo $? > found/status
+    check 'bpfdb-shell: a folder for input' 2 '' 'cannot read input\n'
     printf 'p $none\nsi\n' | "$shell" > found/out 2>&-
     echo $? > found/status
     : > found/err
