@@ -13,7 +13,7 @@ PAGES = COMMANDS LISTING MACHINE JOURNAL GDB TESTS
 # A first look without proofs, in a minute or two: the session of tests/session/script, or with FILE=FILE (and JOB, OPTIONS) `bpfdb JOB OPTIONS FILE`.
 JOB = debug
 try:
-	@sh tests/try.sh $(if $(FILE),$(JOB) $(OPTIONS) "$(FILE)")
+	@$(if $(FILE),[ -f "$(FILE)" ] || { echo "cannot read $(FILE)" >&2; exit 2; }; )sh tests/try.sh $(if $(FILE),$(JOB) $(OPTIONS) "$(FILE)")
 
 # Proves and builds the debugger, where that is not done yet, and shows the session of tests/session/script.
 run:

@@ -34,15 +34,20 @@ case $prefix in
 /usr) put 644 share/zsh/vendor-completions share/completion/_bpfdb ;;
 *) put 644 share/zsh/site-functions share/completion/_bpfdb ;;
 esac
-put 644 share/doc/bpfdb LICENSE CHANGELOG.md
+put 644 share/doc/bpfdb LICENSE README.md CHANGELOG.md docs/session.svg
 for page in "$@"; do
     put 644 share/doc/bpfdb "docs/$page.md"
 done
 find examples -type f | while read -r file; do
     put 644 "share/doc/bpfdb/$(dirname "$file")" "$file"
 done
-# (the pages lie one folder higher there, beside the examples)
+# (The pages lie beside README and the examples there. What leads to a page for those who work on bpfdb, which isn't installed, is no link.)
 folder=$destination$prefix/share/doc/bpfdb
 sed -i 's|](\.\./examples/|](examples/|g' "$folder"/*.md || exit 1
 sed -i 's|](\.\./docs/|](../|g' "$folder/examples"/*.md || exit 1
+sed -i 's|](docs/session.svg)|](session.svg)|' "$folder/README.md" || exit 1
+for page in "$@"; do
+    sed -i "s|](docs/$page.md|]($page.md|g; s|\`docs/$page.md\`|\`$page.md\`|g; s|docs/$page.md|$page.md|g" "$folder"/*.md "$folder/examples"/*.md || exit 1
+done
+sed -i 's|\[\([^][]*\)\](docs/[^)]*)|\1|g' "$folder"/*.md || exit 1
 echo "installed $prefix/bin/bpfdb, bpfdb-shell, bpfdb-symbols and bpfdb-conformance beside it, the man page, completions of bash, zsh and fish, and pages and examples in $prefix/share/doc/bpfdb; in gdb: source $prefix/share/bpfdb/bpfdb-gdb.py"

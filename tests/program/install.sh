@@ -27,7 +27,9 @@ else
 644 share/doc/bpfdb/LICENSE
 644 share/doc/bpfdb/LISTING.md
 644 share/doc/bpfdb/MACHINE.md
+644 share/doc/bpfdb/README.md
 644 share/doc/bpfdb/TESTS.md
+644 share/doc/bpfdb/session.svg
 644 share/fish/vendor_completions.d/bpfdb-shell.fish
 644 share/fish/vendor_completions.d/bpfdb.fish
 644 share/man/man1/bpfdb.1
@@ -40,6 +42,16 @@ FILES
             (cd "$top" && find examples -type f -printf '644 share/doc/bpfdb/%p\n')
         } | sort > wanted/files
         same "make install PREFIX=$2: files and their modes" wanted/files found/files
+        # Each link of an installed page leads to an installed file.
+        (
+            cd "$installed/share/doc/bpfdb" && for page in *.md examples/*.md; do
+                grep -o '](\([^)]*\))' "$page" | sed 's/^](//; s/[)#].*//' | grep -v -e '^$' -e '^https*:' | sort -u | while read -r file; do
+                    [ -e "$(dirname "$page")/$file" ] || echo "$page: $file"
+                done
+            done
+        ) > found/links
+        : > wanted/links
+        same "make install PREFIX=$2: links of the pages" wanted/links found/links
         cp "$top/crates/bpfdb/stdin" script
         "$installed/bin/bpfdb" < script > found/out 2> found/err
         same 'the installed program' "$top/crates/bpfdb/stdout" found/out
