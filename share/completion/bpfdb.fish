@@ -5,7 +5,7 @@ complete -c bpfdb -n __fish_use_subcommand -f -a debug -d "obeys the commands of
 complete -c bpfdb -n __fish_use_subcommand -f -a origin -d "runs the program until it ends"
 complete -c bpfdb -n __fish_use_subcommand -f -a asm -d "assembles the listing FILE"
 complete -c bpfdb -n __fish_use_subcommand -f -a disasm -d "checks the program and writes it as a listing"
-complete -c bpfdb -n __fish_use_subcommand -f -a lines -d "lists the slot"
+complete -c bpfdb -n __fish_use_subcommand -f -a lines -d "shows which line of the listing FILE has which instruction"
 complete -c bpfdb -n __fish_use_subcommand -f -a check -d "checks the program"
 complete -c bpfdb -n __fish_use_subcommand -f -a link -d "links a code section of the object FILE"
 complete -c bpfdb -n __fish_use_subcommand -f -a gdb -d "answers gdb"
