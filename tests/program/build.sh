@@ -72,3 +72,20 @@ echo "FAILED: bpfdb isn't proved and built. out/build/log has what the prover sa
 compare 'make run: a crate that is not proved'
 grep -q -x 'not proved, for the test' told || complain "make run doesn't show what the prover said"
 [ ! -e copy/crates/bpfdb/out/bpfdb ] || complain 'make run builds a program that is not proved'
+
+# make check, where there is no program, or not the one that BPFDB names.
+cp "$top/tests/check.sh" copy/tests
+for row in "There is no program to test. \`make run\` proves and builds one; make check BPFDB=PROGRAM tests another, as one from an archive of \`make dist\`.|" \
+    "There is no program /nothing/bpfdb.|/nothing/bpfdb"; do
+    (cd copy && BPFDB=${row#*|} sh tests/check.sh) > found/out 2> found/err
+    echo $? > found/status
+    check "make check without a program${row#*|}" 1 "${row%|*}\n" ''
+done
+
+# make try of what is no file says so at once.
+for file in nothing "$top/docs"; do
+    env -u MAKEFLAGS make -s -C "$top" try FILE="$file" > found/out 2> found/all
+    echo $? > found/status
+    head -n 1 found/all > found/err
+    check "make try FILE=$file" 2 '' "cannot read $file\n"
+done
