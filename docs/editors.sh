@@ -10,12 +10,17 @@ work=$(mktemp -d) || exit 1
 trap 'rm -rf "$work"' EXIT
 trap 'exit 130' HUP INT TERM
 
-# jobs: 'NAME<tab>WHAT IT DOES' for each subcommand.
+# jobs: 'NAME<tab>WHAT IT DOES' for each subcommand, in a line of a list.
 jobs() {
     awk -F ' *\\| *' '
         /^\| Subcommand / { inside = 1; next }
         !/^\|/ { inside = 0 }
-        inside && $2 ~ /`/ { gsub(/`/, ""); sub(/[,;] .*/, "", $3); print $2 "\t" $3 }
+        inside && $2 ~ /`/ {
+            gsub(/`/, "")
+            sub(/; .*/, "", $3)
+            while (length($3) > 72 && sub(/, [^,]*$/, "", $3)) continue
+            print $2 "\t" $3
+        }
     ' docs/COMMANDS.md
 }
 
