@@ -118,7 +118,11 @@ TEXT
             for (i = 1; i <= n; i++) has[jobs[i]] = has[jobs[i]] " " one
             if ($5 ~ /debug|link/) has["shell"] = has["shell"] " " one
         }
-        END { order[++count] = "shell"; for (i = 1; i <= count; i++) printf "    %s) _arguments%s%s \"*:file:_files\" ;;\n", order[i], has[order[i]], has["each"] }
+        END {
+            order[++count] = "shell"
+            for (i = 1; i <= count; i++) printf "    %s) _arguments%s%s \"*:file:_files\" ;;\n", order[i], has[order[i]], has["each"]
+            printf "    alone) _arguments%s%s ;;\n", has["bpfdb alone"], has["each"]
+        }
     ' "$work/jobs" "$work/options"
     cat << 'TEXT'
     help) _bpfdb_jobs ;;
@@ -138,7 +142,7 @@ _bpfdb() {
     if [[ $service == bpfdb-shell ]]; then
         _bpfdb_options shell
     elif (( CURRENT == 2 )); then
-        _bpfdb_jobs
+        if [[ $PREFIX == -* ]]; then _bpfdb_options alone; else _bpfdb_jobs; fi
     else
         local job=$words[2]
         shift words
