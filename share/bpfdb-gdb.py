@@ -277,7 +277,7 @@ class Redo(Mover):
 
 
 class LastWrite(Asker):
-    """last-write EXPRESSION: tells how many moves ago the byte at an address was changed."""
+    """last-write EXPRESSION: shows how many moves ago the byte at an address was changed."""
 
     def __init__(self):
         super().__init__("last-write", gdb.COMMAND_DATA)
@@ -392,7 +392,7 @@ def value_type(name, size):
 
 class Load(Asker):
     """bpf-load FILE [OPTIONS]: links an object of clang, or assembles a listing, loads its symbols, and starts it in bpfdb. OPTIONS are those of
-    'bpfdb gdb', and --section NAME, --entry NAME and --stub NUMBER=VALUE. Without words it starts the same anew. Breakpoints stay."""
+    'bpfdb gdb', and --section NAME, --entry NAME and --stub NUMBER=VALUE. Without words it starts the same program again. Breakpoints stay."""
 
     def __init__(self):
         super().__init__("bpf-load", gdb.COMMAND_RUNNING, gdb.COMPLETE_FILENAME)
