@@ -192,6 +192,36 @@ PYTHON
     echo $? > found/status
     grep -a -o -e '.\[[0-9][0-9]*m' -e 'r0 0x0 -> 0x7' found/all > found/out
     check 'bpfdb-shell: no colours where NO_COLOR is set' 0 'r0 0x0 -> 0x7\n' ''
+
+    # It ends with its terminal, and bpfdb with it.
+    cat > hangup.py <<'PYTHON'
+import os, pty, signal, sys, time
+signal.alarm(60)
+child, side = pty.fork()
+if child == 0:
+    os.execv(sys.argv[1], sys.argv[1:])
+found = b''
+while b'(bpfdb) ' not in found:
+    found += os.read(side, 4096)
+def below(number):
+    with open(f'/proc/{number}/task/{number}/children') as file:
+        return file.read().split()
+def runs(number):
+    try:
+        with open(f'/proc/{number}/stat') as file:
+            return file.read().rpartition(')')[2].split()[0] != 'Z'
+    except OSError:
+        return False
+debuggers = below(child)
+os.close(side)
+end = time.time() + 20
+while (runs(child) or any(map(runs, debuggers))) and time.time() < end:
+    time.sleep(0.02)
+print(len(debuggers), runs(child), *map(runs, debuggers))
+PYTHON
+    HOME=$PWD TERM=xterm python3 hangup.py "$shell" > found/out 2> found/err
+    echo $? > found/status
+    check 'bpfdb-shell: the end of its terminal' 0 '1 False False\n' ''
 fi
 
 # Without python3 bpfdb debug itself reads the commands.
