@@ -4,6 +4,7 @@
 mod breakpoints;
 mod fault;
 mod halting;
+mod kept;
 pub mod laws;
 mod plain;
 mod reply;
@@ -15,6 +16,7 @@ pub use bpfdb_commands::{Command, Count, Goal, Refusal, Span, Stop, Target, View
 pub use bpfdb_replies::{Why, write_place};
 pub use counted_io::{Counted, WriteFault};
 pub use fault::RunFault;
+pub use kept::run_kept;
 pub use plain::{Ending, run_plain};
 pub use reply::Reply;
 pub use script::run;

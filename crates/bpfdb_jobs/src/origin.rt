@@ -1,12 +1,8 @@
 //! What a job of `origin` does.
-ghost use Rattle.std.specs.Prelude.{◌≡◌, ◌≤◌, [], IfErr, IfOk, List, Option, false};
-ghost use Rattle.bpf_entries.specs.Status.{has_ended};
+ghost use Rattle.std.specs.Prelude.{◌≡◌, ◌≤◌, [], IfErr, IfOk, List, Option};
 ghost use Rattle.bpf_journal.specs.Histories.{Record, StandsFor};
-ghost use Rattle.bpf_journal.specs.Runs.{history_after};
-ghost use Rattle.bpf_journal.specs.Tracks.{RingHolds, ring_room};
 ghost use Rattle.bpf_origin.specs.Asked as spec;
 ghost use Rattle.bpf_origin.specs.declared.what.What.{What as Asked};
-ghost use Rattle.bpf_session.specs.Plain.{plain_end, plain_steps};
 ghost use Rattle.counted_io.specs.Writing.{Writes, WritesAfter};
 ghost use Rattle.bpfdb_jobs.specs.Endings.{EndsPrinted};
 ghost use Rattle.bpfdb_jobs.specs.Origins.{Asks, RefusesWhat, found_text, status_of_extent};
@@ -18,26 +14,14 @@ use crate::job::Job;
 use crate::opening::timeline_of;
 use crate::refusal::JobRefusal;
 use crate::report::give_up;
-use bpf_journal::{Keeper, RingKeeper, StopTest, Timeline};
+use bpf_journal::{Keeper, Timeline};
 use bpf_machine::Cpu;
 use bpf_origin::{Extent, Part, Parts, Question, Told, What, WhatFault, parts_asked, put_answer};
+use bpf_session::run_kept;
 use bpfdb_replies::write_place;
 use counted_io::{Counted, WriteFault, put};
 use std::alloc::Global;
 use std::io::Write;
-
-/// A run that nothing stops but the machine's end and the most steps.
-#[derive(Clone, Copy)]
-struct ToTheEnd;
-
-impl StopTest for ToTheEnd {
-    ghost test = { λ s replaced x. false };
-
-    #[inline(always)]
-    fn holds(&self, _cpu: &Cpu, _replaced: bool) -> bool {
-        false
-    }
-}
 
 /// Runs the program to its end or to the limit, and writes where the machine stands and where the
 /// values came from that are asked about.
@@ -56,7 +40,7 @@ pub fn origin_job<W: Write, E: Write>(
         Ok(timeline) => timeline,
         Err(refusal) => return give_up(errors, &JobFault::Refused(refusal)),
     };
-    let steps = take_steps(&mut timeline, job.options.limit);
+    let steps = run_kept(&mut timeline, job.options.limit);
     let parts = match parts_of(job, timeline.cpu()) {
         Ok(parts) => parts,
         Err(fault) => return give_up(errors, &JobFault::Refused(JobRefusal::What(fault))),
@@ -71,21 +55,6 @@ pub fn origin_job<W: Write, E: Write>(
         Ok(()) => status_of(told.extent),
         Err(WriteFault) => give_up(errors, &JobFault::Output),
     }
-}
-
-/// Takes steps until the machine has ended, at most the limit, and keeps them. Answers how many.
-fn take_steps(timeline: &mut Timeline<RingKeeper>, limit: u64) -> u64
-    requires limit { IsLimit limit }
-    requires runs { has_ended timeline.old.state.status ≡ false }
-    ensures steps { result ≡ plain_steps limit timeline.old.state }
-    ensures state { timeline.new.state ≡ plain_end limit timeline.old.state }
-    ensures kept { (h : List Record) →
-        StandsFor RingHolds timeline.old.keeper timeline.old.state h →
-        StandsFor RingHolds timeline.new.keeper timeline.new.state
-        (history_after (ring_room timeline.old.keeper) result timeline.old.state h) }
-{
-    let run = timeline.run(limit, &ToTheEnd);
-    run.steps
 }
 
 /// What is asked about of a machine.

@@ -16,18 +16,18 @@ returns-in-Err-clause-does g c =
 
 pub returns-in-Err-parts_of-clause-does : goal.returns-in-Err-parts_of-clause-does
 returns-in-Err-parts_of-clause-does g c =
-    let ran = c.take_steps-steps.ensures in
+    let ran = c.run_kept-steps.ensures in
     Refused (What c.in-Err-parts_of.fault)
-    (origin-refuses c.args.job.now c.in-Ok.timeline c.take_steps-steps.new.timeline c.take_steps-steps.result c.in-Ok.ensures.ok ran.steps ran.state ran.kept
+    (origin-refuses c.args.job.now c.in-Ok.timeline c.run_kept-steps.new.timeline c.run_kept-steps.result c.in-Ok.ensures.ok ran.steps ran.state ran.kept
     c.in-Err-parts_of.fault (rw c.cpu.ensures at c.in-Err-parts_of.ensures.err))
     refl c.give_up-in-Err-parts_of.ensures.told c.give_up-in-Err-parts_of.ensures.value
 
 pub returns-in-Ok-written-clause-does : goal.returns-in-Ok-written-clause-does
 returns-in-Ok-written-clause-does g c =
     let job = c.args.job.now in
-    let ran = c.take_steps-steps.ensures in
-    let n = c.take_steps-steps.result in
-    let end = c.take_steps-steps.new.timeline in
+    let ran = c.run_kept-steps.ensures in
+    let n = c.run_kept-steps.result in
+    let end = c.run_kept-steps.new.timeline in
     let start = c.in-Ok.ensures.ok in
     let h = run_history job.options (initial start.code job.context.now) in
     let held = stands job c.in-Ok.timeline end n start ran.steps ran.state ran.kept in
@@ -43,9 +43,9 @@ returns-in-Ok-written-clause-does g c =
 pub returns-clause-does : goal.returns-clause-does
 returns-clause-does g c =
     let job = c.args.job.now in
-    let ran = c.take_steps-steps.ensures in
-    let n = c.take_steps-steps.result in
-    let end = c.take_steps-steps.new.timeline in
+    let ran = c.run_kept-steps.ensures in
+    let n = c.run_kept-steps.result in
+    let end = c.run_kept-steps.new.timeline in
     let start = c.in-Ok.ensures.ok in
     let h = run_history job.options (initial start.code job.context.now) in
     let held = stands job c.in-Ok.timeline end n start ran.steps ran.state ran.kept in
