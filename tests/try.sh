@@ -20,6 +20,12 @@ tried() {
     return "$status"
 }
 
+# (`rt try` doesn't read a terminal)
+if [ -t 0 ] && [ "${1:-}" = debug ]; then
+    echo 'Type the commands, and then Ctrl-D: the replies come together, when bpfdb is compiled.' >&2
+    cat > "$work/script" || exit 1
+    exec < "$work/script"
+fi
 echo 'Compiling bpfdb without its proofs: a minute or two. `make run` proves it.' >&2
 # named WORD NUMBER: the name under which the program finds a file: its own, unless that stands for another file already or has a blank.
 named() {

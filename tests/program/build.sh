@@ -89,3 +89,19 @@ for file in nothing "$top/docs"; do
     head -n 1 found/all > found/err
     check "make try FILE=$file" 2 '' "cannot read $file\n"
 done
+
+# At a terminal make try takes the commands that are typed, up to Ctrl-D. (An `rt` in the toolchain's place shows what it is given.)
+compile terminal
+mkdir try
+cat > try/rt <<'RT'
+#!/bin/sh
+cat
+echo run=ended >&2
+RT
+chmod 755 try/rt
+printf 'stepi\ninfo regs\n' > script
+: > some.bin
+PATH=$PWD/try:$PATH ./terminal script "$(command -v sh)" "$top/tests/try.sh" debug some.bin > found/out 2> found/err
+echo $? > found/status
+check 'make try at a terminal' 0 'stepi\ninfo regs\n' \
+    'Type the commands, and then Ctrl-D: the replies come together, when bpfdb is compiled.\nCompiling bpfdb without its proofs: a minute or two. `make run` proves it.\n'
