@@ -88,6 +88,8 @@ for subcommand in run trace debug disasm check; do
 done
 result '' asm /dev/null
 refused 'cannot read /dev/zero' asm /dev/zero
+refused 'refused T5 at line 1: test without a program' test /dev/null
+refused 'cannot read /dev/zero' test /dev/zero
 result '0x2a\n' run -m /dev/null program
 refused 'refused O1: context too long' run -m /dev/zero program
 refused 'refused O1: context too long' debug -m /dev/zero program
