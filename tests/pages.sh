@@ -254,7 +254,10 @@ refusals() {
             if (parts[2] ~ /^"/) print letter[name[1]] number[parts[1]], substr(parts[2], 2, length(parts[2]) - 2)
             else number[parts[1]] = parts[2]
         }
-    ' | sort -u > "$work/numbers"
+    ' > "$work/unsorted"
+    # (a name that no test has is a job's, not a test file's)
+    sed -n 's/.*b"refused \(T[0-9]*\): \([^"]*\)".*/\1 \2/p' crates/bpfdb_jobs/src/line.rt >> "$work/unsorted"
+    sort -u "$work/unsorted" > "$work/numbers"
     sed -n 's/^| \([CAMEOJQTV][0-9]*\) | \([^|]*\) |.*/\1 \2/p' docs/COMMANDS.md | sort > "$work/rows"
     diff "$work/numbers" "$work/rows" > "$work/diff" && [ -s "$work/numbers" ] && return
     fault "docs/COMMANDS.md has other refusals ('>') than the crates ('<'):"

@@ -15,6 +15,7 @@ _bpfdb() {
     --entry) :; return ;;
     --stub) :; return ;;
     --lines) :; return ;;
+    --only) :; return ;;
     esac
     if [ "$COMP_CWORD" -eq "$first" ]; then
         mapfile -t COMPREPLY < <(compgen -W "run trace debug origin asm disasm lines check link gdb test help --help --version" -- "$word")
@@ -31,7 +32,7 @@ _bpfdb() {
     check) words="--maps --listing -h --help" ;;
     link) words="--section --entry --stub -h --help" ;;
     gdb) words="-m --mem --maps --journal --steps --listing --registers -h --help" ;;
-    test) words="-h --help" ;;
+    test) words="--only -h --help" ;;
     shell) words="-m --mem --maps --journal --steps --listing --section --entry --stub -h --help" ;;
     help) words="run trace debug origin asm disasm lines check link gdb test" ;;
     *) return ;;

@@ -33,6 +33,7 @@ complete -c bpfdb -n "__fish_seen_subcommand_from link" -l stub -x -d "Helpers w
 complete -c bpfdb-shell -l stub -x -d "Helpers whose calls are answered by a constant"
 complete -c bpfdb -n "__fish_seen_subcommand_from origin" -l lines -x -d "The most lines of moves in an answer"
 complete -c bpfdb -n "__fish_seen_subcommand_from origin" -l addresses -d "The registers that make addresses are followed"
+complete -c bpfdb -n "__fish_seen_subcommand_from test" -l only -x -d "The tests of this name are run alone"
 complete -c bpfdb -s h -l help -d "Writes help to standard output"
 complete -c bpfdb-shell -s h -l help -d "Writes help to standard output"
 complete -c bpfdb -n __fish_use_subcommand -s V -l version -d "Writes the version"

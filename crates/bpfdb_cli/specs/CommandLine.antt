@@ -91,6 +91,10 @@ lines_rule = record (new_rule (codes "lines")) {
 abbrev pub addresses_rule : Rule
 addresses_rule = record (new_rule (codes "addresses")) { long = Some (codes "addresses"); action = Some SetTrue }
 
+-- `--only NAME`: the tests of this name.
+abbrev pub only_rule : Rule
+only_rule = record (new_rule (codes "only")) { long = Some (codes "only"); value_names = 1 }
+
 -- WHAT, behind FILE: what is asked about.
 abbrev pub what_rule : Rule
 what_rule = record (new_rule (codes "what")) { index = Some 2; value_names = 1 }
@@ -128,7 +132,7 @@ abbrev pub link_app : App
 link_app = with_rule (with_rule (with_rule (with_rule (new_app (codes "link")) section_rule) entry_rule) stub_rule) file_rule
 
 abbrev pub test_app : App
-test_app = with_rule (new_app (codes "test")) file_rule
+test_app = with_rule (with_rule (new_app (codes "test")) only_rule) file_rule
 
 -- `gdb` opens a session as `debug` does, over a larger journal.
 abbrev pub gdb_app : App

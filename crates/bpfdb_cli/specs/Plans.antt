@@ -51,6 +51,7 @@ pub record Says (name : Text) (rows : List Row) (plan : Plan) : Type 0 where
   pub what : option_map (λ s. s.now) plan.options.what ≡ first_of (codes "what") rows
   pub lines : plan.options.lines ≡ number_or default_lines (first_of (codes "lines") rows)
   pub addresses : plan.options.addresses ≡ is_given (first_of (codes "addresses") rows)
+  pub only : option_map (λ s. s.now) plan.options.only ≡ first_of (codes "only") rows
 
 -- A number that is given is one below 2^64.
 abbrev pub IsNumber : Option Text → Type 0

@@ -105,6 +105,7 @@ fn argument_of<'a>(alloc: Global, option: CliOption) -> Arg<'a>
             .long("addresses")
             .action(ArgAction::SetTrue)
             .help(help::ADDRESSES),
+        CliOption::Only => text_option(alloc, "only", "NAME", help::ONLY, help::ONLY_LONG),
         CliOption::What => Arg::new(alloc, "what")
             .index(2)
             .value_name("WHAT")

@@ -193,8 +193,9 @@ pub const TEST_LONG: &str = "Runs the tests of a file.
 Reads the test file FILE: programs, each with what it is expected to come to
 (docs/TESTS.md describes it). Writes a report in the Test Anything Protocol to standard
 output: `ok 1 - NAME` for a test that passes, and what came and what was wanted for one
-that doesn't. If a test fails, the exit status is 1. If something is wrong with FILE, no
-test runs; a line on standard error says what and where, and the exit status is 2.";
+that doesn't. If a test fails, the exit status is 1. If something is wrong with FILE, or if
+it has no test of the name that is asked for, no test runs; a line on standard error says
+what and where, and the exit status is 2.";
 
 pub const TEST_EXAMPLE: &str = "Example:
   $ cat two.test
@@ -314,6 +315,13 @@ pub const LINES_MOST_LONG: &str =
 
 /// `--addresses`.
 pub const ADDRESSES: &str = "Follows the registers that make addresses, too";
+
+/// `--only NAME`.
+pub const ONLY: &str = "Runs the tests of this name alone";
+
+pub const ONLY_LONG: &str =
+    "Runs the tests of this name alone, all that have it; they are numbered from 1. If there is
+none, no test runs, and the exit status is 2. Example: --only 'a short header is dropped'";
 
 /// WHAT.
 pub const WHAT: &str = "r0 to r9, or ADDRESS:COUNT; without it r0, or the address of a bad access";

@@ -135,6 +135,7 @@ fn plan_in<'a>(name: &'a str, found: &ArgMatches<'a>) -> Option<Plan<'a>>
             what: text_of(found, "what"),
             lines,
             addresses: is_given(text_of(found, "addresses")),
+            only: text_of(found, "only"),
         },
     })
 }

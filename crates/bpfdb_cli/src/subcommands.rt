@@ -34,6 +34,8 @@ pub(crate) enum CliOption {
     Lines,
     /// `--addresses`.
     Addresses,
+    /// `--only NAME`.
+    Only,
     /// WHAT, behind FILE.
     What,
 }
@@ -171,7 +173,7 @@ pub(crate) const SUBCOMMANDS: [CliSubcommand<'static>; 11] = [
         about: help::TEST,
         long_about: help::TEST_LONG,
         example: help::TEST_EXAMPLE,
-        options: &[],
+        options: &[CliOption::Only],
         file: help::TEST_FILE,
     },
 ];

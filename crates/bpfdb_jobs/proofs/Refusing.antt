@@ -2,7 +2,7 @@
 use Rattle.bpfdb_jobs.specs.Refusals.{Refuses, RefusesMachine, RefusesOrigin, RefusesProgram}
 use Rattle.bpfdb_jobs.specs.declared.job.Job.{Job}
 use Rattle.bpfdb_jobs.specs.declared.refusal.JobRefusal.{JobRefusal}
-use Rattle.bpfdb_jobs.specs.declared.refusal.JobRefusal.TheVariants.{Maps, Listing, Load, Open, Journal, What, Object, Tests}
+use Rattle.bpfdb_jobs.specs.declared.refusal.JobRefusal.TheVariants.{Maps, Listing, Load, Open, Journal, What, Object, Tests, NoTest}
 
 -- a refusal of a program is one of a machine on it, and that one of a session over it
 pub program-machine : (job : Job) (refusal : JobRefusal) → RefusesProgram job refusal → RefusesMachine job refusal
@@ -14,6 +14,7 @@ program-machine job (Journal fault) p = absurd p
 program-machine job (What fault) p = absurd p
 program-machine job (Object fault name) p = absurd p
 program-machine job (Tests fault line) p = absurd p
+program-machine job (NoTest name) p = absurd p
 
 pub machine-session : (job : Job) (refusal : JobRefusal) → RefusesMachine job refusal → Refuses job refusal
 machine-session job (Maps fault) p = p
@@ -24,6 +25,7 @@ machine-session job (Journal fault) p = absurd p
 machine-session job (What fault) p = absurd p
 machine-session job (Object fault name) p = absurd p
 machine-session job (Tests fault line) p = absurd p
+machine-session job (NoTest name) p = absurd p
 
 -- a refusal of a session is one of `origin`
 pub session-origin : (job : Job) (refusal : JobRefusal) → Refuses job refusal → RefusesOrigin job refusal
@@ -35,3 +37,4 @@ session-origin job (Journal fault) p = p
 session-origin job (What fault) p = absurd p
 session-origin job (Object fault name) p = p
 session-origin job (Tests fault line) p = p
+session-origin job (NoTest name) p = p

@@ -16,7 +16,7 @@ use Rattle.bpf_trace.specs.Traces.{limit_line}
 use Rattle.bpfdb_jobs.specs.declared.fault.JobFault.{JobFault}
 use Rattle.bpfdb_jobs.specs.declared.fault.JobFault.TheVariants.{Unreadable, NotText, Refused, Input, Output, Memory, StepLimit}
 use Rattle.bpfdb_jobs.specs.declared.refusal.JobRefusal.{JobRefusal}
-use Rattle.bpfdb_jobs.specs.declared.refusal.JobRefusal.TheVariants.{Maps, Listing, Load, Open, Journal, What, Object, Tests}
+use Rattle.bpfdb_jobs.specs.declared.refusal.JobRefusal.TheVariants.{Maps, Listing, Load, Open, Journal, What, Object, Tests, NoTest}
 
 -- A name as it is shown: each control byte as `\x` and two hexadecimal digits.
 abbrev pub shown_byte : ℕ → List ℕ
@@ -80,6 +80,10 @@ abbrev pub object_line : LinkFault → List ℕ → List ℕ
 object_line fault name =
     refusal_text (codes "refused E") (link_fault_number fault) (placed (codes " at slot ") (slot_of_words fault)) (link_fault_text fault ++ more_of fault ++ name_text name)
 
+-- A name that no test has.
+abbrev pub no_test_line : List ℕ → List ℕ
+no_test_line name = codes "refused T7: no test of this name" ++ name_text name ++ codes "\n"
+
 abbrev pub refusal_line : JobRefusal → List ℕ
 refusal_line (Maps fault) = refusal_text (codes "refused M") (map_fault fault).0 [] (map_fault fault).1
 refusal_line (Listing fault) = refusal_text (codes "refused A") (fault_number fault) (placed (codes " at line ") (fault_line fault)) (fault_text fault)
@@ -90,6 +94,7 @@ refusal_line (What fault) = refusal_text (codes "refused V") (asked.number_of fa
 refusal_line (Object fault name) = object_line fault name.now
 refusal_line (Tests fault line) =
     refusal_text (codes "refused T") (suite.fault_number fault) (placed (codes " at line ") (Some line)) (suite.fault_text fault)
+refusal_line (NoTest name) = no_test_line name.now
 
 -- A file that can't be read.
 abbrev pub unreadable_line : List ℕ → List ℕ

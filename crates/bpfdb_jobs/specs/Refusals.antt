@@ -1,6 +1,6 @@
 -- Why a job is refused, in this order: its maps, its listing, its program, its context, its journal; what it asks about; its stubs, its
 -- object; or its tests.
-use Rattle.std.specs.Prelude.{◌≡◌, ◌⊎◌, List, ℕ, Some, Ok, Err, true}
+use Rattle.std.specs.Prelude.{◌≡◌, ◌⊎◌, List, [], ℕ, Option, Some, None, Ok, Err, true}
 use Rattle.std.specs.Borrow.{Bor}
 use Rattle.bpf_isa.specs.Checker.{IsRefused}
 use Rattle.bpf_isa.specs.Maps.{IsListFault}
@@ -11,6 +11,9 @@ use Rattle.bpf_link.specs.MapTypes.{fault_name}
 use Rattle.bpf_link.specs.Refusals.{IsLinkFault}
 use Rattle.bpf_link.specs.declared.stubs.Stub.{Stub}
 use Rattle.bpf_suite.specs.Faults as suite
+use Rattle.bpf_suite.specs.Files.{sections, tests}
+use Rattle.bpf_suite.specs.Tests.{chosen}
+use Rattle.bpf_suite.specs.declared.section.Section.{Section}
 use Rattle.bpf_suite.specs.declared.fault.FileFault.TheVariants.{Line}
 use Rattle.bpf_machine.specs.Opening.{Refused}
 use Rattle.bpf_journal.specs.Opening.{RefusesSize}
@@ -18,7 +21,7 @@ use Rattle.bpfdb_jobs.specs.Jobs.{HasMaps, HasWords, IsProgramOf, Opens, OpensSe
 use Rattle.bpfdb_jobs.specs.Origins.{RefusesWhat}
 use Rattle.bpfdb_jobs.specs.declared.job.Job.{Job}
 use Rattle.bpfdb_jobs.specs.declared.refusal.JobRefusal.{JobRefusal}
-use Rattle.bpfdb_jobs.specs.declared.refusal.JobRefusal.TheVariants.{Maps, Listing, Load, Open, Journal, What, Object, Tests}
+use Rattle.bpfdb_jobs.specs.declared.refusal.JobRefusal.TheVariants.{Maps, Listing, Load, Open, Journal, What, Object, Tests, NoTest}
 use Rattle.bpfdb_options.specs.declared.subcommand.Subcommand.{Subcommand}
 use Rattle.bpfdb_options.specs.declared.subcommand.Subcommand.TheVariants.{Run, Trace, Debug, Origin, Gdb, Asm, Disasm, Lines, Check, Link, Test}
 
@@ -34,6 +37,7 @@ Refuses job (Journal fault) = (code : Checked) × Opens job code × RefusesSize 
 Refuses job (What fault) = ⊥
 Refuses job (Object fault name) = ⊥
 Refuses job (Tests fault line) = ⊥
+Refuses job (NoTest name) = ⊥
 
 -- Those that a subcommand looks at: `asm` and `lines` their listing alone and `link` its object, a program has no context, a run no journal.
 abbrev pub RefusesProgram : Job → JobRefusal → Type 0
@@ -59,8 +63,15 @@ RefusesObject job (Object fault name) = (name.now ≡ fault_name job.file.now fa
     ⊎ ((stubs : List Stub) × (stubs_of job ≡ Ok stubs) × IsLinkFault job.file.now (section_of job) (entry_of job) stubs fault))
 RefusesObject job refusal = ⊥
 
+-- No test has the name that is asked for.
+abbrev pub LacksName : Option (Bor (List ℕ)) → List (List Section) → JobRefusal → Type 0
+LacksName only all (NoTest name) = (only ≡ Some name) × (chosen name.now all ≡ [])
+LacksName only all refusal = ⊥
+
 abbrev pub RefusesTests : Job → JobRefusal → Type 0
 RefusesTests job (Tests fault line) = suite.IsFaultOf job.file.now (Line fault line)
+RefusesTests job (NoTest name) =
+    (suite.file_fault job.file.now ≡ None) × LacksName job.options.only (tests (sections job.file.now)) (NoTest name)
 RefusesTests job refusal = ⊥
 
 abbrev pub RefusesAs : Subcommand → Job → JobRefusal → Type 0

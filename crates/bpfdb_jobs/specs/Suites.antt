@@ -1,5 +1,5 @@
 -- What `test` comes to.
-use Rattle.std.specs.Prelude.{ℕ, ◌≡◌, Bool, true, false, List, ◌++◌, Option, Some, None, length}
+use Rattle.std.specs.Prelude.{ℕ, ◌≡◌, ◌<◌, Bool, true, false, List, ◌++◌, Option, Some, None, length}
 use Rattle.bpf_suite.specs.Faults.{file_fault}
 use Rattle.bpf_suite.specs.Files.{sections, tests}
 use Rattle.bpf_suite.specs.Outcomes.{Outcome}
@@ -8,7 +8,9 @@ use Rattle.bpf_suite.specs.declared.fault.FileFault.{FileFault}
 use Rattle.bpf_suite.specs.declared.fault.FileFault.TheVariants as file
 use Rattle.bpf_suite.specs.declared.report.SuiteFault.{SuiteFault}
 use Rattle.bpf_suite.specs.declared.report.SuiteFault.TheVariants as suite
+use Rattle.bpf_suite.specs.Tests.{chosen}
 use Rattle.bpf_suite.specs.declared.section.Section.{Section}
+use Rattle.std.specs.Borrow.{Bor}
 use Rattle.counted_io.specs.Counted.{Tally}
 use Rattle.bpfdb_jobs.specs.Endings.{Gets, Told}
 use Rattle.bpfdb_jobs.specs.Faults.{line_of}
@@ -27,6 +29,16 @@ abbrev pub status_of : Bool → ℕ
 status_of true = 0
 status_of false = 1
 
+-- The tests that are asked for: all, or those of a name, one at least.
+abbrev pub AreAsked : Option (Bor (List ℕ)) → List (List Section) → List (List Section) → Type 0
+AreAsked None all asked = asked ≡ all
+AreAsked (Some name) all asked = (asked ≡ chosen name.now all) × (0 < length asked)
+
+-- The tests that are run, of a file without a fault.
+pub record AreTestsOf (job : Job) (asked : List (List Section)) : Type 0 where
+  pub sound : file_fault job.file.now ≡ None
+  pub asked_for : AreAsked job.options.only (tests (sections job.file.now)) asked
+
 -- Why the tests of a file aren't run.
 abbrev pub fault_of_file : FileFault → JobFault
 fault_of_file (file.Line why line) = fault.Refused (Tests why line)
@@ -37,19 +49,18 @@ abbrev pub fault_of_suite : SuiteFault → JobFault
 fault_of_suite suite.Memory = fault.Memory
 fault_of_suite suite.Write = fault.Output
 
--- How a job of `test` ends: its tests were run, and reported on; or its file was refused, or memory ran out before, and nothing was written; or
--- memory ran out at a test, or standard output failed, and what stands are the plan and the reports on the tests before, or a beginning of them.
+-- How a job of `test` ends: its tests were run, and reported on; or its file was refused, or the name that is asked for, or memory ran out before,
+-- and nothing was written; or memory ran out at a test, or standard output failed, and what stands are the plan and the reports on the tests before, or a beginning of them.
 pub data EndsTests {W E : Type 0} (contents : W → Option (List ℕ)) (lines : E → Option (List ℕ)) (job : Job) (writer writer' : Tally W)
     (errors errors' : Tally E) (status : ℕ) : Type 0 where
-  Reported : (outcomes : List Outcome) → file_fault job.file.now ≡ None → AreOutcomes (tests (sections job.file.now)) outcomes
-      → Gets contents writer writer' (Some (report (tests (sections job.file.now)) outcomes)) → errors' ≡ errors
-      → status ≡ status_of (all_pass (tests (sections job.file.now)) outcomes)
+  Reported : (asked : List (List Section)) (outcomes : List Outcome) → AreTestsOf job asked → AreOutcomes asked outcomes
+      → Gets contents writer writer' (Some (report asked outcomes)) → errors' ≡ errors → status ≡ status_of (all_pass asked outcomes)
       → EndsTests contents lines job writer writer' errors errors' status
   Refused : (refusal : JobRefusal) → RefusesTests job refusal → writer' ≡ writer → Told lines errors errors' (line_of (fault.Refused refusal))
       → status ≡ 2 → EndsTests contents lines job writer writer' errors errors' status
   Exhausted : writer' ≡ writer → Told lines errors errors' (line_of fault.Memory) → status ≡ 2
       → EndsTests contents lines job writer writer' errors errors' status
-  BrokenOff : (why : SuiteFault) → file_fault job.file.now ≡ None
-      → BreaksOff contents why writer writer' (plan (length (tests (sections job.file.now)))) 1 (tests (sections job.file.now))
+  BrokenOff : (why : SuiteFault) (asked : List (List Section)) → AreTestsOf job asked
+      → BreaksOff contents why writer writer' (plan (length asked)) 1 asked
       → Told lines errors errors' (line_of (fault_of_suite why)) → status ≡ 2
       → EndsTests contents lines job writer writer' errors errors' status

@@ -1,7 +1,7 @@
 //! The line of a fault.
 ghost use Rattle.std.specs.Prelude.{◌≡◌, ◌++◌, [], codes, decimal};
 ghost use Rattle.counted_io.specs.Writing.{Writes, WritesAfter};
-ghost use Rattle.bpfdb_jobs.specs.Faults.{helper_text, line_of, more_of, name_text, object_line, placed, refusal_line, refusal_text, shown, slot_of, slot_of_words, unreadable_line};
+ghost use Rattle.bpfdb_jobs.specs.Faults.{helper_text, line_of, more_of, name_text, no_test_line, object_line, placed, refusal_line, refusal_text, shown, slot_of, slot_of_words, unreadable_line};
 
 use crate::fault::JobFault;
 use crate::name::put_name;
@@ -80,6 +80,7 @@ fn put_refusal<E: Write>(
         }
         JobRefusal::Object(fault, name) => put_object(errors, so_far, fault, name),
         JobRefusal::Tests(fault, line) => put_tests(errors, so_far, fault, *line),
+        JobRefusal::NoTest(name) => put_no_test(errors, so_far, name),
     }
 }
 
@@ -222,6 +223,20 @@ fn put_tests<E: Write>(
         Some(line),
         fault.text(),
     )
+}
+
+/// Writes the line of a name that no test has.
+fn put_no_test<E: Write>(
+    errors: &mut Counted<E>,
+    so_far: Result<(), WriteFault>,
+    name: &str,
+) -> Result<(), WriteFault>
+    ensures { WritesAfter E.contents errors.old so_far errors.new result
+        (no_test_line name.now) }
+{
+    let begun = put(errors, so_far, b"refused T7: no test of this name");
+    let named = put_named(errors, begun, name.as_bytes());
+    put(errors, named, b"\n")
 }
 
 /// The slot of a program's fault, where it has one.

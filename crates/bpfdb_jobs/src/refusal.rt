@@ -27,4 +27,6 @@ pub enum JobRefusal<'a> {
     Object(LinkFault, &'a [u8]),
     /// A test file has this fault, in this line.
     Tests(SectionFault, usize),
+    /// No test of the file has the name that is asked for.
+    NoTest(&'a str),
 }

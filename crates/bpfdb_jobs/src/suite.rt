@@ -4,19 +4,20 @@ ghost use Rattle.bpf_suite.specs.Outcomes.{Outcome};
 ghost use Rattle.bpf_suite.specs.Reports.{AreOutcomes, BreaksOff, all_pass, plan};
 ghost use Rattle.bpfdb_jobs.specs.Endings.{Told};
 ghost use Rattle.bpfdb_jobs.specs.Faults.{line_of};
-ghost use Rattle.bpfdb_jobs.specs.Suites.{EndsTests, fault_of_file, fault_of_suite, report, status_of};
+ghost use Rattle.bpfdb_jobs.specs.Refusals.{LacksName};
+ghost use Rattle.bpfdb_jobs.specs.Suites.{AreAsked, EndsTests, fault_of_file, fault_of_suite, report, status_of};
 ghost use Rattle.counted_io.specs.Writing.{Writes};
 
 use crate::fault::JobFault;
 use crate::job::Job;
 use crate::refusal::JobRefusal;
 use crate::report::give_up;
-use bpf_suite::{FileFault, Suite, SuiteFault, Test, run_tests, write_plan};
+use bpf_suite::{FileFault, Suite, SuiteFault, Test, choose, run_tests, write_plan};
 use counted_io::{Counted, WriteFault};
 use std::alloc::Global;
 use std::io::Write;
 
-/// Runs the tests of a file, and reports on each.
+/// Runs the tests of a file, or those of a name, and reports on each.
 pub fn test_job<W: Write, E: Write>(
     alloc: Global,
     job: &Job<'_>,
@@ -35,9 +36,32 @@ pub fn test_job<W: Write, E: Write>(
         Ok(tests) => tests,
         Err(_) => return give_up(errors, &JobFault::Memory),
     };
-    match run_suite(alloc, tests.as_slice(), writer) {
+    let asked = match asked_tests(job.options.only, tests) {
+        Ok(asked) => asked,
+        Err(refusal) => return give_up(errors, &JobFault::Refused(refusal)),
+    };
+    match run_suite(alloc, asked.as_slice(), writer) {
         Ok(passed) => status_of(passed),
         Err(why) => give_up(errors, &fault_of_suite(why)),
+    }
+}
+
+/// The tests that are asked for, of all of a file.
+fn asked_tests<'b, 'a, 'n>(
+    only: Option<&'n str>,
+    mut all: Vec<Test<'b, 'a>>,
+) -> Result<Vec<Test<'b, 'a>>, JobRefusal<'n>>
+    ensures asked { IfOk result (λ asked. AreAsked only.entry all.entry.items asked.items) }
+    ensures none { IfErr result (LacksName only.entry all.entry.items) }
+{
+    let Some(name) = only else {
+        return Ok(all);
+    };
+    choose(&mut all, name.as_bytes());
+    if all.is_empty() {
+        Err(JobRefusal::NoTest(name))
+    } else {
+        Ok(all)
     }
 }
 

@@ -38,6 +38,8 @@ pub struct Options<'a> {
     pub lines: u64,
     /// An answer follows the registers that make addresses, too.
     pub addresses: bool,
+    /// The name of the tests that are run; without it all are.
+    pub only: Option<&'a str>,
 }
 
 /// The options where each is absent.
@@ -56,4 +58,5 @@ pub const NO_OPTIONS: Options<'static> = Options {
     what: None,
     lines: DEFAULT_LINES,
     addresses: false,
+    only: None,
 };
