@@ -14,6 +14,7 @@ _bpfdb() {
     --section) :; return ;;
     --entry) :; return ;;
     --stub) :; return ;;
+    --script) mapfile -t COMPREPLY < <(compgen -f -- "$word"); return ;;
     --lines) :; return ;;
     --only) :; return ;;
     esac
@@ -25,7 +26,7 @@ _bpfdb() {
     run) words="-m --mem --maps --steps --listing -h --help" ;;
     trace) words="-m --mem --maps --steps --from --count --profile --listing -h --help" ;;
     debug) words="-m --mem --maps --journal --steps --listing -h --help" ;;
-    origin) words="-m --mem --maps --journal --steps --listing --lines --addresses -h --help" ;;
+    origin) words="-m --mem --maps --journal --steps --listing --script --lines --addresses -h --help" ;;
     asm) words="-h --help" ;;
     disasm) words="--maps --listing -h --help" ;;
     lines) words="-h --help" ;;

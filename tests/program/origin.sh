@@ -182,3 +182,119 @@ tells 0 'exited at 4: r0 0x3\n-2 r0 = 0x3; 3: mov r0, 3\n' origin --listing jump
 listing fetch.s 'stdw [r10-8], 1;mov r1, 2;stb [r10-7], 3;atomic_fetch_add64 [r10-8], r1;ldxb r0, [r10-6];exit'
 tells 0 'exited at 5: r0 0x0\n-2 r0 = 0x0; 4: ldxb r0, [r10-6]; from 0x2000001fa:1\n-3 r1 = 0x301; 0x2000001f8:8 = 0x303; 3: atomic_fetch_add64 [r10-8], r1; from r1 0x2000001f8:8\n-4 0x2000001f9:1 = 0x3; 2: stb [r10-7], 3\n-5 r1 = 0x2; 1: mov r1, 2\n-6 0x2000001f8:8 = 0x1; 0: stdw [r10-8], 1\n' \
     origin --listing fetch.s
+
+# script NAME TEXT: writes a script; the text is as printf's %b reads it.
+script() {
+    printf '%b' "$2" > "$1"
+}
+
+# A script in place of a run: where it leads is asked about. Its replies are not shown, what it shows and sets has no line, and standard input stays
+# unread.
+two='at 1: jlt r0, 3, L0\n-1 r0 = 0x2; 0: add r0, 1; from r0\n-3 r0 = 0x1; 0: add r0, 1; from r0\nleft r0 = 0x0; at the opening\n'
+first='at 1: jlt r0, 3, L0\n-1 r0 = 0x1; 0: add r0, 1; from r0\nleft r0 = 0x0; at the opening\n'
+for text in 'stepi 3\n' 'stepi 3' '\t stepi 3 \r\n\n \n' 'stepi\nstepi\nstepi\n' 'continue\nreverse-stepi 4\n' 'stepi 3\nquit\nnonsense\n' 'stepi 3\n quit \nset reg r0 9\n'; do
+    script path "$text"
+    tells 0 "$two" origin --script path count.bin
+    tells 0 "$two" origin --listing count.s r0 --script=path
+done
+for text in '' '\n' 'quit\nstepi\n' 'continue\nreverse-continue\n' 'stepi 4\nundo\n' 'info regs\ninfo history\nwatch 0x200000000\n'; do
+    script path "$text"
+    tells 0 'at 0: add r0, 1\nleft r0 = 0x0; at the opening\n' origin --script path count.bin
+    tells 0 'at 0: add r0, 1\nleft r9 = 0x0; at the opening\n' origin --script path count.bin r9
+done
+script path 'break 1\ninfo regs\nx 0x2000001f8 8\ncontinue\nlast-write 0x2000001f8\n'
+tells 0 "$first" origin --script path count.bin
+script path 'continue\n'
+tells 0 "exited at 2: r0 0x3\n$three" origin --script path count.bin
+tells 1 'exited at 2: r0 0x3\n-3 r0 = 0x3; 0: add r0, 1; from r0\ncut: there are more lines\n' origin --script path --lines 1 count.bin
+tells 0 'fault access 0x5 at 1\n-2 r3 = 0x5; 0: mov r3, 5\n' origin --script path --listing far.s
+tells 0 'exited at 3: r0 0x0\n-2 r0 = 0x0; 2: ldxdw r0, [r2-8]; from 0x2000001f8:8 r2\n-3 r2 = 0x200000200; 1: mov r2, r10\n-4 0x2000001f8:8 = 0x0; 0: stxdw [r10-8], r1; from r1\nleft r1 = 0x0; at the opening\n' \
+    origin --addresses --script path --listing pointer.s
+tells 0 'exited at 1: r0 0x2a\n-2 r0 = 0x2a; 0: ldxb r0, [r1+0]; from 0x100000000:1\nleft 0x100000000 = 0x2a; byte 0 of the context; at the opening\n' \
+    origin -m context --script path --listing load.s
+script path 'stepi 3\n'
+tells 0 'at 9: stdw [r10-8], 3\n-1 r6 at depth 1 = 0x7; 8: mov r6, 7\n' origin --listing --script path calls.s r6
+# (the limit is that of each command)
+script path 'continue\ncontinue\n'
+tells 0 'at 2: exit\n-2 r0 = 0x3; 0: add r0, 1; from r0\n-4 r0 = 0x2; 0: add r0, 1; from r0\n-6 r0 = 0x1; 0: add r0, 1; from r0\nleft r0 = 0x0; at the opening\n' \
+    origin --steps 3 --script path count.bin
+
+# Edits write and read nothing; one of the pc has no line.
+script path 'stepi 2\nset reg r0 5\ncontinue\n'
+five='exited at 2: r0 0x6\n-3 r0 = 0x6; 0: add r0, 1; from r0\n-4 r0 = 0x5; edit\n'
+tells 0 "$five" origin --script path count.bin
+tells 0 'exited at 2: r0 0x6\nleft r1 = 0x0; at the opening\n' origin --script path count.bin r1
+script path 'stepi 2\nset mem 0x2000001f8 aabb\nstepi\n'
+tells 0 'at 3: exit\n-2 0x2000001f8:2 = 0xbbaa; edit\n-4 0x2000001f8:4 = 0x1234; 0: stw [r10-8], 4660\n' origin --script path --listing store.s 0x2000001f8:4
+tells 0 'at 3: exit\n-2 0x2000001f8:2 = 0xbbaa; edit\n' origin --script path --listing store.s 0x2000001f9
+script path 'set cell 0 1 0000000000000042\ncontinue\n'
+tells 0 'exited at 3: r0 0x42\n-2 r0 = 0x42; 2: ldxb r0, [r1+7]; from 0x30000000f:1\n-4 0x300000008:8 = 0x4200000000000000; edit\n' \
+    origin --maps 8x2 --script path --listing cell.s
+script path 'stepi\nset pc 2\nstepi\n'
+tells 0 'exited at 2: r0 0x1\n-3 r0 = 0x1; 0: add r0, 1; from r0\nleft r0 = 0x0; at the opening\n' origin --script path count.bin
+script path 'stepi\nset reg r3 9\ncontinue\n'
+tells 0 'fault access 0x9 at 1\n-2 r3 = 0x9; edit\n' origin --script path --listing far.s
+script path 'stepi 2\nset reg r6 1\ncontinue\n'
+tells 0 'exited at 3: r0 0x5\n-12 r6 = 0x5; 0: mov r6, 5\n' origin --script path --listing calls.s r6
+
+# What was taken back is not asked, unless it was made again.
+script path 'stepi 2\nset reg r0 5\nundo\ncontinue\n'
+tells 0 "exited at 2: r0 0x3\n$three" origin --script path count.bin
+script path 'stepi 2\nset reg r0 5\nundo 2\nredo\ncontinue\n'
+tells 0 "exited at 2: r0 0x3\n$three" origin --script path count.bin
+script path 'stepi 2\nset reg r0 5\nundo 2\nredo 3\ncontinue\n'
+tells 0 "$five" origin --script path count.bin
+script path 'stepi 2\nset reg r0 5\ncontinue\nreverse-continue\nredo 9\n'
+tells 0 "$five" origin --script path count.bin
+script path 'stepi 2\nset reg r0 5\ncontinue\nreverse-stepi 9\nstepi\n'
+tells 0 "$first" origin --script path count.bin
+
+# What the journal has dropped of a script's moves: of 45 rounds the first addition, of 44 none; what is taken back brings none again.
+for rounds in 44 45; do
+    listing rounds.s "loop: add r0, 1;jlt r0, $rounds, loop;exit"
+    since='at the opening'
+    [ $rounds = 44 ] || since='before the kept history'
+    script path 'continue\n'
+    tells 0 "$(printf 'exited at 2: r0 0x%x' "$rounds")\nleft r1 = 0x0; $since\n" origin --journal 1024 --script path --listing rounds.s r1
+    script path 'continue\nreverse-stepi 3\n'
+    tells 0 "at 0: add r0, 1\nleft r1 = 0x0; $since\n" origin --journal 1024 --script path --listing rounds.s r1
+    script path 'continue\nreverse-stepi 3\nredo 3\n'
+    tells 0 "$(printf 'exited at 2: r0 0x%x' "$rounds")\nleft r1 = 0x0; $since\n" origin --journal 1024 --script path --listing rounds.s r1
+done
+script path 'continue\nreverse-continue\n'
+tells 0 'at 1: jlt r0, 45, L0\nleft r0 = 0x1; before the kept history\n' origin --journal 1024 --script path --listing rounds.s
+
+# A line that is refused, which is looked at before what is asked about, and after all else; and a script that can't be read.
+long=$(awk 'BEGIN { printf "%1025s", "" }')
+while IFS='|' read -r text reply; do
+    script path "$text"
+    refused "$reply" origin --script path --maps 8x2 count.bin r10
+done << END
+nonsense\n|refused Q1: unknown command
+stepi 3\nnonsense\nquit\n|refused Q1: unknown command
+stepi 0\n|refused Q2: wrong argument
+quit now\n|refused Q2: wrong argument
+continue\nstepi\nnonsense\n|refused Q3: the machine has ended
+reverse-stepi\n|refused Q4: no kept step
+stepi\nundo 2\n|refused Q5: fewer kept commands
+x 0 1\n|refused Q6: address not present
+set reg r10 1\n|refused Q7: register not writable
+break 9\n|refused Q8: no instruction starts there
+finish\n|refused Q9: outermost frame
+delete 0\n|refused Q11: not there or already there
+$long\n|refused Q12: line too long
+redo\n|refused Q13: nothing to redo
+set cell 0 2 0000000000000000\n|refused Q14: no such cell or wrong length
+END
+script path "${long# }\nstepi 3\n"
+tells 0 "$two" origin --script path count.bin
+script path 'nonsense\n'
+refused 'refused J1: journal size out of range' origin --journal 1023 --script path count.bin
+script path 'stepi\n'
+refused "$v1" origin --script path count.bin r10
+refused "$v2" origin --script path count.bin 0x100000000
+refused 'cannot read nowhere' origin --script nowhere --maps 0x1 count.bin
+refused 'cannot read ' origin --script '' count.bin
+refused 'cannot read .' origin --script . count.bin
+refused 'cannot read missing' origin --script nowhere -m missing count.bin
+refused 'cannot read absent' origin --script nowhere absent

@@ -22,6 +22,7 @@ pub use answer::{Answer, Halt, TOO_LONG};
 pub use body::Body;
 pub use layout::Layout;
 pub use manners::Manners;
+pub use moves::moves_after;
 pub use packet::put_packet;
 pub use parser::request_of;
 pub use remark::Remark;

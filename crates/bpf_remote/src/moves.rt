@@ -5,7 +5,7 @@ ghost use Rattle.bpf_remote.specs.Moves.{made_by, moves_after};
 use bpf_session::{Command, Refusal, Reply};
 
 /// How many moves lie before the state behind a command, by its answer.
-pub(crate) fn moves_after(said: &Result<Reply, Refusal>, command: &Command, moves: u64) -> u64
+pub fn moves_after(said: &Result<Reply, Refusal>, command: &Command, moves: u64) -> u64
     ensures { result ≡ moves_after said.now command.now moves }
 {
     match said {

@@ -1,11 +1,19 @@
 -- The job of a plan.
-use Rattle.std.specs.Prelude.{ℕ, ◌≡◌, List}
+use Rattle.std.specs.Prelude.{ℕ, ◌≡◌, List, Option, Some, None}
+use Rattle.std.specs.Borrow.{Bor}
 use Rattle.bpfdb_cli.specs.declared.plans.Plan.{Plan}
 use Rattle.bpfdb_jobs.specs.declared.job.Job.{Job}
 
--- It has the plan's subcommand and options, the bytes of FILE and those of PATH.
-pub record IsJobOf (plan : Plan) (of_file of_path : List ℕ) (job : Job) : Type 0 where
+-- The bytes of a file, where one is named.
+abbrev pub IsNamed : Option (Bor (List ℕ)) → List ℕ → Option (Bor (List ℕ)) → Type 0
+IsNamed None bytes given = given ≡ None
+IsNamed (Some path) bytes None = ⊥
+IsNamed (Some path) bytes (Some given) = given.now ≡ bytes
+
+-- It has the plan's subcommand and options, the bytes of FILE, those of PATH, and those of the script, if there is one.
+pub record IsJobOf (plan : Plan) (of_file of_path of_script : List ℕ) (job : Job) : Type 0 where
   pub subcommand : job.subcommand ≡ plan.subcommand
   pub file : job.file.now ≡ of_file
   pub context : job.context.now ≡ of_path
+  pub script : IsNamed plan.script of_script job.script
   pub options : job.options ≡ plan.options

@@ -36,7 +36,7 @@ pub fn context_at<'a>(rt: &HostRuntime, path: &'a str) -> Result<Vec<u8>, JobFau
     }
 }
 
-/// The bytes of a listing or of an object. A file that is longer than any of them can't be read.
+/// The bytes of a listing, of an object or of a script. A file that is longer than any of them can't be read.
 pub fn source_at<'a>(rt: &HostRuntime, path: &'a str) -> Result<Vec<u8>, JobFault<'a>>
     ensures err { IfErr result (Names path.now) }
 {

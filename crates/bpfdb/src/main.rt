@@ -43,6 +43,7 @@ const FIRST_JOB: Job<'static> = Job {
     subcommand: Subcommand::Debug,
     file: FIRST_PROGRAM,
     context: &[],
+    script: None,
     options: NO_OPTIONS,
 };
 
@@ -146,7 +147,7 @@ fn show_help(rt: &HostRuntime, text: &Error, errors: &mut Errors) -> u8
     }
 }
 
-/// Reads the files of a plan, FILE before PATH, and does its job.
+/// Reads the files of a plan, FILE before PATH and that before the script, and does its job.
 fn do_with_files(rt: &HostRuntime, plan: &Plan<'_>, errors: &mut Errors) -> u8
     requires limit { IsLimit plan.now.options.limit }
     ensures { result ≤ 2 }
@@ -159,21 +160,33 @@ fn do_with_files(rt: &HostRuntime, plan: &Plan<'_>, errors: &mut Errors) -> u8
         Ok(context) => context,
         Err(fault) => return give_up(errors, &fault),
     };
-    do_plan(rt, plan, file.as_slice(), context.as_slice(), errors)
+    let script = match script_of(rt, plan) {
+        Ok(script) => script,
+        Err(fault) => return give_up(errors, &fault),
+    };
+    do_plan(
+        rt,
+        plan,
+        file.as_slice(),
+        context.as_slice(),
+        script.as_slice(),
+        errors,
+    )
 }
 
-/// Does the job of a plan, with the bytes of FILE and those of PATH.
+/// Does the job of a plan, with the bytes of FILE, those of PATH and those of the script.
 fn do_plan(
     rt: &HostRuntime,
     plan: &Plan<'_>,
     file: &[u8],
     context: &[u8],
+    script: &[u8],
     errors: &mut Errors,
 ) -> u8
     requires limit { IsLimit plan.now.options.limit }
     ensures { result ≤ 2 }
 {
-    let job = job_of(plan, file, context);
+    let job = job_of(plan, file, context, script);
     do_over_streams(rt, &job, GREETING, errors)
 }
 
@@ -203,6 +216,16 @@ fn context_of<'a>(rt: &HostRuntime, plan: &Plan<'a>) -> Result<Vec<u8>, JobFault
 {
     match plan.memory {
         Some(path) => context_at(rt, path),
+        None => Ok(Vec::new(rt.alloc())),
+    }
+}
+
+/// The bytes of the script; none where there is no script.
+fn script_of<'a>(rt: &HostRuntime, plan: &Plan<'a>) -> Result<Vec<u8>, JobFault<'a>>
+    ensures err { IfErr result (NamesGiven plan.now.script) }
+{
+    match plan.script {
+        Some(path) => source_at(rt, path),
         None => Ok(Vec::new(rt.alloc())),
     }
 }

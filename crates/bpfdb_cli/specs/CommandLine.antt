@@ -78,6 +78,10 @@ stub_rule = record (new_rule (codes "stub")) { long = Some (codes "stub"); value
 abbrev pub registers_rule : Rule
 registers_rule = record (new_rule (codes "registers")) { long = Some (codes "registers"); value_names = 1; defaults = codes "x86" ∷ [] }
 
+-- `--script PATH`: a file, whose lines are obeyed first.
+abbrev pub script_rule : Rule
+script_rule = record (new_rule (codes "script")) { long = Some (codes "script"); value_names = 1 }
+
 -- `--lines N`: a number from 1 to the greatest count.
 abbrev pub lines_rule : Rule
 lines_rule = record (new_rule (codes "lines")) {
@@ -141,8 +145,8 @@ gdb_app = with_rule (with_rule (with_rule (with_rule (with_rule (with_rule (with
 
 -- `origin` runs the program as `debug` does, over that journal, too.
 abbrev pub origin_app : App
-origin_app = with_rule (with_rule (with_rule (with_rule (with_rule (with_rule (with_rule (with_rule (with_rule (new_app (codes "origin"))
-    mem_rule) maps_rule) gdb_journal_rule) steps_rule) listing_rule) lines_rule) addresses_rule) what_rule) file_rule
+origin_app = with_rule (with_rule (with_rule (with_rule (with_rule (with_rule (with_rule (with_rule (with_rule (with_rule (new_app (codes "origin"))
+    mem_rule) maps_rule) gdb_journal_rule) steps_rule) script_rule) listing_rule) lines_rule) addresses_rule) what_rule) file_rule
 
 -- The command without its subcommands: it can't stand without one, and it tells its version.
 abbrev pub bare_app : App

@@ -37,6 +37,7 @@ pub record Says (name : Text) (rows : List Row) (plan : Plan) : Type 0 where
   pub subcommand : subcommand_name plan.subcommand ≡ name
   pub file : first_of (codes "file") rows ≡ Some plan.file.now
   pub memory : option_map (λ s. s.now) plan.memory ≡ first_of (codes "mem") rows
+  pub script : option_map (λ s. s.now) plan.script ≡ first_of (codes "script") rows
   pub maps : option_map (λ s. s.now) plan.options.maps ≡ first_of (codes "maps") rows
   pub journal : plan.options.journal ≡ number_or default_journal (first_of (codes "journal") rows)
   pub limit : plan.options.limit ≡ number_or default_limit (first_of (codes "steps") rows)

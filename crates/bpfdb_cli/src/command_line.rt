@@ -93,6 +93,9 @@ fn argument_of<'a>(alloc: Global, option: CliOption) -> Arg<'a>
         ),
         CliOption::Entry => text_option(alloc, "entry", "NAME", help::ENTRY, help::ENTRY_LONG),
         CliOption::Stub => text_option(alloc, "stub", "NUMBER=VALUE", help::STUB, help::STUB_LONG),
+        CliOption::Script => {
+            text_option(alloc, "script", "PATH", help::SCRIPT, help::SCRIPT_LONG)
+        }
         CliOption::Lines => text_option(
             alloc,
             "lines",

@@ -99,9 +99,10 @@ pub const ORIGIN: &str = "Runs a program to its end and tells where a value came
 
 pub const ORIGIN_LONG: &str = "Runs a program to its end and tells where a value came from.
 
-Reads FILE and the context, and runs the program to its end or to the limit of steps. WHAT
-is r0 to r9, or ADDRESS:COUNT for 1 to 256 bytes of memory (ADDRESS alone is one byte).
-Without WHAT it is r0, or at a fault the registers of the address that isn't there.
+Reads FILE and the context, and runs the program to its end or to the limit of steps; with
+--script it obeys commands instead, edits and steps back among them, and asks where they
+lead. WHAT is r0 to r9, or ADDRESS:COUNT for 1 to 256 bytes of memory (ADDRESS alone is one
+byte). Without WHAT it is r0, or at a fault the registers of the address that isn't there.
 
 Writes to standard output where the program stands, then a line for each move that the
 value depends on, the newest first: how many moves back, what was written, the
@@ -305,6 +306,14 @@ pub const STUB_LONG: &str =
     "Helpers whose calls are answered by a constant in r0, at most 16: each its number, an =,
 and -2147483648 to 2147483647. Nothing else happens at such a call.
 Example: --stub 5=0,14=-1";
+
+/// `--script`.
+pub const SCRIPT: &str = "Script that is obeyed in place of a run, as `debug` obeys it";
+
+pub const SCRIPT_LONG: &str =
+    "Script that is obeyed in place of a run, as `debug` obeys it: its replies are not shown,
+and WHAT is asked about the state where it leaves the session. --steps is then the limit
+of each of its commands. If a line is refused, nothing is told. Example: --script steps";
 
 /// `--lines`.
 pub const LINES_MOST: &str = "Most lines of moves in an answer, 1 to 1000000000";

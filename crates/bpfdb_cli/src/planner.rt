@@ -120,6 +120,7 @@ fn plan_in<'a>(name: &'a str, found: &ArgMatches<'a>) -> Option<Plan<'a>>
         subcommand,
         file,
         memory: text_of(found, "mem"),
+        script: text_of(found, "script"),
         options: Options {
             maps: text_of(found, "maps"),
             journal,

@@ -30,6 +30,8 @@ pub(crate) enum CliOption {
     Entry,
     /// `--stub NUMBER=VALUE,NUMBER=VALUE`.
     Stub,
+    /// `--script PATH`.
+    Script,
     /// `--lines N`.
     Lines,
     /// `--addresses`.
@@ -106,6 +108,7 @@ pub(crate) const SUBCOMMANDS: [CliSubcommand<'static>; 11] = [
             CliOption::Maps,
             CliOption::GdbJournal,
             CliOption::Steps,
+            CliOption::Script,
             CliOption::Listing,
             CliOption::Lines,
             CliOption::Addresses,

@@ -1,9 +1,10 @@
--- What a job of `origin` prints of a run, and why it is refused after it.
-use Rattle.std.proofs.Common.{◌≡◌, ◌==◌, ◌∙◌, ℕ, List, [], Option, ap, refl, subst, length}
+-- Where a job of `origin` asks, what it prints there, and why it is refused.
+use Rattle.std.proofs.Common.{◌≡◌, ◌==◌, ◌∙◌, ℕ, List, [], Option, Some, None, Ok, Err, ap, refl, subst, sym, length}
+use Rattle.std.specs.Borrow.{Bor}
 use Rattle.bpf_journal.specs.Histories.{Record, StandsFor}
 use Rattle.bpf_journal.specs.Runs.{history_after}
 use Rattle.bpf_journal.specs.Timelines.{Moment}
-use Rattle.bpf_journal.specs.Tracks.{RingHolds, ring_room}
+use Rattle.bpf_journal.specs.Tracks.{RingHolds, Track, ring_room}
 use Rattle.bpf_journal.specs.declared.ring_keeper.RingKeeper.{RingKeeper}
 use Rattle.bpf_machine.specs.State.{State, initial}
 use Rattle.bpf_origin.specs.Asked.{answer_about, parts_asked}
@@ -12,29 +13,26 @@ use Rattle.bpf_origin.specs.declared.place.Part.{Part}
 use Rattle.bpf_origin.specs.declared.question.Question.{Question}
 use Rattle.bpf_origin.specs.declared.what.What.{What}
 use Rattle.bpf_session.specs.Plain.{plain_end, plain_steps}
-use Rattle.bpfdb_jobs.specs.Jobs.{Prints, origin_print, run_end}
-use Rattle.bpfdb_jobs.specs.Openings.{IsStart}
-use Rattle.bpfdb_jobs.specs.Origins.{Asks, RefusesWhat, question_by, run_history}
-use Rattle.bpfdb_jobs.specs.Refusals.{RefusesAs}
+use Rattle.bpf_session.specs.Points.{Bounds, Point}
+use Rattle.bpf_session.specs.Sessions.{HasPast, SessionValue, bounds_of, track_at}
+use Rattle.bpfdb_commands.specs.declared.refusal.Refusal.{Refusal}
+use Rattle.bpfdb_jobs.specs.Jobs.{Prints, arrival_of, origin_print, start_of}
+use Rattle.bpfdb_jobs.specs.Obeying.{ObeysScript, arrived}
+use Rattle.bpfdb_jobs.specs.Openings.{HasArrived, IsOpening, IsStart}
+use Rattle.bpfdb_jobs.specs.Origins.{Asks, RefusesWhat, arrival, bounds, obeyed, question_by, run_arrival, run_history}
+use Rattle.bpfdb_jobs.specs.Refusals.{RefusesAs, RefusesOrigin}
 use Rattle.bpfdb_jobs.specs.declared.job.Job.{Job}
-use Rattle.bpfdb_jobs.specs.declared.refusal.JobRefusal.TheVariants as refusal
+use Rattle.bpfdb_jobs.specs.declared.refusal.JobRefusal.TheVariants as jobs
 use Rattle.bpfdb_options.specs.declared.subcommand.Subcommand.TheVariants.{Origin}
-
--- how a question is asked over a history of so many steps
-abbrev question : Job → List Record → ℕ → Question
-question job h n = record { addresses = job.options.addresses; lines = job.options.lines; opening = length h == n }
+use Rattle.counted_io.specs.Lines.{lines}
 
 -- a machine that has run, from the opening of the job
 module _ (job : Job) (old new : Moment RingKeeper) (n : ℕ) (start : IsStart job old) (steps : n ≡ plain_steps job.options.limit old.state)
     (state : new.state ≡ plain_end job.options.limit old.state)
     (kept : (h : List Record) → StandsFor RingHolds old.keeper old.state h
     → StandsFor RingHolds new.keeper new.state (history_after (ring_room old.keeper) n old.state h)) where
-  abbrev pub first : State
+  abbrev first : State
   first = initial start.code job.context.now
-
-  -- it stands at the run's end
-  at-end : new.state ≡ run_end job start.code
-  at-end = state ∙ ap (plain_end job.options.limit) start.state
 
   -- its journal holds the run's history
   history : history_after (ring_room old.keeper) n old.state [] ≡ run_history job.options first
@@ -42,24 +40,76 @@ module _ (job : Job) (old new : Moment RingKeeper) (n : ℕ) (start : IsStart jo
       ∙ ap (λ (m : ℕ). history_after job.options.journal m old.state []) steps
       ∙ ap (λ (x : State). history_after job.options.journal (plain_steps job.options.limit x) x []) start.state
 
-  pub stands : StandsFor RingHolds new.keeper new.state (run_history job.options first)
-  stands = subst (λ h. StandsFor RingHolds new.keeper new.state h) history (kept [] (start.empty, tt {0}))
+  -- so it stands where it is asked without a script
+  pub run-arrives : job.script ≡ None → HasArrived job new n
+  run-arrives none = record {
+    code = start.code;
+    at = run_arrival job.options first;
+    opens = start.opens;
+    arrives = ap (λ (script : Option (Bor (List ℕ))). arrival script job.options first) none;
+    state = state ∙ ap (plain_end job.options.limit) start.state;
+    held = subst (λ h. StandsFor RingHolds new.keeper new.state h) history (kept [] (start.empty, tt {0}));
+    counted = steps ∙ ap (plain_steps job.options.limit) start.state;
+  }
 
-  -- so the answer about it is printed
-  pub origin-prints : (q : Question) (what : Option What) (parts : List Part) → q ≡ question job (run_history job.options first) n
-      → Asks job.options.what new.state what → parts ≡ parts_asked new.state what
-      → Prints Origin job (origin_print new.state (answer_about q parts (run_history job.options first) new.state))
+-- a session that has obeyed the job's script, from its opening
+module _ (job : Job) (script : Bor (List ℕ)) (given : job.script ≡ Some script) (old new : SessionValue RingKeeper) (start : IsOpening job old) where
+  abbrev begins : Point
+  begins = (start_of job start.code).point
+
+  past : HasPast RingHolds old (track_at begins)
+  past = start.begins.point.1
+
+  -- what the script means there
+  same : obeyed (bounds_of ring_room old) (lines script.now) (arrived old (track_at begins) 0) ≡ arrival_of job start.code
+  same = ap (λ (b : Bounds). obeyed b (lines script.now) (arrived old (track_at begins) 0)) start.begins.bounds
+      ∙ ap (λ (p : Point). obeyed (bounds job.options) (lines script.now) (record { point = p; moves = 0 })) start.begins.point.0
+      ∙ ap (λ (s : Option (Bor (List ℕ))). arrival s job.options (initial start.code job.context.now)) (sym given)
+
+  -- it stands where it is asked
+  pub script-arrives : (moves : ℕ) (moment : Moment RingKeeper) → (moment.state ≡ new.moment.state) → (moment.keeper ≡ new.moment.keeper)
+      → ((t : Track) → ObeysScript old new t (lines script.now) 0 (Ok moves)) → HasArrived job moment moves
+  script-arrives moves moment state keeper obeys =
+      let o = obeys (track_at begins) past in
+      record {
+        code = start.code;
+        at = record { point = o.0; moves = moves };
+        opens = start.opens;
+        arrives = sym same ∙ o.2;
+        state = state ∙ ap (λ (p : Point). p.state) o.1.0;
+        held = rw (state, keeper) o.1.1.history;
+        counted = refl;
+      }
+
+  -- a line of it is refused
+  pub script-refuses : (refusal : Refusal) → ((t : Track) → ObeysScript old new t (lines script.now) 0 (Err refusal))
+      → RefusesOrigin job (jobs.Script refusal)
+  script-refuses refusal obeys = (start.code, start.opens, sym same ∙ obeys (track_at begins) past)
+
+-- how a question is asked over a history behind so many moves
+abbrev question : Job → List Record → ℕ → Question
+question job h n = record { addresses = job.options.addresses; lines = job.options.lines; opening = length h == n }
+
+-- a machine where it is asked
+module _ (job : Job) (moment : Moment RingKeeper) (n : ℕ) (a : HasArrived job moment n) where
+  -- the answer about it is printed
+  pub origin-prints : (q : Question) (what : Option What) (parts : List Part) → q ≡ question job a.at.point.history n
+      → Asks job.options.what moment.state what → parts ≡ parts_asked moment.state what
+      → Prints Origin job (origin_print moment.state (answer_about q parts a.at.point.history moment.state))
   origin-prints q what parts asks-as asks is = (
-    start.code,
+    a.code,
+    a.at,
     what,
-    start.opens,
-    subst (λ (x : State). Asks job.options.what x what) at-end asks,
-    ap (λ (z : Question). origin_print new.state (answer_about z parts (run_history job.options first) new.state))
-        (asks-as ∙ ap (question job (run_history job.options first)) (steps ∙ ap (plain_steps job.options.limit) start.state))
-        ∙ ap (λ (ps : List Part). origin_print new.state (answer_about (question_by job.options first) ps (run_history job.options first) new.state)) is
-        ∙ ap (λ (x : State). origin_print x (answer_about (question_by job.options first) (parts_asked x what) (run_history job.options first) x)) at-end,
+    a.opens,
+    a.arrives,
+    subst (λ (x : State). Asks job.options.what x what) a.state asks,
+    ap (λ (z : Question). origin_print moment.state (answer_about z parts a.at.point.history moment.state))
+        (asks-as ∙ ap (question job a.at.point.history) a.counted)
+        ∙ ap (λ (ps : List Part). origin_print moment.state (answer_about (question_by job.options a.at) ps a.at.point.history moment.state)) is
+        ∙ ap (λ (x : State). origin_print x (answer_about (question_by job.options a.at) (parts_asked x what) a.at.point.history x)) a.state,
   )
 
   -- and so is what it refuses
-  pub origin-refuses : (fault : WhatFault) → RefusesWhat job.options.what new.state fault → RefusesAs Origin job (refusal.What fault)
-  origin-refuses fault refuses = (start.code, start.opens, subst (λ (x : State). RefusesWhat job.options.what x fault) at-end refuses)
+  pub origin-refuses : (fault : WhatFault) → RefusesWhat job.options.what moment.state fault → RefusesAs Origin job (jobs.What fault)
+  origin-refuses fault refuses =
+      (a.code, a.at, a.opens, a.arrives, subst (λ (x : State). RefusesWhat job.options.what x fault) a.state refuses)

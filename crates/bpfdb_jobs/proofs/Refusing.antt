@@ -2,7 +2,7 @@
 use Rattle.bpfdb_jobs.specs.Refusals.{Refuses, RefusesMachine, RefusesOrigin, RefusesProgram}
 use Rattle.bpfdb_jobs.specs.declared.job.Job.{Job}
 use Rattle.bpfdb_jobs.specs.declared.refusal.JobRefusal.{JobRefusal}
-use Rattle.bpfdb_jobs.specs.declared.refusal.JobRefusal.TheVariants.{Maps, Listing, Load, Open, Journal, What, Object, Tests, NoTest}
+use Rattle.bpfdb_jobs.specs.declared.refusal.JobRefusal.TheVariants.{Maps, Listing, Load, Open, Journal, What, Object, Tests, NoTest, Script}
 
 -- a refusal of a program is one of a machine on it, and that one of a session over it
 pub program-machine : (job : Job) (refusal : JobRefusal) → RefusesProgram job refusal → RefusesMachine job refusal
@@ -11,6 +11,7 @@ program-machine job (Listing fault) p = p
 program-machine job (Load fault) p = p
 program-machine job (Open fault) p = absurd p
 program-machine job (Journal fault) p = absurd p
+program-machine job (Script refusal) p = absurd p
 program-machine job (What fault) p = absurd p
 program-machine job (Object fault name) p = absurd p
 program-machine job (Tests fault line) p = absurd p
@@ -22,6 +23,7 @@ machine-session job (Listing fault) p = p
 machine-session job (Load fault) p = p
 machine-session job (Open fault) p = p
 machine-session job (Journal fault) p = absurd p
+machine-session job (Script refusal) p = absurd p
 machine-session job (What fault) p = absurd p
 machine-session job (Object fault name) p = absurd p
 machine-session job (Tests fault line) p = absurd p
@@ -34,6 +36,7 @@ session-origin job (Listing fault) p = p
 session-origin job (Load fault) p = p
 session-origin job (Open fault) p = p
 session-origin job (Journal fault) p = p
+session-origin job (Script refusal) p = absurd p
 session-origin job (What fault) p = absurd p
 session-origin job (Object fault name) p = p
 session-origin job (Tests fault line) p = p

@@ -13,10 +13,11 @@ use Rattle.bpf_machine.specs.Opening as opening
 use Rattle.bpf_journal.specs.Opening as journal
 use Rattle.bpf_origin.specs.Asked as asked
 use Rattle.bpf_trace.specs.Traces.{limit_line}
+use Rattle.bpfdb_commands.specs.Refusals as commands
 use Rattle.bpfdb_jobs.specs.declared.fault.JobFault.{JobFault}
 use Rattle.bpfdb_jobs.specs.declared.fault.JobFault.TheVariants.{Unreadable, NotText, Refused, Input, Output, Memory, StepLimit}
 use Rattle.bpfdb_jobs.specs.declared.refusal.JobRefusal.{JobRefusal}
-use Rattle.bpfdb_jobs.specs.declared.refusal.JobRefusal.TheVariants.{Maps, Listing, Load, Open, Journal, What, Object, Tests, NoTest}
+use Rattle.bpfdb_jobs.specs.declared.refusal.JobRefusal.TheVariants.{Maps, Listing, Load, Open, Journal, What, Object, Tests, NoTest, Script}
 
 -- A name as it is shown: each control byte as `\x` and two hexadecimal digits.
 abbrev pub shown_byte : ℕ → List ℕ
@@ -90,6 +91,7 @@ refusal_line (Listing fault) = refusal_text (codes "refused A") (fault_number fa
 refusal_line (Load fault) = refusal_text (codes "refused C") (load_fault fault).0 (placed (codes " at slot ") (slot_of fault)) (load_fault fault).1
 refusal_line (Open fault) = refusal_text (codes "refused O") (opening.number_of fault) [] (opening.text_of fault)
 refusal_line (Journal fault) = refusal_text (codes "refused J") (journal.number_of fault) [] (journal.text_of fault)
+refusal_line (Script refusal) = commands.refusal_text refusal
 refusal_line (What fault) = refusal_text (codes "refused V") (asked.number_of fault) [] (asked.text_of fault)
 refusal_line (Object fault name) = object_line fault name.now
 refusal_line (Tests fault line) =

@@ -28,9 +28,10 @@ use Rattle.bpf_text.specs.Listing.{IsListing}
 use Rattle.bpf_trace.specs.Profiles.{profile_text}
 use Rattle.bpf_trace.specs.Traces.{limit_line, trace_text}
 use Rattle.bpf_trace.specs.declared.trace.Shown.{Shown}
+use Rattle.bpfdb_commands.specs.declared.refusal.Refusal.{Refusal}
 use Rattle.bpfdb_replies.specs.Texts.{place}
 use Rattle.bpfdb_jobs.specs.MapLines.{linked_told}
-use Rattle.bpfdb_jobs.specs.Origins.{Asks, answer_by, found_text, status_of_extent}
+use Rattle.bpfdb_jobs.specs.Origins.{Arrival, Asks, answer_by, arrival, found_text, status_of_extent}
 use Rattle.bpfdb_jobs.specs.declared.job.Job.{Job}
 use Rattle.bpfdb_options.specs.declared.subcommand.Subcommand.{Subcommand}
 use Rattle.bpfdb_options.specs.declared.subcommand.Subcommand.TheVariants.{Run, Trace, Debug, Origin, Gdb, Asm, Disasm, Lines, Check, Link, Test}
@@ -144,7 +145,11 @@ status_of_end _ = 1
 abbrev pub trace_print : Job → State → State → Print
 trace_print job x end = record { out = Some (trace_out job x); err = None; status = status_of_end end.status }
 
--- `origin`: where the machine stands, and where the values came from that are asked about.
+-- `origin`: where the machine stands, and where the values came from that are asked about. Where that is, by the job; or why its script is
+-- refused.
+abbrev pub arrival_of : Job → Checked → Result Arrival Refusal
+arrival_of job code = arrival job.script job.options (initial code job.context.now)
+
 abbrev pub origin_print : State → Answer → Print
 origin_print end answer = record (printed (found_text end answer)) { status = status_of_extent answer.extent }
 
@@ -158,8 +163,8 @@ abbrev pub Prints : Subcommand → Job → Print → Type 0
 Prints Run job a = (code : Checked) × Opens job code × (a ≡ run_print job.options.limit (ending_of (run_end job code).status) (run_end job code))
 Prints Trace job a = (code : Checked) × Opens job code × (a ≡ trace_print job (initial code job.context.now) (run_end job code))
 Prints Debug job a = ⊥
-Prints Origin job a = (code : Checked) × (what : Option What) × OpensSession job code × Asks job.options.what (run_end job code) what
-    × (a ≡ origin_print (run_end job code) (answer_by job.options what (initial code job.context.now)))
+Prints Origin job a = (code : Checked) × (at : Arrival) × (what : Option What) × OpensSession job code × (arrival_of job code ≡ Ok at)
+    × Asks job.options.what at.point.state what × (a ≡ origin_print at.point.state (answer_by job.options what at))
 Prints Gdb job a = ⊥
 Prints Test job a = ⊥
 Prints Asm job a = (words : List ℕ) × IsListing job.file.now words × (a ≡ printed words)

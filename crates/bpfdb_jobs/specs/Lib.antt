@@ -4,6 +4,7 @@ pub mod Endings
 pub mod Faults
 pub mod Jobs
 pub mod MapLines
+pub mod Obeying
 pub mod Openings
 pub mod Origins
 pub mod Refusals

@@ -1,13 +1,15 @@
 -- Scaffolding: a session, or a machine with its journal, that was just opened for a job.
-use Rattle.std.specs.Prelude.{◌≡◌, []}
+use Rattle.std.specs.Prelude.{ℕ, ◌≡◌, [], Ok}
 use Rattle.bpf_isa.specs.Programs.{Checked}
+use Rattle.bpf_journal.specs.Histories.{StandsFor}
 use Rattle.bpf_journal.specs.Timelines.{Moment}
 use Rattle.bpf_journal.specs.Tracks.{RingHolds, ring_room}
 use Rattle.bpf_journal.specs.declared.ring_keeper.RingKeeper.{RingKeeper}
 use Rattle.bpf_machine.specs.State.{initial}
 use Rattle.bpf_session.specs.Sessions.{SessionValue}
 use Rattle.bpfdb_jobs.specs.Connections.{Begins}
-use Rattle.bpfdb_jobs.specs.Jobs.{OpensSession}
+use Rattle.bpfdb_jobs.specs.Jobs.{OpensSession, arrival_of}
+use Rattle.bpfdb_jobs.specs.Origins.{Arrival}
 use Rattle.bpfdb_jobs.specs.declared.job.Job.{Job}
 
 -- It has the job's program, and stands where one of the job begins.
@@ -23,3 +25,13 @@ pub record IsStart (job : Job) (moment : Moment RingKeeper) : Type 0 where
   pub state : moment.state ≡ initial code job.context.now
   pub empty : RingHolds moment.keeper []
   pub room : ring_room moment.keeper ≡ job.options.journal
+
+-- It stands where `origin` asks of the job, behind so many moves.
+pub record HasArrived (job : Job) (moment : Moment RingKeeper) (moves : ℕ) : Type 0 where
+  pub code : Checked
+  pub at : Arrival
+  pub opens : OpensSession job code
+  pub arrives : arrival_of job code ≡ Ok at
+  pub state : moment.state ≡ at.point.state
+  pub held : StandsFor RingHolds moment.keeper moment.state at.point.history
+  pub counted : moves ≡ at.moves

@@ -1,5 +1,6 @@
--- What `origin` is asked, and what it answers: over the history that the journal keeps of a run to the program's end or to the limit of steps.
-use Rattle.std.specs.Prelude.{ℕ, ◌≡◌, ◌==◌, List, [], ◌++◌, Option, Some, None, Ok, Err, codes, length}
+-- What `origin` is asked, and what it answers: over the history that the journal keeps of a run to the program's end or to the limit of steps,
+-- or of the session of a script.
+use Rattle.std.specs.Prelude.{ℕ, ◌≡◌, ◌==◌, List, [], ◌∷◌, ◌++◌, Option, Some, None, Result, Ok, Err, if◌then◌else◌, codes, length}
 use Rattle.std.specs.Borrow.{Bor}
 use Rattle.bpf_journal.specs.Histories.{Record}
 use Rattle.bpf_journal.specs.Runs.{history_after}
@@ -11,9 +12,19 @@ use Rattle.bpf_origin.specs.declared.question.Extent.{Extent}
 use Rattle.bpf_origin.specs.declared.question.Extent.TheVariants.{Whole}
 use Rattle.bpf_origin.specs.declared.question.Question.{Question}
 use Rattle.bpf_origin.specs.declared.what.What.{What}
+use Rattle.bpf_remote.specs.Moves.{moves_after}
+use Rattle.bpf_session.specs.Meaning.{does}
+use Rattle.bpf_session.specs.Outcomes.{Outcome}
+use Rattle.bpf_session.specs.Output.{is_quit}
 use Rattle.bpf_session.specs.Plain.{plain_end, plain_steps}
+use Rattle.bpf_session.specs.Points.{Bounds, Point, opening}
+use Rattle.bpfdb_commands.specs.Commands.{command_of}
+use Rattle.bpfdb_commands.specs.Commands as commands
+use Rattle.bpfdb_commands.specs.declared.command.Command.{Command}
+use Rattle.bpfdb_commands.specs.declared.refusal.Refusal.{Refusal}
 use Rattle.bpfdb_options.specs.declared.options.Options.{Options}
 use Rattle.bpfdb_replies.specs.Texts.{place}
+use Rattle.counted_io.specs.Lines.{lines}
 
 -- What a text asks of a state, where there is one; why that is refused.
 abbrev pub Asks : Option (Bor (List ℕ)) → State → Option What → Type 0
@@ -25,22 +36,58 @@ abbrev pub RefusesWhat : Option (Bor (List ℕ)) → State → WhatFault → Typ
 RefusesWhat None x fault = ⊥
 RefusesWhat (Some text) x fault = what_in x text.now ≡ Err fault
 
+-- Where it is asked: a point, and how many moves lie before it, from the opening on: those that are kept, and those that the journal dropped.
+pub record Arrival : Type 0 where
+  pub point : Point
+  pub moves : ℕ
+
 -- The history of a run from x: of its steps the newest, as many as the journal has room for.
 abbrev pub run_history : Options → State → List Record
 run_history options x = history_after options.journal (plain_steps options.limit x) x []
 
--- How it is asked. The oldest kept state is the opening where the journal has each step.
-abbrev pub question_by : Options → State → Question
-question_by options x = record {
-  addresses = options.addresses;
-  lines = options.lines;
-  opening = length (run_history options x) == plain_steps options.limit x;
+-- The end of that run.
+abbrev pub run_arrival : Options → State → Arrival
+run_arrival options x = record {
+  point = record (opening (plain_end options.limit x)) { history = run_history options x };
+  moves = plain_steps options.limit x;
 }
 
--- The answer at the end of the run.
-abbrev pub answer_by : Options → Option What → State → Answer
-answer_by options what x =
-    answer_about (question_by options x) (parts_asked (plain_end options.limit x) what) (run_history options x) (plain_end options.limit x)
+-- A script is obeyed line by line, and each move is kept: a line without words does nothing, `quit` ends it, and so does a refusal, which is the
+-- answer. `on` is what the lines behind come to.
+abbrev pub obeyed_by : Command → Outcome → ℕ → (Arrival → Result Arrival Refusal) → Result Arrival Refusal
+obeyed_by command o moves on = elim o.answer [
+  | Ok reply ↦ on (record { point = o.point; moves = moves_after (Ok reply) command moves })
+  | Err refusal ↦ Err refusal
+]
+
+abbrev pub obeyed_line : Bounds → commands.Answer → Arrival → (Arrival → Result Arrival Refusal) → Result Arrival Refusal
+obeyed_line b (Ok None) a on = on a
+obeyed_line b (Err refusal) a on = Err refusal
+obeyed_line b (Ok (Some command)) a on = if is_quit command then Ok a else obeyed_by command (does None b command a.point) a.moves on
+
+abbrev pub obeyed : Bounds → List (List ℕ) → Arrival → Result Arrival Refusal
+obeyed b [] a = Ok a
+obeyed b (line ∷ lines) a = obeyed_line b (command_of line) a (obeyed b lines)
+
+-- Where it is asked of a job's opening: where the session of its script stands behind that, or else at the run's end.
+abbrev pub bounds : Options → Bounds
+bounds options = record { limit = options.limit; room = options.journal }
+
+abbrev pub arrival : Option (Bor (List ℕ)) → Options → State → Result Arrival Refusal
+arrival None options x = Ok (run_arrival options x)
+arrival (Some script) options x = obeyed (bounds options) (lines script.now) (record { point = opening x; moves = 0 })
+
+-- How it is asked. The oldest kept state is the opening where the journal has each move.
+abbrev pub question_by : Options → Arrival → Question
+question_by options a = record {
+  addresses = options.addresses;
+  lines = options.lines;
+  opening = length a.point.history == a.moves;
+}
+
+-- The answer there.
+abbrev pub answer_by : Options → Option What → Arrival → Answer
+answer_by options what a = answer_about (question_by options a) (parts_asked a.point.state what) a.point.history a.point.state
 
 -- What is written of it: where the machine stands, and the answer.
 abbrev pub found_text : State → Answer → List ℕ

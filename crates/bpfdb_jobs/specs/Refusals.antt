@@ -1,5 +1,5 @@
--- Why a job is refused, in this order: its maps, its listing, its program, its context, its journal; what it asks about; its stubs, its
--- object; or its tests.
+-- Why a job is refused, in this order: its maps, its listing, its program, its context, its journal; its script, what it asks about; its stubs,
+-- its object; or its tests.
 use Rattle.std.specs.Prelude.{◌≡◌, ◌⊎◌, List, [], ℕ, Option, Some, None, Ok, Err, true}
 use Rattle.std.specs.Borrow.{Bor}
 use Rattle.bpf_isa.specs.Checker.{IsRefused}
@@ -17,11 +17,11 @@ use Rattle.bpf_suite.specs.declared.section.Section.{Section}
 use Rattle.bpf_suite.specs.declared.fault.FileFault.TheVariants.{Line}
 use Rattle.bpf_machine.specs.Opening.{Refused}
 use Rattle.bpf_journal.specs.Opening.{RefusesSize}
-use Rattle.bpfdb_jobs.specs.Jobs.{HasMaps, HasWords, IsProgramOf, Opens, OpensSession, entry_of, run_end, section_of, stubs_of}
-use Rattle.bpfdb_jobs.specs.Origins.{RefusesWhat}
+use Rattle.bpfdb_jobs.specs.Jobs.{HasMaps, HasWords, IsProgramOf, Opens, OpensSession, arrival_of, entry_of, section_of, stubs_of}
+use Rattle.bpfdb_jobs.specs.Origins.{Arrival, RefusesWhat}
 use Rattle.bpfdb_jobs.specs.declared.job.Job.{Job}
 use Rattle.bpfdb_jobs.specs.declared.refusal.JobRefusal.{JobRefusal}
-use Rattle.bpfdb_jobs.specs.declared.refusal.JobRefusal.TheVariants.{Maps, Listing, Load, Open, Journal, What, Object, Tests, NoTest}
+use Rattle.bpfdb_jobs.specs.declared.refusal.JobRefusal.TheVariants.{Maps, Listing, Load, Open, Journal, What, Object, Tests, NoTest, Script}
 use Rattle.bpfdb_options.specs.declared.subcommand.Subcommand.{Subcommand}
 use Rattle.bpfdb_options.specs.declared.subcommand.Subcommand.TheVariants.{Run, Trace, Debug, Origin, Gdb, Asm, Disasm, Lines, Check, Link, Test}
 
@@ -34,6 +34,7 @@ Refuses job (Load fault) = (shapes : List MapShape) × HasMaps job.options.maps 
     × (words : List ℕ) × HasWords job.options.is_listing job.file.now words × IsRefused words shapes fault
 Refuses job (Open fault) = (code : Checked) × IsProgramOf job code × Refused job.context.now fault
 Refuses job (Journal fault) = (code : Checked) × Opens job code × RefusesSize job.options.journal fault
+Refuses job (Script refusal) = ⊥
 Refuses job (What fault) = ⊥
 Refuses job (Object fault name) = ⊥
 Refuses job (Tests fault line) = ⊥
@@ -49,9 +50,11 @@ abbrev pub RefusesMachine : Job → JobRefusal → Type 0
 RefusesMachine job (Journal fault) = ⊥
 RefusesMachine job refusal = Refuses job refusal
 
--- `origin` looks at a session's, and then at what is asked about where the run has ended.
+-- `origin` looks at a session's, then at the lines of its script, and then at what is asked about there.
 abbrev pub RefusesOrigin : Job → JobRefusal → Type 0
-RefusesOrigin job (What fault) = (code : Checked) × OpensSession job code × RefusesWhat job.options.what (run_end job code) fault
+RefusesOrigin job (Script refusal) = (code : Checked) × OpensSession job code × (arrival_of job code ≡ Err refusal)
+RefusesOrigin job (What fault) = (code : Checked) × (at : Arrival) × OpensSession job code × (arrival_of job code ≡ Ok at)
+    × RefusesWhat job.options.what at.point.state fault
 RefusesOrigin job refusal = Refuses job refusal
 
 abbrev pub RefusesListing : Job → JobRefusal → Type 0

@@ -17,6 +17,7 @@ mod origin;
 mod refusal;
 mod report;
 mod run;
+mod script;
 mod suite;
 mod trace;
 

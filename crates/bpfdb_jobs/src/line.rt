@@ -75,6 +75,7 @@ fn put_refusal<E: Write>(
         JobRefusal::Journal(fault) => {
             put_unplaced(errors, so_far, b"refused J", fault.number(), fault.text())
         }
+        JobRefusal::Script(refusal) => bpfdb_replies::put_refusal(errors, so_far, *refusal),
         JobRefusal::What(fault) => {
             put_unplaced(errors, so_far, b"refused V", fault.number(), fault.text())
         }

@@ -1,20 +1,23 @@
 //! What a job of `origin` does.
-ghost use Rattle.std.specs.Prelude.{◌≡◌, ◌≤◌, [], IfErr, IfOk, List, Option};
+ghost use Rattle.std.specs.Prelude.{◌≡◌, ◌≤◌, [], IfErr, IfOk, List, None, Option, Some};
 ghost use Rattle.bpf_journal.specs.Histories.{Record, StandsFor};
 ghost use Rattle.bpf_origin.specs.Asked as spec;
 ghost use Rattle.bpf_origin.specs.declared.what.What.{What as Asked};
 ghost use Rattle.counted_io.specs.Writing.{Writes, WritesAfter};
 ghost use Rattle.bpfdb_jobs.specs.Endings.{EndsPrinted};
+ghost use Rattle.bpfdb_jobs.specs.Openings.{HasArrived};
 ghost use Rattle.bpfdb_jobs.specs.Origins.{Asks, RefusesWhat, found_text, status_of_extent};
+ghost use Rattle.bpfdb_jobs.specs.Refusals.{RefusesOrigin};
 ghost use Rattle.bpfdb_limits.specs.Limits.{IsLimit};
 ghost use Rattle.bpfdb_options.specs.declared.subcommand.Subcommand.TheVariants.{Origin};
 
 use crate::fault::JobFault;
 use crate::job::Job;
-use crate::opening::timeline_of;
+use crate::opening::{session_of, timeline_of};
 use crate::refusal::JobRefusal;
 use crate::report::give_up;
-use bpf_journal::{Keeper, Timeline};
+use crate::script::obey_script;
+use bpf_journal::{Keeper, RingKeeper, Timeline};
 use bpf_machine::Cpu;
 use bpf_origin::{Extent, Part, Parts, Question, Told, What, WhatFault, parts_asked, put_answer};
 use bpf_session::run_kept;
@@ -23,8 +26,16 @@ use counted_io::{Counted, WriteFault, put};
 use std::alloc::Global;
 use std::io::Write;
 
-/// Runs the program to its end or to the limit, and writes where the machine stands and where the
-/// values came from that are asked about.
+/// A machine with its journal, where it is asked.
+#[derive(Drop)]
+struct Arrived {
+    timeline: Timeline<RingKeeper>,
+    /// How many moves lie before its state, kept or not.
+    moves: u64,
+}
+
+/// Runs the program to its end or to the limit, or obeys the script where there is one, and writes
+/// where the machine stands then and where the values came from that are asked about.
 pub fn origin_job<W: Write, E: Write>(
     alloc: Global,
     job: &Job<'_>,
@@ -36,21 +47,83 @@ pub fn origin_job<W: Write, E: Write>(
         errors.new result }
     ensures status { result ≤ 2 }
 {
+    match arrive(alloc, job) {
+        Ok(mut arrived) => ask(job, &mut arrived, writer, errors),
+        Err(refusal) => give_up(errors, &JobFault::Refused(refusal)),
+    }
+}
+
+/// Goes where it is asked.
+fn arrive(alloc: Global, job: &Job<'_>) -> Result<Arrived, JobRefusal<'static>>
+    requires limit { IsLimit job.now.options.limit }
+    ensures ok { IfOk result (λ arrived. HasArrived job.now arrived.timeline arrived.moves) }
+    ensures err { IfErr result (RefusesOrigin job.now) }
+{
+    match job.script {
+        Some(script) => arrive_by(alloc, job, script),
+        None => arrive_at_end(alloc, job),
+    }
+}
+
+/// Obeys the job's script.
+fn arrive_by(alloc: Global, job: &Job<'_>, script: &[u8]) -> Result<Arrived, JobRefusal<'static>>
+    requires limit { IsLimit job.now.options.limit }
+    requires script { job.now.script ≡ Some script }
+    ensures ok { IfOk result (λ arrived. HasArrived job.now arrived.timeline arrived.moves) }
+    ensures err { IfErr result (RefusesOrigin job.now) }
+{
+    let mut session = match session_of(alloc, job) {
+        Ok(session) => session,
+        Err(refusal) => return Err(refusal),
+    };
+    let moves = match obey_script(&mut session, script) {
+        Ok(moves) => moves,
+        Err(refusal) => return Err(JobRefusal::Script(refusal)),
+    };
+    let (cpu, keeper) = session.close();
+    Ok(Arrived {
+        timeline: Timeline::open(cpu, keeper),
+        moves,
+    })
+}
+
+/// Runs the job's program to its end or to the limit.
+fn arrive_at_end(alloc: Global, job: &Job<'_>) -> Result<Arrived, JobRefusal<'static>>
+    requires limit { IsLimit job.now.options.limit }
+    requires script { job.now.script ≡ None }
+    ensures ok { IfOk result (λ arrived. HasArrived job.now arrived.timeline arrived.moves) }
+    ensures err { IfErr result (RefusesOrigin job.now) }
+{
     let mut timeline = match timeline_of(alloc, job) {
         Ok(timeline) => timeline,
-        Err(refusal) => return give_up(errors, &JobFault::Refused(refusal)),
+        Err(refusal) => return Err(refusal),
     };
-    let steps = run_kept(&mut timeline, job.options.limit);
-    let parts = match parts_of(job, timeline.cpu()) {
+    let moves = run_kept(&mut timeline, job.options.limit);
+    Ok(Arrived { timeline, moves })
+}
+
+/// Writes where the machine stands, and where the values came from that are asked about.
+fn ask<W: Write, E: Write>(
+    job: &Job<'_>,
+    arrived: &mut Arrived,
+    writer: &mut Counted<W>,
+    errors: &mut Counted<E>,
+) -> u8
+    requires { HasArrived job.now arrived.old.timeline arrived.old.moves }
+    ensures does { EndsPrinted W.contents E.contents Origin job.now writer.old writer.new errors.old
+        errors.new result }
+    ensures status { result ≤ 2 }
+{
+    let parts = match parts_of(job, arrived.timeline.cpu()) {
         Ok(parts) => parts,
         Err(fault) => return give_up(errors, &JobFault::Refused(JobRefusal::What(fault))),
     };
     let question = Question {
         addresses: job.options.addresses,
         lines: job.options.lines,
-        opening: timeline.len() as u64 == steps,
+        opening: arrived.timeline.len() as u64 == arrived.moves,
     };
-    let told = put_found(&mut timeline, parts.as_slice(), question, writer);
+    let told = put_found(&mut arrived.timeline, parts.as_slice(), question, writer);
     match told.written {
         Ok(()) => status_of(told.extent),
         Err(WriteFault) => give_up(errors, &JobFault::Output),

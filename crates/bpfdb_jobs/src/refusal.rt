@@ -6,6 +6,7 @@ use bpf_machine::OpenFault;
 use bpf_origin::WhatFault;
 use bpf_suite::SectionFault;
 use bpf_text::AsmFault;
+use bpfdb_commands::Refusal;
 
 /// Why a job is refused, in the order in which it is looked at.
 #[derive(Clone, Copy)]
@@ -20,6 +21,8 @@ pub enum JobRefusal<'a> {
     Open(OpenFault),
     /// The journal can't be opened.
     Journal(JournalFault),
+    /// A line of the script is refused.
+    Script(Refusal),
     /// What is asked about isn't in the machine.
     What(WhatFault),
     /// No program is made of the object; the name of what is wrong, as it stands in the object, or

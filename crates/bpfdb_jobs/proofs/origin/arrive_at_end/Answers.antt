@@ -1,0 +1,12 @@
+use Rattle.bpfdb_jobs.proofs.Originating.{run-arrives}
+use Rattle.bpfdb_jobs.proofs.Refusing.{session-origin}
+use Rattle.bpfdb_jobs.proofs.origin.arrive_at_end.Goals as goal
+
+pub returns-in-Err-clause-err : goal.returns-in-Err-clause-err
+returns-in-Err-clause-err c = session-origin c.args.job.now c.in-Err.refusal c.in-Err.ensures.err
+
+pub returns-clause-ok : goal.returns-clause-ok
+returns-clause-ok c =
+    let ran = c.run_kept-moves.ensures in
+    run-arrives c.args.job.now c.in-Ok.timeline c.run_kept-moves.new.timeline c.run_kept-moves.result c.in-Ok.ensures.ok ran.steps ran.state ran.kept
+    c.requires.script

@@ -1,0 +1,22 @@
+use Rattle.std.proofs.Common.{◌∙◌, ap}
+use Rattle.bpf_journal.specs.declared.ring_keeper.RingKeeper.{RingKeeper}
+use Rattle.bpf_machine.specs.State.{State}
+use Rattle.bpfdb_jobs.proofs.Originating.{script-arrives, script-refuses}
+use Rattle.bpfdb_jobs.proofs.Refusing.{session-origin}
+use Rattle.bpfdb_jobs.proofs.origin.arrive_by.Goals as goal
+
+pub returns-in-Err-clause-err : goal.returns-in-Err-clause-err
+returns-in-Err-clause-err c = session-origin c.args.job.now c.in-Err.refusal c.in-Err.ensures.err
+
+pub returns-in-Err-obey_script-clause-err : goal.returns-in-Err-obey_script-clause-err
+returns-in-Err-obey_script-clause-err c =
+    script-refuses c.args.job.now c.args.script c.requires.script c.in-Ok.session c.obey_script.new.session c.in-Ok.ensures.ok
+    c.in-Err-obey_script.refusal c.in-Err-obey_script.ensures
+
+pub returns-clause-ok : goal.returns-clause-ok
+returns-clause-ok c =
+    script-arrives c.args.job.now c.args.script c.requires.script c.in-Ok.session c.obey_script.new.session c.in-Ok.ensures.ok
+    c.in-Ok-obey_script.moves c.open.result
+    (c.open.ensures.state ∙ ap (λ (pair : State × RingKeeper). pair.0) c.close-cpu.ensures.same)
+    (c.open.ensures.keeper ∙ ap (λ (pair : State × RingKeeper). pair.1) c.close-cpu.ensures.same)
+    c.in-Ok-obey_script.ensures
