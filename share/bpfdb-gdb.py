@@ -392,7 +392,8 @@ def value_type(name, size):
 
 class Load(Asker):
     """bpf-load FILE [OPTIONS]: links an object of clang, or assembles a listing, loads its symbols, and starts it in bpfdb. OPTIONS are those of
-    'bpfdb gdb', and --section NAME, --entry NAME and --stub NUMBER=VALUE. Without words it starts the same program again. Breakpoints stay."""
+    'bpfdb gdb', and --section NAME, --entry NAME, --stub NUMBER=VALUE and --as-compiled. Without words it starts the same program again. Breakpoints
+    stay."""
 
     def __init__(self):
         super().__init__("bpf-load", gdb.COMMAND_RUNNING, gdb.COMPLETE_FILENAME)
@@ -440,7 +441,9 @@ def load_object(file, options, base):
     section, options = taken(options, "--section")
     entry, options = taken(options, "--entry")
     stubs, options = taken(options, "--stub")
-    program = called("bpfdb", ["link", *section, *entry, *stubs, file])
+    left = [word for word in options if word == "--as-compiled"]
+    options = [word for word in options if word != "--as-compiled"]
+    program = called("bpfdb", ["link", *section, *entry, *stubs, *left, file])
     with open(base + ".bin", "wb") as output:
         output.write(program.stdout)
     machine_words, _ = taken(options, "--registers")

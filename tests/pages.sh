@@ -207,7 +207,7 @@ same_words() {
 # subcommand's help has those that are said to be for it.
 options() {
     {
-        sed -n 's/.* long = Some (codes "\([a-z]*\)").*/--\1/p' crates/bpfdb_cli/specs/CommandLine.antt
+        sed -n 's/.* long = Some (codes "\([a-z-]*\)").*/--\1/p' crates/bpfdb_cli/specs/CommandLine.antt
         sed -n 's/.*\.short(.\([a-zA-Z]\).).*/-\1/p' crates/bpfdb_cli/src/command_line.rt
         printf '%s\n' -h --help -V --version
     } | sort -u > "$work/sorted"
@@ -215,20 +215,20 @@ options() {
         quoted | sed 's/ .*//' | sort -u > "$work/found"
     same_words docs/COMMANDS.md options
     cat tests/program/help/*.txt | awk '/^Options:/ { inside = 1 } /^[A-Z]/ && !/^Options:/ { inside = 0 } inside' |
-        grep -o -E '^ +(-[a-zA-Z], )?--[a-z]+' | tr -d ' ' | tr ',' '\n' | sort -u > "$work/found"
+        grep -o -E '^ +(-[a-zA-Z], )?--[a-z-]+' | tr -d ' ' | tr ',' '\n' | sort -u > "$work/found"
     same_words 'tests/program/help' options
     sed -n '/^\.SH "OPTIONS"/,/^\.SH "COMMANDS"/p' docs/bpfdb.1 | grep '^.fB' | sed 's/\\f[BR]//g; s/\\-/-/g' |
-        grep -o -E '(^|, )--?[a-zA-Z]+' | tr -d ', ' | sort -u > "$work/found"
+        grep -o -E '(^|, )--?[a-zA-Z][a-zA-Z-]*' | tr -d ', ' | sort -u > "$work/found"
     same_words docs/bpfdb.1 options
     awk -F ' *\\| *' '/^## / { inside = $0 == "## OPTIONS" } inside && $2 ~ /`--/ {
-        match($2, /--[a-z]+/)
+        match($2, /--[a-z-]+/)
         n = split($4, names, ", ")
         for (i = 1; i <= n; i++) if (names[i] ~ /^[a-z]+$/ && names[i] != "each") print names[i], substr($2, RSTART, RLENGTH)
     }' docs/COMMANDS.md | sort > "$work/sorted"
     for text in tests/program/help/*.txt; do
         case $text in */bpfdb.txt | *-short.txt) continue ;; esac
-        awk -v name="$(basename "$text" .txt)" '/^Options:/ { inside = 1 } inside && match($0, /^ +(-[a-z], )?--[a-z]+/) {
-            match($0, /--[a-z]+/)
+        awk -v name="$(basename "$text" .txt)" '/^Options:/ { inside = 1 } inside && match($0, /^ +(-[a-z], )?--[a-z-]+/) {
+            match($0, /--[a-z-]+/)
             if (substr($0, RSTART, RLENGTH) != "--help") print name, substr($0, RSTART, RLENGTH)
         }' "$text"
     done | sort > "$work/found"
@@ -245,12 +245,11 @@ refusals() {
             # (those of test files count from when the page has them)
             if (tested) letter["SectionFault"] = "T"
         }
-        { gsub(/\(_\)/, ""); gsub(/ \| [A-Za-z]+::[A-Za-z]+/, "") }
+        { gsub(/\(_\)/, ""); sub(/Fields \{ \.\. \}/, "Fields"); gsub(/ \| [A-Za-z]+::[A-Za-z]+/, "") }
         match($0, /[A-Za-z]+::[A-Za-z]+ => ([0-9]+|"[^"]*"),$/) {
             split(substr($0, RSTART, RLENGTH - 1), parts, / => /)
             split(parts[1], name, "::")
-            # (nobody is told yet why .BTF.ext is not read)
-            if (!(name[1] in letter) || parts[1] == "BtfFault::Ext") next
+            if (!(name[1] in letter)) next
             if (parts[2] ~ /^"/) print letter[name[1]] number[parts[1]], substr(parts[2], 2, length(parts[2]) - 2)
             else number[parts[1]] = parts[2]
         }

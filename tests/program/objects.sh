@@ -407,6 +407,40 @@ C
         "$program" link --entry $entry entries.o > entries
         result "$([ $entry = first ] && echo 0x1 || echo 0x2)\n" run entries
     done
+    # Relocations of fields (CO-RE): they are refused by how many there are and where the first is, in the section or in `.text`, unless fields are to stay.
+    cat > core.c <<'C'
+struct thing { int first, second; long third; } __attribute__((preserve_access_index));
+static __attribute__((noinline)) long other(struct thing *t) { return t->third + t->first; }
+__attribute__((section("here"))) long here(struct thing *t) { return t->second; }
+__attribute__((section("both"))) long both(struct thing *t) { return t->second + other(t); }
+__attribute__((section("there"))) long there(struct thing *t) { return other(t) + 1; }
+__attribute__((section("none"))) long none(long *t) { return t[1]; }
+C
+    clang -g -O2 -target bpf -c -o core.o core.c
+    printf '\001\0\0\0\002\0\0\0\005\0\0\0\0\0\0\0' > context
+    while IFS='|' read -r section count slot first told; do
+        [ "$count" = 0 ] ||
+            refused "refused E36 at slot $slot: relocations of fields, $count in all: --as-compiled leaves them undone: $first" link --section $section core.o
+        "$program" link --as-compiled --section=$section core.o > core 2> left || complain "$section isn't linked as compiled"
+        [ "$(cat left)" = "fields left by --as-compiled: $count" ] || complain "what is told of the fields of $section"
+        result "$told\n" run -m context core
+    done <<'ROWS'
+here|1|0|here|0x2
+both|3|0|both|0x8
+there|2|3|.text|0x7
+.text|2|0|.text|0x6
+none|0|||0x5
+ROWS
+    "$program" link --section none core.o > core 2> left && [ ! -s left ] || complain 'code without relocations of fields, in an object that has some'
+    # A damaged list is refused, and of each byte that is turned something is told.
+    place=$(LC_ALL=C grep -obUa "$(printf '\237\353')" core.o | sed -n '2s/:.*//p')
+    { head -c "$place" core.o; printf '\0'; tail -c +$((place + 2)) core.o; } > changed.o
+    refused 'refused E53: malformed section .BTF.ext' link --as-compiled --section none changed.o
+    for at in $(seq "$place" $((place + 200))); do
+        { head -c "$at" core.o; printf '\377'; tail -c +$((at + 2)) core.o; } > changed.o
+        "$program" link --section both changed.o > core 2> left
+        [ $? -eq 2 ] || [ ! -s left ] || complain "an object with byte $at turned"
+    done
     # Data are maps after the object's own.
     echo 'static int count; __attribute__((section("prog"))) int entry(void) { return ++count; }' > zeros.c
     echo 'static const char names[] = "bpfdb"; __attribute__((section("prog"))) int entry(const void *at, unsigned long size) { return names[size & 3]; }' > constants.c

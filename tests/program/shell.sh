@@ -135,6 +135,7 @@ SCRIPT
     for row in \
         '-m context overrun.o|link -- overrun.o|debug -m context --maps 8x2 -- LINKED' \
         '--section filter overrun.o --steps 9|link --section filter -- overrun.o|debug --steps 9 --maps 8x2 -- LINKED' \
+        '--as-compiled overrun.o --steps 9|link --as-compiled -- overrun.o|debug --steps 9 --maps 8x2 -- LINKED' \
         '--entry=entry --section xdp --maps=1x1 overrun.o|link --entry=entry --section xdp -- overrun.o|debug --maps=1x1 -- LINKED' \
         '--stub 5=0,14=-1 overrun.o|link --stub 5=0,14=-1 -- overrun.o|debug --maps 8x2 -- LINKED' \
         '--journal=1024 sum.s|debug --journal=1024 --listing -- sum.s' \

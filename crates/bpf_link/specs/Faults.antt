@@ -3,7 +3,7 @@ use Rattle.std.specs.Prelude.{ℕ, List, codes}
 use Rattle.bpf_isa.specs.Faults.{load_fault}
 use Rattle.bpf_btf.specs.Faults.{btf_fault}
 use Rattle.bpf_link.specs.declared.fault.LinkFault.{LinkFault}
-use Rattle.bpf_link.specs.declared.fault.LinkFault.TheVariants.{NotElf, Class, Order, Kind, Machine, SectionTable, LongName, NoSection, ManySections, Section, TooLong, RunsOff, SymbolTable, ManyMapSections, TooManyMaps, RelocationTable, Place, Symbol, Extern, RelocationKind, CallTarget, NoCall, Data, NoLoad, Program, Memory, LongData, DataSection, Pointer, ManyPrograms, NoEntry, Helper, StubList, StubRange, StubTwice, ManyStubs, Types, Map}
+use Rattle.bpf_link.specs.declared.fault.LinkFault.TheVariants.{NotElf, Class, Order, Kind, Machine, SectionTable, LongName, NoSection, ManySections, Section, TooLong, RunsOff, SymbolTable, ManyMapSections, TooManyMaps, RelocationTable, Place, Symbol, Extern, RelocationKind, CallTarget, NoCall, Data, NoLoad, Program, Memory, LongData, DataSection, Pointer, ManyPrograms, NoEntry, Helper, StubList, StubRange, StubTwice, ManyStubs, Types, Map, Fields}
 
 abbrev pub link_fault_number : LinkFault → ℕ
 link_fault_number NotElf = 1
@@ -42,6 +42,7 @@ link_fault_number StubList = 32
 link_fault_number StubRange = 33
 link_fault_number StubTwice = 34
 link_fault_number ManyStubs = 35
+link_fault_number (Fields count slot at) = 36
 link_fault_number (Types fault) = (btf_fault fault).0
 link_fault_number (Map at fault) = (btf_fault fault).0
 
@@ -82,5 +83,6 @@ link_fault_text StubList = codes "malformed list of stubs"
 link_fault_text StubRange = codes "helper or value of a stub out of range"
 link_fault_text StubTwice = codes "two stubs of one helper"
 link_fault_text ManyStubs = codes "more than 16 stubs"
+link_fault_text (Fields count slot at) = codes "relocations of fields"
 link_fault_text (Types fault) = (btf_fault fault).1
 link_fault_text (Map at fault) = (btf_fault fault).1

@@ -15,3 +15,4 @@ pub mod Links
 pub mod Laid
 pub mod Shapes
 pub mod Refusals
+pub mod FieldRelocations

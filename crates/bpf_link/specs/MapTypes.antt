@@ -1,9 +1,8 @@
 -- The shapes of the maps of a section `.maps`, by the section `.BTF` of the object.
-use Rattle.std.specs.Prelude.{◌≡◌, ◌⊎◌, ℕ, ◌+◌, ◌==◌, nat_le, nat_lt, min, Bool, true, false, ◌&&◌, if◌then◌else◌, List, [], ◌∷◌, ◌++◌, Option, Some, None, Result, Ok, Err, length, slice_index, slice_range, codes}
+use Rattle.std.specs.Prelude.{ℕ, ◌+◌, ◌==◌, nat_le, nat_lt, min, Bool, true, false, ◌&&◌, if◌then◌else◌, List, [], ◌∷◌, ◌++◌, Option, Some, None, Result, Ok, Err, length, slice_index, slice_range, codes}
 use Rattle.std.specs.List.{before_first}
 use Rattle.bpf_isa.specs.declared.maps.MapShape.{MapShape}
 use Rattle.bpf_btf.specs.Maps.{last_below, map_shape}
-use Rattle.bpf_btf.specs.Sections.{IsRead, IsReadFault}
 use Rattle.bpf_btf.specs.Types.{Types}
 use Rattle.bpf_btf.specs.declared.fault.BtfFault.{BtfFault}
 use Rattle.bpf_link.specs.declared.fault.LinkFault.{LinkFault}
@@ -23,9 +22,13 @@ abbrev pub are_in_maps : List ℕ → Plan → Bool
 are_in_maps object plan =
     nat_lt plan.maps plan.sections.count && is_named object plan.sections (section_at object plan.sections plan.maps) (codes ".maps")
 
+-- The section of a name.
+abbrev pub found_named : List ℕ → Sections → List ℕ → Found
+found_named object sections name = found_below (λ i. is_named object sections (section_at object sections i) name) sections.count
+
 -- The section of BTF, and its bytes. One that doesn't lie in the file, or isn't the only one, has none.
 abbrev pub types_found : List ℕ → Sections → Found
-types_found object sections = found_below (λ i. is_named object sections (section_at object sections i) (codes ".BTF")) sections.count
+types_found object sections = found_named object sections (codes ".BTF")
 
 abbrev pub section_bytes : List ℕ → SectionHeader → List ℕ
 section_bytes object section =
@@ -52,9 +55,10 @@ is_zero_byte byte = byte == 0
 abbrev pub name_from : List ℕ → ℕ → List ℕ
 name_from object at = before_first is_zero_byte (slice_range object at (length object))
 
--- The name that a fault tells: that of its map; none of other faults.
+-- The name that a fault tells: that of its map, or of the section of its code; none of other faults.
 abbrev pub fault_name : List ℕ → LinkFault → List ℕ
 fault_name object (link.Map at fault) = name_from object at
+fault_name object (link.Fields count slot at) = name_from object at
 fault_name object fault = []
 
 -- The last symbol that names the map at a place, and where its name stands.

@@ -89,6 +89,9 @@ pub enum LinkFault {
     ManyStubs,
     /// The section `.BTF`, which tells the shapes of maps, isn't read.
     Types(BtfFault),
+    /// BTF asks for so many relocations of fields (CO-RE), the first at this slot; the name of its
+    /// section stands at this place in the file.
+    Fields { count: u32, slot: usize, at: usize },
     /// BTF doesn't say of the map, whose name stands at this place in the file, what the machine may
     /// have.
     Map { at: usize, fault: BtfFault },
@@ -97,7 +100,7 @@ pub enum LinkFault {
 impl LinkFault {
     ghost use Rattle.bpf_link.specs.Faults.{link_fault_number, link_fault_text};
 
-    /// The number that is printed after E, 1 to 35, and 40 to 53 of BTF; that of a program's fault
+    /// The number that is printed after E, 1 to 36, and 40 to 53 of BTF; that of a program's fault
     /// is 25.
     pub fn number(self) -> u8
         ensures { result ≡ link_fault_number self }
@@ -139,6 +142,7 @@ impl LinkFault {
             LinkFault::StubRange => 33,
             LinkFault::StubTwice => 34,
             LinkFault::ManyStubs => 35,
+            LinkFault::Fields { .. } => 36,
             LinkFault::Types(fault) => fault.number(),
             LinkFault::Map { fault, .. } => fault.number(),
         }
@@ -185,6 +189,7 @@ impl LinkFault {
             LinkFault::StubRange => "helper or value of a stub out of range",
             LinkFault::StubTwice => "two stubs of one helper",
             LinkFault::ManyStubs => "more than 16 stubs",
+            LinkFault::Fields { .. } => "relocations of fields",
             LinkFault::Types(fault) => fault.text(),
             LinkFault::Map { fault, .. } => fault.text(),
         }

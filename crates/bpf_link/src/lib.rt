@@ -4,6 +4,7 @@
 mod data_sections;
 mod entry;
 mod fault;
+mod field_relocations;
 mod fields;
 mod header;
 mod image;
@@ -20,6 +21,7 @@ mod stubs;
 mod words;
 
 pub use fault::LinkFault;
+pub use field_relocations::fields_as_compiled;
 pub use linker::{LinkOptions, Linked, link, link_with};
 pub use map_types::fault_name;
 pub use stub_lists::stubs_in;

@@ -96,7 +96,7 @@ fn plain_maps(count: usize) -> MapTable
 }
 
 /// What the program of a section is put together from.
-fn planned(object: &[u8], name: &[u8]) -> Result<Plan, LinkFault>
+pub fn planned(object: &[u8], name: &[u8]) -> Result<Plan, LinkFault>
     ensures value { result ≡ planned object.now name.now }
     ensures fits { IfOk result (LiesPlan object.now) }
 {

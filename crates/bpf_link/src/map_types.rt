@@ -2,7 +2,7 @@
 ghost use Rattle.std.specs.Prelude.{◌≡◌, ◌≤◌, ◌<◌, ◌⊎◌, IfOk, IfErr, IfSome, Ok, Err, length, position};
 ghost use Rattle.std.specs.List.{position_or_len};
 ghost use Rattle.bpf_link.specs.Header.{HasTable};
-ghost use Rattle.bpf_link.specs.MapTypes.{are_in_maps, types_found, section_bytes, types_bytes, is_something, is_typed, is_zero_byte, name_from, fault_name, is_map_at, symbol_of, name_place, told_of_map, typed_by_name, typed_at, typed_shapes};
+ghost use Rattle.bpf_link.specs.MapTypes.{are_in_maps, found_named, types_found, section_bytes, types_bytes, is_something, is_typed, is_zero_byte, name_from, fault_name, is_map_at, symbol_of, name_place, told_of_map, typed_by_name, typed_at, typed_shapes};
 ghost use Rattle.bpf_link.specs.Plans.{LiesPlan};
 ghost use Rattle.bpf_link.specs.Sections.{FoundBelow};
 ghost use Rattle.bpf_link.specs.Refusals.{IsTypeFault};
@@ -33,18 +33,27 @@ fn are_in_maps(object: &[u8], plan: &Plan) -> bool
     is_named(object, &plan.sections, &section, b".maps")
 }
 
+/// The section of a name.
+pub fn found_named(object: &[u8], sections: &Sections, name: &[u8]) -> Found
+    requires { HasTable object.now sections.now }
+    ensures value { result ≡ found_named object.now sections.now name.now }
+    ensures within { FoundBelow sections.now.count result }
+{
+    let mut found = Found::Nothing;
+    for i in 0..sections.count {
+        let section = section_at(object, sections, i);
+        found = found.with(is_named(object, sections, &section, name), i);
+    }
+    found
+}
+
 /// The section of BTF.
 fn types_found(object: &[u8], sections: &Sections) -> Found
     requires { HasTable object.now sections.now }
     ensures value { result ≡ types_found object.now sections.now }
     ensures within { FoundBelow sections.now.count result }
 {
-    let mut found = Found::Nothing;
-    for i in 0..sections.count {
-        let section = section_at(object, sections, i);
-        found = found.with(is_named(object, sections, &section, b".BTF"), i);
-    }
-    found
+    found_named(object, sections, b".BTF")
 }
 
 /// The bytes of a section; none where it doesn't lie in the file.
@@ -59,7 +68,7 @@ fn section_bytes<'a>(object: &'a [u8], section: &SectionHeader) -> &'a [u8]
 }
 
 /// The bytes of the only section that was found.
-fn types_bytes<'a>(object: &'a [u8], sections: &Sections, found: Found) -> &'a [u8]
+pub fn types_bytes<'a>(object: &'a [u8], sections: &Sections, found: Found) -> &'a [u8]
     requires table { HasTable object.now sections.now }
     requires found { FoundBelow sections.now.count found }
     ensures { result.now ≡ types_bytes object.now sections.now found }
@@ -72,7 +81,7 @@ fn types_bytes<'a>(object: &'a [u8], sections: &Sections, found: Found) -> &'a [
 }
 
 /// The bytes of the section of BTF.
-fn types_in<'a>(object: &'a [u8], sections: &Sections) -> &'a [u8]
+pub fn types_in<'a>(object: &'a [u8], sections: &Sections) -> &'a [u8]
     requires { HasTable object.now sections.now }
     ensures { result.now ≡ types_bytes object.now sections.now
         (types_found object.now sections.now) }
@@ -81,7 +90,7 @@ fn types_in<'a>(object: &'a [u8], sections: &Sections) -> &'a [u8]
 }
 
 /// Whether a search found something.
-fn is_something(found: Found) -> bool
+pub fn is_something(found: Found) -> bool
     ensures { result ≡ is_something found }
 {
     match found {
@@ -127,13 +136,14 @@ pub fn name_from<'a>(object: &'a [u8], at: usize) -> &'a [u8]
     &rest[..end_of(rest)]
 }
 
-/// The name that a fault of an object tells, as it stands there: that of its map; empty where it
-/// tells none.
+/// The name that a fault of an object tells, as it stands there: that of its map, or of the section
+/// of its code; empty where it tells none.
 pub fn fault_name<'a>(object: &'a [u8], fault: &LinkFault) -> &'a [u8]
     ensures { result.now ≡ fault_name object.now fault.now }
 {
     match fault {
         LinkFault::Map { at, .. } => name_from(object, (*at).min(object.len())),
+        LinkFault::Fields { at, .. } => name_from(object, (*at).min(object.len())),
         _ => &[],
     }
 }
@@ -235,7 +245,7 @@ fn typed_shapes(
 }
 
 /// What is told of BTF that isn't read.
-fn told_of_types(fault: BtfFault) -> LinkFault
+pub fn told_of_types(fault: BtfFault) -> LinkFault
     ensures { (result ≡ LinkFault.Memory) ⊎ (result ≡ LinkFault.Types fault) }
 {
     match fault {

@@ -74,6 +74,10 @@ entry_rule = record (new_rule (codes "entry")) { long = Some (codes "entry"); va
 abbrev pub stub_rule : Rule
 stub_rule = record (new_rule (codes "stub")) { long = Some (codes "stub"); value_names = 1 }
 
+-- `--as-compiled`: relocations of fields are left undone.
+abbrev pub as_compiled_rule : Rule
+as_compiled_rule = record (new_rule (codes "as-compiled")) { long = Some (codes "as-compiled"); action = Some SetTrue }
+
 -- `--registers NAME`: the machine that gdb is told of.
 abbrev pub registers_rule : Rule
 registers_rule = record (new_rule (codes "registers")) { long = Some (codes "registers"); value_names = 1; defaults = codes "x86" ∷ [] }
@@ -133,7 +137,7 @@ abbrev pub check_app : App
 check_app = with_rule (with_rule (with_rule (new_app (codes "check")) maps_rule) listing_rule) file_rule
 
 abbrev pub link_app : App
-link_app = with_rule (with_rule (with_rule (with_rule (new_app (codes "link")) section_rule) entry_rule) stub_rule) file_rule
+link_app = with_rule (with_rule (with_rule (with_rule (with_rule (new_app (codes "link")) section_rule) entry_rule) stub_rule) as_compiled_rule) file_rule
 
 abbrev pub test_app : App
 test_app = with_rule (with_rule (new_app (codes "test")) only_rule) file_rule

@@ -48,6 +48,7 @@ pub record Says (name : Text) (rows : List Row) (plan : Plan) : Type 0 where
   pub section : option_map (λ s. s.now) plan.options.section ≡ first_of (codes "section") rows
   pub entry : option_map (λ s. s.now) plan.options.entry ≡ first_of (codes "entry") rows
   pub stubs : option_map (λ s. s.now) plan.options.stubs ≡ first_of (codes "stub") rows
+  pub as_compiled : plan.options.as_compiled ≡ is_given (first_of (codes "as-compiled") rows)
   pub registers : NamesRegisters (first_of (codes "registers") rows) plan.options.registers
   pub what : option_map (λ s. s.now) plan.options.what ≡ first_of (codes "what") rows
   pub lines : plan.options.lines ≡ number_or default_lines (first_of (codes "lines") rows)

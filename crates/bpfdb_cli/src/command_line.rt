@@ -96,6 +96,7 @@ fn argument_of<'a>(alloc: Global, option: CliOption) -> Arg<'a>
         CliOption::Script => {
             text_option(alloc, "script", "PATH", help::SCRIPT, help::SCRIPT_LONG)
         }
+        CliOption::AsCompiled => flag(alloc, "as-compiled", help::AS_COMPILED),
         CliOption::Lines => text_option(
             alloc,
             "lines",

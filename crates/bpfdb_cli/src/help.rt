@@ -315,6 +315,9 @@ pub const SCRIPT_LONG: &str =
 and WHAT is asked about the state where it leaves the session. --steps is then the limit
 of each of its commands. If a line is refused, nothing is told. Example: --script steps";
 
+/// `--as-compiled`.
+pub const AS_COMPILED: &str = "Leaves fields where they were compiled; no relocation of fields";
+
 /// `--lines`.
 pub const LINES_MOST: &str = "Most lines of moves in an answer, 1 to 1000000000";
 

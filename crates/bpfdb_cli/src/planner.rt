@@ -132,6 +132,7 @@ fn plan_in<'a>(name: &'a str, found: &ArgMatches<'a>) -> Option<Plan<'a>>
             section: text_of(found, "section"),
             entry: text_of(found, "entry"),
             stubs: text_of(found, "stub"),
+            as_compiled: is_given(text_of(found, "as-compiled")),
             registers,
             what: text_of(found, "what"),
             lines,

@@ -32,6 +32,8 @@ pub(crate) enum CliOption {
     Stub,
     /// `--script PATH`.
     Script,
+    /// `--as-compiled`.
+    AsCompiled,
     /// `--lines N`.
     Lines,
     /// `--addresses`.
@@ -168,7 +170,12 @@ pub(crate) const SUBCOMMANDS: [CliSubcommand<'static>; 11] = [
         about: help::LINK,
         long_about: help::LINK_LONG,
         example: help::LINK_EXAMPLE,
-        options: &[CliOption::Section, CliOption::Entry, CliOption::Stub],
+        options: &[
+            CliOption::Section,
+            CliOption::Entry,
+            CliOption::Stub,
+            CliOption::AsCompiled,
+        ],
         file: help::OBJECT_FILE,
     },
     CliSubcommand {

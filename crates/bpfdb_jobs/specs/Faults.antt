@@ -47,8 +47,13 @@ refusal_text family number at text = family ++ decimal number ++ at ++ codes ": 
 abbrev pub helper_text : ℕ → List ℕ
 helper_text helper = codes " " ++ decimal helper ++ codes ": --stub " ++ decimal helper ++ codes "=VALUE answers it"
 
+-- How many relocations of fields there are, and the option that leaves them.
+abbrev pub fields_text : ℕ → List ℕ
+fields_text count = codes ", " ++ decimal count ++ codes " in all: --as-compiled leaves them undone"
+
 abbrev pub more_of : LinkFault → List ℕ
 more_of (linking.Helper slot helper) = helper_text helper
+more_of (linking.Fields count slot at) = fields_text count
 more_of fault = []
 
 -- The slot of a program's fault, where it has one.
@@ -70,6 +75,7 @@ slot_of_words (linking.Data slot) = Some slot
 slot_of_words (linking.NoLoad slot) = Some slot
 slot_of_words (linking.Program fault) = slot_of fault
 slot_of_words (linking.Helper slot helper) = Some slot
+slot_of_words (linking.Fields count slot at) = Some slot
 slot_of_words fault = None
 
 -- The name of what is wrong with an object.

@@ -7,6 +7,7 @@ use Rattle.bpf_entries.specs.declared.status.Status.TheVariants as status
 use Rattle.bpf_isa.specs.Maps.{IsMapList, items_of, shape_of}
 use Rattle.bpf_isa.specs.Programs.{Checked, IsProgram}
 use Rattle.bpf_isa.specs.declared.maps.MapShape.{MapShape}
+use Rattle.bpf_link.specs.FieldRelocations.{AreLeft}
 use Rattle.bpf_link.specs.Links.{AreWordsOf, planned}
 use Rattle.bpf_link.specs.Shapes.{HasShapes}
 use Rattle.bpf_link.specs.StubLists.{stubs_in}
@@ -91,8 +92,8 @@ abbrev pub stubs_of : Job → Result (List Stub) LinkFault
 stubs_of job = listed_stubs job.options.stubs
 
 -- The words that the object is linked to; the shapes of the maps, in the order of their numbers: none unless the object defines each as
--- an array; and how many calls are answered.
-pub record IsLinkedTo (job : Job) (words : List ℕ) (shapes : List MapShape) (answered : ℕ) : Type 0 where
+-- an array; how many calls are answered; and how many fields are left as compiled.
+pub record IsLinkedTo (job : Job) (words : List ℕ) (shapes : List MapShape) (answered fields : ℕ) : Type 0 where
   pub plan : Plan
   pub stubs : List Stub
   pub asked : stubs_of job ≡ Ok stubs
@@ -100,11 +101,17 @@ pub record IsLinkedTo (job : Job) (words : List ℕ) (shapes : List MapShape) (a
   pub plans : planned job.file.now (section_of job) ≡ Ok plan
   pub shaped : HasShapes job.file.now plan shapes
   pub counted : answered ≡ made.program.answered
+  pub left : AreLeft job.file.now (section_of job) job.options.as_compiled fields
 
 -- How many calls are answered is told with the option alone.
 abbrev pub answered_if : Option (Bor (List ℕ)) → ℕ → Option ℕ
 answered_if (Some text) count = Some count
 answered_if None count = None
+
+-- How many fields are left is told with the option alone.
+abbrev pub fields_if : Bool → ℕ → Option ℕ
+fields_if true count = Some count
+fields_if false count = None
 
 -- What is printed on standard output and on standard error, and the exit status. A stream to which nothing is said to go is left as it was.
 pub record Print : Type 0 where
@@ -171,5 +178,5 @@ Prints Asm job a = (words : List ℕ) × IsListing job.file.now words × (a ≡ 
 Prints Disasm job a = (code : Checked) × IsProgramOf job code × (a ≡ printed (canon code))
 Prints Lines job a = (table : List ℕ) × IsLineTable job.file.now table × (a ≡ printed table)
 Prints Check job a = (code : Checked) × IsProgramOf job code × (a ≡ printed (check_line code))
-Prints Link job a = (words : List ℕ) × (shapes : List MapShape) × (count : ℕ) × IsLinkedTo job words shapes count
-    × (a ≡ record (printed words) { err = linked_told shapes (answered_if job.options.stubs count) })
+Prints Link job a = (words : List ℕ) × (shapes : List MapShape) × (count : ℕ) × (fields : ℕ) × IsLinkedTo job words shapes count fields
+    × (a ≡ record (printed words) { err = linked_told shapes (answered_if job.options.stubs count) (fields_if job.options.as_compiled fields) })

@@ -24,11 +24,16 @@ abbrev pub answered_lines : Option ℕ → List ℕ
 answered_lines None = []
 answered_lines (Some count) = codes "calls answered by --stub: " ++ decimal count ++ codes "\n"
 
--- Both, one after the other.
-unfoldable pub linked_text : List MapShape → Option ℕ → List ℕ
-linked_text shapes answered = maps_lines shapes ++ answered_lines answered
+-- How many fields are left where they were compiled, if that is to be told.
+abbrev pub fields_lines : Option ℕ → List ℕ
+fields_lines None = []
+fields_lines (Some count) = codes "fields left by --as-compiled: " ++ decimal count ++ codes "\n"
 
--- What is told of an object: its maps, and then how many calls are answered; of neither nothing.
-abbrev pub linked_told : List MapShape → Option ℕ → Option (List ℕ)
-linked_told [] None = None
-linked_told shapes answered = Some (linked_text shapes answered)
+-- All, one after the other.
+unfoldable pub linked_text : List MapShape → Option ℕ → Option ℕ → List ℕ
+linked_text shapes answered fields = maps_lines shapes ++ answered_lines answered ++ fields_lines fields
+
+-- What is told of an object: its maps, how many calls are answered, and how many fields are left; of none of them nothing.
+abbrev pub linked_told : List MapShape → Option ℕ → Option ℕ → Option (List ℕ)
+linked_told [] None None = None
+linked_told shapes answered fields = Some (linked_text shapes answered fields)

@@ -1,5 +1,5 @@
 -- Why a job is refused, in this order: its maps, its listing, its program, its context, its journal; its script, what it asks about; its stubs,
--- its object; or its tests.
+-- its object, the fields of that; or its tests.
 use Rattle.std.specs.Prelude.{◌≡◌, ◌⊎◌, List, [], ℕ, Option, Some, None, Ok, Err, true}
 use Rattle.std.specs.Borrow.{Bor}
 use Rattle.bpf_isa.specs.Checker.{IsRefused}
@@ -8,6 +8,7 @@ use Rattle.bpf_isa.specs.Programs.{Checked}
 use Rattle.bpf_isa.specs.declared.maps.MapShape.{MapShape}
 use Rattle.bpf_text.specs.Listing.{IsFaultOf}
 use Rattle.bpf_link.specs.MapTypes.{fault_name}
+use Rattle.bpf_link.specs.FieldRelocations.{IsFieldsFault}
 use Rattle.bpf_link.specs.Refusals.{IsLinkFault}
 use Rattle.bpf_link.specs.declared.stubs.Stub.{Stub}
 use Rattle.bpf_suite.specs.Faults as suite
@@ -63,7 +64,8 @@ RefusesListing job refusal = ⊥
 
 abbrev pub RefusesObject : Job → JobRefusal → Type 0
 RefusesObject job (Object fault name) = (name.now ≡ fault_name job.file.now fault) × ((stubs_of job ≡ Err fault)
-    ⊎ ((stubs : List Stub) × (stubs_of job ≡ Ok stubs) × IsLinkFault job.file.now (section_of job) (entry_of job) stubs fault))
+    ⊎ ((stubs : List Stub) × (stubs_of job ≡ Ok stubs) × IsLinkFault job.file.now (section_of job) (entry_of job) stubs fault)
+    ⊎ IsFieldsFault job.file.now (section_of job) job.options.as_compiled fault)
 RefusesObject job refusal = ⊥
 
 -- No test has the name that is asked for.

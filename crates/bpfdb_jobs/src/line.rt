@@ -1,7 +1,7 @@
 //! The line of a fault.
 ghost use Rattle.std.specs.Prelude.{◌≡◌, ◌++◌, [], codes, decimal};
 ghost use Rattle.counted_io.specs.Writing.{Writes, WritesAfter};
-ghost use Rattle.bpfdb_jobs.specs.Faults.{helper_text, line_of, more_of, name_text, no_test_line, object_line, placed, refusal_line, refusal_text, shown, slot_of, slot_of_words, unreadable_line};
+ghost use Rattle.bpfdb_jobs.specs.Faults.{fields_text, helper_text, line_of, more_of, name_text, no_test_line, object_line, placed, refusal_line, refusal_text, shown, slot_of, slot_of_words, unreadable_line};
 
 use crate::fault::JobFault;
 use crate::name::put_name;
@@ -186,6 +186,7 @@ fn put_more<E: Write>(
 {
     match fault {
         LinkFault::Helper { helper, .. } => put_helper(errors, so_far, *helper),
+        LinkFault::Fields { count, .. } => put_fields(errors, so_far, *count),
         _ => put(errors, so_far, b""),
     }
 }
@@ -203,6 +204,19 @@ fn put_helper<E: Write>(
     let parted = put(errors, named, b": --stub ");
     let again = put_decimal(errors, parted, u64::from(helper));
     put(errors, again, b"=VALUE answers it")
+}
+
+/// Writes how many relocations of fields there are, and the option that leaves them.
+fn put_fields<E: Write>(
+    errors: &mut Counted<E>,
+    so_far: Result<(), WriteFault>,
+    count: u32,
+) -> Result<(), WriteFault>
+    ensures { WritesAfter E.contents errors.old so_far errors.new result (fields_text count) }
+{
+    let begun = put(errors, so_far, b", ");
+    let counted = put_decimal(errors, begun, u64::from(count));
+    put(errors, counted, b" in all: --as-compiled leaves them undone")
 }
 
 /// Writes the line of a test file's fault.
@@ -267,6 +281,7 @@ fn slot_of_words(fault: &LinkFault) -> Option<usize>
         LinkFault::NoLoad(slot) => Some(*slot),
         LinkFault::Program(fault) => slot_of(fault),
         LinkFault::Helper { slot, .. } => Some(*slot),
+        LinkFault::Fields { slot, .. } => Some(*slot),
         _ => None,
     }
 }

@@ -2,39 +2,41 @@
 ghost use Rattle.std.specs.Prelude.{◌++◌, OnErr, OnOk, flat_map, codes};
 ghost use Rattle.counted_io.specs.Writing.{Writes, WritesAfter};
 ghost use Rattle.bpfdb_jobs.specs.Endings.{Gets, Loses};
-ghost use Rattle.bpfdb_jobs.specs.MapLines.{answered_lines, linked_text, linked_told, maps_line, maps_lines, maps_text, shape_text};
+ghost use Rattle.bpfdb_jobs.specs.MapLines.{answered_lines, fields_lines, linked_text, linked_told, maps_line, maps_lines, maps_text, shape_text};
 
 use bpf_isa::MapShape;
 use counted_io::{Counted, WriteFault, put, put_decimal};
 use std::io::Write;
 
-/// Tells on standard error the maps of an object, as `--maps` takes them, and how many calls of
-/// helpers are answered, a line each; nothing where there is neither.
+/// Tells on standard error the maps of an object, as `--maps` takes them, how many calls of helpers
+/// are answered, and how many fields are left as compiled, a line each; nothing where there is none.
 pub fn tell_linked<E: Write>(
     errors: &mut Counted<E>,
     shapes: &[MapShape],
     answered: Option<usize>,
+    fields: Option<u32>,
 ) -> Result<(), WriteFault>
     ensures ok { OnOk result
-        (Gets E.contents errors.old errors.new (linked_told shapes.now answered)) }
+        (Gets E.contents errors.old errors.new (linked_told shapes.now answered fields)) }
     ensures err { OnErr result
-        (Loses E.contents errors.old errors.new (linked_told shapes.now answered)) }
+        (Loses E.contents errors.old errors.new (linked_told shapes.now answered fields)) }
 {
-    if shapes.is_empty() && answered.is_none() {
+    if shapes.is_empty() && (answered.is_none() && fields.is_none()) {
         return Ok(());
     }
-    write_linked(errors, shapes, answered)
+    write_linked(errors, shapes, answered, fields)
 }
 
-/// Writes both lines, and flushes.
+/// Writes all lines, and flushes.
 fn write_linked<E: Write>(
     errors: &mut Counted<E>,
     shapes: &[MapShape],
     answered: Option<usize>,
+    fields: Option<u32>,
 ) -> Result<(), WriteFault>
-    ensures { Writes E.contents errors.old errors.new result (linked_text shapes.now answered) }
+    ensures { Writes E.contents errors.old errors.new result (linked_text shapes.now answered fields) }
 {
-    match write_lines(errors, shapes, answered) {
+    match write_lines(errors, shapes, answered, fields) {
         Ok(()) => {}
         Err(fault) => return Err(fault),
     }
@@ -44,16 +46,18 @@ fn write_linked<E: Write>(
     }
 }
 
-/// Writes both lines.
+/// Writes all lines.
 fn write_lines<E: Write>(
     errors: &mut Counted<E>,
     shapes: &[MapShape],
     answered: Option<usize>,
+    fields: Option<u32>,
 ) -> Result<(), WriteFault>
-    ensures { Writes E.contents errors.old errors.new result (linked_text shapes.now answered) }
+    ensures { Writes E.contents errors.old errors.new result (linked_text shapes.now answered fields) }
 {
     let told = put_lines(errors, Ok(()), shapes);
-    put_answered(errors, told, answered)
+    let counted = put_answered(errors, told, answered);
+    put_fields(errors, counted, fields)
 }
 
 /// Writes how many calls are answered, if that is to be told.
@@ -68,6 +72,24 @@ fn put_answered<E: Write>(
         Some(count) => {
             let begun = put(errors, so_far, b"calls answered by --stub: ");
             let counted = put_decimal(errors, begun, count as u64);
+            put(errors, counted, b"\n")
+        }
+        None => put(errors, so_far, b""),
+    }
+}
+
+/// Writes how many fields are left as compiled, if that is to be told.
+fn put_fields<E: Write>(
+    errors: &mut Counted<E>,
+    so_far: Result<(), WriteFault>,
+    fields: Option<u32>,
+) -> Result<(), WriteFault>
+    ensures { WritesAfter E.contents errors.old so_far errors.new result (fields_lines fields) }
+{
+    match fields {
+        Some(count) => {
+            let begun = put(errors, so_far, b"fields left by --as-compiled: ");
+            let counted = put_decimal(errors, begun, u64::from(count));
             put(errors, counted, b"\n")
         }
         None => put(errors, so_far, b""),

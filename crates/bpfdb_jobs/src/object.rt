@@ -6,7 +6,7 @@ ghost use Rattle.bpf_link.specs.Links.{least_maps, linked, planned};
 ghost use Rattle.bpf_link.specs.Shapes.{HasShapes};
 ghost use Rattle.bpf_link.specs.declared.plan.Plan.{Plan};
 ghost use Rattle.bpfdb_jobs.specs.Endings.{EndsPrinted};
-ghost use Rattle.bpfdb_jobs.specs.Jobs.{answered_if, entry_of, section_of, stubs_of};
+ghost use Rattle.bpfdb_jobs.specs.Jobs.{answered_if, entry_of, fields_if, section_of, stubs_of};
 ghost use Rattle.bpfdb_options.specs.declared.subcommand.Subcommand.TheVariants.{Link};
 
 use crate::fault::JobFault;
@@ -15,13 +15,13 @@ use crate::maps::tell_linked;
 use crate::refusal::JobRefusal;
 use crate::report::{give_up, told_as, write_out};
 use arrayvec::ArrayVec;
-use bpf_link::{LinkFault, LinkOptions, Linked, Stub, fault_name, link_with, stubs_in};
+use bpf_link::{LinkFault, LinkOptions, Linked, Stub, fault_name, fields_as_compiled, link_with, stubs_in};
 use counted_io::{Counted, WriteFault};
 use std::alloc::Global;
 use std::io::Write;
 
 /// Writes the words that an object's code section is linked to, and tells the maps that the object
-/// defines, and how many calls are answered where that is asked for.
+/// defines, and how many calls are answered, and fields left, where that is asked for.
 pub fn link_job<W: Write, E: Write>(
     alloc: Global,
     job: &Job<'_>,
@@ -47,9 +47,22 @@ pub fn link_job<W: Write, E: Write>(
             return give_up(errors, &JobFault::Refused(JobRefusal::Object(fault, name)));
         }
     };
+    let left = match fields_as_compiled(
+        alloc,
+        job.file,
+        section_of(job),
+        job.options.as_compiled,
+    ) {
+        Ok(left) => left,
+        Err(fault) => {
+            let name = fault_name(job.file, &fault);
+            return give_up(errors, &JobFault::Refused(JobRefusal::Object(fault, name)));
+        }
+    };
     let answered = answered_if(job, linked.answered);
+    let fields = fields_if(job, left);
     match write_out(writer, linked.words.as_slice()) {
-        Ok(()) => told_as(tell_linked(errors, linked.shapes.as_slice(), answered), 0),
+        Ok(()) => told_as(tell_linked(errors, linked.shapes.as_slice(), answered, fields), 0),
         Err(WriteFault) => give_up(errors, &JobFault::Output),
     }
 }
@@ -105,6 +118,17 @@ fn answered_if(job: &Job<'_>, count: usize) -> Option<usize>
     match job.options.stubs {
         Some(_) => Some(count),
         None => None,
+    }
+}
+
+/// How many fields are left as compiled, if that is to be told.
+fn fields_if(job: &Job<'_>, count: u32) -> Option<u32>
+    ensures { result ≡ fields_if job.now.options.as_compiled count }
+{
+    if job.options.as_compiled {
+        Some(count)
+    } else {
+        None
     }
 }
 

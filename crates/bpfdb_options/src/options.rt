@@ -29,6 +29,8 @@ pub struct Options<'a> {
     pub entry: Option<&'a str>,
     /// The helpers whose calls are answered by a constant, as `5=0,14=-1`; without it none is.
     pub stubs: Option<&'a str>,
+    /// Relocations of fields are left undone: fields stay where they were when it was compiled.
+    pub as_compiled: bool,
     /// The machine that gdb takes this one for.
     pub registers: Registers,
     /// What is asked about, as `r1` or `0x200000000:8`; without it what is of interest where the
@@ -54,6 +56,7 @@ pub const NO_OPTIONS: Options<'static> = Options {
     section: None,
     entry: None,
     stubs: None,
+    as_compiled: false,
     registers: Registers::X86,
     what: None,
     lines: DEFAULT_LINES,

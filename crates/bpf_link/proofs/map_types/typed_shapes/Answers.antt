@@ -1,4 +1,4 @@
-use Rattle.std.proofs.Common.{◌≡◌, ◌∙◌, ◌+◌, [], ◌∷◌, ◌++◌, Ok, Err, length, sym, ap}
+use Rattle.std.proofs.Common.{◌∙◌, ◌+◌, [], ◌∷◌, ◌++◌, Ok, length, sym, ap}
 use Rattle.std.proofs.lemmas.List.{length_push}
 use Rattle.bpf_link.specs.MapTypes.{with_typed}
 use Rattle.bpf_link.specs.Plans.{after}

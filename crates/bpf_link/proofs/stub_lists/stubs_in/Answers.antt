@@ -1,4 +1,4 @@
-use Rattle.std.proofs.Common.{◌≡◌, ◌<◌, ◌==◌, ◌++◌, ◌∷◌, ◌∙◌, ℕ, [], List, Result, Ok, Err, length, get_or, sym, ap, subst, rules, tests}
+use Rattle.std.proofs.Common.{◌≡◌, ◌<◌, ◌==◌, ◌∙◌, ℕ, [], List, Result, Ok, Err, length, get_or, sym, ap, subst, rules, tests}
 use Rattle.std.proofs.lemmas.List.{length_push, get_or_default}
 use Rattle.bpf_isa.specs.Maps.{items_of}
 use Rattle.bpf_isa.proofs.SplitTurns.{split_turn, split_end}

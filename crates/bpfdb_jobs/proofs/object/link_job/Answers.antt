@@ -1,12 +1,13 @@
-use Rattle.std.proofs.Common.{◌≡◌, Ok, List, inl, inr, ap, refl, sym, ◌∙◌}
+use Rattle.std.proofs.Common.{◌≡◌, ℕ, Ok, List, inl, inr, ap, refl, sym, ◌∙◌}
 use Rattle.bpf_isa.specs.Checker.{IsAccepted}
+use Rattle.bpf_link.specs.FieldRelocations.{AreLeft}
 use Rattle.bpf_link.specs.Links.{least_maps, linked, planned}
 use Rattle.bpf_link.specs.Shapes.{HasShapes}
 use Rattle.bpf_link.specs.declared.linker.Linked.{Linked}
 use Rattle.bpf_link.specs.declared.plan.Plan.{Plan}
 use Rattle.bpf_link.specs.declared.stubs.Stub.{Stub}
 use Rattle.bpfdb_jobs.specs.Endings.{OutLost, Refused}
-use Rattle.bpfdb_jobs.specs.Jobs.{Prints, answered_if, entry_of, printed, section_of, stubs_of}
+use Rattle.bpfdb_jobs.specs.Jobs.{Prints, answered_if, entry_of, fields_if, printed, section_of, stubs_of}
 use Rattle.bpfdb_jobs.specs.MapLines.{linked_told}
 use Rattle.bpfdb_jobs.specs.declared.job.Job.{Job}
 use Rattle.bpfdb_jobs.specs.declared.refusal.JobRefusal.TheVariants.{Object}
@@ -15,15 +16,17 @@ use Rattle.bpfdb_options.specs.declared.subcommand.Subcommand.TheVariants.{Link}
 use Rattle.bpfdb_jobs.proofs.object.link_job.Goals as goal
 
 -- what is printed of a program that was linked
-linked-prints : (job : Job) (stubs : List Stub) (program : Linked) → stubs_of job ≡ Ok stubs
+linked-prints : (job : Job) (stubs : List Stub) (program : Linked) (left : ℕ) → stubs_of job ≡ Ok stubs
     → linked job.file.now (section_of job) (entry_of job) stubs ≡ Ok (record { words = program.words.items; maps = program.maps; data_maps = program.data_maps.items; answered = program.answered })
     → IsAccepted program.words.items (least_maps program.maps program.data_maps.items)
     → (plan : Plan) × (planned job.file.now (section_of job) ≡ Ok plan) × HasShapes job.file.now plan program.shapes.items
-    → Prints Link job (record (printed program.words.items) { err = linked_told program.shapes.items (answered_if job.options.stubs program.answered) })
-linked-prints job stubs program asked e accepted shapes = (
+    → AreLeft job.file.now (section_of job) job.options.as_compiled left
+    → Prints Link job (record (printed program.words.items) { err = linked_told program.shapes.items (answered_if job.options.stubs program.answered) (fields_if job.options.as_compiled left) })
+linked-prints job stubs program left asked e accepted shapes fields = (
   program.words.items,
   program.shapes.items,
   program.answered,
+  left,
   record {
     plan = shapes.0;
     stubs = stubs;
@@ -37,6 +40,7 @@ linked-prints job stubs program asked e accepted shapes = (
     plans = shapes.1;
     shaped = shapes.2;
     counted = refl;
+    left = fields;
   },
   refl,
 )
@@ -45,14 +49,15 @@ pub returns-in-Ok-write_out-clause-does : goal.returns-in-Ok-write_out-clause-do
 returns-in-Ok-write_out-clause-does g c =
     let w = rw c.in-Ok-write_out.is at (rw c.as_slice.ensures.value at c.write_out.ensures) in
     let program = c.in-Ok-linked_from.linked in
+    let left = c.in-Ok-fields_as_compiled.left in
     let asked = c.in-Ok.ensures.ok ∙ ap Ok (sym c.as_slice-named.ensures.value) in
     err-printed g.W.Write.contents g.E.Write.contents Link c.args.job.now
-    (record (printed program.words.items) { err = linked_told program.shapes.items (answered_if c.args.job.now.options.stubs program.answered) })
+    (record (printed program.words.items) { err = linked_told program.shapes.items (answered_if c.args.job.now.options.stubs program.answered) (fields_if c.args.job.now.options.as_compiled left) })
     c.args.writer.now c.write_out.new.writer c.args.errors.now c.tell_linked.new.errors c.tell_linked.result c.told_as.result
-    (linked-prints c.args.job.now c.as_slice-named.result.now program asked (rw c.entry_of.ensures at (rw c.section_of.ensures at c.in-Ok-linked_from.ensures.ok))
-    c.in-Ok-linked_from.ensures.accepted (rw c.section_of.ensures at c.in-Ok-linked_from.ensures.shapes))
-    (w.ok, w.same) (rw (c.as_slice-in-Ok-write_out.ensures.value, c.answered_if-answered.ensures) at c.tell_linked.ensures.ok)
-    (rw (c.as_slice-in-Ok-write_out.ensures.value, c.answered_if-answered.ensures) at c.tell_linked.ensures.err)
+    (linked-prints c.args.job.now c.as_slice-named.result.now program left asked (rw c.entry_of.ensures at (rw c.section_of.ensures at c.in-Ok-linked_from.ensures.ok))
+    c.in-Ok-linked_from.ensures.accepted (rw c.section_of.ensures at c.in-Ok-linked_from.ensures.shapes) (rw c.section_of-2.ensures at c.in-Ok-fields_as_compiled.ensures.ok))
+    (w.ok, w.same) (rw (c.as_slice-in-Ok-write_out.ensures.value, c.answered_if-answered.ensures, c.fields_if-fields.ensures) at c.tell_linked.ensures.ok)
+    (rw (c.as_slice-in-Ok-write_out.ensures.value, c.answered_if-answered.ensures, c.fields_if-fields.ensures) at c.tell_linked.ensures.err)
     c.told_as.ensures.ok c.told_as.ensures.err
 
 pub returns-in-Err-clause-does : goal.returns-in-Err-clause-does
@@ -62,15 +67,21 @@ returns-in-Err-clause-does g c =
 pub returns-in-Err-linked_from-clause-does : goal.returns-in-Err-linked_from-clause-does
 returns-in-Err-linked_from-clause-does g c =
     let asked = c.in-Ok.ensures.ok ∙ ap Ok (sym c.as_slice-named.ensures.value) in
-    Refused (Object c.in-Err-linked_from.fault c.fault_name-name-in-Err-linked_from.result) (c.fault_name-name-in-Err-linked_from.ensures, inr (c.as_slice-named.result.now, asked, rw c.entry_of.ensures at (rw c.section_of.ensures at c.in-Err-linked_from.ensures.err))) refl
+    Refused (Object c.in-Err-linked_from.fault c.fault_name-name-in-Err-linked_from.result) (c.fault_name-name-in-Err-linked_from.ensures, inr (inl (c.as_slice-named.result.now, asked, rw c.entry_of.ensures at (rw c.section_of.ensures at c.in-Err-linked_from.ensures.err)))) refl
     c.give_up-in-Err-linked_from.ensures.told c.give_up-in-Err-linked_from.ensures.value
 
 pub returns-clause-does : goal.returns-clause-does
 returns-clause-does g c =
     let w = rw c.in-Err-write_out.is at (rw c.as_slice.ensures.value at c.write_out.ensures) in
     let program = c.in-Ok-linked_from.linked in
+    let left = c.in-Ok-fields_as_compiled.left in
     let asked = c.in-Ok.ensures.ok ∙ ap Ok (sym c.as_slice-named.ensures.value) in
-    OutLost (record (printed program.words.items) { err = linked_told program.shapes.items (answered_if c.args.job.now.options.stubs program.answered) })
-    (linked-prints c.args.job.now c.as_slice-named.result.now program asked (rw c.entry_of.ensures at (rw c.section_of.ensures at c.in-Ok-linked_from.ensures.ok))
-    c.in-Ok-linked_from.ensures.accepted (rw c.section_of.ensures at c.in-Ok-linked_from.ensures.shapes))
+    OutLost (record (printed program.words.items) { err = linked_told program.shapes.items (answered_if c.args.job.now.options.stubs program.answered) (fields_if c.args.job.now.options.as_compiled left) })
+    (linked-prints c.args.job.now c.as_slice-named.result.now program left asked (rw c.entry_of.ensures at (rw c.section_of.ensures at c.in-Ok-linked_from.ensures.ok))
+    c.in-Ok-linked_from.ensures.accepted (rw c.section_of.ensures at c.in-Ok-linked_from.ensures.shapes) (rw c.section_of-2.ensures at c.in-Ok-fields_as_compiled.ensures.ok))
     (w.err, w.fault) c.give_up-in-Err-write_out.ensures.told c.give_up-in-Err-write_out.ensures.value
+
+pub returns-in-Err-fields_as_compiled-clause-does : goal.returns-in-Err-fields_as_compiled-clause-does
+returns-in-Err-fields_as_compiled-clause-does g c =
+    Refused (Object c.in-Err-fields_as_compiled.fault c.fault_name-name-in-Err-fields_as_compiled.result) (c.fault_name-name-in-Err-fields_as_compiled.ensures, inr (inr (rw c.section_of-2.ensures at c.in-Err-fields_as_compiled.ensures.err))) refl
+    c.give_up-in-Err-fields_as_compiled.ensures.told c.give_up-in-Err-fields_as_compiled.ensures.value

@@ -1,0 +1,223 @@
+//! The relocations of fields (CO-RE) of the code that comes out.
+ghost use Rattle.std.specs.Prelude.{◌≡◌, ◌≤◌, ◌<◌, ◌+◌, ◌/◌, ◌==◌, ◌⊎◌, true, IfOk, IfErr, Ok, length};
+ghost use Rattle.bpf_link.specs.FieldRelocations.{AreLeft, CountedFields, HasFields, HasCountFault, HasExtFault, IsCountFault, IsFieldsFault, ListedFields, PartFields, PlanFields, both_fields, ext_bytes, ext_found, fields_at, part_name};
+ghost use Rattle.bpf_link.specs.Links.{planned};
+ghost use Rattle.bpf_link.specs.MapTypes.{is_something};
+ghost use Rattle.bpf_link.specs.Plans.{LiesPlan};
+ghost use Rattle.bpf_link.specs.Sections.{FoundBelow};
+
+use crate::fault::LinkFault;
+use crate::linker::planned;
+use crate::map_types::{
+    found_named, is_something, name_from, told_of_types, types_bytes, types_in,
+};
+use crate::plan::{Part, Plan};
+use crate::sections::{Found, section_at};
+use bpf_btf::{Btf, CoreRelocations};
+use std::alloc::Global;
+
+/// How many relocations of fields the code of a program has.
+#[derive(Clone, Copy)]
+pub struct FieldRelocations {
+    /// How many there are; 2^32 - 1 stands for more, too.
+    pub count: u32,
+    /// The slot of the first one in the program that would come out.
+    pub slot: usize,
+    /// Where the name of its section stands in the file.
+    pub at: usize,
+}
+
+const NO_FIELDS: FieldRelocations = FieldRelocations {
+    count: 0,
+    slot: 0,
+    at: 0,
+};
+
+/// The section that lists relocations of fields.
+fn ext_found(object: &[u8], plan: &Plan) -> Found
+    requires { LiesPlan object.now plan.now }
+    ensures value { result ≡ ext_found object.now plan.now }
+    ensures within { FoundBelow plan.now.sections.count result }
+{
+    found_named(object, &plan.sections, b".BTF.ext")
+}
+
+/// Where the name of a part's section stands in the file.
+fn part_name(object: &[u8], plan: &Plan, part: &Part) -> usize
+    requires { LiesPlan object.now plan.now }
+    ensures value { result ≡ part_name object.now plan.now part.now }
+    ensures inside { result ≤ length object.now }
+{
+    if part.section >= plan.sections.count {
+        return object.len();
+    }
+    let section = section_at(object, &plan.sections, part.section);
+    let offset = section.name as usize;
+    if offset > object.len() - plan.sections.names {
+        return object.len();
+    }
+    plan.sections.names + offset
+}
+
+/// Relocations of a part, by those of its section.
+fn fields_at(part: &Part, at: usize, sum: CoreRelocations) -> FieldRelocations
+    requires { part.now.first ≤ 65535 }
+    ensures { result ≡ fields_at part.now at sum }
+{
+    FieldRelocations {
+        count: sum.count,
+        slot: part.first + sum.first as usize / 8,
+        at,
+    }
+}
+
+/// The relocations that are listed for a part.
+fn listed_fields(
+    object: &[u8],
+    plan: &Plan,
+    types: &Btf<'_>,
+    ext: &[u8],
+    part: &Part,
+) -> Result<FieldRelocations, LinkFault>
+    requires plan { LiesPlan object.now plan.now }
+    requires first { part.now.first ≤ 65535 }
+    requires ext { ext.now ≡ ext_bytes object.now plan.now }
+    ensures ok { IfOk result
+        (ListedFields object.now plan.now types.now.strings (ext_bytes object.now plan.now) part.now) }
+    ensures err { IfErr result (HasExtFault object.now plan.now) }
+{
+    let at = part_name(object, plan, part);
+    match types.core_relocations(ext, name_from(object, at)) {
+        Ok(sum) => Ok(fields_at(part, at, sum)),
+        Err(fault) => Err(LinkFault::Types(fault)),
+    }
+}
+
+/// The relocations of a part.
+fn part_fields(
+    object: &[u8],
+    plan: &Plan,
+    types: &Btf<'_>,
+    ext: &[u8],
+    part: &Part,
+) -> Result<FieldRelocations, LinkFault>
+    requires plan { LiesPlan object.now plan.now }
+    requires first { part.now.first ≤ 65535 }
+    requires ext { ext.now ≡ ext_bytes object.now plan.now }
+    ensures ok { IfOk result (PartFields (part.now.slots.count == 0)
+        object.now plan.now types.now.strings (ext_bytes object.now plan.now) part.now) }
+    ensures err { IfErr result (HasExtFault object.now plan.now) }
+{
+    if part.slots.count == 0 {
+        return Ok(NO_FIELDS);
+    }
+    listed_fields(object, plan, types, ext, part)
+}
+
+/// The relocations of both parts.
+fn both_fields(code: FieldRelocations, text: FieldRelocations) -> FieldRelocations
+    ensures { result ≡ both_fields code text }
+{
+    if code.count == 0 {
+        return text;
+    }
+    FieldRelocations {
+        count: code.count.saturating_add(text.count),
+        slot: code.slot,
+        at: code.at,
+    }
+}
+
+/// The relocations that BTF lists of the code that comes out.
+fn counted_fields(
+    alloc: Global,
+    object: &[u8],
+    plan: &Plan,
+    ext: &[u8],
+) -> Result<FieldRelocations, LinkFault>
+    requires plan { LiesPlan object.now plan.now }
+    requires ext { ext.now ≡ ext_bytes object.now plan.now }
+    ensures ok { IfOk result (CountedFields object.now plan.now) }
+    ensures err { IfErr result (IsCountFault object.now plan.now) }
+{
+    let types = match Btf::read(alloc, types_in(object, &plan.sections)) {
+        Ok(types) => types,
+        Err(fault) => return Err(told_of_types(fault)),
+    };
+    let code = match part_fields(object, plan, &types, ext, &plan.code) {
+        Ok(code) => code,
+        Err(fault) => return Err(fault),
+    };
+    match part_fields(object, plan, &types, ext, &plan.text) {
+        Ok(text) => Ok(both_fields(code, text)),
+        Err(fault) => Err(fault),
+    }
+}
+
+/// The relocations of fields of a plan.
+fn plan_fields(alloc: Global, object: &[u8], plan: &Plan) -> Result<FieldRelocations, LinkFault>
+    requires { LiesPlan object.now plan.now }
+    ensures ok { IfOk result
+        (PlanFields (is_something (ext_found object.now plan.now)) object.now plan.now) }
+    ensures listed { IfErr result (λ fault. is_something (ext_found object.now plan.now) ≡ true) }
+    ensures err { IfErr result (IsCountFault object.now plan.now) }
+{
+    let found = ext_found(object, plan);
+    if !is_something(found) {
+        return Ok(NO_FIELDS);
+    }
+    counted_fields(
+        alloc,
+        object,
+        plan,
+        types_bytes(object, &plan.sections, found),
+    )
+}
+
+/// The relocations of fields of the code that comes out for a section.
+fn fields_of(alloc: Global, object: &[u8], name: &[u8]) -> Result<FieldRelocations, LinkFault>
+    ensures ok { IfOk result (HasFields object.now name.now) }
+    ensures err { IfErr result (λ fault. (planned object.now name.now ≡ Err fault)
+        ⊎ HasCountFault object.now name.now fault) }
+{
+    let plan = match planned(object, name) {
+        Ok(plan) => plan,
+        Err(fault) => return Err(fault),
+    };
+    match plan_fields(alloc, object, &plan) {
+        Ok(fields) => Ok(fields),
+        Err(fault) => Err(fault),
+    }
+}
+
+/// How many relocations of fields (CO-RE) are left undone in the words of a code section.
+///
+/// `link_with` does none of them: its words have the fields where the headers had them with which
+/// the object was compiled. So they are refused here unless `as_compiled` says that this is meant.
+/// `section` is named as for `link_with`. An object without `.BTF.ext` has none; of one that has it,
+/// `.BTF` and `.BTF.ext` are read. Takes time in proportion to the length of the object.
+pub fn fields_as_compiled(
+    alloc: Global,
+    object: &[u8],
+    section: &[u8],
+    as_compiled: bool,
+) -> Result<u32, LinkFault>
+    ensures ok { IfOk result (AreLeft object.now section.now as_compiled) }
+    ensures err { IfErr result (IsFieldsFault object.now section.now as_compiled) }
+{
+    let fields = match fields_of(alloc, object, section) {
+        Ok(fields) => fields,
+        Err(fault) => return Err(fault),
+    };
+    if fields.count == 0 {
+        return Ok(0);
+    }
+    if as_compiled {
+        return Ok(fields.count);
+    }
+    Err(LinkFault::Fields {
+        count: fields.count,
+        slot: fields.slot,
+        at: fields.at,
+    })
+}
