@@ -31,10 +31,10 @@ _bpfdb() {
     disasm) words="--maps --listing -h --help" ;;
     lines) words="-h --help" ;;
     check) words="--maps --listing -h --help" ;;
-    link) words="--section --entry --stub -h --help" ;;
+    link) words="--section --entry --stub --as-compiled -h --help" ;;
     gdb) words="-m --mem --maps --journal --steps --listing --registers -h --help" ;;
     test) words="--only -h --help" ;;
-    shell) words="-m --mem --maps --journal --steps --listing --section --entry --stub -h --help" ;;
+    shell) words="-m --mem --maps --journal --steps --listing --section --entry --stub --as-compiled -h --help" ;;
     help) words="run trace debug origin asm disasm lines check link gdb test" ;;
     *) return ;;
     esac

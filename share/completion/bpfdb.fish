@@ -32,6 +32,8 @@ complete -c bpfdb-shell -l entry -x -d "The function of that section at which th
 complete -c bpfdb -n "__fish_seen_subcommand_from link" -l stub -x -d "Helpers whose calls are answered by a constant"
 complete -c bpfdb-shell -l stub -x -d "Helpers whose calls are answered by a constant"
 complete -c bpfdb -n "__fish_seen_subcommand_from origin" -l script -r -F -d "The script that is obeyed in place of a run"
+complete -c bpfdb -n "__fish_seen_subcommand_from link" -l as-compiled -d "Leaves fields where they were compiled"
+complete -c bpfdb-shell -l as-compiled -d "Leaves fields where they were compiled"
 complete -c bpfdb -n "__fish_seen_subcommand_from origin" -l lines -x -d "The most lines of moves in an answer"
 complete -c bpfdb -n "__fish_seen_subcommand_from origin" -l addresses -d "The registers that make addresses are followed"
 complete -c bpfdb -n "__fish_seen_subcommand_from test" -l only -x -d "The tests of this name are run alone"

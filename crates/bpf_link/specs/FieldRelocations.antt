@@ -23,12 +23,19 @@ ext_found object plan = found_named object plan.sections (codes ".BTF.ext")
 abbrev pub ext_bytes : List ℕ → Plan → List ℕ
 ext_bytes object plan = types_bytes object plan.sections (ext_found object plan)
 
--- Where the name of a part's section stands in the file.
-abbrev pub part_name : List ℕ → Plan → Part → ℕ
-part_name object plan part =
+-- Where the name of a part's section stands in the file, however long it is.
+abbrev pub long_name : List ℕ → Plan → Part → ℕ
+long_name object plan part =
     if nat_lt part.section plan.sections.count
     then min (plan.sections.names + (section_at object plan.sections part.section).name) (length object)
     else length object
+
+-- The same, if it has at most 255 bytes; else the file's end, where there is none.
+abbrev pub short_name : List ℕ → ℕ → ℕ
+short_name object at = if nat_lt 255 (length (name_from object at)) then length object else at
+
+abbrev pub part_name : List ℕ → Plan → Part → ℕ
+part_name object plan part = short_name object (long_name object plan part)
 
 -- No relocation.
 abbrev pub no_fields : FieldRelocations

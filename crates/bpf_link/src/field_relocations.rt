@@ -1,6 +1,6 @@
 //! The relocations of fields (CO-RE) of the code that comes out.
 ghost use Rattle.std.specs.Prelude.{◌≡◌, ◌≤◌, ◌<◌, ◌+◌, ◌/◌, ◌==◌, ◌⊎◌, true, IfOk, IfErr, Ok, length};
-ghost use Rattle.bpf_link.specs.FieldRelocations.{AreLeft, CountedFields, HasFields, HasCountFault, HasExtFault, IsCountFault, IsFieldsFault, ListedFields, PartFields, PlanFields, both_fields, ext_bytes, ext_found, fields_at, part_name};
+ghost use Rattle.bpf_link.specs.FieldRelocations.{AreLeft, CountedFields, HasFields, HasCountFault, HasExtFault, IsCountFault, IsFieldsFault, ListedFields, PartFields, PlanFields, both_fields, ext_bytes, ext_found, fields_at, long_name, part_name, short_name};
 ghost use Rattle.bpf_link.specs.Links.{planned};
 ghost use Rattle.bpf_link.specs.MapTypes.{is_something};
 ghost use Rattle.bpf_link.specs.Plans.{LiesPlan};
@@ -42,10 +42,32 @@ fn ext_found(object: &[u8], plan: &Plan) -> Found
     found_named(object, &plan.sections, b".BTF.ext")
 }
 
+/// The same place, if at most 255 bytes of a name stand there; else the file's end, where there is
+/// none. So a name is compared with each block of a list in a moment.
+fn short_name(object: &[u8], at: usize) -> usize
+    requires { at ≤ length object.now }
+    ensures value { result ≡ short_name object.now at }
+    ensures inside { result ≤ length object.now }
+{
+    if name_from(object, at).len() > 255 {
+        return object.len();
+    }
+    at
+}
+
 /// Where the name of a part's section stands in the file.
 fn part_name(object: &[u8], plan: &Plan, part: &Part) -> usize
     requires { LiesPlan object.now plan.now }
     ensures value { result ≡ part_name object.now plan.now part.now }
+    ensures inside { result ≤ length object.now }
+{
+    short_name(object, long_name(object, plan, part))
+}
+
+/// Where it stands, however long it is.
+fn long_name(object: &[u8], plan: &Plan, part: &Part) -> usize
+    requires { LiesPlan object.now plan.now }
+    ensures value { result ≡ long_name object.now plan.now part.now }
     ensures inside { result ≤ length object.now }
 {
     if part.section >= plan.sections.count {
@@ -195,7 +217,8 @@ fn fields_of(alloc: Global, object: &[u8], name: &[u8]) -> Result<FieldRelocatio
 /// `link_with` does none of them: its words have the fields where the headers had them with which
 /// the object was compiled. So they are refused here unless `as_compiled` says that this is meant.
 /// `section` is named as for `link_with`. An object without `.BTF.ext` has none; of one that has it,
-/// `.BTF` and `.BTF.ext` are read. Takes time in proportion to the length of the object.
+/// `.BTF` and `.BTF.ext` are read. A section whose name has more than 255 bytes is taken to have
+/// none. Takes time in proportion to the length of the object.
 pub fn fields_as_compiled(
     alloc: Global,
     object: &[u8],

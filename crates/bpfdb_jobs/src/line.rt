@@ -216,7 +216,11 @@ fn put_fields<E: Write>(
 {
     let begun = put(errors, so_far, b", ");
     let counted = put_decimal(errors, begun, u64::from(count));
-    put(errors, counted, b" in all: --as-compiled leaves them undone")
+    put(
+        errors,
+        counted,
+        b" in all: --as-compiled leaves them undone",
+    )
 }
 
 /// Writes the line of a test file's fault.

@@ -15,7 +15,9 @@ use crate::maps::tell_linked;
 use crate::refusal::JobRefusal;
 use crate::report::{give_up, told_as, write_out};
 use arrayvec::ArrayVec;
-use bpf_link::{LinkFault, LinkOptions, Linked, Stub, fault_name, fields_as_compiled, link_with, stubs_in};
+use bpf_link::{
+    LinkFault, LinkOptions, Linked, Stub, fault_name, fields_as_compiled, link_with, stubs_in,
+};
 use counted_io::{Counted, WriteFault};
 use std::alloc::Global;
 use std::io::Write;
@@ -47,12 +49,7 @@ pub fn link_job<W: Write, E: Write>(
             return give_up(errors, &JobFault::Refused(JobRefusal::Object(fault, name)));
         }
     };
-    let left = match fields_as_compiled(
-        alloc,
-        job.file,
-        section_of(job),
-        job.options.as_compiled,
-    ) {
+    let left = match fields_as_compiled(alloc, job.file, section_of(job), job.options.as_compiled) {
         Ok(left) => left,
         Err(fault) => {
             let name = fault_name(job.file, &fault);
@@ -62,7 +59,10 @@ pub fn link_job<W: Write, E: Write>(
     let answered = answered_if(job, linked.answered);
     let fields = fields_if(job, left);
     match write_out(writer, linked.words.as_slice()) {
-        Ok(()) => told_as(tell_linked(errors, linked.shapes.as_slice(), answered, fields), 0),
+        Ok(()) => told_as(
+            tell_linked(errors, linked.shapes.as_slice(), answered, fields),
+            0,
+        ),
         Err(WriteFault) => give_up(errors, &JobFault::Output),
     }
 }
