@@ -411,18 +411,18 @@ C
     cat > core.c <<'C'
 struct thing { int first, second; long third; } __attribute__((preserve_access_index));
 static __attribute__((noinline)) long other(struct thing *t) { return t->third + t->first; }
-__attribute__((section("here"))) long here(struct thing *t) { return t->second; }
-__attribute__((section("both"))) long both(struct thing *t) { return t->second + other(t); }
-__attribute__((section("there"))) long there(struct thing *t) { return other(t) + 1; }
-__attribute__((section("none"))) long none(long *t) { return t[1]; }
+__attribute__((section("here"))) long from_here(struct thing *t) { return t->second; }
+__attribute__((section("both"))) long from_both(struct thing *t) { return t->second + other(t); }
+__attribute__((section("there"))) long from_there(struct thing *t) { return other(t) + 1; }
+__attribute__((section("none"))) long from_none(long *t) { return t[1]; }
 C
     clang -g -O2 -target bpf -c -o core.o core.c
     printf '\001\0\0\0\002\0\0\0\005\0\0\0\0\0\0\0' > context
-    while IFS='|' read -r section count slot first told; do
-        [ "$count" = 0 ] ||
-            refused "refused E36 at slot $slot: relocations of fields, $count in all: --as-compiled leaves them undone: $first" link --section $section core.o
+    while IFS='|' read -r section many slot first told; do
+        [ "$many" = 0 ] ||
+            refused "refused E36 at slot $slot: relocations of fields, $many in all: --as-compiled leaves them undone: $first" link --section $section core.o
         "$program" link --as-compiled --section=$section core.o > core 2> left || complain "$section isn't linked as compiled"
-        [ "$(cat left)" = "fields left by --as-compiled: $count" ] || complain "what is told of the fields of $section"
+        [ "$(cat left)" = "fields left by --as-compiled: $many" ] || complain "what is told of the fields of $section"
         result "$told\n" run -m context core
     done <<'ROWS'
 here|1|0|here|0x2
@@ -433,7 +433,7 @@ none|0|||0x5
 ROWS
     "$program" link --section none core.o > core 2> left && [ ! -s left ] || complain 'code without relocations of fields, in an object that has some'
     # A damaged list is refused, and of each byte that is turned something is told.
-    place=$(LC_ALL=C grep -obUa "$(printf '\237\353')" core.o | sed -n '2s/:.*//p')
+    place=$(LC_ALL=C grep -obUa "$(printf '\237\353')" core.o | LC_ALL=C sed -n '2s/:.*//p')
     { head -c "$place" core.o; printf '\0'; tail -c +$((place + 2)) core.o; } > changed.o
     refused 'refused E53: malformed section .BTF.ext' link --as-compiled --section none changed.o
     for at in $(seq "$place" $((place + 200))); do
