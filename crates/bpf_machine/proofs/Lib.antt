@@ -8,6 +8,8 @@ pub mod Codes
 pub mod Flats
 pub mod Arms
 pub mod Running
+pub mod Noted
+pub mod Writing
 pub mod Sorts
 pub mod Fitting
 pub mod EntryParts

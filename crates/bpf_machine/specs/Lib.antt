@@ -20,6 +20,8 @@ pub mod Codes
 pub mod Flat
 pub mod Runs
 pub mod Entries
+pub mod Kept
+pub mod FlatEntries
 pub mod Edits
 pub mod Moves
 pub mod Undoing

@@ -8,6 +8,7 @@ mod atomic;
 mod edit;
 mod frames;
 mod helpers;
+mod keep;
 mod open;
 mod reads;
 mod record;
@@ -25,6 +26,7 @@ use crate::platform::TRACE_LIMIT;
 use arrayvec::ArrayVec;
 use bpf_entries::{ByteString, Status};
 use bpf_isa::{Program, Reg, Size};
+pub use keep::Kept;
 use std::marker::Model;
 
 /// A machine with its program.
@@ -196,7 +198,7 @@ impl Cpu {
 }
 
 /// Brings the number and the range of the registers into a proof.
-fn are_registers(registers: &[u64; 11])
+pub(crate) fn are_registers(registers: &[u64; 11])
     ensures count { length registers.now ≡ 11 }
     ensures range { All (λ number. number < 2 ^ 64) registers.now }
 {

@@ -14,13 +14,14 @@ pub mod laws;
 mod map_layout;
 mod memory;
 mod moves;
+mod overwritten;
 mod platform;
 mod run;
 mod sort;
 
 pub use bpf_entries::{ByteString, Entry, Fault, FrameBytes, Status};
 pub use change::Change;
-pub use cpu::Cpu;
+pub use cpu::{Cpu, Kept};
 pub use edit::{Edit, EditFault};
 pub use ended::Ended;
 pub use fault::OpenFault;

@@ -295,7 +295,7 @@ pub(crate) fn near_index(context_len: usize, frames: usize, address: u64, n: usi
 }
 
 /// Brings the range of bytes into a proof.
-fn are_bytes(bytes: &[u8])
+pub(crate) fn are_bytes(bytes: &[u8])
     ensures { All (λ byte. byte < 256) bytes.now }
 {}
 
