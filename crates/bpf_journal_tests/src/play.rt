@@ -10,12 +10,22 @@ use std::process::Abort;
 
 /// A test by which no run stops.
 #[derive(Clone, Copy)]
-struct Never {}
+struct Never {
+    marks: [bool; 8192],
+}
 
 impl StopTest for Never {
     ghost use Rattle.std.specs.Prelude.{false};
 
     ghost test = { λ never replaced y. false };
+
+    fn marks(&self) -> &[bool; 8192] {
+        &self.marks
+    }
+
+    fn overlooks_stores(&self) -> bool {
+        true
+    }
 
     fn holds(&self, _cpu: &Cpu, _replaced: bool) -> bool {
         false
@@ -115,7 +125,14 @@ fn run<K: Keeper>(course: &mut Course<K>, count: usize) -> u64 {
     if count == 0 || course.cpu().status().has_ended() {
         return 0;
     }
-    course.run(count as u64, &Never {}).steps
+    course
+        .run(
+            count as u64,
+            &Never {
+                marks: [false; 8192],
+            },
+        )
+        .steps
 }
 
 /// Goes back as far as it can, and answers by how many moves.

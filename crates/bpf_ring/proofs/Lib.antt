@@ -2,5 +2,6 @@ pub mod Arounds
 pub mod Counted
 pub mod Held
 pub mod Runs
+pub mod PieceLaws
 pub mod Spans
 pub mod Walks

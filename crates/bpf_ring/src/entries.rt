@@ -18,10 +18,11 @@ ghost use Rattle.bpf_machine.specs.declared.moves.Move.TheVariants as move_of;
 ghost use Rattle.bpf_ring.specs.Counted.{Counted};
 ghost use Rattle.bpf_ring.specs.Heads.{head_of};
 ghost use Rattle.bpf_ring.specs.Held.{HoldsWay, IsHeld};
-ghost use Rattle.bpf_ring.specs.Runs.{RunsTo, kept_after};
+ghost use Rattle.bpf_ring.specs.Runs.{RunsTo, Running, kept_after};
 ghost use Rattle.bpf_ring.specs.Taking.{TakesText};
 
 use crate::counts::{Counts, within};
+use crate::pieces::{BYTES, Pieced};
 use crate::ring::Ring;
 use crate::run::{StopTest, change_replaces_bytes};
 use bpf_entries::weights::GREATEST;
@@ -30,6 +31,9 @@ use bpf_machine::laws::entries_fit;
 use bpf_machine::{Change, Cpu, Ended};
 use circular_buffer::HeapCircularBuffer;
 use std::alloc::{AllocError, Global};
+
+/// How many steps a piece has that pays.
+const WORTHWHILE: u64 = 8;
 
 /// What is read of an entry before it is let go.
 #[derive(Clone, Copy)]
@@ -44,8 +48,8 @@ pub struct Head {
 /// opened: no other call takes any, so no push is ever refused.
 #[derive(Drop)]
 pub struct EntryRing {
-    ring: Ring,
-    counts: Counts,
+    pub(crate) ring: Ring,
+    pub(crate) counts: Counts,
 }
 
 impl EntryRing {
@@ -499,8 +503,8 @@ impl EntryRing {
 
     /// Drops the fewest oldest entries that leave room for so many bytes.
     #[inline(always)]
-    fn make_room(&mut self, room: usize)
-        requires { room ≤ greatest_weight }
+    pub(crate) fn make_room(&mut self, room: usize)
+        requires { room ≤ 1008 }
         ensures size { self.new.ring.size ≡ self.old.ring.size }
         ensures sized { IsSize self.new.ring.size }
         ensures within { length self.new.ring.bytes + room ≤ self.new.ring.size }
@@ -588,22 +592,80 @@ impl EntryRing {
         ensures held { (ks : List Kept) → IsHeld self.old.ring self.old.counts ks →
             IsHeld self.new.ring self.new.counts (kept_after self.old.ring.size result cpu.old ks) }
     {
-        let mut taken = 0;
+        if self.step(cpu, true, test) {
+            self.invariant();
+            return 1;
+        }
+        let mut room = [0u8; BYTES];
+        let mut taken = 1;
+        let mut pause = 1;
         while taken < most {
-            if self.step(cpu, taken == 0, test) {
+            let pieced = self.run_pieces(cpu, taken, most, test, &mut room);
+            if pieced.is_over {
                 self.invariant();
-                return taken + 1;
+                return pieced.taken;
             }
-            let reached = self.ring.run(cpu, self.counts, taken + 1, most, test);
-            self.counts = self.counts.with_entries(reached.span.entries);
-            taken = reached.taken;
-            if reached.is_over {
+            pause = next_pause(pause, pieced.last);
+            let run = self.run_on(cpu, pieced.taken, pause, most, test);
+            taken = run.taken;
+            if run.is_over {
                 self.invariant();
                 return taken;
             }
         }
         self.invariant();
         taken
+    }
+
+    /// Goes on with a run that has taken some steps, one step after the other, at least one and at
+    /// most so many, or until it is over.
+    fn run_on<T: StopTest>(
+        &mut self,
+        cpu: &mut Cpu,
+        taken: u64,
+        steps: u64,
+        most: u64,
+        test: &T,
+    ) -> Pieced
+        requires runs { has_ended cpu.old.status ≡ false }
+        requires some { 1 ≤ taken }
+        requires few { (1 ≤ steps) × (steps ≤ 256) }
+        requires most { taken < most }
+        ensures size { self.new.ring.size ≡ self.old.ring.size }
+        ensures on { (result.is_over ≡ false → taken < result.taken) × (result.taken ≤ most) }
+        ensures runs { result.is_over ≡ false → has_ended cpu.new.status ≡ false }
+        ensures goes_on { (x : State) → Running (T.test test.now) x cpu.old taken →
+            result.is_over ≡ false → Running (T.test test.now) x cpu.new result.taken }
+        ensures over { (x : State) → Running (T.test test.now) x cpu.old taken →
+            result.is_over ≡ true → RunsTo (T.test test.now) most x cpu.new result.taken }
+        ensures held { (x : State) (ks : List Kept) → Running (T.test test.now) x cpu.old taken →
+            IsHeld self.old.ring self.old.counts (kept_after self.old.ring.size taken x ks) →
+            IsHeld self.new.ring self.new.counts
+            (kept_after self.old.ring.size result.taken x ks) }
+    {
+        let until = (most - taken).min(steps) + taken;
+        let reached = self.ring.run(cpu, self.counts, taken, until, most, test);
+        self.counts = self.counts.with_entries(reached.span.entries);
+        if reached.is_over {
+            return Pieced {
+                taken: reached.taken,
+                is_over: true,
+                last: 0,
+            };
+        }
+        if reached.taken > taken {
+            return Pieced {
+                taken: reached.taken,
+                is_over: false,
+                last: 0,
+            };
+        }
+        let is_over = self.step(cpu, false, test);
+        Pieced {
+            taken: taken + 1,
+            is_over,
+            last: 0,
+        }
     }
 
     /// Takes a step of a run and keeps it, wherever its entry goes. Answers whether the run stops
@@ -642,6 +704,21 @@ impl EntryRing {
         let _size = self.ring.size();
         self.ring.push(text);
         self.counts.add(mark, is_step);
+    }
+}
+
+/// How many steps are taken one by one behind a piece of so many: one behind a long one, and each
+/// time twice as many behind short ones, so that where rare steps come often few pieces are begun
+/// for little.
+fn next_pause(pause: u64, piece: u64) -> u64
+    ensures { (1 ≤ result) × (result ≤ 256) }
+{
+    if piece >= WORTHWHILE || pause == 0 {
+        1
+    } else if pause < 128 {
+        2 * pause
+    } else {
+        256
     }
 }
 

@@ -5,6 +5,7 @@
 mod block;
 mod counts;
 mod entries;
+mod pieces;
 mod ring;
 mod run;
 

@@ -177,7 +177,7 @@ impl Ring {
     }
 
     /// Goes on with a run that has taken some steps and keeps each, in the block: until it is over,
-    /// or until an entry doesn't go into the block in one piece. `counts` are those of the entries
+    /// or has taken `pause`, or until an entry doesn't go into the block in one piece. `counts` are those of the entries
     /// that the ring holds. It takes no memory.
     #[inline(always)]
     pub(crate) fn run<T: StopTest>(
@@ -185,12 +185,13 @@ impl Ring {
         cpu: &mut Cpu,
         counts: Counts,
         taken: u64,
+        pause: u64,
         most: u64,
         test: &T,
     ) -> Reached
         requires runs { has_ended cpu.old.status ≡ false }
         requires some { 1 ≤ taken }
-        requires most { taken ≤ most }
+        requires most { (taken ≤ pause) × (pause ≤ most) }
         ensures size { self.new.size ≡ self.old.size }
         ensures on { (taken ≤ result.taken) × (result.taken ≤ most) }
         ensures runs { result.is_over ≡ false → has_ended cpu.new.status ≡ false }
@@ -211,7 +212,7 @@ impl Ring {
             entries: counts.entries,
         };
         let block = self.buffer.make_contiguous();
-        let reached = run_in_place(cpu, block, size, span, taken, most, test);
+        let reached = run_in_place(cpu, block, size, span, taken, pause, most, test);
         self.first = reached.span.first;
         self.len = reached.span.len;
         reached

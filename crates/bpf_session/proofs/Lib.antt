@@ -7,6 +7,7 @@ pub mod CommandLaws
 pub mod Flushing
 pub mod ForwardLaws
 pub mod Forwards
+pub mod Halts
 pub mod Keeping
 pub mod Obeying
 pub mod RedoLaws

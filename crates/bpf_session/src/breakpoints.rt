@@ -1,7 +1,7 @@
 //! Breakpoints: the slots at which forward commands stop.
 ghost use Rattle.std.specs.Prelude.{◌≡◌, ◌<◌, ◌++◌, ◌∷◌, [], length, filter, not, nat_le, ◌==◌, ◌%◌};
 ghost use Rattle.bpf_session.specs.Limits.{most_breaks};
-ghost use Rattle.bpf_session.specs.SlotTables.{has_at};
+ghost use Rattle.bpf_session.specs.SlotTables.{IsTableOf, has_at};
 ghost use Rattle.bpf_session.specs.Stops.{has};
 
 use arrayvec::ArrayVec;
@@ -56,6 +56,14 @@ impl Breakpoints {
         ensures { result ≡ nat_le most_breaks (length self.now) }
     {
         self.slots.is_full()
+    }
+
+    /// The table: of each place whether one of the slots has it.
+    #[inline(always)]
+    pub(crate) fn table(&self) -> &[bool; PLACES]
+        ensures { IsTableOf self.now result.now }
+    {
+        &self.table
     }
 
     /// Whether there is one at a slot.

@@ -23,6 +23,18 @@ impl<'a> StopTest for Halting<'a> {
 
     ghost test = { λ h replaced y. halts h.breaks.now h.watches.now h.seen.now h.floor replaced y };
 
+    #[tactic(auto, using(crate::proofs::Halts::spared))]
+    #[inline(always)]
+    fn marks(&self) -> &[bool; 8192] {
+        self.breaks.table()
+    }
+
+    #[tactic(auto, using(crate::proofs::Halts::overlooked))]
+    #[inline(always)]
+    fn overlooks_stores(&self) -> bool {
+        self.watches.sees_nothing(self.seen)
+    }
+
     #[inline(always)]
     fn holds(&self, cpu: &Cpu, replaced: bool) -> bool {
         if self.breaks.has(cpu.pc()) {

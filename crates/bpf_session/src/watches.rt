@@ -1,5 +1,5 @@
 //! Watches: the addresses of bytes at whose change forward commands stop.
-ghost use Rattle.std.specs.Prelude.{◌≡◌, ◌<◌, ◌≤◌, ℕ, if◌then◌else◌, ◌++◌, ◌∷◌, [], false, length, filter, not, nat_le, ◌==◌};
+ghost use Rattle.std.specs.Prelude.{◌≡◌, ◌<◌, ◌≤◌, ℕ, if◌then◌else◌, ◌++◌, ◌∷◌, [], true, false, length, filter, not, nat_le, ◌==◌};
 ghost use Rattle.std.specs.Str.{bytes_eq};
 ghost use Rattle.bpf_machine.specs.ByAddress.{byte};
 ghost use Rattle.bpf_machine.specs.State.{State};
@@ -103,6 +103,14 @@ impl Watches {
     {
         let bytes = self.bytes(cpu);
         !bytes.is_same(seen)
+    }
+
+    /// Whether nothing is watched, and nothing was seen.
+    #[inline(always)]
+    pub fn sees_nothing(&self, seen: &Seen) -> bool
+        ensures { result ≡ true → (self.now ≡ []) × (seen.now ≡ []) }
+    {
+        self.addresses.is_empty() && seen.bytes.is_empty()
     }
 
     /// Whether a byte at one of the addresses differs now from what was seen before a move that

@@ -1,0 +1,145 @@
+//! A run of common steps, which are kept a piece at a time: the machine writes their entries one
+//! behind the other, the fewest oldest ones that make room for all of them are dropped, and they are
+//! appended by one write.
+ghost use Rattle.std.specs.Prelude.{◌≡◌, ◌≤◌, ◌<◌, ◌+◌, ◌++◌, List, length, true, false};
+ghost use Rattle.bpf_entries.specs.Keeping.{Kept};
+ghost use Rattle.bpf_entries.specs.Rings.{AllFit, ring as ring_of};
+ghost use Rattle.bpf_entries.specs.Status.{has_ended};
+ghost use Rattle.bpf_machine.specs.State.{State};
+ghost use Rattle.bpf_ring.specs.Held.{IsHeld};
+ghost use Rattle.bpf_ring.specs.Pieces.{IsPiece, entries_of, kept_on};
+ghost use Rattle.bpf_ring.specs.Runs.{RunsTo, Running, kept_after, state_after};
+
+use crate::entries::EntryRing;
+use crate::run::StopTest;
+use bpf_machine::Cpu;
+use bpf_machine::laws::entries_fit;
+
+/// The most steps of a piece.
+const STEPS: u64 = 42;
+
+/// The most bytes that their entries have, 24 each: less than the smallest ring.
+pub(crate) const BYTES: usize = 1_008;
+
+/// How far a run came by pieces.
+#[derive(Clone, Copy)]
+pub(crate) struct Pieced {
+    /// How many steps the run has taken.
+    pub(crate) taken: u64,
+    /// Whether the run is over.
+    pub(crate) is_over: bool,
+    /// How many steps the last piece had.
+    pub(crate) last: u64,
+}
+
+impl EntryRing {
+    /// Goes on with a run that has taken some steps, piece by piece: until it is over, or until a
+    /// step comes that is none of the common ones.
+    pub(crate) fn run_pieces<T: StopTest>(
+        &mut self,
+        cpu: &mut Cpu,
+        taken: u64,
+        most: u64,
+        test: &T,
+        room: &mut [u8],
+    ) -> Pieced
+        requires runs { has_ended cpu.old.status ≡ false }
+        requires some { 1 ≤ taken }
+        requires most { taken ≤ most }
+        requires room { length room.old ≡ 1008 }
+        ensures size { self.new.ring.size ≡ self.old.ring.size }
+        ensures on { (taken ≤ result.taken) × (result.taken ≤ most) }
+        ensures before { result.is_over ≡ false → result.taken < most }
+        ensures runs { result.is_over ≡ false → has_ended cpu.new.status ≡ false }
+        ensures goes_on { (x : State) → Running (T.test test.now) x cpu.old taken →
+            result.is_over ≡ false → Running (T.test test.now) x cpu.new result.taken }
+        ensures over { (x : State) → Running (T.test test.now) x cpu.old taken →
+            result.is_over ≡ true → RunsTo (T.test test.now) most x cpu.new result.taken }
+        ensures held { (x : State) (ks : List Kept) → cpu.old ≡ state_after taken x →
+            IsHeld self.old.ring self.old.counts (kept_after self.old.ring.size taken x ks) →
+            IsHeld self.new.ring self.new.counts
+            (kept_after self.old.ring.size result.taken x ks) }
+        ensures room { length room.new ≡ 1008 }
+    {
+        let mut reached = taken;
+        while reached < most {
+            let left = (most - reached).min(STEPS);
+            let count = self.keep_piece(cpu, left, test, room);
+            reached += count;
+            if is_last(cpu, test, count) {
+                return Pieced {
+                    taken: reached,
+                    is_over: true,
+                    last: count,
+                };
+            }
+            if count < STEPS {
+                return Pieced {
+                    taken: reached,
+                    is_over: reached == most,
+                    last: count,
+                };
+            }
+        }
+        Pieced {
+            taken: reached,
+            is_over: true,
+            last: STEPS,
+        }
+    }
+
+    /// Takes a piece of common steps, at most so many, and keeps them. Answers how many.
+    fn keep_piece<T: StopTest>(
+        &mut self,
+        cpu: &mut Cpu,
+        most: u64,
+        test: &T,
+        room: &mut [u8],
+    ) -> u64
+        requires runs { has_ended cpu.old.status ≡ false }
+        requires few { most ≤ 42 }
+        requires room { length room.old ≡ 1008 }
+        ensures piece { IsPiece (T.test test.now) cpu.old cpu.new result }
+        ensures within { result ≤ most }
+        ensures size { self.new.ring.size ≡ self.old.ring.size }
+        ensures held { (ks : List Kept) → IsHeld self.old.ring self.old.counts ks →
+            IsHeld self.new.ring self.new.counts
+            (kept_on self.old.ring.size result cpu.old ks) }
+        ensures room { length room.new ≡ 1008 }
+    {
+        entries_fit();
+        self.invariant();
+        let kept = cpu.keep(most, test.marks(), test.overlooks_stores(), room);
+        self.make_room(kept.len);
+        self.append_steps(&room[..kept.len], kept.taken as usize);
+        kept.taken
+    }
+
+    /// Appends the texts of the entries of so many steps, without marks, for which there must be
+    /// room.
+    fn append_steps(&mut self, text: &[u8], count: usize)
+        requires room { length self.old.ring.bytes + length text.now ≤ self.old.ring.size }
+        requires few { count ≤ 42 }
+        ensures size { self.new.ring.size ≡ self.old.ring.size }
+        ensures held { (ks : List Kept) (x : State) → IsHeld self.old.ring self.old.counts ks →
+            AllFit (entries_of count x) → text.now ≡ ring_of (entries_of count x) →
+            IsHeld self.new.ring self.new.counts (entries_of count x ++ ks) }
+    {
+        let _size = self.ring.size();
+        self.ring.push(text);
+        let entries = self.counts.entries.wrapping_add(count);
+        self.counts = self.counts.with_entries(entries);
+    }
+}
+
+/// Whether a piece of so many steps is the last one, by the state that it led to: the test holds.
+#[inline(always)]
+fn is_last<T: StopTest>(cpu: &Cpu, test: &T, count: u64) -> bool
+    ensures holds { result ≡ true → (1 ≤ count) × (T.test test.now false cpu.now ≡ true) }
+    ensures goes_on { result ≡ false → 1 ≤ count → T.test test.now false cpu.now ≡ false }
+{
+    if count == 0 {
+        return false;
+    }
+    test.holds(cpu, false)
+}
