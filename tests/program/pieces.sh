@@ -1,0 +1,77 @@
+# pieces: a run of steps leaves what as many steps leave that are taken one at a time. A run keeps common steps a piece of 42 at a time; a single
+# step is kept by itself. So both sessions are asked the same: the registers, how many moves come back, and the registers then.
+
+# (loops that do nothing rare; calls and helpers between; stores of each width, which watches see; a fault and an end within a piece)
+cat > plain.s << 'END'
+lddw r1, 100000
+loop: add r0, 1
+stxdw [r10-8], r0
+ldxdw r2, [r10-8]
+lsh r2, 3
+ja on
+on: jlt r2, r1, loop
+exit
+END
+cat > rare.s << 'END'
+mov r6, 40
+mov r7, 0
+loop: callf inner
+add r7, r0
+stxb [r10-1], r7
+stxh [r10-4], r7
+stxw [r10-8], r7
+atomic_add64 [r10-16], r7
+add r6, -1
+jne r6, 0, loop
+mov r0, r7
+exit
+inner: mov r0, r6
+mul r0, 3
+xor r0, 0x55
+exit
+END
+cat > fault.s << 'END'
+mov r1, r10
+loop: stb [r1-1], 7
+add r1, -1
+ja loop
+END
+
+# asked PROGRAM JOURNAL LINES: a session's answers to lines that end in questions.
+asked() {
+    printf '%s\n' "$3" 'info regs' 'info frames' 'x 0x200000100 256' 'reverse-stepi 100000' 'info regs' 'x 0x200000100 256' |
+        "$program" debug --listing --journal "$2" "$1" 2>&1
+}
+
+# singles COUNT: as many lines that take a step.
+singles() {
+    yes 'stepi' | head -n "$1"
+}
+
+# alike NAME PROGRAM JOURNAL COUNT [FIRST]: one run, and as many single steps, behind the same first line.
+alike() {
+    count=$((count + 1))
+    asked "$2" "$3" "${5:-info breaks}
+stepi $4" | tail -n +3 > run
+    asked "$2" "$3" "${5:-info breaks}
+$(singles "$4")" | tail -n +$(($4 + 2)) > single
+    if ! cmp -s run single || ! [ -s run ]; then
+        failures=$((failures + 1))
+        echo "FAILED pieces: $1"
+        diff single run | head -n 10
+    fi
+}
+
+for steps in 1 2 41 42 43 44 83 84 85 86 126 127 200; do
+    alike "plain, $steps steps" plain.s 65536 "$steps"
+    alike "plain, $steps steps, what is dropped" plain.s 1024 "$steps"
+    alike "rare, $steps steps" rare.s 65536 "$steps"
+    alike "rare, $steps steps, what is dropped" rare.s 1024 "$steps"
+done
+for journal in 1025 1026 1027 1028 1029 1030 1031 1032 1033 1034 1035 1036 1037 1038 1039 1040 2047; do
+    alike "plain, a journal of $journal" plain.s "$journal" 150
+    alike "rare, a journal of $journal" rare.s "$journal" 150
+done
+for steps in 100 500 766 767 768 800; do
+    alike "a fault behind $steps" fault.s 4096 "$steps"
+done
