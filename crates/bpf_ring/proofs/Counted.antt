@@ -85,10 +85,10 @@ oldest_less old new ks z t counted h =
     fewer old new ks z t (omega (arith, counted.entries, length-append ks (z ∷ []))) (omega (arith, counted.marks, sum_by_push marked ks z)) (omega (arith, counted.edits, sum_by_push edit ks z)) h
 
 -- The oldest less, an unmarked one of a step, by its tag.
-low_mark : (t : ℕ) → t ≤ 9 → nat_le 128 t ≡ false
+pub low_mark : (t : ℕ) → t ≤ 9 → nat_le 128 t ≡ false
 low_mark t low = grind (arith, nat_tests)
 
-low_kind : (t : ℕ) → t ≤ 9 → nat_le (t % 128) 9 ≡ true
+pub low_kind : (t : ℕ) → t ≤ 9 → nat_le (t % 128) 9 ≡ true
 low_kind t low = grind (arith, nat_tests)
 
 pub step_less : (old new : Counts) (ks : List Kept) (z : Kept) (t : ℕ) → t ≤ 9 → Counted old (ks ++ z ∷ []) → t ≡ tag (kind z.0) z.1

@@ -3,5 +3,6 @@ pub mod Counted
 pub mod Held
 pub mod Runs
 pub mod PieceLaws
+pub mod StretchLaws
 pub mod Spans
 pub mod Walks

@@ -5,4 +5,5 @@ pub mod Held
 pub mod Runs
 pub mod Pieces
 pub mod Spans
+pub mod Stretches
 pub mod Taking

@@ -39,7 +39,7 @@ const WORTHWHILE: u64 = 8;
 #[derive(Clone, Copy)]
 pub struct Head {
     /// How many bytes it has.
-    len: usize,
+    pub(crate) len: usize,
     /// Its kind, and whether it is marked.
     pub tag: u8,
 }

@@ -8,6 +8,7 @@ mod entries;
 mod pieces;
 mod ring;
 mod run;
+mod stretches;
 
 pub use entries::{EntryRing, Head};
 pub use ring::Ring;

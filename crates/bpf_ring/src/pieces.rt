@@ -7,8 +7,8 @@ ghost use Rattle.bpf_entries.specs.Rings.{AllFit, ring as ring_of};
 ghost use Rattle.bpf_entries.specs.Status.{has_ended};
 ghost use Rattle.bpf_machine.specs.State.{State};
 ghost use Rattle.bpf_ring.specs.Held.{IsHeld};
-ghost use Rattle.bpf_ring.specs.Pieces.{IsPiece, entries_of, kept_on};
-ghost use Rattle.bpf_ring.specs.Runs.{RunsTo, Running, kept_after, state_after};
+ghost use Rattle.bpf_ring.specs.Pieces.{IsPiece, entries_of};
+ghost use Rattle.bpf_ring.specs.Runs.{AreSteps, Overlooks, RunsTo, Running, Spares, kept_after, kept_on, state_after};
 
 use crate::entries::EntryRing;
 use crate::run::StopTest;
@@ -115,6 +115,29 @@ impl EntryRing {
         kept.taken
     }
 
+    /// Takes common steps, at most so many and at most 42, and keeps each without a mark: up to one
+    /// that is none of the common ones, or behind one that leads to a slot that `marks` has, by the
+    /// slot's remainder. Answers how many, maybe none. It takes no memory.
+    pub fn repeat(&mut self, cpu: &mut Cpu, most: u64, marks: &[bool; 8192]) -> u64
+        ensures state { cpu.new ≡ state_after result cpu.old }
+        ensures steps { AreSteps cpu.old result }
+        ensures within { result ≤ most }
+        ensures size { self.new.ring.size ≡ self.old.ring.size }
+        ensures fits { length self.new.ring.bytes ≤ self.new.ring.size }
+        ensures held { (ks : List Kept) → IsHeld self.old.ring self.old.counts ks →
+            IsHeld self.new.ring self.new.counts
+            (kept_on self.old.ring.size result cpu.old ks) }
+    {
+        if cpu.status().has_ended() {
+            self.invariant();
+            return 0;
+        }
+        let mut room = [0u8; BYTES];
+        let taken = self.keep_piece(cpu, most.min(STEPS), &Unstopped { marks }, &mut room);
+        self.invariant();
+        taken
+    }
+
     /// Appends the texts of the entries of so many steps, without marks, for which there must be
     /// room.
     fn append_steps(&mut self, text: &[u8], count: usize)
@@ -129,6 +152,33 @@ impl EntryRing {
         self.ring.push(text);
         let entries = self.counts.entries.wrapping_add(count);
         self.counts = self.counts.with_entries(entries);
+    }
+}
+
+/// What stops no run. The table ends pieces of it.
+#[derive(Clone, Copy)]
+struct Unstopped<'a> {
+    marks: &'a [bool; 8192],
+}
+
+impl<'a> StopTest for Unstopped<'a> {
+    ghost test = { λ u replaced y. false };
+
+    #[inline(always)]
+    fn holds(&self, cpu: &Cpu, replaced: bool) -> bool {
+        let _cpu = cpu;
+        let _replaced = replaced;
+        false
+    }
+
+    #[inline(always)]
+    fn marks(&self) -> &[bool; 8192] {
+        self.marks
+    }
+
+    #[inline(always)]
+    fn overlooks_stores(&self) -> bool {
+        true
     }
 }
 

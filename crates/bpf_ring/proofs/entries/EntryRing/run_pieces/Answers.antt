@@ -3,8 +3,7 @@ use Rattle.std.proofs.lemmas.Bool.Decides.{nat_tests}
 use Rattle.bpf_machine.proofs.Running.{state_on}
 use Rattle.bpf_ring.proofs.PieceLaws.{ends_there, kept_behind, running_behind, stops_there}
 use Rattle.bpf_ring.specs.Held.{IsHeld}
-use Rattle.bpf_ring.specs.Pieces.{kept_on}
-use Rattle.bpf_ring.specs.Runs.{kept_after, state_after}
+use Rattle.bpf_ring.specs.Runs.{kept_after, kept_on, state_after}
 use Rattle.bpf_ring.proofs.entries.EntryRing.run_pieces.Goals as goal
 
 pub returns-then-is_last-clause-over : goal.returns-then-is_last-clause-over

@@ -1,0 +1,14 @@
+use Rattle.std.proofs.Common.{◌∙◌, add-one}
+use Rattle.bpf_ring.specs.Held.{IsHeld}
+use Rattle.bpf_ring.proofs.StretchLaws.{drop_one}
+use Rattle.bpf_ring.proofs.entries.EntryRing.drop_some.Goals as goal
+
+pub loop-preserved : goal.loop-preserved
+loop-preserved c =
+    let i = c.loop.invariant in
+    let new = c.drop_last.new.self in
+    record {
+      size = c.drop_last.ensures.size ∙ i.size;
+      fits = c.drop_last.ensures.fits;
+      held = λ ks held. rw add-one (drop_one (IsHeld c.loop.self.ring c.loop.self.counts) (IsHeld new.ring new.counts) c.loop.counter ks c.drop_last.ensures.none c.drop_last.ensures.some (i.held ks held));
+    }
