@@ -10,3 +10,4 @@ pub mod RingKeeping
 pub mod MadeAgain
 pub mod Runs
 pub mod Courses
+pub mod Repeating

@@ -1,7 +1,8 @@
 -- What a new move leaves of a course, what going back leaves, and what making a move again leaves.
-use Rattle.std.specs.Prelude.{◌≡◌, ℕ, Bool, true, false, List, [], ◌∷◌, Option, Some, None}
+use Rattle.std.specs.Prelude.{◌≡◌, ℕ, zero, suc, Bool, true, false, List, [], ◌∷◌, Option, Some, None}
 use Rattle.bpf_machine.specs.declared.moves.Move.{Move}
 use Rattle.bpf_machine.specs.Moves.{IsMovable, Leads, moved}
+use Rattle.bpf_machine.specs.State.{State}
 use Rattle.bpf_entries.specs.Keeping.{Kept}
 use Rattle.bpf_journal.specs.declared.fault.TimelineFault.{TimelineFault}
 use Rattle.bpf_journal.specs.declared.fault.TimelineFault.TheVariants as fault
@@ -39,3 +40,9 @@ module _ {K : Type 0} (holds : K → List Kept → Type 0) where
   abbrev pub MakesAgain : Bool → List Record → List Record → CourseValue K → CourseValue K → Type 0
   MakesAgain made h [] old new = (made ≡ false) × (new.state ≡ old.state) × Follows holds new (record { history = h; ahead = [] })
   MakesAgain made h (r ∷ f) old new = (made ≡ true) × (new.state ≡ moved r.before r.move) × Follows holds new (record { history = r ∷ h; ahead = f })
+
+  -- So many of them are made again, one after another, from the state y on.
+  abbrev pub MakesAllAgain : ℕ → List Record → List Record → State → CourseValue K → Type 0
+  MakesAllAgain zero h f y new = (new.state ≡ y) × Follows holds new (record { history = h; ahead = f })
+  MakesAllAgain (suc k) h [] y new = ⊥
+  MakesAllAgain (suc k) h (r ∷ f) y new = MakesAllAgain k (r ∷ h) f (moved r.before r.move) new

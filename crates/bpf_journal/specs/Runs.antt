@@ -22,3 +22,8 @@ refusals_by_run true n = one_more n
 abbrev pub history_after : ℕ → ℕ → State → List Record → List Record
 history_after room zero x h = h
 history_after room (suc k) x h = keep record_weight room (history_after room k x h) (record_of (state_after k x) Step (k == 0))
+
+-- The history after so many steps, none of which has a mark.
+abbrev pub history_on : ℕ → ℕ → State → List Record → List Record
+history_on room zero x h = h
+history_on room (suc k) x h = keep record_weight room (history_on room k x h) (record_of (state_after k x) Step false)

@@ -5,7 +5,7 @@ ghost use Rattle.bpf_entries.specs.Status.{has_ended};
 ghost use Rattle.bpf_machine.specs.declared.moves.Move.TheVariants as move_of;
 ghost use Rattle.bpf_machine.specs.ByAddress.{byte};
 ghost use Rattle.bpf_machine.specs.Entries.{step_entry};
-ghost use Rattle.bpf_journal.specs.Courses.{FailsThere, GoesBackOne, MakesAgain, MakesNew, StaysThere};
+ghost use Rattle.bpf_journal.specs.Courses.{FailsThere, GoesBackOne, MakesAgain, MakesAllAgain, MakesNew, StaysThere};
 ghost use Rattle.bpf_journal.specs.Histories.{HasHistory, Record, StandsFor, is_step, record_weight};
 ghost use Rattle.bpf_journal.specs.Lookups.{last_change};
 ghost use Rattle.bpf_journal.specs.Replaced.{replaces_bytes};
@@ -266,6 +266,22 @@ impl<K: Keeper> Course<K> {
             Err(TimelineFault::Move(_)) => unreachable!(),
             Err(TimelineFault::OutOfMemory) => Err(TimelineFault::OutOfMemory),
         }
+    }
+
+    /// Makes the next ones of the steps again that were taken back, at most so many: as far as none
+    /// is marked, and the keeper takes them in one go, maybe none; a step that leads to a slot that
+    /// `marks` has, by the slot's remainder, is the last one. Answers how many.
+    pub fn redo_steps(&mut self, most: u64, marks: &[bool; 8192]) -> u64
+        ensures within { result ≤ most }
+        ensures made { (t : Track) → Follows K.holds self.old t →
+            MakesAllAgain K.holds result t.history t.ahead self.old.state self.new }
+        ensures refused { K.refused self.new.keeper ≡ K.refused self.old.keeper }
+        ensures room { K.room self.new.keeper ≡ K.room self.old.keeper }
+    {
+        let count = self.redo.plain(most);
+        let taken = self.timeline.repeat(count, marks);
+        self.redo.drop_some(taken);
+        taken
     }
 
     /// Makes the oldest move again that was taken back, by way of the entry that is kept of it.

@@ -6,7 +6,7 @@ ghost use Rattle.bpf_entries.specs.Status.{has_ended};
 ghost use Rattle.bpf_machine.specs.Entries.{step_entry};
 ghost use Rattle.bpf_machine.specs.Next.{change as change_of, next};
 ghost use Rattle.bpf_ring.specs.Held.{IsHeld};
-ghost use Rattle.bpf_ring.specs.Runs.{kept_after};
+ghost use Rattle.bpf_ring.specs.Runs.{AreSteps, kept_after, kept_on, state_after};
 ghost use Rattle.bpf_journal.specs.EditEntries.{HoldsSome, is_of_step};
 ghost use Rattle.bpf_journal.specs.Handing.{Hands};
 ghost use Rattle.bpf_journal.specs.Histories.{HasHistory, Record, StandsFor, newest};
@@ -114,6 +114,23 @@ pub trait Keeper {
             steps: most,
             is_cut: false,
         }
+    }
+
+    /// Takes common steps, at most so many, and keeps each without a mark: up to one that is none of
+    /// those that the keeper takes in one go, or behind one that leads to a slot that `marks` has,
+    /// by the slot's remainder. Answers how many, maybe none. By itself a keeper takes none.
+    fn repeat(&mut self, cpu: &mut Cpu, most: u64, marks: &[bool; 8192]) -> u64
+        ensures state { cpu.new ≡ state_after result cpu.old }
+        ensures steps { AreSteps cpu.old result }
+        ensures within { result ≤ most }
+        ensures held { (es : List Kept) → holds self.old es →
+            holds self.new (kept_on (room self.old) result cpu.old es) }
+        ensures stays { (refused self.new ≡ refused self.old) × (room self.new ≡ room self.old) }
+    {
+        let _cpu = cpu;
+        let _most = most;
+        let _marks = marks;
+        0
     }
 
     /// How many pushes were refused. It stays once at 2^64 - 1.

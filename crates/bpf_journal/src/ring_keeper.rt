@@ -1,10 +1,11 @@
 //! The keeper that keeps entries as their bytes, in one ring of the journal's size.
 ghost use Rattle.std.specs.Option.{option_map};
-ghost use Rattle.std.specs.Prelude.{◌≡◌, ◌≤◌, [], ◌∷◌, List, length, sum_by, is_some, None, IfOk, IfErr, IfSome, OnOk, OnSome, slice_get};
+ghost use Rattle.std.specs.Prelude.{◌≡◌, ◌≤◌, [], ◌∷◌, List, length, sum_by, is_some, None, IfOk, IfErr, IfSome, OnOk, OnSome, slice_get, drop};
 ghost use Rattle.bpf_entries.specs.Fields.{FitsFields};
 ghost use Rattle.bpf_entries.specs.Keeping.{IsSize, Kept, keep, kept_weight};
 ghost use Rattle.bpf_entries.specs.Rings.{AllFit, ring as ring_of};
 ghost use Rattle.bpf_ring.specs.Heads.{head_of};
+ghost use Rattle.bpf_ring.specs.Stretches.{ArePlain};
 ghost use Rattle.bpf_journal.specs.Handing.{Hands};
 ghost use Rattle.bpf_journal.specs.Histories.{HasHistory, Record, StandsFor, newest, older};
 ghost use Rattle.bpf_journal.specs.Opening.{RefusesSize};
@@ -143,6 +144,26 @@ impl RingKeeper {
         self.entries.drop_last();
     }
 
+    /// How many of the newest entries, counted up to `most`, are of steps and have no mark: those in
+    /// front of the first other one.
+    pub(crate) fn plain(&self, most: u64) -> u64
+        ensures within { result ≤ most }
+        ensures plain { (es : List Kept) → ⟦<RingKeeper as Keeper>⟧.holds self.now es →
+            ArePlain result es }
+    {
+        self.entries.plain(most)
+    }
+
+    /// Lets so many of the newest entries go, or all where there are fewer.
+    pub(crate) fn drop_some(&mut self, count: u64)
+        ensures room { ⟦<RingKeeper as Keeper>⟧.room self.new
+            ≡ ⟦<RingKeeper as Keeper>⟧.room self.old }
+        ensures held { (es : List Kept) → ⟦<RingKeeper as Keeper>⟧.holds self.old es →
+            ⟦<RingKeeper as Keeper>⟧.holds self.new (drop count es) }
+    {
+        self.entries.drop_some(count);
+    }
+
     /// Lets all that it holds go. It takes no memory.
     pub fn clear(&mut self)
         ensures room { ⟦<RingKeeper as Keeper>⟧.room self.new
@@ -209,6 +230,10 @@ impl Keeper for RingKeeper {
             steps: self.entries.run(cpu, most, test),
             is_cut: false,
         }
+    }
+
+    fn repeat(&mut self, cpu: &mut Cpu, most: u64, marks: &[bool; 8192]) -> u64 {
+        self.entries.repeat(cpu, most, marks)
     }
 
     fn refusals(&self) -> u64 {

@@ -15,7 +15,8 @@ ghost use Rattle.bpf_journal.specs.Replaced.{replaces_bytes};
 ghost use Rattle.bpf_journal.specs.Tracks.{RingHolds, ring_room};
 ghost use Rattle.bpf_machine.specs.ByAddress.{byte};
 ghost use Rattle.bpf_machine.specs.Platform.{frame_count};
-ghost use Rattle.bpf_journal.specs.Runs.{Ends, history_after, refusals_by_run};
+ghost use Rattle.bpf_journal.specs.Runs.{Ends, history_after, history_on, refusals_by_run};
+ghost use Rattle.bpf_ring.specs.Runs.{AreSteps, state_after};
 ghost use Rattle.bpf_journal.specs.Timelines.{Moment, Makes, Fails, GoesBack, refusals_by};
 
 use crate::fault::{MoveFault, TimelineFault};
@@ -239,6 +240,22 @@ impl<K: Keeper> Timeline<K> {
         ensures room { K.room self.new.keeper ≡ K.room self.old.keeper }
     {
         self.keeper.run(&mut self.cpu, most, test)
+    }
+
+    /// Takes common steps, at most so many, and keeps each without a mark: as many as the keeper
+    /// takes in one go, maybe none, or those up to one that leads to a slot that `marks` has, by the
+    /// slot's remainder. Answers how many.
+    pub(crate) fn repeat(&mut self, most: u64, marks: &[bool; 8192]) -> u64
+        ensures state { self.new.state ≡ state_after result self.old.state }
+        ensures steps { AreSteps self.old.state result }
+        ensures within { result ≤ most }
+        ensures kept { (h : List Record) → StandsFor K.holds self.old.keeper self.old.state h →
+            StandsFor K.holds self.new.keeper self.new.state
+            (history_on (K.room self.old.keeper) result self.old.state h) }
+        ensures refused { K.refused self.new.keeper ≡ K.refused self.old.keeper }
+        ensures room { K.room self.new.keeper ≡ K.room self.old.keeper }
+    {
+        self.keeper.repeat(&mut self.cpu, most, marks)
     }
 
     /// Makes an edit and keeps it. Nothing changes where the edit is refused; where the keeper
