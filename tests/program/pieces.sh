@@ -1,5 +1,6 @@
 # pieces: a run of steps leaves what as many steps leave that are taken one at a time. A run keeps common steps a piece of 42 at a time; a single
-# step is kept by itself. So both sessions are asked the same: the registers, how many moves come back, and the registers then.
+# step is kept by itself. So both sessions are asked the same: the registers, how many moves come back, and the registers then. `redo` of many moves
+# leaves what as many times `redo` leave, likewise.
 
 # (loops that do nothing rare; calls and helpers between; stores of each width, which watches see; a fault and an end within a piece)
 cat > plain.s << 'END'
@@ -74,4 +75,46 @@ for journal in 1025 1026 1027 1028 1029 1030 1031 1032 1033 1034 1035 1036 1037 
 done
 for steps in 100 500 766 767 768 800; do
     alike "a fault behind $steps" fault.s 4096 "$steps"
+done
+
+# again NAME PROGRAM JOURNAL LINES COUNT: behind these lines, one `redo` of so many moves, and as many of one.
+again() {
+    count=$((count + 1))
+    asked "$2" "$3" "$4
+redo $5
+info history" | tail -n +$(($(printf '%s\n' "$4" | wc -l) + 2)) > run
+    asked "$2" "$3" "$4
+$(yes redo | head -n "$5")
+info history" | tail -n +$(($(printf '%s\n' "$4" | wc -l) + 1 + $5)) > single
+    if ! cmp -s run single || ! [ -s run ]; then
+        failures=$((failures + 1))
+        echo "FAILED pieces: $1"
+        diff single run | head -n 10
+    fi
+}
+
+# (one command undone in part and whole; several commands, edits between them, a breakpoint in the loop, a journal that dropped moves)
+for moves in 1 2 41 42 43 84 85 120; do
+    for journal in 1024 4096 65536; do
+        again "plain, $moves redone, J = $journal" plain.s "$journal" 'stepi 150
+reverse-stepi 1000' "$moves"
+        again "rare, $moves redone, J = $journal" rare.s "$journal" 'stepi 150
+reverse-stepi 1000' "$moves"
+        again "plain, commands, $moves redone, J = $journal" plain.s "$journal" 'stepi 50
+set reg r3 7
+stepi 3
+stepi
+stepi 60
+set mem 0x2000000f8 0102
+stepi 44
+undo 2
+reverse-stepi 120
+undo' "$moves"
+        again "plain, a breakpoint, $moves redone, J = $journal" plain.s "$journal" 'break 3
+continue
+continue
+stepi 130
+watch 0x2000000f8
+reverse-stepi 130' "$moves"
+    done
 done

@@ -7,9 +7,9 @@ use Rattle.bpf_machine.specs.Moves.{moved}
 use Rattle.bpf_machine.specs.State.{State}
 use Rattle.bpf_entries.specs.Keeping.{Kept}
 use Rattle.bpf_journal.specs.Counts.{one_more}
-use Rattle.bpf_journal.specs.Courses.{MakesAgain, StaysThere}
+use Rattle.bpf_journal.specs.Courses.{MakesAgain, MakesAllAgain, StaysThere}
 use Rattle.bpf_journal.specs.Histories.{Record}
-use Rattle.bpf_journal.specs.Tracks.{Track}
+use Rattle.bpf_journal.specs.Tracks.{CourseValue, Follows, Track}
 use Rattle.bpf_session.specs.Outcomes.{Outcome, refused}
 use Rattle.bpf_session.specs.Points.{Point}
 use Rattle.bpf_session.specs.Redo.{state_ahead, on_by, redone, cut_again, redo, again}
@@ -52,6 +52,19 @@ next_at (r ∷ f) (suc k) x lt =
     assoc : (a b c : List Record) → (a ++ b) ++ c ≡ a ++ (b ++ c)
     assoc [] b c = refl
     assoc (r ∷ a) b c = ap (λ (xs : List Record). r ∷ xs) (assoc a b c)
+
+-- records that are made again at once, behind k others
+module _ {K : Type 0} (holds : K → List Kept → Type 0) (new : CourseValue K) where
+  pub all_on : (n k : ℕ) (h : Track) (x y : State) → k + n ≤ length h.ahead → y ≡ state_ahead k h.ahead x → MakesAllAgain holds n (reverse (take k h.ahead) ++ h.history) (drop k h.ahead) y new → (new.state ≡ state_ahead (k + n) h.ahead x) × Follows holds new (record { history = reverse (take (k + n) h.ahead) ++ h.history; ahead = drop (k + n) h.ahead })
+  all_on zero k h x y le at b =
+      subst (λ (j : ℕ). (new.state ≡ state_ahead j h.ahead x) × Follows holds new (record { history = reverse (take j h.ahead) ++ h.history; ahead = drop j h.ahead })) (let e : k ≡ k + 0 = omega arith in e)
+      (b.0 ∙ at, b.1)
+  all_on (suc n) k h x y le at b =
+      let next = next_at h.ahead k x (omega (arith, le)) in
+      let front = subst (λ (f : List Record). MakesAllAgain holds (suc n) (reverse (take k h.ahead) ++ h.history) f y new) next.front b in
+      let on = all_on n (suc k) h x (moved next.found.before next.found.move) (omega (arith, le)) (sym next.after)
+      (subst (λ (g : List Record). MakesAllAgain holds n g (drop (suc k) h.ahead) (moved next.found.before next.found.move) new) (sym (next.onto h.history)) front) in
+      subst (λ (j : ℕ). (new.state ≡ state_ahead j h.ahead x) × Follows holds new (record { history = reverse (take j h.ahead) ++ h.history; ahead = drop j h.ahead })) (let e : suc k + n ≡ k + suc n = omega arith in e) on
 
 -- what holds after k turns
 pub record Redoing {K : Type 0} (holds : K → List Kept → Type 0) (refusals room : K → ℕ) (old now : SessionValue K) (k : ℕ) : Type 0 where
@@ -114,6 +127,31 @@ module _ {K : Type 0} (holds : K → List Kept → Type 0) (refusals room : K �
     room_same = room_same ∙ i.room_same;
     stands = stands_more i only made more;
   }
+
+  -- steps that are made again at once
+  stands_all : (n : ℕ) → Redoing holds refusals room old now k → OnlyMoment now new → ((g : Track) → HasPast holds now g → MakesAllAgain holds n g.history g.ahead now.moment.state new.moment) → (h : Track) → HasPast holds old h → k + n ≤ length h.ahead → StandsAt holds new (on_by (k + n) (point_of old h))
+  stands_all n i only all h past le =
+      let st = i.stands h past (omega (arith, le)) in
+      let p = on_by (k + n) (point_of old h) in
+      let b = all_on holds new.moment n k h old.moment.state now.moment.state le (ap (λ (q : Point). q.state) st.0) (all (track_at (on_by k (point_of old h))) st.1) in (
+        ap (λ (x : State). record { history = p.history; ahead = p.ahead; state = x; breaks = new.breaks; watches = new.watches }) b.0
+            ∙ ap (λ (bs : List ℕ). record { history = p.history; ahead = p.ahead; state = p.state; breaks = bs; watches = new.watches }) (only.breaks ∙ i.only.breaks)
+            ∙ ap (λ (ws : List ℕ). record { history = p.history; ahead = p.ahead; state = p.state; breaks = old.breaks; watches = ws }) (only.watches ∙ i.only.watches),
+        b.1,
+      )
+
+  pub redoing_steps : (n : ℕ) → Redoing holds refusals room old now k → OnlyMoment now new → ((g : Track) → HasPast holds now g → MakesAllAgain holds n g.history g.ahead now.moment.state new.moment) → refusals new.moment.keeper ≡ refusals now.moment.keeper → room new.moment.keeper ≡ room now.moment.keeper → Redoing holds refusals room old new (k + n)
+  redoing_steps n i only all same room_same = record {
+    only = record { breaks = only.breaks ∙ i.only.breaks; watches = only.watches ∙ i.only.watches; limit = only.limit ∙ i.only.limit };
+    same = same ∙ i.same;
+    room_same = room_same ∙ i.room_same;
+    stands = stands_all n i only all;
+  }
+
+  pub redoing_none : (n : ℕ) → n ≡ 0 → Redoing holds refusals room old now k → OnlyMoment now new → ((g : Track) → HasPast holds now g → MakesAllAgain holds n g.history g.ahead now.moment.state new.moment) → refusals new.moment.keeper ≡ refusals now.moment.keeper → room new.moment.keeper ≡ room now.moment.keeper → Redoing holds refusals room old new k
+  redoing_none n none i only all same room_same =
+      let e : k + n ≡ k = omega (arith, none) in
+      subst (λ (j : ℕ). Redoing holds refusals room old new j) e (redoing_steps n i only all same room_same)
 
   -- a move that the keeper refused
   pub redoing_cut : (moves : ℕ) (why : Why) → k < moves → ((h : Track) → HasPast holds old h → moves ≤ length h.ahead) → Redoing holds refusals room old now k → OnlyMoment now new → StaysThere holds now.moment new.moment → refusals new.moment.keeper ≡ one_more (refusals now.moment.keeper) → room new.moment.keeper ≡ room now.moment.keeper → Obeys holds refusals room old new (λ gap. cut_again gap moves why) (if k == 0 then Err OutOfMemory else Ok (replies.Redone k whys.Memory))

@@ -10,6 +10,9 @@ use bpf_journal::Keeper;
 use bpfdb_commands::{Count, Refusal};
 use bpfdb_replies::Why;
 
+/// The most steps that are made again at once.
+const LONGEST: u64 = 42;
+
 impl<K: Keeper> Session<K> {
     /// Makes so many moves again that were taken back, the next one first, or all of them where
     /// there are fewer. It stops at no breakpoint and no watch. Q15 where the keeper refuses the
@@ -33,13 +36,34 @@ impl<K: Keeper> Session<K> {
         ensures { Obeys K.holds K.refused K.room self.old self.new (λ gap. cut_again gap moves why)
             result }
     {
-        for k in 0..moves {
+        let mut made = 0;
+        let mut reach = LONGEST;
+        while made < moves {
+            let most = (moves - made).min(reach);
+            let steps = self.timeline.redo_steps(most, self.breaks.table());
+            reach = reach_behind(steps);
+            if steps > 0 {
+                made += steps;
+                continue;
+            }
             match self.timeline.redo() {
-                Ok(_) => {}
-                Err(_) => return cut_short(k),
+                Ok(_) => made += 1,
+                Err(_) => return cut_short(made),
             }
         }
         Ok(Reply::Redone { moves, why })
+    }
+}
+
+/// How many steps are asked for at once behind so many that were made again at once: more than
+/// these, so that where such stretches are short no more is looked at than pays.
+fn reach_behind(steps: u64) -> u64
+    ensures { 1 ≤ result }
+{
+    if steps < LONGEST / 2 {
+        2 * steps + 2
+    } else {
+        LONGEST
     }
 }
 

@@ -1,7 +1,12 @@
+use Rattle.std.proofs.Common.{◌≤◌, ◌-◌}
 use Rattle.bpf_session.proofs.Redoing.{Redoing}
 use Rattle.bpf_session.proofs.session.Session.go_on.Given as goal
 
-abbrev pub invariant-loop-k : goal.invariant-loop-k
-invariant-loop-k g l =
-    Redoing g.K.Keeper.holds g.K.Keeper.refused g.K.Keeper.room l.fn.self
-    (record { moment = l.self-inside.timeline; breaks = l.self-inside.breaks; watches = l.self-inside.watches; limit = l.self-inside.limit }) l.k
+abbrev pub invariant-loop-made : goal.invariant-loop-made
+invariant-loop-made g l =
+    (l.made ≤ l.moves)
+    × Redoing g.K.Keeper.holds g.K.Keeper.refused g.K.Keeper.room l.fn.self
+    (record { moment = l.self-inside.timeline; breaks = l.self-inside.breaks; watches = l.self-inside.watches; limit = l.self-inside.limit }) l.made
+
+abbrev pub decreases-loop-made : goal.decreases-loop-made
+decreases-loop-made g l = l.moves - l.made
