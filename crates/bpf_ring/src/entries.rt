@@ -606,7 +606,7 @@ impl EntryRing {
                 return pieced.taken;
             }
             pause = next_pause(pause, pieced.last);
-            let run = self.run_on(cpu, pieced.taken, pause, most, test);
+            let run = self.run_singly(cpu, pieced.taken, pause, most, test);
             taken = run.taken;
             if run.is_over {
                 self.invariant();
@@ -617,8 +617,50 @@ impl EntryRing {
         taken
     }
 
+    /// Goes on with a run that has taken some steps, one step after the other, so many, or until it
+    /// is over.
+    fn run_singly<T: StopTest>(
+        &mut self,
+        cpu: &mut Cpu,
+        taken: u64,
+        steps: u64,
+        most: u64,
+        test: &T,
+    ) -> Pieced
+        requires runs { has_ended cpu.old.status ≡ false }
+        requires some { 1 ≤ taken }
+        requires few { (1 ≤ steps) × (steps ≤ 256) }
+        requires most { taken < most }
+        ensures size { self.new.ring.size ≡ self.old.ring.size }
+        ensures on { (result.is_over ≡ false → taken < result.taken) × (result.taken ≤ most) }
+        ensures runs { result.is_over ≡ false → has_ended cpu.new.status ≡ false }
+        ensures goes_on { (x : State) → Running (T.test test.now) x cpu.old taken →
+            result.is_over ≡ false → Running (T.test test.now) x cpu.new result.taken }
+        ensures over { (x : State) → Running (T.test test.now) x cpu.old taken →
+            result.is_over ≡ true → RunsTo (T.test test.now) most x cpu.new result.taken }
+        ensures held { (x : State) (ks : List Kept) → Running (T.test test.now) x cpu.old taken →
+            IsHeld self.old.ring self.old.counts (kept_after self.old.ring.size taken x ks) →
+            IsHeld self.new.ring self.new.counts
+            (kept_after self.old.ring.size result.taken x ks) }
+    {
+        let until = (most - taken).min(steps) + taken;
+        let mut reached = taken;
+        while reached < until {
+            let run = self.run_on(cpu, reached, (until - reached).min(256), most, test);
+            if run.is_over {
+                return run;
+            }
+            reached = run.taken;
+        }
+        Pieced {
+            taken: reached,
+            is_over: false,
+            last: 0,
+        }
+    }
+
     /// Goes on with a run that has taken some steps, one step after the other, at least one and at
-    /// most so many, or until it is over.
+    /// most so many, or until it is over, or until an entry doesn't go into the block in one piece.
     fn run_on<T: StopTest>(
         &mut self,
         cpu: &mut Cpu,
