@@ -25,6 +25,7 @@ use Rattle.bpf_ring.specs.Blocks.{Content}
 use Rattle.bpf_ring.specs.declared.counts.Counts.{Counts}
 use Rattle.bpf_ring.specs.Counted.{Counted}
 use Rattle.bpf_ring.specs.Held.{IsHeld, NewestLed, HoldsWay}
+use Rattle.bpf_ring.specs.Left.{Left}
 
 -- A ring has as many bytes as its entries weigh, so at least as many as there are entries and marks.
 pub length-ring : (ks : List Kept) → AllFit ks → length (ring ks) ≡ sum_by kept_weight ks
@@ -87,12 +88,6 @@ pub record Oldest (ks : List Kept) : Type 0 where
 pub oldest_of : (k : Kept) (ks : List Kept) → Oldest (k ∷ ks)
 oldest_of k [] = record { others = []; oldest = k; whole = refl }
 oldest_of k (l ∷ ks) = let rest = oldest_of l ks in record { others = k ∷ rest.others; oldest = rest.oldest; whole = ap (λ t. k ∷ t) rest.whole }
-
--- What is left of a list, of which as much fits the room as of it.
-pub record Left (content : Content) (counts : Counts) (room : ℕ) (ks : List Kept) : Type 0 where
-  pub front : List Kept
-  pub held : IsHeld content counts front
-  pub same : fit kept_weight room front ≡ fit kept_weight room ks
 
 pub left_dropped : (old new : Content) (before after : Counts) (room : ℕ) (ks : List Kept) → room < length old.bytes
     → ((front : List Kept) (z : Kept) → IsHeld old before (front ++ z ∷ []) → IsHeld new after front)

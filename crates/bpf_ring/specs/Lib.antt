@@ -2,6 +2,7 @@ pub mod Blocks
 pub mod Counted
 pub mod Heads
 pub mod Held
+pub mod Left
 pub mod Runs
 pub mod Pieces
 pub mod Spans

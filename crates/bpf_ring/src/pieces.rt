@@ -1,12 +1,13 @@
 //! A run of common steps, which are kept a piece at a time: the machine writes their entries one
 //! behind the other, the fewest oldest ones that make room for all of them are dropped, and they are
 //! appended by one write.
-ghost use Rattle.std.specs.Prelude.{◌≡◌, ◌≤◌, ◌<◌, ◌+◌, ◌++◌, List, length, true, false};
+ghost use Rattle.std.specs.Prelude.{◌≡◌, ◌≤◌, ◌<◌, ◌+◌, ◌-◌, ◌++◌, List, length, true, false};
 ghost use Rattle.bpf_entries.specs.Keeping.{Kept};
 ghost use Rattle.bpf_entries.specs.Rings.{AllFit, ring as ring_of};
 ghost use Rattle.bpf_entries.specs.Status.{has_ended};
 ghost use Rattle.bpf_machine.specs.State.{State};
 ghost use Rattle.bpf_ring.specs.Held.{IsHeld};
+ghost use Rattle.bpf_ring.specs.Left.{Left};
 ghost use Rattle.bpf_ring.specs.Pieces.{IsPiece, entries_of};
 ghost use Rattle.bpf_ring.specs.Runs.{AreSteps, Overlooks, RunsTo, Running, Spares, kept_after, kept_on, state_after};
 
@@ -110,9 +111,25 @@ impl EntryRing {
         entries_fit();
         self.invariant();
         let kept = cpu.keep(most, test.marks(), test.overlooks_stores(), room);
+        self.drop_in_place(kept.len);
         self.make_room(kept.len);
         self.append_steps(&room[..kept.len], kept.taken as usize);
         kept.taken
+    }
+
+    /// Drops oldest entries, as far as the block has them in one piece and they are unmarked ones of
+    /// steps, until there is room for so many bytes.
+    #[inline(always)]
+    fn drop_in_place(&mut self, room: usize)
+        requires { room ≤ 1008 }
+        ensures size { self.new.ring.size ≡ self.old.ring.size }
+        ensures left { (ks : List Kept) → IsHeld self.old.ring self.old.counts ks →
+            Left self.new.ring self.new.counts (self.old.ring.size - room) ks }
+    {
+        self.invariant();
+        let most = self.ring.size() - room;
+        let entries = self.ring.drop_to(self.counts, most);
+        self.counts = self.counts.with_entries(entries);
     }
 
     /// Takes common steps, at most so many and at most 42, and keeps each without a mark: up to one

@@ -14,13 +14,14 @@ ghost use Rattle.bpf_machine.specs.State.{State};
 ghost use Rattle.bpf_machine.specs.declared.moves.Move.{Move};
 ghost use Rattle.bpf_entries.specs.Keeping.{IsSize, Kept};
 ghost use Rattle.bpf_ring.specs.Held.{IsHeld};
+ghost use Rattle.bpf_ring.specs.Left.{Left};
 ghost use Rattle.bpf_ring.specs.Runs.{RunsTo, Running, kept_after, state_after};
 ghost use Rattle.bpf_ring.specs.Spans.{counts_of};
 
 use crate::block::{fill, place, record_in_place, write_around, write_in_place};
 use crate::counts::Counts;
 use crate::entries::text_len;
-use crate::run::{Reached, Span, StopTest, run_in_place};
+use crate::run::{Reached, Span, StopTest, drop_in_place, run_in_place};
 use bpf_entries::weights::GREATEST;
 use bpf_entries::{byte_before, depth_before};
 use bpf_machine::{Change, Cpu};
@@ -216,6 +217,29 @@ impl Ring {
         self.first = reached.span.first;
         self.len = reached.span.len;
         reached
+    }
+
+    /// Drops oldest entries until at most so many bytes are left, as far as these are unmarked ones
+    /// of steps in one piece of the block. `counts` are those of the entries that the ring holds.
+    /// Answers how many entries are left.
+    pub(crate) fn drop_to(&mut self, counts: Counts, most: usize) -> usize
+        requires { 3 ≤ most }
+        ensures size { self.new.size ≡ self.old.size }
+        ensures left { (ks : List Kept) → IsHeld self.old counts ks →
+            Left self.new (record counts { entries = result }) most ks }
+    {
+        let size = self.buffer.capacity();
+        let span = Span {
+            first: self.first,
+            len: self.len,
+            end: place(self.buffer.len(), self.first, self.len),
+            entries: counts.entries,
+        };
+        let block = self.buffer.make_contiguous();
+        let left = drop_in_place(block, size, span, most);
+        self.first = left.first;
+        self.len = left.len;
+        left.entries
     }
 
     /// Makes a change and keeps its entry, as `record` does, by way of a copy of the entry.

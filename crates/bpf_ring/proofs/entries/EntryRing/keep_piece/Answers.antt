@@ -24,7 +24,9 @@ returns-clause-held g c = λ ks held.
     let weighs : sum_by kept_weight (entries_of n x) ≡ len = sym (length-ring (entries_of n x) fits) ∙ ap length (sym is) ∙ length-front len c.keep-kept.new.room keeps.fits in
     let small : sum_by kept_weight ks ≤ size = omega (arith, c.invariant.ensures, ap length held.bytes, length-ring ks held.fit) in
     let within : sum_by kept_weight (entries_of n x) ≤ size = omega (arith, weighs, c.make_room.ensures.within, c.make_room.ensures.size) in
-    let left : IsHeld c.make_room.new.self.ring c.make_room.new.self.counts (fit kept_weight (size - len) ks) = c.make_room.ensures.held ks held in
+    let fewer = c.drop_in_place.ensures.left ks held in
+    let rest = subst (λ (k : ℕ). IsHeld c.make_room.new.self.ring c.make_room.new.self.counts (fit kept_weight (k - len) fewer.front)) c.drop_in_place.ensures.size (c.make_room.ensures.held fewer.front fewer.held) in
+    let left : IsHeld c.make_room.new.self.ring c.make_room.new.self.counts (fit kept_weight (size - len) ks) = subst (IsHeld c.make_room.new.self.ring c.make_room.new.self.counts) fewer.same rest in
     let whole = c.append_steps.ensures.held (fit kept_weight (size - len) ks) x left fits is in
     subst (IsHeld c.append_steps.new.self.ring c.append_steps.new.self.counts)
     (ap (λ (k : ℕ). entries_of n x ++ fit kept_weight (size - k) ks) (sym weighs) ∙ sym (kept_piece size n x ks small within)) whole

@@ -1,7 +1,7 @@
 use Rattle.std.proofs.Common.{◌≡◌, List, length}
 use Rattle.bpf_entries.specs.Keeping.{Kept}
 use Rattle.bpf_ring.specs.Held.{IsHeld}
-use Rattle.bpf_ring.proofs.Held.{Left}
+use Rattle.bpf_ring.specs.Left.{Left}
 use Rattle.bpf_ring.proofs.entries.EntryRing.make_room.Given as goal
 
 abbrev pub invariant-loop-self : goal.invariant-loop-self
