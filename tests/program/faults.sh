@@ -296,6 +296,8 @@ done
 printf 'mov r0, 42\nexit\n' > program.s
 bytes answer b7 00 00 00 2a 00 00 00 EXIT
 words=$text
+printf 'stepi\nset reg r0 7\nundo\nredo\n' > obeyed
+printf 'stepi\nfinish\n' > refused
 for all in '' all; do
     for kind in fail none interrupted; do
         [ "$all$kind" != allinterrupted ] || continue
@@ -307,6 +309,8 @@ for all in '' all; do
             hold_bytes
             state 0 'exited at 1: r0 0x2a\n-2 r0 = 0x2a; 0: mov r0, 42\n' ''
             output $piece $kind origin answer
+            state 0 'at 1: exit\n-1 r0 = 0x7; edit\n' ''
+            output $piece $kind origin --script obeyed answer
             state 0 '1 0: mov r0, 42; r0 = 0x2a\n2 1: exit\nexited at 1: r0 0x2a\n' ''
             output $piece $kind trace answer
             state 0 '1 0: mov r0, 42\n1 1: exit\nexited at 1: r0 0x2a\n' ''
@@ -340,6 +344,8 @@ for all in '' all; do
             errors $piece $kind debug empty
             state 2 '' 'refused V2: address not present\n'
             errors $piece $kind origin answer 0
+            state 2 '' 'refused Q9: outermost frame\n'
+            errors $piece $kind origin --script refused answer
             state 1 '' 'step limit 7 reached at 0\n'
             errors $piece $kind run --steps 7 endless
             cp linked stated
@@ -387,6 +393,11 @@ for all in '' all; do
         state 0 '0x8\n' ''
         files $piece fail run -m context program
         mv words program
+        mv context words
+        cp obeyed context
+        state 0 'at 1: exit\n-1 r0 = 0x7; edit\n' ''
+        files $piece fail origin --script context program
+        mv words context
     done
 done
 all=''
@@ -400,6 +411,11 @@ for piece in 1 0; do
     state 0 '0x8\n' ''
     files $piece interrupted run -m context program
     mv kept program
+    mv context words
+    cp obeyed context
+    state 0 'at 1: exit\n-1 r0 = 0x7; edit\n' ''
+    files $piece interrupted origin --script context program
+    mv words context
 done
 
 # asks PACKET ANSWER: one more packet of what gdb sends, and what it is answered.

@@ -461,7 +461,7 @@ static int traces_back(u64 limit) {
     reopen();
     open_origins();
     while (!machine.ended && machine.steps < limit)
-        step_origins(&machine, &before, with_addresses);
+        step_origins(&machine, &before, (int)machine.steps, with_addresses);
     taken = machine.steps;
     what = make_question(&asked);
     memset(&all, 0, sizeof all);
@@ -484,6 +484,181 @@ static int traces_back(u64 limit) {
         return fails("origin stands elsewhere than the second machine");
     reopen();
     return tells(&all, taken, end + 1);
+}
+
+/* The moves of a session, those that were taken back among them: which of them are edits, with the registers, bytes or slots that they wrote. */
+struct move {
+    enum { STEP, SET_REGISTER, SET_BYTES, SET_PC } kind;
+    int is_marked, number, count;
+    u64 address, value;
+    u8 bytes[16];
+};
+static struct move tape[MOST_MOVES];
+static int moves_made, moves_kept;
+
+/* Makes a move again, and follows what it does to origins: by values, or by addresses too. */
+enum { NOT_AT_ALL, BY_VALUES, BY_ADDRESSES };
+static void replay(int number, int follows) {
+    static struct machine before;
+    static struct places writes;
+    const struct move *move = &tape[number];
+    writes.count = 0;
+    switch (move->kind) {
+    case STEP:
+        if (follows == NOT_AT_ALL)
+            step(&machine);
+        else
+            step_origins(&machine, &before, number, follows == BY_ADDRESSES);
+        return;
+    case SET_REGISTER:
+        machine.r[move->number] = move->value;
+        put_register(&machine, &writes, move->number);
+        break;
+    case SET_BYTES:
+        memcpy(reach(&machine, move->address, move->count), move->bytes, move->count);
+        put_bytes(&machine, &writes, move->address, move->count);
+        break;
+    case SET_PC:
+        machine.pc = move->value;
+        machine.ended = 0;
+    }
+    edit_origins(&writes, number);
+}
+
+/* Goes to the state behind so many of the moves. */
+static void go_to(int moves, int follows) {
+    int i;
+    reopen();
+    open_origins();
+    for (i = 0; i < moves; i++)
+        replay(i, follows);
+    moves_made = moves;
+}
+
+/* A new move, which forgets those that were taken back. */
+static void add_move(const struct move *move) {
+    tape[moves_made] = *move;
+    replay(moves_made, NOT_AT_ALL);
+    moves_kept = ++moves_made;
+}
+
+/* The text of a random edit, which is made; 0 where there is none. */
+static int edit(char *text, u64 room) {
+    struct move move = { SET_REGISTER, 1, below(10), 1 + below(16), 0, odd_number(), { 0 } };
+    u64 at, slot;
+    int i;
+    switch (below(5)) {
+    case 0: case 1:
+        at = snprintf(text, room, "set reg r%d %lu\n", move.number, move.value);
+        break;
+    case 2: case 3:
+        move.kind = SET_BYTES;
+        move.address = machine.context_length && chance(30) ? 0x100000000 + below(machine.context_length)
+            : machine.map_count && chance(30) ? 0x300000000 + below(8) : 0x2000001f0 + 1024 * machine.depth - below(32);
+        if (!reach(&machine, move.address, move.count))
+            return 0;
+        at = snprintf(text, room, "set mem 0x%lx ", move.address);
+        for (i = 0; i < move.count; i++) {
+            move.bytes[i] = any();
+            at += snprintf(text + at, room - at, "%02x", move.bytes[i]);
+        }
+        at += snprintf(text + at, room - at, "\n");
+        break;
+    default:
+        move.kind = SET_PC;
+        move.value = slot = 0;
+        for (i = below(30); i-- > 0 && slot < machine.length / 8; slot += opcode_at(bytes, slot) == 0x18 ? 2 : 1)
+            move.value = slot;
+        at = snprintf(text, room, "set pc %lu\n", move.value);
+    }
+    add_move(&move);
+    return (int)at;
+}
+
+/* The text of a random command that goes back or makes moves again, which is obeyed; 0 where it would be refused. */
+static int go_back(char *text, u64 room) {
+    int is_undo = chance(50), all = 0, count, found, i;
+    if (chance(30)) {
+        if (moves_made == moves_kept)
+            return 0;
+        count = 1 + below(chance(50) ? moves_kept : 3);
+        go_to(moves_made + count < moves_kept ? moves_made + count : moves_kept, NOT_AT_ALL);
+        return snprintf(text, room, "redo %d\n", count);
+    }
+    for (i = 0; i < moves_made; i++)
+        all += is_undo ? tape[i].is_marked : tape[i].kind == STEP;
+    if (!all)
+        return 0;
+    count = found = 1 + below(chance(50) ? all : 1);
+    for (i = moves_made; found && i-- > 0;)
+        found -= is_undo ? tape[i].is_marked : tape[i].kind == STEP;
+    go_to(i, NOT_AT_ALL);
+    return snprintf(text, room, is_undo ? "undo %d\n" : "reverse-stepi %d\n", count);
+}
+
+/* A random session, of which each command is obeyed: its script is written. */
+static void make_session(u64 limit) {
+    static const struct move a_step;
+    u64 at = 0, count, i;
+    int commands = 1 + below(12);
+    moves_kept = 0;
+    go_to(0, NOT_AT_ALL);
+    while (commands-- > 0 && moves_made < MOST_MOVES - 1) {
+        if (chance(30)) {
+            at += edit(script + at, TEXT_ROOM - at);
+        } else if (chance(40)) {
+            at += go_back(script + at, TEXT_ROOM - at);
+        } else if (!machine.ended) {
+            count = chance(30) ? limit : 1 + below(20);
+            if (moves_made + count > MOST_MOVES - 1)
+                break;
+            at += count == limit ? (u64)snprintf(script + at, 100, "continue\n") : (u64)snprintf(script + at, 100, "stepi %lu\n", count);
+            for (i = 0; !machine.ended && i < count && i < limit; i++) {
+                add_move(&a_step);
+                tape[moves_made - 1].is_marked = i == 0;
+            }
+        }
+    }
+    put_file("session", script, at);
+}
+
+/* Where values came from where a session stands: the same, over the moves that led there. */
+static int session_traces_back(u64 limit) {
+    static struct places asked;
+    static struct origins all;
+    static char steps[24];
+    char *what, *end;
+    int with_addresses = chance(50), taken, i;
+    if (!fits_origins(&machine))
+        return 1;
+    snprintf(steps, sizeof steps, "%lu", limit);
+    make_session(limit);
+    taken = moves_made;
+    go_to(taken, with_addresses ? BY_ADDRESSES : BY_VALUES);
+    what = make_question(&asked);
+    memset(&all, 0, sizeof all);
+    for (i = 0; i < asked.count; i++)
+        join(&all, &origins_of[asked.place[i]]);
+    words_for("origin", 1);
+    add_word("--steps");
+    add_word(steps);
+    add_word("--journal=16777216");
+    add_word("--script");
+    add_word("session");
+    if (with_addresses)
+        add_word("--addresses");
+    add_word("program");
+    if (what)
+        add_word(what);
+    place(&machine, wanted, TEXT_ROOM);
+    if (!sound())
+        return 0;
+    if (left.status)
+        return strstr(left.output, "cut: ") ? 1 : fails("origin of a session answers nothing");
+    if (strncmp(left.output, wanted, strlen(wanted)) || !(end = strchr(left.output, '\n')))
+        return fails("origin of a session stands elsewhere than the second machine");
+    reopen();
+    return tells(&all, (u64)taken, end + 1);
 }
 
 /* A program and its listing: asm gives the words back. */
@@ -543,7 +718,7 @@ static int try_origin(void) {
     is_steady = 1;
     is_accepted = judged(make_program());
     is_steady = 0;
-    return !is_accepted || traces_back(1 + below(chance(50) ? 400 : 40));
+    return !is_accepted || (traces_back(1 + below(chance(50) ? 400 : 40)) && session_traces_back(1 + below(chance(50) ? 100 : 40)));
 }
 
 /* Bytes that were never a program. */

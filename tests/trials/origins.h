@@ -161,8 +161,8 @@ static void look_at_helper(struct machine *before, const struct machine *after, 
     }
 }
 
-/* A step, with what it does to origins. The state before it is `before`, which is written anew. */
-static void step_origins(struct machine *m, struct machine *before, int with_addresses) {
+/* A step, with what it does to origins: the move of this number. The state before it is `before`, which is written anew. */
+static void step_origins(struct machine *m, struct machine *before, int number, int with_addresses) {
     static struct places reads, writes;
     static struct origins sum;
     int opcode = opcode_at(m->program, m->pc), class = opcode & 7, src = src_at(m->program, m->pc), i;
@@ -186,11 +186,20 @@ static void step_origins(struct machine *m, struct machine *before, int with_add
             memcpy(&origins_of[10 * m->depth + i], &origins_of[10 * before->depth + i], sizeof *origins_of);
     }
     memset(&sum, 0, sizeof sum);
-    take_in(sum.moves, (int)before->steps);
+    take_in(sum.moves, number);
     for (i = 0; i < reads.count; i++)
         join(&sum, &origins_of[reads.place[i]]);
     for (i = 0; i < writes.count; i++)
         memcpy(&origins_of[writes.place[i]], &sum, sizeof sum);
+}
+
+/* An edit is a move, too, of which the places that it writes come. */
+static void edit_origins(const struct places *writes, int number) {
+    int i;
+    for (i = 0; i < writes->count; i++) {
+        memset(&origins_of[writes->place[i]], 0, sizeof *origins_of);
+        take_in(origins_of[writes->place[i]].moves, number);
+    }
 }
 
 /* What is asked about where nothing is named: at a failed access the registers of its address, else r0. */
