@@ -120,6 +120,7 @@ done
 usage "unrecognized subcommand 'frob'" frob
 usage "unrecognized subcommand 'frob'" frob first
 usage "unrecognized subcommand 'frob'" help frob
+usage "unrecognized subcommand 'frob'" help frob --help
 usage "unrecognized subcommand 'RUN'" RUN first
 usage "unrecognized subcommand ''" ''
 usage "unexpected argument '--frob' found" --frob
@@ -227,10 +228,15 @@ usage "unexpected value 'yes' for '--version' found; no more were expected" --ve
 
 help bpfdb --help
 help bpfdb help
+help bpfdb help --help
+help bpfdb help -h
+help bpfdb help --help first
 help bpfdb-short -h
 for subcommand in $subcommands; do
     help $subcommand $subcommand --help
     help $subcommand help $subcommand
+    help $subcommand help $subcommand --help
+    help $subcommand help $subcommand -h
     help $subcommand-short $subcommand -h
     help $subcommand $subcommand --help first
     help $subcommand $subcommand missing --help

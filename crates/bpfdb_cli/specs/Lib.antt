@@ -1,3 +1,4 @@
 pub mod CommandLine
+pub mod Scaffolding
 pub mod Subcommands
 pub mod Plans

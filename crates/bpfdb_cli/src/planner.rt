@@ -3,6 +3,7 @@ ghost use Rattle.std.specs.Prelude.{◌≡◌, ◌<◌, ◌^◌, IfErr, IfNone, 
 ghost use Rattle.std.specs.Str.Parse.{IsNumeral, digits_value, without_leading_plus};
 ghost use Rattle.clap.specs.Words.{Row, Text, first_of, found_of, rows_of, subcommand_rows_of};
 ghost use Rattle.bpfdb_limits.specs.Limits.{IsLimit};
+ghost use Rattle.bpfdb_cli.specs.Scaffolding.{AskAlike};
 ghost use Rattle.bpfdb_cli.specs.Plans.{HasKindIfTold, IsFaultOf, IsPlan, IsPlanOf, NamesRegisters, Says, Tells, is_given, number_or};
 
 use crate::command_line::command_line;
@@ -27,13 +28,34 @@ pub fn plan<'a>(alloc: Global, words: &'a [&'a str]) -> Result<Plan<'a>, PlanFau
         Ok(command) => command,
         Err(_) => return Err(PlanFault::Memory),
     };
-    let matches = match command.try_get_matches_from_mut(words) {
+    let matches = match command.try_get_matches_from_mut(asked_of(words)) {
         Ok(matches) => matches,
         Err(error) => return Err(told_by(error)),
     };
     match plan_of(&matches) {
         Some(plan) => Ok(plan),
         None => Err(bad_value(&mut command)),
+    }
+}
+
+/// The words that `clap` is asked: all of them; but behind `help`, which takes no option there, none
+/// from the first one on that asks for help. So `bpfdb help run --help` is `bpfdb help run`.
+fn asked_of<'a>(words: &'a [&'a str]) -> &'a [&'a str]
+    ensures { AskAlike (map (λ word. word.now) words.now) (map (λ word. word.now) result.now) }
+{
+    if words.len() < 2 {
+        return words;
+    }
+    if words[1] != "help" {
+        return words;
+    }
+    let behind = &words[2..];
+    match behind
+        .iter()
+        .position(|word| *word == "--help" || *word == "-h")
+    {
+        Some(at) => &words[..2 + at],
+        None => words,
     }
 }
 
