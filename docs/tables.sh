@@ -224,7 +224,7 @@ page() {
         }
         function keep_block(block, n, words, text,    i) {
             for (i = 1; i <= n; i++)
-                if (("\n" block) ~ ("\n((abbrev|unfoldable|opaque|pub|data|record) )+" words[i] "[ :]")) text[i] = block
+                if (("\n" block) ~ ("\n *((abbrev|unfoldable|opaque|pub|data|record) )+" words[i] "[ :]")) text[i] = block
         }
         /^<!-- docs\/tables\.sh: definitions [^ ]+ [^>]*-->$/ {
             inside = 1

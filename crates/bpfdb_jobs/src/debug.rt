@@ -13,8 +13,12 @@ use counted_io::Counted;
 use std::alloc::Global;
 use std::io::{Read, Write};
 
-/// Obeys the script from the reader and writes the replies. The journal takes its memory before the
-/// first line is read.
+/// Does a job of `debug`, as [`tool`](crate::tool) does it: obeys the lines of the reader, the script,
+/// up to the first `quit`, and writes their replies, each flushed. Answers the exit status: 0, or 2
+/// where the job is refused, which reads and writes nothing, or where reading or writing fails. With 2
+/// a line on `errors` says why. The limit of steps of a command is 1 to 1,000,000,000.
+///
+/// The journal takes its memory before the first line is read, so no reply says that it ran out.
 #[inline(never)]
 pub fn debug_job<R: Read, W: Write, E: Write>(
     alloc: Global,

@@ -21,6 +21,7 @@ mod script;
 mod suite;
 mod trace;
 
+pub use debug::debug_job;
 pub use dispatch::tool;
 pub use fault::JobFault;
 pub use job::Job;
