@@ -504,27 +504,37 @@ C
     "$program" link sections16.o > sections 2> told
     result '0x88\n' run $(cat told) sections
     refused 'refused E15: more than 16 maps' link sections17.o
-    # Programs of C, whose results are those of this machine, at each level and for each processor.
+    # Programs of C, whose results are those of this machine, at each level and for each processor, by each clang that is installed, of one version once.
     if command -v cc > /dev/null; then
         printf 'abc 12 zz9!' > context
+        compilers= versions=
+        for compiler in clang $(seq -f 'clang-%g' 10 40); do
+            "$compiler" -O1 -target bpf -c -o sum.o sum.c 2> /dev/null || continue
+            version=$("$compiler" --version | sed -n '1s/.*version \([0-9.]*\).*/\1/p')
+            case " $versions " in *" $version "*) continue ;; esac
+            versions="$versions $version"
+            compilers="$compilers $compiler"
+        done
         tried=0 compiled=0
         for source in "$top"/tests/program/c/*.c; do
             name=$(basename "$source" .c)
             [ "$name" != native ] || continue
             cc -w -O1 -fwrapv -o "native-$name" "$source" "$top/tests/program/c/native.c"
             wanted=$("./native-$name" < context)
-            for level in 0 1 2 s; do
-                for cpu in v1 v2 v3 v4; do
-                    tried=$((tried + 1))
-                    # clang 14 knows no v4, and others may refuse what they can't put into BPF.
-                    clang -w -fwrapv -fno-builtin -O$level -mcpu=$cpu -target bpf -c -o c.o "$source" 2> /dev/null || continue
-                    compiled=$((compiled + 1))
-                    "$program" link c.o > c 2> told || complain "$name.c isn't linked: -O$level, $cpu"
-                    result "$wanted\n" run $(cat told) -m context c
+            for compiler in $compilers; do
+                for level in 0 1 2 s; do
+                    for cpu in v1 v2 v3 v4; do
+                        tried=$((tried + 1))
+                        # clang 14 knows no v4, and others may refuse what they can't put into BPF.
+                        "$compiler" -w -fwrapv -fno-builtin -O$level -mcpu=$cpu -target bpf -c -o c.o "$source" 2> /dev/null || continue
+                        compiled=$((compiled + 1))
+                        "$program" link c.o > c 2> told || complain "$name.c isn't linked: $compiler -O$level, $cpu"
+                        result "$wanted\n" run $(cat told) -m context c
+                    done
                 done
             done
         done
-        echo "objects: of $tried compiles of C, clang did $compiled; each was linked, and its result held against this machine's"
+        echo "objects: of $tried compiles of C, clang$versions did $compiled; each was linked, and its result held against this machine's"
         [ "$compiled" -ge $((tried / 2)) ] || complain "clang compiled only $compiled of $tried"
     fi
 else
