@@ -1,5 +1,6 @@
 //! `redo`: moves that were taken back are made again.
 ghost use Rattle.std.specs.Prelude.{◌≡◌, ◌≢◌, ◌≤◌, ◌==◌, Ok, Err, if◌then◌else◌, length};
+ghost use Rattle.bpf_journal.specs.Courses.{MakesAllAgain};
 ghost use Rattle.bpf_journal.specs.Tracks.{Track};
 ghost use Rattle.bpf_session.specs.Redo.{cut_again, redo as redo_of};
 ghost use Rattle.bpf_session.specs.Sessions.{HasPast, Obeys};
@@ -12,6 +13,9 @@ use bpfdb_replies::Why;
 
 /// The most steps that are made again at once.
 const LONGEST: u64 = 42;
+
+/// How many of them pay.
+const WORTHWHILE: u64 = 8;
 
 impl<K: Keeper> Session<K> {
     /// Makes so many moves again that were taken back, the next one first, or all of them where
@@ -37,11 +41,9 @@ impl<K: Keeper> Session<K> {
             result }
     {
         let mut made = 0;
-        let mut reach = LONGEST;
+        let mut pace = Pace { pause: 0, left: 0 };
         while made < moves {
-            let most = (moves - made).min(reach);
-            let steps = self.timeline.redo_steps(most, self.breaks.table());
-            reach = reach_behind(steps);
+            let steps = self.redo_at_once(moves - made, &mut pace);
             if steps > 0 {
                 made += steps;
                 continue;
@@ -53,17 +55,49 @@ impl<K: Keeper> Session<K> {
         }
         Ok(Reply::Redone { moves, why })
     }
+
+    /// Makes steps again that come next, many at once, at most so many, where the pace lets it try.
+    /// Answers how many, maybe none.
+    fn redo_at_once(&mut self, most: u64, pace: &mut Pace) -> u64
+        ensures within { result ≤ most }
+        ensures only { (self.new.breaks ≡ self.old.breaks) × (self.new.watches ≡ self.old.watches)
+            × (self.new.limit ≡ self.old.limit) }
+        ensures made { (h : Track) → HasPast K.holds self.old h →
+            MakesAllAgain K.holds result h.history h.ahead self.old.moment.state self.new.moment }
+        ensures refused { K.refused self.new.moment.keeper ≡ K.refused self.old.moment.keeper }
+        ensures room { K.room self.new.moment.keeper ≡ K.room self.old.moment.keeper }
+    {
+        if pace.left > 0 {
+            pace.left -= 1;
+            return 0;
+        }
+        let steps = self
+            .timeline
+            .redo_steps(most.min(LONGEST), self.breaks.table());
+        pace.turn(steps);
+        steps
+    }
 }
 
-/// How many steps are asked for at once behind so many that were made again at once: more than
-/// these, so that where such stretches are short no more is looked at than pays.
-fn reach_behind(steps: u64) -> u64
-    ensures { 1 ≤ result }
-{
-    if steps < LONGEST / 2 {
-        2 * steps + 2
-    } else {
-        LONGEST
+/// How many moves are made again one by one before steps are tried at once: behind short stretches
+/// twice as many each time, so that where rare steps come often little is tried for nothing.
+#[derive(Clone, Copy)]
+struct Pace {
+    pause: u64,
+    left: u64,
+}
+
+impl Pace {
+    /// Goes on behind a stretch of so many steps.
+    fn turn(&mut self, steps: u64) {
+        self.pause = if steps >= WORTHWHILE {
+            0
+        } else if self.pause < 128 {
+            2 * self.pause + 1
+        } else {
+            256
+        };
+        self.left = self.pause;
     }
 }
 
