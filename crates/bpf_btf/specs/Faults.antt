@@ -2,7 +2,7 @@
 use Rattle.std.specs.Prelude.{ℕ, List, codes, Bool, true, false, Result, Ok, Err}
 use Rattle.bpf_isa.specs.Faults.{map_fault}
 use Rattle.bpf_btf.specs.declared.fault.BtfFault.{BtfFault}
-use Rattle.bpf_btf.specs.declared.fault.BtfFault.TheVariants.{NoBtf, Version, Header, UnknownType, CutType, NoMap, NoStruct, NoNumber, NoSize, TwoSizes, Kind, KeySize, Limits, Ext, Memory}
+use Rattle.bpf_btf.specs.declared.fault.BtfFault.TheVariants.{NoBtf, Version, Header, UnknownType, CutType, NoMap, NoStruct, NoNumber, NoSize, TwoSizes, Kind, KeySize, Limits, Ext, LongName, Memory}
 use Rattle.bpf_btf.specs.MapKinds.{kind_text}
 
 abbrev pub btf_fault : BtfFault → ℕ × List ℕ
@@ -20,6 +20,7 @@ btf_fault (Kind kind) = (50, kind_text kind)
 btf_fault KeySize = (51, codes "keys of an array are not of 4 bytes")
 btf_fault (Limits fault) = (52, (map_fault fault).1)
 btf_fault Ext = (53, codes "malformed section .BTF.ext")
+btf_fault LongName = (54, codes "name of a map longer than 255 bytes")
 btf_fault Memory = (26, codes "out of memory")
 
 -- What follows where a test holds, and the fault where it doesn't.

@@ -4,7 +4,7 @@ use Rattle.bpf_isa.specs.Words.{u32_at}
 use Rattle.bpf_isa.specs.declared.maps.MapShape.{MapShape}
 use Rattle.bpf_isa.specs.declared.fault.MapFault.TheVariants.{ValueSize, Entries, Total}
 use Rattle.bpf_btf.specs.declared.fault.BtfFault.{BtfFault}
-use Rattle.bpf_btf.specs.declared.fault.BtfFault.TheVariants.{NoMap, NoStruct, NoNumber, NoSize, TwoSizes, Kind, KeySize, Limits}
+use Rattle.bpf_btf.specs.declared.fault.BtfFault.TheVariants.{NoMap, NoStruct, NoNumber, NoSize, TwoSizes, Kind, KeySize, Limits, LongName}
 use Rattle.bpf_btf.specs.declared.layout.MemberEntry.{MemberEntry}
 use Rattle.bpf_btf.specs.Layout.{is_called, array_entry, member_entry}
 use Rattle.bpf_btf.specs.Faults.{provided, after}
@@ -132,6 +132,6 @@ abbrev pub shape_by : Types → ℕ → Result MapShape BtfFault
 shape_by types definition =
     after (number_of types definition (codes "type")) (λ kind. provided (is_array kind) (Kind kind) (sizes_of types definition))
 
--- The shape of the map of a name.
+-- The shape of the map of a name. That has at most 255 bytes: it is compared with the name of each variable.
 abbrev pub map_shape : Types → List ℕ → Result MapShape BtfFault
-map_shape types name = after (definition_of types name) (shape_by types)
+map_shape types name = provided (nat_le (length name) 255) LongName (after (definition_of types name) (shape_by types))

@@ -39,12 +39,14 @@ pub enum BtfFault {
     Limits(MapFault),
     /// The section `.BTF.ext` doesn't begin as it should, or a part of it is cut off.
     Ext,
+    /// The map's name has more than 255 bytes.
+    LongName,
     /// Memory ran out.
     Memory,
 }
 
 impl BtfFault {
-    /// The number that is printed after E, 40 to 53, and 26 where memory ran out.
+    /// The number that is printed after E, 40 to 54, and 26 where memory ran out.
     pub fn number(self) -> u8
         ensures { result ≡ (btf_fault self).0 }
     {
@@ -63,6 +65,7 @@ impl BtfFault {
             BtfFault::KeySize => 51,
             BtfFault::Limits(_) => 52,
             BtfFault::Ext => 53,
+            BtfFault::LongName => 54,
             BtfFault::Memory => 26,
         }
     }
@@ -88,6 +91,7 @@ impl BtfFault {
             BtfFault::KeySize => "keys of an array are not of 4 bytes",
             BtfFault::Limits(fault) => fault.text(),
             BtfFault::Ext => "malformed section .BTF.ext",
+            BtfFault::LongName => "name of a map longer than 255 bytes",
             BtfFault::Memory => "out of memory",
         }
     }

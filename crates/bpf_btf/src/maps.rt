@@ -10,6 +10,10 @@ use crate::section::Btf;
 use crate::sizes::resolved;
 use bpf_isa::{MapFault, MapShape};
 
+/// The most bytes of a map's name. It is compared with the name of each variable of `.maps`, and
+/// with one as long as the section that would take time in the square of its length.
+const LONGEST_NAME: usize = 255;
+
 /// Whether a type is the section of maps.
 fn is_maps(btf: &Btf<'_>, id: usize) -> bool
     ensures { result ≡ is_maps btf.now id }
@@ -147,14 +151,16 @@ fn shape_by(btf: &Btf<'_>, definition: usize) -> Result<MapShape, BtfFault>
     sizes_of(btf, definition)
 }
 
-/// The shape of the map of a name, which the machine may have.
+/// The shape of the map of a name of at most 255 bytes, which the machine may have.
 ///
-/// Takes time in proportion to the length of the section, and to the length of the name for each
-/// variable of `.maps`.
+/// Takes time in proportion to the length of the section.
 pub fn map_shape(btf: &Btf<'_>, name: &[u8]) -> Result<MapShape, BtfFault>
     ensures value { result ≡ map_shape btf.now name.now }
     ensures possible { IfOk result IsShape }
 {
+    if name.len() > LONGEST_NAME {
+        return Err(BtfFault::LongName);
+    }
     match definition_of(btf, name) {
         Ok(definition) => shape_by(btf, definition),
         Err(fault) => Err(fault),

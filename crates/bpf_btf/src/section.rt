@@ -120,8 +120,8 @@ impl<'a> Btf<'a> {
     ///
     /// The map is the variable of that name in `.maps`, and its type, a struct, says what it is: an
     /// array or a per-CPU array by `type`, with keys of 4 bytes by `key_size` or `key`, values by
-    /// `value_size` or `value`, and entries by `max_entries`. Takes time in proportion to the
-    /// length of the section, and to that of the name for each variable of `.maps`.
+    /// `value_size` or `value`, and entries by `max_entries`. The name has at most 255 bytes
+    /// (`LongName`). Takes time in proportion to the length of the section.
     pub fn map_shape(&self, name: &[u8]) -> Result<MapShape, BtfFault>
         ensures value { result ≡ map_shape self.now name.now }
         ensures possible { IfOk result IsShape }
