@@ -100,7 +100,7 @@ pub enum LinkFault {
 impl LinkFault {
     ghost use Rattle.bpf_link.specs.Faults.{link_fault_number, link_fault_text};
 
-    /// The number that is printed after E, 1 to 36, and 40 to 53 of BTF; that of a program's fault
+    /// The number that is printed after E, 1 to 36, and 40 to 54 of BTF; that of a program's fault
     /// is 25.
     pub fn number(self) -> u8
         ensures { result ≡ link_fault_number self }
