@@ -112,3 +112,15 @@ step_more old new ks e counted of more marks edits =
       marks = omega (arith, marks, counted.marks, sum_by-cons marked (e, false) ks);
       edits = omega (arith, edits, counted.edits, sum_by-cons edit (e, false) ks, none);
     }
+
+-- The newest less, an unmarked one of a step.
+pub step_fewer : (old new : Counts) (ks : List Kept) (k : Kept) → Counted old (k ∷ ks) → is_of_step k.0 ≡ true → k.1 ≡ false
+    → new.entries ≡ old.entries - 1 → new.marks ≡ old.marks → new.edits ≡ old.edits → Counted new ks
+step_fewer old new ks k counted of plain fewer marks edits =
+    let none : ◌≡◌ {A = ℕ} (edit k) 0 = no_edit (is_of_step k.0) (sym of) in
+    let unmarked : ◌≡◌ {A = ℕ} (marked k) 0 = ap (λ (b : Bool). cond b 1 0) plain in
+    record {
+      entries = omega (arith, fewer, counted.entries);
+      marks = omega (arith, marks, counted.marks, sum_by-cons marked k ks, unmarked);
+      edits = omega (arith, edits, counted.edits, sum_by-cons edit k ks, none);
+    }

@@ -6,3 +6,4 @@ pub mod PieceLaws
 pub mod StretchLaws
 pub mod Spans
 pub mod Walks
+pub mod Ways

@@ -8,3 +8,4 @@ pub mod Pieces
 pub mod Spans
 pub mod Stretches
 pub mod Taking
+pub mod Ways

@@ -102,7 +102,7 @@ pub(crate) fn write_in_place(block: &mut [u8], first: usize, len: usize, bytes: 
 /// Copies bytes. The arms are alike: those of a jump's entry and of a register's, which are the
 /// common ones, are each copied at once.
 #[inline(always)]
-fn copy(into: &mut [u8], bytes: &[u8])
+pub(crate) fn copy(into: &mut [u8], bytes: &[u8])
     requires { length into.old ≡ length bytes.now }
     ensures { into.new ≡ bytes.now }
 {

@@ -2,6 +2,7 @@
 //! for new ones.
 #![tactic(auto)]
 
+mod backward;
 mod block;
 mod counts;
 mod entries;

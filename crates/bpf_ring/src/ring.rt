@@ -1,5 +1,5 @@
 //! A ring of bytes.
-ghost use Rattle.std.specs.Prelude.{◌≡◌, ◌≤◌, ◌<◌, ◌+◌, ◌-◌, ◌^◌, ◌++◌, ◌∷◌, [], length, take, drop, slice_get, ℕ, Bool, List, IfOk, true, false, IfSome};
+ghost use Rattle.std.specs.Prelude.{◌≡◌, ◌≤◌, ◌<◌, ◌+◌, ◌-◌, ◌^◌, ◌++◌, ◌∷◌, [], length, take, drop, slice_get, ℕ, Bool, List, IfOk, true, false, IfSome, map};
 ghost use Rattle.byteorder.specs.Endian.{little_bytes};
 ghost use Rattle.bpf_entries.specs.declared.entry.Entry.{Entry};
 ghost use Rattle.bpf_entries.specs.Before.{byte_before as byte_before_by, depth_before as depth_before_by};
@@ -17,7 +17,9 @@ ghost use Rattle.bpf_ring.specs.Held.{IsHeld};
 ghost use Rattle.bpf_ring.specs.Left.{Left};
 ghost use Rattle.bpf_ring.specs.Runs.{RunsTo, Running, kept_after, state_after};
 ghost use Rattle.bpf_ring.specs.Spans.{counts_of};
+ghost use Rattle.bpf_ring.specs.Ways.{EndsWay, HandsBack, HasText, IsWay, Made, kept_by};
 
+use crate::backward::{Handed, hand_texts};
 use crate::block::{fill, place, record_in_place, write_around, write_in_place};
 use crate::counts::Counts;
 use crate::entries::text_len;
@@ -343,6 +345,50 @@ impl Ring {
         Some(&block[from..from + count])
     }
 
+    /// The newest bytes that lie in one piece up to the newest one.
+    #[inline(always)]
+    pub(crate) fn newest_run(&self) -> &[u8]
+        ensures within { length result.now ≤ length self.now.bytes }
+        ensures newest { result.now
+            ≡ drop (length self.now.bytes - length result.now) self.now.bytes }
+    {
+        let end = place(self.buffer.len(), self.first, self.len());
+        match self.newest_piece(end.min(self.len())) {
+            Some(piece) => piece,
+            None => &[],
+        }
+    }
+
+    /// Takes moves back by the texts of their entries, the newest of which is at the end of `text`,
+    /// and appends each text, as far as it goes into the block in one piece.
+    #[inline(always)]
+    pub(crate) fn take_run(
+        &mut self,
+        cpu: &mut Cpu,
+        text: &[u8],
+        most: u64,
+        marks: &[bool; 8192],
+        stores: bool,
+    ) -> Handed
+        requires { EndsWay text.now cpu.old }
+        ensures size { self.new.size ≡ self.old.size }
+        ensures within { (result.taken ≤ most) × (result.len ≤ length text.now) }
+        ensures handed { (ws : List Made) (ls : List Kept) (front : List ℕ) → IsWay ws cpu.old →
+            HasText (front ++ text.now) (map kept_by ws) →
+            HandsBack marks.now stores cpu.new
+            (HasText (front ++ take (length text.now - result.len) text.now))
+            (λ ms. HasText self.old.bytes ls → HasText self.new.bytes ms)
+            result.taken ws ls cpu.old }
+    {
+        let left = self.buffer.capacity() - self.len();
+        let end = place(self.buffer.len(), self.first, self.len());
+        let room = left.min(self.buffer.len() - 1 - end);
+        let block = self.buffer.make_contiguous();
+        let handed = hand_texts(cpu, text, &mut block[end..end + room], most, marks, stores);
+        self.len += handed.len;
+        handed
+    }
+
     /// The bytes from an index on, so many, where they lie in one piece; None where they go around
     /// the block's end.
     #[inline(always)]
@@ -586,7 +632,7 @@ fn revert(cpu: &mut Cpu, bytes: &[u8]) -> u8
 
 /// The length that an entry's last two bytes are.
 #[inline(always)]
-fn number(bytes: &[u8]) -> usize
+pub(crate) fn number(bytes: &[u8]) -> usize
     requires { length bytes.now ≡ 2 }
     ensures { (n : ℕ) → n < 2 ^ 16 → bytes.now ≡ little_bytes 2 n → result ≡ n }
 {

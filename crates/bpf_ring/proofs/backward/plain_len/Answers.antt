@@ -1,0 +1,19 @@
+use Rattle.std.proofs.Common.{◌≡◌, ◌≤◌, ◌∙◌, length, sym, arith}
+use Rattle.bpf_entries.specs.Weights.{weight}
+use Rattle.bpf_ring.proofs.Ways.{end_slice, is_text, newest_of, tells_len}
+use Rattle.bpf_ring.proofs.backward.plain_len.Goals as goal
+
+pub returns-then-is_plain-clause-plain : goal.returns-then-is_plain-clause-plain
+returns-then-is_plain-clause-plain c = λ some front k ks held.
+    let bytes = c.args.text.now in
+    let n = c.number-count.result in
+    let two : 2 ≤ length bytes = omega (arith, c.requires, c.if-most-lt5.false) in
+    let low : n ≤ length bytes = omega (arith, c.requires, c.if-count-most.false) in
+    let newest = newest_of bytes front k ks held in
+    let is : n ≡ weight k.0 = tells_len bytes front _ k n newest two (λ w small e. c.number-count.ensures w small (end_slice bytes 2 two ∙ e)) in
+    let piece = is_text bytes front _ k n newest is low in
+    record {
+      plain = c.is_plain.ensures c.if-is_plain.true k.0 k.1 newest.fits (end_slice bytes n low ∙ piece);
+      weighs = is;
+      newest = piece;
+    }
