@@ -11,3 +11,4 @@ pub mod MadeAgain
 pub mod Runs
 pub mod Courses
 pub mod Repeating
+pub mod GoingBack

@@ -18,3 +18,4 @@ pub mod Laws
 pub mod Replaced
 pub mod Lookups
 pub mod Changes
+pub mod GoingBack

@@ -6,6 +6,7 @@ ghost use Rattle.bpf_machine.specs.declared.moves.Move.TheVariants as move_of;
 ghost use Rattle.bpf_machine.specs.ByAddress.{byte};
 ghost use Rattle.bpf_machine.specs.Entries.{step_entry};
 ghost use Rattle.bpf_journal.specs.Courses.{FailsThere, GoesBackOne, MakesAgain, MakesAllAgain, MakesNew, StaysThere};
+ghost use Rattle.bpf_journal.specs.GoingBack.{GoesBackBy};
 ghost use Rattle.bpf_journal.specs.Histories.{HasHistory, Record, StandsFor, is_step, record_weight};
 ghost use Rattle.bpf_journal.specs.Lookups.{last_change};
 ghost use Rattle.bpf_journal.specs.Replaced.{replaces_bytes};
@@ -217,6 +218,22 @@ impl<K: Keeper> Course<K> {
             Some(taken) => Some(taken),
             None => self.back_by_entry(),
         }
+    }
+
+    /// Goes back by some of the newest moves at once, at most so many, maybe none: they can be made
+    /// again. Each is a step without a mark. It stops in front of a move from a slot that `marks`
+    /// has, by the slot's remainder, and without `stores` in front of one that replaced bytes of
+    /// memory. Answers how many.
+    pub fn back_steps(&mut self, most: u64, marks: &[bool; 8192], stores: bool) -> u64
+        ensures within { result ≤ most }
+        ensures back { (t : Track) → Follows K.holds self.old t →
+            GoesBackBy K.holds marks.now stores self.new
+            result t.history t.ahead self.old.state }
+        ensures refused { K.refused self.new.keeper ≡ K.refused self.old.keeper }
+        ensures room { K.room self.new.keeper ≡ K.room self.old.keeper }
+    {
+        self.timeline
+            .hand_back_steps(&mut self.redo, most, marks, stores)
     }
 
     /// Takes the newest move back by way of its entry, as a value.

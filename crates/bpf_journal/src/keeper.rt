@@ -1,5 +1,5 @@
 //! Keepers hold the entries and marks of moves, the newest ones that fit a journal's size.
-ghost use Rattle.std.specs.Prelude.{◌≡◌, ◌≤◌, ◌<◌, ◌+◌, ◌^◌, ◌++◌, ℕ, List, length, sum_by, count_by, is_some, None, OnOk, OnErr, OnSome, false};
+ghost use Rattle.std.specs.Prelude.{◌≡◌, ◌≤◌, ◌<◌, ◌+◌, ◌^◌, ◌++◌, ℕ, List, length, sum_by, count_by, is_some, None, OnOk, OnErr, OnSome, false, map};
 ghost use Rattle.bpf_entries.specs.Fields.{FitsFields};
 ghost use Rattle.bpf_entries.specs.Keeping.{Kept, kept_weight, keep};
 ghost use Rattle.bpf_entries.specs.Status.{has_ended};
@@ -7,6 +7,7 @@ ghost use Rattle.bpf_machine.specs.Entries.{step_entry};
 ghost use Rattle.bpf_machine.specs.Next.{change as change_of, next};
 ghost use Rattle.bpf_ring.specs.Held.{IsHeld};
 ghost use Rattle.bpf_ring.specs.Runs.{AreSteps, kept_after, kept_on, state_after};
+ghost use Rattle.bpf_ring.specs.Ways.{HandsBack, IsWay, Made, kept_by};
 ghost use Rattle.bpf_journal.specs.EditEntries.{HoldsSome, is_of_step};
 ghost use Rattle.bpf_journal.specs.Handing.{Hands};
 ghost use Rattle.bpf_journal.specs.Histories.{HasHistory, Record, StandsFor, newest};
@@ -196,6 +197,38 @@ pub trait Keeper {
             }
             None => None,
         }
+    }
+
+    /// Takes the newest moves back, at most so many, as `hand_back` does: as many as the keeper takes
+    /// in one go, maybe none, each a step whose entry has no mark. It stops in front of a move from a
+    /// slot that `marks` has, by the slot's remainder, and without `stores` in front of one that
+    /// replaced bytes of memory. Answers how many. By itself a keeper takes none.
+    fn hand_back_steps(
+        &mut self,
+        cpu: &mut Cpu,
+        ring: &mut EntryRing,
+        most: u64,
+        marks: &[bool; 8192],
+        stores: bool,
+    ) -> u64
+        requires way { HasHistory holds self.old cpu.old }
+        ensures within { result ≤ most }
+        ensures handed { (ws : List Made) (ls : List Kept) → holds self.old (map kept_by ws) →
+            IsWay ws cpu.old →
+            HandsBack marks.now stores cpu.new (holds self.new) (λ ms.
+            IsHeld ring.old.ring ring.old.counts ls → IsHeld ring.new.ring ring.new.counts ms)
+            result ws ls cpu.old }
+        ensures ring { (ring.new.ring.size ≡ ring.old.ring.size)
+            × (length ring.old.ring.bytes ≤ ring.old.ring.size →
+            length ring.new.ring.bytes ≤ ring.new.ring.size) }
+        ensures stays { (refused self.new ≡ refused self.old) × (room self.new ≡ room self.old) }
+    {
+        let _cpu = cpu;
+        let _ring = ring;
+        let _most = most;
+        let _marks = marks;
+        let _stores = stores;
+        0
     }
 
     /// How many entries are held.

@@ -1,11 +1,12 @@
 //! The keeper that keeps entries as their bytes, in one ring of the journal's size.
 ghost use Rattle.std.specs.Option.{option_map};
-ghost use Rattle.std.specs.Prelude.{◌≡◌, ◌≤◌, [], ◌∷◌, List, length, sum_by, is_some, None, IfOk, IfErr, IfSome, OnOk, OnSome, slice_get, drop};
+ghost use Rattle.std.specs.Prelude.{◌≡◌, ◌≤◌, [], ◌∷◌, List, length, sum_by, is_some, None, IfOk, IfErr, IfSome, OnOk, OnSome, slice_get, drop, map};
 ghost use Rattle.bpf_entries.specs.Fields.{FitsFields};
 ghost use Rattle.bpf_entries.specs.Keeping.{IsSize, Kept, keep, kept_weight};
 ghost use Rattle.bpf_entries.specs.Rings.{AllFit, ring as ring_of};
 ghost use Rattle.bpf_ring.specs.Heads.{head_of};
 ghost use Rattle.bpf_ring.specs.Stretches.{ArePlain};
+ghost use Rattle.bpf_ring.specs.Ways.{HandsBack, IsWay, Made, kept_by};
 ghost use Rattle.bpf_journal.specs.Handing.{Hands};
 ghost use Rattle.bpf_journal.specs.Histories.{HasHistory, Record, StandsFor, newest, older};
 ghost use Rattle.bpf_journal.specs.Opening.{RefusesSize};
@@ -98,6 +99,34 @@ impl RingKeeper {
         ensures other_room { K.room other.new ≡ K.room other.old }
     {
         other.hand_back(cpu, &mut self.entries)
+    }
+
+    /// Takes back the newest moves that another keeper holds, at most so many, which led to a
+    /// machine's state: as many as that keeper takes in one go, each a step whose entry has no mark,
+    /// and keeps their entries. It stops in front of a move from a slot that `marks` has, by the
+    /// slot's remainder, and without `stores` in front of one that replaced bytes of memory. Answers
+    /// how many, maybe none. It takes no memory.
+    pub(crate) fn take_over_steps<K: Keeper>(
+        &mut self,
+        other: &mut K,
+        cpu: &mut Cpu,
+        most: u64,
+        marks: &[bool; 8192],
+        stores: bool,
+    ) -> u64
+        requires way { HasHistory K.holds other.old cpu.old }
+        ensures within { result ≤ most }
+        ensures handed { (ws : List Made) (ls : List Kept) → K.holds other.old (map kept_by ws) →
+            IsWay ws cpu.old →
+            HandsBack marks.now stores cpu.new (K.holds other.new) (λ ms.
+            ⟦<RingKeeper as Keeper>⟧.holds self.old ls → ⟦<RingKeeper as Keeper>⟧.holds self.new ms)
+            result ws ls cpu.old }
+        ensures room { ⟦<RingKeeper as Keeper>⟧.room self.new
+            ≡ ⟦<RingKeeper as Keeper>⟧.room self.old }
+        ensures other_stays { (K.refused other.new ≡ K.refused other.old)
+            × (K.room other.new ≡ K.room other.old) }
+    {
+        other.hand_back_steps(cpu, &mut self.entries, most, marks, stores)
     }
 
     /// What move the newest entry is of, and whether it is marked. None where none is held.
@@ -254,6 +283,17 @@ impl Keeper for RingKeeper {
             Some(tag) => Some(Taken::of_tag(tag)),
             None => None,
         }
+    }
+
+    fn hand_back_steps(
+        &mut self,
+        cpu: &mut Cpu,
+        ring: &mut EntryRing,
+        most: u64,
+        marks: &[bool; 8192],
+        stores: bool,
+    ) -> u64 {
+        self.entries.hand_back_steps(cpu, ring, most, marks, stores)
     }
 
     fn last(&self) -> Option<(Entry, bool)> {

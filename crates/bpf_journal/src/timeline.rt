@@ -4,12 +4,14 @@ ghost use Rattle.bpf_machine.specs.declared.moves.Move.TheVariants as move_of;
 ghost use Rattle.bpf_machine.specs.Entries.{step_entry};
 ghost use Rattle.bpf_machine.specs.Next.{change as change_of};
 ghost use Rattle.bpf_entries.specs.Status.{has_ended};
+ghost use Rattle.bpf_ring.specs.Ways.{HandsBack};
 ghost use Rattle.bpf_journal.specs.EditEntries.{HoldsSome};
 ghost use Rattle.bpf_entries.specs.Keeping.{Kept, keep, kept_weight};
 ghost use Rattle.bpf_journal.specs.Histories.{Record, StandsFor, HasHistory, is_step, kept_of, newest, record_weight};
 ghost use Rattle.bpf_journal.specs.Keepers.{refusals_after};
 ghost use Rattle.bpf_journal.specs.Changes.{change_in};
 ghost use Rattle.bpf_journal.specs.Lookups.{last_change};
+ghost use Rattle.bpf_journal.specs.GoingBack.{made_of};
 ghost use Rattle.bpf_journal.specs.Handing.{Hands};
 ghost use Rattle.bpf_journal.specs.Replaced.{replaces_bytes};
 ghost use Rattle.bpf_journal.specs.Tracks.{RingHolds, ring_room};
@@ -329,6 +331,30 @@ impl<K: Keeper> Timeline<K> {
         ensures room { K.room self.new.keeper ≡ K.room self.old.keeper }
     {
         ring.take_over(&mut self.keeper, &mut self.cpu)
+    }
+
+    /// Takes the newest moves back, at most so many, as many as the keeper takes in one go, each a
+    /// step whose entry has no mark, and moves their entries to this ring. It stops in front of a
+    /// move from a slot that `marks` has, by the slot's remainder, and without `stores` in front of
+    /// one that replaced bytes of memory. Answers how many, maybe none.
+    pub(crate) fn hand_back_steps(
+        &mut self,
+        ring: &mut RingKeeper,
+        most: u64,
+        marks: &[bool; 8192],
+        stores: bool,
+    ) -> u64
+        ensures within { result ≤ most }
+        ensures handed { (h : List Record) (ls : List Kept) →
+            StandsFor K.holds self.old.keeper self.old.state h →
+            HandsBack marks.now stores self.new.state (K.holds self.new.keeper)
+            (λ ms. RingHolds ring.old ls → RingHolds ring.new ms)
+            result (map made_of h) ls self.old.state }
+        ensures ring_room { ring_room ring.new ≡ ring_room ring.old }
+        ensures stays { (K.refused self.new.keeper ≡ K.refused self.old.keeper)
+            × (K.room self.new.keeper ≡ K.room self.old.keeper) }
+    {
+        ring.take_over_steps(&mut self.keeper, &mut self.cpu, most, marks, stores)
     }
 }
 
