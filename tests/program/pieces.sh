@@ -118,3 +118,80 @@ watch 0x2000000f8
 reverse-stepi 130' "$moves"
     done
 done
+
+# Going back: moves between which nothing has to be looked at are taken back together, and one that is looked for, or is marked, an edit, a
+# store where bytes are watched, or lies around the end of a block, by itself.
+
+# back NAME PROGRAM JOURNAL LINES COMMAND: behind these lines, a command that goes back, and as many single steps back as it tells; then what
+# was taken back is made again.
+back() {
+    count=$((count + 1))
+    skipped=$(printf '%s\n' "$4" | wc -l)
+    asked "$2" "$3" "$4
+$5
+info history
+redo 60
+info history" | tail -n +$((skipped + 1)) > run
+    moves=$(sed -n '1s/ back;.*//p' run)
+    asked "$2" "$3" "$4
+$(yes reverse-stepi | head -n "$moves")
+info history
+redo 60
+info history" | tail -n +$((skipped + moves)) > single
+    sed -i '1s/.*at /at /' run single
+    if ! cmp -s run single || ! [ -s run ]; then
+        failures=$((failures + 1))
+        echo "FAILED pieces: $1"
+        diff single run | head -n 10
+    fi
+}
+
+# first_at NAME PROGRAM JOURNAL LINES SLOT: `reverse-continue` goes back to the latest state at a slot: to the first of as many single steps
+# back that is there.
+first_at() {
+    count=$((count + 1))
+    skipped=$(printf '%s\n' "$4" | wc -l)
+    told=$(asked "$2" "$3" "$4
+reverse-continue" | sed -n "$((skipped + 1))s/ back;.*//p")
+    met=$(asked "$2" "$3" "$4
+$(yes reverse-stepi | head -n 400)" | tail -n +$((skipped + 1)) | grep -n "; at $5:" | head -n 1 | cut -d: -f1)
+    if [ "${told:-none}" != "${met:-no}" ]; then
+        failures=$((failures + 1))
+        echo "FAILED pieces: $1: told ${told:-nothing}, but ${met:-none} by single steps"
+    fi
+}
+
+back 'rare, undone' rare.s 65536 'stepi 20
+stepi
+stepi 130' 'undo 2'
+for journal in 1024 1031 4096 65536; do
+    for moves in 1 2 5 41 99 150; do
+        back "plain, $moves back, J = $journal" plain.s "$journal" 'stepi 150' "reverse-stepi $moves"
+        back "rare, $moves back, J = $journal" rare.s "$journal" 'stepi 150' "reverse-stepi $moves"
+        back "plain, $moves back, watched, J = $journal" plain.s "$journal" 'stepi 30
+watch 0x2000000f8
+stepi 3
+break 5
+stepi 100' "reverse-stepi $moves"
+        back "plain, $moves back, then made again, J = $journal" plain.s "$journal" 'stepi 150
+reverse-stepi 120
+redo 40
+reverse-stepi 7
+redo 3' "reverse-stepi $moves"
+    done
+    back "plain, undone, J = $journal" plain.s "$journal" 'stepi 120
+stepi 30' undo
+    back "plain, continued back, J = $journal" plain.s "$journal" 'stepi 150' reverse-continue
+    back "plain, watched back, J = $journal" plain.s "$journal" 'stepi 150
+watch 0x2000000f9' reverse-continue
+    back "rare, watched back, J = $journal" rare.s "$journal" 'stepi 150
+watch 0x2000000ff' reverse-continue
+    for slot in 2 3 4 5 7; do
+        first_at "plain, back to a breakpoint at $slot, J = $journal" plain.s "$journal" "stepi 150
+break $slot" "$slot"
+    done
+    for slot in 2 5 9 14; do
+        first_at "rare, back to a breakpoint at $slot, J = $journal" rare.s "$journal" "stepi 150
+break $slot" "$slot"
+    done
+done

@@ -40,7 +40,7 @@ record_at (r ∷ h) zero lt = record { found = r; front = refl; there = λ y. re
 record_at (r ∷ h) (suc k) lt = let a = record_at h k (omega arith) in record { found = a.found; front = a.front; there = λ y. a.there r.before }
 
 -- what is taken back next goes in front of what was taken back before
-put_in_front : (k : ℕ) (h : List Record) (r : Record) (f : List Record) → drop k h ≡ r ∷ drop (suc k) h → reverse (take (suc k) h) ++ f ≡ r ∷ (reverse (take k h) ++ f)
+pub put_in_front : (k : ℕ) (h : List Record) (r : Record) (f : List Record) → drop k h ≡ r ∷ drop (suc k) h → reverse (take (suc k) h) ++ f ≡ r ∷ (reverse (take k h) ++ f)
 put_in_front k h r f front =
     ap (λ (xs : List Record). reverse xs ++ f) (taken_next k h r front) ∙ ap (λ (xs : List Record). xs ++ f) (reverse-append (take k h) (r ∷ []))
   where
@@ -67,14 +67,14 @@ shifted_more k (Some n) = ap Some (let e : k + suc n ≡ k + 1 + n = omega arith
 latest_hit : (test : Test) (h : List Record) (r : Record) (y : State) → test r y ≡ true → latest test 1 (r ∷ h) y ≡ Some 1
 latest_hit test h r y hit = rw hit refl
 
-latest_next : (test : Test) (n : ℕ) (h : List Record) (r : Record) (y : State) → test r y ≡ true → (n == 1) ≡ false → latest test n (r ∷ h) y ≡ option_map suc (latest test (n - 1) h r.before)
+pub latest_next : (test : Test) (n : ℕ) (h : List Record) (r : Record) (y : State) → test r y ≡ true → (n == 1) ≡ false → latest test n (r ∷ h) y ≡ option_map suc (latest test (n - 1) h r.before)
 latest_next test n h r y hit more = rw (hit, more) refl
 
-latest_miss : (test : Test) (n : ℕ) (h : List Record) (r : Record) (y : State) → test r y ≡ false → latest test n (r ∷ h) y ≡ option_map suc (latest test n h r.before)
+pub latest_miss : (test : Test) (n : ℕ) (h : List Record) (r : Record) (y : State) → test r y ≡ false → latest test n (r ∷ h) y ≡ option_map suc (latest test n h r.before)
 latest_miss test n h r y miss = rw miss refl
 
 -- what is looked for depends on the breakpoints, the watches and the state alone
-passes_same : (target : Target) (x : State) (breaks bs watches ws : List ℕ) → breaks ≡ bs → watches ≡ ws → (r : Record) (y : State) → passes target (record { history = []; ahead = []; state = x; breaks = breaks; watches = watches }) r y ≡ passes target (record { history = []; ahead = []; state = x; breaks = bs; watches = ws }) r y
+pub passes_same : (target : Target) (x : State) (breaks bs watches ws : List ℕ) → breaks ≡ bs → watches ≡ ws → (r : Record) (y : State) → passes target (record { history = []; ahead = []; state = x; breaks = breaks; watches = watches }) r y ≡ passes target (record { history = []; ahead = []; state = x; breaks = bs; watches = ws }) r y
 passes_same (Commands n) x breaks bs watches ws b w r y = refl
 passes_same (Steps n) x breaks bs watches ws b w r y = refl
 passes_same Next x breaks bs watches ws b w r y = refl

@@ -17,3 +17,4 @@ pub mod Watching
 pub mod WatchRuns
 mod WholeScripts
 pub mod Advancing
+pub mod GoingOver

@@ -1,7 +1,12 @@
 -- Scaffolding: how far back a backward command went for what it looks for.
-use Rattle.std.specs.Prelude.{◌≡◌, ◌==◌, ℕ, Bool, List, length, min, is_some, unwrap_or, if◌then◌else◌}
+use Rattle.std.specs.Prelude.{◌≡◌, ◌≤◌, ◌==◌, ℕ, Bool, true, false, List, length, min, is_some, unwrap_or, if◌then◌else◌}
 use Rattle.bpf_entries.specs.Keeping.{Kept}
-use Rattle.bpf_journal.specs.Tracks.{Track}
+use Rattle.bpf_journal.specs.GoingBack.{GoesBackBy}
+use Rattle.bpf_journal.specs.Histories.{Record, kept_of}
+use Rattle.bpf_journal.specs.Tracks.{CourseValue, Track}
+use Rattle.bpf_machine.specs.Moves.{Leads}
+use Rattle.bpf_machine.specs.State.{State}
+use Rattle.bpf_ring.specs.Ways.{IsPlain}
 use Rattle.bpf_journal.specs.Lookups.{Test, latest}
 use Rattle.bpf_session.specs.Backward.{back_by, kept_steps}
 use Rattle.bpf_session.specs.Points.{Point}
@@ -17,6 +22,31 @@ pub record GoesBackTo {K : Type 0} (holds : K → List Kept → Type 0) (test : 
   pub moves : found.moves ≡ unwrap_or (latest test n h.history old.moment.state) (length h.history)
   pub is_there : found.is_there ≡ is_some (latest test n h.history old.moment.state)
   pub stands : StandsAt holds new (back_by found.moves (point_of old h))
+
+-- Whether each of the moves that are gone over at once is one that a command looks for; else none of them is.
+abbrev pub is_each : Target → Bool
+is_each (Commands count) = false
+is_each (Steps count) = true
+is_each Next = false
+is_each Continue = false
+is_each Finish = false
+
+-- What a command goes over at once, where nothing is watched or something is, with moves that replaced bytes or without: no moves where it
+-- looks at the depth between them.
+abbrev pub GoAtOnce : Target → Bool → Bool → Type 0
+GoAtOnce (Commands count) unwatched stores = Unit {0}
+GoAtOnce (Steps count) unwatched stores = Unit {0}
+GoAtOnce Continue unwatched stores = stores ≡ unwatched
+GoAtOnce Next unwatched stores = ⊥
+GoAtOnce Finish unwatched stores = ⊥
+
+-- The newest n records of a course were taken back at once: a test, which may be told by their entries and where they led, passes each of
+-- them or none.
+pub record GoesOver {K : Type 0} (holds : K → List Kept → Type 0) (test : Test) (passes : Bool) (n : ℕ) (h f : List Record) (y : State) (new : CourseValue K) : Type 0 where
+  pub marks : List Bool
+  pub stores : Bool
+  pub back : GoesBackBy holds marks stores new n h f y
+  pub each : 1 ≤ n → (r : Record) (z : State) → IsPlain marks stores (kept_of r) → Leads r.before r.move z → test r z ≡ passes
 
 -- How many of the moves that it looks for a command goes back over.
 abbrev pub count_in : Target → Point → ℕ

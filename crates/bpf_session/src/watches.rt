@@ -57,6 +57,13 @@ impl Watches {
         self.addresses.is_full()
     }
 
+    /// Whether there are none.
+    pub fn is_empty(&self) -> bool
+        ensures { result ≡ true → self.now ≡ [] }
+    {
+        self.addresses.is_empty()
+    }
+
     /// Whether there is one at an address.
     pub fn has(&self, address: u64) -> bool
         ensures { result ≡ has self.now address }

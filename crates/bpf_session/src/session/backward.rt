@@ -1,12 +1,12 @@
 //! Backward commands.
-ghost use Rattle.std.specs.Prelude.{◌≡◌, ◌≤◌, Ok, if◌then◌else◌};
+ghost use Rattle.std.specs.Prelude.{◌≡◌, ◌≤◌, ◌<◌, [], true, Ok, if◌then◌else◌};
 ghost use Rattle.bpf_machine.specs.State.{State, depth};
 ghost use Rattle.bpf_journal.specs.Histories.{Record};
-ghost use Rattle.bpf_journal.specs.Tracks.{Track};
+ghost use Rattle.bpf_journal.specs.Tracks.{Track, track_of};
 ghost use Rattle.bpf_journal.specs.TakingBack.{taken_of};
 ghost use Rattle.bpf_session.specs.Accepted.{Accepts};
 ghost use Rattle.bpf_session.specs.Backward.{back, passes};
-ghost use Rattle.bpf_session.specs.Searches.{GoesBackTo, count_in, why_found};
+ghost use Rattle.bpf_session.specs.Searches.{GoAtOnce, GoesBackTo, GoesOver, count_in, is_each, why_found};
 ghost use Rattle.bpf_session.specs.Sessions.{HasPast, Obeys, bounds_of, point_of};
 ghost use Rattle.bpf_session.specs.Stops.{has, some_differs};
 
@@ -87,8 +87,9 @@ impl<K: Keeper> Session<K> {
         }
     }
 
-    /// Goes back, a move at a time, to the state before the `count`-th latest move that is sought,
-    /// or to the oldest kept one where there are fewer.
+    /// Goes back to the state before the `count`-th latest move that is sought, or to the oldest kept
+    /// one where there are fewer: over as many moves at once as nothing has to be looked at between,
+    /// then over one by itself.
     fn back_to(&mut self, target: Target, count: u64) -> Found
         requires { 1 ≤ count }
         ensures back { (h : Track) → HasPast K.holds self.old h →
@@ -101,13 +102,20 @@ impl<K: Keeper> Session<K> {
         let mut left = count;
         let start = self.cpu().depth();
         let mut seen = self.watches.bytes(self.timeline.cpu());
-        for k in 0..kept {
+        let mut gone = 0;
+        while gone < kept {
+            let moves = self.back_over(&target, left, kept - gone - 1);
+            self.watches
+                .see_anew(self.timeline.cpu(), &mut seen, moves > 0);
+            left -= hits_over(&target, moves);
+            gone += moves;
             let Some(taken) = self.timeline.back() else {
                 return Found {
-                    moves: k,
+                    moves: gone,
                     is_there: false,
                 };
             };
+            gone += 1;
             let differs = self
                 .watches
                 .differ(self.timeline.cpu(), &seen, taken.replaced_bytes);
@@ -116,7 +124,7 @@ impl<K: Keeper> Session<K> {
             left -= self.hits(&target, start, taken, differs);
             if left == 0 {
                 return Found {
-                    moves: k + 1,
+                    moves: gone,
                     is_there: true,
                 };
             }
@@ -125,6 +133,30 @@ impl<K: Keeper> Session<K> {
             moves: kept,
             is_there: false,
         }
+    }
+
+    /// Goes back over moves at once, at most so many, where a command looks for so many more: fewer
+    /// than these where each move is one of them, else none that is one of them. Answers how many
+    /// moves, maybe none.
+    fn back_over(&mut self, target: &Target, left: u64, most: u64) -> u64
+        requires { 1 ≤ left }
+        ensures within { result ≤ most }
+        ensures fewer { is_each target.now ≡ true → result < left }
+        ensures over { (first : State) (h : Track) → HasPast K.holds self.old h →
+            GoesOver K.holds
+            (passes target.now (record (point_of self.old (track_of [])) { state = first }))
+            (is_each target.now) result h.history h.ahead self.old.moment.state self.new.moment }
+        ensures stops { (self.new.breaks ≡ self.old.breaks)
+            × (self.new.watches ≡ self.old.watches) }
+        ensures refused { K.refused self.new.moment.keeper ≡ K.refused self.old.moment.keeper }
+        ensures bounds { bounds_of K.room self.new ≡ bounds_of K.room self.old }
+    {
+        let unwatched = self.watches.is_empty();
+        let (many, stores) = at_once(target, left, most, unwatched);
+        if many == 0 {
+            return 0;
+        }
+        self.timeline.back_steps(many, self.breaks.table(), stores)
     }
 
     /// How many moves of those that a command looks for, which was given at a depth, was the one
@@ -146,5 +178,33 @@ impl<K: Keeper> Session<K> {
             Target::Finish => self.cpu().depth() < start,
         };
         if is_hit { 1 } else { 0 }
+    }
+}
+
+/// How many moves are gone over at once at most, where a command looks for so many more and they are
+/// to be no more than so many; and whether moves that replaced bytes are among them. There are
+/// watches or not.
+fn at_once(target: &Target, left: u64, most: u64, unwatched: bool) -> (u64, bool)
+    requires { 1 ≤ left }
+    ensures within { result.0 ≤ most }
+    ensures fewer { is_each target.now ≡ true → result.0 < left }
+    ensures may { 1 ≤ result.0 → GoAtOnce target.now unwatched result.1 }
+{
+    match target {
+        Target::Commands(_) => (most, true),
+        Target::Steps(_) => (most.min(left - 1), true),
+        Target::Continue => (most, unwatched),
+        Target::Next | Target::Finish => (0, true),
+    }
+}
+
+/// How many of some moves that were gone over at once are of those that a command looks for: each or
+/// none.
+fn hits_over(target: &Target, moves: u64) -> u64
+    ensures { result ≡ (if is_each target.now then moves else 0) }
+{
+    match target {
+        Target::Steps(_) => moves,
+        Target::Commands(_) | Target::Next | Target::Continue | Target::Finish => 0,
     }
 }
