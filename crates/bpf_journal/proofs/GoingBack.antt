@@ -1,21 +1,19 @@
 -- Moves that are taken back together, of the records of a history.
-use Rattle.std.proofs.Common.{◌≡◌, ◌≤◌, ◌+◌, ℕ, zero, suc, Bool, true, false, List, [], ◌∷◌, map, refl, sym, ap, subst, ◌∙◌, arith}
+use Rattle.std.proofs.Common.{◌≡◌, ◌≤◌, ◌+◌, ℕ, zero, suc, Bool, List, [], ◌∷◌, map, refl, sym, ap, subst, ◌∙◌, arith}
 use Rattle.std.specs.Prelude.{sum_by}
 use Rattle.std.proofs.lemmas.List.Sums.{sum_by-cons}
 use Rattle.bpf_entries.specs.declared.entry.Entry.{Entry}
 use Rattle.bpf_entries.specs.Keeping.{Kept}
-use Rattle.bpf_entries.specs.Past.{is_of_step}
-use Rattle.bpf_machine.specs.declared.moves.Move.{Move}
 use Rattle.bpf_machine.specs.Moves.{Leads, moved, overwritten}
 use Rattle.bpf_machine.specs.State.{State}
 use Rattle.bpf_ring.specs.Blocks.{Content}
 use Rattle.bpf_ring.specs.Held.{IsHeld}
-use Rattle.bpf_ring.specs.Ways.{HandsBack, HoldsWholeWay, IsPlain, IsWay, Made, kept_by}
+use Rattle.bpf_ring.specs.Ways.{HandsBack, HoldsWholeWay, IsWay, kept_by}
 use Rattle.bpf_ring.specs.declared.counts.Counts.{Counts}
 use Rattle.bpf_journal.specs.Again.{again_of}
 use Rattle.bpf_journal.specs.GoingBack.{GoesBackBy, made_of}
-use Rattle.bpf_journal.specs.Histories.{HasHistory, IsRun, Record, StandsFor, kept_of, record_weight}
-use Rattle.bpf_journal.specs.Tracks.{CourseValue, Follows, IsAhead, IsCourse, RingHolds, Track, ring_room}
+use Rattle.bpf_journal.specs.Histories.{HasHistory, IsRun, Record, kept_of, record_weight}
+use Rattle.bpf_journal.specs.Tracks.{CourseValue, IsAhead, IsCourse, RingHolds, ring_room}
 use Rattle.bpf_journal.proofs.MadeAgain.{seen_is, seen_step}
 
 -- Records, as the ring knows them, are kept as they are, and lead on as they do.

@@ -13,7 +13,7 @@ use Rattle.bpf_machine.specs.Moves.{moved}
 use Rattle.bpf_machine.specs.Next.{next}
 use Rattle.bpf_machine.specs.State.{State}
 use Rattle.bpf_ring.specs.Runs.{AreSteps, state_after, kept_on}
-use Rattle.bpf_ring.specs.Stretches.{ArePlain, IsPlain}
+use Rattle.bpf_ring.specs.Stretches.{AreUnmarked, IsUnmarked}
 use Rattle.bpf_journal.specs.Again.{again_entry, again_of}
 use Rattle.bpf_journal.specs.Courses.{MakesAllAgain}
 use Rattle.bpf_journal.specs.Histories.{HasHistory, IsRun, Record, StandsFor, kept_of, record_weight}
@@ -48,7 +48,7 @@ history_first room (suc k) x h =
     ∙ ap (λ (z : State). keep record_weight room (history_on room k (next x) (keep record_weight room h (record_of x move.Step false))) (record_of z move.Step false)) (state_first k x)
 
 -- a record that is kept without a mark, as a step's
-plain_record : (r : Record) (x : State) → r.before ≡ x → IsPlain (again_of r) → r ≡ record_of x move.Step false
+plain_record : (r : Record) (x : State) → r.before ≡ x → IsUnmarked (again_of r) → r ≡ record_of x move.Step false
 plain_record r x at p = by_move r.move refl where
   by_move : (m : Move) → r.move ≡ m → r ≡ record_of x move.Step false
   by_move move.Step e =
@@ -60,13 +60,13 @@ plain_record r x at p = by_move r.move refl where
       absurd cc
 
 -- fewer of them
-pub fewer_plain : (n m : ℕ) (ks : List Kept) → n ≤ m → ArePlain m ks → ArePlain n ks
+pub fewer_plain : (n m : ℕ) (ks : List Kept) → n ≤ m → AreUnmarked m ks → AreUnmarked n ks
 fewer_plain zero m ks less plain = record { there = omega arith; plain = λ i d h. absurd (omega (arith, h)) }
 fewer_plain (suc n) zero ks less plain = absurd (omega (arith, less))
 fewer_plain (suc n) (suc m) [] less plain = absurd (omega (arith, plain.there))
 fewer_plain (suc n) (suc m) (k ∷ ks) less plain =
-    let rest = fewer_plain n m ks (omega (arith, less)) (record { there = omega (arith, plain.there); plain = All-tail IsPlain k (take m ks) plain.plain }) in
-    record { there = omega (arith, rest.there); plain = All-cons IsPlain k (take n ks) (All-head IsPlain k (take m ks) plain.plain) rest.plain }
+    let rest = fewer_plain n m ks (omega (arith, less)) (record { there = omega (arith, plain.there); plain = All-tail IsUnmarked k (take m ks) plain.plain }) in
+    record { there = omega (arith, rest.there); plain = All-cons IsUnmarked k (take n ks) (All-head IsUnmarked k (take m ks) plain.plain) rest.plain }
 
 module _ {K : Type 0} (holds : K → List Kept → Type 0) where
   pub on_stands : (room n : ℕ) (old new : K) (x y : State) → y ≡ state_after n x → AreSteps x n → ((es : List Kept) → holds old es → holds new (kept_on room n x es)) → (h : List Record) → StandsFor holds old x h → StandsFor holds new y (history_on room n x h)
@@ -82,7 +82,7 @@ module _ {K : Type 0} (holds : K → List Kept → Type 0) where
   }
 
   -- they go from what is ahead to the history
-  pub all_again : (room n : ℕ) (new : CourseValue K) (h f : List Record) (x : State) → new.state ≡ state_after n x → ArePlain n (map again_of f) → IsAhead x f → sum_by record_weight h + sum_by record_weight f ≤ room → ring_room new.redo ≡ room → StandsFor holds new.keeper new.state (history_on room n x h) → RingHolds new.redo (drop n (map again_of f)) → MakesAllAgain holds n h f x new
+  pub all_again : (room n : ℕ) (new : CourseValue K) (h f : List Record) (x : State) → new.state ≡ state_after n x → AreUnmarked n (map again_of f) → IsAhead x f → sum_by record_weight h + sum_by record_weight f ≤ room → ring_room new.redo ≡ room → StandsFor holds new.keeper new.state (history_on room n x h) → RingHolds new.redo (drop n (map again_of f)) → MakesAllAgain holds n h f x new
   all_again room zero new h f x state plain ahead within size stands ring = (
     state,
     record {
@@ -94,7 +94,7 @@ module _ {K : Type 0} (holds : K → List Kept → Type 0) where
   )
   all_again room (suc n) new h [] x state plain ahead within size stands ring = absurd (omega (arith, plain.there))
   all_again room (suc n) new h (r ∷ f) x state plain ahead within size stands ring =
-      let first = All-head IsPlain (again_of r) (take n (map again_of f)) plain.plain in
+      let first = All-head IsUnmarked (again_of r) (take n (map again_of f)) plain.plain in
       let is : r ≡ record_of x move.Step false = plain_record r x ahead.0 first in
       let on : moved r.before r.move ≡ next x = ap (λ (q : Record). moved q.before q.move) is in
       let one = sum_by-cons record_weight r f in
@@ -107,7 +107,7 @@ module _ {K : Type 0} (holds : K → List Kept → Type 0) where
       ∙ ap (λ (z : State). history_on room n z (r ∷ h)) (sym on) in
       all_again room n new (r ∷ h) f (moved r.before r.move)
       (state ∙ state_first n x ∙ ap (state_after n) (sym on))
-      (record { there = omega (arith, plain.there); plain = All-tail IsPlain (again_of r) (take n (map again_of f)) plain.plain })
+      (record { there = omega (arith, plain.there); plain = All-tail IsUnmarked (again_of r) (take n (map again_of f)) plain.plain })
       (subst (λ (y : State). IsAhead (moved y r.move) f) (sym ahead.0) ahead.2)
       (omega (arith, one, two, within)) size (subst (StandsFor holds new.keeper new.state) whole stands) ring
 

@@ -295,7 +295,7 @@ impl<K: Keeper> Course<K> {
         ensures refused { K.refused self.new.keeper ≡ K.refused self.old.keeper }
         ensures room { K.room self.new.keeper ≡ K.room self.old.keeper }
     {
-        let count = self.redo.plain(most);
+        let count = self.redo.unmarked_steps(most);
         let taken = self.timeline.repeat(count, marks);
         self.redo.drop_some(taken);
         taken

@@ -5,7 +5,7 @@ ghost use Rattle.bpf_entries.specs.Fields.{FitsFields};
 ghost use Rattle.bpf_entries.specs.Keeping.{IsSize, Kept, keep, kept_weight};
 ghost use Rattle.bpf_entries.specs.Rings.{AllFit, ring as ring_of};
 ghost use Rattle.bpf_ring.specs.Heads.{head_of};
-ghost use Rattle.bpf_ring.specs.Stretches.{ArePlain};
+ghost use Rattle.bpf_ring.specs.Stretches.{AreUnmarked};
 ghost use Rattle.bpf_ring.specs.Ways.{HandsBack, IsWay, Made, kept_by};
 ghost use Rattle.bpf_journal.specs.Handing.{Hands};
 ghost use Rattle.bpf_journal.specs.Histories.{HasHistory, Record, StandsFor, newest, older};
@@ -175,12 +175,12 @@ impl RingKeeper {
 
     /// How many of the newest entries, counted up to `most`, are of steps and have no mark: those in
     /// front of the first other one.
-    pub(crate) fn plain(&self, most: u64) -> u64
+    pub(crate) fn unmarked_steps(&self, most: u64) -> u64
         ensures within { result ≤ most }
-        ensures plain { (es : List Kept) → ⟦<RingKeeper as Keeper>⟧.holds self.now es →
-            ArePlain result es }
+        ensures unmarked { (es : List Kept) → ⟦<RingKeeper as Keeper>⟧.holds self.now es →
+            AreUnmarked result es }
     {
-        self.entries.plain(most)
+        self.entries.unmarked_steps(most)
     }
 
     /// Lets so many of the newest entries go, or all where there are fewer.

@@ -1,27 +1,25 @@
 -- Moves that are taken back together: one more, and what is left and counted then.
-use Rattle.std.proofs.Common.{◌≡◌, ◌≤◌, ◌<◌, ◌+◌, ◌-◌, ◌^◌, ℕ, zero, suc, Bool, true, false, List, [], ◌∷◌, ◌++◌, Some, None, length, take, drop, map, refl, sym, ap, ◌∙◌, subst, append_assoc, arith, add-one}
-use Rattle.std.specs.Option.{option_map}
+use Rattle.std.proofs.Common.{◌≡◌, ◌≤◌, ◌<◌, ◌+◌, ◌-◌, ◌^◌, ℕ, zero, suc, Bool, List, [], ◌∷◌, ◌++◌, length, take, drop, map, refl, sym, ap, ◌∙◌, subst, append_assoc, arith}
 use Rattle.std.proofs.lemmas.Grind.{elements}
 use Rattle.std.proofs.lemmas.List.{append-nil, drop_at, length-append, length-drop, length-take, take_all, take_at, take-append-drop, take-take}
 use Rattle.std.proofs.lemmas.List.Elements.{All-cons, All-head, All-tail}
 use Rattle.byteorder.specs.Endian.{little_bytes}
 use Rattle.bpf_entries.proofs.Rings.{back_of, front as front_of, same_ends}
-use Rattle.bpf_entries.proofs.Texts.{length-text, weight_high, weight_low}
+use Rattle.bpf_entries.proofs.Texts.{length-text, weight_low}
 use Rattle.bpf_entries.specs.Fields.{FitsFields}
 use Rattle.bpf_entries.specs.Keeping.{Kept}
-use Rattle.bpf_entries.specs.Past.{is_of_step}
-use Rattle.bpf_entries.specs.Rings.{AllFit, ring}
+use Rattle.bpf_entries.specs.Rings.{ring}
 use Rattle.bpf_entries.specs.Texts.{text}
 use Rattle.bpf_entries.specs.Weights.{weight}
 use Rattle.bpf_machine.specs.declared.moves.Move.{Move}
-use Rattle.bpf_machine.specs.Moves.{HasCome, HasComeBy, Leads, overwritten}
+use Rattle.bpf_machine.specs.Moves.{HasComeBy, Leads, overwritten}
 use Rattle.bpf_machine.specs.State.{State}
 use Rattle.bpf_ring.proofs.Counted.{step_fewer, step_more}
 use Rattle.bpf_ring.proofs.Arounds.{around_more, length-around}
 use Rattle.bpf_ring.specs.Blocks.{Content, around, behind, pasted}
 use Rattle.bpf_ring.specs.Counted.{Counted}
 use Rattle.bpf_ring.specs.Held.{IsHeld}
-use Rattle.bpf_ring.specs.Ways.{EndsPlain, EndsWay, HandsBack, HasText, IsPlain, IsWay, Made, kept_by}
+use Rattle.bpf_ring.specs.Ways.{EndsPlain, HandsBack, HasText, IsWay, Made, kept_by}
 use Rattle.bpf_ring.specs.declared.counts.Counts.{Counts}
 
 -- Where so many were taken back: what is left of the way, and the other list.

@@ -4,10 +4,10 @@ use Rattle.bpf_entries.specs.Keeping.{Kept}
 use Rattle.bpf_entries.specs.Past.{is_of_step}
 
 -- An entry of a step, without a mark.
-abbrev pub IsPlain : Kept → Type 0
-IsPlain k = (is_of_step k.0 ≡ true) × (k.1 ≡ false)
+abbrev pub IsUnmarked : Kept → Type 0
+IsUnmarked k = (is_of_step k.0 ≡ true) × (k.1 ≡ false)
 
 -- The newest n are such.
-pub record ArePlain (n : ℕ) (ks : List Kept) : Type 0 where
+pub record AreUnmarked (n : ℕ) (ks : List Kept) : Type 0 where
   pub there : n ≤ length ks
-  pub plain : All IsPlain (take n ks)
+  pub plain : All IsUnmarked (take n ks)

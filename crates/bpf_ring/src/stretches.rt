@@ -3,7 +3,7 @@ ghost use Rattle.std.specs.Prelude.{◌≡◌, ◌≤◌, ◌∷◌, ◌++◌, L
 ghost use Rattle.bpf_entries.specs.Keeping.{Kept, kept_weight};
 ghost use Rattle.bpf_ring.specs.Heads.{head_of};
 ghost use Rattle.bpf_ring.specs.Held.{IsHeld};
-ghost use Rattle.bpf_ring.specs.Stretches.{ArePlain};
+ghost use Rattle.bpf_ring.specs.Stretches.{AreUnmarked};
 
 use crate::counts::within;
 use crate::entries::{EntryRing, Head};
@@ -11,10 +11,10 @@ use crate::entries::{EntryRing, Head};
 impl EntryRing {
     /// How many of the newest entries are of steps and have no mark: those in front of the first
     /// other one, counted up to `most`.
-    pub fn plain(&self, most: u64) -> u64
+    pub fn unmarked_steps(&self, most: u64) -> u64
         ensures within { result ≤ most }
-        ensures plain { (ks : List Kept) → IsHeld self.now.ring self.now.counts ks →
-            ArePlain result ks }
+        ensures unmarked { (ks : List Kept) → IsHeld self.now.ring self.now.counts ks →
+            AreUnmarked result ks }
     {
         let mut place = self.weight();
         for count in 0..most {

@@ -1,10 +1,9 @@
-use Rattle.std.proofs.Common.{◌≡◌, ◌≤◌, ◌+◌, ◌-◌, ◌++◌, ◌∙◌, ℕ, List, [], length, map, take, drop, sym, ap, subst, arith, add-one}
+use Rattle.std.proofs.Common.{◌≡◌, ◌≤◌, ◌+◌, ◌-◌, ◌++◌, ◌∙◌, ℕ, List, [], length, take, drop, ap, subst, arith, add-one}
 use Rattle.std.proofs.lemmas.List.{length-drop, length-take}
 use borrow.Rule.Slice.PartMut.{put_mid}
-use Rattle.bpf_ring.specs.Blocks.{pasted}
-use Rattle.bpf_ring.specs.Ways.{HandsBack, HasText, IsWay, Made, kept_by}
+use Rattle.bpf_ring.specs.Ways.{HandsBack, HasText}
 use Rattle.bpf_ring.proofs.Arounds.{length-pasted, put_pasted}
-use Rattle.bpf_ring.proofs.Ways.{came, copied_on, hands_more, none_yet, one_more, reached, slice_of}
+use Rattle.bpf_ring.proofs.Ways.{came, copied_on, hands_more, one_more, reached, slice_of}
 use Rattle.bpf_ring.proofs.backward.hand_texts.Goals as goal
 
 pub revert_text-requires : goal.revert_text-requires

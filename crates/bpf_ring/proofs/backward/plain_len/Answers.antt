@@ -1,4 +1,4 @@
-use Rattle.std.proofs.Common.{◌≡◌, ◌≤◌, ◌∙◌, length, sym, arith}
+use Rattle.std.proofs.Common.{◌≡◌, ◌≤◌, ◌∙◌, length, arith}
 use Rattle.bpf_entries.specs.Weights.{weight}
 use Rattle.bpf_ring.proofs.Ways.{end_slice, is_text, newest_of, tells_len}
 use Rattle.bpf_ring.proofs.backward.plain_len.Goals as goal

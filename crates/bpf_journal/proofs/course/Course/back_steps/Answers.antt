@@ -1,6 +1,5 @@
 use Rattle.std.proofs.Common.{◌∙◌, map, sym}
 use Rattle.bpf_journal.specs.Again.{again_of}
-use Rattle.bpf_journal.specs.Tracks.{CourseValue}
 use Rattle.bpf_journal.proofs.GoingBack.{course_back, track_back}
 use Rattle.bpf_journal.proofs.course.Course.back_steps.Goals as goal
 
