@@ -44,7 +44,7 @@ install:
 
 # Takes them away again.
 uninstall:
-	@rm -f "$(DESTDIR)$(BIN)/bpfdb" "$(DESTDIR)$(BIN)/bpfdb-shell" "$(DESTDIR)$(BIN)/bpfdb-symbols" "$(DESTDIR)$(BIN)/bpfdb-conformance"
+	@rm -f "$(DESTDIR)$(BIN)/bpfdb" "$(DESTDIR)$(BIN)/bpfdb-shell" "$(DESTDIR)$(BIN)/bpfdb-symbols" "$(DESTDIR)$(BIN)/bpfdb-show" "$(DESTDIR)$(BIN)/bpfdb-conformance"
 	@rm -f "$(DESTDIR)$(MAN)/bpfdb.1"
 	@[ ! -d "$(DESTDIR)$(PREFIX)/share" ] || { cd "$(DESTDIR)$(PREFIX)/share" && rm -f bpfdb/bpfdb-gdb.py bpfdb/bpfdb.h bpfdb/bpfdb.vim bpfdb/bpfdb.tmLanguage.json bpfdb/package.json \
 		bash-completion/completions/bpfdb bash-completion/completions/bpfdb-shell zsh/site-functions/_bpfdb zsh/vendor-completions/_bpfdb \

@@ -133,7 +133,7 @@ origins() {
 pages() {
     mkdir "$work/bin" || exit 1
     ln -s "$BPFDB" "$work/bin/bpfdb" || exit 1
-    ln -s "$top/share/bpfdb-conformance" "$work/bin" || exit 1
+    ln -s "$top/share/bpfdb-conformance" "$top/share/bpfdb-show" "$work/bin" || exit 1
     shown docs/COMMANDS.md EXAMPLES
     shown examples/RECIPES.md ''
     origins README.md '' overrun

@@ -22,7 +22,7 @@ put_as() {
     mkdir -p "$folder" && cp "$4" "$folder/$3" && chmod "$1" "$folder/$3" || exit 1
 }
 
-put 755 bin crates/bpfdb/out/bpfdb share/bpfdb-shell share/bpfdb-symbols share/bpfdb-conformance
+put 755 bin crates/bpfdb/out/bpfdb share/bpfdb-shell share/bpfdb-symbols share/bpfdb-show share/bpfdb-conformance
 put 644 share/man/man1 docs/bpfdb.1
 put 644 share/bpfdb share/bpfdb-gdb.py share/editors/bpfdb.vim share/editors/bpfdb.tmLanguage.json share/editors/package.json share/bpfdb.h
 # (each shell looks for a completion by the name of the command; zsh of Debian's packages in a folder of its own)
@@ -50,4 +50,4 @@ for page in "$@"; do
     sed -i "s|](docs/$page.md|]($page.md|g; s|\`docs/$page.md\`|\`$page.md\`|g; s|docs/$page.md|$page.md|g" "$folder"/*.md "$folder/examples"/*.md || exit 1
 done
 sed -i 's|\[\([^][]*\)\](docs/[^)]*)|\1|g' "$folder"/*.md || exit 1
-echo "installed $prefix/bin/bpfdb, bpfdb-shell, bpfdb-symbols and bpfdb-conformance beside it, the man page, completions of bash, zsh and fish, and pages and examples in $prefix/share/doc/bpfdb; in gdb: source $prefix/share/bpfdb/bpfdb-gdb.py"
+echo "installed $prefix/bin/bpfdb, bpfdb-shell, bpfdb-symbols, bpfdb-show and bpfdb-conformance beside it, the man page, completions of bash, zsh and fish, and pages and examples in $prefix/share/doc/bpfdb; in gdb: source $prefix/share/bpfdb/bpfdb-gdb.py"

@@ -17,6 +17,7 @@ _bpfdb() {
     --script) mapfile -t COMPREPLY < <(compgen -f -- "$word"); return ;;
     --lines) :; return ;;
     --only) :; return ;;
+    --show) :; return ;;
     esac
     if [ "$COMP_CWORD" -eq "$first" ]; then
         mapfile -t COMPREPLY < <(compgen -W "run trace debug origin asm disasm lines check link gdb test help --help --version" -- "$word")
@@ -33,7 +34,7 @@ _bpfdb() {
     check) words="--maps --listing -h --help" ;;
     link) words="--section --entry --stub --as-compiled -h --help" ;;
     gdb) words="-m --mem --maps --journal --steps --listing --registers -h --help" ;;
-    test) words="--only -h --help" ;;
+    test) words="--only --show -h --help" ;;
     shell) words="-m --mem --maps --journal --steps --listing --section --entry --stub --as-compiled -h --help" ;;
     help) words="run trace debug origin asm disasm lines check link gdb test" ;;
     *) return ;;

@@ -37,6 +37,7 @@ complete -c bpfdb-shell -l as-compiled -d "Leaves fields where they were compile
 complete -c bpfdb -n "__fish_seen_subcommand_from origin" -l lines -x -d "The most lines of moves in an answer"
 complete -c bpfdb -n "__fish_seen_subcommand_from origin" -l addresses -d "The registers that make addresses are followed"
 complete -c bpfdb -n "__fish_seen_subcommand_from test" -l only -x -d "The tests of this name are run alone"
+complete -c bpfdb -n "__fish_seen_subcommand_from test" -l show -x -d "A part of the one test that is asked for is written to standard output"
 complete -c bpfdb -s h -l help -d "Writes help to standard output"
 complete -c bpfdb-shell -s h -l help -d "Writes help to standard output"
 complete -c bpfdb -n __fish_use_subcommand -s V -l version -d "Writes the version"

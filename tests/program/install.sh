@@ -9,7 +9,7 @@ else
         installed=$1$2
         env -u MAKEFLAGS make -s -C "$top" install DESTDIR="$1" PREFIX="$2" > found/out 2> found/err
         echo $? > found/status
-        check "make install PREFIX=$2" 0 "installed $2/bin/bpfdb, bpfdb-shell, bpfdb-symbols and bpfdb-conformance beside it, the man page, completions of bash, zsh and fish, and pages and examples in $2/share/doc/bpfdb; in gdb: source $2/share/bpfdb/bpfdb-gdb.py\n" ''
+        check "make install PREFIX=$2" 0 "installed $2/bin/bpfdb, bpfdb-shell, bpfdb-symbols, bpfdb-show and bpfdb-conformance beside it, the man page, completions of bash, zsh and fish, and pages and examples in $2/share/doc/bpfdb; in gdb: source $2/share/bpfdb/bpfdb-gdb.py\n" ''
         (cd "$installed" && find . -type f -printf '%m %P\n' | sort) > found/files
         {
             cat <<'FILES'
@@ -37,6 +37,7 @@ else
 755 bin/bpfdb
 755 bin/bpfdb-conformance
 755 bin/bpfdb-shell
+755 bin/bpfdb-show
 755 bin/bpfdb-symbols
 FILES
             (cd "$top" && find examples -type f -printf '644 share/doc/bpfdb/%p\n')

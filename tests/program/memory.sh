@@ -141,6 +141,7 @@ printf -- '-- name\nb\n-- cells\n0 1 0102\n-- result\n3\n-- map-after\n0 0 0.01\
 plan='1..2\n' one='ok 1 - a\n'
 two='not ok 2 - b\n# the test in line 10\n# came: exited at 1: r0 0x2\n# wanted: result 3, and map-after\n'
 cell='# cell 0 0 came: 0x300000000: 0000\n# cell 0 0 wanted: 0.01\n'
+show="# debug: bpfdb-show 'b' 'two.test'\n"
 : > met
 request=1
 while refuse "$request" '' test two.test && [ "$found" != 1 ] && [ "$request" -le "$most" ]; do
@@ -157,8 +158,10 @@ while refuse "$request" '' test two.test && [ "$found" != 1 ] && [ "$request" -l
     done
     request=$((request + 1))
 done
-check 'bpfdb test: no request for memory refused' 1 "$plan$one$two$cell" ''
+check 'bpfdb test: no request for memory refused' 1 "$plan$one$two$cell$show" ''
 said 'bpfdb test' '0 lines\n'
+wants "$plain" 0 'set cell 0 1 0102\ncontinue\n' '' test --show script --only b two.test
+wants "$plain" 0 '--maps=2x2\n--steps=1000000\n' '' test --show options --only a two.test
 wants "$plain" 2 '' 'cannot read missing\n' run missing
 wants "$plain" 0 "$(text "$parts/help/bpfdb.txt")" '' --help
 wants "$plain" 0 "$(version)" '' --version

@@ -2,10 +2,11 @@
 # refused, a long file, and many tests. Reports were worked out by hand from the page; they stand beside the files in suites/.
 if "$program" help test > /dev/null 2>&1; then
 
-# tested NAME STATUS FILE: the report on a file of tests is the text of found/wanted.
+# tested NAME STATUS FILE: the report on a file of tests, which it calls by its name alone, is the text of found/wanted.
 tested() {
     : > script
-    run test "$3"
+    cp "$3" "$(basename "$3")" 2> /dev/null
+    run test "$(basename "$3")"
     echo "$2" > wanted/status
     : > wanted/err
     compare "$1"
@@ -75,5 +76,81 @@ awk 'BEGIN {
 }' > many
 awk 'BEGIN { print "1..10000"; for (i = 1; i <= 10000; i++) printf "ok %d - test %d\n", i, i }' > wanted/out
 tested 'bpfdb test of 10,000 tests' 0 many
+
+# What is shown of a test: the words of its program, its context, and the options and the script with which the debugger shows it.
+# showing PART NAME TEXT: the part of a test of the file `shown.test` is this text.
+showing() {
+    row "bpfdb test --show $1 --only '$2'" 0 '' "$3" '' test --show "$1" --only "$2" shown.test
+}
+{
+    printf -- '-- listing\nldxb r0, [r1+1]\nexit\n-- maps\n 4x3,2x2 \n-- name\na\n-- mem\n0a ff\n00\n-- steps\n0x10\n'
+    printf -- '-- cells\n0 2 01020304\n\n1 0x1 FF 00\n-- result\n255\n'
+    printf -- "-- name\nit's b\n-- words\n95 00\n-- refused\nC3\n-- name\nno listing\n-- asm\nexit\nfrob\n-- refused\nA1\n"
+    printf -- '-- name\ntwice\n-- result\n0\n-- name\ntwice\n-- result\n0\n'
+} > shown.test
+showing program a '\0161\0020\0001\0000\0000\0000\0000\0000\0225\0000\0000\0000\0000\0000\0000\0000'
+showing context a '\n\0377\0000'
+showing options a '--maps=4x3,2x2\n--steps=16\n'
+showing script a 'set cell 0 2 01020304\nset cell 1 1 ff00\ncontinue\n'
+showing program "it's b" '\0225\0000'
+showing context "it's b" ''
+showing options "it's b" '--maps=4x3,2x2\n--steps=1000000\n'
+showing script "it's b" 'continue\n'
+showing context 'no listing' ''
+row 'bpfdb test --show program of a listing that is none' 2 '' '' 'refused A1 at line 2: unknown instruction\n' test --show program --only 'no listing' shown.test
+row 'bpfdb test --show of several tests' 2 '' '' 'refused T8: more than one test is asked for\n' test --show program shown.test
+row 'bpfdb test --show of several tests of a name' 2 '' '' 'refused T8: more than one test is asked for\n' test --show context --only twice shown.test
+row 'bpfdb test --show of no test' 2 '' '' 'refused T7: no test of this name: b\n' test --show program --only b shown.test
+printf -- '-- listing\nexit\n-- result\n0\n' > alone
+row 'bpfdb test --show of a file of one test' 0 '' '--steps=1000000\n' '' test --show options alone
+printf -- '-- listing\nexit\n' > lacking
+row 'bpfdb test --show of a file with a fault' 2 '' '' 'refused T6 at line 1: test without an expectation\n' test --show options lacking
+
+# The line that a report gives for a test that failed: its name and its file's as a shell takes them, and what the shell makes of it.
+mkdir bin
+ln -s "$program" bin/bpfdb
+ln -s "$top/share/bpfdb-show" bin/bpfdb-show
+# typed NAME STATUS OUTPUT ERRORS LINE: what a shell makes of a line.
+typed() {
+    (PATH=$PWD/bin:$PATH && unset BPFDB && sh -c "$5" < script) > found/out 2> found/err
+    echo $? > found/status
+    check "$1" "$2" "$3" "$4"
+}
+: > script
+cat > "the 'file'" << 'END'
+-- listing
+ldxb r0, [r1+2]
+add r0, 1
+exit
+-- name
+it's $a `b` -- "c"
+-- mem
+00 01 07
+-- result
+7
+END
+cat > wanted/out << 'END'
+1..1
+not ok 1 - it's $a `b` -- "c"
+# the test in line 5
+# came: exited at 2: r0 0x8
+# wanted: result 7
+# debug: bpfdb-show 'it'\''s $a `b` -- "c"' 'the '\''file'\'''
+END
+echo 1 > wanted/status
+: > wanted/err
+run test "the 'file'"
+compare 'bpfdb test of names with quotes'
+line=$(sed -n 's/^# debug: //p' found/out)
+typed 'bpfdb-show of a test that failed' 0 'cat parts/script - | bpfdb debug --steps=1000000 -m parts/context parts/program\nbpfdb origin --steps=1000000 -m parts/context --script parts/script parts/program\n' '' "$line parts"
+cp found/out lines
+typed 'the line of bpfdb debug' 0 '3 forward; exited; exited at 2: r0 0x8\n3 back; done; at 0: ldxb r0, [r1+2]\n' '' "echo undo | $(sed -n 1p lines)"
+typed 'the line of bpfdb origin' 0 'exited at 2: r0 0x8\n-2 r0 = 0x8; 1: add r0, 1; from r0\n-3 r0 = 0x7; 0: ldxb r0, [r1+2]; from 0x100000002:1\nleft 0x100000002 = 0x7; byte 2 of the context; at the opening\n' '' "$(sed -n 2p lines)"
+mkdir new
+typed 'bpfdb-show into a new folder' 0 'context options program script\ncat F/script - | bpfdb debug --maps=4x3,2x2 --steps=16 -m F/context F/program\n' '' \
+    'TMPDIR=new; export TMPDIR; bpfdb-show a shown.test > shown; echo $(ls new/*); sed -n "1s:new/bpfdb-show\.......:F:gp" shown'
+typed 'bpfdb-show of no test' 2 '' 'refused T7: no test of this name: b\n' 'TMPDIR=new bpfdb-show b shown.test'
+typed 'what bpfdb-show leaves of no test' 0 '1\n' '' 'ls new | wc -l'
+typed 'bpfdb-show of nothing' 2 '' 'usage: bpfdb-show NAME FILE [DIR]\n' 'bpfdb-show a'
 
 fi

@@ -76,14 +76,14 @@ printf -- '-- listing\nmov r0, 2\nexit\n-- result\n3\n' > three.test
 printf -- '-- listing\nexit\n' > lacking.test
 result '1..1\nok 1 - two\n' test two.test
 result '1..1\nok 1 - two\n' test -- two.test
-row 'bpfdb test of a test that fails' 1 '' '1..1\nnot ok 1\n# the test in line 1\n# came: exited at 1: r0 0x2\n# wanted: result 3\n' '' test three.test
+row 'bpfdb test of a test that fails' 1 '' '1..1\nnot ok 1\n# the test in line 1\n# came: exited at 1: r0 0x2\n# wanted: result 3\n'"# debug: bpfdb-show '' 'three.test'\n" '' test three.test
 refused 'refused T6 at line 1: test without an expectation' test lacking.test
 # test --only: each test of the name, numbered from 1, in any order of words; one that begins alike isn't it. A file's fault comes first.
 printf -- '-- listing\nmov r0, 2\nexit\n-- name\na\n-- result\n2\n-- name\nab\n-- result\n3\n-- name\na\n-- result\n4\n' > names.test
-row 'bpfdb test --only of a name that stands twice' 1 '' '1..2\nok 1 - a\nnot ok 2 - a\n# the test in line 12\n# came: exited at 1: r0 0x2\n# wanted: result 4\n' '' test --only a names.test
-row 'bpfdb test --only of one name' 1 '' '1..1\nnot ok 1 - ab\n# the test in line 8\n# came: exited at 1: r0 0x2\n# wanted: result 3\n' '' test names.test --only=ab
+row 'bpfdb test --only of a name that stands twice' 1 '' '1..2\nok 1 - a\nnot ok 2 - a\n# the test in line 12\n# came: exited at 1: r0 0x2\n# wanted: result 4\n'"# debug: bpfdb-show 'a' 'names.test'\n" '' test --only a names.test
+row 'bpfdb test --only of one name' 1 '' '1..1\nnot ok 1 - ab\n# the test in line 8\n# came: exited at 1: r0 0x2\n# wanted: result 3\n'"# debug: bpfdb-show 'ab' 'names.test'\n" '' test names.test --only=ab
 result '1..1\nok 1 - two\n' test --only two two.test
-row 'bpfdb test --only of no name' 1 '' '1..1\nnot ok 1\n# the test in line 1\n# came: exited at 1: r0 0x2\n# wanted: result 3\n' '' test --only '' three.test
+row 'bpfdb test --only of no name' 1 '' '1..1\nnot ok 1\n# the test in line 1\n# came: exited at 1: r0 0x2\n# wanted: result 3\n'"# debug: bpfdb-show '' 'three.test'\n" '' test --only '' three.test
 refused 'refused T7: no test of this name: abc' test --only abc names.test
 refused 'refused T7: no test of this name: A' test --only A names.test
 refused 'refused T7: no test of this name' test --only '' names.test
@@ -104,7 +104,7 @@ for absent in 'run --journal=65536' 'debug -j=65536' 'asm -m=context' 'asm --mem
     'check -m=context' 'check --mem=context' 'check --journal=65536' 'check --steps=7' 'run --section=a' 'debug --section=a' 'asm --section=a' 'run --entry=a' 'asm --entry=a' 'run --stub=5=0' 'debug --stub=5=0' \
     'disasm --section=a' 'check --section=a' 'link -m=context' 'link --mem=context' 'link --maps=8x2' 'link --journal=65536' 'link --steps=7' 'link --listing' 'gdb --section=a' \
     'run --from=7' 'run --count=7' 'run --profile' 'debug --from=7' 'debug --count=7' 'debug --profile' 'trace --journal=65536' 'trace --section=a' 'trace --registers=x86' \
-    'origin --section=a' 'origin --entry=a' 'origin --registers=x86' 'run --lines=7' 'debug --lines=7' 'debug --addresses' 'gdb --lines=7' 'lines --lines=7' 'lines --listing' 'lines --maps=8x2' 'lines -m=context' 'lines --steps=7' 'lines --section=a' 'run --registers=x86' 'debug --registers=x86' 'test --listing' 'test --maps=8x2' 'test --steps=7' 'run --only=a' 'debug --only=a' 'link --only=a'
+    'origin --section=a' 'origin --entry=a' 'origin --registers=x86' 'run --lines=7' 'debug --lines=7' 'debug --addresses' 'gdb --lines=7' 'lines --lines=7' 'lines --listing' 'lines --maps=8x2' 'lines -m=context' 'lines --steps=7' 'lines --section=a' 'run --registers=x86' 'debug --registers=x86' 'test --listing' 'test --maps=8x2' 'test --steps=7' 'run --only=a' 'debug --only=a' 'link --only=a' 'run --show=program' 'debug --show=script'
 do
     subcommand=${absent%% *} option=${absent#* }
     name=${option%%=*}
@@ -131,6 +131,7 @@ usage "unexpected argument '--step' found" run --step 7 first
 usage "unexpected argument '--Steps' found" run --Steps 7 first
 usage "unexpected argument 'second' found" run first second
 usage 'a value is none of those that its option takes' gdb --registers arm first
+usage 'a value is none of those that its option takes' test --show words two.test
 for subcommand in $subcommands; do
     usage 'the following required arguments were not provided:' $subcommand
     case $subcommand in

@@ -53,14 +53,14 @@ come-more (t ∷ done) test [] outcome e come comes = absurd come
 come-more (t ∷ done) test (o ∷ os) outcome e come comes =
     (come.0, come-more done test os outcome (shorter (length os) (length done) e) come.1 comes)
 
-text-more : (k : ℕ) (done : List (List Section)) (test : List Section) (outcomes : List Outcome) (outcome : Outcome) → length outcomes ≡ length done
-    → tests_text k (done ++ test ∷ []) (outcomes ++ outcome ∷ []) ≡ tests_text k done outcomes ++ test_text (number_after k done) test outcome
-text-more k [] test [] outcome e = append-nil (test_text k test outcome)
-text-more k [] test (o ∷ os) outcome e = absurd (longer (length os) e)
-text-more k (t ∷ done) test [] outcome e = absurd (longer (length done) (sym e))
-text-more k (t ∷ done) test (o ∷ os) outcome e =
-    ap (λ s. test_text k t o ++ s) (text-more (one_more k) done test os outcome (shorter (length os) (length done) e))
-    ∙ sym (append_assoc (test_text k t o) (tests_text (one_more k) done os) (test_text (number_after (one_more k) done) test outcome))
+text-more : (file : List ℕ) (k : ℕ) (done : List (List Section)) (test : List Section) (outcomes : List Outcome) (outcome : Outcome) → length outcomes ≡ length done
+    → tests_text file k (done ++ test ∷ []) (outcomes ++ outcome ∷ []) ≡ tests_text file k done outcomes ++ test_text file (number_after k done) test outcome
+text-more file k [] test [] outcome e = append-nil (test_text file k test outcome)
+text-more file k [] test (o ∷ os) outcome e = absurd (longer (length os) e)
+text-more file k (t ∷ done) test [] outcome e = absurd (longer (length done) (sym e))
+text-more file k (t ∷ done) test (o ∷ os) outcome e =
+    ap (λ s. test_text file k t o ++ s) (text-more file (one_more k) done test os outcome (shorter (length os) (length done) e))
+    ∙ sym (append_assoc (test_text file k t o) (tests_text file (one_more k) done os) (test_text file (number_after (one_more k) done) test outcome))
 
 pass-more : (done : List (List Section)) (test : List Section) (outcomes : List Outcome) (outcome : Outcome) → length outcomes ≡ length done
     → all_pass (done ++ test ∷ []) (outcomes ++ outcome ∷ []) ≡ (all_pass done outcomes && passes test outcome)
@@ -72,18 +72,18 @@ pass-more (t ∷ done) test (o ∷ os) outcome e =
     ∙ and-assoc (passes t o) (all_pass done os) (passes test outcome)
 
 -- tests that are reported on
-pub record Reported {T : Type 0} (contents : T → Option (List ℕ)) (old now : Tally T) (done : List (List Section)) (first number : ℕ) (passed : Bool)
-    : Type 0 where
+pub record Reported {T : Type 0} (contents : T → Option (List ℕ)) (old now : Tally T) (file : List ℕ) (done : List (List Section)) (first number : ℕ)
+    (passed : Bool) : Type 0 where
   pub outcomes : List Outcome
   pub long : length outcomes ≡ length done
   pub come : AreOutcomes done outcomes
-  pub written : Writes {A = Bool} {E = SuiteFault} contents old now (Ok passed) (tests_text first done outcomes)
+  pub written : Writes {A = Bool} {E = SuiteFault} contents old now (Ok passed) (tests_text file first done outcomes)
   pub pass : passed ≡ all_pass done outcomes
   pub next : number ≡ number_after first done
 
-module _ {T : Type 0} (contents : T → Option (List ℕ)) (old : Tally T) (first : ℕ) where
+module _ {T : Type 0} (contents : T → Option (List ℕ)) (old : Tally T) (file : List ℕ) (first : ℕ) where
   -- none yet
-  pub Reported-start : Reported contents old old [] first first true
+  pub Reported-start : Reported contents old old file [] first first true
   Reported-start = record {
     outcomes = [];
     long = refl;
@@ -95,14 +95,14 @@ module _ {T : Type 0} (contents : T → Option (List ℕ)) (old : Tally T) (firs
 
   -- one more
   pub Reported-step : (now new : Tally T) (done : List (List Section)) (test : List Section) (number : ℕ) (passed ok : Bool)
-      → Reported contents old now done first number passed
+      → Reported contents old now file done first number passed
       → (outcome : Outcome) → Comes (setting test) outcome → ok ≡ passes test outcome
-      → Writes {A = Bool} {E = SuiteFault} contents now new (Ok ok) (test_text number test outcome)
-      → Reported contents old new (done ++ test ∷ []) first (one_more number) (passed && ok)
+      → Writes {A = Bool} {E = SuiteFault} contents now new (Ok ok) (test_text file number test outcome)
+      → Reported contents old new file (done ++ test ∷ []) first (one_more number) (passed && ok)
   Reported-step now new done test number passed ok r outcome comes verdict w =
-      let told = Writes-Writes contents old now new (Ok passed) (Ok ok) passed (tests_text first done r.outcomes) (test_text number test outcome) refl r.written w in
-      let text : tests_text first done r.outcomes ++ test_text number test outcome ≡ tests_text first (done ++ test ∷ []) (r.outcomes ++ outcome ∷ []) =
-      ap (λ n. tests_text first done r.outcomes ++ test_text n test outcome) r.next ∙ sym (text-more first done test r.outcomes outcome r.long) in
+      let told = Writes-Writes contents old now new (Ok passed) (Ok ok) passed (tests_text file first done r.outcomes) (test_text file number test outcome) refl r.written w in
+      let text : tests_text file first done r.outcomes ++ test_text file number test outcome ≡ tests_text file first (done ++ test ∷ []) (r.outcomes ++ outcome ∷ []) =
+      ap (λ n. tests_text file first done r.outcomes ++ test_text file n test outcome) r.next ∙ sym (text-more file first done test r.outcomes outcome r.long) in
       record {
         outcomes = r.outcomes ++ outcome ∷ [];
         long = length-more r.outcomes done outcome test r.long;
@@ -113,28 +113,28 @@ module _ {T : Type 0} (contents : T → Option (List ℕ)) (old : Tally T) (firs
       }
 
   -- no more
-  pub Reported-end : (now : Tally T) (done tests : List (List Section)) (number : ℕ) (passed : Bool) → Reported contents old now done first number passed
+  pub Reported-end : (now : Tally T) (done tests : List (List Section)) (number : ℕ) (passed : Bool) → Reported contents old now file done first number passed
       → done ≡ tests
       → (outcomes : List Outcome) × AreOutcomes tests outcomes × (passed ≡ all_pass tests outcomes)
-      × Writes {A = Bool} {E = SuiteFault} contents old now (Ok passed) (tests_text first tests outcomes)
+      × Writes {A = Bool} {E = SuiteFault} contents old now (Ok passed) (tests_text file first tests outcomes)
   Reported-end now done tests number passed r all = rw (← all) (r.outcomes, r.come, r.pass, r.written)
 
   -- a test at which the run breaks off
   pub Reported-broken : (now new : Tally T) (done left tests : List (List Section)) (test : List Section) (number : ℕ) (passed : Bool) (why : SuiteFault)
-      → Reported contents old now done first number passed → BreaksAt contents why now new number test → tests ≡ done ++ test ∷ left
-      → BreaksOff contents why old new [] first tests
+      → Reported contents old now file done first number passed → BreaksAt contents why now new file number test → tests ≡ done ++ test ∷ left
+      → BreaksOff contents why old new [] file first tests
   Reported-broken now new done left tests test number passed Memory r same all = record {
     done = done;
     left = test ∷ left;
     all = all;
     outcomes = r.outcomes;
     come = r.come;
-    written = rw same (Writes-answer contents old now passed tt (tests_text first done r.outcomes) r.written);
+    written = rw same (Writes-answer contents old now passed tt (tests_text file first done r.outcomes) r.written);
   }
   Reported-broken now new done left tests test number passed Write r b all =
-      let told = Writes-Writes {A = Unit {0}} contents old now new (Ok passed) (Err Write) passed (tests_text first done r.outcomes) (test_text number test b.0) refl r.written b.2 in
-      let text : tests_text first done r.outcomes ++ test_text number test b.0 ≡ tests_text first (done ++ test ∷ []) (r.outcomes ++ b.0 ∷ []) =
-      ap (λ n. tests_text first done r.outcomes ++ test_text n test b.0) r.next ∙ sym (text-more first done test r.outcomes b.0 r.long) in
+      let told = Writes-Writes {A = Unit {0}} contents old now new (Ok passed) (Err Write) passed (tests_text file first done r.outcomes) (test_text file number test b.0) refl r.written b.2 in
+      let text : tests_text file first done r.outcomes ++ test_text file number test b.0 ≡ tests_text file first (done ++ test ∷ []) (r.outcomes ++ b.0 ∷ []) =
+      ap (λ n. tests_text file first done r.outcomes ++ test_text file n test b.0) r.next ∙ sym (text-more file first done test r.outcomes b.0 r.long) in
       record {
         done = done ++ test ∷ [];
         left = left;
@@ -145,29 +145,29 @@ module _ {T : Type 0} (contents : T → Option (List ℕ)) (old : Tally T) (firs
       }
 
 -- a run that breaks off behind a text, or in it
-pub BreaksOff-behind : {T A E : Type 0} (contents : T → Option (List ℕ)) (a b c : Tally T) (x : A) (why : SuiteFault) (front : List ℕ) (k : ℕ)
-    (tests : List (List Section)) → Writes {A = A} {E = E} contents a b (Ok x) front → BreaksOff contents why b c [] k tests
-    → BreaksOff contents why a c front k tests
-BreaksOff-behind contents a b c x Memory front k tests w r = record {
+pub BreaksOff-behind : {T A E : Type 0} (contents : T → Option (List ℕ)) (a b c : Tally T) (x : A) (why : SuiteFault) (front file : List ℕ) (k : ℕ)
+    (tests : List (List Section)) → Writes {A = A} {E = E} contents a b (Ok x) front → BreaksOff contents why b c [] file k tests
+    → BreaksOff contents why a c front file k tests
+BreaksOff-behind contents a b c x Memory front file k tests w r = record {
   done = r.done;
   left = r.left;
   all = r.all;
   outcomes = r.outcomes;
   come = r.come;
-  written = Writes-Writes contents a b c (Ok x) (Ok tt) x front (tests_text k r.done r.outcomes) refl (Writes-answer contents a b x x front w) r.written;
+  written = Writes-Writes contents a b c (Ok x) (Ok tt) x front (tests_text file k r.done r.outcomes) refl (Writes-answer contents a b x x front w) r.written;
 }
-BreaksOff-behind contents a b c x Write front k tests w r = record {
+BreaksOff-behind contents a b c x Write front file k tests w r = record {
   done = r.done;
   left = r.left;
   all = r.all;
   outcomes = r.outcomes;
   come = r.come;
-  written = Writes-Writes contents a b c (Ok x) (Err Write) x front (tests_text k r.done r.outcomes) refl (Writes-answer contents a b x x front w) r.written;
+  written = Writes-Writes contents a b c (Ok x) (Err Write) x front (tests_text file k r.done r.outcomes) refl (Writes-answer contents a b x x front w) r.written;
 }
 
-pub BreaksOff-first : {T A E : Type 0} (contents : T → Option (List ℕ)) (a b : Tally T) (e : E) (front : List ℕ) (k : ℕ)
-    (tests : List (List Section)) → Writes {A = A} {E = E} contents a b (Err e) front → BreaksOff contents Write a b front k tests
-BreaksOff-first contents a b e front k tests w = record {
+pub BreaksOff-first : {T A E : Type 0} (contents : T → Option (List ℕ)) (a b : Tally T) (e : E) (front file : List ℕ) (k : ℕ)
+    (tests : List (List Section)) → Writes {A = A} {E = E} contents a b (Err e) front → BreaksOff contents Write a b front file k tests
+BreaksOff-first contents a b e front file k tests w = record {
   done = [];
   left = tests;
   all = refl;
@@ -177,12 +177,12 @@ BreaksOff-first contents a b e front k tests w = record {
 }
 
 -- a run whose report stands whole, and isn't flushed
-pub BreaksOff-last : {T A E : Type 0} (contents : T → Option (List ℕ)) (a b c : Tally T) (x : A) (front : List ℕ) (k : ℕ)
+pub BreaksOff-last : {T A E : Type 0} (contents : T → Option (List ℕ)) (a b c : Tally T) (x : A) (front file : List ℕ) (k : ℕ)
     (tests : List (List Section)) (outcomes : List Outcome) → AreOutcomes tests outcomes
-    → Writes {A = A} {E = E} contents a b (Ok x) (front ++ tests_text k tests outcomes) → Keeps (contents b.inner) (contents c.inner)
-    → c.failures ≡ one_more b.failures → BreaksOff contents Write a c front k tests
-BreaksOff-last contents a b c x front k tests outcomes come w kept failed =
-    let text = front ++ tests_text k tests outcomes in
+    → Writes {A = A} {E = E} contents a b (Ok x) (front ++ tests_text file k tests outcomes) → Keeps (contents b.inner) (contents c.inner)
+    → c.failures ≡ one_more b.failures → BreaksOff contents Write a c front file k tests
+BreaksOff-last contents a b c x front file k tests outcomes come w kept failed =
+    let text = front ++ tests_text file k tests outcomes in
     record {
       done = tests;
       left = [];

@@ -2,7 +2,7 @@
 use Rattle.std.proofs.Common.{ℕ, ◌≡◌, ◌<◌, ◌+◌, true, false, List, [], ◌∷◌, ◌++◌, append_assoc, drop, length, get_or, refl, sym, ap, ◌∙◌, arith}
 use Rattle.std.proofs.lemmas.List.{drop_more}
 use Rattle.bpf_suite.specs.Faults.{fault_at, first_fault, or_next, same_test}
-use Rattle.bpf_suite.specs.Files.{begins_name, named, or_alone, own_of, with_shared}
+use Rattle.bpf_suite.specs.Files.{begins_name, named, or_alone, own_of, tests, until_name, with_shared}
 use Rattle.bpf_suite.specs.Kinds.{is_name}
 use Rattle.bpf_suite.specs.declared.section.Section.{Section}
 
@@ -41,6 +41,14 @@ pub or_alone-some : (found : List (List Section)) (shared : List Section) (tests
     → found ≡ or_alone shared tests
 or_alone-some found shared [] e some = absurd (let long = ap length e in omega (arith, some, long))
 or_alone-some found shared (test ∷ tests) e some = e
+
+-- a file has a test
+or_alone-long : (shared : List Section) (found : List (List Section)) → 0 < length (or_alone shared found)
+or_alone-long shared [] = omega arith
+or_alone-long shared (test ∷ more) = omega arith
+
+pub tests-some : (s : List Section) → 0 < length (tests s)
+tests-some s = or_alone-long (until_name s) (named s)
 
 -- the first fault from a section on
 pub first_fault-at : (shared earlier earlier' sections : List Section) (at : ℕ) (d : Section) → at < length sections

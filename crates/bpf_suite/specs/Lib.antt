@@ -5,5 +5,6 @@ pub mod Files
 pub mod Kinds
 pub mod Outcomes
 pub mod Reports
+pub mod Shown
 pub mod Tests
 pub mod Verdicts

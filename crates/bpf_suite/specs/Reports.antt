@@ -9,6 +9,7 @@ use Rattle.counted_io.specs.Writing.{Writes}
 use Rattle.bpf_suite.specs.Bodies.{trimmed}
 use Rattle.bpf_suite.specs.Faults.{has_part}
 use Rattle.bpf_suite.specs.Outcomes.{Comes, Outcome, cell_name, outcome_text}
+use Rattle.bpf_suite.specs.Shown.{quoted}
 use Rattle.bpf_suite.specs.Tests.{first_line, section_for, setting, title}
 use Rattle.bpf_suite.specs.Verdicts.{cell_size, expected_text, passes, wrong_cells}
 use Rattle.bpf_suite.specs.declared.cells.CellLine.{CellLine}
@@ -53,10 +54,14 @@ abbrev pub cells_text : List CellLine → Outcome → List ℕ
 cells_text wrong (Ok x) = flat_map (cell_text x) wrong
 cells_text wrong (Err refusal) = []
 
-unfoldable pub diagnosis : List Section → Outcome → List ℕ
-diagnosis test outcome =
+-- The line to be typed that makes files of a test's parts and says how it is debugged: by the name of its file, and its own.
+unfoldable pub show_line : List ℕ → List ℕ → List ℕ
+show_line file name = codes "# debug: bpfdb-show " ++ quoted name ++ codes " " ++ quoted file ++ codes "\n"
+
+unfoldable pub diagnosis : List ℕ → List Section → Outcome → List ℕ
+diagnosis file test outcome =
     codes "# the test in line " ++ decimal (first_line test) ++ codes "\n# came: " ++ outcome_text outcome ++ codes "\n# wanted: " ++ wanted test ++ codes "\n"
-    ++ cells_text (wrong_cells test outcome) outcome
+    ++ cells_text (wrong_cells test outcome) outcome ++ show_line file (title test)
 
 -- The lines of a test.
 abbrev pub verdict_word : Bool → List ℕ
@@ -66,18 +71,18 @@ verdict_word false = codes "not ok "
 abbrev pub verdict_text : Bool → ℕ → List Section → List ℕ
 verdict_text passed k test = verdict_word passed ++ decimal k ++ named_text (title test) ++ codes "\n"
 
-abbrev pub report_text : Bool → ℕ → List Section → Outcome → List ℕ
-report_text true k test outcome = verdict_text true k test
-report_text false k test outcome = verdict_text false k test ++ diagnosis test outcome
+abbrev pub report_text : List ℕ → Bool → ℕ → List Section → Outcome → List ℕ
+report_text file true k test outcome = verdict_text true k test
+report_text file false k test outcome = verdict_text false k test ++ diagnosis file test outcome
 
-abbrev pub test_text : ℕ → List Section → Outcome → List ℕ
-test_text k test outcome = report_text (passes test outcome) k test outcome
+abbrev pub test_text : List ℕ → ℕ → List Section → Outcome → List ℕ
+test_text file k test outcome = report_text file (passes test outcome) k test outcome
 
--- The lines of tests, the first of which has a number.
-abbrev pub tests_text : ℕ → List (List Section) → List Outcome → List ℕ
-tests_text k [] outcomes = []
-tests_text k (test ∷ tests) [] = []
-tests_text k (test ∷ tests) (outcome ∷ outcomes) = test_text k test outcome ++ tests_text (one_more k) tests outcomes
+-- The lines of a file's tests, the first of which has a number.
+abbrev pub tests_text : List ℕ → ℕ → List (List Section) → List Outcome → List ℕ
+tests_text file k [] outcomes = []
+tests_text file k (test ∷ tests) [] = []
+tests_text file k (test ∷ tests) (outcome ∷ outcomes) = test_text file k test outcome ++ tests_text file (one_more k) tests outcomes
 
 -- Whether all pass.
 abbrev pub all_pass : List (List Section) → List Outcome → Bool
@@ -97,17 +102,17 @@ WritesUntil contents Memory old new text = Writes {A = Unit {0}} {E = SuiteFault
 WritesUntil contents Write old new text = Writes {A = Unit {0}} {E = SuiteFault} contents old new (Err Write) text
 
 -- A run of tests, the first of which has a number, breaks off: behind a text stand the reports on the first ones, which came to these outcomes.
-pub record BreaksOff {T : Type 0} (contents : T → Option (List ℕ)) (why : SuiteFault) (old new : Tally T) (front : List ℕ) (k : ℕ)
+pub record BreaksOff {T : Type 0} (contents : T → Option (List ℕ)) (why : SuiteFault) (old new : Tally T) (front file : List ℕ) (k : ℕ)
     (tests : List (List Section)) : Type 0 where
   pub done : List (List Section)
   pub left : List (List Section)
   pub all : tests ≡ done ++ left
   pub outcomes : List Outcome
   pub come : AreOutcomes done outcomes
-  pub written : WritesUntil contents why old new (front ++ tests_text k done outcomes)
+  pub written : WritesUntil contents why old new (front ++ tests_text file k done outcomes)
 
 -- A test at which a run breaks off: nothing was written of it, or its report in part.
-abbrev pub BreaksAt : {T : Type 0} → (T → Option (List ℕ)) → SuiteFault → Tally T → Tally T → ℕ → List Section → Type 0
-BreaksAt contents Memory old new k test = new ≡ old
-BreaksAt contents Write old new k test =
-    (outcome : Outcome) × Comes (setting test) outcome × WritesUntil contents Write old new (test_text k test outcome)
+abbrev pub BreaksAt : {T : Type 0} → (T → Option (List ℕ)) → SuiteFault → Tally T → Tally T → List ℕ → ℕ → List Section → Type 0
+BreaksAt contents Memory old new file k test = new ≡ old
+BreaksAt contents Write old new file k test =
+    (outcome : Outcome) × Comes (setting test) outcome × WritesUntil contents Write old new (test_text file k test outcome)

@@ -53,7 +53,7 @@ pub fn trimmed(text: &[u8]) -> &[u8]
 }
 
 /// Whether a byte can be printed in a line.
-fn is_shown(byte: u8) -> bool
+pub fn is_shown(byte: u8) -> bool
     ensures { result ≡ is_shown byte }
 {
     32 <= byte && byte != 127

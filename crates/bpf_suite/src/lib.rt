@@ -10,6 +10,7 @@ mod refusal;
 mod report;
 mod section;
 mod setting;
+mod shown;
 mod suite;
 mod test;
 mod values;
@@ -17,5 +18,6 @@ mod verdict;
 
 pub use fault::{FileFault, SectionFault};
 pub use report::{SuiteFault, run_tests, write_plan};
+pub use shown::WordsFault;
 pub use suite::Suite;
 pub use test::{Test, choose};

@@ -2,7 +2,7 @@
 ghost use Rattle.std.specs.Prelude.{◌≡◌, ◌&&◌, List, [], IfErr, IfOk};
 ghost use Rattle.counted_io.specs.Writing.{Writes, WritesAfter};
 ghost use Rattle.bpf_suite.specs.Outcomes.{Comes, Outcome};
-ghost use Rattle.bpf_suite.specs.Reports.{AreOutcomes, BreaksAt, BreaksOff, after_word, all_pass, diagnosis, named_text, plan, report_text, test_text, tests_text, verdict_text, verdict_word, wanted, wanted_outcome};
+ghost use Rattle.bpf_suite.specs.Reports.{AreOutcomes, BreaksAt, BreaksOff, after_word, all_pass, diagnosis, named_text, plan, report_text, show_line, test_text, tests_text, verdict_text, verdict_word, wanted, wanted_outcome};
 ghost use Rattle.bpf_suite.specs.Tests.{setting};
 ghost use Rattle.bpf_suite.specs.Verdicts.{passes, wrong_cells};
 
@@ -12,6 +12,7 @@ use crate::outcome::{outcome_of, put_outcome};
 use crate::refusal::Refusal;
 use crate::section::Text;
 use crate::setting::Setting;
+use crate::shown::put_quoted;
 use crate::test::Test;
 use crate::values::{put_cells, wrong_cells};
 use crate::verdict::{passes, put_expected};
@@ -38,9 +39,11 @@ pub fn write_plan<W: Write>(writer: &mut Counted<W>, tests: usize) -> Result<(),
     put(writer, counted, b"\n")
 }
 
-/// Runs tests, the first of which has a number, and reports on each. Answers whether all passed.
+/// Runs tests of a file, the first of which has a number, and reports on each. Answers whether all
+/// passed. The report on a test that fails names the file.
 pub fn run_tests<W: Write>(
     alloc: Global,
+    file: &[u8],
     tests: &[Test<'_, '_>],
     first: u64,
     writer: &mut Counted<W>,
@@ -49,14 +52,14 @@ pub fn run_tests<W: Write>(
         × AreOutcomes tests.now outcomes
         × (passed ≡ all_pass tests.now outcomes)
         × Writes W.contents writer.old writer.new result
-        (tests_text first tests.now outcomes)) }
+        (tests_text file.now first tests.now outcomes)) }
     ensures err { IfErr result (λ why.
-        BreaksOff W.contents why writer.old writer.new [] first tests.now) }
+        BreaksOff W.contents why writer.old writer.new [] file.now first tests.now) }
 {
     let mut passed = true;
     let mut number = first;
     for test in tests {
-        match report(alloc, test, number, writer) {
+        match report(alloc, file, test, number, writer) {
             Ok(ok) => {
                 passed = both(passed, ok);
                 number = number.saturating_add(1);
@@ -76,15 +79,17 @@ fn both(one: bool, other: bool) -> bool
 /// Runs a test, and reports on it. Answers whether it passed.
 fn report<W: Write>(
     alloc: Global,
+    file: &[u8],
     test: &Test<'_, '_>,
     number: u64,
     writer: &mut Counted<W>,
 ) -> Result<bool, SuiteFault>
     ensures ok { IfOk result (λ passed. (outcome : Outcome) × Comes (setting test.now) outcome
         × (passed ≡ passes test.now outcome)
-        × Writes W.contents writer.old writer.new result (test_text number test.now outcome)) }
+        × Writes W.contents writer.old writer.new result
+        (test_text file.now number test.now outcome)) }
     ensures err { IfErr result (λ why.
-        BreaksAt W.contents why writer.old writer.new number test.now) }
+        BreaksAt W.contents why writer.old writer.new file.now number test.now) }
 {
     let outcome = match test_outcome(alloc, test) {
         Ok(outcome) => outcome,
@@ -98,7 +103,15 @@ fn report<W: Write>(
         Ok(passed) => passed,
         Err(_) => return Err(SuiteFault::Memory),
     };
-    match write_test(writer, passed, number, test, &outcome, wrong.as_slice()) {
+    match write_test(
+        writer,
+        file,
+        passed,
+        number,
+        test,
+        &outcome,
+        wrong.as_slice(),
+    ) {
         Ok(()) => Ok(passed),
         Err(WriteFault) => Err(SuiteFault::Write),
     }
@@ -138,6 +151,7 @@ fn test_outcome(alloc: Global, test: &Test<'_, '_>) -> Result<Result<Cpu, Refusa
 /// Writes the lines of a test.
 fn write_test<W: Write>(
     writer: &mut Counted<W>,
+    file: &[u8],
     passed: bool,
     number: u64,
     test: &Test<'_, '_>,
@@ -146,13 +160,13 @@ fn write_test<W: Write>(
 ) -> Result<(), WriteFault>
     requires { wrong.now ≡ wrong_cells test.now outcome.now }
     ensures { Writes W.contents writer.old writer.new result
-        (report_text passed number test.now outcome.now) }
+        (report_text file.now passed number test.now outcome.now) }
 {
     if passed {
         put_verdict(writer, Ok(()), true, number, test)
     } else {
         let told = put_verdict(writer, Ok(()), false, number, test);
-        put_diagnosis(writer, told, test, outcome, wrong)
+        put_diagnosis(writer, told, file, test, outcome, wrong)
     }
 }
 
@@ -206,17 +220,18 @@ fn put_title<W: Write>(
     }
 }
 
-/// Writes what came of a test, what was wanted, and which cells are wrong.
+/// Writes what came of a test, what was wanted, which cells are wrong, and how it is debugged.
 fn put_diagnosis<W: Write>(
     writer: &mut Counted<W>,
     so_far: Result<(), WriteFault>,
+    file: &[u8],
     test: &Test<'_, '_>,
     outcome: &Result<Cpu, Refusal>,
     wrong: &[CellLine<'_>],
 ) -> Result<(), WriteFault>
     requires { wrong.now ≡ wrong_cells test.now outcome.now }
     ensures { WritesAfter W.contents writer.old so_far writer.new result
-        (diagnosis test.now outcome.now) }
+        (diagnosis file.now test.now outcome.now) }
 {
     let begun = put(writer, so_far, b"# the test in line ");
     let placed = put_decimal(writer, begun, test.first_line() as u64);
@@ -225,7 +240,25 @@ fn put_diagnosis<W: Write>(
     let followed = put(writer, told, b"\n# wanted: ");
     let said = put_wanted(writer, followed, test);
     let ended = put(writer, said, b"\n");
-    put_cells(writer, ended, outcome, wrong)
+    let celled = put_cells(writer, ended, outcome, wrong);
+    put_show_line(writer, celled, file, test.title())
+}
+
+/// Writes the line to be typed that makes files of a test's parts, by its name and its file's.
+fn put_show_line<W: Write>(
+    writer: &mut Counted<W>,
+    so_far: Result<(), WriteFault>,
+    file: &[u8],
+    title: &[u8],
+) -> Result<(), WriteFault>
+    ensures { WritesAfter W.contents writer.old so_far writer.new result
+        (show_line file.now title.now) }
+{
+    let begun = put(writer, so_far, b"# debug: bpfdb-show ");
+    let named = put_quoted(writer, begun, title);
+    let parted = put(writer, named, b" ");
+    let filed = put_quoted(writer, parted, file);
+    put(writer, filed, b"\n")
 }
 
 /// Writes what is wanted of a test.

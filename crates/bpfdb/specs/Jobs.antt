@@ -10,9 +10,10 @@ IsNamed None bytes given = given ≡ None
 IsNamed (Some path) bytes None = ⊥
 IsNamed (Some path) bytes (Some given) = given.now ≡ bytes
 
--- It has the plan's subcommand and options, the bytes of FILE, those of PATH, and those of the script, if there is one.
+-- It has the plan's subcommand and options, the name of FILE and its bytes, those of PATH, and those of the script, if there is one.
 pub record IsJobOf (plan : Plan) (of_file of_path of_script : List ℕ) (job : Job) : Type 0 where
   pub subcommand : job.subcommand ≡ plan.subcommand
+  pub name : job.name.now ≡ plan.file.now
   pub file : job.file.now ≡ of_file
   pub context : job.context.now ≡ of_path
   pub script : IsNamed plan.script of_script job.script

@@ -11,6 +11,7 @@ pub fn job_of<'a>(plan: &Plan<'a>, file: &'a [u8], context: &'a [u8], script: &'
 {
     Job {
         subcommand: plan.subcommand,
+        name: plan.file,
         file,
         context,
         script: match plan.script {

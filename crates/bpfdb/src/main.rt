@@ -41,6 +41,7 @@ const FIRST_PROGRAM: &[u8] = &[
 /// The job of that, with every option absent.
 const FIRST_JOB: Job<'static> = Job {
     subcommand: Subcommand::Debug,
+    name: "",
     file: FIRST_PROGRAM,
     context: &[],
     script: None,

@@ -103,6 +103,10 @@ addresses_rule = record (new_rule (codes "addresses")) { long = Some (codes "add
 abbrev pub only_rule : Rule
 only_rule = record (new_rule (codes "only")) { long = Some (codes "only"); value_names = 1 }
 
+-- `--show PART`: a part of the one test that is asked for.
+abbrev pub show_rule : Rule
+show_rule = record (new_rule (codes "show")) { long = Some (codes "show"); value_names = 1 }
+
 -- WHAT, behind FILE: what is asked about.
 abbrev pub what_rule : Rule
 what_rule = record (new_rule (codes "what")) { index = Some 2; value_names = 1 }
@@ -140,7 +144,7 @@ abbrev pub link_app : App
 link_app = with_rule (with_rule (with_rule (with_rule (with_rule (new_app (codes "link")) section_rule) entry_rule) stub_rule) as_compiled_rule) file_rule
 
 abbrev pub test_app : App
-test_app = with_rule (with_rule (new_app (codes "test")) only_rule) file_rule
+test_app = with_rule (with_rule (with_rule (new_app (codes "test")) only_rule) show_rule) file_rule
 
 -- `gdb` opens a session as `debug` does, over a larger journal.
 abbrev pub gdb_app : App

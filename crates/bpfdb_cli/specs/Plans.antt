@@ -15,8 +15,10 @@ use Rattle.bpfdb_limits.specs.Limits.{IsLimit, default_journal, default_limit, g
 use Rattle.bpfdb_options.specs.Lines.{default_lines}
 use Rattle.bpfdb_options.specs.Registers.{registers_name}
 use Rattle.bpfdb_options.specs.Subcommands.{subcommand_name}
+use Rattle.bpfdb_options.specs.TestParts.{test_part_name}
 use Rattle.bpfdb_options.specs.declared.registers.Registers.{Registers}
 use Rattle.bpfdb_options.specs.declared.registers.Registers.TheVariants.{X86}
+use Rattle.bpfdb_options.specs.declared.test_part.TestPart.{TestPart}
 
 -- The number of an option, the default where the option has no text.
 abbrev pub number_or : ℕ → Option Text → ℕ
@@ -31,6 +33,12 @@ is_given text = option_map_or (λ t. bytes_eq t (codes "true")) text false
 abbrev pub NamesRegisters : Option Text → Registers → Type 0
 NamesRegisters None r = r ≡ X86
 NamesRegisters (Some text) r = registers_name r ≡ text
+
+-- The part of a test of that name, none where the option has no text.
+abbrev pub NamesPart : Option Text → Option TestPart → Type 0
+NamesPart None part = part ≡ None
+NamesPart (Some text) None = ⊥
+NamesPart (Some text) (Some part) = test_part_name part ≡ text
 
 -- A plan says what a subcommand's matches say.
 pub record Says (name : Text) (rows : List Row) (plan : Plan) : Type 0 where
@@ -54,6 +62,7 @@ pub record Says (name : Text) (rows : List Row) (plan : Plan) : Type 0 where
   pub lines : plan.options.lines ≡ number_or default_lines (first_of (codes "lines") rows)
   pub addresses : plan.options.addresses ≡ is_given (first_of (codes "addresses") rows)
   pub only : option_map (λ s. s.now) plan.options.only ≡ first_of (codes "only") rows
+  pub show : NamesPart (first_of (codes "show") rows) plan.options.show
 
 -- A number that is given is one below 2^64.
 abbrev pub IsNumber : Option Text → Type 0

@@ -110,6 +110,7 @@ fn argument_of<'a>(alloc: Global, option: CliOption) -> Arg<'a>
             .action(ArgAction::SetTrue)
             .help(help::ADDRESSES),
         CliOption::Only => text_option(alloc, "only", "NAME", help::ONLY, help::ONLY_LONG),
+        CliOption::Show => text_option(alloc, "show", "PART", help::SHOW, help::SHOW_LONG),
         CliOption::What => Arg::new(alloc, "what")
             .index(2)
             .value_name("WHAT")

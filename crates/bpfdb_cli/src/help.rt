@@ -335,6 +335,16 @@ pub const ONLY_LONG: &str =
     "Runs the tests of this name alone, all that have it; they are numbered from 1. If there is
 none, no test runs, and the exit status is 2. Example: --only 'a short header is dropped'";
 
+/// `--show PART`.
+pub const SHOW: &str = "Shows a part of one test: program, context, options or script";
+
+pub const SHOW_LONG: &str =
+    "Shows a part of one test, and runs none: program (its raw words), context (its bytes),
+options (those that its program needs, one a line) or script (the commands that lead to
+where its program ends). The test is the one that --only names, or the only one of FILE.
+`bpfdb-show NAME FILE` makes files of all four, and says how to debug the test.
+Example: --show program";
+
 /// WHAT.
 pub const WHAT: &str = "r0 to r9, or ADDRESS:COUNT; without it r0, or the address of a bad access";
 

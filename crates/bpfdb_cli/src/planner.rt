@@ -1,15 +1,15 @@
 //! From the words of a command line to a plan.
-ghost use Rattle.std.specs.Prelude.{◌≡◌, ◌<◌, ◌^◌, IfErr, IfNone, IfOk, IfSome, MatchOption, Some, List, map, option_map};
+ghost use Rattle.std.specs.Prelude.{◌≡◌, ◌<◌, ◌^◌, IfErr, IfNone, IfOk, IfSome, MatchOption, Option, Some, List, map, option_map};
 ghost use Rattle.std.specs.Str.Parse.{IsNumeral, digits_value, without_leading_plus};
 ghost use Rattle.clap.specs.Words.{Row, Text, first_of, found_of, rows_of, subcommand_rows_of};
 ghost use Rattle.bpfdb_limits.specs.Limits.{IsLimit};
 ghost use Rattle.bpfdb_cli.specs.Scaffolding.{AskAlike};
-ghost use Rattle.bpfdb_cli.specs.Plans.{HasKindIfTold, IsFaultOf, IsPlan, IsPlanOf, NamesRegisters, Says, Tells, is_given, number_or};
+ghost use Rattle.bpfdb_cli.specs.Plans.{HasKindIfTold, IsFaultOf, IsPlan, IsPlanOf, NamesPart, NamesRegisters, Says, Tells, is_given, number_or};
 
 use crate::command_line::command_line;
 use crate::plans::{Plan, PlanFault};
 use bpfdb_limits::{DEFAULT_JOURNAL, DEFAULT_LIMIT, GREATEST_COUNT, is_limit};
-use bpfdb_options::{DEFAULT_LINES, Options, Registers, Subcommand};
+use bpfdb_options::{DEFAULT_LINES, Options, Registers, Subcommand, TestPart};
 use clap::error::ErrorKind;
 use clap::{ArgMatches, Command, Error};
 use std::alloc::Global;
@@ -132,6 +132,10 @@ fn plan_in<'a>(name: &'a str, found: &ArgMatches<'a>) -> Option<Plan<'a>>
         Some(registers) => registers,
         None => return None,
     };
+    let show = match part_of(text_of(found, "show")) {
+        Some(show) => show,
+        None => return None,
+    };
     if !is_limit(limit) {
         return None;
     }
@@ -160,6 +164,7 @@ fn plan_in<'a>(name: &'a str, found: &ArgMatches<'a>) -> Option<Plan<'a>>
             lines,
             addresses: is_given(text_of(found, "addresses")),
             only: text_of(found, "only"),
+            show,
         },
     })
 }
@@ -173,6 +178,21 @@ fn registers_of(text: Option<&str>) -> Option<Registers>
     match text {
         None => Some(Registers::X86),
         Some(text) => Registers::named(text),
+    }
+}
+
+/// The part of a test of this name, none where none is named. None where no part has the name.
+fn part_of(text: Option<&str>) -> Option<Option<TestPart>>
+    ensures found { IfSome result (NamesPart (option_map (λ t. t.now) text.entry)) }
+    ensures none { IfNone result ((part : Option TestPart) →
+        NamesPart (option_map (λ t. t.now) text.entry) part → ⊥) }
+{
+    match text {
+        None => Some(None),
+        Some(text) => match TestPart::named(text) {
+            Some(part) => Some(Some(part)),
+            None => None,
+        },
     }
 }
 

@@ -40,6 +40,8 @@ pub(crate) enum CliOption {
     Addresses,
     /// `--only NAME`.
     Only,
+    /// `--show PART`.
+    Show,
     /// WHAT, behind FILE.
     What,
 }
@@ -183,7 +185,7 @@ pub(crate) const SUBCOMMANDS: [CliSubcommand<'static>; 11] = [
         about: help::TEST,
         long_about: help::TEST_LONG,
         example: help::TEST_EXAMPLE,
-        options: &[CliOption::Only],
+        options: &[CliOption::Only, CliOption::Show],
         file: help::TEST_FILE,
     },
 ];

@@ -2,7 +2,7 @@
 use Rattle.bpfdb_jobs.specs.Refusals.{Refuses, RefusesMachine, RefusesOrigin, RefusesProgram}
 use Rattle.bpfdb_jobs.specs.declared.job.Job.{Job}
 use Rattle.bpfdb_jobs.specs.declared.refusal.JobRefusal.{JobRefusal}
-use Rattle.bpfdb_jobs.specs.declared.refusal.JobRefusal.TheVariants.{Maps, Listing, Load, Open, Journal, What, Object, Tests, NoTest, Script}
+use Rattle.bpfdb_jobs.specs.declared.refusal.JobRefusal.TheVariants.{Maps, Listing, Load, Open, Journal, What, Object, Tests, NoTest, ManyTests, Script}
 
 -- a refusal of a program is one of a machine on it, and that one of a session over it
 pub program-machine : (job : Job) (refusal : JobRefusal) → RefusesProgram job refusal → RefusesMachine job refusal
@@ -16,6 +16,7 @@ program-machine job (What fault) p = absurd p
 program-machine job (Object fault name) p = absurd p
 program-machine job (Tests fault line) p = absurd p
 program-machine job (NoTest name) p = absurd p
+program-machine job ManyTests p = absurd p
 
 pub machine-session : (job : Job) (refusal : JobRefusal) → RefusesMachine job refusal → Refuses job refusal
 machine-session job (Maps fault) p = p
@@ -28,6 +29,7 @@ machine-session job (What fault) p = absurd p
 machine-session job (Object fault name) p = absurd p
 machine-session job (Tests fault line) p = absurd p
 machine-session job (NoTest name) p = absurd p
+machine-session job ManyTests p = absurd p
 
 -- a refusal of a session is one of `origin`
 pub session-origin : (job : Job) (refusal : JobRefusal) → Refuses job refusal → RefusesOrigin job refusal
@@ -41,3 +43,4 @@ session-origin job (What fault) p = absurd p
 session-origin job (Object fault name) p = p
 session-origin job (Tests fault line) p = p
 session-origin job (NoTest name) p = p
+session-origin job ManyTests p = p

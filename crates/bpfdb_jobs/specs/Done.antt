@@ -4,7 +4,7 @@ use Rattle.counted_io.specs.Counted.{Tally}
 use Rattle.bpfdb_jobs.specs.Connections.{BreaksConnection, ServesConnection}
 use Rattle.bpfdb_jobs.specs.Endings.{EndsPrinted, EndsSession}
 use Rattle.bpfdb_jobs.specs.Scripts.{Exchanges, Replies, RepliesUntil}
-use Rattle.bpfdb_jobs.specs.Suites.{EndsTests}
+use Rattle.bpfdb_jobs.specs.Shown.{EndsTest}
 use Rattle.bpfdb_jobs.specs.declared.job.Job.{Job}
 use Rattle.bpfdb_options.specs.declared.subcommand.Subcommand.{Subcommand}
 use Rattle.bpfdb_options.specs.declared.subcommand.Subcommand.TheVariants.{Debug, Gdb, Test}
@@ -24,11 +24,11 @@ module _ {R W E : Type 0} (remaining : R → Option (List ℕ)) (contents : W �
       (BreaksConnection remaining contents job reader reader' writer writer')
       reader reader' writer writer' errors errors' status
 
-  -- Each other subcommand prints, and reads nothing; `test` reports on tests.
+  -- Each other subcommand prints, and reads nothing; `test` reports on tests, or shows a part of one.
   abbrev pub DoesJob : Subcommand → Job → Tally R → Tally R → Tally W → Tally W → Tally E → Tally E → ℕ → Type 0
   DoesJob Debug job = Debugs job
   DoesJob Gdb job = ServesGdb job
   DoesJob Test job = λ reader reader' writer writer' errors errors' status.
-      (reader' ≡ reader) × EndsTests contents lines job writer writer' errors errors' status
+      (reader' ≡ reader) × EndsTest contents lines job.options.show job writer writer' errors errors' status
   DoesJob subcommand job = λ reader reader' writer writer' errors errors' status.
       (reader' ≡ reader) × EndsPrinted contents lines subcommand job writer writer' errors errors' status

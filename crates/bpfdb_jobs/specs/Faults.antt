@@ -17,7 +17,7 @@ use Rattle.bpfdb_commands.specs.Refusals as commands
 use Rattle.bpfdb_jobs.specs.declared.fault.JobFault.{JobFault}
 use Rattle.bpfdb_jobs.specs.declared.fault.JobFault.TheVariants.{Unreadable, NotText, Refused, Input, Output, Memory, StepLimit}
 use Rattle.bpfdb_jobs.specs.declared.refusal.JobRefusal.{JobRefusal}
-use Rattle.bpfdb_jobs.specs.declared.refusal.JobRefusal.TheVariants.{Maps, Listing, Load, Open, Journal, What, Object, Tests, NoTest, Script}
+use Rattle.bpfdb_jobs.specs.declared.refusal.JobRefusal.TheVariants.{Maps, Listing, Load, Open, Journal, What, Object, Tests, NoTest, ManyTests, Script}
 
 -- A name as it is shown: each control byte as `\x` and two hexadecimal digits.
 abbrev pub shown_byte : ℕ → List ℕ
@@ -103,6 +103,7 @@ refusal_line (Object fault name) = object_line fault name.now
 refusal_line (Tests fault line) =
     refusal_text (codes "refused T") (suite.fault_number fault) (placed (codes " at line ") (Some line)) (suite.fault_text fault)
 refusal_line (NoTest name) = no_test_line name.now
+refusal_line ManyTests = codes "refused T8: more than one test is asked for\n"
 
 -- A file that can't be read.
 abbrev pub unreadable_line : List ℕ → List ℕ

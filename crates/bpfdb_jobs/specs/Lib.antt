@@ -9,5 +9,6 @@ pub mod Openings
 pub mod Origins
 pub mod Refusals
 pub mod Scripts
+pub mod Shown
 pub mod Suites
 pub mod Tellings

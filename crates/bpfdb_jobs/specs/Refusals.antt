@@ -22,7 +22,7 @@ use Rattle.bpfdb_jobs.specs.Jobs.{HasMaps, HasWords, IsProgramOf, Opens, OpensSe
 use Rattle.bpfdb_jobs.specs.Origins.{Arrival, RefusesWhat}
 use Rattle.bpfdb_jobs.specs.declared.job.Job.{Job}
 use Rattle.bpfdb_jobs.specs.declared.refusal.JobRefusal.{JobRefusal}
-use Rattle.bpfdb_jobs.specs.declared.refusal.JobRefusal.TheVariants.{Maps, Listing, Load, Open, Journal, What, Object, Tests, NoTest, Script}
+use Rattle.bpfdb_jobs.specs.declared.refusal.JobRefusal.TheVariants.{Maps, Listing, Load, Open, Journal, What, Object, Tests, NoTest, ManyTests, Script}
 use Rattle.bpfdb_options.specs.declared.subcommand.Subcommand.{Subcommand}
 use Rattle.bpfdb_options.specs.declared.subcommand.Subcommand.TheVariants.{Run, Trace, Debug, Origin, Gdb, Asm, Disasm, Lines, Check, Link, Test}
 
@@ -40,6 +40,7 @@ Refuses job (What fault) = ⊥
 Refuses job (Object fault name) = ⊥
 Refuses job (Tests fault line) = ⊥
 Refuses job (NoTest name) = ⊥
+Refuses job ManyTests = ⊥
 
 -- Those that a subcommand looks at: `asm` and `lines` their listing alone and `link` its object, a program has no context, a run no journal.
 abbrev pub RefusesProgram : Job → JobRefusal → Type 0

@@ -21,9 +21,9 @@ use Rattle.bpfdb_jobs.specs.declared.job.Job.{Job}
 use Rattle.bpfdb_jobs.specs.declared.refusal.JobRefusal.{JobRefusal}
 use Rattle.bpfdb_jobs.specs.declared.refusal.JobRefusal.TheVariants.{Tests}
 
--- The report on tests, and the exit status: 1 where one fails.
-abbrev pub report : List (List Section) → List Outcome → List ℕ
-report ts outcomes = plan (length ts) ++ tests_text 1 ts outcomes
+-- The report on tests of a file, and the exit status: 1 where one fails.
+abbrev pub report : List ℕ → List (List Section) → List Outcome → List ℕ
+report file ts outcomes = plan (length ts) ++ tests_text file 1 ts outcomes
 
 abbrev pub status_of : Bool → ℕ
 status_of true = 0
@@ -54,13 +54,13 @@ fault_of_suite suite.Write = fault.Output
 pub data EndsTests {W E : Type 0} (contents : W → Option (List ℕ)) (lines : E → Option (List ℕ)) (job : Job) (writer writer' : Tally W)
     (errors errors' : Tally E) (status : ℕ) : Type 0 where
   Reported : (asked : List (List Section)) (outcomes : List Outcome) → AreTestsOf job asked → AreOutcomes asked outcomes
-      → Gets contents writer writer' (Some (report asked outcomes)) → errors' ≡ errors → status ≡ status_of (all_pass asked outcomes)
+      → Gets contents writer writer' (Some (report job.name.now asked outcomes)) → errors' ≡ errors → status ≡ status_of (all_pass asked outcomes)
       → EndsTests contents lines job writer writer' errors errors' status
   Refused : (refusal : JobRefusal) → RefusesTests job refusal → writer' ≡ writer → Told lines errors errors' (line_of (fault.Refused refusal))
       → status ≡ 2 → EndsTests contents lines job writer writer' errors errors' status
   Exhausted : writer' ≡ writer → Told lines errors errors' (line_of fault.Memory) → status ≡ 2
       → EndsTests contents lines job writer writer' errors errors' status
   BrokenOff : (why : SuiteFault) (asked : List (List Section)) → AreTestsOf job asked
-      → BreaksOff contents why writer writer' (plan (length asked)) 1 asked
+      → BreaksOff contents why writer writer' (plan (length asked)) job.name.now 1 asked
       → Told lines errors errors' (line_of (fault_of_suite why)) → status ≡ 2
       → EndsTests contents lines job writer writer' errors errors' status

@@ -5,6 +5,8 @@ use bpfdb_options::{Options, Subcommand};
 #[derive(Clone, Copy)]
 pub struct Job<'a> {
     pub subcommand: Subcommand,
+    /// FILE, as the command line names it.
+    pub name: &'a str,
     /// FILE's bytes: the program's raw little-endian words, its listing, or an object that holds
     /// it.
     pub file: &'a [u8],

@@ -18,6 +18,7 @@ mod refusal;
 mod report;
 mod run;
 mod script;
+mod show;
 mod suite;
 mod trace;
 

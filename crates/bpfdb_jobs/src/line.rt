@@ -82,6 +82,13 @@ fn put_refusal<E: Write>(
         JobRefusal::Object(fault, name) => put_object(errors, so_far, fault, name),
         JobRefusal::Tests(fault, line) => put_tests(errors, so_far, fault, *line),
         JobRefusal::NoTest(name) => put_no_test(errors, so_far, name),
+        JobRefusal::ManyTests => {
+            put(
+                errors,
+                so_far,
+                b"refused T8: more than one test is asked for\n",
+            )
+        }
     }
 }
 

@@ -32,4 +32,6 @@ pub enum JobRefusal<'a> {
     Tests(SectionFault, usize),
     /// No test of the file has the name that is asked for.
     NoTest(&'a str),
+    /// More than one test is asked for, where one can be shown.
+    ManyTests,
 }

@@ -5,6 +5,7 @@ ghost use Rattle.bpf_suite.specs.Reports.{AreOutcomes, BreaksOff, all_pass, plan
 ghost use Rattle.bpfdb_jobs.specs.Endings.{Told};
 ghost use Rattle.bpfdb_jobs.specs.Faults.{line_of};
 ghost use Rattle.bpfdb_jobs.specs.Refusals.{LacksName};
+ghost use Rattle.bpfdb_jobs.specs.Shown.{EndsTest};
 ghost use Rattle.bpfdb_jobs.specs.Suites.{AreAsked, EndsTests, fault_of_file, fault_of_suite, report, status_of};
 ghost use Rattle.counted_io.specs.Writing.{Writes};
 
@@ -12,13 +13,31 @@ use crate::fault::JobFault;
 use crate::job::Job;
 use crate::refusal::JobRefusal;
 use crate::report::give_up;
+use crate::show::show_job;
 use bpf_suite::{FileFault, Suite, SuiteFault, Test, choose, run_tests, write_plan};
 use counted_io::{Counted, WriteFault};
 use std::alloc::Global;
 use std::io::Write;
 
-/// Runs the tests of a file, or those of a name, and reports on each.
+/// Runs the tests of a file, or those of a name, and reports on each, or shows a part of one.
 pub fn test_job<W: Write, E: Write>(
+    alloc: Global,
+    job: &Job<'_>,
+    writer: &mut Counted<W>,
+    errors: &mut Counted<E>,
+) -> u8
+    ensures does { EndsTest W.contents E.contents job.now.options.show job.now writer.old
+        writer.new errors.old errors.new result }
+    ensures status { result ≤ 2 }
+{
+    match job.options.show {
+        None => report_job(alloc, job, writer, errors),
+        Some(part) => show_job(alloc, job, part, writer, errors),
+    }
+}
+
+/// Runs the tests of a file, or those of a name, and reports on each.
+fn report_job<W: Write, E: Write>(
     alloc: Global,
     job: &Job<'_>,
     writer: &mut Counted<W>,
@@ -40,14 +59,14 @@ pub fn test_job<W: Write, E: Write>(
         Ok(asked) => asked,
         Err(refusal) => return give_up(errors, &JobFault::Refused(refusal)),
     };
-    match run_suite(alloc, asked.as_slice(), writer) {
+    match run_suite(alloc, job.name.as_bytes(), asked.as_slice(), writer) {
         Ok(passed) => status_of(passed),
         Err(why) => give_up(errors, &fault_of_suite(why)),
     }
 }
 
 /// The tests that are asked for, of all of a file.
-fn asked_tests<'b, 'a, 'n>(
+pub fn asked_tests<'b, 'a, 'n>(
     only: Option<&'n str>,
     mut all: Vec<Test<'b, 'a>>,
 ) -> Result<Vec<Test<'b, 'a>>, JobRefusal<'n>>
@@ -76,7 +95,7 @@ fn fault_of_suite<'a>(why: SuiteFault) -> JobFault<'a>
 }
 
 /// Tells why no test is run of a file. Answers the exit status, 2.
-fn refuse<E: Write>(errors: &mut Counted<E>, fault: FileFault) -> u8
+pub fn refuse<E: Write>(errors: &mut Counted<E>, fault: FileFault) -> u8
     ensures value { result ≡ 2 }
     ensures told { Told E.contents errors.old errors.new (line_of (fault_of_file fault)) }
 {
@@ -95,20 +114,22 @@ fn status_of(passed: bool) -> u8
     if passed { 0 } else { 1 }
 }
 
-/// Writes the report on tests, and flushes. Answers whether all passed.
+/// Writes the report on tests of a file, and flushes. Answers whether all passed.
 fn run_suite<W: Write>(
     alloc: Global,
+    file: &[u8],
     tests: &[Test<'_, '_>],
     writer: &mut Counted<W>,
 ) -> Result<bool, SuiteFault>
     ensures ok { IfOk result (λ passed. (outcomes : List Outcome)
         × AreOutcomes tests.now outcomes
         × (passed ≡ all_pass tests.now outcomes)
-        × Writes W.contents writer.old writer.new result (report tests.now outcomes)) }
+        × Writes W.contents writer.old writer.new result (report file.now tests.now outcomes)) }
     ensures err { IfErr result (λ why.
-        BreaksOff W.contents why writer.old writer.new (plan (length tests.now)) 1 tests.now) }
+        BreaksOff W.contents why writer.old writer.new (plan (length tests.now)) file.now 1
+        tests.now) }
 {
-    let passed = match write_report(alloc, tests, writer) {
+    let passed = match write_report(alloc, file, tests, writer) {
         Ok(passed) => passed,
         Err(fault) => return Err(fault),
     };
@@ -121,21 +142,23 @@ fn run_suite<W: Write>(
 /// Writes how many tests there are, runs them, and reports on each. Answers whether all passed.
 fn write_report<W: Write>(
     alloc: Global,
+    file: &[u8],
     tests: &[Test<'_, '_>],
     writer: &mut Counted<W>,
 ) -> Result<bool, SuiteFault>
     ensures ok { IfOk result (λ passed. (outcomes : List Outcome)
         × AreOutcomes tests.now outcomes
         × (passed ≡ all_pass tests.now outcomes)
-        × Writes W.contents writer.old writer.new result (report tests.now outcomes)) }
+        × Writes W.contents writer.old writer.new result (report file.now tests.now outcomes)) }
     ensures err { IfErr result (λ why.
-        BreaksOff W.contents why writer.old writer.new (plan (length tests.now)) 1 tests.now) }
+        BreaksOff W.contents why writer.old writer.new (plan (length tests.now)) file.now 1
+        tests.now) }
 {
     match write_plan(writer, tests.len()) {
         Ok(()) => {}
         Err(WriteFault) => return Err(SuiteFault::Write),
     }
-    match run_tests(alloc, tests, 1, writer) {
+    match run_tests(alloc, file, tests, 1, writer) {
         Ok(passed) => Ok(passed),
         Err(fault) => Err(fault),
     }

@@ -1,3 +1,4 @@
 pub mod Lines
 pub mod Registers
 pub mod Subcommands
+pub mod TestParts

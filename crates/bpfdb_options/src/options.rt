@@ -1,5 +1,6 @@
 //! The options that say how a job is done.
 use crate::registers::Registers;
+use crate::test_part::TestPart;
 use bpfdb_limits::{DEFAULT_JOURNAL, DEFAULT_LIMIT, GREATEST_COUNT};
 
 /// The most lines of an answer where no number is given.
@@ -42,6 +43,8 @@ pub struct Options<'a> {
     pub addresses: bool,
     /// The name of the tests that are run; without it all are.
     pub only: Option<&'a str>,
+    /// The part that is shown of the one test that is asked for; without it tests are run.
+    pub show: Option<TestPart>,
 }
 
 /// The options where each is absent.
@@ -62,4 +65,5 @@ pub const NO_OPTIONS: Options<'static> = Options {
     lines: DEFAULT_LINES,
     addresses: false,
     only: None,
+    show: None,
 };

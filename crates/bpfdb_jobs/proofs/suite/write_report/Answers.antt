@@ -26,16 +26,16 @@ returns-in-Ok-run_tests-clause-ok g c =
       o.1,
       o.2,
       both g.W.Write.contents c.args.writer.now c.write_plan.new.writer c.run_tests.new.writer c.in-Ok-run_tests.passed (plan (length ts))
-          (tests_text 1 ts o.0) w.ok w.same o.3,
+          (tests_text c.args.file.now 1 ts o.0) w.ok w.same o.3,
     )
 
 pub returns-in-Err-run_tests-clause-err : goal.returns-in-Err-run_tests-clause-err
 returns-in-Err-run_tests-clause-err g c =
     let w = rw c.in-Ok.is at c.write_plan.ensures in
     BreaksOff-behind g.W.Write.contents c.args.writer.now c.write_plan.new.writer c.run_tests.new.writer _ c.in-Err-run_tests.fault
-    (plan (length c.args.tests.now)) 1 c.args.tests.now w c.in-Err-run_tests.ensures.err
+    (plan (length c.args.tests.now)) c.args.file.now 1 c.args.tests.now w c.in-Err-run_tests.ensures.err
 
 pub returns-in-Err-clause-err : goal.returns-in-Err-clause-err
 returns-in-Err-clause-err g c =
-    BreaksOff-first g.W.Write.contents c.args.writer.now c.write_plan.new.writer _ (plan (length c.args.tests.now)) 1 c.args.tests.now
+    BreaksOff-first g.W.Write.contents c.args.writer.now c.write_plan.new.writer _ (plan (length c.args.tests.now)) c.args.file.now 1 c.args.tests.now
     (rw c.in-Err.is at c.write_plan.ensures)

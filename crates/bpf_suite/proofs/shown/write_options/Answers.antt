@@ -1,0 +1,5 @@
+use Rattle.counted_io.proofs.Appending.{Writes-none}
+use Rattle.bpf_suite.proofs.shown.write_options.Goals as goal
+
+pub returns : goal.returns
+returns g c = c.put_options.ensures _ _ (Writes-none g.W.Write.contents c.args.writer.now _)

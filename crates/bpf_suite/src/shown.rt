@@ -1,0 +1,239 @@
+//! The parts of a test as files, for the debugger and for tools of others.
+ghost use Rattle.std.specs.Prelude.{◌≡◌, ◌*◌, ◌++◌, ◌≤◌, IfErr, IfOk, codes, flat_map, length};
+ghost use Rattle.hex.specs.Hex.{encode_lower};
+ghost use Rattle.counted_io.specs.Writing.{Writes, WritesAfter};
+ghost use Rattle.bpf_suite.specs.Bodies.{is_shown};
+ghost use Rattle.bpf_suite.specs.Outcomes.{HasWords};
+ghost use Rattle.bpf_suite.specs.Shown.{IsWordsFault, cell_command, maps_option, options_text, quoted, quoted_byte, script_text};
+ghost use Rattle.bpf_suite.specs.Tests.{has_listing, program};
+
+use crate::body::is_shown;
+use crate::cells::Cell;
+use crate::section::Text;
+use crate::test::Test;
+use bpf_text::{AsmFault, assemble};
+use counted_io::{Counted, WriteFault, put, put_decimal};
+use hex::encode_to_slice;
+use std::alloc::{AllocError, Global};
+use std::io::Write;
+
+/// As many digits as the longest value of a cell has, of 256 bytes.
+const MOST_DIGITS: usize = 512;
+
+/// Why a test's program has no words.
+#[derive(Clone, Copy)]
+pub enum WordsFault {
+    /// Its listing isn't one.
+    Listing(AsmFault),
+    /// Memory ran out.
+    Memory,
+}
+
+impl<'b, 'a> Test<'b, 'a> {
+    /// The words of its program: those of its listing, or as they stand. They aren't checked.
+    pub fn words(&self, alloc: Global) -> Result<Vec<u8>, WordsFault>
+        ensures ok { IfOk result (λ words.
+            HasWords (has_listing self.now) (program self.now) words.items) }
+        ensures err { IfErr result (IsWordsFault self.now) }
+    {
+        let program = match self.program(alloc) {
+            Ok(program) => program,
+            Err(_) => return Err(WordsFault::Memory),
+        };
+        if self.has_listing() {
+            match assemble(alloc, program.as_slice()) {
+                Ok(words) => Ok(words),
+                Err(fault) => Err(WordsFault::Listing(fault)),
+            }
+        } else {
+            Ok(program)
+        }
+    }
+
+    /// The options that its program needs, one a line: its maps and its limit of steps.
+    pub fn options_text(&self, alloc: Global) -> Result<Vec<u8>, AllocError>
+        ensures { IfOk result (λ text. text.items ≡ options_text self.now) }
+    {
+        let mut writer = Counted::new(Vec::new(alloc));
+        match write_options(&mut writer, self) {
+            Ok(()) => Ok(writer.into_inner()),
+            Err(WriteFault) => Err(AllocError),
+        }
+    }
+
+    /// The commands of the debugger that lead to where its program ends: its cells get their
+    /// values, and it goes on.
+    pub fn script_text(&self, alloc: Global) -> Result<Vec<u8>, AllocError>
+        ensures { IfOk result (λ text. text.items ≡ script_text self.now) }
+    {
+        let cells = self.cells(alloc)?;
+        let mut writer = Counted::new(Vec::new(alloc));
+        match write_script(&mut writer, cells.as_slice()) {
+            Ok(()) => Ok(writer.into_inner()),
+            Err(WriteFault) => Err(AllocError),
+        }
+    }
+}
+
+/// Writes the options of a test.
+fn write_options<W: Write>(writer: &mut Counted<W>, test: &Test<'_, '_>) -> Result<(), WriteFault>
+    ensures { Writes W.contents writer.old writer.new result (options_text test.now) }
+{
+    put_options(writer, Ok(()), test)
+}
+
+/// Writes the options of a test, after what was written so far, unless that failed.
+fn put_options<W: Write>(
+    writer: &mut Counted<W>,
+    so_far: Result<(), WriteFault>,
+    test: &Test<'_, '_>,
+) -> Result<(), WriteFault>
+    ensures { WritesAfter W.contents writer.old so_far writer.new result (options_text test.now) }
+{
+    let mapped = put_maps_option(writer, so_far, test.maps());
+    let named = put(writer, mapped, b"--steps=");
+    let counted = put_decimal(writer, named, test.limit());
+    put(writer, counted, b"\n")
+}
+
+/// Writes the option of maps, if there are any.
+fn put_maps_option<W: Write>(
+    writer: &mut Counted<W>,
+    so_far: Result<(), WriteFault>,
+    maps: Option<Text<'_>>,
+) -> Result<(), WriteFault>
+    ensures { WritesAfter W.contents writer.old so_far writer.new result (maps_option maps.entry) }
+{
+    match maps {
+        Some(text) => {
+            let begun = put(writer, so_far, b"--maps=");
+            let told = put(writer, begun, bytes_in(&text));
+            put(writer, told, b"\n")
+        }
+        None => put(writer, so_far, b""),
+    }
+}
+
+/// The bytes of a text.
+fn bytes_in<'a>(text: &Text<'a>) -> &'a [u8]
+    ensures { result.now ≡ text.now }
+{
+    text.bytes
+}
+
+/// Writes the script of a test with these cells.
+fn write_script<W: Write>(writer: &mut Counted<W>, cells: &[Cell]) -> Result<(), WriteFault>
+    ensures { Writes W.contents writer.old writer.new result
+        (flat_map cell_command cells.now ++ codes "continue\n") }
+{
+    let told = put_cell_commands(writer, Ok(()), cells);
+    put(writer, told, b"continue\n")
+}
+
+/// Writes the commands that give cells their values.
+fn put_cell_commands<W: Write>(
+    writer: &mut Counted<W>,
+    so_far: Result<(), WriteFault>,
+    cells: &[Cell],
+) -> Result<(), WriteFault>
+    ensures { WritesAfter W.contents writer.old so_far writer.new result
+        (flat_map cell_command cells.now) }
+{
+    let mut told = so_far;
+    for cell in cells {
+        told = put_cell_command(writer, told, cell);
+    }
+    told
+}
+
+/// Writes the command that gives a cell its value.
+fn put_cell_command<W: Write>(
+    writer: &mut Counted<W>,
+    so_far: Result<(), WriteFault>,
+    cell: &Cell,
+) -> Result<(), WriteFault>
+    ensures { WritesAfter W.contents writer.old so_far writer.new result (cell_command cell.now) }
+{
+    let begun = put(writer, so_far, b"set cell ");
+    let mapped = put_decimal(writer, begun, cell.map);
+    let parted = put(writer, mapped, b" ");
+    let placed = put_decimal(writer, parted, cell.index);
+    let spaced = put(writer, placed, b" ");
+    let valued = put_value(writer, spaced, cell.value.as_slice());
+    put(writer, valued, b"\n")
+}
+
+/// Writes the digits of a value.
+fn put_value<W: Write>(
+    writer: &mut Counted<W>,
+    so_far: Result<(), WriteFault>,
+    value: &[u8],
+) -> Result<(), WriteFault>
+    requires { length value.now ≤ 256 }
+    ensures { WritesAfter W.contents writer.old so_far writer.new result (encode_lower value.now) }
+{
+    let mut buffer = [0; MOST_DIGITS];
+    put_digits(writer, so_far, value, &mut buffer[..2 * value.len()])
+}
+
+/// Writes the digits of bytes, by a buffer of as many.
+fn put_digits<W: Write>(
+    writer: &mut Counted<W>,
+    so_far: Result<(), WriteFault>,
+    bytes: &[u8],
+    digits: &mut [u8],
+) -> Result<(), WriteFault>
+    requires { length digits.old ≡ 2 * length bytes.now }
+    ensures { WritesAfter W.contents writer.old so_far writer.new result (encode_lower bytes.now) }
+{
+    match encode_to_slice(bytes, digits) {
+        Ok(()) => put(writer, so_far, digits),
+        Err(_) => unreachable!(),
+    }
+}
+
+/// Writes a word between quotes, as a shell takes it.
+pub fn put_quoted<W: Write>(
+    writer: &mut Counted<W>,
+    so_far: Result<(), WriteFault>,
+    word: &[u8],
+) -> Result<(), WriteFault>
+    ensures { WritesAfter W.contents writer.old so_far writer.new result (quoted word.now) }
+{
+    let begun = put(writer, so_far, b"'");
+    let told = put_quoted_bytes(writer, begun, word);
+    put(writer, told, b"'")
+}
+
+/// Writes what stands between the quotes of a word.
+fn put_quoted_bytes<W: Write>(
+    writer: &mut Counted<W>,
+    so_far: Result<(), WriteFault>,
+    word: &[u8],
+) -> Result<(), WriteFault>
+    ensures { WritesAfter W.contents writer.old so_far writer.new result
+        (flat_map quoted_byte word.now) }
+{
+    let mut told = so_far;
+    for byte in word {
+        told = put_quoted_byte(writer, told, *byte);
+    }
+    told
+}
+
+/// Writes a byte of a quoted word.
+fn put_quoted_byte<W: Write>(
+    writer: &mut Counted<W>,
+    so_far: Result<(), WriteFault>,
+    byte: u8,
+) -> Result<(), WriteFault>
+    ensures { WritesAfter W.contents writer.old so_far writer.new result (quoted_byte byte) }
+{
+    if byte == b'\'' {
+        put(writer, so_far, &[b'\'', b'\\', b'\'', b'\''])
+    } else if is_shown(byte) {
+        put(writer, so_far, &[byte])
+    } else {
+        put(writer, so_far, b"?")
+    }
+}

@@ -1,0 +1,85 @@
+use Rattle.std.proofs.Common.{ℕ, zero, suc, ◌≡◌, ◌≢◌, ◌<◌, List, [], ◌∷◌, Option, Some, None, length, refl, sym, ap, subst, ◌∙◌, arith}
+use Rattle.std.specs.Borrow.{Bor}
+use Rattle.bpf_suite.specs.Faults.{IsFaultOf, file_fault}
+use Rattle.bpf_suite.specs.Files.{sections, tests}
+use Rattle.bpf_suite.specs.declared.fault.FileFault.{FileFault}
+use Rattle.bpf_suite.specs.declared.fault.FileFault.TheVariants as file
+use Rattle.bpf_suite.specs.declared.section.Section.{Section}
+use Rattle.bpf_suite.proofs.Tests.{tests-some}
+use Rattle.counted_io.specs.Counted.{Tally}
+use Rattle.bpfdb_jobs.specs.Endings.{Told}
+use Rattle.bpfdb_jobs.specs.Faults.{line_of}
+use Rattle.bpfdb_jobs.specs.Refusals.{LacksName}
+use Rattle.bpfdb_jobs.specs.Shown.{EndsShown, Exhausted, Refused}
+use Rattle.bpfdb_jobs.specs.Suites.{AreAsked, AreTestsOf, fault_of_file}
+use Rattle.bpfdb_jobs.specs.declared.fault.JobFault.TheVariants as fault
+use Rattle.bpfdb_jobs.specs.declared.job.Job.{Job}
+use Rattle.bpfdb_jobs.specs.declared.refusal.JobRefusal.{JobRefusal}
+use Rattle.bpfdb_jobs.specs.declared.refusal.JobRefusal.TheVariants.{Maps, Listing, Load, Open, Journal, Script, What, Object, Tests, NoTest, ManyTests}
+use Rattle.bpfdb_options.specs.declared.test_part.TestPart.{TestPart}
+use Rattle.bpfdb_jobs.proofs.show.show_job.Goals as goal
+
+-- a file with a fault
+not-read : {W E : Type 0} (contents : W → Option (List ℕ)) (lines : E → Option (List ℕ)) (part : TestPart) (job : Job) (writer : Tally W)
+    (errors errors' : Tally E) (why : FileFault) (status : ℕ) → IsFaultOf job.file.now why → Told lines errors errors' (line_of (fault_of_file why))
+    → status ≡ 2 → EndsShown contents lines part job writer writer errors errors' status
+not-read contents lines part job writer errors errors' (file.Line why line) status is told two = Refused (Tests why line) is refl told two
+not-read contents lines part job writer errors errors' file.Memory status is told two = Exhausted refl told two
+
+pub returns-in-Err-clause-does : goal.returns-in-Err-clause-does
+returns-in-Err-clause-does g c =
+    not-read g.W.Write.contents g.E.Write.contents c.args.part c.args.job.now c.args.writer.now c.args.errors.now c.refuse.new.errors c.in-Err.fault
+    c.refuse.result c.in-Err.ensures.err c.refuse.ensures.told c.refuse.ensures.value
+
+-- a name that no test of a sound file has
+no-test : {W E : Type 0} (contents : W → Option (List ℕ)) (lines : E → Option (List ℕ)) (part : TestPart) (job : Job) (writer : Tally W)
+    (errors errors' : Tally E) (refusal : JobRefusal) (status : ℕ) → file_fault job.file.now ≡ None
+    → LacksName job.options.only (tests (sections job.file.now)) refusal → Told lines errors errors' (line_of (fault.Refused refusal)) → status ≡ 2
+    → EndsShown contents lines part job writer writer errors errors' status
+no-test contents lines part job writer errors errors' (NoTest name) status sound lacks told two = Refused (NoTest name) (sound, lacks) refl told two
+no-test contents lines part job writer errors errors' (Maps why) status sound lacks told two = absurd lacks
+no-test contents lines part job writer errors errors' (Listing why) status sound lacks told two = absurd lacks
+no-test contents lines part job writer errors errors' (Load why) status sound lacks told two = absurd lacks
+no-test contents lines part job writer errors errors' (Open why) status sound lacks told two = absurd lacks
+no-test contents lines part job writer errors errors' (Journal why) status sound lacks told two = absurd lacks
+no-test contents lines part job writer errors errors' (Script why) status sound lacks told two = absurd lacks
+no-test contents lines part job writer errors errors' (What why) status sound lacks told two = absurd lacks
+no-test contents lines part job writer errors errors' (Object why name) status sound lacks told two = absurd lacks
+no-test contents lines part job writer errors errors' (Tests why line) status sound lacks told two = absurd lacks
+no-test contents lines part job writer errors errors' ManyTests status sound lacks told two = absurd lacks
+
+pub returns-in-Err-asked_tests-clause-does : goal.returns-in-Err-asked_tests-clause-does
+returns-in-Err-asked_tests-clause-does g c =
+    let s = c.in-Ok.ensures.ok in
+    let ts : c.in-Ok-tests.tests.items ≡ tests (sections c.args.job.now.file.now) = c.in-Ok-tests.ensures ∙ ap tests s.0 in
+    no-test g.W.Write.contents g.E.Write.contents c.args.part c.args.job.now c.args.writer.now c.args.errors.now c.give_up-in-Err-asked_tests.new.errors
+    c.in-Err-asked_tests.refusal c.give_up-in-Err-asked_tests.result s.1 (rw ts at c.in-Err-asked_tests.ensures.none)
+    c.give_up-in-Err-asked_tests.ensures.told c.give_up-in-Err-asked_tests.ensures.value
+
+-- one test at least is asked for
+some-asked : (only : Option (Bor (List ℕ))) (s : List Section) (asked : List (List Section)) → AreAsked only (tests s) asked → 0 < length asked
+some-asked None s asked are = subst (λ (ts : List (List Section)). 0 < length ts) (sym are) (tests-some s)
+some-asked (Some name) s asked are = are.1
+
+above-one : (n : ℕ) → 0 < n → n ≢ 1 → 1 < n
+above-one zero some other = absurd (omega (arith, some))
+above-one (suc zero) some other = absurd (other refl)
+above-one (suc (suc n)) some other = omega arith
+
+pub show_test-requires : goal.show_test-requires
+show_test-requires g c =
+    let s = c.in-Ok.ensures.ok in
+    let ts : c.in-Ok-tests.tests.items ≡ tests (sections c.args.job.now.file.now) = c.in-Ok-tests.ensures ∙ ap tests s.0 in
+    let one : c.in-Ok-asked_tests.asked.items ≡ c.in-Some.test.now ∷ [] = sym c.as_slice.ensures.value ∙ c.in-Some.ensures.one in
+    record { sound = s.1; asked_for = rw one at (rw ts at c.in-Ok-asked_tests.ensures.asked) }
+
+pub returns-clause-does : goal.returns-clause-does
+returns-clause-does g c =
+    let s = c.in-Ok.ensures.ok in
+    let ts : c.in-Ok-tests.tests.items ≡ tests (sections c.args.job.now.file.now) = c.in-Ok-tests.ensures ∙ ap tests s.0 in
+    let asked = c.in-Ok-asked_tests.asked.items in
+    let are = rw ts at c.in-Ok-asked_tests.ensures.asked in
+    let some : 0 < length asked = some-asked c.args.job.now.options.only (sections c.args.job.now.file.now) asked are in
+    let other : length asked ≢ 1 = λ e. c.in-None.ensures.others (ap length c.as_slice.ensures.value ∙ e) in
+    Refused ManyTests (asked, record { sound = s.1; asked_for = are }, above-one (length asked) some other) refl
+    c.give_up-in-None.ensures.told c.give_up-in-None.ensures.value

@@ -1,0 +1,58 @@
+-- What `test` comes to where it shows a part of a test, and where it runs tests.
+use Rattle.std.specs.Prelude.{ℕ, ◌≡◌, ◌<◌, ⊤, true, List, [], ◌∷◌, Option, Some, None, length}
+use Rattle.bpf_suite.specs.Outcomes.{HasWords}
+use Rattle.bpf_suite.specs.Shown.{IsWordsFault, options_text, script_text}
+use Rattle.bpf_suite.specs.Tests.{context, has_listing, program}
+use Rattle.bpf_suite.specs.declared.section.Section.{Section}
+use Rattle.bpf_suite.specs.declared.shown.WordsFault.TheVariants as words
+use Rattle.counted_io.specs.Counted.{Tally}
+use Rattle.bpfdb_jobs.specs.Endings.{Gets, Loses, Told}
+use Rattle.bpfdb_jobs.specs.Faults.{line_of}
+use Rattle.bpfdb_jobs.specs.Refusals.{RefusesTests}
+use Rattle.bpfdb_jobs.specs.Suites.{AreTestsOf, EndsTests}
+use Rattle.bpfdb_jobs.specs.declared.fault.JobFault.{JobFault}
+use Rattle.bpfdb_jobs.specs.declared.fault.JobFault.TheVariants as fault
+use Rattle.bpfdb_jobs.specs.declared.job.Job.{Job}
+use Rattle.bpfdb_jobs.specs.declared.refusal.JobRefusal.{JobRefusal}
+use Rattle.bpfdb_jobs.specs.declared.refusal.JobRefusal.TheVariants.{Listing, ManyTests}
+use Rattle.bpfdb_options.specs.declared.test_part.TestPart.{TestPart}
+use Rattle.bpfdb_options.specs.declared.test_part.TestPart.TheVariants.{Program, Context, Options, Script}
+
+-- The bytes that are shown of a test: what its verdict is about.
+abbrev pub Shows : TestPart → List Section → List ℕ → Type 0
+Shows Program test bytes = HasWords (has_listing test) (program test) bytes
+Shows Context test bytes = bytes ≡ context test
+Shows Options test bytes = bytes ≡ options_text test
+Shows Script test bytes = bytes ≡ script_text test
+
+-- Why they aren't: the program's listing isn't one, or memory ran out.
+abbrev pub HidesPart : TestPart → List Section → JobFault → Type 0
+HidesPart part test (fault.Refused (Listing why)) = (part ≡ Program) × IsWordsFault test (words.Listing why)
+HidesPart part test fault.Memory = ⊤
+HidesPart part test fault = ⊥
+
+-- Why a part isn't shown, besides what keeps tests from being run: more than one is asked for, or the one has no words.
+abbrev pub RefusesShown : Job → TestPart → JobRefusal → Type 0
+RefusesShown job part ManyTests = (asked : List (List Section)) × AreTestsOf job asked × (1 < length asked)
+RefusesShown job part (Listing why) =
+    (test : List Section) × AreTestsOf job (test ∷ []) × HidesPart part test (fault.Refused (Listing why))
+RefusesShown job part refusal = RefusesTests job refusal
+
+-- How a job of `test` ends that shows a part: it was shown; or it was refused, or memory ran out before, and nothing was written; or standard
+-- output failed, which got a beginning.
+pub data EndsShown {W E : Type 0} (contents : W → Option (List ℕ)) (lines : E → Option (List ℕ)) (part : TestPart) (job : Job)
+    (writer writer' : Tally W) (errors errors' : Tally E) (status : ℕ) : Type 0 where
+  Shown : (test : List Section) (bytes : List ℕ) → AreTestsOf job (test ∷ []) → Shows part test bytes → Gets contents writer writer' (Some bytes)
+      → errors' ≡ errors → status ≡ 0 → EndsShown contents lines part job writer writer' errors errors' status
+  Refused : (refusal : JobRefusal) → RefusesShown job part refusal → writer' ≡ writer → Told lines errors errors' (line_of (fault.Refused refusal))
+      → status ≡ 2 → EndsShown contents lines part job writer writer' errors errors' status
+  Exhausted : writer' ≡ writer → Told lines errors errors' (line_of fault.Memory) → status ≡ 2
+      → EndsShown contents lines part job writer writer' errors errors' status
+  Lost : (test : List Section) (bytes : List ℕ) → AreTestsOf job (test ∷ []) → Shows part test bytes → Loses contents writer writer' (Some bytes)
+      → Told lines errors errors' (line_of fault.Output) → status ≡ 2 → EndsShown contents lines part job writer writer' errors errors' status
+
+-- How a job of `test` ends, by the part that is to be shown, if there is one.
+abbrev pub EndsTest : {W E : Type 0} → (W → Option (List ℕ)) → (E → Option (List ℕ)) → Option TestPart → Job → Tally W → Tally W → Tally E → Tally E
+    → ℕ → Type 0
+EndsTest contents lines None job = EndsTests contents lines job
+EndsTest contents lines (Some part) job = EndsShown contents lines part job

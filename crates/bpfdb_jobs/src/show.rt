@@ -1,0 +1,119 @@
+//! What a job of `test` does that shows a part of a test.
+ghost use Rattle.std.specs.Prelude.{◌≡◌, ◌≢◌, ◌≤◌, ◌∷◌, [], IfErr, IfNone, IfOk, IfSome, length};
+ghost use Rattle.bpf_suite.specs.Shown.{IsWordsFault};
+ghost use Rattle.bpfdb_jobs.specs.Shown.{EndsShown, HidesPart, Shows};
+ghost use Rattle.bpfdb_jobs.specs.Suites.{AreTestsOf};
+ghost use Rattle.bpfdb_options.specs.declared.test_part.TestPart.TheVariants.{Program};
+
+use crate::fault::JobFault;
+use crate::job::Job;
+use crate::refusal::JobRefusal;
+use crate::report::{ended, give_up, write_out};
+use crate::suite::{asked_tests, refuse};
+use bpf_suite::{Suite, Test, WordsFault};
+use bpfdb_options::TestPart;
+use counted_io::Counted;
+use std::alloc::Global;
+use std::io::Write;
+
+/// Shows a part of the one test that is asked for.
+pub fn show_job<W: Write, E: Write>(
+    alloc: Global,
+    job: &Job<'_>,
+    part: TestPart,
+    writer: &mut Counted<W>,
+    errors: &mut Counted<E>,
+) -> u8
+    ensures does { EndsShown W.contents E.contents part job.now writer.old writer.new errors.old
+        errors.new result }
+    ensures status { result ≤ 2 }
+{
+    let suite = match Suite::read(alloc, job.file) {
+        Ok(suite) => suite,
+        Err(fault) => return refuse(errors, fault),
+    };
+    let tests = match suite.tests(alloc) {
+        Ok(tests) => tests,
+        Err(_) => return give_up(errors, &JobFault::Memory),
+    };
+    let asked = match asked_tests(job.options.only, tests) {
+        Ok(asked) => asked,
+        Err(refusal) => return give_up(errors, &JobFault::Refused(refusal)),
+    };
+    match only_of(asked.as_slice()) {
+        Some(test) => show_test(alloc, job, part, test, writer, errors),
+        None => give_up(errors, &JobFault::Refused(JobRefusal::ManyTests)),
+    }
+}
+
+/// The only one of tests.
+fn only_of<'t, 'b, 'a>(tests: &'t [Test<'b, 'a>]) -> Option<&'t Test<'b, 'a>>
+    ensures one { IfSome result (λ test. tests.now ≡ test.now ∷ []) }
+    ensures others { IfNone result (length tests.now ≢ 1) }
+{
+    match tests {
+        [test] => Some(test),
+        _ => None,
+    }
+}
+
+/// Shows a part of a test, the only one that a job asks for.
+fn show_test<W: Write, E: Write>(
+    alloc: Global,
+    job: &Job<'_>,
+    part: TestPart,
+    test: &Test<'_, '_>,
+    writer: &mut Counted<W>,
+    errors: &mut Counted<E>,
+) -> u8
+    requires { AreTestsOf job.now (test.now ∷ []) }
+    ensures does { EndsShown W.contents E.contents part job.now writer.old writer.new errors.old
+        errors.new result }
+    ensures status { result ≤ 2 }
+{
+    match bytes_of(alloc, part, test) {
+        Ok(bytes) => {
+            let written = write_out(writer, bytes.as_slice());
+            ended(written, errors)
+        }
+        Err(fault) => give_up(errors, &fault),
+    }
+}
+
+/// The bytes of a part of a test.
+fn bytes_of(
+    alloc: Global,
+    part: TestPart,
+    test: &Test<'_, '_>,
+) -> Result<Vec<u8>, JobFault<'static>>
+    ensures ok { IfOk result (λ bytes. Shows part test.now bytes.items) }
+    ensures err { IfErr result (HidesPart part test.now) }
+{
+    match part {
+        TestPart::Program => words_of(alloc, test),
+        TestPart::Context => match test.context(alloc) {
+            Ok(bytes) => Ok(bytes),
+            Err(_) => Err(JobFault::Memory),
+        },
+        TestPart::Options => match test.options_text(alloc) {
+            Ok(text) => Ok(text),
+            Err(_) => Err(JobFault::Memory),
+        },
+        TestPart::Script => match test.script_text(alloc) {
+            Ok(script) => Ok(script),
+            Err(_) => Err(JobFault::Memory),
+        },
+    }
+}
+
+/// The words of a test's program.
+fn words_of(alloc: Global, test: &Test<'_, '_>) -> Result<Vec<u8>, JobFault<'static>>
+    ensures ok { IfOk result (λ bytes. Shows Program test.now bytes.items) }
+    ensures err { IfErr result (HidesPart Program test.now) }
+{
+    match test.words(alloc) {
+        Ok(words) => Ok(words),
+        Err(WordsFault::Listing(fault)) => Err(JobFault::Refused(JobRefusal::Listing(fault))),
+        Err(WordsFault::Memory) => Err(JobFault::Memory),
+    }
+}
