@@ -29,6 +29,7 @@ FIRST_TOKEN, FIRST_MAP, MAP_STRIDE, MOST_MAPS = 0x400000000, 0x300000000, 0x1000
 # Kinds of watches that stop at reads; and how the header of an object for BPF tells its kind and machine.
 READ_WATCHES = (gdb.BP_READ_WATCHPOINT, gdb.BP_ACCESS_WATCHPOINT)
 OBJECT_FOR_BPF = b"\x01\x00\xf7\x00"
+NOT_CONNECTED = "bpfdb isn't connected: bpf-load FILE starts a program"
 # Where programs are looked for that belong to this file: in 'bin' of where it is installed, or beside it, and then as the shell does.
 HERE = os.path.dirname(os.path.abspath(__file__))
 BIN = os.path.join(HERE, "..", "..", "bin") if os.path.basename(HERE) == "bpfdb" else HERE
@@ -39,8 +40,7 @@ class Commands:
     """How many moves lay before the state behind each command of gdb's user, in ascending order."""
 
     def __init__(self, begin=0):
-        # the counts behind gdb's edits, too
-        self.begin, self.ends, self.edits = begin, [], []
+        self.begin, self.ends = begin, []
 
     def stop(self, event):
         """Notes where a command stopped."""
@@ -50,9 +50,7 @@ class Commands:
     def edit(self, event):
         """Notes an edit, of which gdb has no new count of moves."""
         if is_connected():
-            now = moves()
-            self.edits = [other for other in self.edits if other < now] + [now]
-            self.note(now)
+            self.note(moves())
 
     def note(self, end):
         """Notes where a command ended. One that went back ends before others, which then are no more."""
@@ -121,7 +119,7 @@ def is_connected():
 def answer_to(packet):
     """What bpfdb answers to a packet."""
     if not is_connected():
-        raise gdb.GdbError("bpfdb isn't connected: bpf-load FILE starts a program")
+        raise gdb.GdbError(NOT_CONNECTED)
     # (gdb's own way to send a packet forgets the frames that it is about to find)
     answer = re.search('received: "(.*)"', gdb.execute("maintenance packet " + packet, to_string=True)).group(1)
     if answer.startswith("E"):
@@ -289,27 +287,24 @@ class LastWrite(Asker):
 
 class Origin(Asker):
     """bpf-origin [EXPRESSION]: tells where a value came from, move by move: of a register ($r3), of the bytes of a variable (note.packet), or of
-    ADDRESS:COUNT; left out, of the address of an access that failed, or of r0. It runs the program anew to this state, without edits."""
+    ADDRESS:COUNT; left out, of the address of an access that failed, or of r0. It is 'monitor origin', over the moves that are kept."""
+
+    # whether this asks now: then the machine stays where it is, and gdb needn't forget it
+    asks = False
 
     def __init__(self):
         super().__init__("bpf-origin", gdb.COMMAND_DATA, gdb.COMPLETE_EXPRESSION)
 
     def obey(self, argument):
-        now = moves()
-        if now == 0:
-            raise gdb.GdbError("nothing has run yet: each value is that of the opening")
-        words = shlex.split((connection().details or "").lstrip("| "))
-        for option in ("--registers", "--steps"):
-            words = taken(words, option)[1]
-        program, _, *options, file = words
-        options += ["--steps", str(now)]
-        asked = [file, *self.what(argument.strip())]
-        script = "stepi %d\ninfo regs\n" % now
-        again = subprocess.run([program, "debug", *options, file], input=script, capture_output=True, text=True)
-        if any(edit <= now for edit in commands.edits) or again.stdout.splitlines()[1:] != ask("info regs").splitlines():
-            raise gdb.GdbError("there are edits before this state, and 'bpfdb origin' runs the program without them: bpf-undo them first")
-        done = subprocess.run([program, "origin", *options, *asked], capture_output=True, text=True)
-        for line in (done.stdout.splitlines()[1:] or done.stderr.splitlines()):
+        if not is_connected():
+            raise gdb.GdbError(NOT_CONNECTED)
+        line = " ".join(["monitor origin", *self.what(argument.strip())])
+        Origin.asks = True
+        try:
+            answer = gdb.execute(line, to_string=True)
+        finally:
+            Origin.asks = False
+        for line in answer.splitlines():
             print(line + self.source_of(line))
 
     def source_of(self, line):
@@ -547,7 +542,7 @@ Map()
 Break()
 RefuseRun()
 gdb.execute("define hook-run\nmaintenance bpf-refuse-run\nend")
-gdb.execute("define hookpost-monitor\npython forget()\nend")
+gdb.execute("define hookpost-monitor\npython Origin.asks or forget()\nend")
 # bpfdb watches four bytes; gdb compares what is wider, and further watches, by itself, step by step.
 gdb.execute("set remote hardware-watchpoint-limit 1")
 gdb.execute("set remote hardware-watchpoint-length-limit 4")

@@ -1,8 +1,9 @@
 # What the part `remote` stands on: rows of packets and their answers, played to `bpfdb gdb`.
 #
-# A row is the body of a packet, the body of its answer, and the line that gdb is to show before, if there is one, with
-# bars between. A row that begins with `> ` is a line of a script (gdb's `monitor`) and its reply of one line, or OK.
-# `{07*8192}` stands for as many times 07, `\n` in an answer for a line feed. A row of a stop may leave out what comes
+# A row is the body of a packet, the body of its answer, and the line or lines that gdb is to show before, if there are
+# any, with bars between. A row that begins with `> ` is a line of a script (gdb's `monitor`) and its reply of one line, or
+# OK.
+# `{07*8192}` stands for as many times 07, `\n` in an answer, or between such lines, for a line feed. A row of a stop may leave out what comes
 # with each, `thread:0;` and the registers behind it: then any will do, if the packet's sum is right.
 # In a file of tests/program/packets/ a line `block NAME` begins a session of its own; lines without a bar say what it
 # is opened with: `program` and `context`, in hexadecimal digits, and `registers`, `steps`, `journal` with their values.
@@ -47,6 +48,7 @@ packets='
     # answer_of(row): what is then told.
     function answer_of(row,   parts, body) {
         split(row, parts, "|")
+        gsub(/\\n/, "\n", parts[3])
         body = parts[1] ~ /^> / && parts[2] != "OK" ? hex(parts[2]) "0a" : expand(parts[2])
         gsub(/\\n/, "\n", body)
         return "+" (parts[3] == "" ? "" : packet("O" hex(parts[3]) "0a")) packet(body)

@@ -36,12 +36,47 @@ row 'a refused listing' 2 '$?#3f' '' 'refused A1 at line 1: unknown mnemonic\n' 
 row 'a refused journal' 2 '$?#3f' '' 'refused J1: journal size out of range\n' gdb --journal 1 --listing answer.s
 
 # The tables: sessions, streams of bytes, beginnings of a stream, and descriptions of machines.
-for name in requests refusals numbers statuses stops watches lengths machines; do
+for name in requests refusals numbers statuses stops watches lengths machines origin; do
     play_blocks "$parts/packets/$name.txt"
 done
 streams_of "$parts/packets/streams.txt"
 cuts_of "$parts/packets/cuts.txt" '$s#73$qSupported:swbreak+#8b$c#63$bs#d5'
 registers_of "$parts/packets/descriptions.txt"
+
+# Where values came from: what gdb is shown, in packets or in one, is what `origin` tells behind the same lines, up to 500 lines of moves and 32,768 bytes.
+listing() { printf '%b\n' "$2" | tr ';' '\n' > "$1"; }
+# monitor LINE: the packet of a line.
+monitor() { packet "qRcmd,$(printf '%s' "$1" | od -An -v -tx1 | tr -d ' \n')"; }
+# shows WHAT ARGUMENT..: what gdb is shown for it behind the lines of the file `said`.
+shows() {
+    { while read -r line; do monitor "$line"; done < said; monitor "origin${1:+ $1}"; } > script
+    shift
+    run gdb --registers bpf "$@"
+    tr '$' '\n' < found/out | sed -n 's/^O\([0-9a-f]*\)#..$/\1/p' |
+        LC_ALL=C awk "$packets"'BEGIN { prepare(); ORS = "" } { print spelled($0) }' > found/shown
+    : > script
+}
+listing sum.s 'ldxb r0, [r1+0];ldxb r2, [r1+1];add r0, r2;stxb [r10-1], r0;mov r2, 9;exit'
+printf '\052\001' > two
+for lines in 'stepi' 'stepi 3\nset reg r2 7\nstepi' 'continue\nundo\nredo' 'continue\nreverse-stepi 2' 'set mem 0x100000001 ff\nstepi 4\nundo 2\nstepi 3'; do
+    printf "$lines\n" > said
+    for what in '' r0 r2 0x2000001ff 0x2000001f8:8 0x100000000:2 0x200000000:256; do
+        shows "$what" -m two --listing sum.s
+        run origin -m two --script said --listing sum.s $what
+        sed 1d found/out > wanted/shown
+        same "what is shown of origin $what behind $lines" wanted/shown found/shown
+    done
+done
+printf 'continue\n' > said
+listing many.s 'loop: add r0, 1;jlt r0, 600, loop;exit'
+shows '' --listing many.s
+awk 'BEGIN { for (i = 600; i > 100; i--) printf "-%d r0 = 0x%x; 0: add r0, 1; from r0\n", 1203 - 2 * i, i; print "cut: there are more lines" }' > wanted/shown
+same 'an answer of more than 500 lines of moves' wanted/shown found/shown
+{ echo 'ldxdw r0, [r1+0]'; for at in $(seq 8 8 792); do printf 'ldxdw r2, [r1+%d]\nadd r0, r2\n' "$at"; done; echo exit; } > loads.s
+head -c 800 /dev/zero > zeros
+shows '' -m zeros --listing loads.s
+echo 'cut: the answer has more than 32768 bytes' > wanted/shown
+same 'an answer of more than 32,768 bytes' wanted/shown found/shown
 
 # The numbers of errors are those of refusals, in hexadecimal, 02 where a request's arguments are wrong.
 requests 'registers' gdb --registers bpf --listing answer.s <<'ROWS'
@@ -146,11 +181,12 @@ qRcmd,|OK
 vKill;1|OK
 ROWS
 
-# The line `help` lists the commands, but for quit, whose place in gdb is gdb's own.
+# The line `help` lists the commands, but for quit, whose place in gdb is gdb's own, and the line `origin`.
 packet qRcmd,68656c70 > script
 run gdb --registers bpf --listing answer.s
 sed 's/^+\$//; s/#..$//' found/out | LC_ALL=C awk "$packets"'BEGIN { prepare(); ORS = "" } { print spelled($0) }' > found/help
 awk -F ' *[|] *' '!/^#/ && $2 != "quit" { print $2 ": " $4 }' "$top/docs/commands.txt" > wanted/help
+echo "origin [WHAT]: shows where a register or ADDRESS:COUNT got its value; left out r0, or a bad access's address" >> wanted/help
 same 'help lists the commands' wanted/help found/help
 
 # Lines of 30 bytes and of the digits of their slots: 256 are 8,338 bytes, and 8,192 fit a packet. 251 are 8,173.

@@ -5,6 +5,7 @@ pub mod Alike
 pub mod Meaning
 pub mod Leaving
 pub mod Wanting
+pub mod Backs
 pub mod Turning
 pub mod Going
 pub mod Asking

@@ -2,6 +2,7 @@ pub mod Places
 pub mod Writes
 pub mod Reads
 pub mod Wanted
+pub mod Pasts
 pub mod Laws
 pub mod Texts
 pub mod Answers

@@ -3,15 +3,15 @@ use Rattle.std.specs.Prelude.{◌≡◌, ◌≤◌, ◌<◌, ℕ, ◌+◌, List,
 use Rattle.counted_io.specs.Counted.{Tally}
 use Rattle.counted_io.specs.Writing.{WritesAfter}
 use Rattle.counted_io.specs.declared.fault.WriteFault.{WriteFault}
-use Rattle.bpf_entries.specs.Keeping.{Kept}
-use Rattle.bpf_journal.specs.Histories.{Record, StandsFor}
-use Rattle.bpf_journal.specs.Timelines.{Moment}
+use Rattle.bpf_journal.specs.Histories.{Record}
+use Rattle.bpf_journal.specs.Tracks.{Track}
 use Rattle.bpf_machine.specs.State.{State}
 use Rattle.bpf_origin.specs.declared.place.Place.{Place}
 use Rattle.bpf_origin.specs.declared.question.Question.{Question}
 use Rattle.bpf_origin.specs.declared.question.Extent.{Extent}
 use Rattle.bpf_origin.specs.declared.question.Extent.TheVariants.{Places}
 use Rattle.bpf_origin.specs.declared.origin.Turn.{Turn}
+use Rattle.bpf_origin.specs.Pasts.{StandsThere, gone_back, stand}
 use Rattle.bpf_origin.specs.Reads.{followed}
 use Rattle.bpf_origin.specs.Wanted.{most_places, want_parts}
 use Rattle.bpf_origin.specs.Texts.{tail, places_text}
@@ -21,12 +21,7 @@ use Rattle.bpf_origin.specs.Answers.{answer, with_line}
 abbrev pub Written : Type 0
 Written = Result (Unit {0}) WriteFault
 
-module _ {K W : Type 0} (holds : K → List Kept → Type 0) (contents : W → Option (List ℕ)) where
-  -- The newest record was taken back.
-  pub record WentBack (r : Record) (h : List Record) (new : Moment K) : Type 0 where
-    pub state : new.state ≡ r.before
-    pub stands : StandsFor holds new.keeper new.state h
-
+module _ {W : Type 0} (contents : W → Option (List ℕ)) where
   -- It was told from the middle of its line on, and what it read is wanted, unless there is no room for that.
   pub record TellsRest (q : Question) (r : Record) (wanted left : List Place) (old : Tally W) (before : Written) (now : Tally W) (turn : Turn) : Type 0 where
     pub on : turn.cut ≡ None →
@@ -36,12 +31,19 @@ module _ {K W : Type 0} (holds : K → List Kept → Type 0) (contents : W → O
         (e ≡ Places) × (most_places < length (want_parts wanted (followed q.addresses r.before r.move)))
         × WritesAfter contents old before now turn.written (tail r.before r.move (followed q.addresses r.before r.move) ++ places_text)
 
-  -- A turn: what it wrote with the answer from there on is the answer from here on, or it wrote all of that.
-  pub record TakesTurn (q : Question) (k n : ℕ) (wanted left : List Place) (r : Record) (h : List Record) (y : State) (new : Moment K) (old : Tally W) (before : Written) (now : Tally W) (turn : Turn) : Type 0 where
+module _ {P W : Type 0} (state : P → State) (follows : P → Track → Type 0) (contents : W → Option (List ℕ)) where
+  -- The newest record was taken back.
+  abbrev pub WentBack : Record → List Record → List Record → P → Type 0
+  WentBack r h f new = StandsThere state follows new (stand h (r ∷ f) r.before)
+
+  -- A turn: what it wrote with the answer from there on is the answer from here on, or it wrote all of that. It says whether it took the
+  -- record back.
+  pub record TakesTurn (q : Question) (k n : ℕ) (wanted left : List Place) (r : Record) (h f : List Record) (y : State) (new : P) (old : Tally W) (before : Written) (now : Tally W) (turn : Turn) : Type 0 where
     pub on : turn.cut ≡ None →
-        WentBack r h new
+        WentBack r h f new
         × ((piece : List ℕ) × WritesAfter contents old before now turn.written piece
         × (answer q k n wanted (r ∷ h) y ≡ with_line piece (answer q (k + 1) turn.lines left h r.before)))
     pub cut : (e : Extent) → turn.cut ≡ Some e →
         ((answer q k n wanted (r ∷ h) y).extent ≡ e)
         × WritesAfter contents old before now turn.written (answer q k n wanted (r ∷ h) y).text
+    pub far : StandsThere state follows new (gone_back turn.taken (r ∷ h) f y)

@@ -1,13 +1,14 @@
 //! Where values came from: one pass over a history, each move taken back once.
-ghost use Rattle.std.specs.Prelude.{◌≡◌, ◌<◌, ◌∷◌, ◌+◌, ◌^◌, ℕ, List, Some, None, IfSome, true, false, if◌then◌else◌};
+ghost use Rattle.std.specs.Prelude.{◌≡◌, ◌<◌, ◌≤◌, ◌∷◌, ◌+◌, ◌^◌, ℕ, List, Some, None, length, true, false, if◌then◌else◌};
 ghost use Rattle.bpf_entries.specs.Past.{Fewer, past};
 ghost use Rattle.bpf_entries.specs.Status.{has_ended};
 ghost use Rattle.counted_io.specs.Writing.{WritesAfter};
-ghost use Rattle.bpf_journal.specs.Histories.{Record, StandsFor, is_step};
-ghost use Rattle.bpf_journal.specs.Timelines.{GoesBack};
+ghost use Rattle.bpf_journal.specs.Histories.{Record, is_step};
+ghost use Rattle.bpf_journal.specs.Tracks.{Track};
 ghost use Rattle.bpf_machine.specs.declared.moves.Move.{Move};
 ghost use Rattle.bpf_origin.specs.declared.place.Place.{Place};
 ghost use Rattle.bpf_origin.specs.Answers.{answer};
+ghost use Rattle.bpf_origin.specs.Pasts.{StandsThere, gone_from};
 ghost use Rattle.bpf_origin.specs.Reads as reads;
 ghost use Rattle.bpf_origin.specs.Turns.{TakesTurn, TellsRest, WentBack};
 ghost use Rattle.bpf_origin.specs.Wanted as spec;
@@ -15,12 +16,12 @@ ghost use Rattle.bpf_origin.specs.Writes as writes;
 
 use crate::left::put_left;
 use crate::line::{put_head, put_tail};
+use crate::past::Past;
 use crate::place::Part;
 use crate::question::{Extent, Question, Told};
 use crate::reads::{Parts, followed};
 use crate::wanted::Wanted;
 use crate::writes::written;
-use bpf_journal::{Keeper, Taken, Timeline};
 use bpf_machine::{Cpu, Entry};
 use counted_io::{Counted, WriteFault, put};
 use std::io::Write;
@@ -34,35 +35,42 @@ pub struct Turn {
     pub lines: u64,
     /// Where the answer is cut.
     pub cut: Option<Extent>,
+    /// How many moves were taken back: the one, or none.
+    pub taken: u64,
 }
 
 /// Writes where the values at the wanted places came from: a line a move that wrote one of them,
-/// the newest first, and then a line a place that is left. Each move is taken back, so the timeline
-/// ends at the oldest state that is kept, or where the answer is cut.
-pub fn put_origin<K: Keeper, W: Write>(
-    timeline: &mut Timeline<K>,
+/// the newest first, and then a line a place that is left. Each move is taken back, so it ends at
+/// the oldest state that is kept, or where the answer is cut.
+pub fn put_origin<P: Past, W: Write>(
+    history: &mut P,
     wanted: &mut Wanted,
     question: Question,
     writer: &mut Counted<W>,
     so_far: Result<(), WriteFault>,
 ) -> Told
-    ensures text { (h : List Record) →
-        StandsFor K.holds timeline.old.keeper timeline.old.state h →
+    ensures text { (t : Track) → P.follows history.old t →
         WritesAfter W.contents writer.old so_far writer.new result.written
-        (answer question 0 question.lines wanted.old h timeline.old.state).text }
-    ensures extent { (h : List Record) →
-        StandsFor K.holds timeline.old.keeper timeline.old.state h →
-        result.extent ≡ (answer question 0 question.lines wanted.old h timeline.old.state).extent }
+        (answer question 0 question.lines wanted.old t.history (P.state history.old)).text }
+    ensures extent { (t : Track) → P.follows history.old t → result.extent
+        ≡ (answer question 0 question.lines wanted.old t.history (P.state history.old)).extent }
+    ensures back { (t : Track) → P.follows history.old t →
+        StandsThere P.state P.follows history.new
+        (gone_from result.moves t (P.state history.old)) }
+    ensures within { (t : Track) → P.follows history.old t → result.moves ≤ length t.history }
+    ensures room { P.room history.new ≡ P.room history.old }
 {
     let mut told = so_far;
     let mut lines = question.lines;
-    for k in 0..timeline.len() {
-        let turn = take_turn(timeline, wanted, question, k as u64, lines, writer, told);
+    let kept = history.moves();
+    for k in 0..kept {
+        let turn = take_turn(history, wanted, question, k as u64, lines, writer, told);
         match turn.cut {
             Some(extent) => {
                 return Told {
                     written: turn.written,
                     extent,
+                    moves: k as u64 + turn.taken,
                 };
             }
             None => {
@@ -75,19 +83,20 @@ pub fn put_origin<K: Keeper, W: Write>(
         writer,
         told,
         question.opening,
-        timeline.cpu(),
+        history.machine(),
         wanted.as_slice(),
     );
     Told {
         written: last,
         extent: Extent::Whole,
+        moves: kept as u64,
     }
 }
 
 /// Takes the newest move back, after `moves` that were taken back before, and tells it where it
 /// wrote a wanted place.
-fn take_turn<K: Keeper, W: Write>(
-    timeline: &mut Timeline<K>,
+fn take_turn<P: Past, W: Write>(
+    history: &mut P,
     wanted: &mut Wanted,
     question: Question,
     moves: u64,
@@ -96,61 +105,70 @@ fn take_turn<K: Keeper, W: Write>(
     so_far: Result<(), WriteFault>,
 ) -> Turn
     requires { moves + 1 < 2 ^ 64 }
-    ensures { (r : Record) (h : List Record) →
-        StandsFor K.holds timeline.old.keeper timeline.old.state (r ∷ h) →
-        TakesTurn K.holds W.contents question moves lines wanted.old wanted.new r h
-        timeline.old.state timeline.new writer.old so_far writer.new result }
+    ensures takes { (r : Record) (h f : List Record) →
+        P.follows history.old (record { history = r ∷ h; ahead = f }) →
+        TakesTurn P.state P.follows W.contents question moves lines wanted.old wanted.new r h f
+        (P.state history.old) history.new writer.old so_far writer.new result }
+    ensures one { result.taken ≤ 1 }
+    ensures room { P.room history.new ≡ P.room history.old }
 {
-    let Some((entry, _)) = timeline.last() else {
+    let Some((entry, _)) = history.newest() else {
         return go_on(so_far, lines);
     };
-    let wrote = written(timeline.cpu(), &entry);
+    let wrote = written(history.machine(), &entry);
     if !wanted.are_hit(wrote.as_slice()) {
-        pass(wanted, timeline.cpu(), &entry, wrote.as_slice());
-        let _taken = take_back(timeline);
+        pass(wanted, history.machine(), &entry, wrote.as_slice());
+        let _taken = history.take_back();
         return go_on(so_far, lines);
     }
     if lines == 0 {
         let last = put(writer, so_far, b"cut: there are more lines\n");
-        return cut(last, Extent::Lines);
+        return cut(last, Extent::Lines, 0);
     }
-    let headed = put_head(writer, so_far, moves + 1, timeline.cpu(), wrote.as_slice());
-    pass(wanted, timeline.cpu(), &entry, wrote.as_slice());
-    tell_rest(timeline, wanted, question, lines - 1, writer, headed)
+    let headed = put_head(
+        writer,
+        so_far,
+        moves + 1,
+        history.machine(),
+        wrote.as_slice(),
+    );
+    pass(wanted, history.machine(), &entry, wrote.as_slice());
+    tell_rest(history, wanted, question, lines - 1, writer, headed)
 }
 
 /// Takes the newest move back, tells which it was and what it read, and wants that.
-fn tell_rest<K: Keeper, W: Write>(
-    timeline: &mut Timeline<K>,
+fn tell_rest<P: Past, W: Write>(
+    history: &mut P,
     wanted: &mut Wanted,
     question: Question,
     lines: u64,
     writer: &mut Counted<W>,
     so_far: Result<(), WriteFault>,
 ) -> Turn
-    ensures back { (r : Record) (h : List Record) →
-        StandsFor K.holds timeline.old.keeper timeline.old.state (r ∷ h) →
-        WentBack K.holds W.contents r h timeline.new }
-    ensures tells { (r : Record) (h : List Record) →
-        StandsFor K.holds timeline.old.keeper timeline.old.state (r ∷ h) →
-        TellsRest K.holds W.contents question r wanted.old wanted.new
-        writer.old so_far writer.new result }
+    ensures back { (r : Record) (h f : List Record) →
+        P.follows history.old (record { history = r ∷ h; ahead = f }) →
+        WentBack P.state P.follows W.contents r h f history.new }
+    ensures tells { (r : Record) (h f : List Record) →
+        P.follows history.old (record { history = r ∷ h; ahead = f }) →
+        TellsRest W.contents question r wanted.old wanted.new writer.old so_far writer.new result }
     ensures lines { result.cut ≡ None → result.lines ≡ lines }
+    ensures one { result.taken ≡ 1 }
+    ensures room { P.room history.new ≡ P.room history.old }
 {
-    let Some(taken) = take_back(timeline) else {
+    let Some(taken) = history.take_back() else {
         return go_on(so_far, lines);
     };
-    let read = read_by(timeline.cpu(), taken.is_step, question.addresses);
+    let read = read_by(history.machine(), taken.is_step, question.addresses);
     let told = put_tail(
         writer,
         so_far,
-        timeline.cpu(),
+        history.machine(),
         taken.is_step,
         read.as_slice(),
     );
     if !wanted.want_parts(read.as_slice()) {
         let last = put(writer, told, b"cut: more than 4096 places are wanted\n");
-        return cut(last, Extent::Places);
+        return cut(last, Extent::Places, 1);
     }
     let _places = wanted.as_slice();
     go_on(told, lines)
@@ -158,23 +176,26 @@ fn tell_rest<K: Keeper, W: Write>(
 
 /// The pass goes on, with room for so many lines.
 fn go_on(written: Result<(), WriteFault>, lines: u64) -> Turn
-    ensures { result ≡ record { written = written; lines = lines; cut = None } }
+    ensures { result ≡ record { written = written; lines = lines; cut = None; taken = 1 } }
 {
     Turn {
         written,
         lines,
         cut: None,
+        taken: 1,
     }
 }
 
-/// The answer is cut.
-fn cut(written: Result<(), WriteFault>, extent: Extent) -> Turn
-    ensures { result ≡ record { written = written; lines = 0; cut = Some extent } }
+/// The answer is cut, after so many moves that the turn took back.
+fn cut(written: Result<(), WriteFault>, extent: Extent, taken: u64) -> Turn
+    ensures { result
+        ≡ record { written = written; lines = 0; cut = Some extent; taken = taken } }
 {
     Turn {
         written,
         lines: 0,
         cut: Some(extent),
+        taken,
     }
 }
 
@@ -199,18 +220,6 @@ fn is_call(entry: &Entry) -> bool
         Entry::Call { .. } => true,
         _ => false,
     }
-}
-
-/// Takes the newest move back. The machine runs before a step.
-fn take_back<K: Keeper>(timeline: &mut Timeline<K>) -> Option<Taken>
-    ensures back { (h : List Record) →
-        StandsFor K.holds timeline.old.keeper timeline.old.state h →
-        GoesBack K.holds result h timeline.old timeline.new }
-    ensures runs { IfSome result (λ taken. taken.is_step ≡ true →
-        has_ended timeline.new.state.status ≡ false) }
-{
-    timeline.invariant();
-    timeline.back()
 }
 
 /// What a move read that was taken back: a step in the state before it, or an edit nothing.

@@ -31,4 +31,6 @@ pub struct Told {
     pub written: Result<(), WriteFault>,
     /// How far it goes.
     pub extent: Extent,
+    /// How many moves were taken back for it.
+    pub moves: u64,
 }

@@ -1,11 +1,13 @@
 -- What answers a packet answers its item.
-use Rattle.std.proofs.Common.{◌≡◌, ℕ, Bool, List, Option, Some, None, Result, sym, ap, subst, ◌∙◌}
+use Rattle.std.proofs.Common.{◌≡◌, ℕ, Bool, true, List, Option, Some, None, Result, sym, ap, subst, ◌∙◌}
 use lib.Chars.{codes}
 use Rattle.std.specs.Option.{option_map}
 use Rattle.counted_io.specs.Counted.{Tally}
 use Rattle.counted_io.specs.Writing.{Writes}
 use Rattle.bpf_entries.specs.Keeping.{Kept}
-use Rattle.bpf_remote.specs.Connections.{Does, DoesBody, DoesLine, DoesRequest}
+use Rattle.bpf_remote.specs.Connections.{Does, DoesAsked, DoesBody, DoesLine, DoesRequest}
+use Rattle.bpf_origin.specs.declared.fault.WhatFault.{WhatFault}
+use Rattle.bpf_origin.specs.declared.what.What.{What}
 use Rattle.bpf_remote.specs.Numbers.{behind}
 use Rattle.bpf_remote.specs.Requests.{request_of}
 use Rattle.bpf_remote.specs.Turning.{Sides, Tells, place}
@@ -24,6 +26,12 @@ module _ {K W : Type 0} (holds : K → List Kept → Type 0) (refusals room : K 
       → Tells contents old new result (λ last told on. DoesBody holds refusals room (place old before) (place new last) body found told on) on
   by-line old new result on before body found digits e t =
       subst (λ (v : Option (List ℕ)). Tells contents old new result (λ last told on. DoesBody holds refusals room (place old before) (place new last) body v told on) on) (sym e) t
+
+  pub by-asked : {A E : Type 0} (old new : Sides K W) (result : Result A E) (before digits : List ℕ) (found asked : Option (Result (Option What) WhatFault)) → found ≡ asked
+      → Tells contents old new result (λ last told on. DoesAsked holds refusals room (place old before) (place new last) asked digits told on) true
+      → Tells contents old new result (λ last told on. DoesAsked holds refusals room (place old before) (place new last) found digits told on) true
+  by-asked old new result before digits found asked e t =
+      subst (λ (v : Option (Result (Option What) WhatFault)). Tells contents old new result (λ last told on. DoesAsked holds refusals room (place old before) (place new last) v digits told on) true) (sym e) t
 
   pub by-request : {A E : Type 0} (old new : Sides K W) (result : Result A E) (on : Bool) (before body : List ℕ) (found : Option (List ℕ)) → found ≡ None
       → Tells contents old new result (λ last told on. DoesRequest holds refusals room (place old before) (place new last) (request_of body) told on) on

@@ -8,3 +8,4 @@ pub mod LineTexts
 pub mod Turns
 pub mod Bodies
 pub mod Consoles
+pub mod OriginTexts

@@ -16,7 +16,10 @@ use Rattle.bpf_session.specs.Output.{is_quit}
 use Rattle.bpf_session.specs.Replies.{text_of_answer}
 use Rattle.bpf_session.specs.Sessions.{SessionValue, HasPast, Obeys, bounds_of, point_of}
 use Rattle.bpf_session.specs.WatchRuns.{SetsWatches, first_changed, seen_at, with_run, without_run}
+use Rattle.bpf_origin.specs.declared.fault.WhatFault.{WhatFault}
+use Rattle.bpf_origin.specs.declared.what.What.{What}
 use Rattle.bpf_remote.specs.Numbers.{behind, hex_text}
+use Rattle.bpf_remote.specs.Origins.{Shows, TellsOrigin, asked_in}
 use Rattle.bpf_remote.specs.Packets.{framed, IsItem}
 use Rattle.bpf_remote.specs.Requests.{request_of}
 use Rattle.bpf_remote.specs.Answers.{answer_of_move, answer_of_set, error_text, halt_of_status, sent, text_of}
@@ -138,10 +141,18 @@ module _ {K : Type 0} (holds : K → List Kept → Type 0) (refusals room : K �
       × (console : List ℕ) × IsConsole (is_told remark) (remark_text remark new.session.moment.state) console
       × (told ≡ acknowledgement old.manners ++ console ++ packet (is_answered r) new.last) × (on ≡ goes_on r)
 
-  abbrev pub DoesLine : Place K → Place K → List ℕ → List ℕ → Bool → Type 0
-  DoesLine old new digits told on = (moves : ℕ) × Heeds old.session new.session (asks_help digits) digits new.last old.manners.moves moves
+  -- A line that asks where a value came from is answered in packets for gdb's user, behind which `OK` stands; any other one in one packet.
+  abbrev pub DoesAsked : Place K → Place K → Option (Result (Option What) WhatFault) → List ℕ → List ℕ → Bool → Type 0
+  DoesAsked old new None digits told on = (moves : ℕ) × Heeds old.session new.session (asks_help digits) digits new.last old.manners.moves moves
       × (new.manners ≡ record old.manners { moves = moves })
       × (told ≡ acknowledgement old.manners ++ framed (sent new.last)) × (on ≡ true)
+  DoesAsked old new (Some asked) digits told on = (left : ℕ) × (text console : List ℕ) × Shows text console
+      × TellsOrigin holds refusals room asked old.session new.session old.manners.moves left text
+      × (new.manners ≡ record old.manners { moves = old.manners.moves - left }) × (new.last ≡ codes "OK")
+      × (told ≡ acknowledgement old.manners ++ console ++ framed (sent new.last)) × (on ≡ true)
+
+  abbrev pub DoesLine : Place K → Place K → List ℕ → List ℕ → Bool → Type 0
+  DoesLine old new digits told on = DoesAsked old new (asked_in old.session.moment.state digits) digits told on
 
   abbrev pub DoesBody : Place K → Place K → List ℕ → Option (List ℕ) → List ℕ → Bool → Type 0
   DoesBody old new body None told on = DoesRequest old new (request_of body) told on

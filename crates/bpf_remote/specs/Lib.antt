@@ -8,6 +8,7 @@ pub mod Answers
 pub mod Moves
 pub mod Remarks
 pub mod Help
+pub mod Origins
 pub mod Connections
 pub mod Turning
 pub mod Serving

@@ -5,10 +5,12 @@ use Rattle.counted_io.specs.Counted.{Tally}
 use Rattle.counted_io.specs.Writing.{Writes}
 use Rattle.bpf_entries.specs.Keeping.{Kept}
 use Rattle.bpf_session.specs.Sessions.{SessionValue}
+use Rattle.bpf_origin.specs.declared.fault.WhatFault.{WhatFault}
+use Rattle.bpf_origin.specs.declared.what.What.{What}
 use Rattle.bpf_remote.specs.Numbers.{behind}
 use Rattle.bpf_remote.specs.Packets.{Buffer, Holds, longest_body}
 use Rattle.bpf_remote.specs.Requests.{request_of}
-use Rattle.bpf_remote.specs.Connections.{Place, Does, DoesBody, DoesLine, DoesRequest}
+use Rattle.bpf_remote.specs.Connections.{Place, Does, DoesAsked, DoesBody, DoesLine, DoesRequest}
 use Rattle.bpf_remote.specs.declared.manners.Manners.{Manners}
 use Rattle.bpf_remote.specs.declared.stream.Item.{Item}
 use Rattle.bpf_remote.specs.declared.stream.Item.TheVariants.{Packet, End}
@@ -33,6 +35,10 @@ pub record Tells {K W A E : Type 0} (contents : W → Option (List ℕ)) (before
   pub written : Writes contents before.writer after.writer result told
 
 module _ {K W : Type 0} (holds : K → List Kept → Type 0) (refusals room : K → ℕ) (contents : W → Option (List ℕ)) where
+  abbrev pub AnswersAsked : {A E : Type 0} → Sides K W → Sides K W → Result A E → Option (Result (Option What) WhatFault) → List ℕ → Type 0
+  AnswersAsked old new result asked digits = (before : List ℕ)
+      → Tells contents old new result (λ last told on. DoesAsked holds refusals room (place old before) (place new last) asked digits told on) true
+
   abbrev pub AnswersLine : {A E : Type 0} → Sides K W → Sides K W → Result A E → List ℕ → Type 0
   AnswersLine old new result digits = (before : List ℕ)
       → Tells contents old new result (λ last told on. DoesLine holds refusals room (place old before) (place new last) digits told on) true

@@ -11,6 +11,7 @@ mod manners;
 mod moves;
 mod number;
 mod obeying;
+mod origin;
 mod packet;
 mod parser;
 mod remark;

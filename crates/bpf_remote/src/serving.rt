@@ -1,5 +1,5 @@
 //! Connections: the items of a stream, answered one after another.
-ghost use Rattle.std.specs.Prelude.{◌≡◌, ◌≤◌, ◌⊎◌, Bool, IfErr, IfOk, List, OnOk, length, ℕ};
+ghost use Rattle.std.specs.Prelude.{◌≡◌, ◌≤◌, ◌⊎◌, Bool, IfErr, IfOk, List, None, OnOk, Some, length, ℕ};
 ghost use Rattle.counted_io.specs.Counted.{Tally};
 ghost use Rattle.counted_io.specs.Writing.{Writes, WritesAfter};
 ghost use Rattle.bpf_remote.specs.Answers.{sent};
@@ -7,7 +7,7 @@ ghost use Rattle.bpf_remote.specs.Connections.{IsConsole, acknowledgement, packe
 ghost use Rattle.bpf_remote.specs.Remarks.{is_told, remark_text};
 ghost use Rattle.bpf_remote.specs.Packets.{Holds, framed, longest_body};
 ghost use Rattle.bpf_remote.specs.Serving.{Breaks, Serves};
-ghost use Rattle.bpf_remote.specs.Turning.{AnswersBody, AnswersLine, AnswersRequest, TakesTurn};
+ghost use Rattle.bpf_remote.specs.Turning.{AnswersAsked, AnswersBody, AnswersLine, AnswersRequest, TakesTurn};
 
 use crate::answer::append_answer;
 use crate::body::Body;
@@ -17,12 +17,14 @@ use crate::number::behind;
 use crate::obeying::{
     append_remark, goes_on, heed_line, is_answered, manners_after, obey, with_moves,
 };
+use crate::origin::{asked_in, show_origin};
 use crate::packet::put_packet;
 use crate::parser::request_of;
 use crate::remark::{Remark, remark_of};
 use crate::stream::{Item, next_item};
 use bpf_journal::Keeper;
 use bpf_machine::Cpu;
+use bpf_origin::{What, WhatFault};
 use bpf_session::{RunFault, Session};
 use counted_io::{Counted, WriteFault, write_text};
 use std::io::{Read, Write};
@@ -195,7 +197,7 @@ fn answer_body<K: Keeper, W: Write>(
     }
 }
 
-/// Answers a line of a script, which hexadecimal digits spell.
+/// Answers a line, which hexadecimal digits spell.
 fn answer_line<K: Keeper, W: Write>(
     session: &mut Session<K>,
     manners: &mut Manners,
@@ -217,6 +219,66 @@ fn answer_line<K: Keeper, W: Write>(
           answer = answer.new;
           writer = writer.new;
         }) result digits.now }
+{
+    match asked_in(session.cpu(), digits) {
+        Some(asked) => answer_asked(session, manners, asked, answer, writer),
+        None => answer_script(session, manners, digits, answer, writer),
+    }
+}
+
+/// Answers where a value came from.
+fn answer_asked<K: Keeper, W: Write>(
+    session: &mut Session<K>,
+    manners: &mut Manners,
+    asked: Result<Option<What>, WhatFault>,
+    answer: &mut Body,
+    writer: &mut Counted<W>,
+) -> Result<(), WriteFault>
+    ensures { (digits : List ℕ) →
+        AnswersAsked K.holds K.refused K.room W.contents
+        (record {
+          session = session.old;
+          manners = manners.old;
+          answer = answer.old;
+          writer = writer.old;
+        })
+        (record {
+          session = session.new;
+          manners = manners.new;
+          answer = answer.new;
+          writer = writer.new;
+        }) result (Some asked) digits }
+{
+    let begun = acknowledge(*manners, writer);
+    let (told, left) = show_origin(session, asked, manners.moves, answer, writer, begun);
+    *manners = with_moves(manners.moves.saturating_sub(left), *manners);
+    answer.clear();
+    answer.append(b"OK");
+    put_sent(writer, told, answer)
+}
+
+/// Answers a line of a script, which hexadecimal digits spell.
+fn answer_script<K: Keeper, W: Write>(
+    session: &mut Session<K>,
+    manners: &mut Manners,
+    digits: &[u8],
+    answer: &mut Body,
+    writer: &mut Counted<W>,
+) -> Result<(), WriteFault>
+    requires { length digits.now ≤ longest_body }
+    ensures { AnswersAsked K.holds K.refused K.room W.contents
+        (record {
+          session = session.old;
+          manners = manners.old;
+          answer = answer.old;
+          writer = writer.old;
+        })
+        (record {
+          session = session.new;
+          manners = manners.new;
+          answer = answer.new;
+          writer = writer.new;
+        }) result None digits.now }
 {
     let begun = acknowledge(*manners, writer);
     answer.clear();

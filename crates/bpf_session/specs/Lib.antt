@@ -10,6 +10,7 @@ pub mod Refused
 pub mod Meaning
 pub mod Replies
 pub mod Sessions
+pub mod Lending
 pub mod Output
 pub mod Runs
 pub mod Laws

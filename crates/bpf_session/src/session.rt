@@ -1,9 +1,11 @@
 //! Sessions: commands over a machine and the keeper of its moves.
+ghost use Rattle.std.specs.Borrow.{sem};
 ghost use Rattle.std.specs.Prelude.{◌≡◌, ◌≤◌, List, [], length};
 ghost use Rattle.bpf_journal.specs.Histories.{HasHistory, Record, StandsFor};
 ghost use Rattle.bpf_journal.specs.Tracks.{IsCourse, RingHolds, Track, ring_room, track_of};
 ghost use Rattle.bpfdb_commands.specs.Limits.{greatest_count};
 ghost use Rattle.bpf_session.specs.Accepted.{Accepts};
+ghost use Rattle.bpf_session.specs.Lending.{LendsCourse};
 ghost use Rattle.bpf_session.specs.Meaning.{accepted, does};
 ghost use Rattle.bpf_session.specs.Sessions.{HasPast, Obeys, bounds_of};
 
@@ -102,6 +104,15 @@ impl<K: Keeper> Session<K> {
         ensures { result.now ≡ self.now.moment.keeper }
     {
         self.timeline.keeper()
+    }
+
+    /// The machine with the moves that led to its state and those that were taken back, to be looked
+    /// at or moved. Breakpoints, watches and the limit stay as they are.
+    pub fn course_mut(&mut self) -> &mut Course<K>
+        ensures* writes_back { sem 𝓛 (LendsCourse K.row K.Keeper self.entry result) }
+        ensures value { result.now ≡ self.old.moment }
+    {
+        &mut self.timeline
     }
 
     /// The most steps of a command.

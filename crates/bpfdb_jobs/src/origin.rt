@@ -167,6 +167,7 @@ fn put_found<K: Keeper, W: Write>(
     Told {
         written: flush_after(writer, told.written),
         extent: told.extent,
+        moves: told.moves,
     }
 }
 

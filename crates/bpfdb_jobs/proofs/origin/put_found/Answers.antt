@@ -1,4 +1,4 @@
-use Rattle.std.proofs.Common.{◌++◌, codes}
+use Rattle.std.proofs.Common.{[], ◌++◌, codes}
 use Rattle.std.proofs.lemmas.List.{append-nil}
 use Rattle.bpf_origin.specs.Asked as spec
 use Rattle.bpfdb_replies.specs.Texts.{place}
@@ -11,6 +11,9 @@ returns-clause-text g c = λ h stands.
     let text = (spec.answer_about c.args.question c.args.parts.now h x).text in
     let placed = rw c.cpu.ensures at c.write_place-placed.ensures in
     let ended = c.put-ended.ensures _ _ placed in
-    let told = c.put_answer-told.ensures.text h stands _ _ ended in
+    let told = c.put_answer-told.ensures.text (record { history = h; ahead = [] }) stands _ _ ended in
     let last = c.flush_after.ensures _ _ told in
     Writes-text g.W.Write.contents _ _ _ _ _ last (append-nil (place x ++ codes "\n" ++ text))
+
+pub returns-clause-extent : goal.returns-clause-extent
+returns-clause-extent g c = λ h stands. c.put_answer-told.ensures.extent (record { history = h; ahead = [] }) stands
