@@ -245,7 +245,7 @@ refusals() {
             # (those of test files count from when the page has them)
             if (tested) letter["SectionFault"] = "T"
         }
-        { gsub(/\(_\)/, ""); sub(/Fields \{ \.\. \}/, "Fields"); gsub(/ \| [A-Za-z]+::[A-Za-z]+/, "") }
+        { gsub(/\(_\)/, ""); sub(/Fields \{ \.\. \}/, "Fields"); sub(/Extern \{ \.\. \}/, "Extern"); gsub(/ \| [A-Za-z]+::[A-Za-z]+/, "") }
         match($0, /[A-Za-z]+::[A-Za-z]+ => ([0-9]+|"[^"]*"),$/) {
             split(substr($0, RSTART, RLENGTH - 1), parts, / => /)
             split(parts[1], name, "::")

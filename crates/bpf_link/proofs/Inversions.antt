@@ -11,7 +11,7 @@ use Rattle.bpf_link.specs.declared.plan.Part.{Part}
 use Rattle.bpf_link.specs.declared.plan.Plan.{Plan}
 use Rattle.bpf_link.specs.declared.patch.Patch.{Patch}
 use Rattle.bpf_link.specs.Header.{provided}
-use Rattle.bpf_link.specs.Plans.{after, relocation_at, symbol_at}
+use Rattle.bpf_link.specs.Plans.{after, relocation_at, symbol_at, symbol_place}
 use Rattle.bpf_link.specs.Links.{patch_width}
 use Rattle.bpf_link.specs.Data.{is_among}
 use Rattle.bpf_link.specs.Patches.{is_call, is_map, is_empty_load, is_next, part_with, call_to, call_patch, map_patch, is_short_load, data_patch, load_patch, width_of, patch_with, patch_of}
@@ -92,7 +92,7 @@ with_at : (object : List ℕ) (plan : Plan) (maps taken : List ℕ) (part : Part
     → patch_with object plan maps taken part relocation symbol ≡ Ok patch
     → Placed patch (part.first + relocation.offset / 8) (width_of relocation) (nat_lt (relocation.offset / 8 + 1) part.slots.count)
 with_at object plan maps taken part relocation symbol patch e =
-    let a = provided_ok (not (symbol.section == 0)) (Extern (part.first + relocation.offset / 8)) _ _ e in
+    let a = provided_ok (not (symbol.section == 0)) (Extern (part.first + relocation.offset / 8) (symbol_place object plan symbol)) _ _ e in
     kind_at object plan maps taken symbol (part.slots.at + relocation.offset) (part.first + relocation.offset / 8) patch
     (relocation.kind == 10) (relocation.kind == 1) (nat_lt (relocation.offset / 8 + 1) part.slots.count) (one_kind relocation.kind) a.1
 

@@ -13,8 +13,8 @@ use Rattle.bpf_link.specs.declared.plan.Plan.{Plan}
 use Rattle.bpf_link.specs.declared.sections.Found.{Found}
 use Rattle.bpf_link.specs.Links.{planned}
 use Rattle.bpf_link.specs.MapTypes.{found_named, is_something, name_from, types_bytes, types_found}
+use Rattle.bpf_link.specs.Plans.{part_place}
 use Rattle.bpf_link.specs.Refusals.{HasReadFault}
-use Rattle.bpf_link.specs.Sections.{section_at}
 
 -- The section that lists them, and its bytes.
 abbrev pub ext_found : List ℕ → Plan → Found
@@ -23,19 +23,12 @@ ext_found object plan = found_named object plan.sections (codes ".BTF.ext")
 abbrev pub ext_bytes : List ℕ → Plan → List ℕ
 ext_bytes object plan = types_bytes object plan.sections (ext_found object plan)
 
--- Where the name of a part's section stands in the file, however long it is.
-abbrev pub long_name : List ℕ → Plan → Part → ℕ
-long_name object plan part =
-    if nat_lt part.section plan.sections.count
-    then min (plan.sections.names + (section_at object plan.sections part.section).name) (length object)
-    else length object
-
--- The same, if it has at most 255 bytes; else the file's end, where there is none.
+-- Where a name stands in the file, if it has at most 255 bytes; else the file's end, where there is none.
 abbrev pub short_name : List ℕ → ℕ → ℕ
 short_name object at = if nat_lt 255 (length (name_from object at)) then length object else at
 
 abbrev pub part_name : List ℕ → Plan → Part → ℕ
-part_name object plan part = short_name object (long_name object plan part)
+part_name object plan part = short_name object (part_place object plan part)
 
 -- No relocation.
 abbrev pub no_fields : FieldRelocations

@@ -4,6 +4,7 @@ pub mod Header
 pub mod Sections
 pub mod Plans
 pub mod Entries
+pub mod Sources
 pub mod Data
 pub mod Patches
 pub mod Images
@@ -15,4 +16,6 @@ pub mod Links
 pub mod Laid
 pub mod Shapes
 pub mod Refusals
+pub mod Names
+pub mod Helpers
 pub mod FieldRelocations

@@ -20,6 +20,7 @@ use Rattle.bpf_link.specs.Data.{data_of}
 use Rattle.bpf_link.specs.Entries.{entry_of}
 use Rattle.bpf_link.specs.Patches.{is_map, patch_of, with_u32}
 use Rattle.bpf_link.specs.Setup.{stores_of, with_setup}
+use Rattle.bpf_link.specs.Sources.{source_of}
 use Rattle.bpf_link.specs.Stubs.{answered, answers}
 use Rattle.bpf_link.specs.declared.stubs.Stub.{Stub}
 
@@ -142,15 +143,18 @@ pub record AreWordsOf (object name entry : List ℕ) (stubs : List Stub) (code :
   pub words : code ≡ program.words
   pub accepted : IsAccepted code (least_maps program.maps program.data_maps)
 
--- What is told of words that the checker refuses: of a call of a helper that there isn't the helper's number, too.
-abbrev pub told_of : List ℕ → LoadFault → LinkFault
-told_of words (At slot UnknownHelper) = Helper slot (u32_at words (8 * slot + 4))
-told_of words refusal = Program refusal
+-- What is told of words that the checker refuses: from where their slot comes; of a call of a helper that there isn't the helper's number, too.
+abbrev pub told_of : List ℕ → Plan → List ℕ → LoadFault → LinkFault
+told_of object plan words (At slot UnknownHelper) = Helper slot (u32_at words (8 * slot + 4)) (source_of object plan words slot)
+told_of object plan words (At slot fault) = Program (At slot fault) (source_of object plan words slot)
+told_of object plan words refusal = Program refusal None
 
 -- The words are no program.
 pub record IsRejected (object name entry : List ℕ) (stubs : List Stub) (fault : LinkFault) : Type 0 where
+  pub plan : Plan
+  pub plans : planned object name ≡ Ok plan
   pub program : Made
   pub refusal : LoadFault
-  pub told : fault ≡ told_of program.words refusal
+  pub told : fault ≡ told_of object plan program.words refusal
   pub linked : linked object name entry stubs ≡ Ok program
   pub refused : IsRefused program.words (least_maps program.maps program.data_maps) refusal

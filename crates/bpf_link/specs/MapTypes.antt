@@ -1,5 +1,5 @@
 -- The shapes of the maps of a section `.maps`, by the section `.BTF` of the object.
-use Rattle.std.specs.Prelude.{ℕ, ◌+◌, ◌==◌, nat_le, nat_lt, min, Bool, true, false, ◌&&◌, if◌then◌else◌, List, [], ◌∷◌, ◌++◌, Option, Some, None, Result, Ok, Err, length, slice_index, slice_range, codes}
+use Rattle.std.specs.Prelude.{ℕ, ◌+◌, ◌==◌, nat_le, nat_lt, Bool, true, false, ◌&&◌, if◌then◌else◌, List, [], ◌∷◌, ◌++◌, Option, Some, None, Result, Ok, Err, length, slice_index, slice_range, codes}
 use Rattle.std.specs.List.{before_first}
 use Rattle.bpf_isa.specs.declared.maps.MapShape.{MapShape}
 use Rattle.bpf_btf.specs.Maps.{last_below, map_shape}
@@ -14,7 +14,7 @@ use Rattle.bpf_link.specs.declared.plan.Plan.{Plan}
 use Rattle.bpf_link.specs.declared.sections.Found.{Found}
 use Rattle.bpf_link.specs.declared.sections.Found.TheVariants.{Nothing, Only, Several}
 use Rattle.bpf_link.specs.Sections.{section_at, is_named, found_below}
-use Rattle.bpf_link.specs.Plans.{after, steps, symbol_at}
+use Rattle.bpf_link.specs.Plans.{after, steps, symbol_at, symbol_place}
 use Rattle.bpf_link.specs.Patches.{is_map}
 
 -- The maps stand in `.maps`, where only BTF tells what they are.
@@ -55,12 +55,6 @@ is_zero_byte byte = byte == 0
 abbrev pub name_from : List ℕ → ℕ → List ℕ
 name_from object at = before_first is_zero_byte (slice_range object at (length object))
 
--- The name that a fault tells: that of its map, or of the section of its code; none of other faults.
-abbrev pub fault_name : List ℕ → LinkFault → List ℕ
-fault_name object (link.Map at fault) = name_from object at
-fault_name object (link.Fields count slot at) = name_from object at
-fault_name object fault = []
-
 -- The last symbol that names the map at a place, and where its name stands.
 abbrev pub is_map_at : Plan → ℕ → SymbolEntry → Bool
 is_map_at plan place symbol = is_map plan.maps symbol && (symbol.value == place)
@@ -70,7 +64,7 @@ symbol_of object plan place = last_below (λ i. is_map_at plan place (symbol_at 
 
 abbrev pub name_place : List ℕ → Plan → Option ℕ → ℕ
 name_place object plan None = length object
-name_place object plan (Some i) = min (plan.names + (symbol_at object plan.symbols i).name) (length object)
+name_place object plan (Some i) = symbol_place object plan (symbol_at object plan.symbols i)
 
 -- The shape of the map at a place: that of the variable of its name.
 abbrev pub told_of_map : ℕ → Result MapShape BtfFault → Result MapShape LinkFault

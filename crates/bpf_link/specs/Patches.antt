@@ -11,7 +11,7 @@ use Rattle.bpf_link.specs.declared.plan.Part.{Part}
 use Rattle.bpf_link.specs.declared.plan.Plan.{Plan}
 use Rattle.bpf_link.specs.declared.patch.Patch.{Patch}
 use Rattle.bpf_link.specs.Header.{provided}
-use Rattle.bpf_link.specs.Plans.{after, relocation_at, symbol_at}
+use Rattle.bpf_link.specs.Plans.{after, relocation_at, symbol_at, symbol_place}
 use Rattle.bpf_link.specs.Data.{is_among, data_number}
 
 -- The slot of a call: opcode 0x85, and 1 for src, which tells a local call. The functions of the kernel have 2, its helpers 0.
@@ -83,7 +83,7 @@ load_patch object plan maps taken symbol at slot =
 -- What a relocation against a symbol makes of the slot that it names. One of a wide load names the first of two slots.
 abbrev pub patch_with : List ℕ → Plan → List ℕ → List ℕ → Part → RelocationEntry → SymbolEntry → Result Patch LinkFault
 patch_with object plan maps taken part relocation symbol =
-    provided (not (symbol.section == 0)) (Extern (part.first + relocation.offset / 8))
+    provided (not (symbol.section == 0)) (Extern (part.first + relocation.offset / 8) (symbol_place object plan symbol))
     (if relocation.kind == 10 then call_patch object plan symbol (part.slots.at + relocation.offset) (part.first + relocation.offset / 8)
     else (if relocation.kind == 1
     then provided (nat_lt (relocation.offset / 8 + 1) part.slots.count) (NoLoad (part.first + relocation.offset / 8)) (load_patch object plan maps taken symbol (part.slots.at + relocation.offset) (part.first + relocation.offset / 8))

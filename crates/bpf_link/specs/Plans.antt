@@ -1,5 +1,5 @@
 -- What a program is put together from: the section that is asked for, `.text` where that calls it, the symbols and the maps.
-use Rattle.std.specs.Prelude.{◌≤◌, ◌<◌, ◌≡◌, ℕ, zero, suc, ◌+◌, ◌*◌, ◌/◌, ◌%◌, ◌-◌, ◌==◌, nat_le, nat_lt, Bool, true, false, ◌&&◌, ◌||◌, if◌then◌else◌, List, Result, Ok, Err, length, codes, slice_index}
+use Rattle.std.specs.Prelude.{◌≤◌, ◌<◌, ◌≡◌, ℕ, zero, suc, ◌+◌, ◌*◌, ◌/◌, ◌%◌, ◌-◌, ◌==◌, nat_le, nat_lt, min, Bool, true, false, ◌&&◌, ◌||◌, if◌then◌else◌, List, Result, Ok, Err, length, codes, slice_index}
 use Rattle.bpf_isa.specs.Checker.{most_slots}
 use Rattle.bpf_link.specs.declared.fault.LinkFault.{LinkFault}
 use Rattle.bpf_link.specs.declared.fault.LinkFault.TheVariants.{NoSection, ManySections, Section, TooLong, RunsOff, SymbolTable, ManyMapSections, RelocationTable}
@@ -15,7 +15,7 @@ use Rattle.bpf_link.specs.declared.plan.Part.{Part}
 use Rattle.bpf_link.specs.declared.plan.Plan.{Plan}
 use Rattle.bpf_link.specs.Layout.{symbol_entry, relocation_entry}
 use Rattle.bpf_link.specs.Header.{provided, HasTable}
-use Rattle.bpf_link.specs.Sections.{section_at, is_named, relocations_of}
+use Rattle.bpf_link.specs.Sections.{section_at, section_place, is_named, relocations_of}
 
 -- What follows a value, unless there is a fault.
 abbrev pub after : {A B : Type 0} → Result A LinkFault → (A → Result B LinkFault) → Result B LinkFault
@@ -88,6 +88,15 @@ relocation_at object relocations i = relocation_entry object (relocations.at + 1
 
 abbrev pub symbol_at : List ℕ → Entries → ℕ → SymbolEntry
 symbol_at object symbols i = symbol_entry object (symbols.at + 24 * i)
+
+-- Where the name of a symbol, and that of a part's section, stand in the file, or the file's end.
+abbrev pub symbol_place : List ℕ → Plan → SymbolEntry → ℕ
+symbol_place object plan symbol = min (plan.names + symbol.name) (length object)
+
+abbrev pub part_place : List ℕ → Plan → Part → ℕ
+part_place object plan part =
+    if nat_lt part.section plan.sections.count
+    then section_place object plan.sections (section_at object plan.sections part.section) else length object
 
 -- A relocation is of a kind, and against a symbol of a section. That of a call is R_BPF_64_32, 10, and that of a wide load R_BPF_64_64, 1.
 abbrev pub is_reference : List ℕ → Entries → ℕ → ℕ → RelocationEntry → Bool

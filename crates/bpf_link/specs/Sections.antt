@@ -1,5 +1,5 @@
 -- The sections of an object: which one is asked for, and which ones belong to it.
-use Rattle.std.specs.Prelude.{◌<◌, ℕ, zero, suc, ◌+◌, ◌*◌, ◌/◌, ◌%◌, ◌==◌, nat_lt, Bool, true, false, not, ◌&&◌, ◌||◌, if◌then◌else◌, List, length, codes, slice_index, slice_range}
+use Rattle.std.specs.Prelude.{◌<◌, ℕ, zero, suc, ◌+◌, ◌*◌, ◌/◌, ◌%◌, ◌==◌, nat_lt, min, Bool, true, false, not, ◌&&◌, ◌||◌, if◌then◌else◌, List, length, codes, slice_index, slice_range}
 use Rattle.std.specs.Str.{bytes_eq}
 use Rattle.bpf_link.specs.declared.header.Sections.{Sections}
 use Rattle.bpf_link.specs.declared.layout.SectionHeader.{SectionHeader}
@@ -21,6 +21,10 @@ name_at object at name =
 -- A section has a name.
 abbrev pub is_named : List ℕ → Sections → SectionHeader → List ℕ → Bool
 is_named object sections section name = name_at object (sections.names + section.name) name
+
+-- Where the name of a section stands in the file, or the file's end.
+abbrev pub section_place : List ℕ → Sections → SectionHeader → ℕ
+section_place object sections section = min (sections.names + section.name) (length object)
 
 -- A section holds instructions: SHT_PROGBITS, SHF_EXECINSTR, and not empty.
 abbrev pub is_code : SectionHeader → Bool

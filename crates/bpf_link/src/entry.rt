@@ -13,14 +13,14 @@ use crate::sections::{Found, name_at};
 const LONGEST_NAME: usize = 255;
 
 /// Whether a symbol is a function of a section.
-fn is_function(section: usize, symbol: &SymbolEntry) -> bool
+pub fn is_function(section: usize, symbol: &SymbolEntry) -> bool
     ensures { result ≡ is_function section symbol.now }
 {
     symbol.kind == 2 && usize::from(symbol.section) == section
 }
 
 /// Whether a symbol is a function of a section that is known outside the object.
-fn is_program(section: usize, symbol: &SymbolEntry) -> bool
+pub fn is_program(section: usize, symbol: &SymbolEntry) -> bool
     ensures { result ≡ is_program section symbol.now }
 {
     is_function(section, symbol) && symbol.binding > 0

@@ -2,6 +2,7 @@
 ghost use Rattle.std.specs.Prelude.{◌≡◌};
 ghost use Rattle.bpf_isa.specs.declared.fault.LoadFault.{LoadFault};
 
+use crate::sources::Source;
 use bpf_btf::BtfFault;
 use bpf_isa::LoadFault;
 
@@ -50,8 +51,11 @@ pub enum LinkFault {
     /// A relocation names no symbol of the table.
     Symbol(usize),
     /// A symbol that isn't defined in the object: a function or a variable of the kernel, or a
-    /// missing one.
-    Extern(usize),
+    /// missing one. The name of it stands at this place in the file.
+    Extern {
+        slot: usize,
+        at: usize,
+    },
     /// Neither a call nor a wide load.
     RelocationKind(usize),
     /// A call of what is no function of the section or of `.text`.
@@ -62,8 +66,11 @@ pub enum LinkFault {
     Data(usize),
     /// The relocation of a map is at another instruction, or at one that has a number.
     NoLoad(usize),
-    /// The words are no program.
-    Program(LoadFault),
+    /// The words are no program; the slot of the fault comes from this one of the object.
+    Program {
+        fault: LoadFault,
+        source: Option<Source>,
+    },
     /// Memory ran out.
     Memory,
     /// The program refers to a section of data of more than 65,536 bytes.
@@ -76,8 +83,13 @@ pub enum LinkFault {
     ManyPrograms,
     /// The code section has no function of the name that is asked for, or it begins at no slot of it.
     NoEntry,
-    /// The words at this slot call the helper of this number, which the machine doesn't have.
-    Helper { slot: usize, helper: u32 },
+    /// The words at this slot, which comes from this one of the object, call the helper of this
+    /// number, which the machine doesn't have.
+    Helper {
+        slot: usize,
+        helper: u32,
+        source: Option<Source>,
+    },
     /// A text is no list of stubs.
     StubList,
     /// The number of a stub's helper isn't of 32 bits, or its value isn't -2147483648 to
@@ -91,10 +103,17 @@ pub enum LinkFault {
     Types(BtfFault),
     /// BTF asks for so many relocations of fields (CO-RE), the first at this slot; the name of its
     /// section stands at this place in the file.
-    Fields { count: u32, slot: usize, at: usize },
+    Fields {
+        count: u32,
+        slot: usize,
+        at: usize,
+    },
     /// BTF doesn't say of the map, whose name stands at this place in the file, what the machine may
     /// have.
-    Map { at: usize, fault: BtfFault },
+    Map {
+        at: usize,
+        fault: BtfFault,
+    },
 }
 
 impl LinkFault {
@@ -124,13 +143,13 @@ impl LinkFault {
             LinkFault::RelocationTable => 16,
             LinkFault::Place => 17,
             LinkFault::Symbol(_) => 18,
-            LinkFault::Extern(_) => 19,
+            LinkFault::Extern { .. } => 19,
             LinkFault::RelocationKind(_) => 20,
             LinkFault::CallTarget(_) => 21,
             LinkFault::NoCall(_) => 22,
             LinkFault::Data(_) => 23,
             LinkFault::NoLoad(_) => 24,
-            LinkFault::Program(_) => 25,
+            LinkFault::Program { .. } => 25,
             LinkFault::Memory => 26,
             LinkFault::LongData => 27,
             LinkFault::DataSection => 28,
@@ -171,13 +190,13 @@ impl LinkFault {
             LinkFault::RelocationTable => "malformed relocation table",
             LinkFault::Place => "relocation at no slot, or out of order",
             LinkFault::Symbol(_) => "relocation against no symbol",
-            LinkFault::Extern(_) => "symbol is not defined in the object",
+            LinkFault::Extern { .. } => "symbol is not defined in the object",
             LinkFault::RelocationKind(_) => "unknown relocation",
             LinkFault::CallTarget(_) => "call of no function of the program",
             LinkFault::NoCall(_) => "relocation of a call at no call",
             LinkFault::Data(_) => "reference to data that is no map",
             LinkFault::NoLoad(_) => "relocation of a map at no empty wide load",
-            LinkFault::Program(fault) => fault.text(),
+            LinkFault::Program { fault, .. } => fault.text(),
             LinkFault::Memory => "out of memory",
             LinkFault::LongData => "data longer than 65536 bytes",
             LinkFault::DataSection => "malformed data section",

@@ -1,6 +1,6 @@
 //! The relocations of fields (CO-RE) of the code that comes out.
 ghost use Rattle.std.specs.Prelude.{◌≡◌, ◌≤◌, ◌<◌, ◌+◌, ◌/◌, ◌==◌, ◌⊎◌, true, IfOk, IfErr, Ok, length};
-ghost use Rattle.bpf_link.specs.FieldRelocations.{AreLeft, CountedFields, HasFields, HasCountFault, HasExtFault, IsCountFault, IsFieldsFault, ListedFields, PartFields, PlanFields, both_fields, ext_bytes, ext_found, fields_at, long_name, part_name, short_name};
+ghost use Rattle.bpf_link.specs.FieldRelocations.{AreLeft, CountedFields, HasFields, HasCountFault, HasExtFault, IsCountFault, IsFieldsFault, ListedFields, PartFields, PlanFields, both_fields, ext_bytes, ext_found, fields_at, part_name, short_name};
 ghost use Rattle.bpf_link.specs.Links.{planned};
 ghost use Rattle.bpf_link.specs.MapTypes.{is_something};
 ghost use Rattle.bpf_link.specs.Plans.{LiesPlan};
@@ -11,8 +11,8 @@ use crate::linker::planned;
 use crate::map_types::{
     found_named, is_something, name_from, told_of_types, types_bytes, types_in,
 };
-use crate::plan::{Part, Plan};
-use crate::sections::{Found, section_at};
+use crate::plan::{Part, Plan, part_place};
+use crate::sections::Found;
 use bpf_btf::{Btf, CoreRelocations};
 use std::alloc::Global;
 
@@ -61,24 +61,7 @@ fn part_name(object: &[u8], plan: &Plan, part: &Part) -> usize
     ensures value { result ≡ part_name object.now plan.now part.now }
     ensures inside { result ≤ length object.now }
 {
-    short_name(object, long_name(object, plan, part))
-}
-
-/// Where it stands, however long it is.
-fn long_name(object: &[u8], plan: &Plan, part: &Part) -> usize
-    requires { LiesPlan object.now plan.now }
-    ensures value { result ≡ long_name object.now plan.now part.now }
-    ensures inside { result ≤ length object.now }
-{
-    if part.section >= plan.sections.count {
-        return object.len();
-    }
-    let section = section_at(object, &plan.sections, part.section);
-    let offset = section.name as usize;
-    if offset > object.len() - plan.sections.names {
-        return object.len();
-    }
-    plan.sections.names + offset
+    short_name(object, part_place(object, plan, part))
 }
 
 /// Relocations of a part, by those of its section.

@@ -20,6 +20,7 @@ use crate::plan::{Plan, plan_of};
 use crate::sections::{roles_of, section_at};
 use crate::setup::{stores_of, with_setup};
 use crate::shapes::all_shapes;
+use crate::sources::source_of;
 use crate::stubs::{Stub, answered, answers};
 use crate::words::{maps_of, words_of};
 use arrayvec::ArrayVec;
@@ -335,14 +336,15 @@ pub fn link_with(
             Err(fault) => Err(fault),
         },
         Err(LoadFault::Memory) => Err(LinkFault::Memory),
-        Err(fault) => Err(told_of(&program.words, fault)),
+        Err(fault) => Err(told_of(object, &plan, &program.words, fault)),
     }
 }
 
 /// What is told of words that the checker refuses.
-fn told_of(words: &[u8], fault: LoadFault) -> LinkFault
-    requires { (maps : List MapShape) × IsRefused words.now maps fault }
-    ensures { result ≡ told_of words.now fault }
+fn told_of(object: &[u8], plan: &Plan, words: &[u8], fault: LoadFault) -> LinkFault
+    requires plan { LiesPlan object.now plan.now }
+    requires refused { (maps : List MapShape) × IsRefused words.now maps fault }
+    ensures { result ≡ told_of object.now plan.now words.now fault }
 {
     match fault {
         LoadFault::At {
@@ -351,8 +353,16 @@ fn told_of(words: &[u8], fault: LoadFault) -> LinkFault
         } => LinkFault::Helper {
             slot,
             helper: u32_at(words, 8 * slot + 4),
+            source: source_of(object, plan, words, slot),
         },
-        _ => LinkFault::Program(fault),
+        LoadFault::At { slot, .. } => LinkFault::Program {
+            fault,
+            source: source_of(object, plan, words, slot),
+        },
+        _ => LinkFault::Program {
+            fault,
+            source: None,
+        },
     }
 }
 

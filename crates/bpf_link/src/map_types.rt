@@ -2,7 +2,7 @@
 ghost use Rattle.std.specs.Prelude.{◌≡◌, ◌≤◌, ◌<◌, ◌⊎◌, IfOk, IfErr, IfSome, Ok, Err, length, position};
 ghost use Rattle.std.specs.List.{position_or_len};
 ghost use Rattle.bpf_link.specs.Header.{HasTable};
-ghost use Rattle.bpf_link.specs.MapTypes.{are_in_maps, found_named, types_found, section_bytes, types_bytes, is_something, is_typed, is_zero_byte, name_from, fault_name, is_map_at, symbol_of, name_place, told_of_map, typed_by_name, typed_at, typed_shapes};
+ghost use Rattle.bpf_link.specs.MapTypes.{are_in_maps, found_named, types_found, section_bytes, types_bytes, is_something, is_typed, is_zero_byte, name_from, is_map_at, symbol_of, name_place, told_of_map, typed_by_name, typed_at, typed_shapes};
 ghost use Rattle.bpf_link.specs.Plans.{LiesPlan};
 ghost use Rattle.bpf_link.specs.Sections.{FoundBelow};
 ghost use Rattle.bpf_link.specs.Refusals.{IsTypeFault};
@@ -13,7 +13,7 @@ use crate::fields::lies;
 use crate::header::Sections;
 use crate::layout::{SectionHeader, SymbolEntry};
 use crate::patch::is_map;
-use crate::plan::{Plan, symbol_at};
+use crate::plan::{Plan, symbol_at, symbol_place};
 use crate::sections::{Found, is_named, section_at};
 use crate::shapes::in_order;
 use arrayvec::ArrayVec;
@@ -136,18 +136,6 @@ pub fn name_from<'a>(object: &'a [u8], at: usize) -> &'a [u8]
     &rest[..end_of(rest)]
 }
 
-/// The name that a fault of an object tells, as it stands there: that of its map, or of the section
-/// of its code; empty where it tells none.
-pub fn fault_name<'a>(object: &'a [u8], fault: &LinkFault) -> &'a [u8]
-    ensures { result.now ≡ fault_name object.now fault.now }
-{
-    match fault {
-        LinkFault::Map { at, .. } => name_from(object, (*at).min(object.len())),
-        LinkFault::Fields { at, .. } => name_from(object, (*at).min(object.len())),
-        _ => &[],
-    }
-}
-
 /// Whether a symbol names the map at a place.
 fn is_map_at(plan: &Plan, place: u64, symbol: &SymbolEntry) -> bool
     ensures { result ≡ is_map_at plan.now place symbol.now }
@@ -181,15 +169,7 @@ fn name_place(object: &[u8], plan: &Plan, symbol: Option<usize>) -> usize
     let Some(i) = symbol else {
         return object.len();
     };
-    let len = object.len() as u64;
-    if plan.names > len {
-        return object.len();
-    }
-    let at = plan.names + u64::from(symbol_at(object, &plan.symbols, i).name);
-    if at > len {
-        return object.len();
-    }
-    at as usize
+    symbol_place(object, plan, &symbol_at(object, &plan.symbols, i))
 }
 
 /// A shape, or the fault of the map whose name stands at a place in the file.

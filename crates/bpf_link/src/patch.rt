@@ -9,7 +9,7 @@ use crate::data_sections::{data_number, is_among};
 use crate::fault::LinkFault;
 use crate::fields::u32_at;
 use crate::layout::{RelocationEntry, SymbolEntry};
-use crate::plan::{Entries, Part, Plan, relocation_at, symbol_at};
+use crate::plan::{Entries, Part, Plan, relocation_at, symbol_at, symbol_place};
 
 /// What becomes of a slot: the byte of its registers, and its imm.
 #[derive(Clone, Copy)]
@@ -234,7 +234,10 @@ fn patch_with(
     let at = part.slots.at + offset;
     let slot = part.first + offset / 8;
     if symbol.section == 0 {
-        return Err(LinkFault::Extern(slot));
+        return Err(LinkFault::Extern {
+            slot,
+            at: symbol_place(object, plan, symbol),
+        });
     }
     if relocation.kind == 10 {
         return call_patch(object, plan, symbol, at, slot);

@@ -1,14 +1,14 @@
 //! What a program is put together from.
 ghost use Rattle.std.specs.Prelude.{◌≡◌, ◌≤◌, ◌<◌, ◌==◌, ◌⊎◌, length, IfOk, ℕ, Bool};
 ghost use Rattle.bpf_link.specs.Header.{HasTable};
-ghost use Rattle.bpf_link.specs.Plans.{entries_of, symbols_in, maps_in, chosen_in, is_only, relocations_in, part_of, relocation_at, symbol_at, is_reference, refers_below, text_in, is_closed, has_definitions, definitions_in, names_in, plan_with, plan_of, Lies, LiesPart, LiesPlan};
+ghost use Rattle.bpf_link.specs.Plans.{entries_of, symbols_in, maps_in, chosen_in, is_only, relocations_in, part_of, relocation_at, symbol_at, symbol_place, part_place, is_reference, refers_below, text_in, is_closed, has_definitions, definitions_in, names_in, plan_with, plan_of, Lies, LiesPart, LiesPlan};
 ghost use Rattle.bpf_link.specs.Sections.{FoundBelow};
 
 use crate::fault::LinkFault;
 use crate::fields::lies;
 use crate::header::Sections;
 use crate::layout::{RelocationEntry, SectionHeader, SymbolEntry, relocation_entry, symbol_entry};
-use crate::sections::{Found, Roles, is_named, relocations_of, section_at};
+use crate::sections::{Found, Roles, is_named, relocations_of, section_at, section_place};
 use bpf_isa::MOST_SLOTS;
 
 /// Entries of one size, one after the other, in the file.
@@ -212,6 +212,35 @@ pub fn symbol_at(object: &[u8], symbols: &Entries, i: usize) -> SymbolEntry
     ensures { result ≡ symbol_at object.now symbols.now i }
 {
     symbol_entry(object, symbols.at + 24 * i)
+}
+
+/// Where the name of a symbol stands in the file, or the file's end.
+pub fn symbol_place(object: &[u8], plan: &Plan, symbol: &SymbolEntry) -> usize
+    ensures value { result ≡ symbol_place object.now plan.now symbol.now }
+    ensures inside { result ≤ length object.now }
+{
+    let len = object.len() as u64;
+    if plan.names > len {
+        return object.len();
+    }
+    let at = plan.names + u64::from(symbol.name);
+    if at > len {
+        return object.len();
+    }
+    at as usize
+}
+
+/// Where the name of a part's section stands in the file, or the file's end.
+pub fn part_place(object: &[u8], plan: &Plan, part: &Part) -> usize
+    requires { LiesPlan object.now plan.now }
+    ensures value { result ≡ part_place object.now plan.now part.now }
+    ensures inside { result ≤ length object.now }
+{
+    if part.section >= plan.sections.count {
+        return object.len();
+    }
+    let section = section_at(object, &plan.sections, part.section);
+    section_place(object, &plan.sections, &section)
 }
 
 /// Whether a relocation is of a kind, and against a symbol of a section.

@@ -1,7 +1,7 @@
 //! The sections of an object, by their kinds and names.
 ghost use Rattle.std.specs.Prelude.{◌≡◌, ◌≤◌, ◌<◌, length};
 ghost use Rattle.bpf_link.specs.Header.{HasTable};
-ghost use Rattle.bpf_link.specs.Sections.{section_at, name_at, is_named, is_code, is_text, is_chosen, is_symbols, is_maps, is_data, is_relocations, found_with, FoundBelow, roles_below, relocations_of};
+ghost use Rattle.bpf_link.specs.Sections.{section_at, section_place, name_at, is_named, is_code, is_text, is_chosen, is_symbols, is_maps, is_data, is_relocations, found_with, FoundBelow, roles_below, relocations_of};
 
 use crate::header::Sections;
 use crate::layout::{SectionHeader, section_header};
@@ -77,7 +77,20 @@ pub fn is_named(object: &[u8], sections: &Sections, section: &SectionHeader, nam
     name_at(object, sections.names + offset, name)
 }
 
-fn is_code(section: &SectionHeader) -> bool
+/// Where the name of a section stands in the file, or the file's end.
+pub fn section_place(object: &[u8], sections: &Sections, section: &SectionHeader) -> usize
+    requires { HasTable object.now sections.now }
+    ensures value { result ≡ section_place object.now sections.now section.now }
+    ensures inside { result ≤ length object.now }
+{
+    let offset = section.name as usize;
+    if offset > object.len() - sections.names {
+        return object.len();
+    }
+    sections.names + offset
+}
+
+pub fn is_code(section: &SectionHeader) -> bool
     ensures { result ≡ is_code section.now }
 {
     section.kind == 1 && (section.flags / 4 % 2 == 1 && section.size > 0)

@@ -70,13 +70,16 @@ fn fault(number: usize) -> LinkFault {
         16 => LinkFault::RelocationTable,
         17 => LinkFault::Place,
         18 => LinkFault::Symbol(0),
-        19 => LinkFault::Extern(0),
+        19 => LinkFault::Extern { slot: 0, at: 0 },
         20 => LinkFault::RelocationKind(0),
         21 => LinkFault::CallTarget(0),
         22 => LinkFault::NoCall(0),
         23 => LinkFault::Data(0),
         24 => LinkFault::NoLoad(0),
-        25 => LinkFault::Program(LoadFault::Empty),
+        25 => LinkFault::Program {
+            fault: LoadFault::Empty,
+            source: None,
+        },
         26 => LinkFault::Memory,
         27 => LinkFault::LongData,
         28 => LinkFault::DataSection,
@@ -87,7 +90,11 @@ fn fault(number: usize) -> LinkFault {
         33 => LinkFault::StubRange,
         34 => LinkFault::StubTwice,
         35 => LinkFault::ManyStubs,
-        36 => LinkFault::Helper { slot: 0, helper: 5 },
+        36 => LinkFault::Helper {
+            slot: 0,
+            helper: 5,
+            source: None,
+        },
         _ => early_fault(number),
     }
 }

@@ -5,8 +5,10 @@ use Rattle.bpf_isa.specs.Faults.{load_fault, map_fault}
 use Rattle.bpf_isa.specs.declared.fault.LoadFault.{LoadFault}
 use Rattle.bpf_isa.specs.declared.fault.LoadFault.TheVariants as load
 use Rattle.bpf_link.specs.Faults.{link_fault_number, link_fault_text}
+use Rattle.bpf_link.specs.Helpers.{helper_name}
 use Rattle.bpf_link.specs.declared.fault.LinkFault.{LinkFault}
 use Rattle.bpf_link.specs.declared.fault.LinkFault.TheVariants as linking
+use Rattle.bpf_link.specs.declared.sources.Source.{Source}
 use Rattle.bpf_suite.specs.Faults as suite
 use Rattle.bpf_text.specs.Faults.{fault_line, fault_number, fault_text}
 use Rattle.bpf_machine.specs.Opening as opening
@@ -43,17 +45,26 @@ placed unit None = []
 abbrev pub refusal_text : List ℕ → ℕ → List ℕ → List ℕ → List ℕ
 refusal_text family number at text = family ++ decimal number ++ at ++ codes ": " ++ text ++ codes "\n"
 
--- What stands behind the text of an object's fault: of a call of a helper that there isn't its number, and the option that answers it.
+-- What stands behind the text of an object's fault: of a call of a helper that there isn't its number, its name in the kernel, if it has one, and the
+-- option that answers it.
+abbrev pub kernel_name : List ℕ → List ℕ
+kernel_name [] = []
+kernel_name (byte ∷ bytes) = codes " (bpf_" ++ (byte ∷ bytes) ++ codes ")"
+
 abbrev pub helper_text : ℕ → List ℕ
-helper_text helper = codes " " ++ decimal helper ++ codes ": --stub " ++ decimal helper ++ codes "=VALUE answers it"
+helper_text helper =
+    codes " " ++ decimal helper ++ kernel_name (helper_name helper) ++ codes ": --stub " ++ decimal helper ++ codes "=VALUE answers it"
 
 -- How many relocations of fields there are, and the option that leaves them.
 abbrev pub fields_text : ℕ → List ℕ
 fields_text count = codes ", " ++ decimal count ++ codes " in all: --as-compiled leaves them undone"
 
+-- The option that chooses a section or a function.
 abbrev pub more_of : LinkFault → List ℕ
-more_of (linking.Helper slot helper) = helper_text helper
+more_of (linking.Helper slot helper source) = helper_text helper
 more_of (linking.Fields count slot at) = fields_text count
+more_of linking.ManySections = codes ": --section NAME chooses one"
+more_of linking.ManyPrograms = codes ": --entry NAME chooses one"
 more_of fault = []
 
 -- The slot of a program's fault, where it has one.
@@ -67,25 +78,35 @@ slot_of load.Memory = None
 -- The slot of an object's fault, where the words that are linked have one, or a relocation.
 abbrev pub slot_of_words : LinkFault → Option ℕ
 slot_of_words (linking.Symbol slot) = Some slot
-slot_of_words (linking.Extern slot) = Some slot
+slot_of_words (linking.Extern slot at) = Some slot
 slot_of_words (linking.RelocationKind slot) = Some slot
 slot_of_words (linking.CallTarget slot) = Some slot
 slot_of_words (linking.NoCall slot) = Some slot
 slot_of_words (linking.Data slot) = Some slot
 slot_of_words (linking.NoLoad slot) = Some slot
-slot_of_words (linking.Program fault) = slot_of fault
-slot_of_words (linking.Helper slot helper) = Some slot
+slot_of_words (linking.Program fault source) = slot_of fault
+slot_of_words (linking.Helper slot helper source) = Some slot
 slot_of_words (linking.Fields count slot at) = Some slot
 slot_of_words fault = None
 
--- The name of what is wrong with an object.
+-- The name of what is wrong with an object, or those of what there is.
 abbrev pub name_text : List ℕ → List ℕ
 name_text [] = []
 name_text (byte ∷ bytes) = codes ": " ++ shown (byte ∷ bytes)
 
+-- Behind the name of a section the slot of it from which that of the words comes.
+abbrev pub source_text : Option Source → List ℕ
+source_text (Some source) = codes ", slot " ++ decimal source.slot
+source_text None = []
+
+abbrev pub origin_text : LinkFault → List ℕ
+origin_text (linking.Program fault source) = source_text source
+origin_text (linking.Helper slot helper source) = source_text source
+origin_text fault = []
+
 abbrev pub object_line : LinkFault → List ℕ → List ℕ
 object_line fault name =
-    refusal_text (codes "refused E") (link_fault_number fault) (placed (codes " at slot ") (slot_of_words fault)) (link_fault_text fault ++ more_of fault ++ name_text name)
+    refusal_text (codes "refused E") (link_fault_number fault) (placed (codes " at slot ") (slot_of_words fault)) (link_fault_text fault ++ more_of fault ++ name_text name ++ origin_text fault)
 
 -- A name that no test has.
 abbrev pub no_test_line : List ℕ → List ℕ

@@ -1,13 +1,13 @@
 //! The line of a fault.
 ghost use Rattle.std.specs.Prelude.{◌≡◌, ◌++◌, [], codes, decimal};
 ghost use Rattle.counted_io.specs.Writing.{Writes, WritesAfter};
-ghost use Rattle.bpfdb_jobs.specs.Faults.{fields_text, helper_text, line_of, more_of, name_text, no_test_line, object_line, placed, refusal_line, refusal_text, shown, slot_of, slot_of_words, unreadable_line};
+ghost use Rattle.bpfdb_jobs.specs.Faults.{fields_text, helper_text, kernel_name, line_of, more_of, name_text, no_test_line, object_line, origin_text, placed, refusal_line, refusal_text, shown, slot_of, slot_of_words, source_text, unreadable_line};
 
 use crate::fault::JobFault;
 use crate::name::put_name;
 use crate::refusal::JobRefusal;
 use bpf_isa::LoadFault;
-use bpf_link::LinkFault;
+use bpf_link::{LinkFault, Source, helper_name};
 use bpf_suite::SectionFault;
 use bpf_text::AsmFault;
 use bpf_trace::put_limit;
@@ -153,7 +153,40 @@ fn put_object<E: Write>(
     );
     let said = put_more(errors, begun, fault);
     let named = put_named(errors, said, name);
-    put(errors, named, b"\n")
+    let placed = put_origin(errors, named, fault);
+    put(errors, placed, b"\n")
+}
+
+/// Writes the slot of a section from which the slot of an object's fault comes, if there is one.
+fn put_origin<E: Write>(
+    errors: &mut Counted<E>,
+    so_far: Result<(), WriteFault>,
+    fault: &LinkFault,
+) -> Result<(), WriteFault>
+    ensures { WritesAfter E.contents errors.old so_far errors.new result (origin_text fault.now) }
+{
+    match fault {
+        LinkFault::Program { source, .. } => put_source(errors, so_far, *source),
+        LinkFault::Helper { source, .. } => put_source(errors, so_far, *source),
+        _ => put(errors, so_far, b""),
+    }
+}
+
+/// Writes the slot of a section, if one is known.
+fn put_source<E: Write>(
+    errors: &mut Counted<E>,
+    so_far: Result<(), WriteFault>,
+    source: Option<Source>,
+) -> Result<(), WriteFault>
+    ensures { WritesAfter E.contents errors.old so_far errors.new result (source_text source) }
+{
+    match source {
+        Some(source) => {
+            let begun = put(errors, so_far, b", slot ");
+            put_decimal(errors, begun, source.slot as u64)
+        }
+        None => put(errors, so_far, b""),
+    }
 }
 
 /// Writes the name of what is wrong, if there is one.
@@ -194,11 +227,13 @@ fn put_more<E: Write>(
     match fault {
         LinkFault::Helper { helper, .. } => put_helper(errors, so_far, *helper),
         LinkFault::Fields { count, .. } => put_fields(errors, so_far, *count),
+        LinkFault::ManySections => put(errors, so_far, b": --section NAME chooses one"),
+        LinkFault::ManyPrograms => put(errors, so_far, b": --entry NAME chooses one"),
         _ => put(errors, so_far, b""),
     }
 }
 
-/// Writes the number of a helper, and the option that answers it.
+/// Writes the number of a helper, its name in the kernel, and the option that answers it.
 fn put_helper<E: Write>(
     errors: &mut Counted<E>,
     so_far: Result<(), WriteFault>,
@@ -207,10 +242,39 @@ fn put_helper<E: Write>(
     ensures { WritesAfter E.contents errors.old so_far errors.new result (helper_text helper) }
 {
     let begun = put(errors, so_far, b" ");
-    let named = put_decimal(errors, begun, u64::from(helper));
+    let numbered = put_decimal(errors, begun, u64::from(helper));
+    let named = put_kernel_name(errors, numbered, helper_name(helper));
     let parted = put(errors, named, b": --stub ");
     let again = put_decimal(errors, parted, u64::from(helper));
     put(errors, again, b"=VALUE answers it")
+}
+
+/// Writes the name of a helper in the kernel, if it has one.
+fn put_kernel_name<E: Write>(
+    errors: &mut Counted<E>,
+    so_far: Result<(), WriteFault>,
+    name: &[u8],
+) -> Result<(), WriteFault>
+    ensures { WritesAfter E.contents errors.old so_far errors.new result (kernel_name name.now) }
+{
+    if name.is_empty() {
+        return put(errors, so_far, b"");
+    }
+    put_bracketed(errors, so_far, name)
+}
+
+/// Writes a name of the kernel in brackets.
+fn put_bracketed<E: Write>(
+    errors: &mut Counted<E>,
+    so_far: Result<(), WriteFault>,
+    name: &[u8],
+) -> Result<(), WriteFault>
+    ensures { WritesAfter E.contents errors.old so_far errors.new result
+        (codes " (bpf_" ++ name.now ++ codes ")") }
+{
+    let begun = put(errors, so_far, b" (bpf_");
+    let named = put(errors, begun, name);
+    put(errors, named, b")")
 }
 
 /// Writes how many relocations of fields there are, and the option that leaves them.
@@ -284,13 +348,13 @@ fn slot_of_words(fault: &LinkFault) -> Option<usize>
 {
     match fault {
         LinkFault::Symbol(slot) => Some(*slot),
-        LinkFault::Extern(slot) => Some(*slot),
+        LinkFault::Extern { slot, .. } => Some(*slot),
         LinkFault::RelocationKind(slot) => Some(*slot),
         LinkFault::CallTarget(slot) => Some(*slot),
         LinkFault::NoCall(slot) => Some(*slot),
         LinkFault::Data(slot) => Some(*slot),
         LinkFault::NoLoad(slot) => Some(*slot),
-        LinkFault::Program(fault) => slot_of(fault),
+        LinkFault::Program { fault, .. } => slot_of(fault),
         LinkFault::Helper { slot, .. } => Some(*slot),
         LinkFault::Fields { slot, .. } => Some(*slot),
         _ => None,

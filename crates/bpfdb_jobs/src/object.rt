@@ -1,11 +1,14 @@
 //! What a job of `link` does.
-ghost use Rattle.std.specs.Prelude.{◌≡◌, ◌≤◌, IfErr, IfOk, Ok, Err};
+ghost use Rattle.std.specs.Prelude.{◌≡◌, ◌≤◌, ℕ, List, IfErr, IfOk, Ok, Err};
+ghost use Rattle.std.specs.Borrow.{Bor};
 ghost use Rattle.bpf_isa.specs.Checker.{IsAccepted};
 ghost use Rattle.bpf_link.specs.Refusals.{IsLinkFault};
 ghost use Rattle.bpf_link.specs.Links.{least_maps, linked, planned};
+ghost use Rattle.bpf_link.specs.Names.{fault_names};
 ghost use Rattle.bpf_link.specs.Shapes.{HasShapes};
 ghost use Rattle.bpf_link.specs.declared.plan.Plan.{Plan};
-ghost use Rattle.bpfdb_jobs.specs.Endings.{EndsPrinted};
+ghost use Rattle.bpfdb_jobs.specs.Endings.{EndsPrinted, Told};
+ghost use Rattle.bpfdb_jobs.specs.Faults.{line_of};
 ghost use Rattle.bpfdb_jobs.specs.Jobs.{answered_if, entry_of, fields_if, section_of, stubs_of};
 ghost use Rattle.bpfdb_options.specs.declared.subcommand.Subcommand.TheVariants.{Link};
 
@@ -16,7 +19,7 @@ use crate::refusal::JobRefusal;
 use crate::report::{give_up, told_as, write_out};
 use arrayvec::ArrayVec;
 use bpf_link::{
-    LinkFault, LinkOptions, Linked, Stub, fault_name, fields_as_compiled, link_with, stubs_in,
+    LinkFault, LinkOptions, Linked, Stub, fault_names, fields_as_compiled, link_with, stubs_in,
 };
 use counted_io::{Counted, WriteFault};
 use std::alloc::Global;
@@ -37,23 +40,20 @@ pub fn link_job<W: Write, E: Write>(
     let stubs = match stubs_of(job) {
         Ok(stubs) => stubs,
         Err(fault) => {
-            let name = fault_name(job.file, &fault);
-            return give_up(errors, &JobFault::Refused(JobRefusal::Object(fault, name)));
+            return refuse(job, errors, fault);
         }
     };
     let named = stubs.as_slice();
     let linked = match linked_from(alloc, job.file, section_of(job), entry_of(job), named) {
         Ok(linked) => linked,
         Err(fault) => {
-            let name = fault_name(job.file, &fault);
-            return give_up(errors, &JobFault::Refused(JobRefusal::Object(fault, name)));
+            return refuse(job, errors, fault);
         }
     };
     let left = match fields_as_compiled(alloc, job.file, section_of(job), job.options.as_compiled) {
         Ok(left) => left,
         Err(fault) => {
-            let name = fault_name(job.file, &fault);
-            return give_up(errors, &JobFault::Refused(JobRefusal::Object(fault, name)));
+            return refuse(job, errors, fault);
         }
     };
     let answered = answered_if(job, linked.answered);
@@ -65,6 +65,18 @@ pub fn link_job<W: Write, E: Write>(
         ),
         Err(WriteFault) => give_up(errors, &JobFault::Output),
     }
+}
+
+/// Tells why no program is made of an object, and answers the exit status, 2.
+fn refuse<E: Write>(job: &Job<'_>, errors: &mut Counted<E>, fault: LinkFault) -> u8
+    ensures value { result ≡ 2 }
+    ensures told { (name : Bor (List ℕ))
+        × (name.now ≡ fault_names job.now.file.now (section_of job.now) fault)
+        × Told E.contents errors.old errors.new (line_of (JobFault.Refused (JobRefusal.Object fault name))) }
+{
+    let names = fault_names(job.file, section_of(job), &fault);
+    let name = names.as_slice();
+    give_up(errors, &JobFault::Refused(JobRefusal::Object(fault, name)))
 }
 
 /// The program of an object's code section, from an entry, with the calls of some helpers answered.

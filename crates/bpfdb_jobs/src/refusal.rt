@@ -25,8 +25,8 @@ pub enum JobRefusal<'a> {
     Script(Refusal),
     /// What is asked about isn't in the machine.
     What(WhatFault),
-    /// No program is made of the object; the name of what is wrong, as it stands in the object, or
-    /// nothing.
+    /// No program is made of the object; the name of what is wrong, or those of what there is, as
+    /// they stand in the object, or nothing.
     Object(LinkFault, &'a [u8]),
     /// A test file has this fault, in this line.
     Tests(SectionFault, usize),

@@ -62,13 +62,15 @@ returns-in-Ok-write_out-clause-does g c =
 
 pub returns-in-Err-clause-does : goal.returns-in-Err-clause-does
 returns-in-Err-clause-does g c =
-    Refused (Object c.in-Err.fault c.fault_name-name.result) (c.fault_name-name.ensures, inl c.in-Err.ensures.err) refl c.give_up.ensures.told c.give_up.ensures.value
+    let told = c.refuse.ensures.told in
+    Refused (Object c.in-Err.fault told.0) (told.1, inl c.in-Err.ensures.err) refl told.2 c.refuse.ensures.value
 
 pub returns-in-Err-linked_from-clause-does : goal.returns-in-Err-linked_from-clause-does
 returns-in-Err-linked_from-clause-does g c =
     let asked = c.in-Ok.ensures.ok ∙ ap Ok (sym c.as_slice-named.ensures.value) in
-    Refused (Object c.in-Err-linked_from.fault c.fault_name-name-in-Err-linked_from.result) (c.fault_name-name-in-Err-linked_from.ensures, inr (inl (c.as_slice-named.result.now, asked, rw c.entry_of.ensures at (rw c.section_of.ensures at c.in-Err-linked_from.ensures.err)))) refl
-    c.give_up-in-Err-linked_from.ensures.told c.give_up-in-Err-linked_from.ensures.value
+    let told = c.refuse-in-Err-linked_from.ensures.told in
+    Refused (Object c.in-Err-linked_from.fault told.0) (told.1, inr (inl (c.as_slice-named.result.now, asked, rw c.entry_of.ensures at (rw c.section_of.ensures at c.in-Err-linked_from.ensures.err)))) refl
+    told.2 c.refuse-in-Err-linked_from.ensures.value
 
 pub returns-clause-does : goal.returns-clause-does
 returns-clause-does g c =
@@ -79,9 +81,10 @@ returns-clause-does g c =
     OutLost (record (printed program.words.items) { err = linked_told program.shapes.items (answered_if c.args.job.now.options.stubs program.answered) (fields_if c.args.job.now.options.as_compiled left) })
     (linked-prints c.args.job.now c.as_slice-named.result.now program left asked (rw c.entry_of.ensures at (rw c.section_of.ensures at c.in-Ok-linked_from.ensures.ok))
     c.in-Ok-linked_from.ensures.accepted (rw c.section_of.ensures at c.in-Ok-linked_from.ensures.shapes) (rw c.section_of-2.ensures at c.in-Ok-fields_as_compiled.ensures.ok))
-    (w.err, w.fault) c.give_up-in-Err-write_out.ensures.told c.give_up-in-Err-write_out.ensures.value
+    (w.err, w.fault) c.give_up.ensures.told c.give_up.ensures.value
 
 pub returns-in-Err-fields_as_compiled-clause-does : goal.returns-in-Err-fields_as_compiled-clause-does
 returns-in-Err-fields_as_compiled-clause-does g c =
-    Refused (Object c.in-Err-fields_as_compiled.fault c.fault_name-name-in-Err-fields_as_compiled.result) (c.fault_name-name-in-Err-fields_as_compiled.ensures, inr (inr (rw c.section_of-2.ensures at c.in-Err-fields_as_compiled.ensures.err))) refl
-    c.give_up-in-Err-fields_as_compiled.ensures.told c.give_up-in-Err-fields_as_compiled.ensures.value
+    let told = c.refuse-in-Err-fields_as_compiled.ensures.told in
+    Refused (Object c.in-Err-fields_as_compiled.fault told.0) (told.1, inr (inr (rw c.section_of-2.ensures at c.in-Err-fields_as_compiled.ensures.err))) refl
+    told.2 c.refuse-in-Err-fields_as_compiled.ensures.value

@@ -1,0 +1,89 @@
+-- The names that a fault of an object tells, as they stand there: each cut at 255 bytes, with a comma between two, and `..` for all from the 17th on.
+use Rattle.std.specs.Prelude.{ℕ, zero, suc, nat_lt, min, Bool, true, false, if◌then◌else◌, List, [], ◌∷◌, ◌++◌, Option, Some, None, Result, Ok, Err, length, codes, slice_index, slice_range}
+use Rattle.bpf_link.specs.declared.fault.LinkFault.{LinkFault}
+use Rattle.bpf_link.specs.declared.fault.LinkFault.TheVariants as link
+use Rattle.bpf_link.specs.declared.header.Sections.{Sections}
+use Rattle.bpf_link.specs.declared.layout.SymbolEntry.{SymbolEntry}
+use Rattle.bpf_link.specs.declared.plan.Plan.{Plan}
+use Rattle.bpf_link.specs.declared.sources.Source.{Source}
+use Rattle.bpf_link.specs.Entries.{is_function, is_program}
+use Rattle.bpf_link.specs.Header.{opened}
+use Rattle.bpf_link.specs.Links.{planned}
+use Rattle.bpf_link.specs.MapTypes.{name_from}
+use Rattle.bpf_link.specs.Plans.{symbol_at, symbol_place}
+use Rattle.bpf_link.specs.Sections.{section_at, section_place, is_code}
+
+-- At most 255 bytes of the name at a place in the file.
+abbrev pub cut : List ℕ → List ℕ
+cut text = slice_range text 0 (min (length text) 255)
+
+abbrev pub short_at : List ℕ → ℕ → List ℕ
+short_at object at = name_from (cut (slice_range object at (length object))) 0
+
+-- Places with one more: the first 17 are kept.
+abbrev pub with_place : ℕ → List ℕ → List ℕ
+with_place at places = if nat_lt (length places) 17 then places ++ at ∷ [] else places
+
+-- What the steps below n make of an empty list, one after the other.
+abbrev pub built : (ℕ → List ℕ → List ℕ) → ℕ → List ℕ
+built step zero = []
+built step (suc n) = step n (built step n)
+
+-- Where the names of the sections stand that hold code.
+abbrev pub with_code : List ℕ → Sections → ℕ → List ℕ → List ℕ
+with_code object sections i places =
+    let section = section_at object sections i in if is_code section then with_place (section_place object sections section) places else places
+
+abbrev pub code_places : List ℕ → Result Sections LinkFault → List ℕ
+code_places object (Ok sections) = built (with_code object sections) sections.count
+code_places object (Err fault) = []
+
+-- Where the names of the functions of a plan's section stand: of all, or of those that are known outside the object.
+abbrev pub is_listed : Bool → ℕ → SymbolEntry → Bool
+is_listed true section symbol = is_program section symbol
+is_listed false section symbol = is_function section symbol
+
+abbrev pub with_function : List ℕ → Plan → Bool → ℕ → List ℕ → List ℕ
+with_function object plan known i places =
+    let symbol = symbol_at object plan.symbols i in
+    if is_listed known plan.code.section symbol then with_place (symbol_place object plan symbol) places else places
+
+abbrev pub function_places : List ℕ → Bool → Result Plan LinkFault → List ℕ
+function_places object known (Ok plan) = built (with_function object plan known) plan.symbols.count
+function_places object known (Err fault) = []
+
+-- Where the name of the section stands from which a slot comes.
+abbrev pub source_places : Option Source → List ℕ
+source_places (Some source) = source.at ∷ []
+source_places None = []
+
+-- Where the names stand that a fault tells: that of a map, of a symbol, of a section; or, where none is chosen, those that there are.
+abbrev pub fault_places : List ℕ → List ℕ → LinkFault → List ℕ
+fault_places object section (link.Map at fault) = at ∷ []
+fault_places object section (link.Fields count slot at) = at ∷ []
+fault_places object section (link.Extern slot at) = at ∷ []
+fault_places object section (link.Program fault source) = source_places source
+fault_places object section (link.Helper slot helper source) = source_places source
+fault_places object section link.NoSection = code_places object (opened object)
+fault_places object section link.ManySections = code_places object (opened object)
+fault_places object section link.ManyPrograms = function_places object true (planned object section)
+fault_places object section link.NoEntry = function_places object false (planned object section)
+fault_places object section fault = []
+
+-- The names at places.
+abbrev pub parted : ℕ → List ℕ → List ℕ
+parted zero text = text
+parted (suc k) text = text ++ codes ", "
+
+abbrev pub name_of : List ℕ → List ℕ → ℕ → List ℕ
+name_of object places k = if nat_lt k 16 then short_at object (slice_index places k) else codes ".."
+
+abbrev pub with_name : List ℕ → List ℕ → ℕ → List ℕ → List ℕ
+with_name object places k text = parted k text ++ name_of object places k
+
+abbrev pub names_at : List ℕ → List ℕ → List ℕ
+names_at object places = built (with_name object places) (length places)
+
+-- The names that a fault tells, where a section was asked for.
+abbrev pub fault_names : List ℕ → List ℕ → LinkFault → List ℕ
+fault_names object section fault = names_at object (fault_places object section fault)

@@ -1,0 +1,238 @@
+//! The names that a fault of an object tells.
+ghost use Rattle.std.specs.Prelude.{◌≡◌, ◌≤◌, ◌<◌, ◌+◌, ◌*◌, ◌++◌, [], length};
+ghost use Rattle.bpf_link.specs.Links.{planned};
+ghost use Rattle.bpf_link.specs.Header.{HasTable, opened};
+ghost use Rattle.bpf_link.specs.Names.{cut, short_at, with_place, built, with_code, code_places, is_listed, with_function, function_places, source_places, fault_places, parted, name_of, with_name, names_at, fault_names};
+ghost use Rattle.bpf_link.specs.Plans.{LiesPlan};
+
+use crate::entry::{is_function, is_program};
+use crate::fault::LinkFault;
+use crate::header::{Sections, open};
+use crate::layout::SymbolEntry;
+use crate::linker::planned;
+use crate::map_types::name_from;
+use crate::plan::{Plan, symbol_at, symbol_place};
+use crate::sections::{is_code, section_at, section_place};
+use crate::sources::Source;
+use arrayvec::ArrayVec;
+
+/// The first bytes of a text, at most 255.
+fn cut(text: &[u8]) -> &[u8]
+    ensures value { result.now ≡ cut text.now }
+    ensures short { length result.now ≤ 255 }
+{
+    &text[..text.len().min(255)]
+}
+
+/// At most 255 bytes of the name that stands at a place in the file.
+fn short_at(object: &[u8], at: usize) -> &[u8]
+    ensures value { result.now ≡ short_at object.now at }
+    ensures short { length result.now ≤ 255 }
+{
+    name_from(cut(&object[at.min(object.len())..]), 0)
+}
+
+/// Places with one more, of which the first 17 are kept.
+fn with_place(at: usize, mut places: ArrayVec<usize, 17>) -> ArrayVec<usize, 17>
+    ensures { result.items ≡ with_place at places.items }
+{
+    if !places.is_full() {
+        places.push(at);
+    }
+    places
+}
+
+/// Places with that of the name of a section, if it holds code.
+fn with_code(
+    object: &[u8],
+    sections: &Sections,
+    i: usize,
+    places: ArrayVec<usize, 17>,
+) -> ArrayVec<usize, 17>
+    requires table { HasTable object.now sections.now }
+    requires index { i < sections.now.count }
+    ensures { result.items ≡ with_code object.now sections.now i places.items }
+{
+    let section = section_at(object, sections, i);
+    if !is_code(&section) {
+        return places;
+    }
+    with_place(section_place(object, sections, &section), places)
+}
+
+/// Where the names of the sections that hold code stand.
+fn code_places(object: &[u8]) -> ArrayVec<usize, 17>
+    ensures { result.items ≡ code_places object.now (opened object.now) }
+{
+    match open(object) {
+        Ok(sections) => code_places_in(object, &sections),
+        Err(_) => ArrayVec::new(),
+    }
+}
+
+/// The same in a table of sections.
+fn code_places_in(object: &[u8], sections: &Sections) -> ArrayVec<usize, 17>
+    requires { HasTable object.now sections.now }
+    ensures { result.items ≡ built (with_code object.now sections.now) sections.now.count }
+{
+    let mut places = ArrayVec::new();
+    for i in 0..sections.count {
+        places = with_code(object, sections, i, places);
+    }
+    places
+}
+
+/// Whether a symbol is a function of a section; one that is known outside the object, if that
+/// counts.
+fn is_listed(known: bool, section: usize, symbol: &SymbolEntry) -> bool
+    ensures { result ≡ is_listed known section symbol.now }
+{
+    if known {
+        is_program(section, symbol)
+    } else {
+        is_function(section, symbol)
+    }
+}
+
+/// Places with that of the name of a symbol, if it is such a function.
+fn with_function(
+    object: &[u8],
+    plan: &Plan,
+    known: bool,
+    i: usize,
+    places: ArrayVec<usize, 17>,
+) -> ArrayVec<usize, 17>
+    requires plan { LiesPlan object.now plan.now }
+    requires index { i < plan.now.symbols.count }
+    ensures { result.items ≡ with_function object.now plan.now known i places.items }
+{
+    let symbol = symbol_at(object, &plan.symbols, i);
+    if !is_listed(known, plan.code.section, &symbol) {
+        return places;
+    }
+    with_place(symbol_place(object, plan, &symbol), places)
+}
+
+/// Where the names of the functions of a section of code stand.
+fn function_places(object: &[u8], section: &[u8], known: bool) -> ArrayVec<usize, 17>
+    ensures { result.items ≡ function_places object.now known (planned object.now section.now) }
+{
+    match planned(object, section) {
+        Ok(plan) => function_places_in(object, &plan, known),
+        Err(_) => ArrayVec::new(),
+    }
+}
+
+/// The same by the plan for that section.
+fn function_places_in(object: &[u8], plan: &Plan, known: bool) -> ArrayVec<usize, 17>
+    requires { LiesPlan object.now plan.now }
+    ensures { result.items ≡ built (with_function object.now plan.now known) plan.now.symbols.count }
+{
+    let mut places = ArrayVec::new();
+    for i in 0..plan.symbols.count {
+        places = with_function(object, plan, known, i, places);
+    }
+    places
+}
+
+/// A place alone.
+fn only(at: usize) -> ArrayVec<usize, 17>
+    ensures { result.items ≡ with_place at [] }
+{
+    with_place(at, ArrayVec::new())
+}
+
+/// Where the name of the section stands from which a slot comes.
+fn source_places(source: Option<Source>) -> ArrayVec<usize, 17>
+    ensures { result.items ≡ source_places source }
+{
+    match source {
+        Some(source) => only(source.at),
+        None => ArrayVec::new(),
+    }
+}
+
+/// Where the names stand that a fault tells.
+fn fault_places(object: &[u8], section: &[u8], fault: &LinkFault) -> ArrayVec<usize, 17>
+    ensures { result.items ≡ fault_places object.now section.now fault.now }
+{
+    match fault {
+        LinkFault::Map { at, .. } => only(*at),
+        LinkFault::Fields { at, .. } => only(*at),
+        LinkFault::Extern { at, .. } => only(*at),
+        LinkFault::Program { source, .. } => source_places(*source),
+        LinkFault::Helper { source, .. } => source_places(*source),
+        LinkFault::NoSection => code_places(object),
+        LinkFault::ManySections => code_places(object),
+        LinkFault::ManyPrograms => function_places(object, section, true),
+        LinkFault::NoEntry => function_places(object, section, false),
+        _ => ArrayVec::new(),
+    }
+}
+
+/// The k-th name, or what stands for all from the 17th on.
+fn name_of<'a>(object: &'a [u8], places: &[usize], k: usize) -> &'a [u8]
+    requires { k < length places.now }
+    ensures value { result.now ≡ name_of object.now places.now k }
+    ensures short { length result.now ≤ 255 }
+{
+    if k < 16 {
+        short_at(object, places[k])
+    } else {
+        b".."
+    }
+}
+
+/// A text with a comma before the k-th name, unless that is the first.
+fn parted(k: usize, mut text: ArrayVec<u8, 4369>) -> ArrayVec<u8, 4369>
+    requires { length text.items + 2 ≤ 4369 }
+    ensures { result.items ≡ parted k text.items }
+{
+    if k > 0 {
+        let _all = text.try_extend_from_slice(b", ");
+    }
+    text
+}
+
+/// A text with one more name.
+fn with_name(
+    object: &[u8],
+    places: &[usize],
+    k: usize,
+    text: ArrayVec<u8, 4369>,
+) -> ArrayVec<u8, 4369>
+    requires index { k < length places.now }
+    requires few { length text.items + 257 ≤ 4369 }
+    ensures value { result.items ≡ with_name object.now places.now k text.items }
+    ensures size { length result.items ≤ length text.items + 257 }
+{
+    let name = name_of(object, places, k);
+    let mut named = parted(k, text);
+    let _all = named.try_extend_from_slice(name);
+    named
+}
+
+/// The names at places in the file.
+fn names_at(object: &[u8], places: &[usize]) -> ArrayVec<u8, 4369>
+    requires { length places.now ≤ 17 }
+    ensures { result.items ≡ names_at object.now places.now }
+{
+    let mut text = ArrayVec::new();
+    for k in 0..places.len() {
+        text = with_name(object, places, k, text);
+    }
+    text
+}
+
+/// The names that a fault of an object tells, as they stand there, with a comma between two.
+///
+/// That is the name of a map, of a symbol, or of the section from which a slot comes; where a
+/// section or a function isn't chosen, the names of those that there are. Each is cut at 255 bytes,
+/// and from the 17th on `..` stands for them. `section` is the one that was asked of the link. Takes
+/// time in proportion to the length of the object.
+pub fn fault_names(object: &[u8], section: &[u8], fault: &LinkFault) -> ArrayVec<u8, 4369>
+    ensures { result.items ≡ fault_names object.now section.now fault.now }
+{
+    let places = fault_places(object, section, fault);
+    names_at(object, places.as_slice())
+}
