@@ -121,22 +121,50 @@ refused 'refused E1: no ELF file' link empty
 refused 'refused E1: no ELF file' link cut.o
 refused 'refused E1: no ELF file' link /dev/null
 refused 'cannot read /dev/zero' link /dev/zero
-refused 'refused E8: no such code section' link --section frob calls.o
-refused 'refused E8: no such code section' link --section text calls.o
-refused 'refused E9: more than one code section' link two.o
-refused 'refused E30: more than one program in the code section' link programs.o
-refused 'refused E31: no such function in the code section' link --entry third programs.o
-# (both call helper 5, which isn't there; behind the jump to `second` that is a slot later)
-refused 'refused E25 at slot 7: unknown helper 5: --stub 5=VALUE answers it' link --entry first programs.o
-refused 'refused E25 at slot 8: unknown helper 5: --stub 5=VALUE answers it' link --section=prog --entry=second programs.o
-refused 'refused E25 at slot 7: unknown helper 5: --stub 5=VALUE answers it' link --entry first --stub 4=0,6=0 programs.o
-refused 'refused E19 at slot 1: symbol is not defined in the object' link extern.o
+# A section or a function that isn't there, or isn't chosen: those that there are, in the order of the tables, and no empty one and no static function that couldn't
+# be meant.
+refused 'refused E8: no such code section: .text, prog' link --section frob calls.o
+refused 'refused E8: no such code section: .text, prog' link --section text calls.o
+refused 'refused E9: more than one code section: --section NAME chooses one: a, b' link two.o
+refused 'refused E30: more than one program in the code section: --entry NAME chooses one: first, second' link programs.o
+refused 'refused E31: no such function in the code section: twice, first, second' link --entry third programs.o
+# (both call helper 5, which isn't there; behind the jump to `second` that is a slot later, but the same of the section)
+clock='unknown helper 5 (bpf_ktime_get_ns): --stub 5=VALUE answers it: prog, slot 7'
+refused "refused E25 at slot 7: $clock" link --entry first programs.o
+refused "refused E25 at slot 8: $clock" link --section=prog --entry=second programs.o
+refused "refused E25 at slot 7: $clock" link --entry first --stub 4=0,6=0 programs.o
+# The number of the helper is at 124. The first and the last that have a name (in the kernel's header), and those beside them; 1, 2 and 64 are there.
+while IFS='|' read -r octal helper; do
+    { head -c 124 programs.o; printf "$octal"; tail -c +129 programs.o; } > changed.o
+    refused "refused E25 at slot 7: unknown helper $helper: --stub ${helper%% *}=VALUE answers it: prog, slot 7" link --entry first changed.o
+done <<'ROWS'
+\0\0\0\0|0
+\003\0\0\0|3 (bpf_map_delete_elem)
+\006\0\0\0|6 (bpf_trace_printk)
+\007\0\0\0|7 (bpf_get_prandom_u32)
+\016\0\0\0|14 (bpf_get_current_pid_tgid)
+\031\0\0\0|25 (bpf_perf_event_output)
+\077\0\0\0|63 (bpf_msg_pull_data)
+\101\0\0\0|65 (bpf_xdp_adjust_tail)
+\203\0\0\0|131 (bpf_ringbuf_reserve)
+\265\0\0\0|181 (bpf_loop)
+\322\0\0\0|210 (bpf_cgrp_storage_get)
+\323\0\0\0|211 (bpf_cgrp_storage_delete)
+\324\0\0\0|212
+\005\001\0\0|261
+\377\377\377\377|4294967295
+ROWS
+# The symbol that isn't defined; a control byte of it is shown as such.
+refused 'refused E19 at slot 1: symbol is not defined in the object: elsewhere' link extern.o
+place=$(LC_ALL=C grep -obUa elsewhere extern.o | sed 's/:.*//')
+{ head -c "$place" extern.o; printf '\033[1m'; tail -c +$((place + 5)) extern.o; } > changed.o
+refused 'refused E19 at slot 1: symbol is not defined in the object: \\x1b[1mwhere' link changed.o
 long_name=$(printf '%0255d' 0)
-refused 'refused E8: no such code section' link --section "$long_name" calls.o
+refused 'refused E8: no such code section: .text, prog' link --section "$long_name" calls.o
 refused 'refused E7: section name longer than 255 bytes' link --section "${long_name}0" calls.o
 refused 'refused E7: section name longer than 255 bytes' link --section "${long_name}0" empty
 { head -c 64 text.o; printf '\377'; tail -c +66 text.o; } > unknown.o
-refused 'refused E25 at slot 0: unknown instruction' link unknown.o
+refused 'refused E25 at slot 0: unknown instruction: .text, slot 0' link unknown.o
 
 # Lists of stubs that are none, before all else. The first item with a fault is told: a helper that is answered already comes before what stands behind it. At each
 # limit of the numbers a list is taken (and `programs.o`, whose helper isn't in it, refused for that).
@@ -154,7 +182,7 @@ refused 'refused E35: more than 16 stubs' link --stub "$sixteen,117=0" programs.
 refused 'refused E34: two stubs of one helper' link --stub "$sixteen,116=0" programs.o
 refused 'refused E32: malformed list of stubs' link --stub a empty
 for list in "$sixteen" 4294967295=0 0=0 4=2147483647 4=-2147483648 4=-0 4=0x7fffffff 4=-0x80000000 0004=0000; do
-    refused 'refused E25 at slot 7: unknown helper 5: --stub 5=VALUE answers it' link --entry first --stub "$list" programs.o
+    refused "refused E25 at slot 7: $clock" link --entry first --stub "$list" programs.o
 done
 
 # Calls of helpers that a list answers are `mov r0, VALUE`: in `first` and `second` those of helper 5, whichever of them runs. What is told follows the maps.
@@ -261,10 +289,11 @@ sized '--maps 8x1' '\000\000\000\000'
 bytes words $(printf '%s' '8510000001000000 9500000000000000 1861000000000000 0000000003000000 6110000000000000 0700000001000000 6301000000000000 9500000000000000' | tr -d ' ' | sed 's/../& /g')
 row 'bpfdb link added.o' 0 "$script_unread" "$text" '--maps 8x1\n' link added.o
 { head -c 68 deep.o; printf '\010'; tail -c +70 deep.o; } > added.o
-refused 'refused E25 at slot 2: no such map or offset' link added.o
+refused 'refused E25 at slot 2: no such map or offset: .text, slot 0' link added.o
 
 # Each line has an object, a place of it and the byte that stands there instead, in octal, and what is told. The calls of calls.o are at the slots 0 and 2, the
-# wide loads of maps.o at 1 and 6, and 14 is its last slot.
+# wide loads of maps.o at 1 and 6, and 14 is its last slot. In the last line its entry is the second half of a wide load, so that the jump before the code has a
+# target that is none: slot 0 comes from no section.
 while IFS='|' read -r name place byte told; do
     { head -c "$place" "$name.o"; printf "\\$byte"; tail -c +$((place + 2)) "$name.o"; } > changed.o
     refused "refused $told" link changed.o
@@ -283,6 +312,7 @@ calls|312|001|E23 at slot 2: reference to data that is no map
 maps|76|001|E24 at slot 1: relocation of a map at no empty wide load
 maps|116|001|E24 at slot 6: relocation of a map at no empty wide load
 maps|344|160|E24 at slot 14: relocation of a map at no empty wide load
+maps|280|020|E25 at slot 0: target is no instruction
 ROWS
 
 # What is linked at a limit, and refused beyond it. What grows stands behind the object, at its end, and the header of its section has another offset and size.
@@ -402,7 +432,37 @@ __attribute__((section("prog"))) int first(void) { return 1; }
 __attribute__((section("prog"))) int second(void) { return 2; }
 C
     clang -O1 -target bpf -c -o entries.o entries.c
-    refused 'refused E30: more than one program in the code section' link entries.o
+    refused 'refused E30: more than one program in the code section: --entry NAME chooses one: first, second' link entries.o
+    # Of sixteen functions all are told, and of more the first sixteen.
+    {
+        for i in $(seq 16); do echo "__attribute__((section(\"prog\"))) int f$i(void) { return $i; }"; done
+    } > many.c
+    sixteen_names=$(seq -s ' ' 16 | sed 's/ /, f/g; s/^/f/')
+    clang -O1 -target bpf -c -o many.o many.c
+    refused "refused E30: more than one program in the code section: --entry NAME chooses one: $sixteen_names" link many.o
+    echo '__attribute__((section("prog"))) int f17(void) { return 17; }' >> many.c
+    clang -O1 -target bpf -c -o many.o many.c
+    refused "refused E30: more than one program in the code section: --entry NAME chooses one: $sixteen_names, .." link many.o
+    echo '__attribute__((section("prog"))) int f18(void) { return 18; }' >> many.c
+    clang -O1 -target bpf -c -o many.o many.c
+    refused "refused E30: more than one program in the code section: --entry NAME chooses one: $sixteen_names, .." link many.o
+    # A name of 255 bytes is told whole, and of a longer one as many. A map's name may have as many, too.
+    for more in '' y; do
+        name=x$(printf '%0254d' 0)
+        printf 'int %s(void); __attribute__((section("prog"))) int entry(void) { return %s(); }\n' "$name$more" "$name$more" > long.c
+        clang -O1 -target bpf -c -o long.o long.c
+        refused "refused E19 at slot 0: symbol is not defined in the object: $name" link long.o
+        cat > long.c <<C
+struct { int (*type)[2]; unsigned *key; long *value; int (*max_entries)[3]; } $name$more __attribute__((section(".maps")));
+static void *(*lookup)(void *, const void *) = (void *)1;
+__attribute__((section("prog"))) long entry(const void *key) { return lookup(&$name$more, key) != 0; }
+C
+        clang -g -O2 -target bpf -c -o long.o long.c
+        case $more in
+            '') "$program" link long.o > long 2> told; check_told '--maps 8x3' ;;
+            *) refused "refused E54: name of a map longer than 255 bytes: $name" link long.o ;;
+        esac
+    done
     for entry in first second; do
         "$program" link --entry $entry entries.o > entries
         result "$([ $entry = first ] && echo 0x1 || echo 0x2)\n" run entries

@@ -120,7 +120,7 @@ if command -v python3 > /dev/null; then
     plainly 'an object' 0 'c\n' '105 forward; end; fault access 0x10077656d at 25\n' '' -m "$top/examples/overrun/context.bin" overrun.o
     plainly 'an object, and a section that it has' 0 'c\n' '105 forward; end; fault access 0x10077656d at 25\n' '' \
         --section filter -m "$top/examples/overrun/context.bin" overrun.o
-    plainly 'an object, and a section that it lacks' 2 'c\n' '' 'refused E8: no such code section\n' --section nothing overrun.o
+    plainly 'an object, and a section that it lacks' 2 'c\n' '' 'refused E8: no such code section: .text, filter\n' --section nothing overrun.o
 
     # Its words go where they belong, to link or to debug, and link's maps to debug.
     cat > noted <<'SCRIPT'
