@@ -60,12 +60,15 @@ abbrev pub fields_text : ℕ → List ℕ
 fields_text count = codes ", " ++ decimal count ++ codes " in all: --as-compiled leaves them undone"
 
 -- The option that chooses a section or a function.
+abbrev pub choice_text : LinkFault → List ℕ
+choice_text linking.ManySections = codes ": --section NAME chooses one"
+choice_text linking.ManyPrograms = codes ": --entry NAME chooses one"
+choice_text fault = []
+
 abbrev pub more_of : LinkFault → List ℕ
 more_of (linking.Helper slot helper source) = helper_text helper
 more_of (linking.Fields count slot at) = fields_text count
-more_of linking.ManySections = codes ": --section NAME chooses one"
-more_of linking.ManyPrograms = codes ": --entry NAME chooses one"
-more_of fault = []
+more_of fault = choice_text fault
 
 -- The slot of a program's fault, where it has one.
 abbrev pub slot_of : LoadFault → Option ℕ

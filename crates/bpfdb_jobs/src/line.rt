@@ -1,7 +1,7 @@
 //! The line of a fault.
 ghost use Rattle.std.specs.Prelude.{◌≡◌, ◌++◌, [], codes, decimal};
 ghost use Rattle.counted_io.specs.Writing.{Writes, WritesAfter};
-ghost use Rattle.bpfdb_jobs.specs.Faults.{fields_text, helper_text, kernel_name, line_of, more_of, name_text, no_test_line, object_line, origin_text, placed, refusal_line, refusal_text, shown, slot_of, slot_of_words, source_text, unreadable_line};
+ghost use Rattle.bpfdb_jobs.specs.Faults.{choice_text, fields_text, helper_text, kernel_name, line_of, more_of, name_text, no_test_line, object_line, origin_text, placed, refusal_line, refusal_text, shown, slot_of, slot_of_words, source_text, unreadable_line};
 
 use crate::fault::JobFault;
 use crate::name::put_name;
@@ -227,6 +227,19 @@ fn put_more<E: Write>(
     match fault {
         LinkFault::Helper { helper, .. } => put_helper(errors, so_far, *helper),
         LinkFault::Fields { count, .. } => put_fields(errors, so_far, *count),
+        _ => put_choice(errors, so_far, fault),
+    }
+}
+
+/// Writes the option that chooses a section or a function, where one is to be chosen.
+fn put_choice<E: Write>(
+    errors: &mut Counted<E>,
+    so_far: Result<(), WriteFault>,
+    fault: &LinkFault,
+) -> Result<(), WriteFault>
+    ensures { WritesAfter E.contents errors.old so_far errors.new result (choice_text fault.now) }
+{
+    match fault {
         LinkFault::ManySections => put(errors, so_far, b": --section NAME chooses one"),
         LinkFault::ManyPrograms => put(errors, so_far, b": --entry NAME chooses one"),
         _ => put(errors, so_far, b""),
