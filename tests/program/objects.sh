@@ -467,20 +467,6 @@ C
         "$program" link --entry $entry entries.o > entries
         result "$([ $entry = first ] && echo 0x1 || echo 0x2)\n" run entries
     done
-    # A map's name has at most 255 bytes.
-    for more in '' y; do
-        name=x$(printf '%0254d' 0)$more
-        cat > long.c <<C
-struct { int (*type)[2]; unsigned *key; long *value; int (*max_entries)[3]; } $name __attribute__((section(".maps")));
-static void *(*lookup)(void *, const void *) = (void *)1;
-__attribute__((section("prog"))) long entry(const void *key) { return lookup(&$name, key) != 0; }
-C
-        clang -g -O2 -target bpf -c -o long.o long.c
-        case $more in
-            '') "$program" link long.o > long 2> told; check_told '--maps 8x3' ;;
-            *) refused "refused E54: name of a map longer than 255 bytes: $name" link long.o ;;
-        esac
-    done
     # Relocations of fields (CO-RE): they are refused by how many there are and where the first is, in the section or in `.text`, unless fields are to stay.
     cat > core.c <<'C'
 struct thing { int first, second; long third; } __attribute__((preserve_access_index));
