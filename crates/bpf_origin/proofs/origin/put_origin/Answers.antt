@@ -7,10 +7,13 @@ pub loop-k-init : goal.loop-k-init
 loop-k-init g c = (refl, λ t stands. going_start g.P.Past.state g.P.Past.follows g.W.Write.contents c.args.question _ _ _ t (g.P.Past.state c.args.history.now) _ c.args.question.lines c.args.wanted.now c.args.history.now stands refl refl refl)
 
 pub loop-k-preserved : goal.loop-k-preserved
-loop-k-preserved g c = (c.take_turn-turn.ensures.room ∙ c.loop-k.invariant.0, λ t stands.
-    let n = c.moves-kept.ensures t stands in
-    let here = c.loop-k-test.true in
-    going_step g.P.Past.state g.P.Past.follows g.W.Write.contents c.args.question _ _ _ t (g.P.Past.state c.args.history.now) _ c.loop-k.k _ _ _ _ _ _ _ _ c.take_turn-turn.result (c.loop-k.invariant.1 t stands) (omega arith) c.take_turn-turn.ensures.takes c.in-None.is)
+loop-k-preserved g c = (
+  c.take_turn-turn.ensures.room ∙ c.loop-k.invariant.0,
+  λ t stands.
+      let n = c.moves-kept.ensures t stands in
+      let here = c.loop-k-test.true in
+      going_step g.P.Past.state g.P.Past.follows g.W.Write.contents c.args.question _ _ _ t (g.P.Past.state c.args.history.now) _ c.loop-k.k _ _ _ _ _ _ _ _ c.take_turn-turn.result (c.loop-k.invariant.1 t stands) (omega arith) c.take_turn-turn.ensures.takes c.in-None.is,
+)
 
 pub returns-in-Some-clause-text : goal.returns-in-Some-clause-text
 returns-in-Some-clause-text g c = λ t stands.
