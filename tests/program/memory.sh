@@ -160,8 +160,6 @@ while refuse "$request" '' test two.test && [ "$found" != 1 ] && [ "$request" -l
 done
 check 'bpfdb test: no request for memory refused' 1 "$plan$one$two$cell$show" ''
 said 'bpfdb test' '0 lines\n'
-wants "$plain" 0 'set cell 0 1 0102\ncontinue\n' '' test --show script --only b two.test
-wants "$plain" 0 '--maps=2x2\n--steps=1000000\n' '' test --show options --only a two.test
 wants "$plain" 2 '' 'cannot read missing\n' run missing
 wants "$plain" 0 "$(text "$parts/help/bpfdb.txt")" '' --help
 wants "$plain" 0 "$(version)" '' --version

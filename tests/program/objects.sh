@@ -448,19 +448,19 @@ C
     refused "refused E30: more than one program in the code section: --entry NAME chooses one: $sixteen_names, .." link many.o
     # A name of 255 bytes is told whole, and of a longer one as many. A map's name may have as many, too.
     for more in '' y; do
-        name=x$(printf '%0254d' 0)
-        printf 'int %s(void); __attribute__((section("prog"))) int entry(void) { return %s(); }\n' "$name$more" "$name$more" > long.c
+        symbol=x$(printf '%0254d' 0)
+        printf 'int %s(void); __attribute__((section("prog"))) int entry(void) { return %s(); }\n' "$symbol$more" "$symbol$more" > long.c
         clang -O1 -target bpf -c -o long.o long.c
-        refused "refused E19 at slot 0: symbol is not defined in the object: $name" link long.o
+        refused "refused E19 at slot 0: symbol is not defined in the object: $symbol" link long.o
         cat > long.c <<C
-struct { int (*type)[2]; unsigned *key; long *value; int (*max_entries)[3]; } $name$more __attribute__((section(".maps")));
+struct { int (*type)[2]; unsigned *key; long *value; int (*max_entries)[3]; } $symbol$more __attribute__((section(".maps")));
 static void *(*lookup)(void *, const void *) = (void *)1;
-__attribute__((section("prog"))) long entry(const void *key) { return lookup(&$name$more, key) != 0; }
+__attribute__((section("prog"))) long entry(const void *key) { return lookup(&$symbol$more, key) != 0; }
 C
         clang -g -O2 -target bpf -c -o long.o long.c
         case $more in
             '') "$program" link long.o > long 2> told; check_told '--maps 8x3' ;;
-            *) refused "refused E54: name of a map longer than 255 bytes: $name" link long.o ;;
+            *) refused "refused E54: name of a map longer than 255 bytes: $symbol" link long.o ;;
         esac
     done
     for entry in first second; do

@@ -97,7 +97,7 @@ showing context "it's b" ''
 showing options "it's b" '--maps=4x3,2x2\n--steps=1000000\n'
 showing script "it's b" 'continue\n'
 showing context 'no listing' ''
-row 'bpfdb test --show program of a listing that is none' 2 '' '' 'refused A1 at line 2: unknown instruction\n' test --show program --only 'no listing' shown.test
+row 'bpfdb test --show program of a listing that is none' 2 '' '' 'refused A1 at line 2: unknown mnemonic\n' test --show program --only 'no listing' shown.test
 row 'bpfdb test --show of several tests' 2 '' '' 'refused T8: more than one test is asked for\n' test --show program shown.test
 row 'bpfdb test --show of several tests of a name' 2 '' '' 'refused T8: more than one test is asked for\n' test --show context --only twice shown.test
 row 'bpfdb test --show of no test' 2 '' '' 'refused T7: no test of this name: b\n' test --show program --only b shown.test
@@ -144,7 +144,7 @@ compare 'bpfdb test of names with quotes'
 line=$(sed -n 's/^# debug: //p' found/out)
 typed 'bpfdb-show of a test that failed' 0 'cat parts/script - | bpfdb debug --steps=1000000 -m parts/context parts/program\nbpfdb origin --steps=1000000 -m parts/context --script parts/script parts/program\n' '' "$line parts"
 cp found/out lines
-typed 'the line of bpfdb debug' 0 '3 forward; exited; exited at 2: r0 0x8\n3 back; done; at 0: ldxb r0, [r1+2]\n' '' "echo undo | $(sed -n 1p lines)"
+typed 'the line of bpfdb debug' 0 '3 forward; end; exited at 2: r0 0x8\n3 back; done; at 0: ldxb r0, [r1+2]\n' '' "echo undo | $(sed -n 1p lines)"
 typed 'the line of bpfdb origin' 0 'exited at 2: r0 0x8\n-2 r0 = 0x8; 1: add r0, 1; from r0\n-3 r0 = 0x7; 0: ldxb r0, [r1+2]; from 0x100000002:1\nleft 0x100000002 = 0x7; byte 2 of the context; at the opening\n' '' "$(sed -n 2p lines)"
 mkdir new
 typed 'bpfdb-show into a new folder' 0 'context options program script\ncat F/script - | bpfdb debug --maps=4x3,2x2 --steps=16 -m F/context F/program\n' '' \
