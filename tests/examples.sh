@@ -99,7 +99,7 @@ shown() {
         case $command in
         'cat '*.c | 'cat '*.s | 'cat '*.test) cp "$work/shown/text-$n" "$work/shown/files/${command#cat }" ;;
         esac
-        (cd "$work/shown/files" && PATH=$work/bin:$PATH && export PATH && sh "$work/shown/command-$n") > "$work/out" 2>&1
+        (cd "$work/shown/files" && PATH=$work/bin:$PATH && export PATH && unset BPFDB && sh "$work/shown/command-$n") > "$work/out" 2>&1
         cmp -s "$work/shown/text-$n" "$work/out" || fault "$1, '$2': '$command': $(first_difference "$work/shown/text-$n" "$work/out")"
         n=$((n + 1))
     done
