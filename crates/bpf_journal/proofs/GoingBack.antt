@@ -6,6 +6,7 @@ use Rattle.bpf_entries.specs.declared.entry.Entry.{Entry}
 use Rattle.bpf_entries.specs.Keeping.{Kept}
 use Rattle.bpf_machine.specs.Moves.{Leads, moved, overwritten}
 use Rattle.bpf_machine.specs.State.{State}
+use Rattle.bpf_ring.specs.declared.backward.Stays.{Stays}
 use Rattle.bpf_ring.specs.Blocks.{Content}
 use Rattle.bpf_ring.specs.Held.{IsHeld}
 use Rattle.bpf_ring.specs.Ways.{HandsBack, HoldsWholeWay, IsWay, kept_by}
@@ -28,10 +29,10 @@ way_of (r ∷ h) y run = (run.0, way_of h r.before run.1)
 pub holds_whole : (content : Content) (counts : Counts) (y : State) (h : List Record) → IsHeld content counts (map kept_of h) → IsRun h y → HoldsWholeWay content counts y
 holds_whole content counts y h held run = record { ws = map made_of h; held = subst (IsHeld content counts) (kept_made h) held; way = way_of h y run }
 
-module _ {K : Type 0} (holds : K → List Kept → Type 0) (marks : List Bool) (stores : Bool) where
+module _ {K : Type 0} (holds : K → List Kept → Type 0) (marks : List Bool) (stays : Stays) where
   -- a history is left
   pub history_back : (new : K) (z : State) (other : List Kept → Type 0) (n : ℕ) (h : List Record) (ls : List Kept) (y : State) → IsRun h y
-      → HandsBack marks stores z (holds new) other n (map made_of h) ls y → HasHistory holds new z
+      → HandsBack marks stays z (holds new) other n (map made_of h) ls y → HasHistory holds new z
   history_back new z other zero h ls y run there = record {
     history = h;
     stands = (subst (holds new) (sym (kept_made h)) there.1, subst (IsRun h) (sym there.0) run);
@@ -42,7 +43,7 @@ module _ {K : Type 0} (holds : K → List Kept → Type 0) (marks : List Bool) (
   -- a track is left
   module _ (new : CourseValue K) (room : ℕ) (held : List Kept → Type 0) (into : (ms : List Kept) → held ms → RingHolds new.redo ms) (same : ring_room new.redo ≡ room) where
     pub track_back : (n : ℕ) (h f : List Record) (y : State) → IsRun h y → IsAhead y f → sum_by record_weight h + sum_by record_weight f ≤ room
-        → HandsBack marks stores new.state (holds new.keeper) held n (map made_of h) (map again_of f) y → GoesBackBy holds marks stores new n h f y
+        → HandsBack marks stays new.state (holds new.keeper) held n (map made_of h) (map again_of f) y → GoesBackBy holds marks stays new n h f y
     track_back zero h f y run ahead within there = (
       there.0,
       record {
@@ -61,12 +62,12 @@ module _ {K : Type 0} (holds : K → List Kept → Type 0) (marks : List Bool) (
         let two = sum_by-cons record_weight r f in (
           there.0,
           track_back n h (r ∷ f) r.before run.1 (refl, onward, more) (omega (arith, within, one, two))
-              (subst (λ (k : Kept). HandsBack marks stores new.state (holds new.keeper) held n (map made_of h) (k ∷ map again_of f) r.before) again there.1),
+              (subst (λ (k : Kept). HandsBack marks stays new.state (holds new.keeper) held n (map made_of h) (k ∷ map again_of f) r.before) again there.1),
         )
 
   -- there is one then
   pub course_back : (room : K → ℕ) (new : CourseValue K) (n : ℕ) (h f : List Record) (y : State) → ring_room new.redo ≡ room new.keeper
-      → GoesBackBy holds marks stores new n h f y → IsCourse holds room new
+      → GoesBackBy holds marks stays new n h f y → IsCourse holds room new
   course_back room new zero h f y size there = record { track = record { history = h; ahead = f }; follows = there.1; size = size }
   course_back room new (suc n) [] f y size there = absurd there
   course_back room new (suc n) (r ∷ h) f y size there = course_back room new n h (r ∷ f) r.before size there.1

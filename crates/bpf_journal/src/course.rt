@@ -23,7 +23,7 @@ use crate::taken::Taken;
 use crate::timeline::{ByteChange, Timeline};
 use bpf_machine::laws::entries_fit;
 use bpf_machine::{Cpu, Edit};
-use bpf_ring::StopTest;
+use bpf_ring::{Stays, StopTest};
 use std::marker::Model;
 
 /// A machine and a keeper, and the moves that were taken back since the latest new one. What is
@@ -222,18 +222,18 @@ impl<K: Keeper> Course<K> {
 
     /// Goes back by some of the newest moves at once, at most so many, maybe none: they can be made
     /// again. Each is a step without a mark. It stops in front of a move from a slot that `marks`
-    /// has, by the slot's remainder, and without `stores` in front of one that replaced bytes of
-    /// memory. Answers how many.
-    pub fn back_steps(&mut self, most: u64, marks: &[bool; 8192], stores: bool) -> u64
+    /// has, by the slot's remainder, and in front of one that changed what `stays` names. Answers how
+    /// many.
+    pub fn back_steps(&mut self, most: u64, marks: &[bool; 8192], stays: Stays) -> u64
         ensures within { result ≤ most }
         ensures back { (t : Track) → Follows K.holds self.old t →
-            GoesBackBy K.holds marks.now stores self.new
+            GoesBackBy K.holds marks.now stays self.new
             result t.history t.ahead self.old.state }
         ensures refused { K.refused self.new.keeper ≡ K.refused self.old.keeper }
         ensures room { K.room self.new.keeper ≡ K.room self.old.keeper }
     {
         self.timeline
-            .hand_back_steps(&mut self.redo, most, marks, stores)
+            .hand_back_steps(&mut self.redo, most, marks, stays)
     }
 
     /// Takes the newest move back by way of its entry, as a value.
@@ -295,9 +295,9 @@ impl<K: Keeper> Course<K> {
         ensures refused { K.refused self.new.keeper ≡ K.refused self.old.keeper }
         ensures room { K.room self.new.keeper ≡ K.room self.old.keeper }
     {
-        let count = self.redo.unmarked_steps(most);
-        let taken = self.timeline.repeat(count, marks);
-        self.redo.drop_some(taken);
+        let stretch = self.redo.newest_stretch(most);
+        let taken = self.timeline.repeat(stretch.count, marks);
+        self.redo.drop_of(stretch, taken);
         taken
     }
 

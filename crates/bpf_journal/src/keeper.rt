@@ -20,7 +20,7 @@ use crate::run::Run;
 use crate::taken::Taken;
 use bpf_machine::laws::entries_fit;
 use bpf_machine::{Change, Cpu, Ended, Entry};
-use bpf_ring::{EntryRing, StopTest, change_replaces_bytes};
+use bpf_ring::{EntryRing, Stays, StopTest, change_replaces_bytes};
 use std::alloc::AllocError;
 
 /// Keeps the newest entries of moves, in a journal of some size. Its content is a list of entries
@@ -201,21 +201,21 @@ pub trait Keeper {
 
     /// Takes the newest moves back, at most so many, as `hand_back` does: as many as the keeper takes
     /// in one go, maybe none, each a step whose entry has no mark. It stops in front of a move from a
-    /// slot that `marks` has, by the slot's remainder, and without `stores` in front of one that
-    /// replaced bytes of memory. Answers how many. By itself a keeper takes none.
+    /// slot that `marks` has, by the slot's remainder, and in front of one that changed what `stays`
+    /// names. Answers how many. By itself a keeper takes none.
     fn hand_back_steps(
         &mut self,
         cpu: &mut Cpu,
         ring: &mut EntryRing,
         most: u64,
         marks: &[bool; 8192],
-        stores: bool,
+        stays: Stays,
     ) -> u64
         requires way { HasHistory holds self.old cpu.old }
         ensures within { result ≤ most }
         ensures handed { (ws : List Made) (ls : List Kept) → holds self.old (map kept_by ws) →
             IsWay ws cpu.old →
-            HandsBack marks.now stores cpu.new (holds self.new) (λ ms.
+            HandsBack marks.now stays cpu.new (holds self.new) (λ ms.
             IsHeld ring.old.ring ring.old.counts ls → IsHeld ring.new.ring ring.new.counts ms)
             result ws ls cpu.old }
         ensures ring { (ring.new.ring.size ≡ ring.old.ring.size)
@@ -227,7 +227,7 @@ pub trait Keeper {
         let _ring = ring;
         let _most = most;
         let _marks = marks;
-        let _stores = stores;
+        let _stays = stays;
         0
     }
 

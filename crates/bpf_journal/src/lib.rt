@@ -19,7 +19,7 @@ mod taken;
 mod timeline;
 
 pub use bpf_machine::Move;
-pub use bpf_ring::StopTest;
+pub use bpf_ring::{Stays, StopTest};
 pub use course::Course;
 pub use fault::{JournalFault, MoveFault, TimelineFault};
 pub use keeper::Keeper;

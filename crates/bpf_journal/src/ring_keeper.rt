@@ -5,7 +5,7 @@ ghost use Rattle.bpf_entries.specs.Fields.{FitsFields};
 ghost use Rattle.bpf_entries.specs.Keeping.{IsSize, Kept, keep, kept_weight};
 ghost use Rattle.bpf_entries.specs.Rings.{AllFit, ring as ring_of};
 ghost use Rattle.bpf_ring.specs.Heads.{head_of};
-ghost use Rattle.bpf_ring.specs.Stretches.{AreUnmarked};
+ghost use Rattle.bpf_ring.specs.Stretches.{IsStretch};
 ghost use Rattle.bpf_ring.specs.Ways.{HandsBack, IsWay, Made, kept_by};
 ghost use Rattle.bpf_journal.specs.Handing.{Hands};
 ghost use Rattle.bpf_journal.specs.Histories.{HasHistory, Record, StandsFor, newest, older};
@@ -18,7 +18,7 @@ use crate::run::Run;
 use crate::size::is_size;
 use crate::taken::Taken;
 use bpf_machine::{Change, Cpu, Entry};
-use bpf_ring::{EntryRing, Head, StopTest};
+use bpf_ring::{EntryRing, Head, Stays, StopTest, Stretch};
 use circular_buffer::HeapCircularBuffer;
 use std::alloc::{AllocError, Global};
 
@@ -104,21 +104,21 @@ impl RingKeeper {
     /// Takes back the newest moves that another keeper holds, at most so many, which led to a
     /// machine's state: as many as that keeper takes in one go, each a step whose entry has no mark,
     /// and keeps their entries. It stops in front of a move from a slot that `marks` has, by the
-    /// slot's remainder, and without `stores` in front of one that replaced bytes of memory. Answers
-    /// how many, maybe none. It takes no memory.
+    /// slot's remainder, and in front of one that changed what `stays` names. Answers how many, maybe
+    /// none. It takes no memory.
     pub(crate) fn take_over_steps<K: Keeper>(
         &mut self,
         other: &mut K,
         cpu: &mut Cpu,
         most: u64,
         marks: &[bool; 8192],
-        stores: bool,
+        stays: Stays,
     ) -> u64
         requires way { HasHistory K.holds other.old cpu.old }
         ensures within { result ≤ most }
         ensures handed { (ws : List Made) (ls : List Kept) → K.holds other.old (map kept_by ws) →
             IsWay ws cpu.old →
-            HandsBack marks.now stores cpu.new (K.holds other.new) (λ ms.
+            HandsBack marks.now stays cpu.new (K.holds other.new) (λ ms.
             ⟦<RingKeeper as Keeper>⟧.holds self.old ls → ⟦<RingKeeper as Keeper>⟧.holds self.new ms)
             result ws ls cpu.old }
         ensures room { ⟦<RingKeeper as Keeper>⟧.room self.new
@@ -126,7 +126,7 @@ impl RingKeeper {
         ensures other_stays { (K.refused other.new ≡ K.refused other.old)
             × (K.room other.new ≡ K.room other.old) }
     {
-        other.hand_back_steps(cpu, &mut self.entries, most, marks, stores)
+        other.hand_back_steps(cpu, &mut self.entries, most, marks, stays)
     }
 
     /// What move the newest entry is of, and whether it is marked. None where none is held.
@@ -173,24 +173,24 @@ impl RingKeeper {
         self.entries.drop_last();
     }
 
-    /// How many of the newest entries, counted up to `most`, are of steps and have no mark: those in
-    /// front of the first other one.
-    pub(crate) fn unmarked_steps(&self, most: u64) -> u64
-        ensures within { result ≤ most }
-        ensures unmarked { (es : List Kept) → ⟦<RingKeeper as Keeper>⟧.holds self.now es →
-            AreUnmarked result es }
+    /// The newest entries that are of common steps, have no mark and lie in one piece, at most so
+    /// many.
+    pub(crate) fn newest_stretch(&self, most: u64) -> Stretch
+        ensures within { result.count ≤ most }
+        ensures stretch { (es : List Kept) → ⟦<RingKeeper as Keeper>⟧.holds self.now es →
+            IsStretch result es }
     {
-        self.entries.unmarked_steps(most)
+        self.entries.newest_stretch(most)
     }
 
-    /// Lets so many of the newest entries go, or all where there are fewer.
-    pub(crate) fn drop_some(&mut self, count: u64)
+    /// Lets so many of a stretch of the newest entries go.
+    pub(crate) fn drop_of(&mut self, stretch: Stretch, count: u64)
         ensures room { ⟦<RingKeeper as Keeper>⟧.room self.new
             ≡ ⟦<RingKeeper as Keeper>⟧.room self.old }
         ensures held { (es : List Kept) → ⟦<RingKeeper as Keeper>⟧.holds self.old es →
-            ⟦<RingKeeper as Keeper>⟧.holds self.new (drop count es) }
+            IsStretch stretch es → ⟦<RingKeeper as Keeper>⟧.holds self.new (drop count es) }
     {
-        self.entries.drop_some(count);
+        self.entries.drop_of(stretch, count);
     }
 
     /// Lets all that it holds go. It takes no memory.
@@ -291,9 +291,9 @@ impl Keeper for RingKeeper {
         ring: &mut EntryRing,
         most: u64,
         marks: &[bool; 8192],
-        stores: bool,
+        stays: Stays,
     ) -> u64 {
-        self.entries.hand_back_steps(cpu, ring, most, marks, stores)
+        self.entries.hand_back_steps(cpu, ring, most, marks, stays)
     }
 
     fn last(&self) -> Option<(Entry, bool)> {

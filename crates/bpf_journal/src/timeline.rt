@@ -28,7 +28,7 @@ use crate::ring_keeper::RingKeeper;
 use crate::run::Run;
 use crate::taken::Taken;
 use bpf_machine::{Cpu, Edit, Ended, Entry, Move, Sort};
-use bpf_ring::{StopTest, change_replaces_bytes};
+use bpf_ring::{Stays, StopTest, change_replaces_bytes};
 use std::marker::Model;
 
 /// A move that changed the value of a byte.
@@ -335,26 +335,26 @@ impl<K: Keeper> Timeline<K> {
 
     /// Takes the newest moves back, at most so many, as many as the keeper takes in one go, each a
     /// step whose entry has no mark, and moves their entries to this ring. It stops in front of a
-    /// move from a slot that `marks` has, by the slot's remainder, and without `stores` in front of
-    /// one that replaced bytes of memory. Answers how many, maybe none.
+    /// move from a slot that `marks` has, by the slot's remainder, and in front of one that changed
+    /// what `stays` names. Answers how many, maybe none.
     pub(crate) fn hand_back_steps(
         &mut self,
         ring: &mut RingKeeper,
         most: u64,
         marks: &[bool; 8192],
-        stores: bool,
+        stays: Stays,
     ) -> u64
         ensures within { result ≤ most }
         ensures handed { (h : List Record) (ls : List Kept) →
             StandsFor K.holds self.old.keeper self.old.state h →
-            HandsBack marks.now stores self.new.state (K.holds self.new.keeper)
+            HandsBack marks.now stays self.new.state (K.holds self.new.keeper)
             (λ ms. RingHolds ring.old ls → RingHolds ring.new ms)
             result (map made_of h) ls self.old.state }
         ensures ring_room { ring_room ring.new ≡ ring_room ring.old }
         ensures stays { (K.refused self.new.keeper ≡ K.refused self.old.keeper)
             × (K.room self.new.keeper ≡ K.room self.old.keeper) }
     {
-        ring.take_over_steps(&mut self.keeper, &mut self.cpu, most, marks, stores)
+        ring.take_over_steps(&mut self.keeper, &mut self.cpu, most, marks, stays)
     }
 }
 

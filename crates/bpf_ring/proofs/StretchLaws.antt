@@ -1,66 +1,134 @@
 -- The newest entries, as far as they are of steps and have no mark.
-use Rattle.std.proofs.Common.{◌≡◌, ◌≤◌, ◌+◌, ◌-◌, ℕ, zero, suc, List, [], ◌∷◌, ◌++◌, Some, None, length, take, drop, refl, sym, ap, subst, ◌∙◌, append_assoc, arith}
+use Rattle.std.proofs.Common.{◌≡◌, ◌≤◌, ◌+◌, ◌-◌, ℕ, zero, suc, List, [], ◌∷◌, ◌++◌, length, take, drop, refl, sym, ap, subst, ◌∙◌, append_assoc, arith}
 use Rattle.std.specs.Prelude.{All, sum_by}
-use Rattle.std.proofs.lemmas.List.{length-append, take_at}
+use Rattle.std.proofs.lemmas.List.{length-append, length-take, take_all, take_at, take-append-drop}
 use Rattle.std.proofs.lemmas.List.Elements.{All-cons, All-head, All-tail}
-use Rattle.std.proofs.lemmas.List.Sums.{sum_by-cons}
+use Rattle.std.proofs.lemmas.List.Sums.{sum_by-append, sum_by_push}
 use Rattle.bpf_entries.specs.Keeping.{Kept, kept_weight}
-use Rattle.bpf_entries.specs.Texts.{kind, tag}
-use Rattle.bpf_ring.proofs.Counted.{low_kind, low_mark, tag_mark, tag_step}
+use Rattle.bpf_entries.specs.Rings.{AllFit, ring}
+use Rattle.bpf_ring.proofs.Counted.{step_fewer}
+use Rattle.bpf_ring.proofs.Held.{fit_front, length-ring, ring-append}
+use Rattle.bpf_ring.proofs.Ways.{text_left}
 use Rattle.bpf_ring.specs.Blocks.{Content}
-use Rattle.bpf_ring.specs.Heads.{head_of}
+use Rattle.bpf_ring.specs.Counted.{Counted}
 use Rattle.bpf_ring.specs.Held.{IsHeld}
-use Rattle.bpf_ring.specs.Stretches.{AreUnmarked, IsUnmarked}
+use Rattle.bpf_ring.specs.Stretches.{EndsStep, IsStretch, IsUnmarked}
+use Rattle.bpf_ring.specs.Ways.{HasText}
 use Rattle.bpf_ring.specs.declared.counts.Counts.{Counts}
-use Rattle.bpf_ring.specs.declared.entries.Head.{Head}
+use Rattle.bpf_ring.specs.declared.stretches.Stretch.{Stretch}
 
--- The newest of a list were looked at, down to the place of a front.
-pub record Passed (count place : ℕ) (ks : List Kept) : Type 0 where
+-- So many of the newest of a list were looked at, whose text bytes end in.
+pub record Passed (count len : ℕ) (front bytes : List ℕ) (ks : List Kept) : Type 0 where
   pub newer : List Kept
-  pub front : List Kept
-  pub whole : ks ≡ newer ++ front
+  pub older : List Kept
+  pub whole : ks ≡ newer ++ older
   pub many : length newer ≡ count
   pub plain : All IsUnmarked newer
-  pub here : place ≡ sum_by kept_weight front
+  pub weighs : len ≡ sum_by kept_weight newer
+  pub left : HasText (front ++ take (length bytes - len) bytes) older
 
-pub passed_none : (place : ℕ) (ks : List Kept) → place ≡ sum_by kept_weight ks → Passed 0 place ks
-passed_none place ks here = record { newer = []; front = ks; whole = refl; many = refl; plain = λ i d h. absurd (omega (arith, h)); here = here }
+pub passed_none : (front bytes : List ℕ) (ks : List Kept) → HasText (front ++ bytes) ks → Passed 0 0 front bytes ks
+passed_none front bytes ks held = record {
+  newer = [];
+  older = ks;
+  whole = refl;
+  many = refl;
+  plain = λ i d h. absurd (omega (arith, h));
+  weighs = refl;
+  left = subst (λ (l : List ℕ). HasText (front ++ l) ks) (sym (take_all (length bytes - 0) bytes (omega arith))) held;
+}
 
-pub passed_plain : (count place : ℕ) (ks : List Kept) → Passed count place ks → AreUnmarked count ks
-passed_plain count place ks p =
-    let long = length-append p.newer p.front in
+pub passed_stretch : (s : Stretch) (front bytes : List ℕ) (ks : List Kept) → Passed s.count s.len front bytes ks → IsStretch s ks
+passed_stretch s front bytes ks p =
+    let long = length-append p.newer p.older in
+    let newest : take s.count ks ≡ p.newer = ap (take s.count) p.whole ∙ take_at p.newer p.older s.count p.many in
     record {
-      there = omega (arith, p.many, long, ap length p.whole);
-      plain = subst (All IsUnmarked) (sym (ap (take count) p.whole ∙ take_at p.newer p.front count p.many)) p.plain;
+      unmarked = record { there = omega (arith, p.many, long, ap length p.whole); plain = subst (All IsUnmarked) (sym newest) p.plain };
+      weighs = p.weighs ∙ ap (sum_by kept_weight) (sym newest);
     }
-
--- By its tag.
-pub plain_by : (k : Kept) (t : ℕ) → t ≤ 9 → t ≡ tag (kind k.0) k.1 → IsUnmarked k
-plain_by k t low is = (sym (tag_step k.0 k.1 t is) ∙ low_kind t low, sym (tag_mark k.0 k.1 t is) ∙ low_mark t low)
 
 all_push : (ks : List Kept) (k : Kept) → All IsUnmarked ks → IsUnmarked k → All IsUnmarked (ks ++ k ∷ [])
 all_push [] k all is = All-cons IsUnmarked k [] is (λ i d h. absurd (omega (arith, h)))
 all_push (l ∷ ks) k all is = All-cons IsUnmarked l (ks ++ k ∷ []) (All-head IsUnmarked l ks all) (all_push ks k (All-tail IsUnmarked l ks all) is)
 
-pub passed_one : (content : Content) (counts : Counts) (count place : ℕ) (head : Head) (ks : List Kept) → IsHeld content counts ks
-    → (place ≡ 0 → Some head ≡ None) → ((newer front : List Kept) (k : Kept) → IsHeld content counts (newer ++ k ∷ front) → place ≡ sum_by kept_weight (k ∷ front) → Some head ≡ Some (head_of k))
-    → head.tag ≤ 9 → Passed count place ks → Passed (count + 1) (place - head.len) ks
-passed_one content counts count place head ks held none some low p = split p.newer p.front p.whole p.many p.plain p.here where
-  split : (newer front : List Kept) → ks ≡ newer ++ front → length newer ≡ count → All IsUnmarked newer → place ≡ sum_by kept_weight front → Passed (count + 1) (place - head.len) ks
-  split newer [] whole many plain here = let e : Some head ≡ None = none here in absurd cc
-  split newer (k ∷ front) whole many plain here =
-      let found : Some head ≡ Some (head_of k) = some newer front k (subst (IsHeld content counts) whole held) here in
-      let is : head ≡ head_of k = cc in
-      let sum = sum_by-cons kept_weight k front in
-      let len : head.len ≡ kept_weight k = ap (λ (h : Head). h.len) is in
+-- One more.
+pub passed_one : (count len n : ℕ) (front bytes : List ℕ) (ks : List Kept) → 5 ≤ n → n ≤ length bytes - len
+    → ((k : Kept) (ls : List Kept) → HasText (front ++ take (length bytes - len) bytes) (k ∷ ls) → EndsStep (take (length bytes - len) bytes) n k)
+    → Passed count len front bytes ks → Passed (count + 1) (len + n) front bytes ks
+passed_one count len n front bytes ks some low ends p = split p.newer p.older p.whole p.many p.plain p.weighs p.left where
+  split : (newer older : List Kept) → ks ≡ newer ++ older → length newer ≡ count → All IsUnmarked newer → len ≡ sum_by kept_weight newer
+      → HasText (front ++ take (length bytes - len) bytes) older → Passed (count + 1) (len + n) front bytes ks
+  split newer [] whole many plain weighs left =
+      absurd (omega (arith, ap length left.whole, length-append front (take (length bytes - len) bytes), length-take (length bytes - len) bytes, some, low))
+  split newer (k ∷ older) whole many plain weighs left =
+      let e = ends k older left in
+      let down : length bytes - len - n ≡ length bytes - (len + n) = omega arith in
       record {
         newer = newer ++ k ∷ [];
-        front = front;
-        whole = whole ∙ sym (append_assoc newer (k ∷ []) front);
+        older = older;
+        whole = whole ∙ sym (append_assoc newer (k ∷ []) older);
         many = omega (arith, many, length-append newer (k ∷ []));
-        plain = all_push newer k plain (plain_by k head.tag low (ap (λ (h : Head). h.tag) is));
-        here = omega (arith, here, sum, len);
+        plain = all_push newer k plain e.unmarked;
+        weighs = omega (arith, weighs, e.weighs, sum_by_push kept_weight newer k);
+        left = subst (λ (m : ℕ). HasText (front ++ take m bytes) older) down (text_left front bytes (length bytes - len) n k older left low (omega arith) e.newest);
       }
+
+-- Without some of the newest there are as many fewer.
+counted_without : (counts : Counts) (newer older : List Kept) → All IsUnmarked newer → Counted counts (newer ++ older)
+    → Counted (record counts { entries = counts.entries - length newer }) older
+counted_without counts [] older plain counted =
+    let none : counts.entries ≡ counts.entries - 0 = omega arith in
+    subst (λ (n : ℕ). Counted (record counts { entries = n }) older) none counted
+counted_without counts (k ∷ newer) older plain counted =
+    let less : Counts = record counts { entries = counts.entries - 1 } in
+    let is = All-head IsUnmarked k newer plain in
+    let fewer : counts.entries - 1 - length newer ≡ counts.entries - length (k ∷ newer) = omega arith in
+    subst (λ (n : ℕ). Counted (record counts { entries = n }) older) fewer
+    (counted_without less newer older (All-tail IsUnmarked k newer plain) (step_fewer counts less (newer ++ older) k counted is.0 is.1 refl refl refl))
+
+-- What a ring holds without a stretch.
+pub without_stretch : (old new : Content) (before after : Counts) (s : Stretch) (n : ℕ) (ks : List Kept) → IsHeld old before ks → IsStretch s ks → (s.len ≤ length old.bytes → n ≡ s.len)
+    → new.bytes ≡ take (length old.bytes - n) old.bytes → after ≡ record before { entries = before.entries - s.count } → IsHeld new after (drop s.count ks)
+without_stretch old new before after s n ks held stretch is bytes counts = record {
+  fit = fit_front newer older fits;
+  bytes = bytes ∙ ap (λ (m : ℕ). take (length old.bytes - m) old.bytes) (is within) ∙ ap (take (length old.bytes - s.len)) cut ∙ take_at (ring older) (ring newer) (length old.bytes - s.len) front;
+  counted = subst (λ (c : Counts). Counted c older) (sym counts)
+      (subst (λ (m : ℕ). Counted (record before { entries = before.entries - m }) older) many
+      (counted_without before newer older stretch.unmarked.plain (subst (Counted before) whole held.counted)));
+}
+  where
+    newer : List Kept
+    newer = take s.count ks
+
+    older : List Kept
+    older = drop s.count ks
+
+    whole : ks ≡ newer ++ older
+    whole = sym (take-append-drop s.count ks)
+
+    fits : AllFit (newer ++ older)
+    fits = subst AllFit whole held.fit
+
+    cut : old.bytes ≡ ring older ++ ring newer
+    cut = held.bytes ∙ ap ring whole ∙ ring-append newer older
+
+    many : length newer ≡ s.count
+    many = length-take s.count ks ∙ omega (arith, stretch.unmarked.there)
+
+    sum : sum_by kept_weight (newer ++ older) ≡ sum_by kept_weight newer + sum_by kept_weight older
+    sum = sum_by-append kept_weight newer older
+
+    all : length old.bytes ≡ sum_by kept_weight (newer ++ older)
+    all = ap length (held.bytes ∙ ap ring whole) ∙ length-ring (newer ++ older) fits
+
+    rest : length (ring older) ≡ sum_by kept_weight older
+    rest = length-ring older (fit_front newer older fits)
+
+    within : s.len ≤ length old.bytes
+    within = omega (arith, all, sum, stretch.weighs)
+
+    front : length (ring older) ≡ length old.bytes - s.len
+    front = omega (arith, all, sum, rest, stretch.weighs)
 
 -- One more of the newest is let go.
 pub drop_one : (P Q : List Kept → Type 0) (n : ℕ) (ks : List Kept) → (P [] → Q []) → ((ls : List Kept) (k : Kept) → P (k ∷ ls) → Q ls) → P (drop n ks) → Q (drop (suc n) ks)

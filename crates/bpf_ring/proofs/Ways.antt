@@ -20,6 +20,7 @@ use Rattle.bpf_ring.specs.Blocks.{Content, around, behind, pasted}
 use Rattle.bpf_ring.specs.Counted.{Counted}
 use Rattle.bpf_ring.specs.Held.{IsHeld}
 use Rattle.bpf_ring.specs.Ways.{EndsPlain, HandsBack, HasText, IsWay, Made, kept_by}
+use Rattle.bpf_ring.specs.declared.backward.Stays.{Stays}
 use Rattle.bpf_ring.specs.declared.counts.Counts.{Counts}
 
 -- Where so many were taken back: what is left of the way, and the other list.
@@ -30,26 +31,26 @@ pub record Reached (z : State) (left other : List Kept → Type 0) : Type 0 wher
   pub held : left (map kept_by ws)
   pub taken : other ls
 
-pub reached : (marks : List Bool) (stores : Bool) (z : State) (left other : List Kept → Type 0) (n : ℕ) (ws : List Made) (ls : List Kept) (y : State) → IsWay ws y
-    → HandsBack marks stores z left other n ws ls y → Reached z left other
-reached marks stores z left other zero ws ls y way there = record { ws = ws; ls = ls; way = subst (IsWay ws) (sym there.0) way; held = there.1; taken = there.2 }
-reached marks stores z left other (suc n) [] ls y way there = absurd there
-reached marks stores z left other (suc n) (w ∷ ws) ls y way there = reached marks stores z left other n ws (kept_by w ∷ ls) w.before way.1 there.1
+pub reached : (marks : List Bool) (stays : Stays) (z : State) (left other : List Kept → Type 0) (n : ℕ) (ws : List Made) (ls : List Kept) (y : State) → IsWay ws y
+    → HandsBack marks stays z left other n ws ls y → Reached z left other
+reached marks stays z left other zero ws ls y way there = record { ws = ws; ls = ls; way = subst (IsWay ws) (sym there.0) way; held = there.1; taken = there.2 }
+reached marks stays z left other (suc n) [] ls y way there = absurd there
+reached marks stays z left other (suc n) (w ∷ ws) ls y way there = reached marks stays z left other n ws (kept_by w ∷ ls) w.before way.1 there.1
 
 -- One more behind them.
-module _ (marks : List Bool) (stores : Bool) (z z' : State) (left other left' other' : List Kept → Type 0)
-    (more : (ws : List Made) (ls : List Kept) → IsWay ws z → left (map kept_by ws) → other ls → HandsBack marks stores z' left' other' 1 ws ls z) where
-  pub hands_more : (n : ℕ) (ws : List Made) (ls : List Kept) (y : State) → IsWay ws y → HandsBack marks stores z left other n ws ls y
-      → HandsBack marks stores z' left' other' (suc n) ws ls y
+module _ (marks : List Bool) (stays : Stays) (z z' : State) (left other left' other' : List Kept → Type 0)
+    (more : (ws : List Made) (ls : List Kept) → IsWay ws z → left (map kept_by ws) → other ls → HandsBack marks stays z' left' other' 1 ws ls z) where
+  pub hands_more : (n : ℕ) (ws : List Made) (ls : List Kept) (y : State) → IsWay ws y → HandsBack marks stays z left other n ws ls y
+      → HandsBack marks stays z' left' other' (suc n) ws ls y
   hands_more zero ws ls y way there =
-      subst (HandsBack marks stores z' left' other' 1 ws ls) there.0 (more ws ls (subst (IsWay ws) (sym there.0) way) there.1 there.2)
+      subst (HandsBack marks stays z' left' other' 1 ws ls) there.0 (more ws ls (subst (IsWay ws) (sym there.0) way) there.1 there.2)
   hands_more (suc n) [] ls y way there = absurd there
   hands_more (suc n) (w ∷ ws) ls y way there = (there.0, hands_more n ws (kept_by w ∷ ls) w.before way.1 there.1)
 
 -- What is held otherwise then.
-module _ (marks : List Bool) (stores : Bool) (z : State) (left other left' other' : List Kept → Type 0) where
+module _ (marks : List Bool) (stays : Stays) (z : State) (left other left' other' : List Kept → Type 0) where
   pub hands_as : ((ks : List Kept) → left ks → left' ks) → ((ls : List Kept) → other ls → other' ls)
-      → (n : ℕ) (ws : List Made) (ls : List Kept) (y : State) → HandsBack marks stores z left other n ws ls y → HandsBack marks stores z left' other' n ws ls y
+      → (n : ℕ) (ws : List Made) (ls : List Kept) (y : State) → HandsBack marks stays z left other n ws ls y → HandsBack marks stays z left' other' n ws ls y
   hands_as l o zero ws ls y there = (there.0, l (map kept_by ws) there.1, o ls there.2)
   hands_as l o (suc n) [] ls y there = there
   hands_as l o (suc n) (w ∷ ws) ls y there = (there.0, hands_as l o n ws (kept_by w ∷ ls) w.before there.1)
@@ -59,7 +60,7 @@ module _ (marks : List Bool) (stores : Bool) (z : State) (left other left' other
       → ((ks : List Kept) → left ks → Counted (record c { entries = c.entries - n }) ks → left' ks)
       → ((ms : List Kept) → other ms → (base → Counted (record d { entries = d.entries + n }) ms) → other' ms)
       → Counted c (map kept_by ws) → (base → Counted d ls)
-      → HandsBack marks stores z left other n ws ls y → HandsBack marks stores z left' other' n ws ls y
+      → HandsBack marks stays z left other n ws ls y → HandsBack marks stays z left' other' n ws ls y
   hands_counted base c d zero ws ls y l o counted counts there = (
     there.0,
     l (map kept_by ws) there.1 (record { entries = omega (arith, counted.entries); marks = counted.marks; edits = counted.edits }),
@@ -156,17 +157,17 @@ slice_of text end n low high =
     sym (ap (drop (length (take end text) - n)) cut ∙ drop_at (take (end - n) text) (take (end - (end - n)) (drop (end - n) text)) (length (take end text) - n) first)
 
 -- The loop's begin: nothing is taken back.
-pub none_yet : (marks : List Bool) (stores : Bool) (y : State) (bytes room front older : List ℕ) (ws : List Made) (ls : List Kept) → HasText (front ++ bytes) (map kept_by ws)
-    → HandsBack marks stores y (HasText (front ++ take (length bytes - 0) bytes)) (λ ms. HasText older ls → HasText (older ++ take 0 room) ms) 0 ws ls y
-none_yet marks stores y bytes room front older ws ls held = (
+pub none_yet : (marks : List Bool) (stays : Stays) (y : State) (bytes room front older : List ℕ) (ws : List Made) (ls : List Kept) → HasText (front ++ bytes) (map kept_by ws)
+    → HandsBack marks stays y (HasText (front ++ take (length bytes - 0) bytes)) (λ ms. HasText older ls → HasText (older ++ take 0 room) ms) 0 ws ls y
+none_yet marks stays y bytes room front older ws ls held = (
   refl,
   subst (λ (l : List ℕ). HasText (front ++ l) (map kept_by ws)) (sym (take_all (length bytes - 0) bytes (omega arith))) held,
   λ base. subst (λ (l : List ℕ). HasText l ls) (sym (append-nil older)) base,
 )
 
 -- What the newest entry leaves.
-module _ (marks : List Bool) (stores : Bool) (z : State) (bytes piece : List ℕ) (at n : ℕ) (some : 5 ≤ n) (low : n ≤ length bytes - at)
-    (plain : (front : List ℕ) (k : Kept) (ks : List Kept) → HasText (front ++ take (length bytes - at) bytes) (k ∷ ks) → EndsPlain marks stores (take (length bytes - at) bytes) n k)
+module _ (marks : List Bool) (stays : Stays) (z : State) (bytes piece : List ℕ) (at n : ℕ) (some : 5 ≤ n) (low : n ≤ length bytes - at)
+    (plain : (front : List ℕ) (k : Kept) (ks : List Kept) → HasText (front ++ take (length bytes - at) bytes) (k ∷ ks) → EndsPlain marks stays (take (length bytes - at) bytes) n k)
     (cut : piece ≡ drop (length (take (length bytes - at) bytes) - n) (take (length bytes - at) bytes)) where
   -- it led to the state
   pub came : (front : List ℕ) (ws : List Made) → IsWay ws z → HasText (front ++ take (length bytes - at) bytes) (map kept_by ws) → HasComeBy z piece
@@ -185,7 +186,7 @@ module _ (marks : List Bool) (stores : Bool) (z : State) (bytes piece : List ℕ
       (copied : take (at + n) room' ≡ take at room ++ piece) where
     pub one_more : (front older : List ℕ) (base : List Kept) (ws : List Made) (ls : List Kept) → IsWay ws z → HasText (front ++ take (length bytes - at) bytes) (map kept_by ws)
         → (HasText older base → HasText (older ++ take at room) ls)
-        → HandsBack marks stores z' (HasText (front ++ take (length bytes - (at + n)) bytes)) (λ ms. HasText older base → HasText (older ++ take (at + n) room') ms) 1 ws ls z
+        → HandsBack marks stays z' (HasText (front ++ take (length bytes - (at + n)) bytes)) (λ ms. HasText older base → HasText (older ++ take (at + n) room') ms) 1 ws ls z
     one_more front older base [] ls way held into = absurd (omega (arith, ap length held.whole, length-append front (take (length bytes - at) bytes), length-take (length bytes - at) bytes, some, low))
     one_more front older base (w ∷ ws) ls way held into =
         let k : Kept = kept_by w in

@@ -1,8 +1,9 @@
 -- Moves whose entries a ring holds, and what is left where the newest of them are taken back at once.
 use Rattle.std.specs.Prelude.{◌≡◌, ◌++◌, ◌-◌, ℕ, zero, suc, Bool, true, false, List, [], ◌∷◌, Some, None, length, drop, map}
 use Rattle.std.specs.Option.{option_map}
+use Rattle.bpf_entries.specs.declared.entry.Entry.{Entry}
 use Rattle.bpf_entries.specs.Keeping.{Kept}
-use Rattle.bpf_entries.specs.Past.{is_of_step, past, replaced}
+use Rattle.bpf_entries.specs.Past.{Same, is_of_step, past, replaced}
 use Rattle.bpf_entries.specs.Rings.{AllFit, ring}
 use Rattle.bpf_entries.specs.Texts.{text}
 use Rattle.bpf_entries.specs.Weights.{weight}
@@ -10,6 +11,8 @@ use Rattle.bpf_machine.specs.Kept.{is_marked}
 use Rattle.bpf_machine.specs.declared.moves.Move.{Move}
 use Rattle.bpf_machine.specs.Moves.{Leads, overwritten}
 use Rattle.bpf_machine.specs.State.{State}
+use Rattle.bpf_ring.specs.declared.backward.Stays.{Stays}
+use Rattle.bpf_ring.specs.declared.backward.Stays.TheVariants.{Nothing, Depth, Memory}
 use Rattle.bpf_ring.specs.declared.counts.Counts.{Counts}
 use Rattle.bpf_ring.specs.Blocks.{Content}
 use Rattle.bpf_ring.specs.Held.{IsHeld}
@@ -35,21 +38,27 @@ pub record HoldsWholeWay (content : Content) (counts : Counts) (y : State) : Typ
   pub held : IsHeld content counts (map kept_by ws)
   pub way : IsWay ws y
 
--- An entry that may be taken back together with others: one of a step, without a mark, whose slot is not among those that a table marks; and
--- where stores are not to be taken, one that replaced no bytes of memory.
-pub record IsPlain (marks : List Bool) (stores : Bool) (k : Kept) : Type 0 where
+-- An entry's move left as it was what is named: maybe nothing, the depth of calls, or the bytes of memory.
+abbrev pub HasLeft : Stays → Entry → Type 0
+HasLeft Nothing e = Unit {0}
+HasLeft Depth e = (past 0 e).frames ≡ Same
+HasLeft Memory e = replaced 0 e ≡ None
+
+-- An entry that may be taken back together with others: one of a step, without a mark, whose slot is not among those that a table marks, and
+-- whose move left as it was what is named.
+pub record IsPlain (marks : List Bool) (stays : Stays) (k : Kept) : Type 0 where
   pub step : is_of_step k.0 ≡ true
   pub unmarked : k.1 ≡ false
   pub slot : option_map (is_marked marks) (past 0 k.0).pc ≡ Some false
-  pub spared : stores ≡ false → replaced 0 k.0 ≡ None
+  pub spared : HasLeft stays k.0
 
 -- The newest n of the moves that led to y are taken back, one after another, each of a plain entry, which goes in front of those that another
 -- list has. That leads to z; what is left, and the other list then, are held.
-module _ (marks : List Bool) (stores : Bool) (z : State) (left other : List Kept → Type 0) where
+module _ (marks : List Bool) (stays : Stays) (z : State) (left other : List Kept → Type 0) where
   abbrev pub HandsBack : ℕ → List Made → List Kept → State → Type 0
   HandsBack zero ws ls y = (z ≡ y) × left (map kept_by ws) × other ls
   HandsBack (suc n) [] ls y = ⊥
-  HandsBack (suc n) (w ∷ ws) ls y = IsPlain marks stores (kept_by w) × HandsBack n ws (kept_by w ∷ ls) w.before
+  HandsBack (suc n) (w ∷ ws) ls y = IsPlain marks stays (kept_by w) × HandsBack n ws (kept_by w ∷ ls) w.before
 
 -- Scaffolding: bytes are the text of entries, which fit their fields.
 pub record HasText (bytes : List ℕ) (ks : List Kept) : Type 0 where
@@ -64,7 +73,7 @@ pub record EndsWay (bytes : List ℕ) (y : State) : Type 0 where
   pub way : IsWay ws y
 
 -- Scaffolding: so many of the newest bytes are the text of an entry that is plain.
-pub record EndsPlain (marks : List Bool) (stores : Bool) (bytes : List ℕ) (n : ℕ) (k : Kept) : Type 0 where
-  pub plain : IsPlain marks stores k
+pub record EndsPlain (marks : List Bool) (stays : Stays) (bytes : List ℕ) (n : ℕ) (k : Kept) : Type 0 where
+  pub plain : IsPlain marks stays k
   pub weighs : n ≡ weight k.0
   pub newest : drop (length bytes - n) bytes ≡ text k.0 k.1

@@ -11,6 +11,8 @@ mod ring;
 mod run;
 mod stretches;
 
+pub use backward::Stays;
 pub use entries::{EntryRing, Head};
 pub use ring::Ring;
 pub use run::{StopTest, change_replaces_bytes};
+pub use stretches::Stretch;

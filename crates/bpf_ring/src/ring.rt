@@ -19,7 +19,7 @@ ghost use Rattle.bpf_ring.specs.Runs.{RunsTo, Running, kept_after, state_after};
 ghost use Rattle.bpf_ring.specs.Spans.{counts_of};
 ghost use Rattle.bpf_ring.specs.Ways.{EndsWay, HandsBack, HasText, IsWay, Made, kept_by};
 
-use crate::backward::{Handed, hand_texts};
+use crate::backward::{Handed, Stays, hand_texts};
 use crate::block::{fill, place, record_in_place, write_around, write_in_place};
 use crate::counts::Counts;
 use crate::entries::text_len;
@@ -368,14 +368,14 @@ impl Ring {
         text: &[u8],
         most: u64,
         marks: &[bool; 8192],
-        stores: bool,
+        stays: Stays,
     ) -> Handed
         requires { EndsWay text.now cpu.old }
         ensures size { self.new.size ≡ self.old.size }
         ensures within { (result.taken ≤ most) × (result.len ≤ length text.now) }
         ensures handed { (ws : List Made) (ls : List Kept) (front : List ℕ) → IsWay ws cpu.old →
             HasText (front ++ text.now) (map kept_by ws) →
-            HandsBack marks.now stores cpu.new
+            HandsBack marks.now stays cpu.new
             (HasText (front ++ take (length text.now - result.len) text.now))
             (λ ms. HasText self.old.bytes ls → HasText self.new.bytes ms)
             result.taken ws ls cpu.old }
@@ -384,7 +384,7 @@ impl Ring {
         let end = place(self.buffer.len(), self.first, self.len());
         let room = left.min(self.buffer.len() - 1 - end);
         let block = self.buffer.make_contiguous();
-        let handed = hand_texts(cpu, text, &mut block[end..end + room], most, marks, stores);
+        let handed = hand_texts(cpu, text, &mut block[end..end + room], most, marks, stays);
         self.len += handed.len;
         handed
     }

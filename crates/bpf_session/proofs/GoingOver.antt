@@ -1,14 +1,17 @@
 -- Moves that a backward command goes over at once.
-use Rattle.std.specs.Prelude.{if◌then◌else◌, is_some, nat_lt}
+use Rattle.std.specs.Prelude.{if◌then◌else◌, is_some, nat_le, nat_lt}
 use Rattle.std.specs.Option.{option_map}
 use Rattle.std.proofs.Common.{◌≡◌, ◌+◌, ◌-◌, ◌%◌, ◌<◌, ◌≤◌, ◌==◌, ◌&&◌, ◌||◌, ℕ, zero, suc, Bool, true, false, List, [], ◌∷◌, Option, Some, None, length, drop, take, reverse, ◌++◌, refl, sym, ap, subst, ◌∙◌, arith, inl, inr}
 use Rattle.std.proofs.lemmas.Bool.{cases_lt}
 use Rattle.std.proofs.lemmas.Bool.Decides.{nat_tests}
 use Rattle.std.proofs.lemmas.List.{drop_all}
+use Rattle.bpf_entries.specs.declared.entry.Entry.{Entry}
+use Rattle.bpf_entries.specs.declared.entry.Entry.TheVariants as entry
+use Rattle.bpf_entries.specs.Before.{depth_before}
 use Rattle.bpf_entries.specs.Keeping.{Kept}
-use Rattle.bpf_entries.specs.Past.{is_of_step, past, replaced}
+use Rattle.bpf_entries.specs.Past.{Same, is_of_step, past, replaced}
 use Rattle.bpf_journal.proofs.Histories.{of_move}
-use Rattle.bpf_journal.proofs.Telling.{kept_bytes}
+use Rattle.bpf_journal.proofs.Telling.{kept_bytes, tells_before}
 use Rattle.bpf_journal.specs.GoingBack.{GoesBackBy}
 use Rattle.bpf_journal.specs.Histories.{IsRun, Record, is_step, kept_of}
 use Rattle.bpf_journal.specs.Lookups.{Test, latest, state_before}
@@ -21,8 +24,10 @@ use Rattle.bpf_machine.specs.Entries.{entry_of}
 use Rattle.bpf_machine.specs.Moves.{Leads, overwritten}
 use Rattle.bpf_machine.specs.Next.{change as change_of}
 use Rattle.bpf_machine.specs.Kept.{is_marked}
-use Rattle.bpf_machine.specs.State.{State}
-use Rattle.bpf_ring.specs.Ways.{IsPlain}
+use Rattle.bpf_machine.specs.State.{State, depth}
+use Rattle.bpf_ring.specs.Ways.{HasLeft, IsPlain}
+use Rattle.bpf_ring.specs.declared.backward.Stays.{Stays}
+use Rattle.bpf_ring.specs.declared.backward.Stays.TheVariants.{Nothing, Depth, Memory}
 use Rattle.bpf_session.specs.Backward.{back_by, before_last, passes}
 use Rattle.bpf_session.specs.Points.{Point}
 use Rattle.bpf_session.specs.Searches.{GoAtOnce, GoesOver, is_each}
@@ -59,23 +64,61 @@ neither : (a b c : Bool) → b ≡ false → c ≡ false → (a && (b || c)) ≡
 neither true b c e f = rw (e, f) refl
 neither false b c e f = refl
 
-pub each_alike : (target : Target) (first : State) (breaks watches : List ℕ) (marks : List Bool) (unwatched stores : Bool) → IsTableOf breaks marks → (unwatched ≡ true → watches ≡ []) → GoAtOnce target unwatched stores
-    → (r : Record) (z : State) → IsPlain marks stores (kept_of r) → Leads r.before r.move z
+not_both : (a b : Bool) → b ≡ false → (a && b) ≡ false
+not_both true b e = e
+not_both false b e = refl
+
+-- Moves that left the depth as it was.
+level_by : (d : ℕ) (e : Entry) → (past 0 e).frames ≡ Same → depth_before d e ≡ d
+level_by d (entry.Register pc r value) same = refl
+level_by d (entry.Jump pc) same = refl
+level_by d (entry.Call pc old) same = absurd cc
+level_by d (entry.Return pc saved) same = absurd cc
+level_by d (entry.Store pc a old) same = refl
+level_by d (entry.Fetch pc r value a old) same = refl
+level_by d (entry.Cell pc r0 a old) same = refl
+level_by d (entry.Trace pc r0) same = refl
+level_by d entry.End same = refl
+level_by d (entry.EditRegister r value) same = refl
+level_by d (entry.EditBytes a old) same = refl
+level_by d (entry.EditPc pc status) same = refl
+
+kept_level : (r : Record) (z : State) (stays : Stays) → stays ≡ Depth → HasLeft stays (overwritten r.before r.move) → Leads r.before r.move z → depth r.before ≡ depth z
+kept_level r z stays is left leads =
+    (tells_before r.before z r.move leads).depths
+    ∙ level_by (depth z) (overwritten r.before r.move) (subst (λ (s : Stays). HasLeft s (overwritten r.before r.move)) is left)
+
+deeper : (a b : ℕ) → b < a → nat_le a b ≡ false
+deeper a b more = grind (arith, nat_tests)
+
+as_deep : (a b : ℕ) → b ≤ a → nat_lt a b ≡ false
+as_deep a b more = grind (arith, nat_tests)
+
+pub each_alike : (target : Target) (first : State) (breaks watches : List ℕ) (marks : List Bool) (unwatched : Bool) (now : ℕ) (stays : Stays) → IsTableOf breaks marks → (unwatched ≡ true → watches ≡ [])
+    → GoAtOnce target unwatched (depth first) now stays
+    → (r : Record) (z : State) → IsPlain marks stays (kept_of r) → Leads r.before r.move z → (stays ≡ Depth → depth z ≡ now)
     → passes target (record { history = []; ahead = []; state = first; breaks = breaks; watches = watches }) r z ≡ is_each target
-each_alike (Commands count) first breaks watches marks unwatched stores table none may r z plain leads = plain.unmarked
-each_alike (Steps count) first breaks watches marks unwatched stores table none may r z plain leads = sym (of_move r.before r.move) ∙ plain.step
-each_alike Continue first breaks watches marks unwatched stores table none may r z plain leads =
+each_alike (Commands count) first breaks watches marks unwatched now stays table none may r z plain leads level = plain.unmarked
+each_alike (Steps count) first breaks watches marks unwatched now stays table none may r z plain leads level = sym (of_move r.before r.move) ∙ plain.step
+each_alike Continue first breaks watches marks unwatched now stays table none may r z plain leads level =
     neither (is_step r.move) (has breaks r.before.pc) (some_differs watches r.before z)
     (sym (not_there breaks marks r.before.pc (r.before.pc % 8192) table refl (omega arith) (plain_slot marks r.before r.move plain.step plain.slot)))
-    (unseen stores refl)
+    (unseen unwatched refl)
   where
-    unseen : (b : Bool) → stores ≡ b → some_differs watches r.before z ≡ false
-    unseen true is = ap (λ (ws : List ℕ). some_differs ws r.before z) (none (sym may ∙ is))
+    left : (b : Bool) → unwatched ≡ b → HasLeft (if b then Nothing else Memory) (overwritten r.before r.move)
+    left b is = subst (λ (s : Stays). HasLeft s (overwritten r.before r.move)) (may ∙ ap (λ (b : Bool). if b then Nothing else Memory) is) plain.spared
+
+    unseen : (b : Bool) → unwatched ≡ b → some_differs watches r.before z ≡ false
+    unseen true is = ap (λ (ws : List ℕ). some_differs ws r.before z) (none is)
     unseen false is =
         sym (compares_none watches (bytes_at watches r.before) r.before z refl
-        (kept_bytes r.before z r.move leads (ap is_some (plain.spared is)))).since
-each_alike Next first breaks watches marks unwatched stores table none may r z plain leads = absurd may
-each_alike Finish first breaks watches marks unwatched stores table none may r z plain leads = absurd may
+        (kept_bytes r.before z r.move leads (ap is_some (left false is)))).since
+each_alike Next first breaks watches marks unwatched now stays table none may r z plain leads level =
+    let at : depth r.before ≡ now = kept_level r z stays may.0 plain.spared leads ∙ level may.0 in
+    not_both (is_step r.move) (nat_le (depth r.before) (depth first)) (deeper (depth r.before) (depth first) (omega (arith, at, may.1)))
+each_alike Finish first breaks watches marks unwatched now stays table none may r z plain leads level =
+    let at : depth r.before ≡ now = kept_level r z stays may.0 plain.spared leads ∙ level may.0 in
+    as_deep (depth r.before) (depth first) (omega (arith, at, may.1))
 
 -- so many moves further back
 shifted_none : (o : Option ℕ) → shifted 0 o ≡ o
@@ -133,11 +176,11 @@ module _ {K : Type 0} (holds : K → List Kept → Type 0) (test : Test) (each :
   few_left true left n few is = let more = few is in omega arith
   few_left false left n few is = absurd cc
 
-  far : (marks : List Bool) (stores : Bool) (n k t left : ℕ) (y : State) → t ≡ k + n → y ≡ state_before k H y0 → IsRun (drop k H) y
-      → GoesBackBy holds marks stores new n (drop k H) (reverse (take k H) ++ ahead) y
-      → (1 ≤ n → (r : Record) (z : State) → IsPlain marks stores (kept_of r) → Leads r.before r.move z → test r z ≡ each)
+  far : (marks : List Bool) (stays : Stays) (d n k t left : ℕ) (y : State) → (stays ≡ Depth → depth y ≡ d) → t ≡ k + n → y ≡ state_before k H y0 → IsRun (drop k H) y
+      → GoesBackBy holds marks stays new n (drop k H) (reverse (take k H) ++ ahead) y
+      → (1 ≤ n → (r : Record) (z : State) → IsPlain marks stays (kept_of r) → Leads r.before r.move z → (stays ≡ Depth → depth z ≡ d) → test r z ≡ each)
       → (each ≡ true → n < left) → Far k t n left y
-  far marks stores zero k t left y is from run there alike few =
+  far marks stays d zero k t left y level is from run there alike few =
       let e : k ≡ t = omega (arith, is) in
       subst (λ (j : ℕ). Far k j 0 left y) e (record {
         state = there.0 ∙ from;
@@ -147,28 +190,28 @@ module _ {K : Type 0} (holds : K → List Kept → Type 0) (test : Test) (each :
             ∙ ap (latest test (fewer_by each left 0) (drop k H)) (sym there.0)
             ∙ sym (shifted_none (latest test (fewer_by each left 0) (drop k H) new.state));
       })
-  far marks stores (suc n) k t left y is from run there alike few = elim (cases_lt k (length H)) [
+  far marks stays d (suc n) k t left y level is from run there alike few = elim (cases_lt k (length H)) [
     | inl low ↦
         let a = record_at H k low in
         let tests = alike (omega arith) in
         let run_on : IsRun (a.found ∷ drop (suc k) H) y = subst (λ (g : List Record). IsRun g y) a.front run in
-        let on : GoesBackBy holds marks stores new (suc n) (a.found ∷ drop (suc k) H) (reverse (take k H) ++ ahead) y =
-        subst (λ (g : List Record). GoesBackBy holds marks stores new (suc n) g (reverse (take k H) ++ ahead) y) a.front there in
+        let on : GoesBackBy holds marks stays new (suc n) (a.found ∷ drop (suc k) H) (reverse (take k H) ++ ahead) y =
+        subst (λ (g : List Record). GoesBackBy holds marks stays new (suc n) g (reverse (take k H) ++ ahead) y) a.front there in
         let up : t ≡ suc k + n = omega (arith, is) in
         let f : Far (suc k) t n (fewer_by each left 1) a.found.before =
-        far marks stores n (suc k) t (fewer_by each left 1) a.found.before up (sym (a.there y0)) run_on.1
-        (subst (λ (g : List Record). GoesBackBy holds marks stores new n (drop (suc k) H) g a.found.before) (sym (put_in_front k H a.found ahead a.front)) on.1)
+        far marks stays d n (suc k) t (fewer_by each left 1) a.found.before (λ is. kept_level a.found y stays is on.0.spared run_on.0 ∙ level is) up (sym (a.there y0)) run_on.1
+        (subst (λ (g : List Record). GoesBackBy holds marks stays new n (drop (suc k) H) g a.found.before) (sym (put_in_front k H a.found ahead a.front)) on.1)
         (λ some. tests) (few_left each left n few) in
         record {
           state = f.state;
           past = f.past;
           rest =
               ap (λ (g : List Record). latest test left g y) a.front
-              ∙ one_of n left (drop (suc k) H) a.found y (latest test (fewer_by each left (suc n)) (drop t H) new.state) (tests a.found y on.0 run_on.0) few
+              ∙ one_of n left (drop (suc k) H) a.found y (latest test (fewer_by each left (suc n)) (drop t H) new.state) (tests a.found y on.0 run_on.0 level) few
               (f.rest ∙ ap (λ (m : ℕ). shifted n (latest test m (drop t H) new.state)) (fewer_yet each left n));
         }
     | inr past ↦
-        absurd (subst (λ (g : List Record). GoesBackBy holds marks stores new (suc n) g (reverse (take k H) ++ ahead) y) (drop_all k H past) there)
+        absurd (subst (λ (g : List Record). GoesBackBy holds marks stays new (suc n) g (reverse (take k H) ++ ahead) y) (drop_all k H past) there)
   ]
 
 module _ {K : Type 0} (holds : K → List Kept → Type 0) (refusals room : K → ℕ) (test : Test) (m : ℕ) (old now new : SessionValue K) (seen seen' : List ℕ) (left k n : ℕ) (each : Bool)
@@ -180,7 +223,7 @@ module _ {K : Type 0} (holds : K → List Kept → Type 0) (refusals room : K �
   far_from h past le =
       let st = i.stands h past (omega (arith, le)) in
       let o = over (track_at (back_by k (point_of old h))) st.1 in
-      far holds test each new.moment h.history h.ahead old.moment.state o.marks o.stores n k (k + n) left now.moment.state refl
+      far holds test each new.moment h.history h.ahead old.moment.state o.marks o.stays (depth now.moment.state) n k (k + n) left now.moment.state (λ is. refl) refl
       (ap (λ (p : Point). p.state) st.0) st.1.history.1 o.back o.each few
 
   -- so many more moves
@@ -213,12 +256,12 @@ module _ {K : Type 0} (holds : K → List Kept → Type 0) (refusals room : K �
       saw_then h past le zero none =
           let st = i.stands h past (omega (arith, le)) in
           let o = over (track_at (back_by k (point_of old h))) st.1 in
-          let stays : GoesBackBy holds o.marks o.stores new.moment 0 (drop k h.history) (reverse (take k h.history) ++ h.ahead) now.moment.state =
-          subst (λ (j : ℕ). GoesBackBy holds o.marks o.stores new.moment j (drop k h.history) (reverse (take k h.history) ++ h.ahead) now.moment.state) none o.back in
+          let none_back : GoesBackBy holds o.marks o.stays new.moment 0 (drop k h.history) (reverse (take k h.history) ++ h.ahead) now.moment.state =
+          subst (λ (j : ℕ). GoesBackBy holds o.marks o.stays new.moment j (drop k h.history) (reverse (take k h.history) ++ h.ahead) now.moment.state) none o.back in
           sees
           ∙ ap (λ (j : ℕ). if nat_lt 0 j then bytes_at new.watches new.moment.state else seen) none
           ∙ i.saw h past (omega (arith, le))
-          ∙ ap (bytes_at now.watches) (sym stays.0)
+          ∙ ap (bytes_at now.watches) (sym none_back.0)
           ∙ ap (λ (ws : List ℕ). bytes_at ws new.moment.state) (sym only.watches)
       saw_then h past le (suc j) some =
           sees
@@ -231,7 +274,7 @@ pub over_for : {K : Type 0} (holds : K → List Kept → Type 0) (target : Targe
     → GoesOver holds (passes target (point_of old (track_of []))) (is_each target) n h f y new
 over_for holds target old now n h f y new breaks watches o = record {
   marks = o.marks;
-  stores = o.stores;
+  stays = o.stays;
   back = o.back;
-  each = λ some r z plain leads. sym (passes_same target old.moment.state now.breaks old.breaks now.watches old.watches breaks watches r z) ∙ o.each some r z plain leads;
+  each = λ some r z plain leads level. sym (passes_same target old.moment.state now.breaks old.breaks now.watches old.watches breaks watches r z) ∙ o.each some r z plain leads level;
 }

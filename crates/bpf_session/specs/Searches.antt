@@ -1,12 +1,14 @@
 -- Scaffolding: how far back a backward command went for what it looks for.
-use Rattle.std.specs.Prelude.{◌≡◌, ◌≤◌, ◌==◌, ℕ, Bool, true, false, List, length, min, is_some, unwrap_or, if◌then◌else◌}
+use Rattle.std.specs.Prelude.{◌≡◌, ◌≤◌, ◌<◌, ◌==◌, ℕ, Bool, true, false, List, length, min, is_some, unwrap_or, if◌then◌else◌}
 use Rattle.bpf_entries.specs.Keeping.{Kept}
 use Rattle.bpf_journal.specs.GoingBack.{GoesBackBy}
 use Rattle.bpf_journal.specs.Histories.{Record, kept_of}
 use Rattle.bpf_journal.specs.Tracks.{CourseValue, Track}
 use Rattle.bpf_machine.specs.Moves.{Leads}
-use Rattle.bpf_machine.specs.State.{State}
+use Rattle.bpf_machine.specs.State.{State, depth}
 use Rattle.bpf_ring.specs.Ways.{IsPlain}
+use Rattle.bpf_ring.specs.declared.backward.Stays.{Stays}
+use Rattle.bpf_ring.specs.declared.backward.Stays.TheVariants.{Nothing, Depth, Memory}
 use Rattle.bpf_journal.specs.Lookups.{Test, latest}
 use Rattle.bpf_session.specs.Backward.{back_by, kept_steps}
 use Rattle.bpf_session.specs.Points.{Point}
@@ -31,22 +33,22 @@ is_each Next = false
 is_each Continue = false
 is_each Finish = false
 
--- What a command goes over at once, where nothing is watched or something is, with moves that replaced bytes or without: no moves where it
--- looks at the depth between them.
-abbrev pub GoAtOnce : Target → Bool → Bool → Type 0
-GoAtOnce (Commands count) unwatched stores = Unit {0}
-GoAtOnce (Steps count) unwatched stores = Unit {0}
-GoAtOnce Continue unwatched stores = stores ≡ unwatched
-GoAtOnce Next unwatched stores = ⊥
-GoAtOnce Finish unwatched stores = ⊥
+-- What the moves have left as it was that a command goes over at once, where nothing is watched or something is, by the depth that it was
+-- given at and the present one: one that looks for a depth goes over moves that left the depth as it was, where it isn't the one.
+abbrev pub GoAtOnce : Target → Bool → ℕ → ℕ → Stays → Type 0
+GoAtOnce (Commands count) unwatched start now stays = Unit {0}
+GoAtOnce (Steps count) unwatched start now stays = Unit {0}
+GoAtOnce Continue unwatched start now stays = stays ≡ (if unwatched then Nothing else Memory)
+GoAtOnce Next unwatched start now stays = (stays ≡ Depth) × (start < now)
+GoAtOnce Finish unwatched start now stays = (stays ≡ Depth) × (start ≤ now)
 
--- The newest n records of a course were taken back at once: a test, which may be told by their entries and where they led, passes each of
--- them or none.
+-- The newest n records of a course were taken back at once: a test, which may be told by their entries, where they led and the depth there,
+-- passes each of them or none.
 pub record GoesOver {K : Type 0} (holds : K → List Kept → Type 0) (test : Test) (passes : Bool) (n : ℕ) (h f : List Record) (y : State) (new : CourseValue K) : Type 0 where
   pub marks : List Bool
-  pub stores : Bool
-  pub back : GoesBackBy holds marks stores new n h f y
-  pub each : 1 ≤ n → (r : Record) (z : State) → IsPlain marks stores (kept_of r) → Leads r.before r.move z → test r z ≡ passes
+  pub stays : Stays
+  pub back : GoesBackBy holds marks stays new n h f y
+  pub each : 1 ≤ n → (r : Record) (z : State) → IsPlain marks stays (kept_of r) → Leads r.before r.move z → (stays ≡ Depth → depth z ≡ depth y) → test r z ≡ passes
 
 -- How many of the moves that it looks for a command goes back over.
 abbrev pub count_in : Target → Point → ℕ

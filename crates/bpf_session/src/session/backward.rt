@@ -12,7 +12,7 @@ ghost use Rattle.bpf_session.specs.Stops.{has, some_differs};
 
 use super::Session;
 use crate::reply::Reply;
-use bpf_journal::{Keeper, Taken};
+use bpf_journal::{Keeper, Stays, Taken};
 use bpfdb_commands::{Command, Target};
 use bpfdb_replies::Why;
 
@@ -104,7 +104,7 @@ impl<K: Keeper> Session<K> {
         let mut seen = self.watches.bytes(self.timeline.cpu());
         let mut gone = 0;
         while gone < kept {
-            let moves = self.back_over(&target, left, kept - gone - 1);
+            let moves = self.back_over(&target, start, left, kept - gone - 1);
             self.watches
                 .see_anew(self.timeline.cpu(), &mut seen, moves > 0);
             left -= hits_over(&target, moves);
@@ -135,15 +135,15 @@ impl<K: Keeper> Session<K> {
         }
     }
 
-    /// Goes back over moves at once, at most so many, where a command looks for so many more: fewer
-    /// than these where each move is one of them, else none that is one of them. Answers how many
-    /// moves, maybe none.
-    fn back_over(&mut self, target: &Target, left: u64, most: u64) -> u64
+    /// Goes back over moves at once, at most so many, where a command that was given at a depth looks
+    /// for so many more: fewer than these where each move is one of them, else none that is one of
+    /// them. Answers how many moves, maybe none.
+    fn back_over(&mut self, target: &Target, start: usize, left: u64, most: u64) -> u64
         requires { 1 ≤ left }
         ensures within { result ≤ most }
         ensures fewer { is_each target.now ≡ true → result < left }
-        ensures over { (first : State) (h : Track) → HasPast K.holds self.old h →
-            GoesOver K.holds
+        ensures over { (first : State) (h : Track) → start ≡ depth first →
+            HasPast K.holds self.old h → GoesOver K.holds
             (passes target.now (record (point_of self.old (track_of [])) { state = first }))
             (is_each target.now) result h.history h.ahead self.old.moment.state self.new.moment }
         ensures stops { (self.new.breaks ≡ self.old.breaks)
@@ -152,11 +152,12 @@ impl<K: Keeper> Session<K> {
         ensures bounds { bounds_of K.room self.new ≡ bounds_of K.room self.old }
     {
         let unwatched = self.watches.is_empty();
-        let (many, stores) = at_once(target, left, most, unwatched);
+        let depth = self.cpu().depth();
+        let (many, stays) = at_once(target, left, most, unwatched, start, depth);
         if many == 0 {
             return 0;
         }
-        self.timeline.back_steps(many, self.breaks.table(), stores)
+        self.timeline.back_steps(many, self.breaks.table(), stays)
     }
 
     /// How many moves of those that a command looks for, which was given at a depth, was the one
@@ -182,19 +183,29 @@ impl<K: Keeper> Session<K> {
 }
 
 /// How many moves are gone over at once at most, where a command looks for so many more and they are
-/// to be no more than so many; and whether moves that replaced bytes are among them. There are
-/// watches or not.
-fn at_once(target: &Target, left: u64, most: u64, unwatched: bool) -> (u64, bool)
+/// to be no more than so many; and what each of them has to have left as it was. There are watches or
+/// not, the command was given at a depth, and there is another depth now.
+fn at_once(
+    target: &Target,
+    left: u64,
+    most: u64,
+    unwatched: bool,
+    start: usize,
+    now: usize,
+) -> (u64, Stays)
     requires { 1 ≤ left }
     ensures within { result.0 ≤ most }
     ensures fewer { is_each target.now ≡ true → result.0 < left }
-    ensures may { 1 ≤ result.0 → GoAtOnce target.now unwatched result.1 }
+    ensures may { 1 ≤ result.0 → GoAtOnce target.now unwatched start now result.1 }
 {
     match target {
-        Target::Commands(_) => (most, true),
-        Target::Steps(_) => (most.min(left - 1), true),
-        Target::Continue => (most, unwatched),
-        Target::Next | Target::Finish => (0, true),
+        Target::Commands(_) => (most, Stays::Nothing),
+        Target::Steps(_) => (most.min(left - 1), Stays::Nothing),
+        Target::Continue if unwatched => (most, Stays::Nothing),
+        Target::Continue => (most, Stays::Memory),
+        Target::Next if now > start => (most, Stays::Depth),
+        Target::Finish if now >= start => (most, Stays::Depth),
+        Target::Next | Target::Finish => (0, Stays::Depth),
     }
 }
 

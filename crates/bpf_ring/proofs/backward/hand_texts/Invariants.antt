@@ -8,5 +8,5 @@ invariant-loop-k l = record {
   within : l.at ≤ l.limit;
   len : length l.room ≡ length l.fn.room;
   handed : (ws : List Made) (ls : List Kept) (front behind : List ℕ) → IsWay ws l.fn.cpu → HasText (front ++ l.text) (map kept_by ws) →
-      HandsBack l.marks l.stores l.cpu (HasText (front ++ take (length l.text - l.at) l.text)) (λ ms. HasText behind ls → HasText (behind ++ take l.at l.room) ms) l.k ws ls l.fn.cpu;
+      HandsBack l.marks l.stays l.cpu (HasText (front ++ take (length l.text - l.at) l.text)) (λ ms. HasText behind ls → HasText (behind ++ take l.at l.room) ms) l.k ws ls l.fn.cpu;
 }

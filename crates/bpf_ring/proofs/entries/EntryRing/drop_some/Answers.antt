@@ -3,6 +3,13 @@ use Rattle.bpf_ring.specs.Held.{IsHeld}
 use Rattle.bpf_ring.proofs.StretchLaws.{drop_one}
 use Rattle.bpf_ring.proofs.entries.EntryRing.drop_some.Goals as goal
 
+pub loop-init : goal.loop-init
+loop-init c = record {
+  size = c.drop_stretch.ensures.size;
+  fits = c.drop_stretch.ensures.fits;
+  held = λ ks held. c.drop_stretch.ensures.held ks held (c.newest_stretch-stretch.ensures.stretch ks held);
+}
+
 pub loop-preserved : goal.loop-preserved
 loop-preserved c =
     let i = c.loop.invariant in

@@ -30,7 +30,7 @@ returns-clause-handed c = λ ws ls held way.
     let whole : HasText (front ++ text) (map kept_by ws) =
     subst (λ (l : List ℕ). HasText l (map kept_by ws)) (sym (behind_others now.ring.bytes text c.newest_run-text.ensures.newest)) (text_so now.ring now.counts (map kept_by ws) held) in
     let left = c.drop_newest.ensures.bytes ∙ others_left now.ring.bytes text len c.newest_run-text.ensures.newest c.newest_run-text.ensures.within c.take_run-handed.ensures.within.1 in
-    hands_counted c.args.marks.now c.args.stores c.take_run-handed.new.cpu
+    hands_counted c.args.marks.now c.args.stays c.take_run-handed.new.cpu
     (HasText (front ++ take (length text - len) text)) (λ ms. HasText other.ring.bytes ls → HasText new.bytes ms)
     (IsHeld c.drop_newest.new.self c.with_entries-self.result) (λ ms. IsHeld other.ring other.counts ls → IsHeld new c.with_entries-other.result ms)
     (IsHeld other.ring other.counts ls) now.counts other.counts n ws ls c.args.cpu.now

@@ -44,7 +44,7 @@ returns-clause-handed c = λ ws ls front way held.
     ∙ sym wrote
     ∙ ap (λ (l : List ℕ). around l first (len + n)) (sym put)
     ∙ ap (λ (l : List ℕ). around l first (len + n)) (sym filled) in
-    hands_as c.args.marks.now c.args.stores c.hand_texts-handed.new.cpu
+    hands_as c.args.marks.now c.args.stays c.hand_texts-handed.new.cpu
     (HasText (front ++ take (length c.args.text.now - n) c.args.text.now)) (λ ms. HasText bytes ls → HasText (bytes ++ take n new) ms)
     (HasText (front ++ take (length c.args.text.now - n) c.args.text.now)) (λ ms. HasText bytes ls → HasText (around (refill (length items) items put_in) first (len + n)) ms)
     (λ ks left. left) (λ ms into base. subst (λ (l : List ℕ). HasText l ms) all (into base))

@@ -1,23 +1,28 @@
-use Rattle.std.proofs.Common.{true, [], refl, arith}
+use Rattle.std.proofs.Common.{◌∙◌, ℕ, [], refl, sym, ap, subst, arith}
+use Rattle.bpf_machine.specs.State.{depth}
+use Rattle.bpf_ring.specs.declared.backward.Stays.TheVariants.{Nothing}
+use Rattle.bpf_session.specs.Searches.{GoAtOnce}
 use Rattle.bpf_session.proofs.GoingOver.{each_alike}
 use Rattle.bpf_session.proofs.session.Session.back_over.Goals as goal
 
 pub returns-then-many-eq0-clause-over : goal.returns-then-many-eq0-clause-over
-returns-then-many-eq0-clause-over g c = λ first h past. record {
+returns-then-many-eq0-clause-over g c = λ first h began past. record {
   marks = [];
-  stores = true;
+  stays = Nothing;
   back = (refl, past);
   each = λ some. absurd (omega (arith, some));
 }
 
 pub returns-clause-over : goal.returns-clause-over
-returns-clause-over g c = λ first h past.
+returns-clause-over g c = λ first h began past.
     let follows = rw (← c.self.view_is) at past in
+    let deep = rw (← c.self.view_is) at (c.depth-depth.ensures ∙ ap depth c.cpu.ensures) in
     rw (← c.self.view_is) (record {
       marks = c.table.result.now;
-      stores = c.at_once-many.result.1;
+      stays = c.at_once-many.result.1;
       back = c.back_steps.ensures.back h follows;
-      each = λ some r z plain leads.
-          each_alike c.args.target.now first c.self.inside.breaks c.self.inside.watches c.table.result.now c.is_empty-unwatched.result c.at_once-many.result.1 c.table.ensures c.is_empty-unwatched.ensures
-          (c.at_once-many.ensures.may (omega (arith, some, c.back_steps.ensures.within))) r z plain leads;
+      each = λ some r z plain leads level.
+          each_alike c.args.target.now first c.self.inside.breaks c.self.inside.watches c.table.result.now c.is_empty-unwatched.result c.depth-depth.result c.at_once-many.result.1 c.table.ensures c.is_empty-unwatched.ensures
+          (subst (λ (n : ℕ). GoAtOnce c.args.target.now c.is_empty-unwatched.result n c.depth-depth.result c.at_once-many.result.1) began
+          (c.at_once-many.ensures.may (omega (arith, some, c.back_steps.ensures.within)))) r z plain leads (λ is. level is ∙ sym deep);
     })

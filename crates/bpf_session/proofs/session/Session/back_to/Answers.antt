@@ -22,7 +22,7 @@ returns-in_default-clause-back g c = λ h past.
     c.loop-gone.left c.loop-gone.gone c.back_over-moves.result (is_each c.args.target) c.loop-gone.invariant.seeking
     (record { breaks = stops.0; watches = stops.1; limit = ap (λ (b : Bounds). b.limit) bounds })
     (λ t past. over_for g.K.Keeper.holds c.args.target c.args.self.now c.loop-gone.self c.back_over-moves.result t.history t.ahead c.loop-gone.self.moment.state mid.moment
-    c.loop-gone.invariant.seeking.only.breaks c.loop-gone.invariant.seeking.only.watches ((rw (← c.self-in-loop-gone.view_is) at c.back_over-moves.ensures.over) c.args.self.now.moment.state t past))
+    c.loop-gone.invariant.seeking.only.breaks c.loop-gone.invariant.seeking.only.watches ((rw (← c.self-in-loop-gone.view_is) at c.back_over-moves.ensures.over) c.args.self.now.moment.state t (c.depth-start.ensures ∙ ap depth c.cpu.ensures) past))
     c.back_over-moves.ensures.fewer (rw (← c.self-in-loop-gone.view_is) at c.back_over-moves.ensures.refused) (ap (λ (b : Bounds). b.room) bounds) (rw c.cpu-in-loop-gone.ensures at c.see_anew.ensures)) in
     let n = c.len-kept.ensures h (rw (← c.self.view_is) at past) in
     let low : c.back_over-moves.result ≤ c.len-kept.result - c.loop-gone.gone - 1 = c.back_over-moves.ensures.within in
@@ -49,7 +49,7 @@ returns-then-left-eq0-clause-back g c = λ h past.
     c.loop-gone.left c.loop-gone.gone c.back_over-moves.result (is_each c.args.target) c.loop-gone.invariant.seeking
     (record { breaks = stops.0; watches = stops.1; limit = ap (λ (b : Bounds). b.limit) bounds })
     (λ t past. over_for g.K.Keeper.holds c.args.target c.args.self.now c.loop-gone.self c.back_over-moves.result t.history t.ahead c.loop-gone.self.moment.state mid.moment
-    c.loop-gone.invariant.seeking.only.breaks c.loop-gone.invariant.seeking.only.watches ((rw (← c.self-in-loop-gone.view_is) at c.back_over-moves.ensures.over) c.args.self.now.moment.state t past))
+    c.loop-gone.invariant.seeking.only.breaks c.loop-gone.invariant.seeking.only.watches ((rw (← c.self-in-loop-gone.view_is) at c.back_over-moves.ensures.over) c.args.self.now.moment.state t (c.depth-start.ensures ∙ ap depth c.cpu.ensures) past))
     c.back_over-moves.ensures.fewer (rw (← c.self-in-loop-gone.view_is) at c.back_over-moves.ensures.refused) (ap (λ (b : Bounds). b.room) bounds) (rw c.cpu-in-loop-gone.ensures at c.see_anew.ensures)) in
     let n = c.len-kept.ensures h (rw (← c.self.view_is) at past) in
     let low : c.back_over-moves.result ≤ c.len-kept.result - c.loop-gone.gone - 1 = c.back_over-moves.ensures.within in
@@ -72,7 +72,7 @@ loop-gone-preserved g c =
     c.loop-gone.left c.loop-gone.gone c.back_over-moves.result (is_each c.args.target) c.loop-gone.invariant.seeking
     (record { breaks = stops.0; watches = stops.1; limit = ap (λ (b : Bounds). b.limit) bounds })
     (λ t past. over_for g.K.Keeper.holds c.args.target c.args.self.now c.loop-gone.self c.back_over-moves.result t.history t.ahead c.loop-gone.self.moment.state mid.moment
-    c.loop-gone.invariant.seeking.only.breaks c.loop-gone.invariant.seeking.only.watches ((rw (← c.self-in-loop-gone.view_is) at c.back_over-moves.ensures.over) c.args.self.now.moment.state t past))
+    c.loop-gone.invariant.seeking.only.breaks c.loop-gone.invariant.seeking.only.watches ((rw (← c.self-in-loop-gone.view_is) at c.back_over-moves.ensures.over) c.args.self.now.moment.state t (c.depth-start.ensures ∙ ap depth c.cpu.ensures) past))
     c.back_over-moves.ensures.fewer (rw (← c.self-in-loop-gone.view_is) at c.back_over-moves.ensures.refused) (ap (λ (b : Bounds). b.room) bounds) (rw c.cpu-in-loop-gone.ensures at c.see_anew.ensures)) in
     let low : c.back_over-moves.result ≤ c.len-kept.result - c.loop-gone.gone - 1 = c.back_over-moves.ensures.within in
     let began = c.depth-start.ensures ∙ ap depth c.cpu.ensures in
