@@ -1,7 +1,7 @@
 //! The checker: the first fault of the bytes, or a program.
 ghost use Rattle.std.specs.Prelude.{◌≡◌, ◌≤◌, ◌<◌, ◌⊎◌, ◌+◌, ◌*◌, ◌↔◌, IsTrue, IfSome, IfNone, IfOk, OnOk, IfErr, List, ℕ, length, slice_index};
 ghost use Rattle.bpf_isa.specs.Checker.{IsStartIn, AreSlots, piece_at, HasFault, HasNoFault, IsFirstFault, IsAccepted, IsRefused};
-ghost use Rattle.bpf_isa.specs.Scaffolding.Checking.{AreStarts, AreInsns, Breaks, IsPiece, IsSound};
+ghost use Rattle.bpf_isa.specs.Scaffolding.Checking.{AreStarts, AreInsns, Breaks, IsPiece, IsSound, IsStartOf};
 ghost use Rattle.bpf_isa.specs.Faults.{IsLeast, piece_fault};
 ghost use Rattle.bpf_isa.specs.Insns.{slots_of};
 ghost use Rattle.bpf_isa.specs.WideLoads.{wide_opcode};
@@ -51,9 +51,7 @@ pub struct Draft<'a> {
 
 /// The fault of the piece at a start that reads as an instruction, the one with the least number.
 fn broken_rule(draft: &Draft<'_>, slot: usize, insn: &Insn) -> Option<PieceFault>
-    requires slots { AreSlots draft.now.bytes.now }
-    requires start { IsStartIn draft.now.bytes.now slot }
-    requires flags { AreStarts draft.now.bytes.now draft.now.starts.now }
+    requires { IsStartOf draft.now.bytes.now draft.now.starts.now slot }
     ensures found { IfSome result
         (IsLeast piece_fault (Breaks draft.now.bytes.now draft.now.maps.now slot insn.now)) }
     ensures none { IfNone result (IsSound draft.now.bytes.now draft.now.maps.now slot insn.now) }
@@ -81,9 +79,7 @@ fn broken_rule(draft: &Draft<'_>, slot: usize, insn: &Insn) -> Option<PieceFault
 
 /// The instruction at a start, or its fault with the least number.
 fn piece(draft: &Draft<'_>, slot: usize) -> Result<Insn, PieceFault>
-    requires slots { AreSlots draft.now.bytes.now }
-    requires start { IsStartIn draft.now.bytes.now slot }
-    requires flags { AreStarts draft.now.bytes.now draft.now.starts.now }
+    requires { IsStartOf draft.now.bytes.now draft.now.starts.now slot }
     ensures ok { IfOk result (IsPiece draft.now.bytes.now draft.now.maps.now slot) }
     ensures clear { OnOk result (HasNoFault draft.now.bytes.now draft.now.maps.now slot) }
     ensures fault { IfErr result

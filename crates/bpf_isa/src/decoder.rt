@@ -2,8 +2,7 @@
 ghost use Rattle.std.specs.Prelude.{◌≡◌, ◌≤◌, ◌⊎◌, ◌↔◌, IsTrue, IfOk, OnOk, IfErr, Ok, ◌++◌, length, slice_index};
 ghost use Rattle.bpf_isa.specs.Mnemonics.{mnemonic_of, kind_of, wide_kind_of};
 ghost use Rattle.bpf_isa.specs.Words.{row_of, HasRegisters, HasSource, HasAddress, HasWideValue, HasParts, IsWord};
-ghost use Rattle.bpf_isa.specs.Scaffolding.Codec.{row, IsRead};
-ghost use Rattle.bpf_isa.specs.Faults.{word_fault};
+ghost use Rattle.bpf_isa.specs.Scaffolding.Codec.{row, IsRead, IsReadFault, IsClearWord};
 ghost use Rattle.bpf_isa.specs.WideLoads.{wide_opcode};
 ghost use Rattle.bpf_isa.specs.WordFaults.{HasWordFault, HasNoWordFault, IsLeastWordFault, joined};
 ghost use Rattle.bpf_isa.specs.declared.fault.WordFault.TheVariants.{CutOff};
@@ -120,8 +119,7 @@ fn insn_of(mnemonic: Mnemonic, source: SourceKind, fields: Fields) -> Insn
 pub(crate) fn read_insn(bytes: &[u8]) -> Result<Insn, WordFault>
     requires { (length bytes.now ≡ 8) ⊎ (length bytes.now ≡ 16) }
     ensures ok { IfOk result (IsRead bytes.now) }
-    ensures fault { IfErr result (IsLeastWordFault bytes.now) }
-    ensures early { IfErr result (λ fault. (word_fault fault).0 ≤ 6) }
+    ensures fault { IfErr result (IsReadFault bytes.now) }
     ensures only { (insn : Insn) → IsWord insn bytes.now → result ≡ Ok insn }
 {
     let fields = read(bytes);
@@ -153,8 +151,7 @@ pub(crate) fn is_cut_off(bytes: &[u8]) -> bool
 fn decode_word(bytes: &[u8]) -> Result<Insn, WordFault>
     requires { (length bytes.now ≡ 8)
         ⊎ ((length bytes.now ≡ 16) × (slice_index bytes.now 0 ≡ wide_opcode)) }
-    ensures ok { IfOk result (λ insn. IsWord insn bytes.now) }
-    ensures clear { OnOk result (HasNoWordFault bytes.now) }
+    ensures ok { IfOk result (IsClearWord bytes.now) }
     ensures fault { IfErr result (IsLeastWordFault bytes.now) }
     ensures only { (insn : Insn) → IsWord insn bytes.now → result ≡ Ok insn }
 {

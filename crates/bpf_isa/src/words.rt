@@ -1,6 +1,6 @@
 //! The bytes of a word.
-ghost use Rattle.std.specs.Prelude.{◌≡◌, ◌<◌, All, ℕ};
-ghost use Rattle.bpf_isa.specs.Words.{fields_of};
+ghost use Rattle.std.specs.Prelude.{◌≡◌, ◌<◌, ℕ};
+ghost use Rattle.bpf_isa.specs.Scaffolding.Codec.{AreBytesOf};
 
 use crate::fields::{Fields, to_bytes};
 use crate::opcode::WIDE_OPCODE;
@@ -22,7 +22,7 @@ impl Model for Words {
 }
 
 impl Words {
-    ghost use Rattle.std.specs.Prelude.{◌⊎◌, ◌≢◌, length};
+    ghost use Rattle.std.specs.Prelude.{◌⊎◌};
     ghost use Rattle.bpf_isa.specs.WideLoads.{wide_opcode};
 
     /// The bytes of the fields.
@@ -30,10 +30,7 @@ impl Words {
         requires registers { (fields.dst < 16) × (fields.src < 16) }
         requires narrow { (fields.opcode ≡ wide_opcode)
             ⊎ ((fields.next ≡ 0) × (fields.reserved ≡ 0)) }
-        ensures value { fields_of result ≡ fields }
-        ensures within { All (λ byte. byte < 256) result }
-        ensures wide { fields.opcode ≡ wide_opcode → length result ≡ 16 }
-        ensures short { fields.opcode ≢ wide_opcode → length result ≡ 8 }
+        ensures { AreBytesOf fields result }
     {
         Words {
             bytes: to_bytes(fields),

@@ -8,12 +8,18 @@ use Rattle.bpf_isa.specs.declared.fault.WordFault.TheVariants.{CutOff}
 use Rattle.bpf_isa.specs.Insns.{slots_of, FallsThrough, written_of}
 use Rattle.bpf_isa.specs.Words.{IsWord}
 use Rattle.bpf_isa.specs.WordFaults.{HasWordFault}
-use Rattle.bpf_isa.specs.Checker.{is_start, IsStartIn, piece_at, HasNoFault, Lands, HelperExists, MapExists}
+use Rattle.bpf_isa.specs.Checker.{AreSlots, is_start, IsStartIn, piece_at, HasNoFault, Lands, HelperExists, MapExists}
 
 -- The flags are the starts.
 pub record AreStarts (bytes : List ℕ) (starts : List Bool) : Type 0 where
   pub slots : 8 * length starts ≡ length bytes
   pub flags : (p : ℕ) → p < length starts → slice_get starts p ≡ Some (is_start bytes p)
+
+-- A start among slots whose flags are the starts.
+pub record IsStartOf (bytes : List ℕ) (starts : List Bool) (p : ℕ) : Type 0 where
+  pub slots : AreSlots bytes
+  pub start : IsStartIn bytes p
+  pub flags : AreStarts bytes starts
 
 -- The instruction replaces no register, or one of r0 to r9.
 abbrev pub SparesTen : Insn → Type 0

@@ -1,5 +1,6 @@
 -- Scaffolding: no public contract cites this. The parts of an opcode (RFC 9669, sections 3.1 and 4), the row of a mnemonic, and what the decoder and the encoder ask of their own functions.
-use Rattle.std.specs.Prelude.{◌≡◌, ◌<◌, ℕ, List, Option, Some, All}
+use Rattle.std.specs.Prelude.{◌≡◌, ◌≢◌, ◌<◌, ◌≤◌, ℕ, List, Option, Some, All, length}
+use Rattle.bpf_isa.specs.declared.fault.WordFault.{WordFault}
 use Rattle.bpf_isa.specs.declared.fields.Fields.{Fields}
 use Rattle.bpf_isa.specs.declared.instruction.Width.{Width}
 use Rattle.bpf_isa.specs.declared.instruction.Width.TheVariants.{Bits32, Bits64}
@@ -16,9 +17,11 @@ use Rattle.bpf_isa.specs.Arithmetic.{binary_row, negate_row, extension_row}
 use Rattle.bpf_isa.specs.Swaps.{swap_row}
 use Rattle.bpf_isa.specs.Jumps.{jump_row, jump_long_row, condition_row, call_row, exit_row}
 use Rattle.bpf_isa.specs.Memory.{load_row, store_row, atomic_row}
-use Rattle.bpf_isa.specs.WideLoads.{wide_row}
+use Rattle.bpf_isa.specs.WideLoads.{wide_opcode, wide_row}
+use Rattle.bpf_isa.specs.Faults.{word_fault}
+use Rattle.bpf_isa.specs.WordFaults.{HasNoWordFault, IsLeastWordFault}
 use Rattle.bpf_isa.specs.Mnemonics.{kind_of}
-use Rattle.bpf_isa.specs.Words.{row_of, fields_of, HasCodes, IsClean, HasRegisters, ReadsAs}
+use Rattle.bpf_isa.specs.Words.{row_of, fields_of, HasCodes, IsClean, HasRegisters, IsWord, ReadsAs}
 
 -- The source bit: K is 0, X is 1, in the place of 8.
 abbrev pub source_bit_of : SourceKind → ℕ
@@ -87,3 +90,20 @@ pub record IsRead (bytes : List ℕ) (insn : Insn) : Type 0 where
   pub clean : IsClean (row_of insn) (fields_of bytes)
   pub registers : HasRegisters (fields_of bytes)
   pub only : (other : Insn) → ReadsAs (fields_of bytes) other → other ≡ insn
+
+-- The least fault of bytes that read as no instruction, or as one that leaves something over.
+pub record IsReadFault (bytes : List ℕ) (fault : WordFault) : Type 0 where
+  pub least : IsLeastWordFault bytes fault
+  pub early : (word_fault fault).0 ≤ 6
+
+-- The bytes spell the instruction, and no fault applies.
+pub record IsClearWord (bytes : List ℕ) (insn : Insn) : Type 0 where
+  pub word : IsWord insn bytes
+  pub clear : HasNoWordFault bytes
+
+-- The bytes with these fields: as many as their opcode asks for.
+pub record AreBytesOf (fields : Fields) (bytes : List ℕ) : Type 0 where
+  pub value : fields_of bytes ≡ fields
+  pub within : All (λ byte. byte < 256) bytes
+  pub wide : fields.opcode ≡ wide_opcode → length bytes ≡ 16
+  pub short : fields.opcode ≢ wide_opcode → length bytes ≡ 8

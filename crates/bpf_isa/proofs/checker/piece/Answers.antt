@@ -9,8 +9,8 @@ use Rattle.bpf_isa.proofs.checker.piece.Goals as goal
 
 pub returns-in-Err-clause-fault : goal.returns-in-Err-clause-fault
 returns-in-Err-clause-fault c =
-    let least : IsLeastWordFault (piece_at c.args.draft.now.bytes.now c.args.slot) c.in-Err.fault = subst (λ text. IsLeastWordFault text c.in-Err.fault) c.piece_of-piece.ensures.value c.in-Err.ensures.fault in
-    early_fault c.args.draft.now.bytes.now c.args.draft.now.maps.now c.args.slot c.in-Err.fault c.in-Err.ensures.early least
+    let least : IsLeastWordFault (piece_at c.args.draft.now.bytes.now c.args.slot) c.in-Err.fault = subst (λ text. IsLeastWordFault text c.in-Err.fault) c.piece_of-piece.ensures.value c.in-Err.ensures.fault.least in
+    early_fault c.args.draft.now.bytes.now c.args.draft.now.maps.now c.args.slot c.in-Err.fault c.in-Err.ensures.fault.early least
 
 pub returns-in-Some-clause-fault : goal.returns-in-Some-clause-fault
 returns-in-Some-clause-fault c =

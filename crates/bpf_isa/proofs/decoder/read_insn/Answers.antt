@@ -1,4 +1,4 @@
-use Rattle.std.proofs.Common.{refl, sym, subst, false}
+use Rattle.std.proofs.Common.{refl, sym, subst, false, arith}
 use Rattle.std.specs.Prelude.{IsTrue}
 use Rattle.bpf_isa.specs.Words.{HasRegisters, IsClean}
 use Rattle.bpf_isa.proofs.Readings.{reads_none, unknown_fault, register_fault, is_read, no_word, ok_reading}
@@ -8,7 +8,7 @@ not_true : IsTrue false → ⊥
 not_true e = cc
 
 pub returns-in-None-clause-fault : goal.returns-in-None-clause-fault
-returns-in-None-clause-fault c = unknown_fault c.args.bytes.now c.read-fields.result c.read-fields.ensures.value c.in-None.ensures.only
+returns-in-None-clause-fault c = record { least = unknown_fault c.args.bytes.now c.read-fields.result c.read-fields.ensures.value c.in-None.ensures.only; early = omega arith }
 
 pub returns-in-None-clause-only : goal.returns-in-None-clause-only
 returns-in-None-clause-only c = λ insn whole. absurd (reads_none c.args.bytes.now c.read-fields.result c.read-fields.ensures.value c.in-None.ensures.only insn whole.reads)
@@ -16,7 +16,7 @@ returns-in-None-clause-only c = λ insn whole. absurd (reads_none c.args.bytes.n
 pub returns-then-not-has_registers-clause-fault : goal.returns-then-not-has_registers-clause-fault
 returns-then-not-has_registers-clause-fault c =
     let above : HasRegisters c.read-fields.result → ⊥ = λ registers. not_true (c.if-not-has_registers.ensures.1 registers) in
-    register_fault c.args.bytes.now c.read-fields.result c.in-Some.mnemonic c.source_kind-source.result c.read-fields.ensures.value c.in-Some.ensures.found above
+    record { least = register_fault c.args.bytes.now c.read-fields.result c.in-Some.mnemonic c.source_kind-source.result c.read-fields.ensures.value c.in-Some.ensures.found above; early = omega arith }
 
 pub returns-then-not-is_clean-clause-only : goal.returns-then-not-is_clean-clause-only
 returns-then-not-is_clean-clause-only c =
