@@ -75,3 +75,13 @@ OpenedByAddress =
     ((j : ℕ) → j < length context → byte_at (initial program context).memory (context_base + j) ≡ Some (slice_index context j))
     × ((i j : ℕ) → i < frame_count → j < frame_len → byte_at (initial program context).memory (frame_base i + j) ≡ Some 0)
     × ((i j : ℕ) (shape : MapShape) → slice_get program.maps i ≡ Some shape → j < map_len shape → byte_at (initial program context).memory (map_address i + j) ≡ Some 0)
+
+-- All of these laws.
+pub record MemoryIsItsAddresses : Type 0 where
+  pub apart : RegionsAreApart
+  pub runs : RunsAreTheirAddresses
+  pub numbers : NumbersAreSums
+  pub stores : StoresAreLocal
+  pub accessible : AccessibleIsBelow
+  pub cells : CellsAreAccessible
+  pub opened : OpenedByAddress

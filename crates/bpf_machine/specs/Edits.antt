@@ -54,3 +54,8 @@ edit_entry x (edit.Bytes a bytes) = EditBytes a (replaced_run x a bytes)
 edit_entry x (edit.Cell map index bytes) =
     EditBytes (cell_address map index (length bytes)) (replaced_run x (cell_address map index (length bytes)) bytes)
 edit_entry x (edit.Pc slot) = EditPc x.pc x.status
+
+-- An edit is refused for this fault, and nothing changes.
+pub record RefusesEdit (x : State) (e : Edit) (y : State) (fault : EditFault) : Type 0 where
+  pub why : edit_fault x e ≡ Some fault
+  pub same : y ≡ x

@@ -22,6 +22,7 @@ pub mod Runs
 pub mod Entries
 pub mod Kept
 pub mod FlatEntries
+pub mod Lent
 pub mod Edits
 pub mod Moves
 pub mod Undoing

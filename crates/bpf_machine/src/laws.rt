@@ -1,5 +1,5 @@
 //! Laws of the definitions, each proved as the contract of a function that does nothing.
-ghost use Rattle.bpf_machine.specs.ByAddress.{RegionsAreApart, RunsAreTheirAddresses, NumbersAreSums, StoresAreLocal, AccessibleIsBelow, CellsAreAccessible, OpenedByAddress};
+ghost use Rattle.bpf_machine.specs.ByAddress.{MemoryIsItsAddresses};
 ghost use Rattle.bpf_machine.specs.CallLaws.{PointerFollowsDepth, CallsGoDeeper, CallsFindZeros, CallsForgetTheFrame, LastFrameCallsNone, ReturnsGiveBack};
 ghost use Rattle.bpf_machine.specs.Fields.{EntriesFit};
 ghost use Rattle.bpf_machine.specs.StepLaws.{StepsKeepRegisters, StepsKeepBytes, StepsKeepTheRest, EndsKeepAllElse};
@@ -7,13 +7,7 @@ ghost use Rattle.bpf_machine.specs.StepLaws.{StepsKeepRegisters, StepsKeepBytes,
 /// Memory read by address: what regions, runs, numbers, stores and cells mean.
 #[tactic(none)]
 pub fn memory_by_address()
-    ensures apart { RegionsAreApart }
-    ensures runs { RunsAreTheirAddresses }
-    ensures numbers { NumbersAreSums }
-    ensures stores { StoresAreLocal }
-    ensures accessible { AccessibleIsBelow }
-    ensures cells { CellsAreAccessible }
-    ensures opened { OpenedByAddress }
+    ensures { MemoryIsItsAddresses }
 {}
 
 /// Steps are local: a step changes the register that its instruction names, the one run of its

@@ -2,6 +2,7 @@
 ghost use Rattle.std.specs.Prelude.{◌≡◌, All, ◌+◌, ◌-◌, ◌*◌, ◌^◌, ◌≤◌, ◌<◌, ◌⊎◌, length, IfSome, IfNone, IfOk, IfErr, IsTrue, IsSome, ◌↔◌, option_map, Some, None, ℕ, List, if◌then◌else◌, ◌==◌, ◌++◌, replicate};
 ghost use Rattle.bpf_isa.specs.declared.maps.MapShape.{MapShape};
 ghost use Rattle.bpf_machine.specs.Regions.{Image, index_in, index_of, frames_from, is_from_frame, zeros};
+ghost use Rattle.bpf_machine.specs.Spans.{AreSoughtFrom};
 ghost use Rattle.bpf_machine.specs.Platform.{context_limit, frame_base, frame_count, frame_len};
 
 use crate::alu::{low8, low16, low32};
@@ -257,9 +258,7 @@ pub fn region_index(base: u64, len: usize, address: u64, n: usize) -> Option<usi
 /// Where the run of n bytes at an address from frame 0 on begins in the frames below frame
 /// `frames`.
 fn frame_index(frames: usize, address: u64, n: usize) -> Option<usize>
-    requires only { 1 ≤ n }
-    requires within { frames ≤ frame_count }
-    requires past { FRAME_BASE ≤ address }
+    requires { AreSoughtFrom FRAME_BASE frames address n }
     ensures value { result ≡ (if is_from_frame frames address then None
         else index_in (frames_from 0 frame_count) address n) }
     ensures fits { IfSome result (λ at. at + n ≤ frame_len * frame_count) }
@@ -279,8 +278,7 @@ fn frame_index(frames: usize, address: u64, n: usize) -> Option<usize>
 /// frame `frames`.
 #[inline(always)]
 pub(crate) fn near_index(context_len: usize, frames: usize, address: u64, n: usize) -> Option<usize>
-    requires only { 1 ≤ n }
-    requires within { frames ≤ frame_count }
+    requires sought { AreSoughtFrom 0 frames address n }
     requires short { context_len ≤ context_limit }
     ensures value { IfSome result (λ at. (maps : List MapShape) (bytes : List ℕ) →
         let m : Image = record { context_len = context_len; maps = maps; bytes = bytes } in

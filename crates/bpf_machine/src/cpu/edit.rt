@@ -1,7 +1,7 @@
 //! Edits: the test, the entry, and the doing.
-ghost use Rattle.std.specs.Prelude.{◌≡◌, ◌≤◌, true, is_some, IsSome, Some, IfOk, IfErr, OnOk, OnErr, slice_get};
+ghost use Rattle.std.specs.Prelude.{◌≡◌, ◌≤◌, true, is_some, IsSome, Some, IfOk, IfErr, OnOk, slice_get};
 ghost use Rattle.bpf_isa.specs.Programs.{IsStart, insn_at};
-ghost use Rattle.bpf_machine.specs.Edits.{IsEditable, edit_fault, edited, edit_entry, has_cell};
+ghost use Rattle.bpf_machine.specs.Edits.{IsEditable, RefusesEdit, edit_fault, edited, edit_entry, has_cell};
 ghost use Rattle.bpf_machine.specs.Platform.{cell_address as cell_address_of};
 ghost use Rattle.bpf_machine.specs.Regions.{index_of, run_at};
 
@@ -18,8 +18,7 @@ impl Cpu {
         ensures ok { OnOk result (IsEditable self.old edit.now) }
         ensures next { OnOk result (self.new ≡ edited self.old edit.now) }
         ensures entry { IfOk result (λ entry. entry ≡ edit_entry self.old edit.now) }
-        ensures err { IfErr result (λ fault. edit_fault self.old edit.now ≡ Some fault) }
-        ensures same { OnErr result (self.new ≡ self.old) }
+        ensures err { IfErr result (RefusesEdit self.old edit.now self.new) }
     {
         match self.edit_fault(edit) {
             Some(fault) => Err(fault),

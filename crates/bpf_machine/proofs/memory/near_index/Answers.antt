@@ -8,4 +8,4 @@ returns-then-address-lt-FRAME_BASE-clause-value c =
 
 pub returns-else-address-lt-FRAME_BASE-clause-value : goal.returns-else-address-lt-FRAME_BASE-clause-value
 returns-else-address-lt-FRAME_BASE-clause-value c =
-    rw c.behind.ensures (near_frames c.args.context_len c.args.frames c.args.address c.args.n _ c.requires.short (omega arith) c.requires.only c.frame_index.ensures.near c.frame_index.ensures.value)
+    rw c.behind.ensures (near_frames c.args.context_len c.args.frames c.args.address c.args.n _ c.requires.short (omega arith) c.requires.sought.only c.frame_index.ensures.near c.frame_index.ensures.value)
