@@ -1,7 +1,9 @@
 -- The latest change of a byte, as a walk over kept entries finds it, is that of the history.
-use Rattle.std.specs.Prelude.{if◌then◌else◌, ◌==◌, option_map}
+use Rattle.std.specs.Prelude.{if◌then◌else◌, ◌==◌, is_some, option_map}
 use Rattle.std.proofs.Common.{◌≡◌, ◌+◌, ◌-◌, ◌<◌, ◌≤◌, ◌^◌, ℕ, zero, suc, Bool, true, false, List, [], ◌∷◌, Option, Some, None, length, take, drop, map, refl, sym, ap, subst, ◌∙◌, arith, add-one}
 use Rattle.std.proofs.lemmas.Bool.Decides.{nat_tests}
+use Rattle.std.proofs.lemmas.List.{drop-drop, length-drop}
+use Rattle.std.proofs.lemmas.List.Elements.{All-head, All-tail}
 use Rattle.bpf_machine.specs.ByAddress.{byte}
 use Rattle.bpf_entries.specs.declared.entry.Entry.{Entry}
 use Rattle.bpf_entries.specs.Past.{Frames, Same, Fewer, More, past}
@@ -9,13 +11,14 @@ use Rattle.bpf_machine.specs.Moves.{overwritten}
 use Rattle.bpf_machine.specs.State.{State, depth}
 use Rattle.bpf_entries.specs.Keeping.{Kept}
 use Rattle.bpf_journal.specs.Histories.{Record, IsRun, kept_of}
-use Rattle.bpf_journal.specs.Keepers.{IsPlace, IsWithin, TellsByteBefore, told_before}
+use Rattle.bpf_journal.specs.Keepers.{IsPlace, IsWithin, Passes, TellsByteBefore, told_before}
 use Rattle.bpf_journal.specs.Lookups.{Test, latest, state_before, changes_byte, byte_change, last_change, IsLatestChange, LastChangeIsLatest, NoChangeNoDifference}
 use Rattle.bpf_journal.specs.Replaced.{byte_before, depth_before, depth_by}
 use Rattle.bpf_journal.proofs.Items.{few_entries}
 use Rattle.bpf_journal.specs.Changes.{further, change_in}
 use Rattle.bpf_journal.specs.declared.timeline.ByteChange.{ByteChange}
-use Rattle.bpf_journal.proofs.Telling.{tells_before}
+use Rattle.bpf_journal.proofs.Telling.{level_by, no_run, tells_before}
+use Rattle.bpf_ring.specs.Quiet.{AreQuiet, IsQuiet}
 use Rattle.bpf_journal.proofs.Walks.{At, entry_at, drop_all, split_at}
 
 further_none : (o : Option ByteChange) → o ≡ option_map (further 0) o
@@ -48,6 +51,30 @@ one_by (More saved) d = omega arith
 one_deeper : (d : ℕ) (e : Entry) → depth_before d e ≤ d + 1
 one_deeper d e = one_by (past d e).frames d
 
+-- Moves that left memory and the depth as they were are passed over.
+further_one : (n : ℕ) (o : Option ByteChange) → option_map (further 1) (option_map (further n) o) ≡ option_map (further (suc n)) o
+further_one n None = refl
+further_one n (Some c) =
+    let sum : 1 + (n + c.moves) ≡ suc n + c.moves = omega arith in
+    ap (λ (m : ℕ). Some (record c { moves = m })) sum
+
+further_both : (k n : ℕ) (o : Option ByteChange) → option_map (further k) (option_map (further n) o) ≡ option_map (further (k + n)) o
+further_both k n None = refl
+further_both k n (Some c) =
+    let sum : k + (n + c.moves) ≡ k + n + c.moves = omega arith in
+    ap (λ (m : ℕ). Some (record c { moves = m })) sum
+
+quiet_on : (a d value n : ℕ) (ks : List Kept) → AreQuiet n ks → change_in a d value ks ≡ option_map (further n) (change_in a d value (drop n ks))
+quiet_on a d value zero ks quiet = further_none (change_in a d value ks)
+quiet_on a d value (suc n) [] quiet = absurd (omega (arith, quiet.there))
+quiet_on a d value (suc n) (k ∷ ks) quiet =
+    let is = All-head IsQuiet k (take n ks) quiet.each in
+    let rest : AreQuiet n ks = record { there = omega (arith, quiet.there); each = All-tail IsQuiet k (take n ks) quiet.each } in
+    same_byte a d value value k ks (sym (no_run k.0 (ap is_some is.0) d a value)) refl
+    ∙ ap (λ (e : ℕ). option_map (further 1) (change_in a e value ks)) (level_by d k.0 is.1)
+    ∙ ap (option_map (further 1)) (quiet_on a d value n ks rest)
+    ∙ further_one n (change_in a d value (drop n ks))
+
 module _ {K : Type 0} (holds : K → List Kept → Type 0) (place : K → List Kept → ℕ) (keeper : K) where
   -- after k turns a walk is at the place of the front without its k newest, at the depth there; these left the byte as it was
   pub record Looking (es : List Kept) (a value d at e k : ℕ) : Type 0 where
@@ -73,6 +100,25 @@ module _ {K : Type 0} (holds : K → List Kept → Type 0) (place : K → List K
       let weighs = within.weighs in
       let low = w.low in
       omega (arith, few_entries es, weighs, most, low, lt, shallow)
+
+  -- some are passed over
+  pub looking_past : (es : List Kept) (a value d at e k : ℕ) (passed : ℕ × ℕ) → holds keeper es → k ≤ length es → Looking es a value d at e k → Passes holds place keeper at passed
+      → Looking es a value d passed.1 e (k + passed.0) × (k + passed.0 ≤ length es)
+  looking_past es a value d at e k passed held within w passes =
+      let p = passes (take k es) (drop k es) (subst (holds keeper) (sym (split_at es k)) held) w.here in
+      let on : drop passed.0 (drop k es) ≡ drop (k + passed.0) es = drop-drop passed.0 k es in
+      let low = w.low in (
+        record {
+          here = ap (place keeper) (sym on) ∙ p.behind;
+          rest =
+              w.rest
+              ∙ ap (option_map (further k)) (quiet_on a e value passed.0 (drop k es) p.quiet)
+              ∙ further_both k passed.0 (change_in a e value (drop passed.0 (drop k es)))
+              ∙ ap (λ (ks : List Kept). option_map (further (k + passed.0)) (change_in a e value ks)) on;
+          low = omega (arith, low);
+        },
+        omega (arith, p.quiet.there, length-drop k es, within),
+      )
 
   -- what is told there
   looked_on : (es : List Kept) (a value d at e k : ℕ) (result : Option (ℕ × ℕ × ℕ)) → holds keeper es → k < length es → Looking es a value d at e k → TellsByteBefore holds place keeper at e a value result → (x : At es k) → result ≡ Some (byte_before e x.found.0 a value, depth_before e x.found.0, place keeper (drop (suc k) es))

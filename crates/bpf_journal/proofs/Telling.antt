@@ -22,7 +22,7 @@ use Rattle.bpf_machine.specs.Edits.{IsEditable, edited, edit_entry, with_run, re
 use Rattle.bpf_machine.specs.Entries.{entry_of}
 use Rattle.bpf_machine.specs.Moves.{Leads, IsMovable, moved, overwritten}
 use Rattle.bpf_machine.specs.StepLaws.{KeepsOtherBytes, MovesFrames}
-use Rattle.bpf_entries.specs.Past.{past, replaced, stood}
+use Rattle.bpf_entries.specs.Past.{Same, past, replaced, stood}
 use Rattle.bpf_machine.proofs.Editable.{able_bytes, able_cell}
 use Rattle.bpf_machine.proofs.ByAddress.{byte_within, run_reads, length-run, fits_within}
 use Rattle.bpf_machine.proofs.Cells.{cell_present}
@@ -154,8 +154,23 @@ pub tells_before : EntriesTellBefore
 tells_before x y m leads =
     subst (λ (z : State). TellsBefore x z (overwritten x m)) (sym leads.after) (move_tells x m leads.before leads.movable)
 
+-- Where no frame was entered or left the depth is as it was.
+pub level_by : (d : ℕ) (e : Entry) → (past 0 e).frames ≡ Same → depth_before d e ≡ d
+level_by d (entry.Register pc r value) same = refl
+level_by d (entry.Jump pc) same = refl
+level_by d (entry.Call pc old) same = absurd cc
+level_by d (entry.Return pc saved) same = absurd cc
+level_by d (entry.Store pc a old) same = refl
+level_by d (entry.Fetch pc r value a old) same = refl
+level_by d (entry.Cell pc r0 a old) same = refl
+level_by d (entry.Trace pc r0) same = refl
+level_by d entry.End same = refl
+level_by d (entry.EditRegister r value) same = refl
+level_by d (entry.EditBytes a old) same = refl
+level_by d (entry.EditPc pc status) same = refl
+
 -- Where no bytes were replaced each is as it was.
-no_run : (e : Entry) → replaces_bytes e ≡ false → (d a after : ℕ) → byte_before d e a after ≡ after
+pub no_run : (e : Entry) → replaces_bytes e ≡ false → (d a after : ℕ) → byte_before d e a after ≡ after
 no_run (entry.Register pc r value) none d a after = refl
 no_run (entry.Jump pc) none d a after = refl
 no_run (entry.Call pc old) none d a after = cc

@@ -12,7 +12,7 @@ ghost use Rattle.bpf_journal.specs.EditEntries.{HoldsSome, is_of_step};
 ghost use Rattle.bpf_journal.specs.Handing.{Hands};
 ghost use Rattle.bpf_journal.specs.Histories.{HasHistory, Record, StandsFor, newest};
 ghost use Rattle.bpf_journal.specs.TakingBack.{TakesBack};
-ghost use Rattle.bpf_journal.specs.Keepers.{IsPlace, IsWithin, PlacesDiffer, TakesNewest, TellsByteBefore, WalksBack, refusals_after};
+ghost use Rattle.bpf_journal.specs.Keepers.{IsPlace, IsWithin, Passes, PlacesDiffer, TakesNewest, TellsByteBefore, WalksBack, refusals_after};
 ghost use Rattle.bpf_journal.specs.Runs.{Ends, refusals_by_run};
 
 use crate::fields::{is_of_step, step_count};
@@ -275,6 +275,16 @@ pub trait Keeper {
     fn walk_back(&self, at: usize) -> Option<(Entry, bool, usize)>
         requires { IsPlace holds place self.now at }
         ensures { WalksBack holds place self.now at result };
+
+    /// How many of the newest entries of the front at a place are of moves that left the bytes of
+    /// memory and the depth of calls as they were, maybe none of them; and the place of the front
+    /// without them. By itself a keeper passes over none.
+    fn pass_over(&self, at: usize) -> (usize, usize)
+        requires { IsPlace holds place self.now at }
+        ensures { Passes holds place self.now at result }
+    {
+        (0, at)
+    }
 
     /// What the byte at an address and the depth of calls were before the newest entry's move of
     /// the front at a place, where they are `after` and `depth` behind that move, and the place of

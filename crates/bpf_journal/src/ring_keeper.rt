@@ -332,6 +332,11 @@ impl Keeper for RingKeeper {
         self.entries.walk_back(at)
     }
 
+    #[inline(always)]
+    fn pass_over(&self, at: usize) -> (usize, usize) {
+        self.entries.pass_over(at)
+    }
+
     fn byte_before(
         &self,
         at: usize,

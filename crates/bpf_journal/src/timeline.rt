@@ -367,7 +367,15 @@ fn change_among<K: Keeper>(keeper: &K, depth: u32, address: u64, value: u8) -> O
 {
     let mut deep = depth;
     let mut at = keeper.end();
-    for k in 0..keeper.len() {
+    let mut k = 0;
+    let len = keeper.len();
+    while k < len {
+        let (passed, behind) = keeper.pass_over(at);
+        k += passed;
+        at = behind;
+        if k >= len {
+            return None;
+        }
         let Some((old, outer, older)) = keeper.byte_before(at, deep, address, value) else {
             return None;
         };
@@ -380,6 +388,7 @@ fn change_among<K: Keeper>(keeper: &K, depth: u32, address: u64, value: u8) -> O
         }
         deep = outer;
         at = older;
+        k += 1;
     }
     None
 }

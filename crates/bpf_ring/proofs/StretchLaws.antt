@@ -6,72 +6,86 @@ use Rattle.std.proofs.lemmas.List.Elements.{All-cons, All-head, All-tail}
 use Rattle.std.proofs.lemmas.List.Sums.{sum_by-append, sum_by_push}
 use Rattle.bpf_entries.specs.Keeping.{Kept, kept_weight}
 use Rattle.bpf_entries.specs.Rings.{AllFit, ring}
+use Rattle.bpf_entries.specs.Texts.{text}
+use Rattle.bpf_entries.specs.Weights.{weight}
 use Rattle.bpf_ring.proofs.Counted.{step_fewer}
 use Rattle.bpf_ring.proofs.Held.{fit_front, length-ring, ring-append}
 use Rattle.bpf_ring.proofs.Ways.{text_left}
 use Rattle.bpf_ring.specs.Blocks.{Content}
 use Rattle.bpf_ring.specs.Counted.{Counted}
 use Rattle.bpf_ring.specs.Held.{IsHeld}
-use Rattle.bpf_ring.specs.Stretches.{EndsStep, IsStretch, IsUnmarked}
+use Rattle.bpf_ring.specs.Stretches.{IsStretch, IsUnmarked}
 use Rattle.bpf_ring.specs.Ways.{HasText}
 use Rattle.bpf_ring.specs.declared.counts.Counts.{Counts}
 use Rattle.bpf_ring.specs.declared.stretches.Stretch.{Stretch}
 
--- So many of the newest of a list were looked at, whose text bytes end in.
-pub record Passed (count len : ℕ) (front bytes : List ℕ) (ks : List Kept) : Type 0 where
-  pub newer : List Kept
-  pub older : List Kept
-  pub whole : ks ≡ newer ++ older
-  pub many : length newer ≡ count
-  pub plain : All IsUnmarked newer
-  pub weighs : len ≡ sum_by kept_weight newer
-  pub left : HasText (front ++ take (length bytes - len) bytes) older
+-- So many of the newest of a list were looked at, whose text bytes end in: each is as is said.
+module _ (P : Kept → Type 0) where
+  pub record Passed (count len : ℕ) (front bytes : List ℕ) (ks : List Kept) : Type 0 where
+    pub newer : List Kept
+    pub older : List Kept
+    pub whole : ks ≡ newer ++ older
+    pub many : length newer ≡ count
+    pub each : All P newer
+    pub weighs : len ≡ sum_by kept_weight newer
+    pub left : HasText (front ++ take (length bytes - len) bytes) older
 
-pub passed_none : (front bytes : List ℕ) (ks : List Kept) → HasText (front ++ bytes) ks → Passed 0 0 front bytes ks
-passed_none front bytes ks held = record {
-  newer = [];
-  older = ks;
-  whole = refl;
-  many = refl;
-  plain = λ i d h. absurd (omega (arith, h));
-  weighs = refl;
-  left = subst (λ (l : List ℕ). HasText (front ++ l) ks) (sym (take_all (length bytes - 0) bytes (omega arith))) held;
-}
+  pub passed_none : (front bytes : List ℕ) (ks : List Kept) → HasText (front ++ bytes) ks → Passed 0 0 front bytes ks
+  passed_none front bytes ks held = record {
+    newer = [];
+    older = ks;
+    whole = refl;
+    many = refl;
+    each = λ i d h. absurd (omega (arith, h));
+    weighs = refl;
+    left = subst (λ (l : List ℕ). HasText (front ++ l) ks) (sym (take_all (length bytes - 0) bytes (omega arith))) held;
+  }
 
-pub passed_stretch : (s : Stretch) (front bytes : List ℕ) (ks : List Kept) → Passed s.count s.len front bytes ks → IsStretch s ks
-passed_stretch s front bytes ks p =
-    let long = length-append p.newer p.older in
-    let newest : take s.count ks ≡ p.newer = ap (take s.count) p.whole ∙ take_at p.newer p.older s.count p.many in
-    record {
-      unmarked = record { there = omega (arith, p.many, long, ap length p.whole); plain = subst (All IsUnmarked) (sym newest) p.plain };
-      weighs = p.weighs ∙ ap (sum_by kept_weight) (sym newest);
-    }
+  pub record Newest (count len : ℕ) (ks : List Kept) : Type 0 where
+    pub there : count ≤ length ks
+    pub each : All P (take count ks)
+    pub weighs : len ≡ sum_by kept_weight (take count ks)
 
-all_push : (ks : List Kept) (k : Kept) → All IsUnmarked ks → IsUnmarked k → All IsUnmarked (ks ++ k ∷ [])
-all_push [] k all is = All-cons IsUnmarked k [] is (λ i d h. absurd (omega (arith, h)))
-all_push (l ∷ ks) k all is = All-cons IsUnmarked l (ks ++ k ∷ []) (All-head IsUnmarked l ks all) (all_push ks k (All-tail IsUnmarked l ks all) is)
-
--- One more.
-pub passed_one : (count len n : ℕ) (front bytes : List ℕ) (ks : List Kept) → 5 ≤ n → n ≤ length bytes - len
-    → ((k : Kept) (ls : List Kept) → HasText (front ++ take (length bytes - len) bytes) (k ∷ ls) → EndsStep (take (length bytes - len) bytes) n k)
-    → Passed count len front bytes ks → Passed (count + 1) (len + n) front bytes ks
-passed_one count len n front bytes ks some low ends p = split p.newer p.older p.whole p.many p.plain p.weighs p.left where
-  split : (newer older : List Kept) → ks ≡ newer ++ older → length newer ≡ count → All IsUnmarked newer → len ≡ sum_by kept_weight newer
-      → HasText (front ++ take (length bytes - len) bytes) older → Passed (count + 1) (len + n) front bytes ks
-  split newer [] whole many plain weighs left =
-      absurd (omega (arith, ap length left.whole, length-append front (take (length bytes - len) bytes), length-take (length bytes - len) bytes, some, low))
-  split newer (k ∷ older) whole many plain weighs left =
-      let e = ends k older left in
-      let down : length bytes - len - n ≡ length bytes - (len + n) = omega arith in
+  pub passed_newest : (count len : ℕ) (front bytes : List ℕ) (ks : List Kept) → Passed count len front bytes ks → Newest count len ks
+  passed_newest count len front bytes ks p =
+      let long = length-append p.newer p.older in
+      let newest : take count ks ≡ p.newer = ap (take count) p.whole ∙ take_at p.newer p.older count p.many in
       record {
-        newer = newer ++ k ∷ [];
-        older = older;
-        whole = whole ∙ sym (append_assoc newer (k ∷ []) older);
-        many = omega (arith, many, length-append newer (k ∷ []));
-        plain = all_push newer k plain e.unmarked;
-        weighs = omega (arith, weighs, e.weighs, sum_by_push kept_weight newer k);
-        left = subst (λ (m : ℕ). HasText (front ++ take m bytes) older) down (text_left front bytes (length bytes - len) n k older left low (omega arith) e.newest);
+        there = omega (arith, p.many, long, ap length p.whole);
+        each = subst (All P) (sym newest) p.each;
+        weighs = p.weighs ∙ ap (sum_by kept_weight) (sym newest);
       }
+
+  all_push : (ks : List Kept) (k : Kept) → All P ks → P k → All P (ks ++ k ∷ [])
+  all_push [] k all is = All-cons P k [] is (λ i d h. absurd (omega (arith, h)))
+  all_push (l ∷ ks) k all is = All-cons P l (ks ++ k ∷ []) (All-head P l ks all) (all_push ks k (All-tail P l ks all) is)
+
+  -- The text of one more.
+  pub record Ends (bytes : List ℕ) (n : ℕ) (k : Kept) : Type 0 where
+    pub is : P k
+    pub weighs : n ≡ weight k.0
+    pub newest : drop (length bytes - n) bytes ≡ text k.0 k.1
+
+  pub passed_one : (count len n : ℕ) (front bytes : List ℕ) (ks : List Kept) → 5 ≤ n → n ≤ length bytes - len
+      → ((k : Kept) (ls : List Kept) → HasText (front ++ take (length bytes - len) bytes) (k ∷ ls) → Ends (take (length bytes - len) bytes) n k)
+      → Passed count len front bytes ks → Passed (count + 1) (len + n) front bytes ks
+  passed_one count len n front bytes ks some low ends p = split p.newer p.older p.whole p.many p.each p.weighs p.left where
+    split : (newer older : List Kept) → ks ≡ newer ++ older → length newer ≡ count → All P newer → len ≡ sum_by kept_weight newer
+        → HasText (front ++ take (length bytes - len) bytes) older → Passed (count + 1) (len + n) front bytes ks
+    split newer [] whole many each weighs left =
+        absurd (omega (arith, ap length left.whole, length-append front (take (length bytes - len) bytes), length-take (length bytes - len) bytes, some, low))
+    split newer (k ∷ older) whole many each weighs left =
+        let e = ends k older left in
+        let down : length bytes - len - n ≡ length bytes - (len + n) = omega arith in
+        record {
+          newer = newer ++ k ∷ [];
+          older = older;
+          whole = whole ∙ sym (append_assoc newer (k ∷ []) older);
+          many = omega (arith, many, length-append newer (k ∷ []));
+          each = all_push newer k each e.is;
+          weighs = omega (arith, weighs, e.weighs, sum_by_push kept_weight newer k);
+          left = subst (λ (m : ℕ). HasText (front ++ take m bytes) older) down (text_left front bytes (length bytes - len) n k older left low (omega arith) e.newest);
+        }
 
 -- Without some of the newest there are as many fewer.
 counted_without : (counts : Counts) (newer older : List Kept) → All IsUnmarked newer → Counted counts (newer ++ older)

@@ -5,6 +5,7 @@ pub mod Held
 pub mod Left
 pub mod Runs
 pub mod Pieces
+pub mod Quiet
 pub mod Spans
 pub mod Stretches
 pub mod Taking

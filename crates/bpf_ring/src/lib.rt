@@ -7,6 +7,7 @@ mod block;
 mod counts;
 mod entries;
 mod pieces;
+mod quiet;
 mod ring;
 mod run;
 mod stretches;

@@ -359,6 +359,21 @@ impl Ring {
         }
     }
 
+    /// The bytes that lie in one piece up to an index.
+    #[inline(always)]
+    pub(crate) fn run_before(&self, to: usize) -> &[u8]
+        requires { to ≤ length self.now.bytes }
+        ensures within { length result.now ≤ to }
+        ensures run { result.now ≡ drop (to - length result.now) (take to self.now.bytes) }
+    {
+        let end = place(self.buffer.len(), self.first, to);
+        let count = end.min(to);
+        match self.piece(to - count, count) {
+            Some(piece) => piece,
+            None => &[],
+        }
+    }
+
     /// Takes moves back by the texts of their entries, the newest of which is at the end of `text`,
     /// and appends each text, as far as it goes into the block in one piece.
     #[inline(always)]

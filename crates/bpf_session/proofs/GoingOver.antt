@@ -5,13 +5,10 @@ use Rattle.std.proofs.Common.{◌≡◌, ◌+◌, ◌-◌, ◌%◌, ◌<◌, ◌
 use Rattle.std.proofs.lemmas.Bool.{cases_lt}
 use Rattle.std.proofs.lemmas.Bool.Decides.{nat_tests}
 use Rattle.std.proofs.lemmas.List.{drop_all}
-use Rattle.bpf_entries.specs.declared.entry.Entry.{Entry}
-use Rattle.bpf_entries.specs.declared.entry.Entry.TheVariants as entry
-use Rattle.bpf_entries.specs.Before.{depth_before}
 use Rattle.bpf_entries.specs.Keeping.{Kept}
-use Rattle.bpf_entries.specs.Past.{Same, is_of_step, past, replaced}
+use Rattle.bpf_entries.specs.Past.{is_of_step, past, replaced}
 use Rattle.bpf_journal.proofs.Histories.{of_move}
-use Rattle.bpf_journal.proofs.Telling.{kept_bytes, tells_before}
+use Rattle.bpf_journal.proofs.Telling.{kept_bytes, level_by, tells_before}
 use Rattle.bpf_journal.specs.GoingBack.{GoesBackBy}
 use Rattle.bpf_journal.specs.Histories.{IsRun, Record, is_step, kept_of}
 use Rattle.bpf_journal.specs.Lookups.{Test, latest, state_before}
@@ -69,20 +66,6 @@ not_both true b e = e
 not_both false b e = refl
 
 -- Moves that left the depth as it was.
-level_by : (d : ℕ) (e : Entry) → (past 0 e).frames ≡ Same → depth_before d e ≡ d
-level_by d (entry.Register pc r value) same = refl
-level_by d (entry.Jump pc) same = refl
-level_by d (entry.Call pc old) same = absurd cc
-level_by d (entry.Return pc saved) same = absurd cc
-level_by d (entry.Store pc a old) same = refl
-level_by d (entry.Fetch pc r value a old) same = refl
-level_by d (entry.Cell pc r0 a old) same = refl
-level_by d (entry.Trace pc r0) same = refl
-level_by d entry.End same = refl
-level_by d (entry.EditRegister r value) same = refl
-level_by d (entry.EditBytes a old) same = refl
-level_by d (entry.EditPc pc status) same = refl
-
 kept_level : (r : Record) (z : State) (stays : Stays) → stays ≡ Depth → HasLeft stays (overwritten r.before r.move) → Leads r.before r.move z → depth r.before ≡ depth z
 kept_level r z stays is left leads =
     (tells_before r.before z r.move leads).depths

@@ -1,12 +1,18 @@
-use Rattle.std.proofs.Common.{◌≡◌, ◌≤◌, ◌-◌, ◌∙◌, ℕ, length, subst, arith}
+use Rattle.std.proofs.Common.{◌≡◌, ◌≤◌, ◌-◌, ℕ, List, length, subst, arith}
 use Rattle.std.proofs.lemmas.List.{length-take}
-use Rattle.bpf_ring.proofs.StretchLaws.{Passed, passed_none, passed_one, passed_stretch}
+use Rattle.bpf_entries.specs.Keeping.{Kept}
+use Rattle.bpf_ring.proofs.StretchLaws.{Newest, Passed, passed_newest, passed_none, passed_one}
+use Rattle.bpf_ring.specs.Stretches.{IsStretch, IsUnmarked}
+use Rattle.bpf_ring.specs.declared.stretches.Stretch.{Stretch}
 use Rattle.bpf_ring.proofs.stretches.stretch_in.Goals as goal
+
+stretch_of : (s : Stretch) (ks : List Kept) → Newest IsUnmarked s.count s.len ks → IsStretch s ks
+stretch_of s ks n = record { unmarked = record { there = n.there; plain = n.each }; weighs = n.weighs }
 
 pub loop-count-init : goal.loop-count-init
 loop-count-init c = record {
   within = omega arith;
-  passed = λ front ks held. passed_none front c.args.text.now ks held;
+  passed = λ front ks held. passed_none IsUnmarked front c.args.text.now ks held;
 }
 
 pub loop-count-preserved : goal.loop-count-preserved
@@ -20,13 +26,16 @@ loop-count-preserved c =
     record {
       within = omega (arith, low, i.within);
       passed = λ front ks held.
-          passed_one c.loop-count.count len n front bytes ks (c.step_len-weight.ensures.some some) low (λ k ls left. c.step_len-weight.ensures.step some front k ls left) (i.passed front ks held);
+          passed_one IsUnmarked c.loop-count.count len n front bytes ks (c.step_len-weight.ensures.some some) low
+          (λ k ls left. let e = c.step_len-weight.ensures.step some front k ls left in record { is = e.unmarked; weighs = e.weighs; newest = e.newest })
+          (i.passed front ks held);
     }
 
 pub returns-then-weight-eq0-clause-stretch : goal.returns-then-weight-eq0-clause-stretch
-returns-then-weight-eq0-clause-stretch c = λ front ks held. passed_stretch _ front c.args.text.now ks (c.loop-count.invariant.passed front ks held)
+returns-then-weight-eq0-clause-stretch c = λ front ks held.
+    stretch_of _ ks (passed_newest IsUnmarked _ _ front c.args.text.now ks (c.loop-count.invariant.passed front ks held))
 
 pub returns-clause-stretch : goal.returns-clause-stretch
 returns-clause-stretch c = λ front ks held.
     let all : c.loop-count.count ≡ c.args.most = omega (arith, c.loop-count-test.false, c.loop-count.auto.count-end) in
-    passed_stretch _ front c.args.text.now ks (subst (λ (n : ℕ). Passed n c.loop-count.len front c.args.text.now ks) all (c.loop-count.invariant.passed front ks held))
+    stretch_of _ ks (passed_newest IsUnmarked _ _ front c.args.text.now ks (subst (λ (n : ℕ). Passed IsUnmarked n c.loop-count.len front c.args.text.now ks) all (c.loop-count.invariant.passed front ks held)))
