@@ -32,3 +32,44 @@ awk 'BEGIN { for (i = 0; i < 5000; i++) print "stepi\nreverse-stepi" }' > script
 run
 check 'ten thousand commands' 0 "$(awk 'BEGIN { for (i = 0; i < 5000; i++)
     printf "1 forward; done; at 1: exit\\n1 back; done; at 0: mov r0, 42\\n" }')" ''
+
+# Moves that go back, come again or are looked at many at once: a function of 202 steps, entered by step 2 and left by step 204. Its loop's
+# `add` are the even steps from 4 on.
+cat > deep.s << 'END'
+mov r6, 0
+callf f
+add r6, 1
+exit
+f: mov r1, 100
+loop: add r1, -1
+jne r1, 0, loop
+exit
+END
+at_call='at 1: callf L4\n'
+at_jne='at 6: jne r1, 0, L5\n'
+session 'reverse-finish out of a loop, and redo back into it' 'stepi 150\nreverse-finish\nredo 149\nreverse-finish\n' \
+    "150 forward; done; ${at_jne}149 back; done; ${at_call}149 redone; done; ${at_jne}149 back; done; $at_call" debug --listing deep.s
+session 'reverse-finish of moves of two commands, past a breakpoint and with a watch' \
+    'stepi 100\nstepi 50\nbreak 5\nwatch 0x200000000\nreverse-finish\n' \
+    "100 forward; done; ${at_jne}50 forward; done; ${at_jne}ok\nok\n149 back; done; $at_call" debug --listing deep.s
+session 'reverse-nexti over a call with a loop' 'stepi 205\nreverse-nexti\nreverse-nexti\nredo 203\nreverse-nexti\nreverse-nexti\nreverse-nexti\n' \
+    "205 forward; done; at 3: exit\n1 back; done; at 2: add r6, 1\n203 back; done; ${at_call}203 redone; done; at 2: add r6, 1\n\
+203 back; done; ${at_call}1 back; done; at 0: mov r6, 0\nrefused Q4: no kept step\n" debug --listing deep.s
+session 'redo of three commands keeps where each began' 'stepi 20\nstepi 20\nstepi 20\nreverse-stepi 60\nredo 60\ninfo history\nundo\nundo 2\n' \
+    "20 forward; done; ${at_jne}20 forward; done; ${at_jne}20 forward; done; ${at_jne}60 back; done; at 0: mov r6, 0\n\
+60 redone; done; ${at_jne}60 moves, 3 commands, 1211 of 65536 bytes\n20 back; done; ${at_jne}40 back; done; at 0: mov r6, 0\n" debug --listing deep.s
+
+# A byte that is written by step 2, and 148 moves later looked for; an edit of a register, one of the byte and one of another between them.
+cat > writes.s << 'END'
+mov r1, 7
+stxb [r10-1], r1
+mov r2, 100
+loop: add r2, -1
+jne r2, 0, loop
+exit
+END
+session 'last-write over moves that wrote no byte' \
+    'stepi 150\nlast-write 0x2000001ff\nset reg r3 1\nstepi 2\nlast-write 0x2000001ff\nlast-write 0x2000001fe\nset mem 0x2000001ff 09\nstepi\nlast-write 0x2000001ff\n' \
+    '150 forward; done; at 4: jne r2, 0, L3\nchanged 149 moves back: 0x0 to 0x7\nok\n2 forward; done; at 4: jne r2, 0, L3\n'\
+'changed 152 moves back: 0x0 to 0x7\nnot changed in 153 kept moves\nok\n1 forward; done; at 3: add r2, -1\nchanged 2 moves back: 0x7 to 0x9\n' \
+    debug --listing writes.s
