@@ -64,25 +64,33 @@ said() {
     compare "$1: what is said of refused requests"
 }
 
+# is_whole: the last run came to what is wanted, which stands in the files `outcome` and `errors`, with the status that is wanted.
+is_whole() {
+    [ "$found" = "$status" ] && cmp -s outcome found/out && cmp -s errors found/err
+}
+
 # wants LINES STATUS OUTPUT ERRORS ARGUMENT..: the runs of this command line in which a request is refused say LINES, each of
-# them at least once; the first run in which none is refused comes to what is said.
+# them at least once; the first run in which none is refused comes to what is said. (A list that is gathered from an
+# iterator asks once more for room where that is refused, `collect` of the standard library: a run in which the first of both
+# requests is refused alone comes to what is said, too.)
 wants() {
     lines=$1 status=$2 output=$3 errors=$4
     shift 4
     : > met
+    printf '%b' "$output" > outcome
     printf '%b' "$errors" > errors
     request=1
     while [ "$request" -le "$most" ]; do
         refuse "$request" '' "$@"
-        [ "$found" = "$status" ] && cmp -s errors found/err && break
-        lacks "$name $*: request $request for memory refused"
+        is_whole || lacks "$name $*: request $request for memory refused"
         refuse "$request" all "$@"
+        is_whole && break
         lacks "$name $*: requests for memory from $request on refused"
         request=$((request + 1))
     done
-    check "$name $*: request $request for memory, if there is one, refused" "$status" "$output" "$errors"
-    refuse "$request" all "$@"
     check "$name $*: there is no request for memory after $((request - 1))" "$status" "$output" "$errors"
+    refuse "$request" '' "$@"
+    check "$name $*: request $request for memory, if there is one, refused" "$status" "$output" "$errors"
     said "$name $*" "$lines"
 }
 
@@ -135,7 +143,7 @@ bytes stored \
     00 00 00 00 03 00 00 00 7b 43 18 00 00 00 00 00 b7 03 00 00 00 00 00 00 b7 04 00 00 00 00 00 00 \
     06 00 00 00 e4 ff ff ff
 wants "$plain$e26" 0 "$text" '--maps 8x5\n' link point.o
-# A file of tests: where memory runs out, no test fails by it. (Of a short report nothing is written then: it is still in the buffer of standard output.)
+# A file of tests: where memory runs out, no test fails by it, and what was reported before stands.
 printf -- '-- maps\n2x2\n-- listing\nmov r0, 2\nexit\n-- name\na\n-- result\n2\n' > two.test
 printf -- '-- name\nb\n-- cells\n0 1 0102\n-- result\n3\n-- map-after\n0 0 0.01\n0 1 ..02\n' >> two.test
 plan='1..2\n' one='ok 1 - a\n'
@@ -143,10 +151,14 @@ two='not ok 2 - b\n# the test in line 10\n# came: exited at 1: r0 0x2\n# wanted:
 cell='# cell 0 0 came: 0x300000000: 0000\n# cell 0 0 wanted: 0.01\n'
 show="# debug: bpfdb-show 'b' 'two.test'\n"
 : > met
-request=1
-while refuse "$request" '' test two.test && [ "$found" != 1 ] && [ "$request" -le "$most" ]; do
+request=1 found=
+while [ "$found" != 1 ] && [ "$request" -le "$most" ]; do
     for all in '' all; do
         refuse "$request" "$all" test two.test
+        if [ "$found" = 1 ]; then
+            check "bpfdb test: request $request for memory refused, $all, and made again" 1 "$plan$one$two$cell$show" ''
+            continue
+        fi
         lines=$(wc -l < found/out)
         echo "$lines lines" >> met
         case $lines in
@@ -158,8 +170,9 @@ while refuse "$request" '' test two.test && [ "$found" != 1 ] && [ "$request" -l
     done
     request=$((request + 1))
 done
-check 'bpfdb test: no request for memory refused' 1 "$plan$one$two$cell$show" ''
-said 'bpfdb test' '0 lines\n'
+said 'bpfdb test' '0 lines\n1 lines\n2 lines\n'
+wants "$plain" 0 'set cell 0 1 0102\ncontinue\n' '' test --show script --only b two.test
+wants "$plain" 0 '--maps=2x2\n--steps=1000000\n' '' test --show options --only a two.test
 wants "$plain" 2 '' 'cannot read missing\n' run missing
 wants "$plain" 0 "$(text "$parts/help/bpfdb.txt")" '' --help
 wants "$plain" 0 "$(version)" '' --version
