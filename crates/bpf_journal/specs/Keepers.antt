@@ -1,17 +1,23 @@
 -- What a keeper's calls say of the lists that it holds.
-use Rattle.std.specs.Prelude.{◌≡◌, ◌≤◌, ℕ, Bool, List, [], ◌∷◌, ◌++◌, Option, Some, None, Result, Ok, Err, drop, sum_by}
+use Rattle.std.specs.Prelude.{◌≡◌, ◌≤◌, ℕ, Bool, List, [], ◌∷◌, ◌++◌, Option, Some, None, Result, Ok, Err, OnOk, OnErr, drop, sum_by}
 use Rattle.bpf_entries.specs.declared.entry.Entry.{Entry}
 use Rattle.bpf_ring.specs.Quiet.{AreQuiet}
 use Rattle.bpf_journal.specs.Counts.{one_more}
-use Rattle.bpf_entries.specs.Keeping.{Kept, kept_weight}
+use Rattle.bpf_entries.specs.Keeping.{IsSize, Kept, keep, kept_weight}
 use Rattle.bpf_journal.specs.Histories.{newest, older}
 use Rattle.bpf_journal.specs.Replaced.{byte_before, depth_before}
-use Rattle.bpf_entries.specs.Keeping.{IsSize}
+use Rattle.bpf_machine.specs.Next.{next}
+use Rattle.bpf_machine.specs.State.{State}
 
 -- How often a keeper has refused, after one more push.
 abbrev pub refusals_after : {E : Type 0} → Result (Unit {0}) E → ℕ → ℕ
 refusals_after (Ok u) n = n
 refusals_after (Err e) n = one_more n
+
+-- The state after a step that was kept or refused: a step that is refused is not taken.
+abbrev pub next_after : {E : Type 0} → Result (Unit {0}) E → State → State
+next_after (Ok u) x = next x
+next_after (Err e) x = x
 
 -- A front's newest, its mark, and the place of the front without it.
 abbrev pub walked : (List Kept → ℕ) → List Kept → Option (Entry × Bool × ℕ)
@@ -24,6 +30,13 @@ told_before place depth address after [] = None
 told_before place depth address after (e ∷ es) = Some (byte_before depth e.0 address after, depth_before depth e.0, place es)
 
 module _ {K : Type 0} (holds : K → List Kept → Type 0) where
+  -- One more is kept, in every list that was held, or refused, and then all that was held stays.
+  pub record Keeps {E : Type 0} (refusals size : K → ℕ) (k : Kept) (result : Result (Unit {0}) E) (old new : K) : Type 0 where
+    pub ok : OnOk result ((es : List Kept) → holds old es → holds new (keep kept_weight (size old) es k))
+    pub err : OnErr result ((es : List Kept) → holds old es → holds new es)
+    pub refused : refusals new ≡ refusals_after result (refusals old)
+    pub room : size new ≡ size old
+
   -- The newest is taken off; nothing changes where nothing is held.
   abbrev pub TakesNewest : K → K → Option Kept → Type 0
   TakesNewest old new result = (es : List Kept) → holds old es → (result ≡ newest es) × holds new (older es)

@@ -1,12 +1,13 @@
 -- How a run of steps ends over a keeper, which may refuse one, and the history that it leaves.
-use Rattle.std.specs.Prelude.{◌<◌, ◌==◌, ℕ, zero, suc, Bool, true, false, List}
+use Rattle.std.specs.Prelude.{◌≡◌, ◌≤◌, ◌<◌, ◌==◌, ℕ, zero, suc, Bool, true, false, List}
 use Rattle.bpf_entries.specs.Keeping.{keep}
 use Rattle.bpf_machine.specs.State.{State}
 use Rattle.bpf_machine.specs.declared.moves.Move.TheVariants.{Step}
-use Rattle.bpf_ring.specs.Runs.{Running, RunsTo, state_after}
+use Rattle.bpf_ring.specs.Runs.{AreSteps, Running, RunsTo, state_after}
 use Rattle.bpf_journal.specs.Counts.{one_more}
 use Rattle.bpf_journal.specs.Histories.{Record, record_weight}
 use Rattle.bpf_journal.specs.Timelines.{record_of}
+use Rattle.bpf_journal.specs.declared.run.Run.{Run}
 
 -- A run of at most so many steps from x takes n, which lead to y: until it stops, or until the keeper refuses the next one.
 abbrev pub Ends : (Bool → State → Bool) → ℕ → State → State → ℕ → Bool → Type 0
@@ -27,3 +28,21 @@ history_after room (suc k) x h = keep record_weight room (history_after room k x
 abbrev pub history_on : ℕ → ℕ → State → List Record → List Record
 history_on room zero x h = h
 history_on room (suc k) x h = keep record_weight room (history_on room k x h) (record_of (state_after k x) Step false)
+
+-- What is kept of new steps from x to y: all that stood before stands as it grew along them. By it a keeper is known, a timeline and a course.
+module _ {K A : Type 0} (refusals size : K → ℕ) (along : ℕ → ℕ → State → A → A) (stood stands : A → Type 0) where
+  -- A run ends, by a test, the most steps that it may take, or where the keeper refused one.
+  pub record RunsOn (test : Bool → State → Bool) (most : ℕ) (x y : State) (run : Run) (old new : K) : Type 0 where
+    pub ends : Ends test most x y run.steps run.is_cut
+    pub kept : (a : A) → stood a → stands (along (size old) run.steps x a)
+    pub refused : refusals new ≡ refusals_by_run run.is_cut (refusals old)
+    pub room : size new ≡ size old
+
+  -- So many steps go on, at most as many as they may be; none is refused.
+  pub record GoesOn (most : ℕ) (x y : State) (n : ℕ) (old new : K) : Type 0 where
+    pub state : y ≡ state_after n x
+    pub steps : AreSteps x n
+    pub within : n ≤ most
+    pub kept : (a : A) → stood a → stands (along (size old) n x a)
+    pub refused : refusals new ≡ refusals old
+    pub room : size new ≡ size old

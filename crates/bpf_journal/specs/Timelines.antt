@@ -1,6 +1,7 @@
 -- A state with the keeper of the moves that led to it: what a move leaves of both, and what going back leaves.
-use Rattle.std.specs.Prelude.{◌≡◌, ℕ, Bool, List, Option, Result, Err}
+use Rattle.std.specs.Prelude.{◌≡◌, ℕ, Bool, List, Option, Result, Err, OnOk, IfOk, IfErr}
 use Rattle.bpf_machine.specs.declared.moves.Move.{Move}
+use Rattle.bpf_machine.specs.Entries.{step_entry}
 use Rattle.bpf_machine.specs.Moves.{IsMovable, Leads}
 use Rattle.bpf_machine.specs.State.{State}
 use Rattle.bpf_journal.specs.declared.fault.TimelineFault.{TimelineFault}
@@ -9,6 +10,7 @@ use Rattle.bpf_journal.specs.Counts.{one_more}
 use Rattle.bpf_journal.specs.declared.taken.Taken.{Taken}
 use Rattle.bpf_entries.specs.Keeping.{Kept, keep}
 use Rattle.bpf_journal.specs.Histories.{Record, record_weight, StandsFor}
+use Rattle.bpf_journal.specs.Replaced.{replaces_bytes}
 use Rattle.bpf_journal.specs.Reverting.{RefusesMove}
 use Rattle.bpf_journal.specs.TakingBack.{TakesBack}
 
@@ -49,3 +51,12 @@ module _ {K : Type 0} (holds : K → List Kept → Type 0) where
 abbrev pub refusals_by : {A : Type 0} → Result A TimelineFault → ℕ → ℕ
 refusals_by (Err fault.OutOfMemory) n = one_more n
 refusals_by _ n = n
+
+-- A step from x that was tried: what it leaves, where it is made and where it is not, and whether it replaced bytes of memory. A timeline and
+-- a course say by it what a step is.
+pub record TriesStep {K : Type 0} (refusals size : K → ℕ) (makes : Type 0) (fails : TimelineFault → Type 0) (x : State) (result : Result Bool TimelineFault) (old new : K) : Type 0 where
+  pub ok : OnOk result makes
+  pub err : IfErr result fails
+  pub bytes : IfOk result (λ replaced. replaced ≡ replaces_bytes (step_entry x))
+  pub refused : refusals new ≡ refusals_by result (refusals old)
+  pub room : size new ≡ size old

@@ -5,7 +5,7 @@ use Rattle.bpf_machine.specs.Moves.{Leads, moved}
 use Rattle.bpf_machine.specs.State.{State}
 use Rattle.bpf_ring.specs.Held.{IsHeld}
 use Rattle.bpf_journal.specs.Again.{again_of}
-use Rattle.bpf_journal.specs.Histories.{Record, StandsFor, record_weight}
+use Rattle.bpf_journal.specs.Histories.{HasHistory, Record, StandsFor, record_weight}
 use Rattle.bpf_journal.specs.Runs.{history_after}
 use Rattle.bpf_journal.specs.declared.ring_keeper.RingKeeper.{RingKeeper}
 
@@ -38,6 +38,12 @@ RingHolds ring es = IsHeld ring.entries.ring ring.entries.counts es
 
 abbrev pub ring_room : RingKeeper → ℕ
 ring_room ring = ring.entries.ring.size
+
+-- What a course is opened with: a keeper that stands with the state for some history, and an empty ring of its size.
+pub record CanOpen {K : Type 0} (holds : K → List Kept → Type 0) (room : K → ℕ) (keeper : K) (x : State) (redo : RingKeeper) : Type 0 where
+  pub past : HasHistory holds keeper x
+  pub empty : RingHolds redo []
+  pub size : ring_room redo ≡ room keeper
 
 -- A state, the keeper of the moves that led to it, and the ring of those that were taken back.
 pub record CourseValue (K : Type 0) : Type 0 where

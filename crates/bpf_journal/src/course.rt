@@ -1,18 +1,16 @@
 //! A machine with the keeper of the moves that led to its state, and with those that were taken
 //! back.
-ghost use Rattle.std.specs.Prelude.{◌≡◌, ◌≤◌, List, [], length, min, count_by, sum_by, OnOk, IfOk, IfErr, false};
+ghost use Rattle.std.specs.Prelude.{◌≡◌, ◌≤◌, List, length, min, count_by, sum_by, OnOk, IfOk, IfErr, false};
 ghost use Rattle.bpf_entries.specs.Status.{has_ended};
 ghost use Rattle.bpf_machine.specs.declared.moves.Move.TheVariants as move_of;
 ghost use Rattle.bpf_machine.specs.ByAddress.{byte};
-ghost use Rattle.bpf_machine.specs.Entries.{step_entry};
 ghost use Rattle.bpf_journal.specs.Courses.{FailsThere, GoesBackOne, MakesAgain, MakesAllAgain, MakesNew, StaysThere};
 ghost use Rattle.bpf_journal.specs.GoingBack.{GoesBackBy};
 ghost use Rattle.bpf_journal.specs.Histories.{HasHistory, Record, StandsFor, is_step, record_weight};
 ghost use Rattle.bpf_journal.specs.Lookups.{last_change};
-ghost use Rattle.bpf_journal.specs.Replaced.{replaces_bytes};
-ghost use Rattle.bpf_journal.specs.Runs.{Ends, refusals_by_run};
-ghost use Rattle.bpf_journal.specs.Timelines.{refusals_by};
-ghost use Rattle.bpf_journal.specs.Tracks.{Follows, IsCourse, RingHolds, Track, ring_room, track_after, track_of};
+ghost use Rattle.bpf_journal.specs.Runs.{RunsOn};
+ghost use Rattle.bpf_journal.specs.Timelines.{refusals_by, TriesStep};
+ghost use Rattle.bpf_journal.specs.Tracks.{Follows, IsCourse, Track, track_after, track_of, CanOpen};
 
 use crate::again::{entry_again, move_again};
 use crate::fault::TimelineFault;
@@ -49,9 +47,7 @@ impl<K: Keeper> Course<K> {
     /// A machine with a keeper that holds the entries of some history that leads to the machine's
     /// state, and an empty ring of the keeper's capacity.
     pub fn open(cpu: Cpu, keeper: K, redo: RingKeeper) -> Course<K>
-        requires past { HasHistory K.holds keeper cpu }
-        requires empty { RingHolds redo [] }
-        requires size { ring_room redo ≡ K.room keeper }
+        requires { CanOpen K.holds K.room keeper cpu redo }
         ensures value { result ≡ record { state = cpu; keeper = keeper; redo = redo } }
         ensures stands { (h : List Record) → StandsFor K.holds keeper cpu h →
             Follows K.holds result (track_of h) }
@@ -143,14 +139,10 @@ impl<K: Keeper> Course<K> {
     /// Takes a step, a new move, and keeps it. Answers whether it replaced bytes of memory. Nothing
     /// changes where the machine has ended, or where the keeper refuses.
     pub fn step(&mut self, mark: bool) -> Result<bool, TimelineFault>
-        ensures ok { OnOk result
-            (MakesNew K.holds (K.room self.old.keeper) move_of.Step mark self.old self.new) }
-        ensures err { IfErr result (FailsThere K.holds move_of.Step self.old self.new) }
-        ensures bytes { IfOk result (λ replaced. replaced
-            ≡ replaces_bytes (step_entry self.old.state)) }
-        ensures refused { K.refused self.new.keeper
-            ≡ refusals_by result (K.refused self.old.keeper) }
-        ensures room { K.room self.new.keeper ≡ K.room self.old.keeper }
+        ensures { TriesStep K.refused K.room
+            (MakesNew K.holds (K.room self.old.keeper) move_of.Step mark self.old self.new)
+            (FailsThere K.holds move_of.Step self.old self.new)
+            self.old.state result self.old.keeper self.new.keeper }
     {
         match self.timeline.step(mark) {
             Ok(replaced) => {
@@ -168,14 +160,10 @@ impl<K: Keeper> Course<K> {
     pub fn run<T: StopTest>(&mut self, most: u64, test: &T) -> Run
         requires runs { has_ended self.old.state.status ≡ false }
         requires some { 1 ≤ most }
-        ensures ends { Ends (T.test test.now)
-            most self.old.state self.new.state result.steps result.is_cut }
-        ensures kept { (t : Track) → Follows K.holds self.old t →
-            Follows K.holds self.new
-            (track_after (K.room self.old.keeper) result.steps self.old.state t) }
-        ensures refused { K.refused self.new.keeper
-            ≡ refusals_by_run result.is_cut (K.refused self.old.keeper) }
-        ensures room { K.room self.new.keeper ≡ K.room self.old.keeper }
+        ensures { RunsOn K.refused K.room track_after
+            (Follows K.holds self.old) (Follows K.holds self.new)
+            (T.test test.now) most self.old.state self.new.state result
+            self.old.keeper self.new.keeper }
     {
         let run = self.timeline.run(most, test);
         if run.steps == 0 {

@@ -1,19 +1,17 @@
 //! Keepers hold the entries and marks of moves, the newest ones that fit a journal's size.
-ghost use Rattle.std.specs.Prelude.{◌≡◌, ◌≤◌, ◌<◌, ◌+◌, ◌^◌, ◌++◌, ℕ, List, length, sum_by, count_by, is_some, None, OnOk, OnErr, OnSome, false, map};
+ghost use Rattle.std.specs.Prelude.{◌≡◌, ◌≤◌, ◌<◌, ◌+◌, ◌^◌, ℕ, List, length, sum_by, count_by, None, false};
 ghost use Rattle.bpf_entries.specs.Fields.{FitsFields};
-ghost use Rattle.bpf_entries.specs.Keeping.{Kept, kept_weight, keep};
+ghost use Rattle.bpf_entries.specs.Keeping.{Kept, kept_weight};
 ghost use Rattle.bpf_entries.specs.Status.{has_ended};
 ghost use Rattle.bpf_machine.specs.Entries.{step_entry};
-ghost use Rattle.bpf_machine.specs.Next.{change as change_of, next};
-ghost use Rattle.bpf_ring.specs.Held.{IsHeld};
-ghost use Rattle.bpf_ring.specs.Runs.{AreSteps, kept_after, kept_on, state_after};
-ghost use Rattle.bpf_ring.specs.Ways.{HandsBack, IsWay, Made, kept_by};
+ghost use Rattle.bpf_machine.specs.Next.{change as change_of};
+ghost use Rattle.bpf_ring.specs.Runs.{kept_after, kept_on};
 ghost use Rattle.bpf_journal.specs.EditEntries.{HoldsSome, is_of_step};
-ghost use Rattle.bpf_journal.specs.Handing.{Hands};
+ghost use Rattle.bpf_journal.specs.Handing.{EntriesHold, HandsOver, HandsOverSteps, entries_room};
 ghost use Rattle.bpf_journal.specs.Histories.{HasHistory, Record, StandsFor, newest};
 ghost use Rattle.bpf_journal.specs.TakingBack.{TakesBack};
-ghost use Rattle.bpf_journal.specs.Keepers.{IsPlace, IsWithin, Passes, PlacesDiffer, TakesNewest, TellsByteBefore, WalksBack, refusals_after};
-ghost use Rattle.bpf_journal.specs.Runs.{Ends, refusals_by_run};
+ghost use Rattle.bpf_journal.specs.Keepers.{IsPlace, IsWithin, Keeps, Passes, PlacesDiffer, TakesNewest, TellsByteBefore, WalksBack, next_after};
+ghost use Rattle.bpf_journal.specs.Runs.{GoesOn, RunsOn};
 
 use crate::fields::{is_of_step, step_count};
 use crate::run::Run;
@@ -43,11 +41,7 @@ pub trait Keeper {
     /// want of memory, changes nothing that is held.
     fn push(&mut self, entry: &Entry, mark: bool) -> Result<(), AllocError>
         requires { FitsFields entry.now }
-        ensures ok { OnOk result ((es : List Kept) → holds self.old es →
-            holds self.new (keep kept_weight (room self.old) es (entry.now, mark))) }
-        ensures err { OnErr result ((es : List Kept) → holds self.old es → holds self.new es) }
-        ensures refused { refused self.new ≡ refusals_after result (refused self.old) }
-        ensures room { room self.new ≡ room self.old };
+        ensures { Keeps holds refused room (entry.now, mark) result self.old self.new };
 
     /// Lets a machine take the step that `look` answered of it, and keeps the entry of that step,
     /// as `push` does. Where the entry is refused the machine stays as well. A keeper that writes
@@ -55,13 +49,9 @@ pub trait Keeper {
     fn record(&mut self, cpu: &mut Cpu, change: &Change, mark: bool) -> Result<(), AllocError>
         requires runs { has_ended cpu.old.status ≡ false }
         requires looked { change.now ≡ change_of cpu.old }
-        ensures ok { OnOk result ((es : List Kept) → holds self.old es →
-            holds self.new (keep kept_weight (room self.old) es (step_entry cpu.old, mark))) }
-        ensures stepped { OnOk result (cpu.new ≡ next cpu.old) }
-        ensures err { OnErr result ((es : List Kept) → holds self.old es → holds self.new es) }
-        ensures stays { OnErr result (cpu.new ≡ cpu.old) }
-        ensures refused { refused self.new ≡ refusals_after result (refused self.old) }
-        ensures room { room self.new ≡ room self.old }
+        ensures kept { Keeps holds refused room (step_entry cpu.old, mark)
+            result self.old self.new }
+        ensures stepped { cpu.new ≡ next_after result cpu.old }
     {
         cpu.invariant();
         entries_fit();
@@ -82,11 +72,8 @@ pub trait Keeper {
     fn run<T: StopTest>(&mut self, cpu: &mut Cpu, most: u64, test: &T) -> Run
         requires runs { has_ended cpu.old.status ≡ false }
         requires some { 1 ≤ most }
-        ensures ends { Ends (T.test test.now) most cpu.old cpu.new result.steps result.is_cut }
-        ensures held { (es : List Kept) → holds self.old es →
-            holds self.new (kept_after (room self.old) result.steps cpu.old es) }
-        ensures refused { refused self.new ≡ refusals_by_run result.is_cut (refused self.old) }
-        ensures room { room self.new ≡ room self.old }
+        ensures { RunsOn refused room kept_after (holds self.old) (holds self.new)
+            (T.test test.now) most cpu.old cpu.new result self.old self.new }
     {
         for k in 0..most {
             let change = match cpu.look() {
@@ -121,12 +108,8 @@ pub trait Keeper {
     /// those that the keeper takes in one go, or behind one that leads to a slot that `marks` has,
     /// by the slot's remainder. Answers how many, maybe none. By itself a keeper takes none.
     fn repeat(&mut self, cpu: &mut Cpu, most: u64, marks: &[bool; 8192]) -> u64
-        ensures state { cpu.new ≡ state_after result cpu.old }
-        ensures steps { AreSteps cpu.old result }
-        ensures within { result ≤ most }
-        ensures held { (es : List Kept) → holds self.old es →
-            holds self.new (kept_on (room self.old) result cpu.old es) }
-        ensures stays { (refused self.new ≡ refused self.old) × (room self.new ≡ room self.old) }
+        ensures { GoesOn refused room kept_on (holds self.old) (holds self.new)
+            most cpu.old cpu.new result self.old self.new }
     {
         let _cpu = cpu;
         let _most = most;
@@ -173,18 +156,10 @@ pub trait Keeper {
     /// they lie; by itself it reads the entry whole.
     fn hand_back(&mut self, cpu: &mut Cpu, ring: &mut EntryRing) -> Option<Taken>
         requires way { HasHistory holds self.old cpu.old }
-        ensures hands { (es ls : List Kept) → holds self.old es →
-            IsHeld ring.old.ring ring.old.counts ls →
-            Hands (is_some result) es ls ring.old.ring.size (IsHeld ring.new.ring ring.new.counts) }
-        ensures back { OnSome result ((h : List Record) → StandsFor holds self.old cpu.old h →
-            TakesBack holds result h cpu.old self.new cpu.new) }
-        ensures stays { result ≡ None → (self.new ≡ self.old) × (cpu.new ≡ cpu.old)
-            × (ring.new ≡ ring.old) }
-        ensures size { ring.new.ring.size ≡ ring.old.ring.size }
+        ensures over { HandsOver holds refused room EntriesHold entries_room
+            result self.old self.new cpu.old cpu.new ring.old ring.new }
         ensures fits { length ring.old.ring.bytes ≤ ring.old.ring.size →
             length ring.new.ring.bytes ≤ ring.new.ring.size }
-        ensures refused { refused self.new ≡ refused self.old }
-        ensures room { room self.new ≡ room self.old }
     {
         entries_fit();
         match self.last() {
@@ -212,16 +187,10 @@ pub trait Keeper {
         stays: Stays,
     ) -> u64
         requires way { HasHistory holds self.old cpu.old }
-        ensures within { result ≤ most }
-        ensures handed { (ws : List Made) (ls : List Kept) → holds self.old (map kept_by ws) →
-            IsWay ws cpu.old →
-            HandsBack marks.now stays cpu.new (holds self.new) (λ ms.
-            IsHeld ring.old.ring ring.old.counts ls → IsHeld ring.new.ring ring.new.counts ms)
-            result ws ls cpu.old }
-        ensures ring { (ring.new.ring.size ≡ ring.old.ring.size)
-            × (length ring.old.ring.bytes ≤ ring.old.ring.size →
-            length ring.new.ring.bytes ≤ ring.new.ring.size) }
-        ensures stays { (refused self.new ≡ refused self.old) × (room self.new ≡ room self.old) }
+        ensures over { HandsOverSteps holds refused room EntriesHold entries_room
+            marks.now stays most result self.old self.new cpu.old cpu.new ring.old ring.new }
+        ensures fits { length ring.old.ring.bytes ≤ ring.old.ring.size →
+            length ring.new.ring.bytes ≤ ring.new.ring.size }
     {
         let _cpu = cpu;
         let _ring = ring;

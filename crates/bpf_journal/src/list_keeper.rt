@@ -1,8 +1,9 @@
 //! The keeper that keeps entries in a growing list.
-ghost use Rattle.std.specs.Prelude.{◌≡◌, ◌<◌, ◌≤◌, ◌^◌, ◌∷◌, [], sum_by, IfOk, IfErr, OnOk, OnErr};
+ghost use Rattle.std.specs.Prelude.{◌≡◌, ◌<◌, ◌≤◌, ◌^◌, sum_by, OnOk, OnErr};
 ghost use Rattle.bpf_entries.specs.Keeping.{kept_weight, keep};
 ghost use Rattle.bpf_journal.specs.Keepers.{refusals_after};
 ghost use Rattle.bpf_entries.specs.Keeping.{IsSize};
+ghost use Rattle.bpf_journal.specs.Opening.{Opens};
 
 use crate::entries::Entries;
 use crate::fault::JournalFault;
@@ -32,12 +33,8 @@ impl ListKeeper {
     /// A keeper for a journal of this many bytes, 1,024 to 16,777,216, that holds nothing and has
     /// refused nothing. It takes no memory yet.
     pub fn open(alloc: Global, size: usize) -> Result<ListKeeper, JournalFault>
-        ensures size { OnOk result (IsSize size) }
-        ensures room { IfOk result (λ keeper. ⟦<ListKeeper as Keeper>⟧.room keeper ≡ size) }
-        ensures empty { IfOk result (λ keeper. ⟦<ListKeeper as Keeper>⟧.holds keeper []) }
-        ensures refused { IfOk result (λ keeper. ⟦<ListKeeper as Keeper>⟧.refused keeper ≡ 0) }
-        ensures err { IfErr result (λ fault. (fault ≡ JournalFault.SizeOutOfRange)
-            × (¬ IsSize size)) }
+        ensures { Opens ⟦<ListKeeper as Keeper>⟧.holds ⟦<ListKeeper as Keeper>⟧.refused
+            ⟦<ListKeeper as Keeper>⟧.room size result }
     {
         if !is_size(size) {
             return Err(JournalFault::SizeOutOfRange);
@@ -56,8 +53,8 @@ impl ListKeeper {
         ensures ok { OnOk result (self.new.entries
             ≡ keep kept_weight self.old.size self.old.entries (kept_item item)) }
         ensures err { OnErr result (self.new.entries ≡ self.old.entries) }
-        ensures refused { self.new.refusals ≡ refusals_after result self.old.refusals }
-        ensures size { self.new.size ≡ self.old.size }
+        ensures counts { (self.new.refusals ≡ refusals_after result self.old.refusals)
+            × (self.new.size ≡ self.old.size) }
     {
         match self.entries.push(item) {
             Ok(()) => {

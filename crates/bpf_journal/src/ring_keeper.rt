@@ -1,16 +1,15 @@
 //! The keeper that keeps entries as their bytes, in one ring of the journal's size.
 ghost use Rattle.std.specs.Option.{option_map};
-ghost use Rattle.std.specs.Prelude.{◌≡◌, ◌≤◌, [], ◌∷◌, List, length, sum_by, is_some, None, IfOk, IfErr, IfSome, OnOk, OnSome, slice_get, drop, map};
+ghost use Rattle.std.specs.Prelude.{◌≡◌, ◌≤◌, [], ◌∷◌, List, length, sum_by, None, IfOk, IfErr, IfSome, OnOk, slice_get, drop};
 ghost use Rattle.bpf_entries.specs.Fields.{FitsFields};
 ghost use Rattle.bpf_entries.specs.Keeping.{IsSize, Kept, keep, kept_weight};
 ghost use Rattle.bpf_entries.specs.Rings.{AllFit, ring as ring_of};
 ghost use Rattle.bpf_ring.specs.Heads.{head_of};
 ghost use Rattle.bpf_ring.specs.Stretches.{IsStretch};
-ghost use Rattle.bpf_ring.specs.Ways.{HandsBack, IsWay, Made, kept_by};
-ghost use Rattle.bpf_journal.specs.Handing.{Hands};
-ghost use Rattle.bpf_journal.specs.Histories.{HasHistory, Record, StandsFor, newest, older};
+ghost use Rattle.bpf_journal.specs.Handing.{HandsOver, HandsOverSteps};
+ghost use Rattle.bpf_journal.specs.Histories.{HasHistory, newest, older};
 ghost use Rattle.bpf_journal.specs.Opening.{RefusesSize};
-ghost use Rattle.bpf_journal.specs.TakingBack.{TakesBack, taken_by};
+ghost use Rattle.bpf_journal.specs.TakingBack.{taken_by};
 
 use crate::fault::JournalFault;
 use crate::keeper::Keeper;
@@ -85,18 +84,9 @@ impl RingKeeper {
     #[inline(always)]
     pub fn take_over<K: Keeper>(&mut self, other: &mut K, cpu: &mut Cpu) -> Option<Taken>
         requires way { HasHistory K.holds other.old cpu.old }
-        ensures hands { (es ls : List Kept) → K.holds other.old es →
-            ⟦<RingKeeper as Keeper>⟧.holds self.old ls →
-            Hands (is_some result) es ls (⟦<RingKeeper as Keeper>⟧.room self.old)
-            (⟦<RingKeeper as Keeper>⟧.holds self.new) }
-        ensures back { OnSome result ((h : List Record) → StandsFor K.holds other.old cpu.old h →
-            TakesBack K.holds result h cpu.old other.new cpu.new) }
-        ensures stays { result ≡ None → (other.new ≡ other.old) × (cpu.new ≡ cpu.old)
-            × (self.new ≡ self.old) }
-        ensures room { ⟦<RingKeeper as Keeper>⟧.room self.new
-            ≡ ⟦<RingKeeper as Keeper>⟧.room self.old }
-        ensures other_refused { K.refused other.new ≡ K.refused other.old }
-        ensures other_room { K.room other.new ≡ K.room other.old }
+        ensures { HandsOver K.holds K.refused K.room
+            ⟦<RingKeeper as Keeper>⟧.holds ⟦<RingKeeper as Keeper>⟧.room
+            result other.old other.new cpu.old cpu.new self.old self.new }
     {
         other.hand_back(cpu, &mut self.entries)
     }
@@ -115,16 +105,9 @@ impl RingKeeper {
         stays: Stays,
     ) -> u64
         requires way { HasHistory K.holds other.old cpu.old }
-        ensures within { result ≤ most }
-        ensures handed { (ws : List Made) (ls : List Kept) → K.holds other.old (map kept_by ws) →
-            IsWay ws cpu.old →
-            HandsBack marks.now stays cpu.new (K.holds other.new) (λ ms.
-            ⟦<RingKeeper as Keeper>⟧.holds self.old ls → ⟦<RingKeeper as Keeper>⟧.holds self.new ms)
-            result ws ls cpu.old }
-        ensures room { ⟦<RingKeeper as Keeper>⟧.room self.new
-            ≡ ⟦<RingKeeper as Keeper>⟧.room self.old }
-        ensures other_stays { (K.refused other.new ≡ K.refused other.old)
-            × (K.room other.new ≡ K.room other.old) }
+        ensures { HandsOverSteps K.holds K.refused K.room
+            ⟦<RingKeeper as Keeper>⟧.holds ⟦<RingKeeper as Keeper>⟧.room
+            marks.now stays most result other.old other.new cpu.old cpu.new self.old self.new }
     {
         other.hand_back_steps(cpu, &mut self.entries, most, marks, stays)
     }

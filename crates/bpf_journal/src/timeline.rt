@@ -1,25 +1,20 @@
 //! A machine with the keeper of the moves that led to its state.
-ghost use Rattle.std.specs.Prelude.{◌≡◌, ◌≤◌, ◌<◌, ℕ, List, [], length, map, min, count_by, sum_by, OnOk, OnErr, IfOk, IfErr, false, is_some, None, OnSome};
+ghost use Rattle.std.specs.Prelude.{◌≡◌, ◌≤◌, ◌<◌, List, [], length, map, min, count_by, sum_by, OnOk, IfErr, false, None};
 ghost use Rattle.bpf_machine.specs.declared.moves.Move.TheVariants as move_of;
-ghost use Rattle.bpf_machine.specs.Entries.{step_entry};
-ghost use Rattle.bpf_machine.specs.Next.{change as change_of};
 ghost use Rattle.bpf_entries.specs.Status.{has_ended};
 ghost use Rattle.bpf_ring.specs.Ways.{HandsBack};
 ghost use Rattle.bpf_journal.specs.EditEntries.{HoldsSome};
-ghost use Rattle.bpf_entries.specs.Keeping.{Kept, keep, kept_weight};
+ghost use Rattle.bpf_entries.specs.Keeping.{Kept};
 ghost use Rattle.bpf_journal.specs.Histories.{Record, StandsFor, HasHistory, is_step, kept_of, newest, record_weight};
-ghost use Rattle.bpf_journal.specs.Keepers.{refusals_after};
 ghost use Rattle.bpf_journal.specs.Changes.{change_in};
 ghost use Rattle.bpf_journal.specs.Lookups.{last_change};
 ghost use Rattle.bpf_journal.specs.GoingBack.{made_of};
-ghost use Rattle.bpf_journal.specs.Handing.{Hands};
-ghost use Rattle.bpf_journal.specs.Replaced.{replaces_bytes};
+ghost use Rattle.bpf_journal.specs.Handing.{HandsOver};
 ghost use Rattle.bpf_journal.specs.Tracks.{RingHolds, ring_room};
 ghost use Rattle.bpf_machine.specs.ByAddress.{byte};
 ghost use Rattle.bpf_machine.specs.Platform.{frame_count};
-ghost use Rattle.bpf_journal.specs.Runs.{Ends, history_after, history_on, refusals_by_run};
-ghost use Rattle.bpf_ring.specs.Runs.{AreSteps, state_after};
-ghost use Rattle.bpf_journal.specs.Timelines.{Moment, Makes, Fails, GoesBack, refusals_by};
+ghost use Rattle.bpf_journal.specs.Runs.{history_after, history_on, GoesOn, RunsOn};
+ghost use Rattle.bpf_journal.specs.Timelines.{Moment, Makes, Fails, GoesBack, refusals_by, StandsAt, TriesStep};
 
 use crate::fault::{MoveFault, TimelineFault};
 use crate::fields::edit_fits;
@@ -51,7 +46,7 @@ pub struct Timeline<K: Keeper> {
 
 impl<K: Keeper> Model for Timeline<K> {
     ghost use Rattle.bpf_journal.specs.Histories.{HasHistory};
-    ghost use Rattle.bpf_journal.specs.Runs.{Ends, history_after, refusals_by_run};
+    ghost use Rattle.bpf_journal.specs.Runs.{history_after};
     ghost use Rattle.bpf_journal.specs.Timelines.{Moment};
 
     ghost Value = { Moment K };
@@ -168,14 +163,10 @@ impl<K: Keeper> Timeline<K> {
     /// where the machine has ended, or where the keeper refuses.
     #[inline(always)]
     pub fn step(&mut self, mark: bool) -> Result<bool, TimelineFault>
-        ensures ok { OnOk result
-            (Makes K.holds (K.room self.old.keeper) move_of.Step mark self.old self.new) }
-        ensures err { IfErr result (Fails K.holds move_of.Step self.old self.new) }
-        ensures bytes { IfOk result (λ replaced. replaced
-            ≡ replaces_bytes (step_entry self.old.state)) }
-        ensures refused { K.refused self.new.keeper
-            ≡ refusals_by result (K.refused self.old.keeper) }
-        ensures room { K.room self.new.keeper ≡ K.room self.old.keeper }
+        ensures { TriesStep K.refused K.room
+            (Makes K.holds (K.room self.old.keeper) move_of.Step mark self.old self.new)
+            (Fails K.holds move_of.Step self.old self.new)
+            self.old.state result self.old.keeper self.new.keeper }
     {
         // The arms are alike. Each is built for its sort of instruction.
         match self.cpu.next_sort() {
@@ -190,14 +181,10 @@ impl<K: Keeper> Timeline<K> {
     /// Takes and keeps a step out of the way of the common ones.
     #[inline(never)]
     fn step_apart(&mut self, mark: bool) -> Result<bool, TimelineFault>
-        ensures ok { OnOk result
-            (Makes K.holds (K.room self.old.keeper) move_of.Step mark self.old self.new) }
-        ensures err { IfErr result (Fails K.holds move_of.Step self.old self.new) }
-        ensures bytes { IfOk result (λ replaced. replaced
-            ≡ replaces_bytes (step_entry self.old.state)) }
-        ensures refused { K.refused self.new.keeper
-            ≡ refusals_by result (K.refused self.old.keeper) }
-        ensures room { K.room self.new.keeper ≡ K.room self.old.keeper }
+        ensures { TriesStep K.refused K.room
+            (Makes K.holds (K.room self.old.keeper) move_of.Step mark self.old self.new)
+            (Fails K.holds move_of.Step self.old self.new)
+            self.old.state result self.old.keeper self.new.keeper }
     {
         self.step_as(mark)
     }
@@ -205,14 +192,10 @@ impl<K: Keeper> Timeline<K> {
     /// Takes and keeps a step.
     #[inline(always)]
     fn step_as(&mut self, mark: bool) -> Result<bool, TimelineFault>
-        ensures ok { OnOk result
-            (Makes K.holds (K.room self.old.keeper) move_of.Step mark self.old self.new) }
-        ensures err { IfErr result (Fails K.holds move_of.Step self.old self.new) }
-        ensures bytes { IfOk result (λ replaced. replaced
-            ≡ replaces_bytes (step_entry self.old.state)) }
-        ensures refused { K.refused self.new.keeper
-            ≡ refusals_by result (K.refused self.old.keeper) }
-        ensures room { K.room self.new.keeper ≡ K.room self.old.keeper }
+        ensures { TriesStep K.refused K.room
+            (Makes K.holds (K.room self.old.keeper) move_of.Step mark self.old self.new)
+            (Fails K.holds move_of.Step self.old self.new)
+            self.old.state result self.old.keeper self.new.keeper }
     {
         self.cpu.invariant();
         let change = match self.cpu.look() {
@@ -232,14 +215,10 @@ impl<K: Keeper> Timeline<K> {
     pub fn run<T: StopTest>(&mut self, most: u64, test: &T) -> Run
         requires runs { has_ended self.old.state.status ≡ false }
         requires some { 1 ≤ most }
-        ensures ends { Ends (T.test test.now)
-            most self.old.state self.new.state result.steps result.is_cut }
-        ensures kept { (h : List Record) → StandsFor K.holds self.old.keeper self.old.state h →
-            StandsFor K.holds self.new.keeper self.new.state
-            (history_after (K.room self.old.keeper) result.steps self.old.state h) }
-        ensures refused { K.refused self.new.keeper
-            ≡ refusals_by_run result.is_cut (K.refused self.old.keeper) }
-        ensures room { K.room self.new.keeper ≡ K.room self.old.keeper }
+        ensures { RunsOn K.refused K.room history_after
+            (StandsAt K.holds self.old) (StandsAt K.holds self.new)
+            (T.test test.now) most self.old.state self.new.state result
+            self.old.keeper self.new.keeper }
     {
         self.keeper.run(&mut self.cpu, most, test)
     }
@@ -248,14 +227,9 @@ impl<K: Keeper> Timeline<K> {
     /// takes in one go, maybe none, or those up to one that leads to a slot that `marks` has, by the
     /// slot's remainder. Answers how many.
     pub(crate) fn repeat(&mut self, most: u64, marks: &[bool; 8192]) -> u64
-        ensures state { self.new.state ≡ state_after result self.old.state }
-        ensures steps { AreSteps self.old.state result }
-        ensures within { result ≤ most }
-        ensures kept { (h : List Record) → StandsFor K.holds self.old.keeper self.old.state h →
-            StandsFor K.holds self.new.keeper self.new.state
-            (history_on (K.room self.old.keeper) result self.old.state h) }
-        ensures refused { K.refused self.new.keeper ≡ K.refused self.old.keeper }
-        ensures room { K.room self.new.keeper ≡ K.room self.old.keeper }
+        ensures { GoesOn K.refused K.room history_on
+            (StandsAt K.holds self.old) (StandsAt K.holds self.new)
+            most self.old.state self.new.state result self.old.keeper self.new.keeper }
     {
         self.keeper.repeat(&mut self.cpu, most, marks)
     }
@@ -320,15 +294,9 @@ impl<K: Keeper> Timeline<K> {
     /// ring. None where no move is kept, or an edit is the newest, and then nothing changes.
     #[inline(always)]
     pub(crate) fn hand_back(&mut self, ring: &mut RingKeeper) -> Option<Taken>
-        ensures hands { (es ls : List Kept) → K.holds self.old.keeper es → RingHolds ring.old ls →
-            Hands (is_some result) es ls (ring_room ring.old) (RingHolds ring.new) }
-        ensures back { OnSome result ((h : List Record) →
-            StandsFor K.holds self.old.keeper self.old.state h →
-            GoesBack K.holds result h self.old self.new) }
-        ensures stays { result ≡ None → (self.new ≡ self.old) × (ring.new ≡ ring.old) }
-        ensures ring_room { ring_room ring.new ≡ ring_room ring.old }
-        ensures refused { K.refused self.new.keeper ≡ K.refused self.old.keeper }
-        ensures room { K.room self.new.keeper ≡ K.room self.old.keeper }
+        ensures { HandsOver K.holds K.refused K.room RingHolds ring_room
+            result self.old.keeper self.new.keeper self.old.state self.new.state
+            ring.old ring.new }
     {
         ring.take_over(&mut self.keeper, &mut self.cpu)
     }

@@ -1,10 +1,14 @@
 -- `redo` makes moves again that were taken back.
-use Rattle.std.specs.Prelude.{ℕ, zero, suc, List, [], ◌∷◌, ◌++◌, Option, Some, None, length, take, drop, reverse, min, nat_le, nat_lt, ◌==◌, if◌then◌else◌}
+use Rattle.std.specs.Prelude.{◌≡◌, ◌≤◌, ℕ, zero, suc, List, [], ◌∷◌, ◌++◌, Option, Some, None, length, take, drop, reverse, min, nat_le, nat_lt, ◌==◌, if◌then◌else◌}
+use Rattle.bpf_entries.specs.Keeping.{Kept}
 use Rattle.bpf_machine.specs.Moves.{moved}
 use Rattle.bpf_machine.specs.State.{State}
+use Rattle.bpf_journal.specs.Courses.{MakesAllAgain}
 use Rattle.bpf_journal.specs.Histories.{Record}
+use Rattle.bpf_journal.specs.Tracks.{Track}
 use Rattle.bpf_session.specs.Points.{Point}
 use Rattle.bpf_session.specs.Outcomes.{Outcome, refused, replied}
+use Rattle.bpf_session.specs.Sessions.{HasPast, SessionValue}
 use Rattle.bpfdb_replies.specs.declared.why.Why.{Why}
 use Rattle.bpfdb_replies.specs.declared.why.Why.TheVariants.{Done, All, Memory}
 use Rattle.bpf_session.specs.declared.reply.Reply.TheVariants.{Redone}
@@ -39,3 +43,11 @@ cut_again (Some m) k why p =
 -- `redo` of so many moves, or of all where there are fewer.
 abbrev pub redo : Option ℕ → ℕ → Point → Outcome
 redo gap count p = cut_again gap (again count p) (why_again count p) p
+
+-- Scaffolding: so many of the steps that come next are made again, at most as many as they may be, and nothing else changes.
+pub record MakesSteps {K : Type 0} (holds : K → List Kept → Type 0) (refusals size : K → ℕ) (most n : ℕ) (old new : SessionValue K) : Type 0 where
+  pub within : n ≤ most
+  pub only : (new.breaks ≡ old.breaks) × (new.watches ≡ old.watches) × (new.limit ≡ old.limit)
+  pub made : (h : Track) → HasPast holds old h → MakesAllAgain holds n h.history h.ahead old.moment.state new.moment
+  pub refused : refusals new.moment.keeper ≡ refusals old.moment.keeper
+  pub room : size new.moment.keeper ≡ size old.moment.keeper

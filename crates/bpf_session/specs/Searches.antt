@@ -1,18 +1,18 @@
 -- Scaffolding: how far back a backward command went for what it looks for.
-use Rattle.std.specs.Prelude.{◌≡◌, ◌≤◌, ◌<◌, ◌==◌, ℕ, Bool, true, false, List, length, min, is_some, unwrap_or, if◌then◌else◌}
+use Rattle.std.specs.Prelude.{◌≡◌, ◌≤◌, ◌<◌, ◌==◌, ℕ, Bool, true, false, List, [], length, min, is_some, unwrap_or, if◌then◌else◌}
 use Rattle.bpf_entries.specs.Keeping.{Kept}
 use Rattle.bpf_journal.specs.GoingBack.{GoesBackBy}
 use Rattle.bpf_journal.specs.Histories.{Record, kept_of}
-use Rattle.bpf_journal.specs.Tracks.{CourseValue, Track}
+use Rattle.bpf_journal.specs.Tracks.{CourseValue, Track, track_of}
 use Rattle.bpf_machine.specs.Moves.{Leads}
 use Rattle.bpf_machine.specs.State.{State, depth}
 use Rattle.bpf_ring.specs.Ways.{IsPlain}
 use Rattle.bpf_ring.specs.declared.backward.Stays.{Stays}
 use Rattle.bpf_ring.specs.declared.backward.Stays.TheVariants.{Nothing, Depth, Memory}
 use Rattle.bpf_journal.specs.Lookups.{Test, latest}
-use Rattle.bpf_session.specs.Backward.{back_by, kept_steps}
+use Rattle.bpf_session.specs.Backward.{back_by, kept_steps, passes}
 use Rattle.bpf_session.specs.Points.{Point}
-use Rattle.bpf_session.specs.Sessions.{SessionValue, StandsAt, point_of}
+use Rattle.bpf_session.specs.Sessions.{HasPast, SessionValue, StandsAt, bounds_of, point_of}
 use Rattle.bpf_session.specs.declared.session.backward.Found.{Found}
 use Rattle.bpfdb_commands.specs.declared.command.Target.{Target}
 use Rattle.bpfdb_commands.specs.declared.command.Target.TheVariants.{Commands, Steps, Next, Continue, Finish}
@@ -49,6 +49,17 @@ pub record GoesOver {K : Type 0} (holds : K → List Kept → Type 0) (test : Te
   pub stays : Stays
   pub back : GoesBackBy holds marks stays new n h f y
   pub each : 1 ≤ n → (r : Record) (z : State) → IsPlain marks stays (kept_of r) → Leads r.before r.move z → (stays ≡ Depth → depth z ≡ depth y) → test r z ≡ passes
+
+-- A command that was given at a depth goes back over so many moves at once, at most as many as they may be, and over fewer that it looks for
+-- than are left to be found. Breakpoints, watches and what the session was opened with stay.
+pub record GoesBackOver {K : Type 0} (holds : K → List Kept → Type 0) (refusals room : K → ℕ) (target : Target) (start left most n : ℕ) (old new : SessionValue K) : Type 0 where
+  pub within : n ≤ most
+  pub fewer : is_each target ≡ true → n < left
+  pub over : (first : State) (h : Track) → start ≡ depth first → HasPast holds old h →
+      GoesOver holds (passes target (record (point_of old (track_of [])) { state = first })) (is_each target) n h.history h.ahead old.moment.state new.moment
+  pub stops : (new.breaks ≡ old.breaks) × (new.watches ≡ old.watches)
+  pub refused : refusals new.moment.keeper ≡ refusals old.moment.keeper
+  pub bounds : bounds_of room new ≡ bounds_of room old
 
 -- How many of the moves that it looks for a command goes back over.
 abbrev pub count_in : Target → Point → ℕ

@@ -1,10 +1,7 @@
 //! Runs with history that no command stops.
-ghost use Rattle.std.specs.Prelude.{◌≡◌, ◌≤◌, List, false};
+ghost use Rattle.std.specs.Prelude.{◌≡◌, ◌≤◌, false};
 ghost use Rattle.bpf_entries.specs.Status.{has_ended};
-ghost use Rattle.bpf_journal.specs.Histories.{Record, StandsFor};
-ghost use Rattle.bpf_journal.specs.Runs.{history_after};
-ghost use Rattle.bpf_journal.specs.Tracks.{RingHolds, ring_room};
-ghost use Rattle.bpf_session.specs.Plain.{plain_end, plain_steps};
+ghost use Rattle.bpf_session.specs.Plain.{RunsKept};
 
 use crate::breakpoints::Breakpoints;
 use crate::halting::Halting;
@@ -17,13 +14,7 @@ use bpf_journal::{RingKeeper, Timeline};
 pub fn run_kept(timeline: &mut Timeline<RingKeeper>, limit: u64) -> u64
     requires runs { has_ended timeline.old.state.status ≡ false }
     requires some { 1 ≤ limit }
-    ensures steps { result ≡ plain_steps limit timeline.old.state }
-    ensures state { timeline.new.state ≡ plain_end limit timeline.old.state }
-    ensures kept { (h : List Record) →
-        StandsFor RingHolds timeline.old.keeper timeline.old.state h →
-        StandsFor RingHolds timeline.new.keeper timeline.new.state
-        (history_after (ring_room timeline.old.keeper) result timeline.old.state h) }
-    ensures room { ring_room timeline.new.keeper ≡ ring_room timeline.old.keeper }
+    ensures { RunsKept limit timeline.old timeline.new result }
 {
     // (It is stopped by the same test as a session's commands, though nothing is set there, so that
     // the program has one loop that keeps steps.)

@@ -1,7 +1,7 @@
 //! Runs without history.
-ghost use Rattle.std.specs.Prelude.{◌≡◌, ◌≢◌, ◌++◌, IfErr, IfOk, Ok, codes};
+ghost use Rattle.std.specs.Prelude.{◌≡◌, ◌++◌, Ok, codes};
 ghost use Rattle.counted_io.specs.Writing.{Writes, hexadecimal};
-ghost use Rattle.bpf_session.specs.Plain.{ending_of, plain_end, text_of_ending};
+ghost use Rattle.bpf_session.specs.Plain.{RunsPlain, plain_end};
 
 use crate::fault::RunFault;
 use bpf_machine::{Cpu, Status};
@@ -29,13 +29,7 @@ pub fn run_plain<W: Write>(
     limit: u64,
     writer: &mut Counted<W>,
 ) -> Result<Ending, RunFault>
-    ensures next { cpu.new ≡ plain_end limit cpu.old }
-    ensures ok { IfOk result (λ ending. ending ≡ ending_of cpu.new.status) }
-    ensures err { IfErr result (λ fault. fault ≡ RunFault.Write) }
-    ensures quiet { cpu.new.status ≢ Status.Exited → (result ≡ Ok (ending_of cpu.new.status))
-        × (writer.new ≡ writer.old) }
-    ensures written { Writes W.contents writer.old writer.new result
-        (text_of_ending (ending_of cpu.new.status) cpu.new) }
+    ensures { RunsPlain W.contents limit cpu.old cpu.new writer.old writer.new result }
 {
     take_steps(cpu, limit);
     match cpu.status() {

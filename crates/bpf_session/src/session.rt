@@ -2,7 +2,7 @@
 ghost use Rattle.std.specs.Borrow.{sem};
 ghost use Rattle.std.specs.Prelude.{◌≡◌, ◌≤◌, List, [], length};
 ghost use Rattle.bpf_journal.specs.Histories.{HasHistory, Record, StandsFor};
-ghost use Rattle.bpf_journal.specs.Tracks.{IsCourse, RingHolds, Track, ring_room, track_of};
+ghost use Rattle.bpf_journal.specs.Tracks.{CanOpen, IsCourse, Track, track_of};
 ghost use Rattle.bpfdb_commands.specs.Limits.{greatest_count};
 ghost use Rattle.bpf_session.specs.Accepted.{Accepts};
 ghost use Rattle.bpf_session.specs.Lending.{LendsCourse};
@@ -52,9 +52,7 @@ impl<K: Keeper> Session<K> {
     /// taken back. `limit` is the most steps of a command, 1 to 1,000,000,000. There are no
     /// breakpoints and no watches.
     pub fn open(cpu: Cpu, keeper: K, redo: RingKeeper, limit: u64) -> Session<K>
-        requires past { HasHistory K.holds keeper cpu }
-        requires empty { RingHolds redo [] }
-        requires size { ring_room redo ≡ K.room keeper }
+        requires course { CanOpen K.holds K.room keeper cpu redo }
         requires limit { (1 ≤ limit) × (limit ≤ greatest_count) }
         ensures value { result ≡ record {
           moment = record {

@@ -1,12 +1,12 @@
 //! Backward commands.
-ghost use Rattle.std.specs.Prelude.{◌≡◌, ◌≤◌, ◌<◌, [], true, Ok, if◌then◌else◌};
+ghost use Rattle.std.specs.Prelude.{◌≡◌, ◌≤◌, ◌<◌, true, Ok, if◌then◌else◌};
 ghost use Rattle.bpf_machine.specs.State.{State, depth};
 ghost use Rattle.bpf_journal.specs.Histories.{Record};
-ghost use Rattle.bpf_journal.specs.Tracks.{Track, track_of};
+ghost use Rattle.bpf_journal.specs.Tracks.{Track};
 ghost use Rattle.bpf_journal.specs.TakingBack.{taken_of};
 ghost use Rattle.bpf_session.specs.Accepted.{Accepts};
 ghost use Rattle.bpf_session.specs.Backward.{back, passes};
-ghost use Rattle.bpf_session.specs.Searches.{GoAtOnce, GoesBackTo, GoesOver, count_in, is_each, why_found};
+ghost use Rattle.bpf_session.specs.Searches.{GoAtOnce, GoesBackOver, GoesBackTo, count_in, is_each, why_found};
 ghost use Rattle.bpf_session.specs.Sessions.{HasPast, Obeys, bounds_of, point_of};
 ghost use Rattle.bpf_session.specs.Stops.{has, some_differs};
 
@@ -140,16 +140,8 @@ impl<K: Keeper> Session<K> {
     /// them. Answers how many moves, maybe none.
     fn back_over(&mut self, target: &Target, start: usize, left: u64, most: u64) -> u64
         requires { 1 ≤ left }
-        ensures within { result ≤ most }
-        ensures fewer { is_each target.now ≡ true → result < left }
-        ensures over { (first : State) (h : Track) → start ≡ depth first →
-            HasPast K.holds self.old h → GoesOver K.holds
-            (passes target.now (record (point_of self.old (track_of [])) { state = first }))
-            (is_each target.now) result h.history h.ahead self.old.moment.state self.new.moment }
-        ensures stops { (self.new.breaks ≡ self.old.breaks)
-            × (self.new.watches ≡ self.old.watches) }
-        ensures refused { K.refused self.new.moment.keeper ≡ K.refused self.old.moment.keeper }
-        ensures bounds { bounds_of K.room self.new ≡ bounds_of K.room self.old }
+        ensures { GoesBackOver K.holds K.refused K.room target.now start left most
+            result self.old self.new }
     {
         let unwatched = self.watches.is_empty();
         let depth = self.cpu().depth();

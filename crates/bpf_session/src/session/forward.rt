@@ -2,7 +2,7 @@
 ghost use Rattle.std.specs.Prelude.{◌≡◌, ◌≤◌, Ok, Err, if◌then◌else◌, ◌==◌, false, unwrap_or};
 ghost use Rattle.bpf_machine.specs.State.{State, depth as depth_of};
 ghost use Rattle.bpf_entries.specs.Status.{has_ended};
-ghost use Rattle.bpf_journal.specs.Runs.{Ends, refusals_by_run};
+ghost use Rattle.bpf_journal.specs.Runs.{RunsOn};
 ghost use Rattle.bpf_journal.specs.Tracks.{Track, track_after};
 ghost use Rattle.bpf_session.specs.Forward.{forward, is_done, stop_in};
 ghost use Rattle.bpf_session.specs.Halting.{halts};
@@ -48,14 +48,11 @@ impl<K: Keeper> Session<K> {
     fn run(&mut self, most: u64, seen: &Seen, floor: usize) -> Run
         requires runs { has_ended self.old.moment.state.status ≡ false }
         requires some { 1 ≤ most }
-        ensures ends { Ends (halts self.old.breaks self.old.watches seen.now floor)
-            most self.old.moment.state self.new.moment.state result.steps result.is_cut }
-        ensures kept { (t : Track) → HasPast K.holds self.old t →
-            HasPast K.holds self.new
-            (track_after (K.room self.old.moment.keeper) result.steps self.old.moment.state t) }
-        ensures refused { K.refused self.new.moment.keeper
-            ≡ refusals_by_run result.is_cut (K.refused self.old.moment.keeper) }
-        ensures room { K.room self.new.moment.keeper ≡ K.room self.old.moment.keeper }
+        ensures run { RunsOn K.refused K.room track_after
+            (HasPast K.holds self.old) (HasPast K.holds self.new)
+            (halts self.old.breaks self.old.watches seen.now floor)
+            most self.old.moment.state self.new.moment.state result
+            self.old.moment.keeper self.new.moment.keeper }
         ensures tables { (self.new.breaks ≡ self.old.breaks) × (self.new.watches ≡ self.old.watches)
             × (self.new.limit ≡ self.old.limit) }
     {

@@ -1,8 +1,7 @@
 //! `redo`: moves that were taken back are made again.
 ghost use Rattle.std.specs.Prelude.{◌≡◌, ◌≢◌, ◌≤◌, ◌==◌, Ok, Err, if◌then◌else◌, length};
-ghost use Rattle.bpf_journal.specs.Courses.{MakesAllAgain};
 ghost use Rattle.bpf_journal.specs.Tracks.{Track};
-ghost use Rattle.bpf_session.specs.Redo.{cut_again, redo as redo_of};
+ghost use Rattle.bpf_session.specs.Redo.{MakesSteps, cut_again, redo as redo_of};
 ghost use Rattle.bpf_session.specs.Sessions.{HasPast, Obeys};
 
 use super::Session;
@@ -59,13 +58,7 @@ impl<K: Keeper> Session<K> {
     /// Makes steps again that come next, many at once, at most so many, where the pace lets it try.
     /// Answers how many, maybe none.
     fn redo_at_once(&mut self, most: u64, pace: &mut Pace) -> u64
-        ensures within { result ≤ most }
-        ensures only { (self.new.breaks ≡ self.old.breaks) × (self.new.watches ≡ self.old.watches)
-            × (self.new.limit ≡ self.old.limit) }
-        ensures made { (h : Track) → HasPast K.holds self.old h →
-            MakesAllAgain K.holds result h.history h.ahead self.old.moment.state self.new.moment }
-        ensures refused { K.refused self.new.moment.keeper ≡ K.refused self.old.moment.keeper }
-        ensures room { K.room self.new.moment.keeper ≡ K.room self.old.moment.keeper }
+        ensures { MakesSteps K.holds K.refused K.room most result self.old self.new }
     {
         if pace.left > 0 {
             pace.left -= 1;

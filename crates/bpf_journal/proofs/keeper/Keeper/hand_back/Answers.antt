@@ -9,18 +9,17 @@ push-requires g c =
     step_fits i.history c.args.cpu.now c.entries_fit.ensures i.stands.1 (c.in-Some.entry, c.in-Some.mark) (c.in-Some.ensures _ i.stands.0)
     (sym c.is_of_step.ensures ∙ c.if-not-is_of_step.false)
 
-pub returns-else-not-is_of_step-clause-hands : goal.returns-else-not-is_of_step-clause-hands
-returns-else-not-is_of_step-clause-hands g c = λ es ls held into.
+pub returns-else-not-is_of_step-clause-over : goal.returns-else-not-is_of_step-clause-over
+returns-else-not-is_of_step-clause-over g c =
     let i = c.requires.way in
-    pushed_over es ls (c.in-Some.entry, c.in-Some.mark) (is_some c.take_back.result) _ _ (c.in-Some.ensures es held)
-    (sym c.is_of_step.ensures ∙ c.if-not-is_of_step.false)
-    (some_taken g.Self.Keeper.holds i.history (c.in-Some.entry, c.in-Some.mark) c.take_back.result _ _ _ (c.in-Some.ensures _ i.stands.0) (c.take_back.ensures.back i.history i.stands))
-    (c.push.ensures.held ls into)
-
-pub returns-else-not-is_of_step-clause-back : goal.returns-else-not-is_of_step-clause-back
-returns-else-not-is_of_step-clause-back g c = on_some c.take_back.result _ c.take_back.ensures.back
-
-pub returns-else-not-is_of_step-clause-stays : goal.returns-else-not-is_of_step-clause-stays
-returns-else-not-is_of_step-clause-stays g c = λ none.
-    let i = c.requires.way in
-    absurd (not_both c.take_back.result none (some_taken g.Self.Keeper.holds i.history (c.in-Some.entry, c.in-Some.mark) c.take_back.result _ _ _ (c.in-Some.ensures _ i.stands.0) (c.take_back.ensures.back i.history i.stands)))
+    let taken = some_taken g.Self.Keeper.holds i.history (c.in-Some.entry, c.in-Some.mark) c.take_back.result _ _ _ (c.in-Some.ensures _ i.stands.0) (c.take_back.ensures.back i.history i.stands) in
+    record {
+      hands = λ es ls held into.
+          pushed_over es ls (c.in-Some.entry, c.in-Some.mark) (is_some c.take_back.result) _ _ (c.in-Some.ensures es held)
+          (sym c.is_of_step.ensures ∙ c.if-not-is_of_step.false) taken (c.push.ensures.held ls into);
+      back = on_some c.take_back.result _ c.take_back.ensures.back;
+      stays = λ none. absurd (not_both c.take_back.result none taken);
+      ring_room = c.push.ensures.size;
+      refused = c.take_back.ensures.refused;
+      room = c.take_back.ensures.room;
+    }

@@ -18,7 +18,7 @@ returns-then-run g c =
     ran k.holds k.refused k.room c.args.self.now c.run-run.new.self c.args.goal c.bytes-seen.result c.depth-start.result c.floor_of-floor.result c.most_of-most.result c.run-run.result.steps c.run-run.result.is_cut
     (c.depth-start.ensures ∙ ap depth c.cpu-2.ensures) c.floor_of-floor.ensures most
     (record { breaks = c.run-run.ensures.tables.0; watches = c.run-run.ensures.tables.1; limit = c.run-run.ensures.tables.2 })
-    saw c.run-run.ensures.ends c.run-run.ensures.kept c.run-run.ensures.refused c.run-run.ensures.room in
+    saw c.run-run.ensures.run.ends c.run-run.ensures.run.kept c.run-run.ensures.run.refused c.run-run.ensures.run.room in
     rw c.cut_short.ensures
     (ran_cut k.holds k.refused k.room c.args.self.now c.run-run.new.self c.args.goal c.bytes-seen.result c.run-run.result.steps
     (subst (λ b. Ran {K = g.row.K.Denot} k.holds k.refused k.room c.args.self.now c.run-run.new.self c.args.goal c.bytes-seen.result c.run-run.result.steps b) c.if-run.true all))
@@ -37,7 +37,7 @@ returns g c =
     ran k.holds k.refused k.room c.args.self.now c.run-run.new.self c.args.goal c.bytes-seen.result c.depth-start.result c.floor_of-floor.result c.most_of-most.result c.run-run.result.steps c.run-run.result.is_cut
     began c.floor_of-floor.ensures most
     (record { breaks = c.run-run.ensures.tables.0; watches = c.run-run.ensures.tables.1; limit = c.run-run.ensures.tables.2 })
-    saw c.run-run.ensures.ends c.run-run.ensures.kept c.run-run.ensures.refused c.run-run.ensures.room in
+    saw c.run-run.ensures.run.ends c.run-run.ensures.run.kept c.run-run.ensures.run.refused c.run-run.ensures.run.room in
     ran_to k.holds k.refused k.room c.args.self.now c.run-run.new.self c.args.goal c.bytes-seen.result c.run-run.result.steps
     (subst (λ b. Ran {K = g.row.K.Denot} k.holds k.refused k.room c.args.self.now c.run-run.new.self c.args.goal c.bytes-seen.result c.run-run.result.steps b) c.if-run.false all)
     c.differ_from-differs.result told c.why-why.result (λ x h differs. c.why-why.ensures c.args.self.now.moment.state x h began differs)
