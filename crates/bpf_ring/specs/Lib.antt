@@ -1,11 +1,13 @@
 pub mod Blocks
 pub mod Counted
 pub mod Heads
+pub mod Grown
 pub mod Held
 pub mod Left
 pub mod Runs
 pub mod Pieces
 pub mod Quiet
+pub mod Recorded
 pub mod Spans
 pub mod Stretches
 pub mod Taking

@@ -1,5 +1,5 @@
--- Scaffolding: the text of an entry goes over to a ring while the entry's move is taken back.
-use Rattle.std.specs.Prelude.{◌≡◌, ◌≤◌, ℕ, Bool, true, false, List, Option, Some, None, length}
+-- The newest entry's move is taken back, and the entry is let go, or goes over to another ring.
+use Rattle.std.specs.Prelude.{◌≡◌, ◌≤◌, ◌-◌, ◌++◌, ◌∷◌, [], ℕ, Bool, true, false, List, Option, Some, None, length, drop}
 use Rattle.bpf_entries.specs.declared.entry.Entry.{Entry}
 use Rattle.bpf_entries.specs.Fields.{FitsFields}
 use Rattle.bpf_entries.specs.Keeping.{Kept, keep, kept_weight}
@@ -11,7 +11,33 @@ use Rattle.bpf_machine.specs.State.{State}
 use Rattle.bpf_ring.specs.Held.{IsHeld}
 use Rattle.bpf_ring.specs.declared.entries.EntryRing.{EntryRing}
 
--- Where it is of a step, the state y becomes that before the step, and the ring keeps the entry as well. The answer is its tag, and none where
+-- It is let go, and y becomes the state before the move. The answer is its tag, and none where none is held.
+pub record TakesBack (y z : State) (old new : EntryRing) (taken : Option ℕ) : Type 0 where
+  pub size : new.ring.size ≡ old.ring.size
+  pub fits : length new.ring.bytes ≤ new.ring.size
+  pub none : IsHeld old.ring old.counts [] → (taken ≡ None) × (z ≡ y) × IsHeld new.ring new.counts []
+  pub some : (ks : List Kept) (k : Kept) → IsHeld old.ring old.counts (k ∷ ks) → (taken ≡ Some (tag (kind k.0) k.1)) × IsHeld new.ring new.counts ks
+  pub back : (ks : List Kept) (k : Kept) (x : State) (m : Move) → IsHeld old.ring old.counts (k ∷ ks) → Leads x m y → overwritten x m ≡ k.0 → z ≡ x
+
+-- Where it is of a step, another ring keeps it, and y becomes the state before the step. The answer is its tag, and none where none is held or it
+-- is of an edit: then nothing changes.
+pub record HandsOver (y z : State) (old new other_old other_new : EntryRing) (taken : Option ℕ) : Type 0 where
+  pub size : (new.ring.size ≡ old.ring.size) × (other_new.ring.size ≡ other_old.ring.size)
+  pub fits : (length new.ring.bytes ≤ new.ring.size) × (length other_new.ring.bytes ≤ other_new.ring.size)
+  pub none : IsHeld old.ring old.counts [] → taken ≡ None
+  pub edit : (ks : List Kept) (k : Kept) → IsHeld old.ring old.counts (k ∷ ks) → is_of_step k.0 ≡ false → taken ≡ None
+  pub stays : taken ≡ None → (new ≡ old) × (z ≡ y) × (other_new ≡ other_old)
+  pub some : (ks : List Kept) (k : Kept) → IsHeld old.ring old.counts (k ∷ ks) → is_of_step k.0 ≡ true → (taken ≡ Some (tag (kind k.0) k.1)) × IsHeld new.ring new.counts ks
+  pub back : (ks : List Kept) (k : Kept) (x : State) (m : Move) → IsHeld old.ring old.counts (k ∷ ks) → is_of_step k.0 ≡ true → Leads x m y → overwritten x m ≡ k.0 → z ≡ x
+  pub handed : (ks ls : List Kept) (k : Kept) → IsHeld old.ring old.counts (k ∷ ks) → is_of_step k.0 ≡ true → IsHeld other_old.ring other_old.counts ls
+      → IsHeld other_new.ring other_new.counts (keep kept_weight other_old.ring.size ls k)
+
+-- Scaffolding: of the move whose entry's text the newest bytes are, so many, y becomes the state before it, and the answer is the entry's tag.
+pub record Reverts (bytes : List ℕ) (count : ℕ) (y z : State) (told : ℕ) : Type 0 where
+  pub back : (x : State) (m : Move) (mark : Bool) → Leads x m y → FitsFields (overwritten x m) → drop (length bytes - count) bytes ≡ text (overwritten x m) mark → z ≡ x
+  pub tag : (e : Entry) (mark : Bool) (before rest : List ℕ) → bytes ≡ before ++ (text e mark ++ rest) → length bytes - count ≡ length before → told ≡ tag (kind e) mark
+
+-- Scaffolding: the text of the entry goes over to a ring. Where it is of a step, the state y becomes that before the step, and the ring keeps the entry as well. The answer is its tag, and none where
 -- it is of an edit: then nothing changes.
 pub record TakesText (bytes : List ℕ) (taken : Option ℕ) (y z : State) (old new : EntryRing) : Type 0 where
   pub size : new.ring.size ≡ old.ring.size

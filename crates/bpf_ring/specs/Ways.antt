@@ -1,5 +1,5 @@
 -- Moves whose entries a ring holds, and what is left where the newest of them are taken back at once.
-use Rattle.std.specs.Prelude.{◌≡◌, ◌++◌, ◌-◌, ℕ, zero, suc, Bool, true, false, List, [], ◌∷◌, Some, None, length, drop, map}
+use Rattle.std.specs.Prelude.{◌≡◌, ◌≤◌, ◌++◌, ◌-◌, ℕ, zero, suc, Bool, true, false, List, [], ◌∷◌, Some, None, length, drop, map}
 use Rattle.std.specs.Option.{option_map}
 use Rattle.bpf_entries.specs.declared.entry.Entry.{Entry}
 use Rattle.bpf_entries.specs.Keeping.{Kept}
@@ -14,6 +14,7 @@ use Rattle.bpf_machine.specs.State.{State}
 use Rattle.bpf_ring.specs.declared.backward.Stays.{Stays}
 use Rattle.bpf_ring.specs.declared.backward.Stays.TheVariants.{Nothing, Depth, Memory}
 use Rattle.bpf_ring.specs.declared.counts.Counts.{Counts}
+use Rattle.bpf_ring.specs.declared.entries.EntryRing.{EntryRing}
 use Rattle.bpf_ring.specs.Blocks.{Content}
 use Rattle.bpf_ring.specs.Held.{IsHeld}
 
@@ -59,6 +60,14 @@ module _ (marks : List Bool) (stays : Stays) (z : State) (left other : List Kept
   HandsBack zero ws ls y = (z ≡ y) × left (map kept_by ws) × other ls
   HandsBack (suc n) [] ls y = ⊥
   HandsBack (suc n) (w ∷ ws) ls y = IsPlain marks stays (kept_by w) × HandsBack n ws (kept_by w ∷ ls) w.before
+
+-- So many moves, at most `most`, were taken back so, and their entries went over to another ring. The sizes stay.
+pub record HandsSteps (marks : List Bool) (stays : Stays) (most : ℕ) (y z : State) (old new other_old other_new : EntryRing) (n : ℕ) : Type 0 where
+  pub within : n ≤ most
+  pub size : (new.ring.size ≡ old.ring.size) × (other_new.ring.size ≡ other_old.ring.size)
+  pub fits : (length new.ring.bytes ≤ new.ring.size) × (length other_new.ring.bytes ≤ other_new.ring.size)
+  pub handed : (ws : List Made) (ls : List Kept) → IsHeld old.ring old.counts (map kept_by ws) → IsWay ws y
+      → HandsBack marks stays z (IsHeld new.ring new.counts) (λ ms. IsHeld other_old.ring other_old.counts ls → IsHeld other_new.ring other_new.counts ms) n ws ls y
 
 -- Scaffolding: bytes are the text of entries, which fit their fields.
 pub record HasText (bytes : List ℕ) (ks : List Kept) : Type 0 where

@@ -8,8 +8,7 @@ ghost use Rattle.bpf_entries.specs.Texts.{kind, text as text_of};
 ghost use Rattle.bpf_machine.specs.Moves.{HasComeBy, Leads, overwritten};
 ghost use Rattle.bpf_machine.specs.State.{State};
 ghost use Rattle.bpf_machine.specs.declared.moves.Move.{Move};
-ghost use Rattle.bpf_ring.specs.Held.{IsHeld};
-ghost use Rattle.bpf_ring.specs.Ways.{EndsPlain, EndsWay, HandsBack, HasLeft, HasText, HoldsWholeWay, IsPlain, IsWay, Made, kept_by};
+ghost use Rattle.bpf_ring.specs.Ways.{EndsPlain, EndsWay, HandsBack, HandsSteps, HasLeft, HasText, HoldsWholeWay, IsPlain, IsWay, Made, kept_by};
 
 use crate::block::copy;
 use crate::entries::{EntryRing, text_len};
@@ -53,16 +52,8 @@ impl EntryRing {
         stays: Stays,
     ) -> u64
         requires { HoldsWholeWay self.old.ring self.old.counts cpu.old }
-        ensures within { result ≤ most }
-        ensures size { (self.new.ring.size ≡ self.old.ring.size)
-            × (other.new.ring.size ≡ other.old.ring.size) }
-        ensures fits { (length self.new.ring.bytes ≤ self.new.ring.size)
-            × (length other.new.ring.bytes ≤ other.new.ring.size) }
-        ensures handed { (ws : List Made) (ls : List Kept) →
-            IsHeld self.old.ring self.old.counts (map kept_by ws) → IsWay ws cpu.old →
-            HandsBack marks.now stays cpu.new (IsHeld self.new.ring self.new.counts)
-            (λ ms. IsHeld other.old.ring other.old.counts ls →
-            IsHeld other.new.ring other.new.counts ms) result ws ls cpu.old }
+        ensures { HandsSteps marks.now stays most cpu.old cpu.new self.old self.new
+            other.old other.new result }
     {
         self.invariant();
         other.invariant();

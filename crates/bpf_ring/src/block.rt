@@ -1,12 +1,7 @@
 //! A block whose bytes go around its end.
-ghost use Rattle.std.specs.Prelude.{◌≡◌, ◌≤◌, ◌<◌, ◌+◌, ◌^◌, ◌++◌, length, nat_lt, take, true, false};
-ghost use Rattle.bpf_entries.specs.Fields.{FitsFields};
-ghost use Rattle.bpf_entries.specs.Status.{has_ended};
-ghost use Rattle.bpf_entries.specs.Texts.{text};
-ghost use Rattle.bpf_entries.specs.Weights.{greatest_weight, weight as weight_of};
-ghost use Rattle.bpf_machine.specs.Entries.{step_entry};
-ghost use Rattle.bpf_machine.specs.Next.{change as change_of, next};
+ghost use Rattle.std.specs.Prelude.{◌≡◌, ◌≤◌, ◌<◌, ◌+◌, ◌^◌, ◌++◌, length, take, true, false};
 ghost use Rattle.bpf_ring.specs.Blocks.{around, behind};
+ghost use Rattle.bpf_ring.specs.Recorded.{CanRecord, HasPlace, HasRoomAt, RecordsAt, RecordsIn, WritesIn};
 
 use bpf_machine::{Change, Cpu};
 use circular_buffer::HeapCircularBuffer;
@@ -56,9 +51,7 @@ pub(crate) fn place(size: usize, first: usize, n: usize) -> usize
 /// Writes bytes behind the `len` ones from `first` on, in one piece or in two.
 #[inline(always)]
 pub(crate) fn write_around(block: &mut [u8], first: usize, len: usize, bytes: &[u8])
-    requires short { length block.old < 2 ^ 63 }
-    requires first { first < length block.old }
-    requires fits { len + length bytes.now ≤ length block.old }
+    requires { HasPlace block.old first (len + length bytes.now) }
     ensures len { length block.new ≡ length block.old }
     ensures text { around block.new first (len + length bytes.now)
         ≡ around block.old first len ++ bytes.now }
@@ -78,16 +71,9 @@ pub(crate) fn write_around(block: &mut [u8], first: usize, len: usize, bytes: &[
 /// byte. Where that is no room for them, all stays.
 #[inline(always)]
 pub(crate) fn write_in_place(block: &mut [u8], first: usize, len: usize, bytes: &[u8]) -> bool
-    requires short { length block.old < 2 ^ 63 }
-    requires first { first < length block.old }
+    requires place { HasPlace block.old first len }
     requires fits { len + length bytes.now < 2 ^ 63 }
-    requires len { len ≤ length block.old }
-    ensures room { result ≡ nat_lt (behind (length block.old) first len + length bytes.now)
-        (length block.old) }
-    ensures stays { result ≡ false → block.new ≡ block.old }
-    ensures len { length block.new ≡ length block.old }
-    ensures text { result ≡ true → len + length bytes.now ≤ length block.old →
-        around block.new first (len + length bytes.now) ≡ around block.old first len ++ bytes.now }
+    ensures { WritesIn block.old block.new first len bytes.now result }
 {
     let size = block.len();
     let end = place(size, first, len);
@@ -127,22 +113,9 @@ pub(crate) fn record_in_place(
     weight: usize,
     mark: bool,
 ) -> bool
-    requires runs { has_ended cpu.old.status ≡ false }
-    requires looked { change.now ≡ change_of cpu.old }
-    requires entry { FitsFields (step_entry cpu.old) }
-    requires weight { weight ≡ weight_of (step_entry cpu.old) }
-    requires light { weight ≤ greatest_weight }
-    requires short { length block.old < 2 ^ 63 }
-    requires first { first < length block.old }
-    requires len { len ≤ length block.old }
-    ensures room { result ≡ nat_lt (behind (length block.old) first len + weight)
-        (length block.old) }
-    ensures stays { result ≡ false → (cpu.new ≡ cpu.old) × (block.new ≡ block.old) }
-    ensures next { result ≡ true → cpu.new ≡ next cpu.old }
-    ensures len { length block.new ≡ length block.old }
-    ensures text { result ≡ true → len + weight ≤ length block.old →
-        around block.new first (len + weight)
-        ≡ around block.old first len ++ text (step_entry cpu.old) mark }
+    requires can { CanRecord cpu.old change.now weight }
+    requires place { HasPlace block.old first len }
+    ensures { RecordsIn cpu.old cpu.new block.old block.new first len weight mark result }
 {
     let size = block.len();
     let end = place(size, first, len);
@@ -166,20 +139,9 @@ pub(crate) fn record_at(
     weight: usize,
     mark: bool,
 )
-    requires runs { has_ended cpu.old.status ≡ false }
-    requires looked { change.now ≡ change_of cpu.old }
-    requires entry { FitsFields (step_entry cpu.old) }
-    requires weight { weight ≡ weight_of (step_entry cpu.old) }
-    requires light { weight ≤ greatest_weight }
-    requires first { first < length block.old }
-    requires end { end ≡ behind (length block.old) first len }
-    requires room { end + weight < length block.old }
-    requires short { length block.old < 2 ^ 63 }
-    ensures next { cpu.new ≡ next cpu.old }
-    ensures len { length block.new ≡ length block.old }
-    ensures text { len + weight ≤ length block.old →
-        around block.new first (len + weight)
-        ≡ around block.old first len ++ text (step_entry cpu.old) mark }
+    requires can { CanRecord cpu.old change.now weight }
+    requires place { HasRoomAt block.old first len end weight }
+    ensures { RecordsAt cpu.old cpu.new block.old block.new first len weight mark }
 {
     cpu.record(change, &mut block[end..end + weight], mark);
 }

@@ -1,25 +1,23 @@
 //! The entries in a ring of bytes.
-ghost use Rattle.std.specs.Prelude.{◌≡◌, ◌≤◌, ◌<◌, ◌+◌, ◌-◌, ◌^◌, if◌then◌else◌, ◌∷◌, ◌++◌, [], List, length, sum_by, count_by, IfOk, IfSome, None, Some, slice_get, is_some, ℕ, true, false, drop};
+ghost use Rattle.std.specs.Prelude.{◌≡◌, ◌≤◌, ◌<◌, ◌+◌, ◌-◌, ◌^◌, if◌then◌else◌, ◌∷◌, ◌++◌, [], List, length, sum_by, count_by, IfOk, IfSome, None, Some, slice_get, ℕ, true, false, drop};
 ghost use Rattle.bpf_entries.specs.Before.{byte_before as byte_before_by, depth_before as depth_before_by};
 ghost use Rattle.bpf_entries.specs.Fields.{FitsFields};
 ghost use Rattle.bpf_entries.specs.Keeping.{Kept, kept_weight, fit, keep};
 ghost use Rattle.bpf_entries.specs.Past.{is_of_step as of_step, replaced};
 ghost use Rattle.bpf_entries.specs.Rings.{AllFit, ring as ring_of};
-ghost use Rattle.bpf_entries.specs.Texts.{kind, tag as tag_of, text as text_of};
+ghost use Rattle.bpf_entries.specs.Texts.{kind, text as text_of};
 ghost use Rattle.bpf_entries.specs.Weights.{greatest_weight, weight as weight_of};
 ghost use Rattle.bpf_entries.specs.Keeping.{IsSize};
 ghost use Rattle.bpf_entries.specs.Status.{has_ended};
-ghost use Rattle.bpf_machine.specs.Entries.{step_entry};
-ghost use Rattle.bpf_machine.specs.Moves.{HasComeBy, Leads, overwritten};
-ghost use Rattle.bpf_machine.specs.Next.{change as change_of, next};
-ghost use Rattle.bpf_machine.specs.State.{State};
-ghost use Rattle.bpf_machine.specs.declared.moves.Move.{Move};
-ghost use Rattle.bpf_machine.specs.declared.moves.Move.TheVariants as move_of;
+ghost use Rattle.bpf_machine.specs.Moves.{HasComeBy};
+ghost use Rattle.bpf_machine.specs.Next.{change as change_of};
 ghost use Rattle.bpf_ring.specs.Counted.{Counted};
 ghost use Rattle.bpf_ring.specs.Heads.{head_of};
+ghost use Rattle.bpf_ring.specs.Grown.{KeepsRun, MakesRoom, RecordsStep, TakesStep};
 ghost use Rattle.bpf_ring.specs.Held.{HoldsWay, IsHeld};
-ghost use Rattle.bpf_ring.specs.Runs.{RunsTo, Running, kept_after};
-ghost use Rattle.bpf_ring.specs.Taking.{TakesText};
+ghost use Rattle.bpf_ring.specs.Pieces.{RunsSingly};
+ghost use Rattle.bpf_ring.specs.Runs.{GoesOn};
+ghost use Rattle.bpf_ring.specs.Taking.{HandsOver, TakesBack, TakesText};
 
 use crate::counts::{Counts, within};
 use crate::pieces::{BYTES, Pieced};
@@ -296,15 +294,7 @@ impl EntryRing {
     #[inline(always)]
     pub fn take_back(&mut self, cpu: &mut Cpu) -> Option<u8>
         requires { HoldsWay self.old.ring self.old.counts cpu.old }
-        ensures size { self.new.ring.size ≡ self.old.ring.size }
-        ensures fits { length self.new.ring.bytes ≤ self.new.ring.size }
-        ensures none { IsHeld self.old.ring self.old.counts [] → (result ≡ None)
-            × (cpu.new ≡ cpu.old) × IsHeld self.new.ring self.new.counts [] }
-        ensures some { (ks : List Kept) (k : Kept) → IsHeld self.old.ring self.old.counts (k ∷ ks) →
-            (result ≡ Some (tag_of (kind k.0) k.1)) × IsHeld self.new.ring self.new.counts ks }
-        ensures back { (ks : List Kept) (k : Kept) (x : State) (m : Move) →
-            IsHeld self.old.ring self.old.counts (k ∷ ks) → Leads x m cpu.old →
-            overwritten x m ≡ k.0 → cpu.new ≡ x }
+        ensures { TakesBack cpu.old cpu.new self.old self.new result }
     {
         let len = self.ring.len();
         if len < 5 {
@@ -325,25 +315,7 @@ impl EntryRing {
     #[inline(always)]
     pub fn hand_back(&mut self, cpu: &mut Cpu, other: &mut EntryRing) -> Option<u8>
         requires { HoldsWay self.old.ring self.old.counts cpu.old }
-        ensures size { (self.new.ring.size ≡ self.old.ring.size)
-            × (other.new.ring.size ≡ other.old.ring.size) }
-        ensures fits { (length self.new.ring.bytes ≤ self.new.ring.size)
-            × (length other.new.ring.bytes ≤ other.new.ring.size) }
-        ensures none { IsHeld self.old.ring self.old.counts [] → result ≡ None }
-        ensures edit { (ks : List Kept) (k : Kept) → IsHeld self.old.ring self.old.counts (k ∷ ks) →
-            of_step k.0 ≡ false → result ≡ None }
-        ensures stays { result ≡ None → (self.new ≡ self.old) × (cpu.new ≡ cpu.old)
-            × (other.new ≡ other.old) }
-        ensures some { (ks : List Kept) (k : Kept) → IsHeld self.old.ring self.old.counts (k ∷ ks) →
-            of_step k.0 ≡ true →
-            (result ≡ Some (tag_of (kind k.0) k.1)) × IsHeld self.new.ring self.new.counts ks }
-        ensures back { (ks : List Kept) (k : Kept) (x : State) (m : Move) →
-            IsHeld self.old.ring self.old.counts (k ∷ ks) → of_step k.0 ≡ true → Leads x m cpu.old →
-            overwritten x m ≡ k.0 → cpu.new ≡ x }
-        ensures handed { (ks ls : List Kept) (k : Kept) →
-            IsHeld self.old.ring self.old.counts (k ∷ ks) → of_step k.0 ≡ true →
-            IsHeld other.old.ring other.old.counts ls →
-            IsHeld other.new.ring other.new.counts (keep kept_weight other.old.ring.size ls k) }
+        ensures { HandsOver cpu.old cpu.new self.old self.new other.old other.new result }
     {
         self.invariant();
         other.invariant();
@@ -368,25 +340,7 @@ impl EntryRing {
     #[inline(never)]
     fn hand_back_apart(&mut self, cpu: &mut Cpu, other: &mut EntryRing) -> Option<u8>
         requires { HoldsWay self.old.ring self.old.counts cpu.old }
-        ensures size { (self.new.ring.size ≡ self.old.ring.size)
-            × (other.new.ring.size ≡ other.old.ring.size) }
-        ensures fits { (length self.new.ring.bytes ≤ self.new.ring.size)
-            × (length other.new.ring.bytes ≤ other.new.ring.size) }
-        ensures none { IsHeld self.old.ring self.old.counts [] → result ≡ None }
-        ensures edit { (ks : List Kept) (k : Kept) → IsHeld self.old.ring self.old.counts (k ∷ ks) →
-            of_step k.0 ≡ false → result ≡ None }
-        ensures stays { result ≡ None → (self.new ≡ self.old) × (cpu.new ≡ cpu.old)
-            × (other.new ≡ other.old) }
-        ensures some { (ks : List Kept) (k : Kept) → IsHeld self.old.ring self.old.counts (k ∷ ks) →
-            of_step k.0 ≡ true →
-            (result ≡ Some (tag_of (kind k.0) k.1)) × IsHeld self.new.ring self.new.counts ks }
-        ensures back { (ks : List Kept) (k : Kept) (x : State) (m : Move) →
-            IsHeld self.old.ring self.old.counts (k ∷ ks) → of_step k.0 ≡ true → Leads x m cpu.old →
-            overwritten x m ≡ k.0 → cpu.new ≡ x }
-        ensures handed { (ks ls : List Kept) (k : Kept) →
-            IsHeld self.old.ring self.old.counts (k ∷ ks) → of_step k.0 ≡ true →
-            IsHeld other.old.ring other.old.counts ls →
-            IsHeld other.new.ring other.new.counts (keep kept_weight other.old.ring.size ls k) }
+        ensures { HandsOver cpu.old cpu.new self.old self.new other.old other.new result }
     {
         self.invariant();
         other.invariant();
@@ -505,11 +459,7 @@ impl EntryRing {
     #[inline(always)]
     pub(crate) fn make_room(&mut self, room: usize)
         requires { room ≤ 1008 }
-        ensures size { self.new.ring.size ≡ self.old.ring.size }
-        ensures sized { IsSize self.new.ring.size }
-        ensures within { length self.new.ring.bytes + room ≤ self.new.ring.size }
-        ensures held { (ks : List Kept) → IsHeld self.old.ring self.old.counts ks →
-            IsHeld self.new.ring self.new.counts (fit kept_weight (self.old.ring.size - room) ks) }
+        ensures { MakesRoom self.old self.new room }
     {
         let most = self.ring.size() - room;
         while self.ring.len() > most {
@@ -543,12 +493,7 @@ impl EntryRing {
     pub fn record(&mut self, cpu: &mut Cpu, change: &Change, mark: bool)
         requires runs { has_ended cpu.old.status ≡ false }
         requires looked { change.now ≡ change_of cpu.old }
-        ensures next { cpu.new ≡ next cpu.old }
-        ensures size { self.new.ring.size ≡ self.old.ring.size }
-        ensures fits { length self.new.ring.bytes ≤ self.new.ring.size }
-        ensures held { (ks : List Kept) → IsHeld self.old.ring self.old.counts ks →
-            IsHeld self.new.ring self.new.counts
-            (keep kept_weight self.old.ring.size ks (step_entry cpu.old, mark)) }
+        ensures { RecordsStep cpu.old cpu.new self.old self.new mark }
     {
         // The arms are alike. Each is built for its kind of change, whose weight and fields are
         // known in it.
@@ -564,12 +509,7 @@ impl EntryRing {
     fn record_change(&mut self, cpu: &mut Cpu, change: &Change, mark: bool)
         requires runs { has_ended cpu.old.status ≡ false }
         requires looked { change.now ≡ change_of cpu.old }
-        ensures next { cpu.new ≡ next cpu.old }
-        ensures size { self.new.ring.size ≡ self.old.ring.size }
-        ensures fits { length self.new.ring.bytes ≤ self.new.ring.size }
-        ensures held { (ks : List Kept) → IsHeld self.old.ring self.old.counts ks →
-            IsHeld self.new.ring self.new.counts
-            (keep kept_weight self.old.ring.size ks (step_entry cpu.old, mark)) }
+        ensures { RecordsStep cpu.old cpu.new self.old self.new mark }
     {
         cpu.invariant();
         entries_fit();
@@ -586,11 +526,7 @@ impl EntryRing {
     pub fn run<T: StopTest>(&mut self, cpu: &mut Cpu, most: u64, test: &T) -> u64
         requires runs { has_ended cpu.old.status ≡ false }
         requires some { 1 ≤ most }
-        ensures to { RunsTo (T.test test.now) most cpu.old cpu.new result }
-        ensures size { self.new.ring.size ≡ self.old.ring.size }
-        ensures fits { length self.new.ring.bytes ≤ self.new.ring.size }
-        ensures held { (ks : List Kept) → IsHeld self.old.ring self.old.counts ks →
-            IsHeld self.new.ring self.new.counts (kept_after self.old.ring.size result cpu.old ks) }
+        ensures { KeepsRun (T.test test.now) most cpu.old cpu.new self.old self.new result }
     {
         if self.step(cpu, true, test) {
             self.invariant();
@@ -627,21 +563,10 @@ impl EntryRing {
         most: u64,
         test: &T,
     ) -> Pieced
-        requires runs { has_ended cpu.old.status ≡ false }
-        requires some { 1 ≤ taken }
+        requires goes { GoesOn cpu.old taken }
         requires few { (1 ≤ steps) × (steps ≤ 256) }
         requires most { taken < most }
-        ensures size { self.new.ring.size ≡ self.old.ring.size }
-        ensures on { (result.is_over ≡ false → taken < result.taken) × (result.taken ≤ most) }
-        ensures runs { result.is_over ≡ false → has_ended cpu.new.status ≡ false }
-        ensures goes_on { (x : State) → Running (T.test test.now) x cpu.old taken →
-            result.is_over ≡ false → Running (T.test test.now) x cpu.new result.taken }
-        ensures over { (x : State) → Running (T.test test.now) x cpu.old taken →
-            result.is_over ≡ true → RunsTo (T.test test.now) most x cpu.new result.taken }
-        ensures held { (x : State) (ks : List Kept) → Running (T.test test.now) x cpu.old taken →
-            IsHeld self.old.ring self.old.counts (kept_after self.old.ring.size taken x ks) →
-            IsHeld self.new.ring self.new.counts
-            (kept_after self.old.ring.size result.taken x ks) }
+        ensures { RunsSingly (T.test test.now) most taken cpu.old cpu.new self.old self.new result }
     {
         let until = (most - taken).min(steps) + taken;
         let mut reached = taken;
@@ -669,21 +594,10 @@ impl EntryRing {
         most: u64,
         test: &T,
     ) -> Pieced
-        requires runs { has_ended cpu.old.status ≡ false }
-        requires some { 1 ≤ taken }
+        requires goes { GoesOn cpu.old taken }
         requires few { (1 ≤ steps) × (steps ≤ 256) }
         requires most { taken < most }
-        ensures size { self.new.ring.size ≡ self.old.ring.size }
-        ensures on { (result.is_over ≡ false → taken < result.taken) × (result.taken ≤ most) }
-        ensures runs { result.is_over ≡ false → has_ended cpu.new.status ≡ false }
-        ensures goes_on { (x : State) → Running (T.test test.now) x cpu.old taken →
-            result.is_over ≡ false → Running (T.test test.now) x cpu.new result.taken }
-        ensures over { (x : State) → Running (T.test test.now) x cpu.old taken →
-            result.is_over ≡ true → RunsTo (T.test test.now) most x cpu.new result.taken }
-        ensures held { (x : State) (ks : List Kept) → Running (T.test test.now) x cpu.old taken →
-            IsHeld self.old.ring self.old.counts (kept_after self.old.ring.size taken x ks) →
-            IsHeld self.new.ring self.new.counts
-            (kept_after self.old.ring.size result.taken x ks) }
+        ensures { RunsSingly (T.test test.now) most taken cpu.old cpu.new self.old self.new result }
     {
         let until = (most - taken).min(steps) + taken;
         let reached = self.ring.run(cpu, self.counts, taken, until, most, test);
@@ -715,14 +629,7 @@ impl EntryRing {
     #[inline(never)]
     fn step<T: StopTest>(&mut self, cpu: &mut Cpu, mark: bool, test: &T) -> bool
         requires runs { has_ended cpu.old.status ≡ false }
-        ensures leads { Leads cpu.old move_of.Step cpu.new }
-        ensures stops { result ≡
-            (if has_ended cpu.new.status then true else T.test test.now
-            (is_some (replaced 0 (step_entry cpu.old))) cpu.new) }
-        ensures size { self.new.ring.size ≡ self.old.ring.size }
-        ensures held { (ks : List Kept) → IsHeld self.old.ring self.old.counts ks →
-            IsHeld self.new.ring self.new.counts
-            (keep kept_weight self.old.ring.size ks (step_entry cpu.old, mark)) }
+        ensures { TakesStep (T.test test.now) cpu.old cpu.new self.old self.new mark result }
     {
         let change = match cpu.look() {
             Ok(change) => change,

@@ -6,10 +6,11 @@ ghost use Rattle.bpf_entries.specs.Keeping.{Kept};
 ghost use Rattle.bpf_entries.specs.Rings.{AllFit, ring as ring_of};
 ghost use Rattle.bpf_entries.specs.Status.{has_ended};
 ghost use Rattle.bpf_machine.specs.State.{State};
+ghost use Rattle.bpf_ring.specs.Grown.{KeepsSteps};
 ghost use Rattle.bpf_ring.specs.Held.{IsHeld};
 ghost use Rattle.bpf_ring.specs.Left.{Left};
-ghost use Rattle.bpf_ring.specs.Pieces.{IsPiece, entries_of};
-ghost use Rattle.bpf_ring.specs.Runs.{AreSteps, Overlooks, RunsTo, Running, Spares, kept_after, kept_on, state_after};
+ghost use Rattle.bpf_ring.specs.Pieces.{KeepsPiece, RunsByPieces, entries_of};
+ghost use Rattle.bpf_ring.specs.Runs.{GoesOn};
 
 use crate::entries::EntryRing;
 use crate::run::StopTest;
@@ -44,23 +45,11 @@ impl EntryRing {
         test: &T,
         room: &mut [u8],
     ) -> Pieced
-        requires runs { has_ended cpu.old.status ≡ false }
-        requires some { 1 ≤ taken }
+        requires goes { GoesOn cpu.old taken }
         requires most { taken ≤ most }
         requires room { length room.old ≡ 1008 }
-        ensures size { self.new.ring.size ≡ self.old.ring.size }
-        ensures on { (taken ≤ result.taken) × (result.taken ≤ most) }
-        ensures before { result.is_over ≡ false → result.taken < most }
-        ensures runs { result.is_over ≡ false → has_ended cpu.new.status ≡ false }
-        ensures goes_on { (x : State) → Running (T.test test.now) x cpu.old taken →
-            result.is_over ≡ false → Running (T.test test.now) x cpu.new result.taken }
-        ensures over { (x : State) → Running (T.test test.now) x cpu.old taken →
-            result.is_over ≡ true → RunsTo (T.test test.now) most x cpu.new result.taken }
-        ensures held { (x : State) (ks : List Kept) → cpu.old ≡ state_after taken x →
-            IsHeld self.old.ring self.old.counts (kept_after self.old.ring.size taken x ks) →
-            IsHeld self.new.ring self.new.counts
-            (kept_after self.old.ring.size result.taken x ks) }
-        ensures room { length room.new ≡ 1008 }
+        ensures { RunsByPieces (T.test test.now) most taken cpu.old cpu.new self.old self.new
+            room.new result }
     {
         let mut reached = taken;
         while reached < most {
@@ -100,13 +89,8 @@ impl EntryRing {
         requires runs { has_ended cpu.old.status ≡ false }
         requires few { most ≤ 42 }
         requires room { length room.old ≡ 1008 }
-        ensures piece { IsPiece (T.test test.now) cpu.old cpu.new result }
-        ensures within { result ≤ most }
-        ensures size { self.new.ring.size ≡ self.old.ring.size }
-        ensures held { (ks : List Kept) → IsHeld self.old.ring self.old.counts ks →
-            IsHeld self.new.ring self.new.counts
-            (kept_on self.old.ring.size result cpu.old ks) }
-        ensures room { length room.new ≡ 1008 }
+        ensures { KeepsPiece (T.test test.now) most cpu.old cpu.new self.old self.new room.new
+            result }
     {
         entries_fit();
         self.invariant();
@@ -136,14 +120,7 @@ impl EntryRing {
     /// that is none of the common ones, or behind one that leads to a slot that `marks` has, by the
     /// slot's remainder. Answers how many, maybe none. It takes no memory.
     pub fn repeat(&mut self, cpu: &mut Cpu, most: u64, marks: &[bool; 8192]) -> u64
-        ensures state { cpu.new ≡ state_after result cpu.old }
-        ensures steps { AreSteps cpu.old result }
-        ensures within { result ≤ most }
-        ensures size { self.new.ring.size ≡ self.old.ring.size }
-        ensures fits { length self.new.ring.bytes ≤ self.new.ring.size }
-        ensures held { (ks : List Kept) → IsHeld self.old.ring self.old.counts ks →
-            IsHeld self.new.ring self.new.counts
-            (kept_on self.old.ring.size result cpu.old ks) }
+        ensures { KeepsSteps most cpu.old cpu.new self.old self.new result }
     {
         if cpu.status().has_ended() {
             self.invariant();

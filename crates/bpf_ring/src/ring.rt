@@ -1,22 +1,21 @@
 //! A ring of bytes.
-ghost use Rattle.std.specs.Prelude.{◌≡◌, ◌≤◌, ◌<◌, ◌+◌, ◌-◌, ◌^◌, ◌++◌, ◌∷◌, [], length, take, drop, slice_get, ℕ, Bool, List, IfOk, true, false, IfSome, map};
+ghost use Rattle.std.specs.Prelude.{◌≡◌, ◌≤◌, ◌<◌, ◌+◌, ◌-◌, ◌^◌, ◌++◌, ◌∷◌, [], length, take, drop, slice_get, ℕ, Bool, List, IfOk, IfSome, map};
 ghost use Rattle.byteorder.specs.Endian.{little_bytes};
 ghost use Rattle.bpf_entries.specs.declared.entry.Entry.{Entry};
 ghost use Rattle.bpf_entries.specs.Before.{byte_before as byte_before_by, depth_before as depth_before_by};
 ghost use Rattle.bpf_entries.specs.Fields.{FitsFields};
-ghost use Rattle.bpf_entries.specs.Status.{has_ended};
 ghost use Rattle.bpf_entries.specs.Texts.{kind, tag, text};
-ghost use Rattle.bpf_entries.specs.Weights.{greatest_weight, weight as weight_of};
-ghost use Rattle.bpf_machine.specs.Entries.{step_entry};
+ghost use Rattle.bpf_entries.specs.Weights.{greatest_weight};
 ghost use Rattle.bpf_machine.specs.Moves.{HasComeBy, Leads, overwritten};
-ghost use Rattle.bpf_machine.specs.Next.{change as change_of, next};
 ghost use Rattle.bpf_machine.specs.State.{State};
 ghost use Rattle.bpf_machine.specs.declared.moves.Move.{Move};
 ghost use Rattle.bpf_entries.specs.Keeping.{IsSize, Kept};
 ghost use Rattle.bpf_ring.specs.Held.{IsHeld};
 ghost use Rattle.bpf_ring.specs.Left.{Left};
-ghost use Rattle.bpf_ring.specs.Runs.{RunsTo, Running, kept_after, state_after};
-ghost use Rattle.bpf_ring.specs.Spans.{counts_of};
+ghost use Rattle.bpf_ring.specs.Recorded.{CanRecord, Records};
+ghost use Rattle.bpf_ring.specs.Runs.{GoesOn};
+ghost use Rattle.bpf_ring.specs.Spans.{RunsInRing};
+ghost use Rattle.bpf_ring.specs.Taking.{Reverts};
 ghost use Rattle.bpf_ring.specs.Ways.{EndsWay, HandsBack, HasText, IsWay, Made, kept_by};
 
 use crate::backward::{Handed, Stays, hand_texts};
@@ -161,15 +160,9 @@ impl Ring {
     /// many bytes and for which there must be room. It takes no memory.
     #[inline(always)]
     pub fn record(&mut self, cpu: &mut Cpu, change: &Change, weight: usize, mark: bool)
-        requires runs { has_ended cpu.old.status ≡ false }
-        requires looked { change.now ≡ change_of cpu.old }
-        requires entry { FitsFields (step_entry cpu.old) }
-        requires weight { weight ≡ weight_of (step_entry cpu.old) }
-        requires light { weight ≤ greatest_weight }
+        requires can { CanRecord cpu.old change.now weight }
         requires room { length self.old.bytes + weight ≤ self.old.size }
-        ensures next { cpu.new ≡ next cpu.old }
-        ensures size { self.new.size ≡ self.old.size }
-        ensures bytes { self.new.bytes ≡ self.old.bytes ++ text (step_entry cpu.old) mark }
+        ensures { Records cpu.old cpu.new self.old self.new mark }
     {
         let block = self.buffer.make_contiguous();
         if record_in_place(cpu, change, block, self.first, self.len, weight, mark) {
@@ -192,20 +185,10 @@ impl Ring {
         most: u64,
         test: &T,
     ) -> Reached
-        requires runs { has_ended cpu.old.status ≡ false }
-        requires some { 1 ≤ taken }
+        requires goes { GoesOn cpu.old taken }
         requires most { (taken ≤ pause) × (pause ≤ most) }
-        ensures size { self.new.size ≡ self.old.size }
-        ensures on { (taken ≤ result.taken) × (result.taken ≤ most) }
-        ensures runs { result.is_over ≡ false → has_ended cpu.new.status ≡ false }
-        ensures goes_on { (x : State) → Running (T.test test.now) x cpu.old taken →
-            result.is_over ≡ false → Running (T.test test.now) x cpu.new result.taken }
-        ensures over { (x : State) → Running (T.test test.now) x cpu.old taken →
-            result.is_over ≡ true → RunsTo (T.test test.now) most x cpu.new result.taken }
-        ensures held { (x : State) (ks : List Kept) → cpu.old ≡ state_after taken x →
-            IsHeld self.old counts (kept_after self.old.size taken x ks) →
-            IsHeld self.new (counts_of counts result.span)
-            (kept_after self.old.size result.taken x ks) }
+        ensures { RunsInRing (T.test test.now) most taken cpu.old cpu.new self.old self.new counts
+            result }
     {
         let size = self.buffer.capacity();
         let span = Span {
@@ -247,15 +230,9 @@ impl Ring {
     /// Makes a change and keeps its entry, as `record` does, by way of a copy of the entry.
     #[inline(never)]
     fn record_apart(&mut self, cpu: &mut Cpu, change: Change, weight: usize, mark: bool)
-        requires runs { has_ended cpu.old.status ≡ false }
-        requires looked { change ≡ change_of cpu.old }
-        requires entry { FitsFields (step_entry cpu.old) }
-        requires weight { weight ≡ weight_of (step_entry cpu.old) }
-        requires light { weight ≤ greatest_weight }
+        requires can { CanRecord cpu.old change weight }
         requires room { length self.old.bytes + weight ≤ self.old.size }
-        ensures next { cpu.new ≡ next cpu.old }
-        ensures size { self.new.size ≡ self.old.size }
-        ensures bytes { self.new.bytes ≡ self.old.bytes ++ text (step_entry cpu.old) mark }
+        ensures { Records cpu.old cpu.new self.old self.new mark }
     {
         let mut scratch = [0u8; GREATEST];
         cpu.record(&change, &mut scratch, mark);
@@ -270,13 +247,7 @@ impl Ring {
         requires held { count ≤ length self.now.bytes }
         requires light { count ≤ greatest_weight }
         requires come { HasComeBy cpu.old (drop (length self.now.bytes - count) self.now.bytes) }
-        ensures back { (x : State) (m : Move) (mark : Bool) → Leads x m cpu.old →
-            FitsFields (overwritten x m) →
-            drop (length self.now.bytes - count) self.now.bytes ≡ text (overwritten x m) mark →
-            cpu.new ≡ x }
-        ensures tag { (e : Entry) (mark : Bool) (before rest : List ℕ) →
-            self.now.bytes ≡ before ++ (text e mark ++ rest) →
-            length self.now.bytes - count ≡ length before → result ≡ tag (kind e) mark }
+        ensures { Reverts self.now.bytes count cpu.old cpu.new result }
     {
         match self.newest_piece(count) {
             Some(piece) => revert(cpu, piece),
@@ -290,13 +261,7 @@ impl Ring {
         requires held { count ≤ length self.now.bytes }
         requires light { count ≤ greatest_weight }
         requires come { HasComeBy cpu.old (drop (length self.now.bytes - count) self.now.bytes) }
-        ensures back { (x : State) (m : Move) (mark : Bool) → Leads x m cpu.old →
-            FitsFields (overwritten x m) →
-            drop (length self.now.bytes - count) self.now.bytes ≡ text (overwritten x m) mark →
-            cpu.new ≡ x }
-        ensures tag { (e : Entry) (mark : Bool) (before rest : List ℕ) →
-            self.now.bytes ≡ before ++ (text e mark ++ rest) →
-            length self.now.bytes - count ≡ length before → result ≡ tag (kind e) mark }
+        ensures { Reverts self.now.bytes count cpu.old cpu.new result }
     {
         let mut scratch = [0u8; GREATEST];
         self.copy_newest(count, &mut scratch);

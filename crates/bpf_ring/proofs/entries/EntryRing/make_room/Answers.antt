@@ -15,10 +15,18 @@ loop-self-preserved c =
           (omega (arith, c.len.ensures.value, c.loop-self-test.true)) c.drop_oldest.ensures.held (c.loop-self.invariant.left ks held);
     }
 
-pub returns-clause-held : goal.returns-clause-held
-returns-clause-held c = λ ks held.
+pub returns : goal.returns
+returns c =
     let now = c.loop-self.self in
-    let at : c.size.result - c.args.room ≡ c.args.self.now.ring.size - c.args.room = ap (λ n. n - c.args.room) c.size.ensures.value in
-    subst (λ n. IsHeld now.ring now.counts (fit kept_weight n ks)) at
-    (left_all now.ring now.counts (c.size.result - c.args.room) ks
-    (omega (arith, c.len.ensures.value, c.loop-self-test.false)) (c.loop-self.invariant.left ks held))
+    let was = c.size.ensures in
+    let size = c.loop-self.invariant.size in
+    record {
+      size = size;
+      sized = (omega (arith, size, was.value, was.sized.0), omega (arith, size, was.value, was.sized.1));
+      within = omega (arith, size, was.value, was.sized.0, c.requires, c.len.ensures.value, c.loop-self-test.false);
+      held = λ ks held.
+          let at : c.size.result - c.args.room ≡ c.args.self.now.ring.size - c.args.room = ap (λ n. n - c.args.room) was.value in
+          subst (λ n. IsHeld now.ring now.counts (fit kept_weight n ks)) at
+          (left_all now.ring now.counts (c.size.result - c.args.room) ks
+          (omega (arith, c.len.ensures.value, c.loop-self-test.false)) (c.loop-self.invariant.left ks held));
+    }

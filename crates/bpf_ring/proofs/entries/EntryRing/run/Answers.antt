@@ -3,9 +3,15 @@ use Rattle.bpf_entries.specs.Status.{has_ended}
 use Rattle.bpf_ring.proofs.Runs.{run_stops, running_first, running_more, runs_on}
 use Rattle.bpf_ring.proofs.entries.EntryRing.run.Goals as goal
 
-pub returns-then-step-clause-to : goal.returns-then-step-clause-to
-returns-then-step-clause-to g c =
-    run_stops (g.T.StopTest.test c.args.test.now) c.args.most 0 c.args.cpu.now c.args.cpu.now c.step.new.cpu (running_first (g.T.StopTest.test c.args.test.now) c.args.cpu.now) c.step.ensures.leads (omega (arith, c.requires.some)) (sym c.if-step.true ∙ c.step.ensures.stops)
+pub returns-then-step : goal.returns-then-step
+returns-then-step g c =
+    let test = g.T.StopTest.test c.args.test.now in
+    record {
+      to = run_stops test c.args.most 0 c.args.cpu.now c.args.cpu.now c.step.new.cpu (running_first test c.args.cpu.now) c.step.ensures.leads (omega (arith, c.requires.some)) (sym c.if-step.true ∙ c.step.ensures.stops);
+      size = c.step.ensures.size;
+      fits = c.invariant.ensures.within;
+      held = c.step.ensures.held;
+    }
 
 pub loop-taken-init : goal.loop-taken-init
 loop-taken-init g c =

@@ -17,20 +17,22 @@ revert_newest-tag-requires-clause-come c =
     (came_by now.ring now.counts c.newest_len.result c.within-weight.result c.args.cpu.now c.requires (omega (arith, c.if-len-lt5.false, c.len-len.ensures.value)) c.newest_len.ensures
     (λ a b. c.within-weight.ensures.same a (subst (λ n. c.newest_len.result ≤ n) (sym c.len-len.ensures.value) b))).come
 
-pub returns-clause-some : goal.returns-clause-some
-returns-clause-some c = λ ks k held.
+pub returns : goal.returns
+returns c =
     let now = c.args.self.now in
     let same = λ (a : 1 ≤ c.newest_len.result) (b : c.newest_len.result ≤ length now.ring.bytes). c.within-weight.ensures.same a (subst (λ n. c.newest_len.result ≤ n) (sym c.len-len.ensures.value) b) in
-    let tags : TagAt now.ring (length now.ring.bytes - c.within-weight.result) c.revert_newest-tag.result = c.revert_newest-tag.ensures.tag in (
-      ap Some (newest_tag now.ring now.counts c.newest_len.result c.within-weight.result c.revert_newest-tag.result ks k held c.newest_len.ensures same tags),
-      popped now.ring c.drop_newest.new.self now.counts c.subtract.new.self c.newest_len.result c.within-weight.result c.revert_newest-tag.result ks k held c.newest_len.ensures same tags
-          c.drop_newest.ensures.bytes c.subtract.ensures.newest,
-    )
-
-pub returns-clause-back : goal.returns-clause-back
-returns-clause-back c = λ ks k x m held leads is.
-    let now = c.args.self.now in
-    let same = λ (a : 1 ≤ c.newest_len.result) (b : c.newest_len.result ≤ length now.ring.bytes). c.within-weight.ensures.same a (subst (λ n. c.newest_len.result ≤ n) (sym c.len-len.ensures.value) b) in
-    let told = newest_text now.ring now.counts c.newest_len.result c.within-weight.result ks k _ held c.newest_len.ensures same refl in
-    let fits = subst FitsFields (sym is) (All-head (λ k. FitsFields k.0) k ks held.fit) in
-    c.revert_newest-tag.ensures.back x m k.1 leads fits (told.1 ∙ ap (λ e. text e k.1) (sym is))
+    let tags : TagAt now.ring (length now.ring.bytes - c.within-weight.result) c.revert_newest-tag.result = c.revert_newest-tag.ensures.tag in
+    record {
+      size = c.drop_newest.ensures.size;
+      fits = c.invariant.ensures.within;
+      none = λ held. absurd (omega (arith, ap length held.bytes, c.if-len-lt5.false, c.len-len.ensures.value));
+      some = λ ks k held. (
+        ap Some (newest_tag now.ring now.counts c.newest_len.result c.within-weight.result c.revert_newest-tag.result ks k held c.newest_len.ensures same tags),
+        popped now.ring c.drop_newest.new.self now.counts c.subtract.new.self c.newest_len.result c.within-weight.result c.revert_newest-tag.result ks k held c.newest_len.ensures same tags
+            c.drop_newest.ensures.bytes c.subtract.ensures.newest,
+      );
+      back = λ ks k x m held leads is.
+          let told = newest_text now.ring now.counts c.newest_len.result c.within-weight.result ks k _ held c.newest_len.ensures same refl in
+          let fits = subst FitsFields (sym is) (All-head (λ k. FitsFields k.0) k ks held.fit) in
+          c.revert_newest-tag.ensures.back x m k.1 leads fits (told.1 ∙ ap (λ e. text e k.1) (sym is));
+    }

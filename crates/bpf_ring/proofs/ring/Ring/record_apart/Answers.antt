@@ -5,11 +5,15 @@ use Rattle.bpf_entries.proofs.Texts.{length-text}
 use Rattle.bpf_machine.specs.Entries.{step_entry}
 use Rattle.bpf_ring.proofs.ring.Ring.record_apart.Goals as goal
 
-pub returns-clause-bytes : goal.returns-clause-bytes
-returns-clause-bytes c =
+pub returns : goal.returns
+returns c =
     let entry = step_entry c.args.cpu.now in
     let w = c.args.weight in
     let m = c.args.mark in
-    let count : length (text entry m) ≡ w = length-text entry m c.requires.entry ∙ sym c.requires.weight in
+    let count : length (text entry m) ≡ w = length-text entry m c.requires.can.entry ∙ sym c.requires.can.weight in
     let written : take w c.record.new.room ≡ text entry m = ap (take w) c.record.ensures.text ∙ take_at (text entry m) _ w count in
-    c.push_apart.ensures.bytes ∙ ap (λ t. c.args.self.now.bytes ++ t) written
+    record {
+      next = c.record.ensures.next;
+      size = c.push_apart.ensures.size;
+      bytes = c.push_apart.ensures.bytes ∙ ap (λ t. c.args.self.now.bytes ++ t) written;
+    }

@@ -1,0 +1,59 @@
+-- Scaffolding: what is asked of a step that is recorded, and where its entry goes.
+use Rattle.std.specs.Prelude.{◌≡◌, ◌≤◌, ◌<◌, ◌+◌, ◌^◌, ◌++◌, ℕ, Bool, true, false, List, length, nat_lt}
+use Rattle.bpf_entries.specs.Fields.{FitsFields}
+use Rattle.bpf_entries.specs.Status.{has_ended}
+use Rattle.bpf_entries.specs.Texts.{text}
+use Rattle.bpf_entries.specs.Weights.{greatest_weight, weight as weight_of}
+use Rattle.bpf_machine.specs.Entries.{step_entry}
+use Rattle.bpf_machine.specs.Next.{change, next}
+use Rattle.bpf_machine.specs.State.{State}
+use Rattle.bpf_machine.specs.declared.change.Change.{Change}
+use Rattle.bpf_ring.specs.Blocks.{Content, around, behind}
+
+-- A machine runs, this is what `look` answers of it, and the step's entry has so many bytes.
+pub record CanRecord (x : State) (looked_at : Change) (count : ℕ) : Type 0 where
+  pub runs : has_ended x.status ≡ false
+  pub looked : looked_at ≡ change x
+  pub entry : FitsFields (step_entry x)
+  pub weight : count ≡ weight_of (step_entry x)
+  pub light : count ≤ greatest_weight
+
+-- The step was taken, and its entry appended.
+pub record Records (x y : State) (old new : Content) (mark : Bool) : Type 0 where
+  pub next : y ≡ next x
+  pub size : new.size ≡ old.size
+  pub bytes : new.bytes ≡ old.bytes ++ text (step_entry x) mark
+
+-- So many bytes of a block from a place on.
+pub record HasPlace (block : List ℕ) (from count : ℕ) : Type 0 where
+  pub short : length block < 2 ^ 63
+  pub first : from < length block
+  pub len : count ≤ length block
+
+-- They end in front of a place, and from there on there is room for n more, in one piece, in front of the block's last byte.
+pub record HasRoomAt (block : List ℕ) (from count to n : ℕ) : Type 0 where
+  pub first : from < length block
+  pub end : to ≡ behind (length block) from count
+  pub room : to + n < length block
+  pub short : length block < 2 ^ 63
+
+-- Bytes were written behind them, unless that is no room for them in front of the block's last byte: then all stays.
+pub record WritesIn (old new : List ℕ) (from count : ℕ) (bytes : List ℕ) (done : Bool) : Type 0 where
+  pub room : done ≡ nat_lt (behind (length old) from count + length bytes) (length old)
+  pub stays : done ≡ false → new ≡ old
+  pub len : length new ≡ length old
+  pub text : done ≡ true → count + length bytes ≤ length old → around new from (count + length bytes) ≡ around old from count ++ bytes
+
+-- The step was taken, and its entry, of n bytes, written behind them.
+pub record RecordsAt (x y : State) (old new : List ℕ) (from count n : ℕ) (mark : Bool) : Type 0 where
+  pub next : y ≡ next x
+  pub len : length new ≡ length old
+  pub text : count + n ≤ length old → around new from (count + n) ≡ around old from count ++ text (step_entry x) mark
+
+-- The same, unless that is no room for it in front of the block's last byte: then all stays.
+pub record RecordsIn (x y : State) (old new : List ℕ) (from count n : ℕ) (mark done : Bool) : Type 0 where
+  pub room : done ≡ nat_lt (behind (length old) from count + n) (length old)
+  pub stays : done ≡ false → (y ≡ x) × (new ≡ old)
+  pub next : done ≡ true → y ≡ next x
+  pub len : length new ≡ length old
+  pub text : done ≡ true → count + n ≤ length old → around new from (count + n) ≡ around old from count ++ text (step_entry x) mark
