@@ -49,6 +49,11 @@ pub record AreTypes (types starts : List ℕ) : Type 0 where
   pub whole : are_whole types (length starts) ≡ true
   pub all : place types (length starts) ≡ length types
 
+-- There is no whole type at a place, and why.
+pub record IsBroken (types : List ℕ) (at : ℕ) (fault : BtfFault) : Type 0 where
+  pub broken : is_whole types at ≡ false
+  pub told : fault ≡ (if is_known (type_entry types at) then CutType else UnknownType)
+
 -- The first type that isn't whole, and why.
 pub record HasBadType (types : List ℕ) (fault : BtfFault) : Type 0 where
   pub n : ℕ

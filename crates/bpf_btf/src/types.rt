@@ -1,7 +1,7 @@
 //! Where the types of a section stand.
-ghost use Rattle.std.specs.Prelude.{◌≡◌, ◌≤◌, ◌<◌, ◌+◌, ◌⊎◌, IfOk, IfErr, length, true, false, nat_le, if◌then◌else◌};
+ghost use Rattle.std.specs.Prelude.{◌≡◌, ◌≤◌, ◌<◌, ◌+◌, ◌⊎◌, IfOk, IfErr, length, true};
 ghost use Rattle.bpf_btf.specs.Layout.{type_entry};
-ghost use Rattle.bpf_btf.specs.Types.{rest_size, is_known, behind, is_whole, place, are_whole, places, AreTypes, HasBadType};
+ghost use Rattle.bpf_btf.specs.Types.{rest_size, is_known, behind, is_whole, place, AreTypes, HasBadType, IsBroken};
 ghost use Rattle.bpf_btf.specs.declared.fault.BtfFault.TheVariants.{Memory, UnknownType, CutType};
 
 use crate::fault::BtfFault;
@@ -36,9 +36,7 @@ fn next_place(types: &[u8], at: usize) -> Result<usize, BtfFault>
     requires { at ≤ 4294967295 }
     ensures ok { IfOk result (λ next. (is_whole types.now at ≡ true) × (next ≡ behind types.now at)) }
     ensures within { IfOk result (λ next. (at + 12 ≤ next) × (next ≤ length types.now)) }
-    ensures broken { IfErr result (λ fault. is_whole types.now at ≡ false) }
-    ensures told { IfErr result (λ fault.
-        fault ≡ (if is_known (type_entry types.now at) then CutType else UnknownType)) }
+    ensures err { IfErr result (IsBroken types.now at) }
 {
     let entry = type_entry(types, at);
     if !is_known(&entry) {

@@ -48,7 +48,7 @@ pub record RunsPlain {T : Type 0} (contents : T → Option (List ℕ)) (limit : 
   pub quiet : y.status ≢ status.Exited → (result ≡ Ok (ending_of y.status)) × (new ≡ old)
   pub written : Writes contents old new result (text_of_ending (ending_of y.status) y)
 
--- The same steps, so many, each of which a ring keeps.
+-- A run that takes so many steps, and keeps each in a ring.
 pub record RunsKept (limit : ℕ) (old new : Moment RingKeeper) (n : ℕ) : Type 0 where
   pub steps : n ≡ plain_steps limit old.state
   pub state : new.state ≡ plain_end limit old.state
