@@ -1,8 +1,30 @@
--- What a fault of a file tells.
-use Rattle.std.specs.Prelude.{ℕ, ◌≡◌, List, Option, Some, None, ⊤}
+-- What the files of a plan hold, and what a fault of one tells.
+use Rattle.std.specs.Prelude.{ℕ, ◌≡◌, Bool, if◌then◌else◌, List, [], ◌∷◌, Option, Some, None, ⊤}
 use Rattle.std.specs.Borrow.{Bor}
+use Rattle.bpfdb_cli.specs.declared.plans.Plan.{Plan}
+use Rattle.bpfdb_files.specs.Reading.{Gives}
+use Rattle.bpfdb_files.specs.declared.kinds.FileKind.{FileKind}
+use Rattle.bpfdb_files.specs.declared.kinds.FileKind.TheVariants.{Program, Context, Source}
 use Rattle.bpfdb_jobs.specs.declared.fault.JobFault.{JobFault}
 use Rattle.bpfdb_jobs.specs.declared.fault.JobFault.TheVariants.{Unreadable, Memory}
+use Rattle.bpfdb_options.specs.declared.subcommand.Subcommand.{Subcommand}
+use Rattle.bpfdb_options.specs.declared.subcommand.Subcommand.TheVariants.{Asm, Lines, Link, Test}
+
+-- What FILE is read as, by the subcommand and whether it is said to be a listing.
+abbrev pub kind_in : Subcommand → Bool → FileKind
+kind_in Asm is_listing = Source
+kind_in Lines is_listing = Source
+kind_in Link is_listing = Source
+kind_in Test is_listing = Source
+kind_in subcommand is_listing = if is_listing then Source else Program
+
+abbrev pub kind_of : Plan → FileKind
+kind_of plan = kind_in plan.subcommand plan.options.is_listing
+
+-- What is read of the file of a path that may not be there: where there is none, no bytes.
+abbrev pub GivesNamed : (List ℕ → Option (List ℕ)) → FileKind → Option (Bor (List ℕ)) → List ℕ → Type 0
+GivesNamed bytes_at kind (Some path) bytes = Gives kind (bytes_at path.now) (Some bytes)
+GivesNamed bytes_at kind None bytes = bytes ≡ []
 
 -- It names the path of the file, unless memory ran out.
 abbrev pub Names : List ℕ → JobFault → Type 0
@@ -10,7 +32,25 @@ Names path (Unreadable named) = named.now ≡ path
 Names path Memory = ⊤
 Names path fault = ⊥
 
--- The same of a path that may not be there.
+-- Of a path that may not be there: where there is none, no fault is.
 abbrev pub NamesGiven : Option (Bor (List ℕ)) → JobFault → Type 0
 NamesGiven (Some path) fault = Names path.now fault
 NamesGiven None fault = ⊥
+
+-- The bytes of FILE, of PATH and of the script, where the bytes of files are known.
+pub record AreRead (bytes_at : List ℕ → Option (List ℕ)) (plan : Plan) (of_file of_path of_script : List ℕ) : Type 0 where
+  pub file : Gives (kind_of plan) (bytes_at plan.file.now) (Some of_file)
+  pub context : GivesNamed bytes_at Context plan.memory of_path
+  pub script : GivesNamed bytes_at Source plan.script of_script
+
+-- Why they aren't read: by the first of them that can't be.
+pub data IsUnread (bytes_at : List ℕ → Option (List ℕ)) (plan : Plan) (fault : JobFault) : Type 0 where
+  OfFile : Names plan.file.now fault → IsUnread bytes_at plan fault
+  OfPath : (of_file : List ℕ) → Gives (kind_of plan) (bytes_at plan.file.now) (Some of_file) → NamesGiven plan.memory fault
+      → IsUnread bytes_at plan fault
+  OfScript : (of_file of_path : List ℕ) → Gives (kind_of plan) (bytes_at plan.file.now) (Some of_file)
+      → GivesNamed bytes_at Context plan.memory of_path → NamesGiven plan.script fault → IsUnread bytes_at plan fault
+
+-- The program that is built in: r0 = 42, and the end.
+abbrev pub first_program : List ℕ
+first_program = 183 ∷ 0 ∷ 0 ∷ 0 ∷ 42 ∷ 0 ∷ 0 ∷ 0 ∷ 149 ∷ 0 ∷ 0 ∷ 0 ∷ 0 ∷ 0 ∷ 0 ∷ 0 ∷ []

@@ -1,3 +1,4 @@
+pub mod Done
 pub mod Files
 pub mod Jobs
 pub mod Words

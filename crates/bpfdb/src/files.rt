@@ -1,63 +1,71 @@
-//! FILE and PATH: files by their names.
-ghost use Rattle.std.specs.Prelude.{IfErr};
-ghost use Rattle.bpfdb.specs.Files.{Names};
+//! FILE, PATH and the script: files by their names.
+ghost use Rattle.std.specs.Prelude.{◌≡◌, IfErr, IfOk, Some};
+ghost use Rattle.bpfdb.specs.Files.{GivesNamed, Names, NamesGiven, kind_of};
+ghost use Rattle.bpfdb_files.specs.Reading.{Gives};
 
-use bpfdb_files::{FirstFault, Retrying, read_context, read_program, read_source};
+use bpfdb_cli::Plan;
+use bpfdb_files::{FileKind, FirstFault, Opener, read_kind};
 use bpfdb_jobs::JobFault;
+use bpfdb_options::Subcommand;
 use counted_io::Counted;
-use std::fs;
-use std::fs::File;
+use std::alloc::Global;
 
-/// The bytes of a program: of a file that has more than any program no more than shows that.
-pub fn program_at<'a>(rt: &HostRuntime, path: &'a str) -> Result<Vec<u8>, JobFault<'a>>
-    ensures err { IfErr result (Names path.now) }
+/// What FILE is read as: a listing for `asm` and `lines` and where the plan says so, an object for
+/// `link`, a file of tests for `test`, and else a program's words.
+pub fn kind_of(plan: &Plan<'_>) -> FileKind
+    ensures { result ≡ kind_of plan.now }
 {
-    let mut file = match open(rt, path) {
-        Ok(file) => file,
-        Err(fault) => return Err(fault),
-    };
-    match read_program(rt.alloc(), &mut file) {
-        Ok(bytes) => Ok(bytes),
-        Err(fault) => Err(fault_of(fault, path)),
+    match plan.subcommand {
+        Subcommand::Asm => FileKind::Source,
+        Subcommand::Lines => FileKind::Source,
+        Subcommand::Link => FileKind::Source,
+        Subcommand::Test => FileKind::Source,
+        _ => {
+            if plan.options.is_listing {
+                FileKind::Source
+            } else {
+                FileKind::Program
+            }
+        }
     }
 }
 
-/// The bytes of a context: of a file that has more than any context no more than shows that.
-pub fn context_at<'a>(rt: &HostRuntime, path: &'a str) -> Result<Vec<u8>, JobFault<'a>>
+/// The bytes of the file of a path, read as one of a kind. One that is too long for its kind can't be
+/// read.
+pub fn read_named<'a, F: Opener>(
+    alloc: Global,
+    files: &F,
+    path: &'a str,
+    kind: FileKind,
+) -> Result<Vec<u8>, JobFault<'a>>
+    ensures ok { IfOk result (λ b. Gives kind (F.bytes_at files.now path.now) (Some b.items)) }
     ensures err { IfErr result (Names path.now) }
 {
-    let mut file = match open(rt, path) {
-        Ok(file) => file,
-        Err(fault) => return Err(fault),
+    let Some(file) = files.open(path) else {
+        return Err(JobFault::Unreadable(path));
     };
-    match read_context(rt.alloc(), &mut file) {
-        Ok(bytes) => Ok(bytes),
-        Err(fault) => Err(fault_of(fault, path)),
-    }
-}
-
-/// The bytes of a listing, of an object or of a script. A file that is longer than any of them can't be read.
-pub fn source_at<'a>(rt: &HostRuntime, path: &'a str) -> Result<Vec<u8>, JobFault<'a>>
-    ensures err { IfErr result (Names path.now) }
-{
-    let mut file = match open(rt, path) {
-        Ok(file) => file,
-        Err(fault) => return Err(fault),
-    };
-    match read_source(rt.alloc(), &mut file) {
+    let mut reader = Counted::new(file);
+    match read_kind(alloc, &mut reader, kind) {
         Ok(Some(bytes)) => Ok(bytes),
         Ok(None) => Err(JobFault::Unreadable(path)),
         Err(fault) => Err(fault_of(fault, path)),
     }
 }
 
-/// A file, opened to be read. Calls that the system interrupts are made again.
-fn open<'a>(rt: &HostRuntime, path: &'a str) -> Result<Counted<Retrying<File>>, JobFault<'a>>
-    ensures err { IfErr result (Names path.now) }
+/// The bytes of the file of a path that may not be there, read as one of a kind: where there is no
+/// path there are none.
+pub fn read_given<'a, F: Opener>(
+    alloc: Global,
+    files: &F,
+    path: Option<&'a str>,
+    kind: FileKind,
+) -> Result<Vec<u8>, JobFault<'a>>
+    ensures ok { IfOk result (λ b. GivesNamed (F.bytes_at files.now) kind path.entry b.items) }
+    ensures err { IfErr result (NamesGiven path.entry) }
 {
-    match fs::open(rt, path) {
-        Ok(file) => Ok(Counted::new(Retrying::new(file))),
-        Err(_) => Err(JobFault::Unreadable(path)),
+    match path {
+        Some(path) => read_named(alloc, files, path, kind),
+        None => Ok(Vec::new(alloc)),
     }
 }
 

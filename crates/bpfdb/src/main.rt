@@ -1,52 +1,38 @@
 //! The program: a debugger that runs a BPF program (RFC 9669) forwards and backwards.
 #![tactic(auto)]
 
-ghost use Rattle.std.specs.Prelude.{◌≡◌, ◌≢◌, ◌≤◌, IfErr, IsTrue, map, string_bytes};
-ghost use Rattle.bpfdb.specs.Files.{Names, NamesGiven};
+ghost use Rattle.std.specs.Prelude.{◌≡◌, ◌≢◌, ◌≤◌, IsTrue, map, string_bytes};
+ghost use Rattle.bpfdb.specs.Done.{EndsPlanWith};
 ghost use Rattle.bpfdb.specs.Words.{IsStatusOf};
 ghost use Rattle.bpfdb_cli.specs.Plans.{status_of};
 ghost use Rattle.bpfdb_limits.specs.Limits.{IsLimit};
 ghost use Rattle.bpfdb_options.specs.declared.subcommand.Subcommand.TheVariants.{Debug};
 
+mod doing;
 mod files;
 mod input;
 mod job;
+mod opening;
 mod prompt;
 mod words;
 
 use bpfdb_cli::{Plan, PlanFault, plan};
-use bpfdb_files::Retrying;
-use bpfdb_jobs::{Job, JobFault, give_up, tell_usage, tool};
-use bpfdb_options::{NO_OPTIONS, Subcommand};
+use bpfdb_files::{Opener, Retrying};
+use bpfdb_jobs::{JobFault, give_up, tell_usage};
+use bpfdb_options::Subcommand;
 use clap::Error;
 use counted_io::Counted;
-use files::{context_at, program_at, source_at};
+use doing::{do_plan, show_help};
 use input::is_closed;
-use job::job_of;
+use opening::{BuiltIn, FIRST_PLAN, SystemFiles};
 use prompt::{FIRST_GREETING, GREETING, Prompting};
 use std::io;
-use std::io::{BufReader, BufWriter, IsTerminal, Read, Stderr, Write};
+use std::io::{BufReader, BufWriter, IsTerminal, Stderr};
 use std::process::ExitCode;
 use words::{shown_words, texts_of, words_of};
 
 /// Standard error.
 type Errors = Counted<BufWriter<Retrying<Stderr>>>;
-
-/// What is debugged where the command line has no word: r0 = 42, and the end.
-const FIRST_PROGRAM: &[u8] = &[
-    0xb7, 0, 0, 0, 0x2a, 0, 0, 0, // mov r0, 42
-    0x95, 0, 0, 0, 0, 0, 0, 0, // exit
-];
-
-/// The job of that, with every option absent.
-const FIRST_JOB: Job<'static> = Job {
-    subcommand: Subcommand::Debug,
-    name: "",
-    file: FIRST_PROGRAM,
-    context: &[],
-    script: None,
-    options: NO_OPTIONS,
-};
 
 fn main(rt: HostRuntime) -> ExitCode {
     match BufWriter::new(rt.alloc(), Retrying::new(rt.stderr())) {
@@ -79,13 +65,13 @@ fn obey_words(rt: &HostRuntime, words: &[String], errors: &mut Errors) -> u8
     ensures status { result ≤ 2 }
 {
     if words.len() < 2 {
-        return do_over_streams(rt, &FIRST_JOB, FIRST_GREETING, errors);
+        return do_over_streams(rt, &BuiltIn, &FIRST_PLAN, FIRST_GREETING, errors);
     }
     let Some(texts) = texts_of(rt.alloc(), words) else {
         return give_up(errors, &JobFault::Memory);
     };
     match plan(rt.alloc(), texts.as_slice()) {
-        Ok(plan) => do_with_files(rt, &plan, errors),
+        Ok(plan) => do_over_streams(rt, &SystemFiles::new(rt), &plan, GREETING, errors),
         Err(fault) => show(rt, words, &fault, errors),
     }
 }
@@ -99,7 +85,8 @@ fn show(rt: &HostRuntime, words: &[String], fault: &PlanFault, errors: &mut Erro
         PlanFault::Memory => give_up(errors, &JobFault::Memory),
         PlanFault::Usage(text) => {
             if fault.status() == 0 {
-                show_help(rt, text, errors)
+                let mut output = Counted::new(Retrying::new(io::writer(rt)));
+                show_help(rt.alloc(), text, &mut output, errors)
             } else {
                 show_mistake(rt, words, text, errors)
             }
@@ -136,115 +123,22 @@ fn write_mistake(rt: &HostRuntime, text: &Error, errors: &mut Errors) -> u8
     }
 }
 
-/// Writes help to standard output.
-fn show_help(rt: &HostRuntime, text: &Error, errors: &mut Errors) -> u8
-    ensures value { result ≢ 2 → result ≡ 0 }
-    ensures status { result ≤ 2 }
-{
-    let mut output = Retrying::new(io::writer(rt));
-    match write!(output, "{text}") {
-        Ok(()) => 0,
-        Err(_) => give_up(errors, &JobFault::Output),
-    }
-}
-
-/// Reads the files of a plan, FILE before PATH and that before the script, and does its job.
-fn do_with_files(rt: &HostRuntime, plan: &Plan<'_>, errors: &mut Errors) -> u8
-    requires limit { IsLimit plan.now.options.limit }
-    ensures { result ≤ 2 }
-{
-    let file = match file_of(rt, plan) {
-        Ok(file) => file,
-        Err(fault) => return give_up(errors, &fault),
-    };
-    let context = match context_of(rt, plan) {
-        Ok(context) => context,
-        Err(fault) => return give_up(errors, &fault),
-    };
-    let script = match script_of(rt, plan) {
-        Ok(script) => script,
-        Err(fault) => return give_up(errors, &fault),
-    };
-    do_plan(
-        rt,
-        plan,
-        file.as_slice(),
-        context.as_slice(),
-        script.as_slice(),
-        errors,
-    )
-}
-
-/// Does the job of a plan, with the bytes of FILE, those of PATH and those of the script.
-fn do_plan(
-    rt: &HostRuntime,
-    plan: &Plan<'_>,
-    file: &[u8],
-    context: &[u8],
-    script: &[u8],
-    errors: &mut Errors,
-) -> u8
-    requires limit { IsLimit plan.now.options.limit }
-    ensures { result ≤ 2 }
-{
-    let job = job_of(plan, file, context, script);
-    do_over_streams(rt, &job, GREETING, errors)
-}
-
-/// The bytes of FILE, which is a listing for `asm` and `lines` and where the plan says so, and an object for
-/// `link`.
-fn file_of<'a>(rt: &HostRuntime, plan: &Plan<'a>) -> Result<Vec<u8>, JobFault<'a>>
-    ensures err { IfErr result (Names plan.now.file.now) }
-{
-    match plan.subcommand {
-        Subcommand::Asm => source_at(rt, plan.file),
-        Subcommand::Lines => source_at(rt, plan.file),
-        Subcommand::Link => source_at(rt, plan.file),
-        Subcommand::Test => source_at(rt, plan.file),
-        _ => {
-            if plan.options.is_listing {
-                source_at(rt, plan.file)
-            } else {
-                program_at(rt, plan.file)
-            }
-        }
-    }
-}
-
-/// The bytes of PATH; none where there is no path.
-fn context_of<'a>(rt: &HostRuntime, plan: &Plan<'a>) -> Result<Vec<u8>, JobFault<'a>>
-    ensures err { IfErr result (NamesGiven plan.now.memory) }
-{
-    match plan.memory {
-        Some(path) => context_at(rt, path),
-        None => Ok(Vec::new(rt.alloc())),
-    }
-}
-
-/// The bytes of the script; none where there is no script.
-fn script_of<'a>(rt: &HostRuntime, plan: &Plan<'a>) -> Result<Vec<u8>, JobFault<'a>>
-    ensures err { IfErr result (NamesGiven plan.now.script) }
-{
-    match plan.script {
-        Some(path) => source_at(rt, path),
-        None => Ok(Vec::new(rt.alloc())),
-    }
-}
-
-/// Does a job over standard input and standard output. A standard input that is closed is an empty
+/// Does a plan over standard input and standard output. A standard input that is closed is an empty
 /// script; one that is a terminal, where commands are typed, is greeted and read after a prompt.
 /// Calls that the system interrupts are made again, below the buffers.
 ///
 /// The input is read in large pieces, so a program that reads on behind `quit` in the same pipe
 /// finds less than the script left there, mostly nothing.
-fn do_over_streams(
+fn do_over_streams<F: Opener>(
     rt: &HostRuntime,
-    job: &Job<'_>,
+    files: &F,
+    plan: &Plan<'_>,
     greeting: &'static str,
     errors: &mut Errors,
 ) -> u8
-    requires limit { IsLimit job.now.options.limit }
-    ensures { result ≤ 2 }
+    requires limit { IsLimit plan.now.options.limit }
+    ensures value { result ≢ 2 → EndsPlanWith plan.now result }
+    ensures status { result ≤ 2 }
 {
     let Ok(output) = BufWriter::new(rt.alloc(), Retrying::new(io::writer(rt))) else {
         return give_up(errors, &JobFault::Memory);
@@ -253,40 +147,29 @@ fn do_over_streams(
     let mut input = Retrying::new(rt.reader());
     if is_closed(rt, &mut input) {
         let mut reader = Counted::new(b"".as_slice());
-        return tool(rt.alloc(), job, &mut reader, &mut writer, errors);
+        return do_plan(rt.alloc(), files, plan, &mut reader, &mut writer, errors);
     }
-    if is_typed(rt, job) {
+    if is_typed(rt, plan) {
         let input = Prompting::new(input, Retrying::new(rt.stderr()), greeting);
-        do_over_reader(rt, job, input, &mut writer, errors)
-    } else {
-        do_over_reader(rt, job, input, &mut writer, errors)
+        let Ok(input) = BufReader::new(rt.alloc(), input) else {
+            return give_up(errors, &JobFault::Memory);
+        };
+        let mut reader = Counted::new(input);
+        return do_plan(rt.alloc(), files, plan, &mut reader, &mut writer, errors);
     }
-}
-
-/// Whether commands are typed: the job reads them, and standard input is a terminal.
-fn is_typed(rt: &HostRuntime, job: &Job<'_>) -> bool
-    ensures { IsTrue result → job.now.subcommand ≡ Debug }
-{
-    match job.subcommand {
-        Subcommand::Debug => rt.stdin().is_terminal(),
-        _ => false,
-    }
-}
-
-/// Does a job over a reader, which is read in large pieces.
-fn do_over_reader<R: Read + Drop, W: Write>(
-    rt: &HostRuntime,
-    job: &Job<'_>,
-    input: R,
-    writer: &mut Counted<W>,
-    errors: &mut Errors,
-) -> u8
-    requires limit { IsLimit job.now.options.limit }
-    ensures { result ≤ 2 }
-{
     let Ok(input) = BufReader::new(rt.alloc(), input) else {
         return give_up(errors, &JobFault::Memory);
     };
     let mut reader = Counted::new(input);
-    tool(rt.alloc(), job, &mut reader, writer, errors)
+    do_plan(rt.alloc(), files, plan, &mut reader, &mut writer, errors)
+}
+
+/// Whether commands are typed: the plan reads them, and standard input is a terminal.
+fn is_typed(rt: &HostRuntime, plan: &Plan<'_>) -> bool
+    ensures { IsTrue result → plan.now.subcommand ≡ Debug }
+{
+    match plan.subcommand {
+        Subcommand::Debug => rt.stdin().is_terminal(),
+        _ => false,
+    }
 }

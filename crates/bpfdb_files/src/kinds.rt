@@ -1,7 +1,7 @@
-//! FILE and PATH, over any reader: how much is read of each.
-ghost use Rattle.std.specs.Prelude.{◌≡◌, ◌≤◌, ◌<◌, ⊤, IfOk, IfErr, MatchOption, OnOk, length};
-ghost use Rattle.std.specs.Io.KnownBytes.{Consumes, IsAtEnd};
-ghost use Rattle.bpfdb_files.specs.Reading.{Counts, TakesMore, context_bytes, source_bytes, program_bytes};
+//! Files over any reader: how much is read of each kind.
+ghost use Rattle.std.specs.Prelude.{IfOk, IfErr, option_map};
+ghost use Rattle.bpfdb_files.specs.Reading.{Counts, ReadsKind};
+ghost use Rattle.bpfdb_files.specs.declared.kinds.FileKind.TheVariants.{Context, Program, Source};
 
 use crate::reading::{FirstFault, read_first};
 use bpf_isa::MOST_SLOTS;
@@ -17,53 +17,78 @@ const PROGRAM_BYTES: usize = 8 * MOST_SLOTS + 1;
 /// The most bytes that are read of a context: one more than any context has.
 const CONTEXT_BYTES: usize = CONTEXT_LIMIT + 1;
 
-/// The most bytes of a listing or of an object: 64 MiB, about a thousand for each instruction that
-/// a program can have.
+/// The most bytes of a source: 64 MiB, about a thousand for each instruction that a program can
+/// have.
 const SOURCE_BYTES: usize = 67_108_864;
 
-/// Reads a program's bytes: all of them, or the first 524,281 where there are more, which is one
-/// more than any program has.
-pub fn read_program<R: Read>(alloc: Global, reader: &mut Counted<R>) -> Result<Vec<u8>, FirstFault>
-    ensures bytes { IfOk result
-        (λ b. Consumes (R.remaining reader.old.inner) (R.remaining reader.new.inner) b.items) }
-    ensures bound { IfOk result (λ b. length b.items ≤ program_bytes) }
-    ensures end { IfOk result (λ b. length b.items < program_bytes →
-        IsAtEnd (R.remaining reader.new.inner)) }
-    ensures same { OnOk result (reader.new.failures ≡ reader.old.failures) }
-    ensures fault { IfErr result (λ why. Counts why reader.old.failures reader.new.failures) }
-{
-    read_first(alloc, reader, PROGRAM_BYTES)
+/// What a file is read as.
+#[derive(Clone, Copy)]
+pub enum FileKind {
+    /// The raw words of a program.
+    Program,
+    /// A context.
+    Context,
+    /// A listing, an object, a file of tests or a script.
+    Source,
 }
 
-/// Reads a context's bytes: all of them, or the first 65,537 where there are more, which is one
-/// more than any context has.
-pub fn read_context<R: Read>(alloc: Global, reader: &mut Counted<R>) -> Result<Vec<u8>, FirstFault>
-    ensures bytes { IfOk result
-        (λ b. Consumes (R.remaining reader.old.inner) (R.remaining reader.new.inner) b.items) }
-    ensures bound { IfOk result (λ b. length b.items ≤ context_bytes) }
-    ensures end { IfOk result (λ b. length b.items < context_bytes →
-        IsAtEnd (R.remaining reader.new.inner)) }
-    ensures same { OnOk result (reader.new.failures ≡ reader.old.failures) }
-    ensures fault { IfErr result (λ why. Counts why reader.old.failures reader.new.failures) }
+/// Reads the bytes of a file of a kind, from where the reader stands: of a program at most the first
+/// 524,281 and of a context at most the first 65,537, which is one more than any has; of a source
+/// all, or None where there are more than 67,108,864.
+pub fn read_kind<R: Read>(
+    alloc: Global,
+    reader: &mut Counted<R>,
+    kind: FileKind,
+) -> Result<Option<Vec<u8>>, FirstFault>
+    ensures ok { IfOk result (λ found. ReadsKind R.remaining kind reader.old reader.new
+        (option_map (λ b. b.items) found)) }
+    ensures err { IfErr result (λ why. Counts why reader.old.failures reader.new.failures) }
 {
-    read_first(alloc, reader, CONTEXT_BYTES)
+    match kind {
+        FileKind::Program => read_program(alloc, reader),
+        FileKind::Context => read_context(alloc, reader),
+        FileKind::Source => read_source(alloc, reader),
+    }
 }
 
-/// Reads all bytes of a listing or of an object, or none where there are more than 67,108,864.
-pub fn read_source<R: Read>(
+/// Reads a program's bytes, or the first ones where there are too many.
+fn read_program<R: Read>(
     alloc: Global,
     reader: &mut Counted<R>,
 ) -> Result<Option<Vec<u8>>, FirstFault>
-    ensures bytes { IfOk result
-        (λ found. MatchOption found
-        (TakesMore source_bytes (R.remaining reader.old.inner) (R.remaining reader.new.inner))
-        (λ b. Consumes (R.remaining reader.old.inner) (R.remaining reader.new.inner) b.items)) }
-    ensures bound { IfOk result
-        (λ found. MatchOption found ⊤ (λ b. length b.items ≤ source_bytes)) }
-    ensures end { IfOk result
-        (λ found. MatchOption found ⊤ (λ b. IsAtEnd (R.remaining reader.new.inner))) }
-    ensures same { OnOk result (reader.new.failures ≡ reader.old.failures) }
-    ensures fault { IfErr result (λ why. Counts why reader.old.failures reader.new.failures) }
+    ensures ok { IfOk result (λ found. ReadsKind R.remaining Program reader.old reader.new
+        (option_map (λ b. b.items) found)) }
+    ensures err { IfErr result (λ why. Counts why reader.old.failures reader.new.failures) }
+{
+    match read_first(alloc, reader, PROGRAM_BYTES) {
+        Ok(bytes) => Ok(Some(bytes)),
+        Err(fault) => Err(fault),
+    }
+}
+
+/// Reads a context's bytes, or the first ones where there are too many.
+fn read_context<R: Read>(
+    alloc: Global,
+    reader: &mut Counted<R>,
+) -> Result<Option<Vec<u8>>, FirstFault>
+    ensures ok { IfOk result (λ found. ReadsKind R.remaining Context reader.old reader.new
+        (option_map (λ b. b.items) found)) }
+    ensures err { IfErr result (λ why. Counts why reader.old.failures reader.new.failures) }
+{
+    match read_first(alloc, reader, CONTEXT_BYTES) {
+        Ok(bytes) => Ok(Some(bytes)),
+        Err(fault) => Err(fault),
+    }
+}
+
+/// Reads all bytes of a source, or none where there are too many.
+fn read_source<R: Read>(
+    alloc: Global,
+    reader: &mut Counted<R>,
+) -> Result<Option<Vec<u8>>, FirstFault>
+    ensures ok { IfOk result (λ found. ReadsKind R.remaining Source reader.old reader.new
+        (option_map (λ b. b.items) found)) }
+    ensures err { IfErr result (λ why. Counts why reader.old.failures reader.new.failures) }
 {
     match read_first(alloc, reader, SOURCE_BYTES + 1) {
         Ok(text) => {

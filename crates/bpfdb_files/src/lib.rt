@@ -3,9 +3,11 @@
 #![tactic(auto)]
 
 mod kinds;
+mod opener;
 mod reading;
 mod retrying;
 
-pub use kinds::{read_context, read_program, read_source};
+pub use kinds::{FileKind, read_kind};
+pub use opener::Opener;
 pub use reading::{FirstFault, read_first};
 pub use retrying::Retrying;

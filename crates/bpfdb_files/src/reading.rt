@@ -1,7 +1,6 @@
 //! The first bytes of what a reader gives.
-ghost use Rattle.std.specs.Prelude.{◌≡◌, ◌≤◌, ◌<◌, IfOk, IfErr, OnOk, length};
-ghost use Rattle.std.specs.Io.KnownBytes.{Consumes, IsAtEnd};
-ghost use Rattle.bpfdb_files.specs.Reading.{Counts};
+ghost use Rattle.std.specs.Prelude.{◌≡◌, IfOk, IfErr, OnOk};
+ghost use Rattle.bpfdb_files.specs.Reading.{Counts, TakesFirst};
 
 use counted_io::Counted;
 use std::alloc::Global;
@@ -25,11 +24,8 @@ pub fn read_first<R: Read>(
     reader: &mut Counted<R>,
     most: usize,
 ) -> Result<Vec<u8>, FirstFault>
-    ensures bytes { IfOk result
-        (λ b. Consumes (R.remaining reader.old.inner) (R.remaining reader.new.inner) b.items) }
-    ensures bound { IfOk result (λ b. length b.items ≤ most) }
-    ensures end { IfOk result (λ b. length b.items < most →
-        IsAtEnd (R.remaining reader.new.inner)) }
+    ensures bytes { IfOk result (λ b. TakesFirst most (R.remaining reader.old.inner)
+        (R.remaining reader.new.inner) b.items) }
     ensures same { OnOk result (reader.new.failures ≡ reader.old.failures) }
     ensures fault { IfErr result (λ why. Counts why reader.old.failures reader.new.failures) }
 {

@@ -10,5 +10,6 @@ pub mod Origins
 pub mod Refusals
 pub mod Scripts
 pub mod Shown
+pub mod Statuses
 pub mod Suites
 pub mod Tellings

@@ -1,7 +1,7 @@
 //! The reading of files, over bytes.
 use crate::programs::WORDS;
 use crate::telling::{say, tell_failure, tell_memory};
-use bpfdb_files::{FirstFault, read_context, read_program, read_source};
+use bpfdb_files::{FileKind, FirstFault, read_kind};
 use counted_io::Counted;
 use std::alloc::Global;
 use std::io::Write;
@@ -14,37 +14,41 @@ fn tell<E: Write>(errors: &mut Counted<E>, fault: FirstFault) -> u8 {
     }
 }
 
-/// `read_program`: the bytes.
+/// `read_kind` of a program: the bytes.
 pub fn program<W: Write, E: Write>(
     alloc: Global,
     output: &mut Counted<W>,
     errors: &mut Counted<E>,
 ) -> u8 {
-    match read_program(alloc, &mut Counted::new(WORDS.as_slice())) {
-        Ok(bytes) => say(output, &bytes),
-        Err(fault) => tell(errors, fault),
-    }
+    kind(alloc, FileKind::Program, output, errors)
 }
 
-/// `read_context`: the bytes.
+/// `read_kind` of a context: the bytes.
 pub fn context<W: Write, E: Write>(
     alloc: Global,
     output: &mut Counted<W>,
     errors: &mut Counted<E>,
 ) -> u8 {
-    match read_context(alloc, &mut Counted::new(WORDS.as_slice())) {
-        Ok(bytes) => say(output, &bytes),
-        Err(fault) => tell(errors, fault),
-    }
+    kind(alloc, FileKind::Context, output, errors)
 }
 
-/// `read_source`: the bytes.
+/// `read_kind` of a source: the bytes.
 pub fn source<W: Write, E: Write>(
     alloc: Global,
     output: &mut Counted<W>,
     errors: &mut Counted<E>,
 ) -> u8 {
-    match read_source(alloc, &mut Counted::new(WORDS.as_slice())) {
+    kind(alloc, FileKind::Source, output, errors)
+}
+
+/// The bytes of a kind.
+fn kind<W: Write, E: Write>(
+    alloc: Global,
+    kind: FileKind,
+    output: &mut Counted<W>,
+    errors: &mut Counted<E>,
+) -> u8 {
+    match read_kind(alloc, &mut Counted::new(WORDS.as_slice()), kind) {
         Ok(Some(bytes)) => say(output, &bytes),
         Ok(None) => tell_failure(errors),
         Err(fault) => tell(errors, fault),

@@ -15,7 +15,7 @@ use bpf_isa::{MapTable, check};
 use bpf_journal::{Keeper, ListKeeper, RingKeeper};
 use bpf_machine::Cpu;
 use bpf_session::{Count, RunFault, Session, run};
-use bpfdb_files::{read_context, read_program, read_source};
+use bpfdb_files::{FileKind, read_kind};
 use counted_io::Counted;
 use std::alloc::Global;
 use std::fs;
@@ -69,7 +69,7 @@ fn number(words: &[String], at: usize) -> Option<u64> {
 /// The bytes of a program's file.
 fn program_at(rt: &HostRuntime, path: &str) -> Option<Vec<u8>> {
     let file = fs::open(rt, path).ok()?;
-    read_program(rt.alloc(), &mut Counted::new(file)).ok()
+    read_kind(rt.alloc(), &mut Counted::new(file), FileKind::Program).ok()?
 }
 
 /// The bytes of a context's file; of none there are none.
@@ -78,7 +78,7 @@ fn context_at(rt: &HostRuntime, path: &str) -> Option<Vec<u8>> {
         return Some(Vec::new(rt.alloc()));
     }
     let file = fs::open(rt, path).ok()?;
-    read_context(rt.alloc(), &mut Counted::new(file)).ok()
+    read_kind(rt.alloc(), &mut Counted::new(file), FileKind::Context).ok()?
 }
 
 /// The maps of a text, which is empty where there are none.
@@ -168,7 +168,7 @@ fn run_ring<W: Write>(
 
 /// The bytes of the whole script.
 fn script(rt: &HostRuntime) -> Option<Vec<u8>> {
-    read_source(rt.alloc(), &mut Counted::new(rt.reader())).ok()?
+    read_kind(rt.alloc(), &mut Counted::new(rt.reader()), FileKind::Source).ok()?
 }
 
 /// The session over the machine and the list of another one.

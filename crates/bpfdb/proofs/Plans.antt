@@ -1,0 +1,29 @@
+-- The exit status of a plan.
+use Rattle.std.proofs.Common.{ℕ, ◌≡◌, ◌≢◌, ◌∙◌, List, Option, subst}
+use Rattle.counted_io.specs.Counted.{Tally}
+use Rattle.bpfdb_cli.specs.declared.plans.Plan.{Plan}
+use Rattle.bpfdb_jobs.specs.Statuses.{EndsWith}
+use Rattle.bpfdb_jobs.proofs.Statuses.{ends_with}
+use Rattle.bpfdb_options.specs.declared.subcommand.Subcommand.{Subcommand}
+use Rattle.bpfdb_options.specs.declared.subcommand.Subcommand.TheVariants.{Debug}
+use Rattle.bpfdb.specs.Done.{DoesPlan, Done, EndsPlanWith, Unread}
+
+-- It is that of the plan's job, unless it is 2.
+pub ends_plan_with : {R W E : Type 0} (bytes_at : List ℕ → Option (List ℕ)) (remaining : R → Option (List ℕ)) (contents : W → Option (List ℕ))
+    (lines : E → Option (List ℕ)) (plan : Plan) (reader reader' : Tally R) (writer writer' : Tally W) (errors errors' : Tally E) (status : ℕ)
+    → DoesPlan bytes_at remaining contents lines plan reader reader' writer writer' errors errors' status → status ≢ 2 → EndsPlanWith plan status
+ends_plan_with bytes_at remaining contents lines plan r r' w w' e e' status (Unread fault why same kept told two) other = absurd (other two)
+ends_plan_with bytes_at remaining contents lines plan r r' w w' e e' status (Done of_file of_path of_script job are is does) other = record {
+  of_file = of_file;
+  of_path = of_path;
+  of_script = of_script;
+  job = job;
+  is = is;
+  ends = ends_with remaining contents lines job.subcommand job r r' w w' e e' status does other;
+}
+
+-- Of a plan to debug it is 0 then.
+pub debug_ends_with : (plan : Plan) (status : ℕ) → plan.subcommand ≡ Debug → EndsPlanWith plan status → status ≡ 0
+debug_ends_with plan status debugs ends =
+    let at : EndsWith Debug ends.job status = subst (λ (s : Subcommand). EndsWith s ends.job status) (ends.is.subcommand ∙ debugs) ends.ends in
+    at.2

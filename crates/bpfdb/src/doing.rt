@@ -1,0 +1,112 @@
+//! What is done of a command line, over any files, reader and writers.
+ghost use Rattle.std.specs.Prelude.{◌≤◌};
+ghost use Rattle.bpfdb.specs.Done.{DoesPlan, Helps};
+ghost use Rattle.bpfdb.specs.Jobs.{IsJobOf};
+ghost use Rattle.bpfdb_jobs.specs.Done.{DoesJob};
+ghost use Rattle.bpfdb_jobs.specs.declared.job.Job.{Job};
+ghost use Rattle.bpfdb_limits.specs.Limits.{IsLimit};
+ghost use Rattle.counted_io.specs.Writing.{Writes};
+
+use crate::files::{kind_of, read_given, read_named};
+use crate::job::job_of;
+use bpfdb_cli::Plan;
+use bpfdb_files::{FileKind, Opener};
+use bpfdb_jobs::{JobFault, give_up, tool};
+use clap::Error;
+use counted_io::{Counted, WriteFault, write_text};
+use std::alloc::Global;
+use std::io::{Read, Write};
+
+/// Reads the files of a plan, FILE before PATH is opened, and that before the script; then does its
+/// job. Answers the exit status.
+pub fn do_plan<F: Opener, R: Read, W: Write, E: Write>(
+    alloc: Global,
+    files: &F,
+    plan: &Plan<'_>,
+    reader: &mut Counted<R>,
+    writer: &mut Counted<W>,
+    errors: &mut Counted<E>,
+) -> u8
+    requires limit { IsLimit plan.now.options.limit }
+    ensures does { DoesPlan (F.bytes_at files.now) R.remaining W.contents E.contents plan.now
+        reader.old reader.new writer.old writer.new errors.old errors.new result }
+    ensures status { result ≤ 2 }
+{
+    let file = match read_named(alloc, files, plan.file, kind_of(plan)) {
+        Ok(file) => file,
+        Err(fault) => return give_up(errors, &fault),
+    };
+    let context = match read_given(alloc, files, plan.memory, FileKind::Context) {
+        Ok(context) => context,
+        Err(fault) => return give_up(errors, &fault),
+    };
+    let script = match read_given(alloc, files, plan.script, FileKind::Source) {
+        Ok(script) => script,
+        Err(fault) => return give_up(errors, &fault),
+    };
+    do_read(
+        alloc,
+        plan,
+        file.as_slice(),
+        context.as_slice(),
+        script.as_slice(),
+        reader,
+        writer,
+        errors,
+    )
+}
+
+/// Does the job of a plan, with the bytes of FILE, those of PATH and those of the script.
+fn do_read<R: Read, W: Write, E: Write>(
+    alloc: Global,
+    plan: &Plan<'_>,
+    file: &[u8],
+    context: &[u8],
+    script: &[u8],
+    reader: &mut Counted<R>,
+    writer: &mut Counted<W>,
+    errors: &mut Counted<E>,
+) -> u8
+    requires limit { IsLimit plan.now.options.limit }
+    ensures does { (job : Job) × IsJobOf plan.now file.now context.now script.now job
+        × DoesJob R.remaining W.contents E.contents job.subcommand job reader.old reader.new
+        writer.old writer.new errors.old errors.new result }
+    ensures status { result ≤ 2 }
+{
+    let job = job_of(plan, file, context, script);
+    tool(alloc, &job, reader, writer, errors)
+}
+
+/// Writes help, in `clap`'s words. Answers the exit status: 0, or 2 where that fails or memory runs
+/// out.
+pub fn show_help<W: Write, E: Write>(
+    alloc: Global,
+    text: &Error,
+    writer: &mut Counted<W>,
+    errors: &mut Counted<E>,
+) -> u8
+    ensures helps { Helps W.contents E.contents writer.old writer.new errors.old errors.new result }
+    ensures status { result ≤ 2 }
+{
+    let Ok(text) = format!(in alloc; "{text}") else {
+        return give_up(errors, &JobFault::Memory);
+    };
+    match write_help(text.as_str(), writer) {
+        Ok(()) => 0,
+        Err(WriteFault) => give_up(errors, &JobFault::Output),
+    }
+}
+
+/// Writes a text, and flushes.
+fn write_help<W: Write>(text: &str, writer: &mut Counted<W>) -> Result<(), WriteFault>
+    ensures { Writes W.contents writer.old writer.new result text.now }
+{
+    match write_text(writer, text.as_bytes()) {
+        Ok(()) => {}
+        Err(fault) => return Err(fault),
+    }
+    match writer.flush() {
+        Ok(()) => Ok(()),
+        Err(_) => Err(WriteFault),
+    }
+}

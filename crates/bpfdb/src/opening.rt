@@ -1,0 +1,65 @@
+//! What files are opened: those of the system; or, where the command line has no word, a program that
+//! is built in.
+ghost use Rattle.std.specs.Prelude.{Some, None};
+ghost use Rattle.bpfdb.specs.Files.{first_program};
+
+use bpfdb_cli::Plan;
+use bpfdb_files::{Opener, Retrying};
+use bpfdb_options::{NO_OPTIONS, Subcommand};
+use std::fs;
+use std::fs::File;
+
+/// The files of the system. Reads that it interrupts are made again.
+#[derive(Clone, Copy)]
+pub struct SystemFiles<'a> {
+    rt: &'a HostRuntime,
+}
+
+impl<'a> SystemFiles<'a> {
+    /// The files of this system.
+    pub fn new(rt: &'a HostRuntime) -> SystemFiles<'a> {
+        SystemFiles { rt }
+    }
+}
+
+impl<'a> Opener for SystemFiles<'a> {
+    type File = Retrying<File>;
+
+    ghost bytes_at = { λ files path. None };
+
+    fn open(&self, path: &str) -> Option<Retrying<File>> {
+        match fs::open(self.rt, path) {
+            Ok(file) => Some(Retrying::new(file)),
+            Err(_) => None,
+        }
+    }
+}
+
+/// What is debugged where the command line has no word: r0 = 42, and the end.
+const FIRST_PROGRAM: &[u8] = &[
+    0xb7, 0, 0, 0, 0x2a, 0, 0, 0, // mov r0, 42
+    0x95, 0, 0, 0, 0, 0, 0, 0, // exit
+];
+
+/// The plan of that, with every option absent.
+pub const FIRST_PLAN: Plan<'static> = Plan {
+    subcommand: Subcommand::Debug,
+    file: "",
+    memory: None,
+    script: None,
+    options: NO_OPTIONS,
+};
+
+/// A file of that program under any path.
+#[derive(Clone, Copy)]
+pub struct BuiltIn;
+
+impl Opener for BuiltIn {
+    type File = &'static [u8];
+
+    ghost bytes_at = { λ files path. Some first_program };
+
+    fn open(&self, _path: &str) -> Option<&'static [u8]> {
+        Some(FIRST_PROGRAM)
+    }
+}

@@ -1,0 +1,30 @@
+-- The exit status of a job that is done, other than 2.
+use Rattle.std.specs.Prelude.{ℕ, ◌≡◌, List, [], ◌∷◌, Option, Some, None}
+use Rattle.bpf_isa.specs.Programs.{Checked}
+use Rattle.bpf_suite.specs.Outcomes.{Outcome}
+use Rattle.bpf_suite.specs.Reports.{AreOutcomes, all_pass}
+use Rattle.bpf_suite.specs.declared.section.Section.{Section}
+use Rattle.bpfdb_jobs.specs.Jobs.{OpensSession, Print, Prints}
+use Rattle.bpfdb_jobs.specs.Shown.{Shows}
+use Rattle.bpfdb_jobs.specs.Suites.{AreTestsOf, status_of}
+use Rattle.bpfdb_jobs.specs.declared.job.Job.{Job}
+use Rattle.bpfdb_options.specs.declared.subcommand.Subcommand.{Subcommand}
+use Rattle.bpfdb_options.specs.declared.subcommand.Subcommand.TheVariants.{Debug, Gdb, Test}
+use Rattle.bpfdb_options.specs.declared.test_part.TestPart.{TestPart}
+
+-- A session was opened.
+abbrev pub EndsSessionWith : Job → ℕ → Type 0
+EndsSessionWith job status = (code : Checked) × OpensSession job code × (status ≡ 0)
+
+-- Tests were run, or a part of one was shown.
+abbrev pub EndsTestWith : Option TestPart → Job → ℕ → Type 0
+EndsTestWith None job status = (asked : List (List Section)) × (outcomes : List Outcome) × AreTestsOf job asked × AreOutcomes asked outcomes
+    × (status ≡ status_of (all_pass asked outcomes))
+EndsTestWith (Some part) job status = (test : List Section) × (bytes : List ℕ) × AreTestsOf job (test ∷ []) × Shows part test bytes × (status ≡ 0)
+
+-- Each other subcommand printed.
+abbrev pub EndsWith : Subcommand → Job → ℕ → Type 0
+EndsWith Debug job status = EndsSessionWith job status
+EndsWith Gdb job status = EndsSessionWith job status
+EndsWith Test job status = EndsTestWith job.options.show job status
+EndsWith subcommand job status = (a : Print) × Prints subcommand job a × (status ≡ a.status)
