@@ -1,5 +1,5 @@
 -- The data that a program refers to: sections, each of which becomes a map after the object's own.
-use Rattle.std.specs.Prelude.{◌<◌, All, ℕ, ◌+◌, ◌==◌, nat_lt, Bool, ◌&&◌, if◌then◌else◌, List, [], ◌∷◌, ◌++◌, Result, Ok, count_by, length, slice_index}
+use Rattle.std.specs.Prelude.{◌<◌, ◌≤◌, All, ℕ, ◌+◌, ◌==◌, nat_lt, Bool, ◌&&◌, if◌then◌else◌, List, [], ◌∷◌, ◌++◌, Result, Ok, count_by, length, slice_index}
 use Rattle.std.specs.List.{list_any}
 use Rattle.bpf_link.specs.declared.fault.LinkFault.{LinkFault}
 use Rattle.bpf_link.specs.declared.fault.LinkFault.TheVariants.{TooManyMaps}
@@ -8,7 +8,7 @@ use Rattle.bpf_link.specs.declared.plan.Entries.{Entries}
 use Rattle.bpf_link.specs.declared.plan.Plan.{Plan}
 use Rattle.bpf_link.specs.Header.{provided}
 use Rattle.bpf_link.specs.Sections.{section_at, is_data, relocations_of}
-use Rattle.bpf_link.specs.Plans.{after, steps, relocations_in, relocation_at, symbol_at}
+use Rattle.bpf_link.specs.Plans.{after, steps, relocations_in, relocation_at, symbol_at, LiesPlan}
 
 -- A section is among some.
 abbrev pub is_among : List ℕ → ℕ → Bool
@@ -73,6 +73,21 @@ data_of object plan = after (referred object plan) (λ found. in_order found pla
 -- All sections are below a number.
 abbrev pub AllBelow : ℕ → List ℕ → Type 0
 AllBelow n sections = All (λ section. section < n) sections
+
+-- Sections of data become maps: at most 16, each one of the plan's.
+pub record AreTaken (plan : Plan) (taken : List ℕ) : Type 0 where
+  pub few : length taken ≤ 16
+  pub below : AllBelow plan.sections.count taken
+
+-- A plan lies in the file, and it has at most 16 maps: its own, which stand at places of their section, and sections of data.
+pub record HasMaps (object : List ℕ) (plan : Plan) (maps taken : List ℕ) : Type 0 where
+  pub lies : LiesPlan object plan
+  pub few : length maps + length taken ≤ 16
+
+-- The sections are the plan's.
+pub record HasData (object : List ℕ) (plan : Plan) (maps taken : List ℕ) : Type 0 where
+  pub mapped : HasMaps object plan maps taken
+  pub below : AllBelow plan.sections.count taken
 
 -- The number of the map that a section becomes: after the object's own, and the sections before it.
 abbrev pub data_number : List ℕ → List ℕ → ℕ → ℕ

@@ -13,7 +13,7 @@ use Rattle.bpf_link.specs.declared.plan.Plan.{Plan}
 use Rattle.bpf_link.specs.declared.sections.Found.{Found}
 use Rattle.bpf_link.specs.Links.{planned}
 use Rattle.bpf_link.specs.MapTypes.{found_named, is_something, name_from, types_bytes, types_found}
-use Rattle.bpf_link.specs.Plans.{part_place}
+use Rattle.bpf_link.specs.Plans.{part_place, LiesPlan}
 use Rattle.bpf_link.specs.Refusals.{HasReadFault}
 
 -- The section that lists them, and its bytes.
@@ -22,6 +22,10 @@ ext_found object plan = found_named object plan.sections (codes ".BTF.ext")
 
 abbrev pub ext_bytes : List ℕ → Plan → List ℕ
 ext_bytes object plan = types_bytes object plan.sections (ext_found object plan)
+
+pub record HasExt (object : List ℕ) (plan : Plan) (ext : List ℕ) : Type 0 where
+  pub lies : LiesPlan object plan
+  pub bytes : ext ≡ ext_bytes object plan
 
 -- Where a name stands in the file, if it has at most 255 bytes; else the file's end, where there is none.
 abbrev pub short_name : List ℕ → ℕ → ℕ

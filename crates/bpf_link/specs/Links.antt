@@ -1,5 +1,5 @@
 -- The program that an object holds: the words of its code, with the relocations of these done.
-use Rattle.std.specs.Prelude.{◌≡◌, ◌⊎◌, All, ℕ, zero, suc, ◌+◌, ◌*◌, ◌/◌, ◌==◌, nat_le, nat_lt, min, Option, Some, None, is_some, List, [], ◌∷◌, ◌++◌, Result, Ok, Err, length, map, slice_range, slice_set, if◌then◌else◌}
+use Rattle.std.specs.Prelude.{◌≡◌, ◌⊎◌, ◌≤◌, All, ℕ, zero, suc, ◌+◌, ◌*◌, ◌/◌, ◌==◌, nat_le, nat_lt, min, Option, Some, None, is_some, List, [], ◌∷◌, ◌++◌, Result, Ok, Err, length, map, slice_range, slice_set, if◌then◌else◌}
 use Rattle.bpf_isa.specs.Checker.{IsAccepted, IsRefused, most_slots}
 use Rattle.bpf_isa.specs.Maps.{IsShape}
 use Rattle.bpf_isa.specs.declared.maps.MapShape.{MapShape}
@@ -15,7 +15,7 @@ use Rattle.bpf_link.specs.declared.plan.Plan.{Plan}
 use Rattle.bpf_link.specs.declared.patch.Patch.{Patch}
 use Rattle.bpf_link.specs.Header.{provided, opened}
 use Rattle.bpf_link.specs.Sections.{section_at, roles_below}
-use Rattle.bpf_link.specs.Plans.{after, steps, symbol_at, plan_of}
+use Rattle.bpf_link.specs.Plans.{after, steps, symbol_at, plan_of, FitsPart}
 use Rattle.bpf_link.specs.Data.{data_of}
 use Rattle.bpf_link.specs.Entries.{entry_of}
 use Rattle.bpf_link.specs.Patches.{is_map, patch_of, with_u32}
@@ -54,6 +54,11 @@ with_relocation object plan maps taken part i words = after (patch_of object pla
 
 abbrev pub relocated : List ℕ → Plan → List ℕ → List ℕ → Part → List ℕ → ℕ → Result (List ℕ) LinkFault
 relocated object plan maps taken part words n = steps (with_relocation object plan maps taken part) words n
+
+-- A part has room in the words.
+pub record HasRoom (object : List ℕ) (part : Part) (words : List ℕ) : Type 0 where
+  pub fits : FitsPart object part
+  pub room : 8 * (part.first + part.slots.count) ≤ length words
 
 -- The slots of a part as they stand in the object.
 abbrev pub slots_of : List ℕ → Part → List ℕ

@@ -1,5 +1,5 @@
 -- The shapes of the maps of a section `.maps`, by the section `.BTF` of the object.
-use Rattle.std.specs.Prelude.{ℕ, ◌+◌, ◌==◌, nat_le, nat_lt, Bool, true, false, ◌&&◌, if◌then◌else◌, List, [], ◌∷◌, ◌++◌, Option, Some, None, Result, Ok, Err, length, slice_index, slice_range, codes}
+use Rattle.std.specs.Prelude.{◌≤◌, ℕ, ◌+◌, ◌==◌, nat_le, nat_lt, Bool, true, false, ◌&&◌, if◌then◌else◌, List, [], ◌∷◌, ◌++◌, Option, Some, None, Result, Ok, Err, length, slice_index, slice_range, codes}
 use Rattle.std.specs.List.{before_first}
 use Rattle.bpf_isa.specs.declared.maps.MapShape.{MapShape}
 use Rattle.bpf_btf.specs.Maps.{last_below, map_shape}
@@ -14,7 +14,7 @@ use Rattle.bpf_link.specs.declared.plan.Plan.{Plan}
 use Rattle.bpf_link.specs.declared.sections.Found.{Found}
 use Rattle.bpf_link.specs.declared.sections.Found.TheVariants.{Nothing, Only, Several}
 use Rattle.bpf_link.specs.Sections.{section_at, is_named, found_below}
-use Rattle.bpf_link.specs.Plans.{after, steps, symbol_at, symbol_place}
+use Rattle.bpf_link.specs.Plans.{after, steps, symbol_at, symbol_place, LiesPlan}
 use Rattle.bpf_link.specs.Patches.{is_map}
 
 -- The maps stand in `.maps`, where only BTF tells what they are.
@@ -47,6 +47,11 @@ is_something Several = true
 -- There are maps, and BTF tells their shapes.
 abbrev pub is_typed : List ℕ → Plan → List ℕ → Bool
 is_typed object plan maps = nat_lt 0 (length maps) && (are_in_maps object plan && is_something (types_found object plan.sections))
+
+-- A plan lies in the file, and its maps stand at so many places of their section, at most 16.
+pub record HasPlaces (object : List ℕ) (plan : Plan) (places : List ℕ) : Type 0 where
+  pub lies : LiesPlan object plan
+  pub few : length places ≤ 16
 
 -- A name stands at a place in the file, up to a zero.
 abbrev pub is_zero_byte : ℕ → Bool

@@ -1,5 +1,5 @@
 -- What relocations make of the words: calls and map references (RFC 9669, sections 4.3 and 5.4; the relocations R_BPF_64_32 and R_BPF_64_64).
-use Rattle.std.specs.Prelude.{ℕ, ◌+◌, ◌*◌, ◌/◌, ◌%◌, ◌-◌, ◌==◌, nat_lt, Bool, not, ◌&&◌, ◌||◌, if◌then◌else◌, List, ◌++◌, Result, Ok, Err, Some, None, count_by, take, drop, slice_index}
+use Rattle.std.specs.Prelude.{◌≡◌, ◌≤◌, ◌<◌, ℕ, ◌+◌, ◌*◌, ◌/◌, ◌%◌, ◌-◌, ◌==◌, nat_lt, Bool, not, ◌&&◌, ◌||◌, if◌then◌else◌, List, ◌++◌, Result, Ok, Err, Some, None, count_by, take, drop, length, slice_index}
 use Rattle.byteorder.specs.Endian.{little_bytes}
 use Rattle.bpf_isa.specs.Words.{u32_at}
 use Rattle.bpf_link.specs.declared.fault.LinkFault.{LinkFault}
@@ -11,8 +11,24 @@ use Rattle.bpf_link.specs.declared.plan.Part.{Part}
 use Rattle.bpf_link.specs.declared.plan.Plan.{Plan}
 use Rattle.bpf_link.specs.declared.patch.Patch.{Patch}
 use Rattle.bpf_link.specs.Header.{provided}
-use Rattle.bpf_link.specs.Plans.{after, relocation_at, symbol_at, symbol_place}
+use Rattle.bpf_link.specs.Plans.{after, relocation_at, symbol_at, symbol_place, FitsPart}
 use Rattle.bpf_link.specs.Data.{is_among, data_number}
+
+-- So many bytes of the object from a place on are those of a slot of the program, or of two.
+pub record HasSlots (object : List ℕ) (size place number : ℕ) : Type 0 where
+  pub at : place + size ≤ length object
+  pub slot : number < 65535
+
+-- A relocation names a slot of a part.
+pub record HasPlace (object : List ℕ) (part : Part) (relocation : RelocationEntry) : Type 0 where
+  pub fits : FitsPart object part
+  pub whole : relocation.offset % 8 ≡ 0
+  pub inside : relocation.offset / 8 < part.slots.count
+
+-- A part has a relocation of an index.
+pub record HasRelocation (object : List ℕ) (part : Part) (i : ℕ) : Type 0 where
+  pub fits : FitsPart object part
+  pub index : i < part.relocations.count
 
 -- The slot of a call: opcode 0x85, and 1 for src, which tells a local call. The functions of the kernel have 2, its helpers 0.
 abbrev pub is_call : List ℕ → ℕ → Bool

@@ -15,7 +15,7 @@ use Rattle.bpf_link.specs.declared.plan.Part.{Part}
 use Rattle.bpf_link.specs.declared.plan.Plan.{Plan}
 use Rattle.bpf_link.specs.Layout.{symbol_entry, relocation_entry}
 use Rattle.bpf_link.specs.Header.{provided, HasTable}
-use Rattle.bpf_link.specs.Sections.{section_at, section_place, is_named, relocations_of}
+use Rattle.bpf_link.specs.Sections.{section_at, section_place, is_named, relocations_of, FoundBelow}
 
 -- What follows a value, unless there is a fault.
 abbrev pub after : {A B : Type 0} → Result A LinkFault → (A → Result B LinkFault) → Result B LinkFault
@@ -171,10 +171,49 @@ plan_of object sections roles unnamed =
 pub record Lies (object : List ℕ) (size : ℕ) (entries : Entries) : Type 0 where
   pub inside : entries.at + size * entries.count ≤ length object
 
+-- It is the entry of an index.
+pub record HasEntry (object : List ℕ) (size : ℕ) (entries : Entries) (i : ℕ) : Type 0 where
+  pub lies : Lies object size entries
+  pub index : i < entries.count
+
+-- A section of the table, which lies in the file, by its index, and one that was looked for there.
+pub record HasSection (object : List ℕ) (sections : Sections) (section : ℕ) : Type 0 where
+  pub table : HasTable object sections
+  pub index : section < sections.count
+
+pub record HasFound (object : List ℕ) (sections : Sections) (found : Found) : Type 0 where
+  pub table : HasTable object sections
+  pub within : FoundBelow sections.count found
+
 -- A part of a program lies in the file.
 pub record LiesPart (object : List ℕ) (part : Part) : Type 0 where
   pub slots : Lies object 8 part.slots
   pub relocations : Lies object 16 part.relocations
+
+-- Its slots are among the first 65,535 of the program.
+pub record FitsPart (object : List ℕ) (part : Part) : Type 0 where
+  pub lies : LiesPart object part
+  pub short : part.first + part.slots.count ≤ 65535
+
+-- The code of a program, and the symbols, lie in the file.
+pub record HasCode (object : List ℕ) (symbols : Entries) (code : Part) : Type 0 where
+  pub lies : Lies object 24 symbols
+  pub fits : LiesPart object code
+
+-- `.text` lies in the file, and its slots follow those of the code.
+pub record IsBehind (object : List ℕ) (code part : Part) : Type 0 where
+  pub fits : LiesPart object part
+  pub first : part.first ≤ code.slots.count
+  pub joins : 0 < part.slots.count → part.first ≡ code.slots.count
+
+-- What a plan is made of: the table lies in the file, where the sections were looked for, and so do the symbols.
+pub record HasRoles (object : List ℕ) (sections : Sections) (roles : Roles) (entries : Entries) (section : ℕ) : Type 0 where
+  pub table : HasTable object sections
+  pub text : FoundBelow sections.count roles.text
+  pub table_of_symbols : FoundBelow sections.count roles.symbols
+  pub maps : FoundBelow sections.count roles.maps
+  pub chosen : section < sections.count
+  pub symbols : Lies object 24 entries
 
 -- All that a plan names lies in the file. The slots of `.text` follow those of the section that is asked for.
 pub record LiesPlan (object : List ℕ) (plan : Plan) : Type 0 where

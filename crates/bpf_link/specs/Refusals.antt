@@ -29,12 +29,16 @@ pub record HasOtherMap (object : List ℕ) (plan : Plan) (maps : List ℕ) (faul
 abbrev pub IsTypeFault : List ℕ → Plan → List ℕ → LinkFault → Type 0
 IsTypeFault object plan maps fault = (fault ≡ link.Memory) ⊎ (HasReadFault object plan fault ⊎ HasOtherMap object plan maps fault)
 
+-- BTF is to give them.
+pub record HasTypeFault (object : List ℕ) (plan : Plan) (maps : List ℕ) (fault : LinkFault) : Type 0 where
+  pub typed : is_typed object plan maps ≡ true
+  pub err : IsTypeFault object plan maps fault
+
 -- Why the maps of a plan have no shapes.
 pub record IsShapeFault (object : List ℕ) (plan : Plan) (fault : LinkFault) : Type 0 where
   pub maps : List ℕ
   pub found : maps_of object plan ≡ Ok maps
-  pub typed : is_typed object plan maps ≡ true
-  pub why : IsTypeFault object plan maps fault
+  pub why : HasTypeFault object plan maps fault
 
 -- The words are a program, and its maps have no shapes.
 pub record LacksShapes (object name entry : List ℕ) (stubs : List Stub) (fault : LinkFault) : Type 0 where

@@ -74,6 +74,22 @@ abbrev pub FoundBelow : ℕ → Found → Type 0
 FoundBelow n (Only i) = i < n
 FoundBelow n _ = Unit {0}
 
+-- They were looked for among the first n.
+pub record AreFound (n : ℕ) (roles : Roles) : Type 0 where
+  pub chosen : FoundBelow n roles.chosen
+  pub text : FoundBelow n roles.text
+  pub symbols : FoundBelow n roles.symbols
+  pub maps : FoundBelow n roles.maps
+
+-- They with one more section, of an index.
+abbrev pub roles_with : List ℕ → Sections → List ℕ → Roles → ℕ → SectionHeader → Roles
+roles_with object sections name roles i section = record {
+  chosen = found_with roles.chosen (is_chosen object sections name section) i;
+  text = found_with roles.text (is_text object sections section) i;
+  symbols = found_with roles.symbols (is_symbols section) i;
+  maps = found_with roles.maps (is_maps object sections section) i;
+}
+
 -- The sections that belong to the one that is asked for, among the first n.
 abbrev pub roles_below : List ℕ → Sections → List ℕ → ℕ → Roles
 roles_below object sections name n = record {

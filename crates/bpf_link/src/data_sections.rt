@@ -1,7 +1,7 @@
 //! The data that a program refers to: sections, each of which becomes a map.
 ghost use Rattle.std.specs.Prelude.{◌≡◌, ◌≤◌, ◌<◌, ◌+◌, length, IfOk, IfErr, Ok, Err, ℕ};
 ghost use Rattle.bpf_link.specs.Data.{is_among, refers_to_data, with_section, with_reference, with_references, pointers_of, with_pointed, with_all_pointed, referred, with_taken, in_order, data_of, data_number, AllBelow};
-ghost use Rattle.bpf_link.specs.Plans.{Lies, LiesPlan};
+ghost use Rattle.bpf_link.specs.Plans.{Lies, HasEntry, LiesPlan};
 
 use crate::fault::LinkFault;
 use crate::layout::RelocationEntry;
@@ -67,8 +67,7 @@ fn with_reference(
     found: ArrayVec<usize, 16>,
 ) -> Result<ArrayVec<usize, 16>, LinkFault>
     requires plan { LiesPlan object.now plan.now }
-    requires relocations { Lies object.now 16 relocations.now }
-    requires index { i < relocations.now.count }
+    requires entry { HasEntry object.now 16 relocations.now i }
     ensures ok { IfOk result (λ new.
         with_reference object.now plan.now kind relocations.now i found.items ≡ Ok new.items) }
     ensures err { IfErr result (λ fault.
@@ -125,7 +124,8 @@ fn with_pointed(
     found: ArrayVec<usize, 16>,
 ) -> Result<ArrayVec<usize, 16>, LinkFault>
     requires { LiesPlan object.now plan.now }
-    ensures ok { IfOk result (λ new. with_pointed object.now plan.now k found.items ≡ Ok new.items) }
+    ensures ok { IfOk result (λ new.
+        with_pointed object.now plan.now k found.items ≡ Ok new.items) }
     ensures err { IfErr result (λ fault.
         with_pointed object.now plan.now k found.items ≡ Err fault) }
 {

@@ -1,6 +1,6 @@
 //! The relocations of fields (CO-RE) of the code that comes out.
 ghost use Rattle.std.specs.Prelude.{◌≡◌, ◌≤◌, ◌<◌, ◌+◌, ◌/◌, ◌==◌, ◌⊎◌, true, IfOk, IfErr, Ok, length};
-ghost use Rattle.bpf_link.specs.FieldRelocations.{AreLeft, CountedFields, HasFields, HasCountFault, HasExtFault, IsCountFault, IsFieldsFault, ListedFields, PartFields, PlanFields, both_fields, ext_bytes, ext_found, fields_at, part_name, short_name};
+ghost use Rattle.bpf_link.specs.FieldRelocations.{AreLeft, CountedFields, HasExt, HasFields, HasCountFault, HasExtFault, IsCountFault, IsFieldsFault, ListedFields, PartFields, PlanFields, both_fields, ext_bytes, ext_found, fields_at, part_name, short_name};
 ghost use Rattle.bpf_link.specs.Links.{planned};
 ghost use Rattle.bpf_link.specs.MapTypes.{is_something};
 ghost use Rattle.bpf_link.specs.Plans.{LiesPlan};
@@ -84,11 +84,10 @@ fn listed_fields(
     ext: &[u8],
     part: &Part,
 ) -> Result<FieldRelocations, LinkFault>
-    requires plan { LiesPlan object.now plan.now }
+    requires ext { HasExt object.now plan.now ext.now }
     requires first { part.now.first ≤ 65535 }
-    requires ext { ext.now ≡ ext_bytes object.now plan.now }
-    ensures ok { IfOk result
-        (ListedFields object.now plan.now types.now.strings (ext_bytes object.now plan.now) part.now) }
+    ensures ok { IfOk result (ListedFields object.now plan.now types.now.strings
+        (ext_bytes object.now plan.now) part.now) }
     ensures err { IfErr result (HasExtFault object.now plan.now) }
 {
     let at = part_name(object, plan, part);
@@ -106,9 +105,8 @@ fn part_fields(
     ext: &[u8],
     part: &Part,
 ) -> Result<FieldRelocations, LinkFault>
-    requires plan { LiesPlan object.now plan.now }
+    requires ext { HasExt object.now plan.now ext.now }
     requires first { part.now.first ≤ 65535 }
-    requires ext { ext.now ≡ ext_bytes object.now plan.now }
     ensures ok { IfOk result (PartFields (part.now.slots.count == 0)
         object.now plan.now types.now.strings (ext_bytes object.now plan.now) part.now) }
     ensures err { IfErr result (HasExtFault object.now plan.now) }
@@ -140,8 +138,7 @@ fn counted_fields(
     plan: &Plan,
     ext: &[u8],
 ) -> Result<FieldRelocations, LinkFault>
-    requires plan { LiesPlan object.now plan.now }
-    requires ext { ext.now ≡ ext_bytes object.now plan.now }
+    requires { HasExt object.now plan.now ext.now }
     ensures ok { IfOk result (CountedFields object.now plan.now) }
     ensures err { IfErr result (IsCountFault object.now plan.now) }
 {

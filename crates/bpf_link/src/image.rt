@@ -1,8 +1,9 @@
 //! What the data of a program are at its start.
 ghost use Rattle.std.specs.Prelude.{◌≡◌, ◌≤◌, ◌<◌, ◌+◌, ◌⊎◌, length, IfOk, IfErr, Ok, Err};
+ghost use Rattle.bpf_link.specs.Data.{HasMaps};
 ghost use Rattle.bpf_link.specs.Images.{most_data, filled, whole_size, bytes_of, with_u64, address_of, with_address, with_relocated, with_pointer, with_pointers, image_of};
 ghost use Rattle.bpf_link.specs.Links.{MemoryOr};
-ghost use Rattle.bpf_link.specs.Plans.{Lies, LiesPlan};
+ghost use Rattle.bpf_link.specs.Plans.{Lies, HasEntry};
 ghost use Rattle.bpf_link.specs.declared.fault.LinkFault.TheVariants.{Memory};
 
 use crate::data_sections::{data_number, is_among, pointers_of};
@@ -105,10 +106,8 @@ fn with_pointer(
     i: usize,
     image: Vec<u8>,
 ) -> Result<Vec<u8>, LinkFault>
-    requires plan { LiesPlan object.now plan.now }
-    requires relocations { Lies object.now 16 relocations.now }
-    requires index { i < relocations.now.count }
-    requires few { length maps.now + length taken.now ≤ 16 }
+    requires maps { HasMaps object.now plan.now maps.now taken.now }
+    requires entry { HasEntry object.now 16 relocations.now i }
     ensures ok { IfOk result (λ new. with_pointer object.now plan.now maps.now taken.now
         relocations.now i image.items ≡ Ok new.items) }
     ensures err { IfErr result (λ fault. with_pointer object.now plan.now maps.now taken.now
@@ -127,8 +126,7 @@ fn with_relocated(
     relocation: &RelocationEntry,
     image: Vec<u8>,
 ) -> Result<Vec<u8>, LinkFault>
-    requires plan { LiesPlan object.now plan.now }
-    requires few { length maps.now + length taken.now ≤ 16 }
+    requires { HasMaps object.now plan.now maps.now taken.now }
     ensures ok { IfOk result (λ new. with_relocated object.now plan.now maps.now taken.now
         relocation.now image.items ≡ Ok new.items) }
     ensures err { IfErr result (λ fault. with_relocated object.now plan.now maps.now taken.now
@@ -157,9 +155,8 @@ fn with_pointers(
     relocations: &Entries,
     image: Vec<u8>,
 ) -> Result<Vec<u8>, LinkFault>
-    requires plan { LiesPlan object.now plan.now }
+    requires maps { HasMaps object.now plan.now maps.now taken.now }
     requires relocations { Lies object.now 16 relocations.now }
-    requires few { length maps.now + length taken.now ≤ 16 }
     ensures ok { IfOk result (λ new. with_pointers object.now plan.now maps.now taken.now
         relocations.now image.items ≡ Ok new.items) }
     ensures err { IfErr result (λ fault. with_pointers object.now plan.now maps.now taken.now
@@ -184,8 +181,7 @@ pub fn image_of(
     taken: &[usize],
     section: usize,
 ) -> Result<Vec<u8>, LinkFault>
-    requires plan { LiesPlan object.now plan.now }
-    requires few { length maps.now + length taken.now ≤ 16 }
+    requires maps { HasMaps object.now plan.now maps.now taken.now }
     requires section { section < plan.now.sections.count }
     ensures ok { IfOk result (λ image.
         image_of object.now plan.now maps.now taken.now section ≡ Ok image.items) }

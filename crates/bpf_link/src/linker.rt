@@ -1,15 +1,14 @@
 //! The linker: from an object to the words of a program.
-ghost use Rattle.std.specs.Prelude.{◌≡◌, ◌≤◌, ◌<◌, ◌+◌, List, [], length, IfOk, IfErr, Ok, Err};
-ghost use Rattle.bpf_isa.specs.Checker.{IsAccepted, IsRefused};
+ghost use Rattle.std.specs.Prelude.{◌≡◌, ◌≤◌, ◌<◌, ◌+◌, List, [], length, IfOk, IfErr, Ok};
+ghost use Rattle.bpf_isa.specs.Checker.{IsRefused};
 ghost use Rattle.bpf_isa.specs.declared.maps.MapShape.{MapShape};
 ghost use Rattle.bpf_isa.specs.Maps.{IsShape};
-ghost use Rattle.bpf_link.specs.Data.{AllBelow};
-ghost use Rattle.bpf_link.specs.Laid.{IsLaidOut};
-ghost use Rattle.bpf_link.specs.Links.{AllShapes, MemoryOr, linked, planned, program_of, program_words, plain_maps, least_maps, data_shape, data_shapes, maps_of, told_of};
+ghost use Rattle.bpf_link.specs.Data.{AreTaken, HasData};
+ghost use Rattle.bpf_link.specs.Links.{AllShapes, MemoryOr, planned, program_of, program_words, plain_maps, least_maps, data_shape, data_shapes, told_of};
 ghost use Rattle.bpf_link.specs.Plans.{LiesPlan};
+ghost use Rattle.bpf_link.specs.Programs.{HasOwnMaps, IsLinked, IsProgram, linked_of, made_of};
 ghost use Rattle.bpf_link.specs.Refusals.{IsLinkFault, IsShapeFault};
-ghost use Rattle.bpf_link.specs.Shapes.{HasShapes, AreDataShapes};
-ghost use Rattle.bpf_link.specs.declared.plan.Plan.{Plan};
+ghost use Rattle.bpf_link.specs.Shapes.{HasShapes};
 
 use crate::data_sections::data_of;
 use crate::entry::entry_of;
@@ -145,8 +144,7 @@ fn data_shape(size: u64) -> MapShape
 /// The shapes of the maps that sections of data become.
 fn data_shapes(object: &[u8], plan: &Plan, taken: &[usize]) -> ArrayVec<MapShape, 16>
     requires plan { LiesPlan object.now plan.now }
-    requires few { length taken.now ≤ 16 }
-    requires below { AllBelow plan.now.sections.count taken.now }
+    requires taken { AreTaken plan.now taken.now }
     ensures value { result.items ≡ data_shapes object.now plan.now taken.now }
     ensures possible { AllShapes result.items }
 {
@@ -168,9 +166,7 @@ fn program_words(
     entry: usize,
     stubs: &[Stub],
 ) -> Result<Answered, LinkFault>
-    requires plan { LiesPlan object.now plan.now }
-    requires few { length maps.now + length taken.now ≤ 16 }
-    requires below { AllBelow plan.now.sections.count taken.now }
+    requires data { HasData object.now plan.now maps.now taken.now }
     requires begins { entry < 65535 }
     ensures ok { IfOk result (λ done.
         program_words object.now plan.now maps.now taken.now entry stubs.now
@@ -205,21 +201,8 @@ fn program_of(
     plan: &Plan,
 ) -> Result<Program, LinkFault>
     requires { LiesPlan object.now plan.now }
-    ensures ok { IfOk result (λ program. program_of object.now entry.now stubs.now plan.now
-        ≡ Ok (record {
-          words = program.words.items;
-          maps = length program.maps.items;
-          data_maps = program.data_maps.items;
-          answered = program.answered;
-        })) }
+    ensures ok { IfOk result (IsProgram object.now plan.now entry.now stubs.now) }
     ensures err { IfErr result (MemoryOr (program_of object.now entry.now stubs.now plan.now)) }
-    ensures laid { IfOk result (λ program. IsLaidOut object.now plan.now entry.now stubs.now program.words.items) }
-    ensures few { IfOk result
-        (λ program. length program.maps.items + length program.data_maps.items ≤ 16) }
-    ensures possible { IfOk result (λ program. AllShapes program.data_maps.items) }
-    ensures maps { IfOk result (λ program. maps_of object.now plan.now ≡ Ok program.maps.items) }
-    ensures data { IfOk result
-        (λ program. AreDataShapes object.now plan.now program.data_maps.items) }
 {
     let slot = match entry_of(object, plan, entry) {
         Ok(slot) => slot,
@@ -258,14 +241,8 @@ fn with_shapes(
     plan: &Plan,
     program: Program,
 ) -> Result<Linked, LinkFault>
-    requires plan { LiesPlan object.now plan.now }
-    requires few { length program.maps.items + length program.data_maps.items ≤ 16 }
-    requires maps { maps_of object.now plan.now ≡ Ok program.maps.items }
-    requires data { AreDataShapes object.now plan.now program.data_maps.items }
-    ensures words { IfOk result (λ linked. linked.words.items ≡ program.words.items) }
-    ensures maps { IfOk result (λ linked. linked.maps ≡ length program.maps.items) }
-    ensures data_maps { IfOk result (λ linked. linked.data_maps.items ≡ program.data_maps.items) }
-    ensures answered { IfOk result (λ linked. linked.answered ≡ program.answered) }
+    requires { HasOwnMaps object.now plan.now program }
+    ensures same { IfOk result (λ linked. linked_of linked ≡ made_of program) }
     ensures shapes { IfOk result (λ linked. HasShapes object.now plan.now linked.shapes.items) }
     ensures err { IfErr result (IsShapeFault object.now plan.now) }
 {
@@ -298,22 +275,8 @@ pub fn link_with(
     object: &[u8],
     options: &LinkOptions<'_>,
 ) -> Result<Linked, LinkFault>
-    ensures ok { IfOk result (λ program.
-        linked object.now options.now.section.now options.now.entry.now
-        options.now.stubs.now ≡ Ok (record {
-          words = program.words.items;
-          maps = program.maps;
-          data_maps = program.data_maps.items;
-          answered = program.answered;
-        })) }
-    ensures laid { IfOk result (λ program. (plan : Plan)
-        × (planned object.now options.now.section.now ≡ Ok plan)
-        × IsLaidOut object.now plan options.now.entry.now options.now.stubs.now program.words.items) }
-    ensures shapes { IfOk result (λ program. (plan : Plan)
-        × (planned object.now options.now.section.now ≡ Ok plan)
-        × HasShapes object.now plan program.shapes.items) }
-    ensures accepted { IfOk result
-        (λ program. IsAccepted program.words.items (least_maps program.maps program.data_maps.items)) }
+    ensures ok { IfOk result (IsLinked object.now options.now.section.now options.now.entry.now
+        options.now.stubs.now) }
     ensures err { IfErr result
         (IsLinkFault object.now options.now.section.now options.now.entry.now
         options.now.stubs.now) }
@@ -368,20 +331,7 @@ fn told_of(object: &[u8], plan: &Plan, words: &[u8], fault: LoadFault) -> LinkFa
 
 /// The program of a code section: that of `link_with`, where nothing but the section is asked for.
 pub fn link(alloc: Global, object: &[u8], section: &[u8]) -> Result<Linked, LinkFault>
-    ensures ok { IfOk result (λ program. linked object.now section.now [] [] ≡ Ok (record {
-      words = program.words.items;
-      maps = program.maps;
-      data_maps = program.data_maps.items;
-      answered = program.answered;
-    })) }
-    ensures laid { IfOk result (λ program. (plan : Plan)
-        × (planned object.now section.now ≡ Ok plan)
-        × IsLaidOut object.now plan [] [] program.words.items) }
-    ensures shapes { IfOk result (λ program. (plan : Plan)
-        × (planned object.now section.now ≡ Ok plan)
-        × HasShapes object.now plan program.shapes.items) }
-    ensures accepted { IfOk result
-        (λ program. IsAccepted program.words.items (least_maps program.maps program.data_maps.items)) }
+    ensures ok { IfOk result (IsLinked object.now section.now [] []) }
     ensures err { IfErr result (IsLinkFault object.now section.now [] []) }
 {
     link_with(

@@ -2,7 +2,7 @@
 ghost use Rattle.std.specs.Prelude.{◌≡◌, ◌≤◌, ◌<◌, ◌⊎◌, IfOk, IfErr, IfSome, Ok, Err, length, position};
 ghost use Rattle.std.specs.List.{position_or_len};
 ghost use Rattle.bpf_link.specs.Header.{HasTable};
-ghost use Rattle.bpf_link.specs.MapTypes.{are_in_maps, found_named, types_found, section_bytes, types_bytes, is_something, is_typed, is_zero_byte, name_from, is_map_at, symbol_of, name_place, told_of_map, typed_by_name, typed_at, typed_shapes};
+ghost use Rattle.bpf_link.specs.MapTypes.{are_in_maps, HasPlaces, found_named, types_found, section_bytes, types_bytes, is_something, is_typed, is_zero_byte, name_from, is_map_at, symbol_of, name_place, told_of_map, typed_by_name, typed_at, typed_shapes};
 ghost use Rattle.bpf_link.specs.Plans.{LiesPlan};
 ghost use Rattle.bpf_link.specs.Sections.{FoundBelow};
 ghost use Rattle.bpf_link.specs.Refusals.{IsTypeFault};
@@ -206,8 +206,7 @@ fn typed_shapes(
     types: &Btf<'_>,
     places: &[u64],
 ) -> Result<ArrayVec<MapShape, 16>, LinkFault>
-    requires plan { LiesPlan object.now plan.now }
-    requires few { length places.now ≤ 16 }
+    requires { HasPlaces object.now plan.now places.now }
     ensures ok { IfOk result (λ shapes.
         typed_shapes object.now plan.now types.now places.now ≡ Ok shapes.items) }
     ensures size { IfOk result (λ shapes. length shapes.items ≡ length places.now) }
@@ -241,8 +240,7 @@ pub fn shapes_by_types(
     plan: &Plan,
     maps: &[u64],
 ) -> Result<ArrayVec<MapShape, 16>, LinkFault>
-    requires plan { LiesPlan object.now plan.now }
-    requires few { length maps.now ≤ 16 }
+    requires { HasPlaces object.now plan.now maps.now }
     ensures ok { IfOk result (λ shapes. AreTyped object.now plan.now maps.now shapes.items) }
     ensures few { IfOk result (λ shapes. length shapes.items ≤ length maps.now) }
     ensures err { IfErr result (IsTypeFault object.now plan.now maps.now) }

@@ -126,7 +126,8 @@ fn function_places(object: &[u8], section: &[u8], known: bool) -> ArrayVec<usize
 /// The same by the plan for that section.
 fn function_places_in(object: &[u8], plan: &Plan, known: bool) -> ArrayVec<usize, 17>
     requires { LiesPlan object.now plan.now }
-    ensures { result.items ≡ built (with_function object.now plan.now known) plan.now.symbols.count }
+    ensures { result.items ≡ built (with_function object.now plan.now known)
+        plan.now.symbols.count }
 {
     let mut places = ArrayVec::new();
     for i in 0..plan.symbols.count {

@@ -1,9 +1,10 @@
 //! What relocations make of the words.
 ghost use Rattle.std.specs.Prelude.{◌≡◌, ◌≤◌, ◌<◌, ◌+◌, ◌*◌, ◌/◌, ◌%◌, length, IfOk, OnOk, IfErr, Ok, Err};
 ghost use Rattle.bpf_isa.specs.Words.{u32_at};
+ghost use Rattle.bpf_link.specs.Data.{HasMaps};
 ghost use Rattle.bpf_link.specs.Links.{patch_width};
-ghost use Rattle.bpf_link.specs.Patches.{is_call, part_with, call_to, call_patch, is_map, is_empty_load, map_number, map_patch, is_short_load, data_patch, load_patch, patch_with, is_next, patch_at, patch_of};
-ghost use Rattle.bpf_link.specs.Plans.{Lies, LiesPart, LiesPlan};
+ghost use Rattle.bpf_link.specs.Patches.{HasSlots, HasPlace, HasRelocation, is_call, part_with, call_to, call_patch, is_map, is_empty_load, map_number, map_patch, is_short_load, data_patch, load_patch, patch_with, is_next, patch_at, patch_of};
+ghost use Rattle.bpf_link.specs.Plans.{FitsPart, Lies, LiesPlan};
 
 use crate::data_sections::{data_number, is_among};
 use crate::fault::LinkFault;
@@ -81,8 +82,7 @@ fn call_patch(
     slot: usize,
 ) -> Result<Patch, LinkFault>
     requires plan { LiesPlan object.now plan.now }
-    requires at { at + 8 ≤ length object.now }
-    requires slot { slot < 65535 }
+    requires slot { HasSlots object.now 8 at slot }
     ensures value { result ≡ call_patch object.now plan.now symbol.now at slot }
     ensures at { IfOk result (λ patch. patch.at ≡ 8 * slot) }
 {
@@ -133,8 +133,7 @@ fn map_patch(
     at: usize,
     slot: usize,
 ) -> Result<Patch, LinkFault>
-    requires at { at + 16 ≤ length object.now }
-    requires slot { slot < 65535 }
+    requires slots { HasSlots object.now 16 at slot }
     requires maps { length maps.now ≤ 16 }
     ensures value { result ≡ map_patch object.now plan.now maps.now symbol.now at slot }
     ensures at { IfOk result (λ patch. patch.at ≡ 8 * slot) }
@@ -170,8 +169,7 @@ fn data_patch(
     at: usize,
     slot: usize,
 ) -> Result<Patch, LinkFault>
-    requires at { at + 16 ≤ length object.now }
-    requires slot { slot < 65535 }
+    requires slots { HasSlots object.now 16 at slot }
     requires few { length maps.now + length taken.now ≤ 16 }
     ensures value { result ≡ data_patch object.now maps.now taken.now symbol.now at slot }
     ensures at { IfOk result (λ patch. patch.at ≡ 8 * slot) }
@@ -198,8 +196,7 @@ fn load_patch(
     at: usize,
     slot: usize,
 ) -> Result<Patch, LinkFault>
-    requires at { at + 16 ≤ length object.now }
-    requires slot { slot < 65535 }
+    requires slots { HasSlots object.now 16 at slot }
     requires few { length maps.now + length taken.now ≤ 16 }
     ensures value { result ≡ load_patch object.now plan.now maps.now taken.now symbol.now at slot }
     ensures at { IfOk result (λ patch. patch.at ≡ 8 * slot) }
@@ -219,14 +216,10 @@ fn patch_with(
     relocation: &RelocationEntry,
     symbol: &SymbolEntry,
 ) -> Result<Patch, LinkFault>
-    requires plan { LiesPlan object.now plan.now }
-    requires part { LiesPart object.now part.now }
-    requires short { part.now.first + part.now.slots.count ≤ 65535 }
-    requires few { length maps.now + length taken.now ≤ 16 }
-    requires whole { relocation.now.offset % 8 ≡ 0 }
-    requires inside { relocation.now.offset / 8 < part.now.slots.count }
-    ensures value { result ≡ patch_with object.now plan.now maps.now taken.now part.now relocation.now
-        symbol.now }
+    requires maps { HasMaps object.now plan.now maps.now taken.now }
+    requires slot { HasPlace object.now part.now relocation.now }
+    ensures value { result ≡ patch_with object.now plan.now maps.now taken.now part.now
+        relocation.now symbol.now }
     ensures at { IfOk result (λ patch. patch.at
         ≡ 8 * (part.now.first + relocation.now.offset / 8)) }
 {
@@ -276,11 +269,10 @@ fn patch_at(
     part: &Part,
     relocation: &RelocationEntry,
 ) -> Result<Patch, LinkFault>
-    requires plan { LiesPlan object.now plan.now }
-    requires part { LiesPart object.now part.now }
-    requires short { part.now.first + part.now.slots.count ≤ 65535 }
-    requires few { length maps.now + length taken.now ≤ 16 }
-    ensures value { result ≡ patch_at object.now plan.now maps.now taken.now part.now relocation.now }
+    requires maps { HasMaps object.now plan.now maps.now taken.now }
+    requires part { FitsPart object.now part.now }
+    ensures value { result ≡ patch_at object.now plan.now maps.now taken.now part.now
+        relocation.now }
     ensures at { IfOk result (λ patch. patch.at + patch_width patch
         ≤ 8 * (part.now.first + part.now.slots.count)) }
 {
@@ -307,11 +299,8 @@ pub fn patch_of(
     part: &Part,
     i: usize,
 ) -> Result<Patch, LinkFault>
-    requires plan { LiesPlan object.now plan.now }
-    requires part { LiesPart object.now part.now }
-    requires short { part.now.first + part.now.slots.count ≤ 65535 }
-    requires index { i < part.now.relocations.count }
-    requires few { length maps.now + length taken.now ≤ 16 }
+    requires maps { HasMaps object.now plan.now maps.now taken.now }
+    requires relocation { HasRelocation object.now part.now i }
     ensures value { result ≡ patch_of object.now plan.now maps.now taken.now part.now i }
     ensures at { IfOk result (λ patch. patch.at + patch_width patch
         ≤ 8 * (part.now.first + part.now.slots.count)) }

@@ -1,8 +1,8 @@
 //! What a program is put together from.
 ghost use Rattle.std.specs.Prelude.{◌≡◌, ◌≤◌, ◌<◌, ◌==◌, ◌⊎◌, length, IfOk, ℕ, Bool};
 ghost use Rattle.bpf_link.specs.Header.{HasTable};
-ghost use Rattle.bpf_link.specs.Plans.{entries_of, symbols_in, maps_in, chosen_in, is_only, relocations_in, part_of, relocation_at, symbol_at, symbol_place, part_place, is_reference, refers_below, text_in, is_closed, has_definitions, definitions_in, names_in, plan_with, plan_of, Lies, LiesPart, LiesPlan};
-ghost use Rattle.bpf_link.specs.Sections.{FoundBelow};
+ghost use Rattle.bpf_link.specs.Plans.{entries_of, symbols_in, maps_in, chosen_in, is_only, relocations_in, part_of, relocation_at, symbol_at, symbol_place, part_place, is_reference, refers_below, text_in, is_closed, has_definitions, definitions_in, names_in, plan_with, plan_of, Lies, LiesPart, HasSection, HasFound, HasCode, IsBehind, HasRoles, LiesPlan};
+ghost use Rattle.bpf_link.specs.Sections.{AreFound, FoundBelow};
 
 use crate::fault::LinkFault;
 use crate::fields::lies;
@@ -82,8 +82,7 @@ fn entries_of(
 }
 
 fn symbols_in(object: &[u8], sections: &Sections, found: Found) -> Result<Entries, LinkFault>
-    requires table { HasTable object.now sections.now }
-    requires found { FoundBelow sections.now.count found }
+    requires { HasFound object.now sections.now found }
     ensures value { result ≡ symbols_in object.now sections.now found }
     ensures fits { IfOk result (Lies object.now 24) }
 {
@@ -145,8 +144,7 @@ pub fn relocations_in(
     symbols: Found,
     found: Found,
 ) -> Result<Entries, LinkFault>
-    requires table { HasTable object.now sections.now }
-    requires found { FoundBelow sections.now.count found }
+    requires { HasFound object.now sections.now found }
     ensures value { result ≡ relocations_in object.now sections.now symbols found }
     ensures fits { IfOk result (Lies object.now 16) }
 {
@@ -174,8 +172,7 @@ fn part_of(
     section: usize,
     first: usize,
 ) -> Result<Part, LinkFault>
-    requires table { HasTable object.now sections.now }
-    requires index { section < sections.now.count }
+    requires { HasSection object.now sections.now section }
     ensures value { result ≡ part_of object.now sections.now symbols section first }
     ensures fits { IfOk result (LiesPart object.now) }
     ensures first { IfOk result (λ part. part.first ≡ first) }
@@ -294,15 +291,11 @@ fn text_in(
     code: &Part,
     found: Found,
 ) -> Result<Part, LinkFault>
-    requires table { HasTable object.now sections.now }
-    requires found { FoundBelow sections.now.count found }
-    requires symbols { Lies object.now 24 symbols.now }
-    requires code { LiesPart object.now code.now }
+    requires found { HasFound object.now sections.now found }
+    requires code { HasCode object.now symbols.now code.now }
     ensures value { result ≡ text_in object.now sections.now symbols_section symbols.now code.now
         found }
-    ensures fits { IfOk result (LiesPart object.now) }
-    ensures first { IfOk result (λ part. part.first ≤ code.now.slots.count) }
-    ensures joins { IfOk result (λ part. 0 < part.slots.count → part.first ≡ code.now.slots.count) }
+    ensures behind { IfOk result (IsBehind object.now code.now) }
 {
     match found {
         Found::Nothing => Ok(NO_PART),
@@ -343,8 +336,7 @@ fn has_definitions(object: &[u8], sections: &Sections, section: &SectionHeader) 
 
 /// The bytes of the definitions of maps.
 fn definitions_in(object: &[u8], sections: &Sections, found: Found) -> Entries
-    requires table { HasTable object.now sections.now }
-    requires found { FoundBelow sections.now.count found }
+    requires { HasFound object.now sections.now found }
     ensures value { result ≡ definitions_in object.now sections.now found }
     ensures fits { Lies object.now 1 result }
 {
@@ -366,8 +358,7 @@ fn definitions_in(object: &[u8], sections: &Sections, found: Found) -> Entries
 
 /// Where the names of symbols begin: in the section to which the one of the symbols links.
 fn names_in(object: &[u8], sections: &Sections, found: Found) -> u64
-    requires table { HasTable object.now sections.now }
-    requires found { FoundBelow sections.now.count found }
+    requires { HasFound object.now sections.now found }
     ensures { result ≡ names_in object.now sections.now found }
 {
     match found {
@@ -391,12 +382,7 @@ fn plan_with(
     maps: usize,
     chosen: usize,
 ) -> Result<Plan, LinkFault>
-    requires table { HasTable object.now sections.now }
-    requires text { FoundBelow sections.now.count roles.now.text }
-    requires table_of_symbols { FoundBelow sections.now.count roles.now.symbols }
-    requires maps { FoundBelow sections.now.count roles.now.maps }
-    requires chosen { chosen < sections.now.count }
-    requires symbols { Lies object.now 24 symbols.now }
+    requires { HasRoles object.now sections.now roles.now symbols.now chosen }
     ensures value { result ≡ plan_with object.now sections.now roles.now symbols.now maps chosen }
     ensures fits { IfOk result (LiesPlan object.now) }
 {
@@ -429,10 +415,7 @@ pub fn plan_of(
     unnamed: bool,
 ) -> Result<Plan, LinkFault>
     requires table { HasTable object.now sections.now }
-    requires chosen { FoundBelow sections.now.count roles.now.chosen }
-    requires text { FoundBelow sections.now.count roles.now.text }
-    requires symbols { FoundBelow sections.now.count roles.now.symbols }
-    requires maps { FoundBelow sections.now.count roles.now.maps }
+    requires roles { AreFound sections.now.count roles.now }
     ensures value { result ≡ plan_of object.now sections.now roles.now unnamed }
     ensures fits { IfOk result (LiesPlan object.now) }
 {

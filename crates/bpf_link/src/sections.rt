@@ -1,7 +1,7 @@
 //! The sections of an object, by their kinds and names.
 ghost use Rattle.std.specs.Prelude.{◌≡◌, ◌≤◌, ◌<◌, length};
 ghost use Rattle.bpf_link.specs.Header.{HasTable};
-ghost use Rattle.bpf_link.specs.Sections.{section_at, section_place, name_at, is_named, is_code, is_text, is_chosen, is_symbols, is_maps, is_data, is_relocations, found_with, FoundBelow, roles_below, relocations_of};
+ghost use Rattle.bpf_link.specs.Sections.{section_at, section_place, name_at, is_named, is_code, is_text, is_chosen, is_symbols, is_maps, is_data, is_relocations, found_with, AreFound, FoundBelow, roles_with, roles_below, relocations_of};
 
 use crate::header::Sections;
 use crate::layout::{SectionHeader, section_header};
@@ -146,10 +146,7 @@ fn is_relocations(target: usize, section: &SectionHeader) -> bool
 pub fn roles_of(object: &[u8], sections: &Sections, name: &[u8]) -> Roles
     requires { HasTable object.now sections.now }
     ensures value { result ≡ roles_below object.now sections.now name.now sections.now.count }
-    ensures chosen { FoundBelow sections.now.count result.chosen }
-    ensures text { FoundBelow sections.now.count result.text }
-    ensures symbols { FoundBelow sections.now.count result.symbols }
-    ensures maps { FoundBelow sections.now.count result.maps }
+    ensures within { AreFound sections.now.count result }
 {
     let mut roles = Roles {
         chosen: Found::Nothing,
@@ -174,13 +171,7 @@ fn roles_with(
     section: &SectionHeader,
 ) -> Roles
     requires { HasTable object.now sections.now }
-    ensures chosen { result.chosen
-        ≡ found_with roles.chosen (is_chosen object.now sections.now name.now section.now) i }
-    ensures text { result.text
-        ≡ found_with roles.text (is_text object.now sections.now section.now) i }
-    ensures symbols { result.symbols ≡ found_with roles.symbols (is_symbols section.now) i }
-    ensures maps { result.maps
-        ≡ found_with roles.maps (is_maps object.now sections.now section.now) i }
+    ensures { result ≡ roles_with object.now sections.now name.now roles i section.now }
 {
     Roles {
         chosen: roles

@@ -1,8 +1,7 @@
 //! The setup: what a program with data runs before its entry.
 ghost use Rattle.std.specs.Prelude.{◌≡◌, ◌≤◌, ◌<◌, ◌+◌, ◌/◌, ◌++◌, length, IfOk, IfErr, Ok, Err};
-ghost use Rattle.bpf_link.specs.Data.{AllBelow};
+ghost use Rattle.bpf_link.specs.Data.{HasData};
 ghost use Rattle.bpf_link.specs.Links.{MemoryOr};
-ghost use Rattle.bpf_link.specs.Plans.{LiesPlan};
 ghost use Rattle.bpf_link.specs.Setup.{with_place, store_words, with_store, with_stores, is_zero, with_image, with_section_image, stores_of, jump_words, with_entry, with_setup};
 ghost use Rattle.bpf_link.specs.declared.fault.LinkFault.TheVariants.{Memory};
 
@@ -137,9 +136,7 @@ fn with_section_image(
     k: usize,
     setup: Vec<u8>,
 ) -> Result<Vec<u8>, LinkFault>
-    requires plan { LiesPlan object.now plan.now }
-    requires few { length maps.now + length taken.now ≤ 16 }
-    requires below { AllBelow plan.now.sections.count taken.now }
+    requires data { HasData object.now plan.now maps.now taken.now }
     requires index { k < length taken.now }
     ensures ok { IfOk result (λ new. with_section_image object.now plan.now maps.now taken.now k
         setup.items ≡ Ok new.items) }
@@ -161,9 +158,7 @@ pub fn stores_of(
     maps: &[u64],
     taken: &[usize],
 ) -> Result<Vec<u8>, LinkFault>
-    requires plan { LiesPlan object.now plan.now }
-    requires few { length maps.now + length taken.now ≤ 16 }
-    requires below { AllBelow plan.now.sections.count taken.now }
+    requires { HasData object.now plan.now maps.now taken.now }
     ensures ok { IfOk result (λ stores.
         stores_of object.now plan.now maps.now taken.now ≡ Ok stores.items) }
     ensures err { IfErr result (MemoryOr (stores_of object.now plan.now maps.now taken.now)) }

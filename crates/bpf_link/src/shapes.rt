@@ -1,9 +1,9 @@
 //! The shapes of the maps of an object.
 ghost use Rattle.std.specs.Prelude.{◌≡◌, ◌≤◌, ◌<◌, ◌+◌, ◌++◌, nat_le, length, true, IfOk, IfErr, IsTrue, List};
 ghost use Rattle.bpf_link.specs.Plans.{Lies, LiesPlan};
-ghost use Rattle.bpf_link.specs.MapTypes.{is_typed};
-ghost use Rattle.bpf_link.specs.Refusals.{IsTypeFault};
-ghost use Rattle.bpf_link.specs.Shapes.{definition_at, is_array, shape_at, shapes_at, IsInOrder, AreShapes, AreNumbered, AreOwn, is_unknown, all_shapes};
+ghost use Rattle.bpf_link.specs.MapTypes.{HasPlaces, is_typed};
+ghost use Rattle.bpf_link.specs.Refusals.{HasTypeFault};
+ghost use Rattle.bpf_link.specs.Shapes.{definition_at, is_array, shape_at, shapes_at, IsInOrder, AreDefined, AreOwn, is_unknown, all_shapes};
 ghost use Rattle.bpf_isa.specs.declared.maps.MapShape.{MapShape};
 
 use crate::fault::LinkFault;
@@ -90,8 +90,7 @@ pub fn in_order(places: &[u64]) -> ArrayVec<u64, 16>
 fn shapes_of(object: &[u8], definitions: &Entries, maps: &[u64]) -> ArrayVec<MapShape, 16>
     requires lies { Lies object.now 1 definitions.now }
     requires few { length maps.now ≤ 16 }
-    ensures ordered { AreShapes object.now definitions.now maps.now result.items }
-    ensures numbered { AreNumbered object.now definitions.now maps.now result.items }
+    ensures defined { AreDefined object.now definitions.now maps.now result.items }
     ensures few { length result.items ≤ length maps.now }
 {
     let ordered = in_order(maps);
@@ -105,13 +104,11 @@ fn own_shapes(
     plan: &Plan,
     maps: &[u64],
 ) -> Result<ArrayVec<MapShape, 16>, LinkFault>
-    requires plan { LiesPlan object.now plan.now }
-    requires few { length maps.now ≤ 16 }
+    requires { HasPlaces object.now plan.now maps.now }
     ensures ok { IfOk result (λ own. AreOwn (is_typed object.now plan.now maps.now)
         object.now plan.now maps.now own.items) }
     ensures few { IfOk result (λ own. length own.items ≤ length maps.now) }
-    ensures err { IfErr result (IsTypeFault object.now plan.now maps.now) }
-    ensures typed { IfErr result (λ fault. is_typed object.now plan.now maps.now ≡ true) }
+    ensures err { IfErr result (HasTypeFault object.now plan.now maps.now) }
 {
     if is_typed(object, plan, maps) {
         return shapes_by_types(alloc, object, plan, maps);
@@ -134,8 +131,7 @@ pub fn all_shapes(
     ensures ok { IfOk result (λ shapes. (own : List MapShape)
         × AreOwn (is_typed object.now plan.now maps.now) object.now plan.now maps.now own
         × (shapes.items ≡ all_shapes maps.now own others.now)) }
-    ensures err { IfErr result (IsTypeFault object.now plan.now maps.now) }
-    ensures typed { IfErr result (λ fault. is_typed object.now plan.now maps.now ≡ true) }
+    ensures err { IfErr result (HasTypeFault object.now plan.now maps.now) }
 {
     let own = match own_shapes(alloc, object, plan, maps) {
         Ok(own) => own,

@@ -1,6 +1,7 @@
 //! The words of a plan, with the relocations done.
 ghost use Rattle.std.specs.Prelude.{◌≡◌, ◌≤◌, ◌<◌, ◌+◌, ◌*◌, ◌⊎◌, length, IfOk, OnOk, IfErr, Ok, Err};
-ghost use Rattle.bpf_link.specs.Links.{MemoryOr, maps_of, with_patch, patch_width, relocated, slots_of, words_of};
+ghost use Rattle.bpf_link.specs.Data.{HasMaps};
+ghost use Rattle.bpf_link.specs.Links.{HasRoom, MemoryOr, maps_of, with_patch, patch_width, relocated, slots_of, words_of};
 ghost use Rattle.bpf_link.specs.Plans.{Lies, LiesPart, LiesPlan};
 ghost use Rattle.bpf_link.specs.declared.fault.LinkFault.TheVariants.{Memory};
 
@@ -51,17 +52,12 @@ fn relocate(
     part: &Part,
     words: &mut [u8],
 ) -> Result<(), LinkFault>
-    requires plan { LiesPlan object.now plan.now }
-    requires part { LiesPart object.now part.now }
-    requires short { part.now.first + part.now.slots.count ≤ 65535 }
-    requires few { length maps.now + length taken.now ≤ 16 }
-    requires words { 8 * (part.now.first + part.now.slots.count) ≤ length words.old }
-    ensures ok { OnOk result
-        (relocated object.now plan.now maps.now taken.now part.now words.old part.now.relocations.count
-        ≡ Ok words.new) }
-    ensures err { IfErr result (λ fault.
-        relocated object.now plan.now maps.now taken.now part.now words.old part.now.relocations.count
-        ≡ Err fault) }
+    requires maps { HasMaps object.now plan.now maps.now taken.now }
+    requires room { HasRoom object.now part.now words.old }
+    ensures ok { OnOk result (relocated object.now plan.now maps.now taken.now part.now words.old
+        part.now.relocations.count ≡ Ok words.new) }
+    ensures err { IfErr result (λ fault. relocated object.now plan.now maps.now taken.now part.now
+        words.old part.now.relocations.count ≡ Err fault) }
 {
     for i in 0..part.relocations.count {
         match patch_of(object, plan, maps, taken, part, i) {
@@ -90,9 +86,9 @@ pub fn words_of(
     maps: &[u64],
     taken: &[usize],
 ) -> Result<Vec<u8>, LinkFault>
-    requires plan { LiesPlan object.now plan.now }
-    requires few { length maps.now + length taken.now ≤ 16 }
-    ensures ok { IfOk result (λ words. words_of object.now plan.now maps.now taken.now ≡ Ok words.items) }
+    requires { HasMaps object.now plan.now maps.now taken.now }
+    ensures ok { IfOk result (λ words.
+        words_of object.now plan.now maps.now taken.now ≡ Ok words.items) }
     ensures err { IfErr result (MemoryOr (words_of object.now plan.now maps.now taken.now)) }
 {
     let mut words = match Vec::from_slice(alloc, slots_of(object, &plan.code)) {

@@ -1,12 +1,9 @@
 //! What a job of `link` does.
 ghost use Rattle.std.specs.Prelude.{◌≡◌, ◌≤◌, ℕ, List, IfErr, IfOk, Ok, Err};
 ghost use Rattle.std.specs.Borrow.{Bor};
-ghost use Rattle.bpf_isa.specs.Checker.{IsAccepted};
 ghost use Rattle.bpf_link.specs.Refusals.{IsLinkFault};
-ghost use Rattle.bpf_link.specs.Links.{least_maps, linked, planned};
 ghost use Rattle.bpf_link.specs.Names.{fault_names};
-ghost use Rattle.bpf_link.specs.Shapes.{HasShapes};
-ghost use Rattle.bpf_link.specs.declared.plan.Plan.{Plan};
+ghost use Rattle.bpf_link.specs.Programs.{IsLinked};
 ghost use Rattle.bpfdb_jobs.specs.Endings.{EndsPrinted, Told};
 ghost use Rattle.bpfdb_jobs.specs.Faults.{line_of};
 ghost use Rattle.bpfdb_jobs.specs.Jobs.{answered_if, entry_of, fields_if, section_of, stubs_of};
@@ -87,18 +84,7 @@ fn linked_from(
     entry: &[u8],
     stubs: &[Stub],
 ) -> Result<Linked, LinkFault>
-    ensures ok { IfOk result (λ program.
-        linked object.now section.now entry.now stubs.now ≡ Ok (record {
-          words = program.words.items;
-          maps = program.maps;
-          data_maps = program.data_maps.items;
-          answered = program.answered;
-        })) }
-    ensures shapes { IfOk result (λ program. (plan : Plan)
-        × (planned object.now section.now ≡ Ok plan)
-        × HasShapes object.now plan program.shapes.items) }
-    ensures accepted { IfOk result
-        (λ program. IsAccepted program.words.items (least_maps program.maps program.data_maps.items)) }
+    ensures ok { IfOk result (IsLinked object.now section.now entry.now stubs.now) }
     ensures err { IfErr result (IsLinkFault object.now section.now entry.now stubs.now) }
 {
     link_with(

@@ -17,9 +17,6 @@ returns c =
     let maps = rw c.as_slice.ensures.value at (rw c.len.ensures.value at c.least_maps.ensures) in
     record {
       ok = tt;
-      laid = tt;
-      shapes = tt;
-      accepted = tt;
       err = inr (inl (record {
         plan = c.in-Ok.plan;
         plans = sym c.in-Ok.ensures.value;
@@ -28,7 +25,7 @@ returns c =
         told = c.told_of.ensures ∙ ap (λ words. told_of c.args.object.now c.in-Ok.plan words c.in-Err-check.fault) c.deref-in-Err-check.ensures.value;
         linked =
             ap (λ r. after r (program_of c.args.object.now c.args.options.now.entry.now c.args.options.now.stubs.now)) (sym c.in-Ok.ensures.value)
-            ∙ c.in-Ok-program_of.ensures.ok;
+            ∙ c.in-Ok-program_of.ensures.ok.ok;
         refused =
             subst (λ words. IsRefused words (least_maps (length program.maps.items) program.data_maps.items) c.in-Err-check.fault) c.deref.ensures.value
             (subst (λ m. IsRefused c.deref.result.now m c.in-Err-check.fault) maps c.in-Err-check.ensures.fault);

@@ -1,9 +1,19 @@
-use Rattle.std.proofs.Common.{◌∙◌, Ok, sym, ap}
+use Rattle.std.proofs.Common.{◌≡◌, ◌≤◌, ◌+◌, ◌∙◌, Ok, length, sym, ap, rules, tests, arith}
+use Rattle.std.proofs.lemmas.List.{length-map}
 use Rattle.bpf_link.proofs.Laid.{laid_out}
 use Rattle.bpf_link.proofs.linker.program_of.Goals as goal
 
-pub returns-clause-laid : goal.returns-clause-laid
-returns-clause-laid c =
-    laid_out c.args.object.now c.args.plan.now c.as_slice-own.result.now c.as_slice-taken.result.now c.args.entry.now _ c.args.stubs.now _ c.requires
-    (c.in-Ok-maps_of.ensures.ok ∙ ap Ok (sym c.as_slice-own.ensures.value)) (c.in-Ok-data_of.ensures.ok ∙ ap Ok (sym c.as_slice-taken.ensures.value)) (sym c.in-Ok.ensures.value)
-    c.in-Ok-program_words.ensures.ok
+pub returns-clause-ok : goal.returns-clause-ok
+returns-clause-ok c =
+    let found = c.in-Ok-data_of.ensures.ok ∙ ap Ok (sym c.as_slice-taken.ensures.value) in
+    let size : length c.data_shapes-data_maps.result.items ≡ length c.as_slice-taken.result.now = ap length c.data_shapes-data_maps.ensures.value ∙ length-map _ _ in
+    let own : length c.as_slice-own.result.now ≡ length c.in-Ok-maps_of.maps.items = ap length c.as_slice-own.ensures.value in
+    let few : length c.in-Ok-maps_of.maps.items + length c.data_shapes-data_maps.result.items ≤ 16 = omega (arith, size, own, c.if-own-taken-gt16.false) in
+    record {
+      ok = search (rules, tests);
+      laid =
+          laid_out c.args.object.now c.args.plan.now c.as_slice-own.result.now c.as_slice-taken.result.now c.args.entry.now _ c.args.stubs.now _ c.requires
+          (c.in-Ok-maps_of.ensures.ok ∙ ap Ok (sym c.as_slice-own.ensures.value)) found (sym c.in-Ok.ensures.value) c.in-Ok-program_words.ensures.ok;
+      own = record { lies = c.requires; few = few; maps = c.in-Ok-maps_of.ensures.ok; of_data = (c.as_slice-taken.result.now, found, c.data_shapes-data_maps.ensures.value) };
+      possible = c.data_shapes-data_maps.ensures.possible;
+    }

@@ -1,4 +1,4 @@
-use Rattle.std.proofs.Common.{◌≤◌, ◌∙◌, ◌+◌, ◌*◌, length, ap, sym, add-one, arith}
+use Rattle.std.proofs.Common.{◌∙◌, ap, sym, add-one, arith}
 use Rattle.bpf_link.specs.Names.{built, with_name}
 use Rattle.bpf_link.proofs.names.names_at.Goals as goal
 

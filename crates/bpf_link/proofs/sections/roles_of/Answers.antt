@@ -5,26 +5,17 @@ use Rattle.bpf_link.proofs.sections.roles_of.Goals as goal
 
 pub loop-i-preserved : goal.loop-i-preserved
 loop-i-preserved c =
-    let e = c.roles_with-roles.ensures in
     roles_more c.args.object.now c.args.sections.now c.args.name.now c.loop-i.i c.section_at-section.result c.loop-i.roles c.roles_with-roles.result
-    c.loop-i.invariant c.section_at-section.ensures e.chosen e.text e.symbols e.maps
+    c.loop-i.invariant c.section_at-section.ensures c.roles_with-roles.ensures
 
-pub returns-clause-chosen : goal.returns-clause-chosen
-returns-clause-chosen c =
-    let end : c.loop-i.i ≡ c.args.sections.now.count = omega arith in
-    inside (λ i. is_chosen c.args.object.now c.args.sections.now c.args.name.now (section_at c.args.object.now c.args.sections.now i)) c.loop-i.i _ _ (ap (λ r. r.chosen) c.loop-i.invariant) end
-
-pub returns-clause-text : goal.returns-clause-text
-returns-clause-text c =
-    let end : c.loop-i.i ≡ c.args.sections.now.count = omega arith in
-    inside (λ i. is_text c.args.object.now c.args.sections.now (section_at c.args.object.now c.args.sections.now i)) c.loop-i.i _ _ (ap (λ r. r.text) c.loop-i.invariant) end
-
-pub returns-clause-symbols : goal.returns-clause-symbols
-returns-clause-symbols c =
-    let end : c.loop-i.i ≡ c.args.sections.now.count = omega arith in
-    inside (λ i. is_symbols (section_at c.args.object.now c.args.sections.now i)) c.loop-i.i _ _ (ap (λ r. r.symbols) c.loop-i.invariant) end
-
-pub returns-clause-maps : goal.returns-clause-maps
-returns-clause-maps c =
-    let end : c.loop-i.i ≡ c.args.sections.now.count = omega arith in
-    inside (λ i. is_maps c.args.object.now c.args.sections.now (section_at c.args.object.now c.args.sections.now i)) c.loop-i.i _ _ (ap (λ r. r.maps) c.loop-i.invariant) end
+pub returns-clause-within : goal.returns-clause-within
+returns-clause-within c =
+    let object = c.args.object.now in
+    let sections = c.args.sections.now in
+    let end : c.loop-i.i ≡ sections.count = omega arith in
+    record {
+      chosen = inside (λ i. is_chosen object sections c.args.name.now (section_at object sections i)) c.loop-i.i _ _ (ap (λ r. r.chosen) c.loop-i.invariant) end;
+      text = inside (λ i. is_text object sections (section_at object sections i)) c.loop-i.i _ _ (ap (λ r. r.text) c.loop-i.invariant) end;
+      symbols = inside (λ i. is_symbols (section_at object sections i)) c.loop-i.i _ _ (ap (λ r. r.symbols) c.loop-i.invariant) end;
+      maps = inside (λ i. is_maps object sections (section_at object sections i)) c.loop-i.i _ _ (ap (λ r. r.maps) c.loop-i.invariant) end;
+    }

@@ -1,11 +1,8 @@
 use Rattle.std.proofs.Common.{◌≡◌, ℕ, Ok, List, inl, inr, ap, refl, sym, ◌∙◌}
-use Rattle.bpf_isa.specs.Checker.{IsAccepted}
 use Rattle.bpf_link.specs.FieldRelocations.{AreLeft}
-use Rattle.bpf_link.specs.Links.{least_maps, linked, planned}
-use Rattle.bpf_link.specs.Shapes.{HasShapes}
 use Rattle.bpf_link.specs.declared.linker.Linked.{Linked}
-use Rattle.bpf_link.specs.declared.plan.Plan.{Plan}
 use Rattle.bpf_link.specs.declared.stubs.Stub.{Stub}
+use Rattle.bpf_link.specs.Programs.{IsLinked, linked_of}
 use Rattle.bpfdb_jobs.specs.Endings.{OutLost, Refused}
 use Rattle.bpfdb_jobs.specs.Jobs.{Prints, answered_if, entry_of, fields_if, printed, section_of, stubs_of}
 use Rattle.bpfdb_jobs.specs.MapLines.{linked_told}
@@ -17,28 +14,26 @@ use Rattle.bpfdb_jobs.proofs.object.link_job.Goals as goal
 
 -- what is printed of a program that was linked
 linked-prints : (job : Job) (stubs : List Stub) (program : Linked) (left : ℕ) → stubs_of job ≡ Ok stubs
-    → linked job.file.now (section_of job) (entry_of job) stubs ≡ Ok (record { words = program.words.items; maps = program.maps; data_maps = program.data_maps.items; answered = program.answered })
-    → IsAccepted program.words.items (least_maps program.maps program.data_maps.items)
-    → (plan : Plan) × (planned job.file.now (section_of job) ≡ Ok plan) × HasShapes job.file.now plan program.shapes.items
+    → IsLinked job.file.now (section_of job) (entry_of job) stubs program
     → AreLeft job.file.now (section_of job) job.options.as_compiled left
     → Prints Link job (record (printed program.words.items) { err = linked_told program.shapes.items (answered_if job.options.stubs program.answered) (fields_if job.options.as_compiled left) })
-linked-prints job stubs program left asked e accepted shapes fields = (
+linked-prints job stubs program left asked made fields = (
   program.words.items,
   program.shapes.items,
   program.answered,
   left,
   record {
-    plan = shapes.0;
+    plan = made.plan;
     stubs = stubs;
     asked = asked;
     made = record {
-      program = record { words = program.words.items; maps = program.maps; data_maps = program.data_maps.items; answered = program.answered };
-      linked = e;
+      program = linked_of program;
+      linked = made.ok;
       words = refl;
-      accepted = accepted;
+      accepted = made.accepted;
     };
-    plans = shapes.1;
-    shaped = shapes.2;
+    plans = made.plans;
+    shaped = made.shapes;
     counted = refl;
     left = fields;
   },
@@ -55,7 +50,7 @@ returns-in-Ok-write_out-clause-does g c =
     (record (printed program.words.items) { err = linked_told program.shapes.items (answered_if c.args.job.now.options.stubs program.answered) (fields_if c.args.job.now.options.as_compiled left) })
     c.args.writer.now c.write_out.new.writer c.args.errors.now c.tell_linked.new.errors c.tell_linked.result c.told_as.result
     (linked-prints c.args.job.now c.as_slice-named.result.now program left asked (rw c.entry_of.ensures at (rw c.section_of.ensures at c.in-Ok-linked_from.ensures.ok))
-    c.in-Ok-linked_from.ensures.accepted (rw c.section_of.ensures at c.in-Ok-linked_from.ensures.shapes) (rw c.section_of-2.ensures at c.in-Ok-fields_as_compiled.ensures.ok))
+    (rw c.section_of-2.ensures at c.in-Ok-fields_as_compiled.ensures.ok))
     (w.ok, w.same) (rw (c.as_slice-in-Ok-write_out.ensures.value, c.answered_if-answered.ensures, c.fields_if-fields.ensures) at c.tell_linked.ensures.ok)
     (rw (c.as_slice-in-Ok-write_out.ensures.value, c.answered_if-answered.ensures, c.fields_if-fields.ensures) at c.tell_linked.ensures.err)
     c.told_as.ensures.ok c.told_as.ensures.err
@@ -80,7 +75,7 @@ returns-clause-does g c =
     let asked = c.in-Ok.ensures.ok ∙ ap Ok (sym c.as_slice-named.ensures.value) in
     OutLost (record (printed program.words.items) { err = linked_told program.shapes.items (answered_if c.args.job.now.options.stubs program.answered) (fields_if c.args.job.now.options.as_compiled left) })
     (linked-prints c.args.job.now c.as_slice-named.result.now program left asked (rw c.entry_of.ensures at (rw c.section_of.ensures at c.in-Ok-linked_from.ensures.ok))
-    c.in-Ok-linked_from.ensures.accepted (rw c.section_of.ensures at c.in-Ok-linked_from.ensures.shapes) (rw c.section_of-2.ensures at c.in-Ok-fields_as_compiled.ensures.ok))
+    (rw c.section_of-2.ensures at c.in-Ok-fields_as_compiled.ensures.ok))
     (w.err, w.fault) c.give_up.ensures.told c.give_up.ensures.value
 
 pub returns-in-Err-fields_as_compiled-clause-does : goal.returns-in-Err-fields_as_compiled-clause-does

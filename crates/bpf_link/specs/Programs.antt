@@ -1,0 +1,51 @@
+-- What is made of an object: a program with its maps.
+use Rattle.std.specs.Prelude.{◌≡◌, ◌≤◌, ℕ, ◌+◌, List, Ok, length}
+use Rattle.bpf_isa.specs.Checker.{IsAccepted}
+use Rattle.bpf_link.specs.declared.linker.Linked.{Linked}
+use Rattle.bpf_link.specs.declared.linker.Program.{Program}
+use Rattle.bpf_link.specs.declared.plan.Plan.{Plan}
+use Rattle.bpf_link.specs.declared.stubs.Stub.{Stub}
+use Rattle.bpf_link.specs.Laid.{IsLaidOut}
+use Rattle.bpf_link.specs.Links.{AllShapes, Made, least_maps, linked, maps_of, planned, program_of}
+use Rattle.bpf_link.specs.Plans.{LiesPlan}
+use Rattle.bpf_link.specs.Shapes.{AreDataShapes, HasShapes}
+
+-- A program of a plan by its parts, and one with the shapes of its maps.
+abbrev pub made_of : Program → Made
+made_of program = record {
+  words = program.words.items;
+  maps = length program.maps.items;
+  data_maps = program.data_maps.items;
+  answered = program.answered;
+}
+
+abbrev pub linked_of : Linked → Made
+linked_of program = record {
+  words = program.words.items;
+  maps = program.maps;
+  data_maps = program.data_maps.items;
+  answered = program.answered;
+}
+
+-- The maps of a program are those of its plan, at most 16.
+pub record HasOwnMaps (object : List ℕ) (plan : Plan) (program : Program) : Type 0 where
+  pub lies : LiesPlan object plan
+  pub few : length program.maps.items + length program.data_maps.items ≤ 16
+  pub maps : maps_of object plan ≡ Ok program.maps.items
+  pub of_data : AreDataShapes object plan program.data_maps.items
+
+-- A program is that of a plan, and lies as the plan says.
+pub record IsProgram (object : List ℕ) (plan : Plan) (entry : List ℕ) (stubs : List Stub) (program : Program) : Type 0 where
+  pub ok : program_of object entry stubs plan ≡ Ok (made_of program)
+  pub laid : IsLaidOut object plan entry stubs program.words.items
+  pub own : HasOwnMaps object plan program
+  pub possible : AllShapes program.data_maps.items
+
+-- A program that is made of an object. The checker accepts its words, for maps that have at least one byte.
+pub record IsLinked (object name entry : List ℕ) (stubs : List Stub) (program : Linked) : Type 0 where
+  pub ok : linked object name entry stubs ≡ Ok (linked_of program)
+  pub plan : Plan
+  pub plans : planned object name ≡ Ok plan
+  pub laid : IsLaidOut object plan entry stubs program.words.items
+  pub shapes : HasShapes object plan program.shapes.items
+  pub accepted : IsAccepted program.words.items (least_maps program.maps program.data_maps.items)
