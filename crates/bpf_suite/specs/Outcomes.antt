@@ -7,7 +7,7 @@ use Rattle.bpf_isa.specs.Programs.{Checked, IsProgram}
 use Rattle.bpf_isa.specs.declared.fault.LoadFault.{LoadFault}
 use Rattle.bpf_isa.specs.declared.fault.LoadFault.TheVariants as load
 use Rattle.bpf_isa.specs.declared.maps.MapShape.{MapShape}
-use Rattle.bpf_text.specs.Faults.{fault_line, fault_number, fault_text}
+use Rattle.bpf_text.specs.Faults.{asm_fault, fault_line}
 use Rattle.bpf_text.specs.Listing.{IsFaultOf, IsListing}
 use Rattle.bpf_text.specs.declared.fault.AsmFault.TheVariants as assembly
 use Rattle.bpf_machine.specs.Edits.{edited, has_cell}
@@ -115,7 +115,7 @@ cell_place map index = codes " at " ++ cell_name map index
 
 abbrev pub refusal_text : Refusal → List ℕ
 refusal_text (Maps fault) = text_of_refusal (codes "refused M") (map_fault fault).0 [] (map_fault fault).1
-refusal_text (Listing fault) = text_of_refusal (codes "refused A") (fault_number fault) (placed (codes " at line ") (fault_line fault)) (fault_text fault)
+refusal_text (Listing fault) = text_of_refusal (codes "refused A") (asm_fault fault).0 (placed (codes " at line ") (fault_line fault)) (asm_fault fault).1
 refusal_text (Load fault) = text_of_refusal (codes "refused C") (load_fault fault).0 (placed (codes " at slot ") (slot_of fault)) (load_fault fault).1
 refusal_text (Open fault) = text_of_refusal (codes "refused O") (opening.number_of fault) [] (opening.text_of fault)
 refusal_text (NoCell map index) = text_of_refusal (codes "refused Q") 14 (cell_place map index) (codes "no such cell or wrong length")

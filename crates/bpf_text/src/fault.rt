@@ -1,7 +1,8 @@
 //! What assembling a text can answer.
 ghost use Rattle.std.specs.Prelude.{◌≡◌};
-ghost use Rattle.bpf_text.specs.Faults.{fault_number, fault_line, fault_text};
+ghost use Rattle.bpf_text.specs.Faults.{asm_fault, fault_line, line_fault};
 
+use bpf_isa::LoadFault;
 use thiserror::Error;
 
 /// What is wrong with a line of a listing.
@@ -37,41 +38,48 @@ pub enum AsmFault {
     Memory,
 }
 
+impl LineFault {
+    /// Its number, and its text.
+    fn row(self) -> (u8, &'static str)
+        ensures number { result.0 ≡ (line_fault self).0 }
+        ensures text { result.1.now ≡ (line_fault self).1 }
+    {
+        match self {
+            LineFault::UnknownMnemonic => (1, "unknown mnemonic"),
+            LineFault::WrongOperands => (2, "wrong operands"),
+            LineFault::OutOfRange | LineFault::TooFar(_) => (3, "number out of range"),
+            LineFault::LabelTwice(_) => (4, "label defined twice"),
+            LineFault::UnknownLabel => (5, "unknown label"),
+            LineFault::NotText => (6, "byte outside ASCII text"),
+            LineFault::TooManySlots => (8, "too many slots"),
+        }
+    }
+}
+
 impl AsmFault {
-    /// Its number: 1 for A1 and so on.
-    pub fn number(&self) -> u8
-        ensures { result ≡ fault_number self.now }
+    /// Its number, and its text.
+    fn row(&self) -> (u8, &'static str)
+        ensures number { result.0 ≡ (asm_fault self.now).0 }
+        ensures text { result.1.now ≡ (asm_fault self.now).1 }
     {
         match *self {
-            AsmFault::Line(fault, _) => match fault {
-                LineFault::UnknownMnemonic => 1,
-                LineFault::WrongOperands => 2,
-                LineFault::OutOfRange | LineFault::TooFar(_) => 3,
-                LineFault::LabelTwice(_) => 4,
-                LineFault::UnknownLabel => 5,
-                LineFault::NotText => 6,
-                LineFault::TooManySlots => 8,
-            },
-            AsmFault::Memory => 7,
+            AsmFault::Line(fault, _) => fault.row(),
+            AsmFault::Memory => (7, LoadFault::Memory.text()),
         }
+    }
+
+    /// Its number: 1 for A1 and so on.
+    pub fn number(&self) -> u8
+        ensures { result ≡ (asm_fault self.now).0 }
+    {
+        self.row().0
     }
 
     /// What is printed of it after its number and its line.
     pub fn text(&self) -> &'static str
-        ensures { result.now ≡ fault_text self.now }
+        ensures { result.now ≡ (asm_fault self.now).1 }
     {
-        match *self {
-            AsmFault::Line(fault, _) => match fault {
-                LineFault::UnknownMnemonic => "unknown mnemonic",
-                LineFault::WrongOperands => "wrong operands",
-                LineFault::OutOfRange | LineFault::TooFar(_) => "number out of range",
-                LineFault::LabelTwice(_) => "label defined twice",
-                LineFault::UnknownLabel => "unknown label",
-                LineFault::NotText => "byte outside ASCII text",
-                LineFault::TooManySlots => "too many slots",
-            },
-            AsmFault::Memory => "out of memory",
-        }
+        self.row().1
     }
 
     /// The line of the fault, counted from 1; none for want of memory.

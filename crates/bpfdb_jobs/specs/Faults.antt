@@ -10,7 +10,7 @@ use Rattle.bpf_link.specs.declared.fault.LinkFault.{LinkFault}
 use Rattle.bpf_link.specs.declared.fault.LinkFault.TheVariants as linking
 use Rattle.bpf_link.specs.declared.sources.Source.{Source}
 use Rattle.bpf_suite.specs.Faults as suite
-use Rattle.bpf_text.specs.Faults.{fault_line, fault_number, fault_text}
+use Rattle.bpf_text.specs.Faults.{asm_fault, fault_line}
 use Rattle.bpf_machine.specs.Opening as opening
 use Rattle.bpf_journal.specs.Opening as journal
 use Rattle.bpf_origin.specs.Asked as asked
@@ -117,7 +117,7 @@ no_test_line name = codes "refused T7: no test of this name" ++ name_text name +
 
 abbrev pub refusal_line : JobRefusal → List ℕ
 refusal_line (Maps fault) = refusal_text (codes "refused M") (map_fault fault).0 [] (map_fault fault).1
-refusal_line (Listing fault) = refusal_text (codes "refused A") (fault_number fault) (placed (codes " at line ") (fault_line fault)) (fault_text fault)
+refusal_line (Listing fault) = refusal_text (codes "refused A") (asm_fault fault).0 (placed (codes " at line ") (fault_line fault)) (asm_fault fault).1
 refusal_line (Load fault) = refusal_text (codes "refused C") (load_fault fault).0 (placed (codes " at slot ") (slot_of fault)) (load_fault fault).1
 refusal_line (Open fault) = refusal_text (codes "refused O") (opening.number_of fault) [] (opening.text_of fault)
 refusal_line (Journal fault) = refusal_text (codes "refused J") (journal.number_of fault) [] (journal.text_of fault)
