@@ -1,6 +1,7 @@
 -- Faults: each its number, which is printed after E, and its text. bpfdb's own choice.
 use Rattle.std.specs.Prelude.{ℕ, List, codes, Bool, true, false, Result, Ok, Err}
-use Rattle.bpf_isa.specs.Faults.{map_fault}
+use Rattle.bpf_isa.specs.Faults.{load_fault, map_fault}
+use Rattle.bpf_isa.specs.declared.fault.LoadFault.TheVariants as load
 use Rattle.bpf_btf.specs.declared.fault.BtfFault.{BtfFault}
 use Rattle.bpf_btf.specs.declared.fault.BtfFault.TheVariants.{NoBtf, Version, Header, UnknownType, CutType, NoMap, NoStruct, NoNumber, NoSize, TwoSizes, Kind, KeySize, Limits, Ext, LongName, Memory}
 use Rattle.bpf_btf.specs.MapKinds.{kind_text}
@@ -21,7 +22,7 @@ btf_fault KeySize = (51, codes "keys of an array are not of 4 bytes")
 btf_fault (Limits fault) = (52, (map_fault fault).1)
 btf_fault Ext = (53, codes "malformed section .BTF.ext")
 btf_fault LongName = (54, codes "name of a map longer than 255 bytes")
-btf_fault Memory = (26, codes "out of memory")
+btf_fault Memory = (26, (load_fault load.Memory).1)
 
 -- What follows where a test holds, and the fault where it doesn't.
 abbrev pub provided : {A : Type 0} → Bool → BtfFault → Result A BtfFault → Result A BtfFault

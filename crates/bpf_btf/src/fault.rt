@@ -3,7 +3,7 @@ ghost use Rattle.std.specs.Prelude.{◌≡◌};
 ghost use Rattle.bpf_btf.specs.Faults.{btf_fault};
 
 use crate::map_kinds::kind_text;
-use bpf_isa::MapFault;
+use bpf_isa::{LoadFault, MapFault};
 use thiserror::Error;
 
 /// Why a map has no shape, or why BTF isn't read.
@@ -46,53 +46,45 @@ pub enum BtfFault {
 }
 
 impl BtfFault {
+    /// Its number, and its text.
+    fn row(self) -> (u8, &'static str)
+        ensures number { result.0 ≡ (btf_fault self).0 }
+        ensures text { result.1.now ≡ (btf_fault self).1 }
+    {
+        match self {
+            BtfFault::NoBtf => (40, "no BTF in the section .BTF"),
+            BtfFault::Version => (41, "BTF of another version than 1"),
+            BtfFault::Header => (42, "malformed header of BTF"),
+            BtfFault::UnknownType => (43, "BTF has a type of unknown kind"),
+            BtfFault::CutType => (44, "BTF has a type that is cut off"),
+            BtfFault::NoMap => (45, "map has no description in BTF"),
+            BtfFault::NoStruct => (46, "map is defined by no struct"),
+            BtfFault::NoNumber => (47, "number of a map's definition is no pointer to an array"),
+            BtfFault::NoSize => (
+                48,
+                "key or value of a map's definition is no pointer to a type with a size",
+            ),
+            BtfFault::TwoSizes => (49, "map has two sizes of its keys or of its values"),
+            BtfFault::Kind(kind) => (50, kind_text(kind)),
+            BtfFault::KeySize => (51, "keys of an array are not of 4 bytes"),
+            BtfFault::Limits(fault) => (52, fault.text()),
+            BtfFault::Ext => (53, "malformed section .BTF.ext"),
+            BtfFault::LongName => (54, "name of a map longer than 255 bytes"),
+            BtfFault::Memory => (26, LoadFault::Memory.text()),
+        }
+    }
+
     /// The number that is printed after E, 40 to 54, and 26 where memory ran out.
     pub fn number(self) -> u8
         ensures { result ≡ (btf_fault self).0 }
     {
-        match self {
-            BtfFault::NoBtf => 40,
-            BtfFault::Version => 41,
-            BtfFault::Header => 42,
-            BtfFault::UnknownType => 43,
-            BtfFault::CutType => 44,
-            BtfFault::NoMap => 45,
-            BtfFault::NoStruct => 46,
-            BtfFault::NoNumber => 47,
-            BtfFault::NoSize => 48,
-            BtfFault::TwoSizes => 49,
-            BtfFault::Kind(_) => 50,
-            BtfFault::KeySize => 51,
-            BtfFault::Limits(_) => 52,
-            BtfFault::Ext => 53,
-            BtfFault::LongName => 54,
-            BtfFault::Memory => 26,
-        }
+        self.row().0
     }
 
     /// The text that is printed after the number.
     pub fn text(self) -> &'static str
         ensures { result.now ≡ (btf_fault self).1 }
     {
-        match self {
-            BtfFault::NoBtf => "no BTF in the section .BTF",
-            BtfFault::Version => "BTF of another version than 1",
-            BtfFault::Header => "malformed header of BTF",
-            BtfFault::UnknownType => "BTF has a type of unknown kind",
-            BtfFault::CutType => "BTF has a type that is cut off",
-            BtfFault::NoMap => "map has no description in BTF",
-            BtfFault::NoStruct => "map is defined by no struct",
-            BtfFault::NoNumber => "number of a map's definition is no pointer to an array",
-            BtfFault::NoSize => {
-                "key or value of a map's definition is no pointer to a type with a size"
-            }
-            BtfFault::TwoSizes => "map has two sizes of its keys or of its values",
-            BtfFault::Kind(kind) => kind_text(kind),
-            BtfFault::KeySize => "keys of an array are not of 4 bytes",
-            BtfFault::Limits(fault) => fault.text(),
-            BtfFault::Ext => "malformed section .BTF.ext",
-            BtfFault::LongName => "name of a map longer than 255 bytes",
-            BtfFault::Memory => "out of memory",
-        }
+        self.row().1
     }
 }
