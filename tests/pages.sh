@@ -237,21 +237,30 @@ options() {
 
 # refusals: each number and text of the crates' refusals is a row of docs/COMMANDS.md, and no other is. Of variants of one number the first counts.
 refusals() {
-    cat crates/bpf_*/src/fault.rt crates/bpfdb_commands/src/refusal.rt | sed '/=> {$/{N;s/=> {\n *\("[^"]*"\)$/=> \1,/}' | awk -v tested="$(grep -c '^| T1 ' docs/COMMANDS.md)" '
+    # (want of memory has the text that the checker's has; a long row is one line)
+    memory=$(sed -n 's/.*LoadFault::Memory => [^"]*"\([^"]*\)".*/\1/p' crates/bpf_isa/src/fault.rt)
+    cat crates/bpf_*/src/fault.rt crates/bpfdb_commands/src/refusal.rt | sed '/=> {$/{N;s/=> {\n *\("[^"]*"\)$/=> \1,/}' |
+        sed "s/LoadFault::Memory\.text()/\"$memory\"/; /=> ($/{N;N;N;s/(\n */(/;s/\n */ /g;s/, ),/),/}" | awk -v tested="$(grep -c '^| T1 ' docs/COMMANDS.md)" '
         BEGIN {
             letter["LoadFault"] = letter["PieceFault"] = letter["WordFault"] = "C"
             letter["LineFault"] = letter["AsmFault"] = "A"
-            letter["MapFault"] = "M"; letter["LinkFault"] = letter["BtfFault"] = "E"; letter["OpenFault"] = "O"; letter["JournalFault"] = "J"; letter["Refusal"] = "Q"; letter["WhatFault"] = "V"
+            letter["MapFault"] = "M"; letter["LinkFault"] = letter["RelocationFault"] = letter["BtfFault"] = "E"; letter["OpenFault"] = "O"; letter["JournalFault"] = "J"; letter["Refusal"] = "Q"; letter["WhatFault"] = "V"
             # (those of test files count from when the page has them)
             if (tested) letter["SectionFault"] = "T"
         }
-        { gsub(/\(_\)/, ""); sub(/Fields \{ \.\. \}/, "Fields"); sub(/Extern \{ \.\. \}/, "Extern"); gsub(/ \| [A-Za-z]+::[A-Za-z]+/, "") }
+        { gsub(/\(_\)/, ""); sub(/ \{ \.\. \}/, ""); gsub(/ \| [A-Za-z]+::[A-Za-z]+/, "") }
         match($0, /[A-Za-z]+::[A-Za-z]+ => ([0-9]+|"[^"]*"),$/) {
             split(substr($0, RSTART, RLENGTH - 1), parts, / => /)
             split(parts[1], name, "::")
             if (!(name[1] in letter)) next
             if (parts[2] ~ /^"/) print letter[name[1]] number[parts[1]], substr(parts[2], 2, length(parts[2]) - 2)
             else number[parts[1]] = parts[2]
+        }
+        # (a row of a number and a text)
+        match($0, /[A-Za-z]+::[A-Za-z]+ => \([0-9]+, "[^"]*"\),$/) {
+            split(substr($0, RSTART, RLENGTH - 3), parts, / => \(|, "/)
+            split(parts[1], name, "::")
+            if (name[1] in letter) print letter[name[1]] parts[2], substr($0, RSTART + length(parts[1] parts[2]) + 8, RLENGTH - length(parts[1] parts[2]) - 11)
         }
     ' > "$work/unsorted"
     # (a name that no test has is a job's, not a test file's)

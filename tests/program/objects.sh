@@ -293,7 +293,8 @@ refused 'refused E25 at slot 2: no such map or offset: .text, slot 0' link added
 
 # Each line has an object, a place of it and the byte that stands there instead, in octal, and what is told. The calls of calls.o are at the slots 0 and 2, the
 # wide loads of maps.o at 1 and 6, and 14 is its last slot. In the last line its entry is the second half of a wide load, so that the jump before the code has a
-# target that is none: slot 0 comes from no section.
+# target that is none: slot 0 comes from no section. Behind the text stands the name of the relocation's symbol: that of a section, as `.bss` in deep.o and `.data`
+# in point.o, has none.
 while IFS='|' read -r name place byte told; do
     { head -c "$place" "$name.o"; printf "\\$byte"; tail -c +$((place + 2)) "$name.o"; } > changed.o
     refused "refused $told" link changed.o
@@ -302,16 +303,19 @@ calls|288|040|E17: relocation at no slot, or out of order
 calls|300|006|E18 at slot 0: relocation against no symbol
 calls|316|006|E18 at slot 2: relocation against no symbol
 deep|284|006|E18 at slot 2: relocation against no symbol
-deep|284|004|E23 at slot 2: reference to data that is no map
+deep|284|004|E23 at slot 2: reference to data that is no map: next
 deep|76|001|E24 at slot 2: relocation of a map at no empty wide load
 calls|316|000|E19 at slot 2: symbol is not defined in the object
-calls|312|002|E20 at slot 2: unknown relocation
-calls|132|005|E21 at slot 2: call of no function of the program
-calls|128|267|E22 at slot 2: relocation of a call at no call
-calls|312|001|E23 at slot 2: reference to data that is no map
-maps|76|001|E24 at slot 1: relocation of a map at no empty wide load
-maps|116|001|E24 at slot 6: relocation of a map at no empty wide load
-maps|344|160|E24 at slot 14: relocation of a map at no empty wide load
+calls|312|002|E20 at slot 2: unknown relocation: next
+calls|132|005|E21 at slot 2: call of no function of the program: next
+calls|128|267|E22 at slot 2: relocation of a call at no call: next
+calls|312|001|E23 at slot 2: reference to data that is no map: next
+maps|76|001|E24 at slot 1: relocation of a map at no empty wide load: second
+maps|116|001|E24 at slot 6: relocation of a map at no empty wide load: first
+maps|344|160|E24 at slot 14: relocation of a map at no empty wide load: second
+point|372|005|E29: address in data of what is no data: entry
+point|372|006|E29: address in data of what is no data
+point|368|003|E29: address in data of what is no data
 maps|280|020|E25 at slot 0: target is no instruction
 ROWS
 
@@ -551,6 +555,13 @@ C
     clang -O2 -target bpf -c -o table.o table.c
     refused 'refused E23 at slot 1: reference to data that is no map' link address.o
     refused 'refused E29: address in data of what is no data' link table.o
+    # (that of one known outside has its name)
+    for name in address table; do
+        sed 's/^static __/__/' $name.c > named.c
+        clang -O2 -target bpf -c -o $name.o named.c
+    done
+    refused 'refused E23 at slot 1: reference to data that is no map: f' link address.o
+    refused 'refused E29: address in data of what is no data: f' link table.o
     # Sixteen sections of data, one for each variable, and a seventeenth.
     for most in 16 17; do
         {

@@ -6,7 +6,7 @@ use Rattle.bpf_link.specs.declared.layout.RelocationEntry.{RelocationEntry}
 use Rattle.bpf_link.specs.declared.plan.Plan.{Plan}
 use Rattle.bpf_link.specs.Header.{provided}
 use Rattle.bpf_link.specs.Plans.{symbol_at}
-use Rattle.bpf_link.specs.Images.{with_address, with_relocated}
+use Rattle.bpf_link.specs.Images.{pointed_place, with_address, with_relocated}
 
 pub two_wraps : (a b c : ℕ) → ((a + b) % 18446744073709551616 + c) % 18446744073709551616 ≡ (a + b + c) % 18446744073709551616
 two_wraps a b c = omega arith
@@ -17,6 +17,6 @@ passed b fault next e = ap (λ b. provided b fault next) e
 -- a relocation of an address that lies in data, against a symbol
 pub relocated_is : (object : List ℕ) (plan : Plan) (maps taken : List ℕ) (relocation : RelocationEntry) (image : List ℕ)
     → (relocation.kind == 2) ≡ true → nat_le (relocation.offset + 8) (length image) ≡ true → nat_lt relocation.symbol plan.symbols.count ≡ true
-    → with_relocated object plan maps taken relocation image ≡ with_address maps taken relocation (symbol_at object plan.symbols relocation.symbol) image
+    → with_relocated object plan maps taken relocation image ≡ with_address maps taken relocation (symbol_at object plan.symbols relocation.symbol) (Pointer (pointed_place object plan relocation)) image
 relocated_is object plan maps taken relocation image kind inside known =
-    passed (relocation.kind == 2) Pointer _ kind ∙ passed (nat_le (relocation.offset + 8) (length image)) Pointer _ inside ∙ passed (nat_lt relocation.symbol plan.symbols.count) Pointer _ known
+    passed (relocation.kind == 2) _ _ kind ∙ passed (nat_le (relocation.offset + 8) (length image)) _ _ inside ∙ passed (nat_lt relocation.symbol plan.symbols.count) _ _ known

@@ -4,17 +4,18 @@ use Rattle.std.specs.Prelude.{if◌then◌else◌, not}
 use Rattle.std.proofs.lemmas.Grind.{common_steps}
 use Rattle.bpf_isa.specs.Words.{u32_at}
 use Rattle.bpf_link.specs.declared.fault.LinkFault.{LinkFault}
-use Rattle.bpf_link.specs.declared.fault.LinkFault.TheVariants.{Place, Symbol, Extern, CallTarget, NoCall, Data, RelocationKind, NoLoad}
+use Rattle.bpf_link.specs.declared.fault.LinkFault.TheVariants.{Place, Symbol}
+use Rattle.bpf_link.specs.declared.fault.RelocationFault.TheVariants.{CallTarget, RelocationKind, NoLoad}
 use Rattle.bpf_link.specs.declared.layout.RelocationEntry.{RelocationEntry}
 use Rattle.bpf_link.specs.declared.layout.SymbolEntry.{SymbolEntry}
 use Rattle.bpf_link.specs.declared.plan.Part.{Part}
 use Rattle.bpf_link.specs.declared.plan.Plan.{Plan}
 use Rattle.bpf_link.specs.declared.patch.Patch.{Patch}
 use Rattle.bpf_link.specs.Header.{provided}
-use Rattle.bpf_link.specs.Plans.{after, relocation_at, symbol_at, symbol_place}
+use Rattle.bpf_link.specs.Plans.{after, relocation_at, symbol_at}
 use Rattle.bpf_link.specs.Links.{patch_width}
 use Rattle.bpf_link.specs.Data.{is_among}
-use Rattle.bpf_link.specs.Patches.{is_call, is_map, is_empty_load, is_next, part_with, call_to, call_patch, map_patch, is_short_load, data_patch, load_patch, width_of, patch_with, patch_of}
+use Rattle.bpf_link.specs.Patches.{is_call, is_map, is_empty_load, is_next, symbol_fault, part_with, call_to, call_patch, map_patch, is_short_load, data_patch, load_patch, width_of, patch_with, patch_of}
 
 clash : {A : Type 0} (fault : LinkFault) (v : A) → ◌≡◌ {A = Result A LinkFault} (Err fault) (Ok v) → ⊥
 clash fault v e = cc
@@ -38,33 +39,34 @@ pub record Fits (patch : Patch) (slot size : ℕ) : Type 0 where
 fits_made : (patch other : Patch) (slot size : ℕ) → ◌≡◌ {A = Result Patch LinkFault} (Ok other) (Ok patch) → Fits other slot size → Fits patch slot size
 fits_made patch other slot size e fits = subst (λ p. Fits p slot size) (ok_same other patch e) fits
 
-call_to_at : (target : Part) (value imm slot : ℕ) (patch : Patch) → call_to target value imm slot ≡ Ok patch → Fits patch slot 8
-call_to_at target value imm slot patch e =
-    let a = provided_ok (value % 8 == 0) (CallTarget slot) _ _ e in
-    let b = provided_ok (nat_lt (value / 8) target.slots.count) (CallTarget slot) _ _ a.1 in
-    let c = provided_ok (nat_lt ((value / 8 + imm + 1) % 4294967296) target.slots.count) (CallTarget slot) _ _ b.1 in
+call_to_at : (target : Part) (value imm slot : ℕ) (fault : LinkFault) (patch : Patch) → call_to target value imm slot fault ≡ Ok patch → Fits patch slot 8
+call_to_at target value imm slot fault patch e =
+    let a = provided_ok (value % 8 == 0) fault _ _ e in
+    let b = provided_ok (nat_lt (value / 8) target.slots.count) fault _ _ a.1 in
+    let c = provided_ok (nat_lt ((value / 8 + imm + 1) % 4294967296) target.slots.count) fault _ _ b.1 in
     fits_made patch _ slot 8 c.1 (record { at = refl; width = refl })
 
 call_at : (object : List ℕ) (plan : Plan) (symbol : SymbolEntry) (at slot : ℕ) (patch : Patch) → call_patch object plan symbol at slot ≡ Ok patch → Fits patch slot 8
 call_at object plan symbol at slot patch e =
-    let a = provided_ok (is_call object at) (NoCall slot) _ _ e in
-    let b = after_ok (part_with plan symbol.section slot) (λ target. call_to target symbol.value (u32_at object (at + 4)) slot) patch a.1 in
-    call_to_at b.0 symbol.value (u32_at object (at + 4)) slot patch b.2
+    let a = provided_ok (is_call object at) _ _ _ e in
+    let fault = symbol_fault object plan symbol slot CallTarget in
+    let b = after_ok (part_with plan symbol.section fault) (λ target. call_to target symbol.value (u32_at object (at + 4)) slot fault) patch a.1 in
+    call_to_at b.0 symbol.value (u32_at object (at + 4)) slot fault patch b.2
 
 map_at : (object : List ℕ) (plan : Plan) (maps : List ℕ) (symbol : SymbolEntry) (at slot : ℕ) (patch : Patch) → map_patch object plan maps symbol at slot ≡ Ok patch → Fits patch slot 16
 map_at object plan maps symbol at slot patch e =
-    let a = provided_ok (is_map plan.maps symbol) (Data slot) _ _ e in
-    let b = provided_ok (is_empty_load object at) (NoLoad slot) _ _ a.1 in
+    let a = provided_ok (is_map plan.maps symbol) _ _ _ e in
+    let b = provided_ok (is_empty_load object at) _ _ _ a.1 in
     fits_made patch _ slot 16 b.1 (record { at = refl; width = refl })
 
-data_at : (object maps taken : List ℕ) (symbol : SymbolEntry) (at slot : ℕ) (patch : Patch) → data_patch object maps taken symbol at slot ≡ Ok patch → Fits patch slot 16
-data_at object maps taken symbol at slot patch e =
-    let a = provided_ok (is_short_load object at) (NoLoad slot) _ _ e in
+data_at : (object : List ℕ) (plan : Plan) (maps taken : List ℕ) (symbol : SymbolEntry) (at slot : ℕ) (patch : Patch) → data_patch object plan maps taken symbol at slot ≡ Ok patch → Fits patch slot 16
+data_at object plan maps taken symbol at slot patch e =
+    let a = provided_ok (is_short_load object at) _ _ _ e in
     fits_made patch _ slot 16 a.1 (record { at = refl; width = refl })
 
 load_at : (object : List ℕ) (plan : Plan) (maps taken : List ℕ) (symbol : SymbolEntry) (at slot : ℕ) (patch : Patch) (among : Bool)
-    → (if among then data_patch object maps taken symbol at slot else map_patch object plan maps symbol at slot) ≡ Ok patch → Fits patch slot 16
-load_at object plan maps taken symbol at slot patch true e = data_at object maps taken symbol at slot patch e
+    → (if among then data_patch object plan maps taken symbol at slot else map_patch object plan maps symbol at slot) ≡ Ok patch → Fits patch slot 16
+load_at object plan maps taken symbol at slot patch true e = data_at object plan maps taken symbol at slot patch e
 load_at object plan maps taken symbol at slot patch false e = map_at object plan maps symbol at slot patch e
 
 -- that of a wide load has two slots
@@ -73,7 +75,7 @@ pub record Placed (patch : Patch) (slot size : ℕ) (second : Bool) : Type 0 whe
   pub room : (size ≡ 8) ⊎ (second ≡ true)
 
 kind_at : (object : List ℕ) (plan : Plan) (maps taken : List ℕ) (symbol : SymbolEntry) (at slot : ℕ) (patch : Patch) (call load room : Bool) → (call ≡ true → load ≡ false)
-    → (if call then call_patch object plan symbol at slot else (if load then provided room (NoLoad slot) (load_patch object plan maps taken symbol at slot) else Err (RelocationKind slot))) ≡ Ok patch
+    → (if call then call_patch object plan symbol at slot else (if load then provided room (symbol_fault object plan symbol slot NoLoad) (load_patch object plan maps taken symbol at slot) else Err (symbol_fault object plan symbol slot RelocationKind))) ≡ Ok patch
     → Placed patch slot (if load then 16 else 8) room
 kind_at object plan maps taken symbol at slot patch true true room other e = absurd (differ (other refl))
   where
@@ -81,9 +83,9 @@ kind_at object plan maps taken symbol at slot patch true true room other e = abs
     differ e = cc
 kind_at object plan maps taken symbol at slot patch true false room other e = record { fits = call_at object plan symbol at slot patch e; room = inl refl }
 kind_at object plan maps taken symbol at slot patch false true room other e =
-    let a = provided_ok room (NoLoad slot) (load_patch object plan maps taken symbol at slot) patch e in
+    let a = provided_ok room _ (load_patch object plan maps taken symbol at slot) patch e in
     record { fits = load_at object plan maps taken symbol at slot patch (is_among taken symbol.section) a.1; room = inr a.0 }
-kind_at object plan maps taken symbol at slot patch false false room other e = absurd (clash (RelocationKind slot) patch e)
+kind_at object plan maps taken symbol at slot patch false false room other e = absurd (clash _ patch e)
 
 one_kind : (kind : ℕ) → (kind == 10) ≡ true → (kind == 1) ≡ false
 one_kind kind e = grind (arith, common_steps)
@@ -92,7 +94,7 @@ with_at : (object : List ℕ) (plan : Plan) (maps taken : List ℕ) (part : Part
     → patch_with object plan maps taken part relocation symbol ≡ Ok patch
     → Placed patch (part.first + relocation.offset / 8) (width_of relocation) (nat_lt (relocation.offset / 8 + 1) part.slots.count)
 with_at object plan maps taken part relocation symbol patch e =
-    let a = provided_ok (not (symbol.section == 0)) (Extern (part.first + relocation.offset / 8) (symbol_place object plan symbol)) _ _ e in
+    let a = provided_ok (not (symbol.section == 0)) _ _ _ e in
     kind_at object plan maps taken symbol (part.slots.at + relocation.offset) (part.first + relocation.offset / 8) patch
     (relocation.kind == 10) (relocation.kind == 1) (nat_lt (relocation.offset / 8 + 1) part.slots.count) (one_kind relocation.kind) a.1
 

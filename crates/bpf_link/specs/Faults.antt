@@ -1,88 +1,56 @@
--- Faults: their numbers, which are printed after E, and their texts. bpfdb's own choice.
+-- Faults: each its number, which is printed after E, and its text. bpfdb's own choice.
 use Rattle.std.specs.Prelude.{ℕ, List, codes}
-use Rattle.bpf_isa.specs.Faults.{load_fault}
+use Rattle.bpf_isa.specs.Faults.{load_fault, piece_fault}
+use Rattle.bpf_isa.specs.declared.fault.PieceFault.TheVariants.{UnknownHelper}
 use Rattle.bpf_btf.specs.Faults.{btf_fault}
+use Rattle.bpf_btf.specs.declared.fault.BtfFault.TheVariants as btf
 use Rattle.bpf_link.specs.declared.fault.LinkFault.{LinkFault}
-use Rattle.bpf_link.specs.declared.fault.LinkFault.TheVariants.{NotElf, Class, Order, Kind, Machine, SectionTable, LongName, NoSection, ManySections, Section, TooLong, RunsOff, SymbolTable, ManyMapSections, TooManyMaps, RelocationTable, Place, Symbol, Extern, RelocationKind, CallTarget, NoCall, Data, NoLoad, Program, Memory, LongData, DataSection, Pointer, ManyPrograms, NoEntry, Helper, StubList, StubRange, StubTwice, ManyStubs, Types, Map, Fields}
+use Rattle.bpf_link.specs.declared.fault.LinkFault.TheVariants.{NotElf, Class, Order, Kind, Machine, SectionTable, LongName, NoSection, ManySections, Section, TooLong, RunsOff, SymbolTable, ManyMapSections, TooManyMaps, RelocationTable, Place, Symbol, Relocation, Program, Memory, LongData, DataSection, Pointer, ManyPrograms, NoEntry, Helper, StubList, StubRange, StubTwice, ManyStubs, Types, Map, Fields}
+use Rattle.bpf_link.specs.declared.fault.RelocationFault.{RelocationFault}
+use Rattle.bpf_link.specs.declared.fault.RelocationFault.TheVariants.{Extern, RelocationKind, CallTarget, NoCall, Data, NoLoad}
 
-abbrev pub link_fault_number : LinkFault → ℕ
-link_fault_number NotElf = 1
-link_fault_number Class = 2
-link_fault_number Order = 3
-link_fault_number Kind = 4
-link_fault_number Machine = 5
-link_fault_number SectionTable = 6
-link_fault_number LongName = 7
-link_fault_number NoSection = 8
-link_fault_number ManySections = 9
-link_fault_number Section = 10
-link_fault_number TooLong = 11
-link_fault_number RunsOff = 12
-link_fault_number SymbolTable = 13
-link_fault_number ManyMapSections = 14
-link_fault_number TooManyMaps = 15
-link_fault_number RelocationTable = 16
-link_fault_number Place = 17
-link_fault_number (Symbol slot) = 18
-link_fault_number (Extern slot at) = 19
-link_fault_number (RelocationKind slot) = 20
-link_fault_number (CallTarget slot) = 21
-link_fault_number (NoCall slot) = 22
-link_fault_number (Data slot) = 23
-link_fault_number (NoLoad slot) = 24
-link_fault_number (Program fault source) = 25
-link_fault_number Memory = 26
-link_fault_number LongData = 27
-link_fault_number DataSection = 28
-link_fault_number Pointer = 29
-link_fault_number ManyPrograms = 30
-link_fault_number NoEntry = 31
-link_fault_number (Helper slot helper source) = 25
-link_fault_number StubList = 32
-link_fault_number StubRange = 33
-link_fault_number StubTwice = 34
-link_fault_number ManyStubs = 35
-link_fault_number (Fields count slot at) = 36
-link_fault_number (Types fault) = (btf_fault fault).0
-link_fault_number (Map at fault) = (btf_fault fault).0
+-- Of a relocation against a symbol.
+abbrev pub relocation_fault : RelocationFault → ℕ × List ℕ
+relocation_fault Extern = (19, codes "symbol is not defined in the object")
+relocation_fault RelocationKind = (20, codes "unknown relocation")
+relocation_fault CallTarget = (21, codes "call of no function of the program")
+relocation_fault NoCall = (22, codes "relocation of a call at no call")
+relocation_fault Data = (23, codes "reference to data that is no map")
+relocation_fault NoLoad = (24, codes "relocation of a map at no empty wide load")
 
-abbrev pub link_fault_text : LinkFault → List ℕ
-link_fault_text NotElf = codes "no ELF file"
-link_fault_text Class = codes "not of 64 bits"
-link_fault_text Order = codes "not little-endian"
-link_fault_text Kind = codes "no relocatable object"
-link_fault_text Machine = codes "not for BPF"
-link_fault_text SectionTable = codes "malformed section table"
-link_fault_text LongName = codes "section name longer than 255 bytes"
-link_fault_text NoSection = codes "no such code section"
-link_fault_text ManySections = codes "more than one code section"
-link_fault_text Section = codes "malformed code section"
-link_fault_text TooLong = codes "program too long"
-link_fault_text RunsOff = codes "code section runs off its end"
-link_fault_text SymbolTable = codes "malformed symbol table"
-link_fault_text ManyMapSections = codes "more than one section of maps"
-link_fault_text TooManyMaps = codes "more than 16 maps"
-link_fault_text RelocationTable = codes "malformed relocation table"
-link_fault_text Place = codes "relocation at no slot, or out of order"
-link_fault_text (Symbol slot) = codes "relocation against no symbol"
-link_fault_text (Extern slot at) = codes "symbol is not defined in the object"
-link_fault_text (RelocationKind slot) = codes "unknown relocation"
-link_fault_text (CallTarget slot) = codes "call of no function of the program"
-link_fault_text (NoCall slot) = codes "relocation of a call at no call"
-link_fault_text (Data slot) = codes "reference to data that is no map"
-link_fault_text (NoLoad slot) = codes "relocation of a map at no empty wide load"
-link_fault_text (Program fault source) = (load_fault fault).1
-link_fault_text Memory = codes "out of memory"
-link_fault_text LongData = codes "data longer than 65536 bytes"
-link_fault_text DataSection = codes "malformed data section"
-link_fault_text Pointer = codes "address in data of what is no data"
-link_fault_text ManyPrograms = codes "more than one program in the code section"
-link_fault_text NoEntry = codes "no such function in the code section"
-link_fault_text (Helper slot helper source) = codes "unknown helper"
-link_fault_text StubList = codes "malformed list of stubs"
-link_fault_text StubRange = codes "helper or value of a stub out of range"
-link_fault_text StubTwice = codes "two stubs of one helper"
-link_fault_text ManyStubs = codes "more than 16 stubs"
-link_fault_text (Fields count slot at) = codes "relocations of fields"
-link_fault_text (Types fault) = (btf_fault fault).1
-link_fault_text (Map at fault) = (btf_fault fault).1
+-- Of an object.
+abbrev pub link_fault : LinkFault → ℕ × List ℕ
+link_fault NotElf = (1, codes "no ELF file")
+link_fault Class = (2, codes "not of 64 bits")
+link_fault Order = (3, codes "not little-endian")
+link_fault Kind = (4, codes "no relocatable object")
+link_fault Machine = (5, codes "not for BPF")
+link_fault SectionTable = (6, codes "malformed section table")
+link_fault LongName = (7, codes "section name longer than 255 bytes")
+link_fault NoSection = (8, codes "no such code section")
+link_fault ManySections = (9, codes "more than one code section")
+link_fault Section = (10, codes "malformed code section")
+link_fault TooLong = (11, codes "program too long")
+link_fault RunsOff = (12, codes "code section runs off its end")
+link_fault SymbolTable = (13, codes "malformed symbol table")
+link_fault ManyMapSections = (14, codes "more than one section of maps")
+link_fault TooManyMaps = (15, codes "more than 16 maps")
+link_fault RelocationTable = (16, codes "malformed relocation table")
+link_fault Place = (17, codes "relocation at no slot, or out of order")
+link_fault (Symbol slot) = (18, codes "relocation against no symbol")
+link_fault (Relocation fault slot at) = relocation_fault fault
+link_fault (Program fault source) = (25, (load_fault fault).1)
+link_fault Memory = btf_fault btf.Memory
+link_fault LongData = (27, codes "data longer than 65536 bytes")
+link_fault DataSection = (28, codes "malformed data section")
+link_fault (Pointer at) = (29, codes "address in data of what is no data")
+link_fault ManyPrograms = (30, codes "more than one program in the code section")
+link_fault NoEntry = (31, codes "no such function in the code section")
+link_fault (Helper slot helper source) = (25, (piece_fault UnknownHelper).1)
+link_fault StubList = (32, codes "malformed list of stubs")
+link_fault StubRange = (33, codes "helper or value of a stub out of range")
+link_fault StubTwice = (34, codes "two stubs of one helper")
+link_fault ManyStubs = (35, codes "more than 16 stubs")
+link_fault (Fields count slot at) = (36, codes "relocations of fields")
+link_fault (Types fault) = btf_fault fault
+link_fault (Map at fault) = btf_fault fault

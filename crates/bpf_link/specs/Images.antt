@@ -11,7 +11,7 @@ use Rattle.bpf_link.specs.declared.plan.Plan.{Plan}
 use Rattle.bpf_link.specs.Layout.{u64_at}
 use Rattle.bpf_link.specs.Header.{provided}
 use Rattle.bpf_link.specs.Sections.{section_at}
-use Rattle.bpf_link.specs.Plans.{after, steps, relocation_at, symbol_at}
+use Rattle.bpf_link.specs.Plans.{after, steps, relocation_at, symbol_at, symbol_place}
 use Rattle.bpf_link.specs.Data.{is_among, data_number, pointers_of}
 
 -- The most bytes of data: those of a map.
@@ -46,17 +46,23 @@ abbrev pub address_of : List ℕ → List ℕ → SymbolEntry → ℕ → ℕ
 address_of maps taken symbol more = (map_address (data_number maps taken symbol.section) + symbol.value + more) % 18446744073709551616
 
 -- An address in data, R_BPF_64_ABS64: that of the symbol, and what stood there.
-abbrev pub with_address : List ℕ → List ℕ → RelocationEntry → SymbolEntry → List ℕ → Result (List ℕ) LinkFault
-with_address maps taken relocation symbol image =
-    provided (is_among taken symbol.section) Pointer
+abbrev pub with_address : List ℕ → List ℕ → RelocationEntry → SymbolEntry → LinkFault → List ℕ → Result (List ℕ) LinkFault
+with_address maps taken relocation symbol fault image =
+    provided (is_among taken symbol.section) fault
     (Ok (with_u64 image relocation.offset (address_of maps taken symbol (u64_at image relocation.offset))))
+
+-- Where the name of a relocation's symbol stands in the file, or the file's end.
+abbrev pub pointed_place : List ℕ → Plan → RelocationEntry → ℕ
+pointed_place object plan relocation =
+    if nat_lt relocation.symbol plan.symbols.count then symbol_place object plan (symbol_at object plan.symbols relocation.symbol) else length object
 
 abbrev pub with_relocated : List ℕ → Plan → List ℕ → List ℕ → RelocationEntry → List ℕ → Result (List ℕ) LinkFault
 with_relocated object plan maps taken relocation image =
-    provided (relocation.kind == 2) Pointer
-    (provided (nat_le (relocation.offset + 8) (length image)) Pointer
-    (provided (nat_lt relocation.symbol plan.symbols.count) Pointer
-    (with_address maps taken relocation (symbol_at object plan.symbols relocation.symbol) image)))
+    let fault = Pointer (pointed_place object plan relocation) in
+    provided (relocation.kind == 2) fault
+    (provided (nat_le (relocation.offset + 8) (length image)) fault
+    (provided (nat_lt relocation.symbol plan.symbols.count) fault
+    (with_address maps taken relocation (symbol_at object plan.symbols relocation.symbol) fault image)))
 
 abbrev pub with_pointer : List ℕ → Plan → List ℕ → List ℕ → Entries → ℕ → List ℕ → Result (List ℕ) LinkFault
 with_pointer object plan maps taken relocations i image = with_relocated object plan maps taken (relocation_at object relocations i) image

@@ -61,7 +61,8 @@ source_places None = []
 abbrev pub fault_places : List ℕ → List ℕ → LinkFault → List ℕ
 fault_places object section (link.Map at fault) = at ∷ []
 fault_places object section (link.Fields count slot at) = at ∷ []
-fault_places object section (link.Extern slot at) = at ∷ []
+fault_places object section (link.Relocation fault slot at) = at ∷ []
+fault_places object section (link.Pointer at) = at ∷ []
 fault_places object section (link.Program fault source) = source_places source
 fault_places object section (link.Helper slot helper source) = source_places source
 fault_places object section link.NoSection = code_places object (opened object)

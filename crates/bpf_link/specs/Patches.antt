@@ -3,7 +3,9 @@ use Rattle.std.specs.Prelude.{◌≡◌, ◌≤◌, ◌<◌, ℕ, ◌+◌, ◌*�
 use Rattle.byteorder.specs.Endian.{little_bytes}
 use Rattle.bpf_isa.specs.Words.{u32_at}
 use Rattle.bpf_link.specs.declared.fault.LinkFault.{LinkFault}
-use Rattle.bpf_link.specs.declared.fault.LinkFault.TheVariants.{Place, Symbol, Extern, RelocationKind, CallTarget, NoCall, Data, NoLoad}
+use Rattle.bpf_link.specs.declared.fault.LinkFault.TheVariants.{Place, Symbol, Relocation}
+use Rattle.bpf_link.specs.declared.fault.RelocationFault.{RelocationFault}
+use Rattle.bpf_link.specs.declared.fault.RelocationFault.TheVariants.{Extern, RelocationKind, CallTarget, NoCall, Data, NoLoad}
 use Rattle.bpf_link.specs.declared.layout.RelocationEntry.{RelocationEntry}
 use Rattle.bpf_link.specs.declared.layout.SymbolEntry.{SymbolEntry}
 use Rattle.bpf_link.specs.declared.plan.Entries.{Entries}
@@ -30,29 +32,34 @@ pub record HasRelocation (object : List ℕ) (part : Part) (i : ℕ) : Type 0 wh
   pub fits : FitsPart object part
   pub index : i < part.relocations.count
 
+-- Why a relocation against a symbol isn't done: its slot, and where the name of the symbol stands in the file.
+abbrev pub symbol_fault : List ℕ → Plan → SymbolEntry → ℕ → RelocationFault → LinkFault
+symbol_fault object plan symbol slot fault = Relocation fault slot (symbol_place object plan symbol)
+
 -- The slot of a call: opcode 0x85, and 1 for src, which tells a local call. The functions of the kernel have 2, its helpers 0.
 abbrev pub is_call : List ℕ → ℕ → Bool
 is_call object at = (slice_index object at == 0x85) && (slice_index object (at + 1) == 0x10)
 
--- The part of the program in which a symbol's section lies, for a call in a slot.
-abbrev pub part_with : Plan → ℕ → ℕ → Result Part LinkFault
-part_with plan section slot =
+-- The part of the program in which a symbol's section lies.
+abbrev pub part_with : Plan → ℕ → LinkFault → Result Part LinkFault
+part_with plan section fault =
     if section == plan.code.section then Ok plan.code
-    else (if section == plan.text.section then Ok plan.text else Err (CallTarget slot))
+    else (if section == plan.text.section then Ok plan.text else Err fault)
 
 -- A call in a slot of the program of what lies at a value in a part, with what stood in imm: the slot of the function is value / 8 + imm + 1,
 -- and imm becomes its distance from the slot after the call. Both numbers are of 32 bits in two's complement.
-abbrev pub call_to : Part → ℕ → ℕ → ℕ → Result Patch LinkFault
-call_to target value imm slot =
-    provided (value % 8 == 0) (CallTarget slot)
-    (provided (nat_lt (value / 8) target.slots.count) (CallTarget slot)
-    (provided (nat_lt ((value / 8 + imm + 1) % 4294967296) target.slots.count) (CallTarget slot)
+abbrev pub call_to : Part → ℕ → ℕ → ℕ → LinkFault → Result Patch LinkFault
+call_to target value imm slot fault =
+    provided (value % 8 == 0) fault
+    (provided (nat_lt (value / 8) target.slots.count) fault
+    (provided (nat_lt ((value / 8 + imm + 1) % 4294967296) target.slots.count) fault
     (Ok (record { at = 8 * slot; registers = 0x10; imm = (4294967296 + (target.first + (value / 8 + imm + 1) % 4294967296) - (slot + 1)) % 4294967296; next = None }))))
 
 abbrev pub call_patch : List ℕ → Plan → SymbolEntry → ℕ → ℕ → Result Patch LinkFault
 call_patch object plan symbol at slot =
-    provided (is_call object at) (NoCall slot)
-    (after (part_with plan symbol.section slot) (λ target. call_to target symbol.value (u32_at object (at + 4)) slot))
+    let fault = symbol_fault object plan symbol slot in
+    provided (is_call object at) (fault NoCall)
+    (after (part_with plan symbol.section (fault CallTarget)) (λ target. call_to target symbol.value (u32_at object (at + 4)) slot (fault CallTarget)))
 
 -- A symbol names a map: an object, STT_OBJECT, in the section of maps.
 abbrev pub is_map : ℕ → SymbolEntry → Bool
@@ -70,8 +77,8 @@ map_number maps value = count_by (λ other. nat_lt other value) maps
 -- A wide load of a map by its number (RFC 9669, section 5.4): 5 for src, and the number in imm.
 abbrev pub map_patch : List ℕ → Plan → List ℕ → SymbolEntry → ℕ → ℕ → Result Patch LinkFault
 map_patch object plan maps symbol at slot =
-    provided (is_map plan.maps symbol) (Data slot)
-    (provided (is_empty_load object at) (NoLoad slot)
+    provided (is_map plan.maps symbol) (symbol_fault object plan symbol slot Data)
+    (provided (is_empty_load object at) (symbol_fault object plan symbol slot NoLoad)
     (Ok (record { at = 8 * slot; registers = slice_index object (at + 1) + 0x50; imm = map_number maps symbol.value; next = Some 0 })))
 
 -- Two slots hold a wide load of a number of 32 bits: opcode 0x18, 0 for src, 0 in the second imm.
@@ -81,9 +88,9 @@ is_short_load object at =
 
 -- A wide load of an address in the data of a section, which are one of the maps after the object's own (RFC 9669, section 5.4): 6 for src, the map's number in imm,
 -- and in the second imm the place in the data: the symbol's value and what stood in imm.
-abbrev pub data_patch : List ℕ → List ℕ → List ℕ → SymbolEntry → ℕ → ℕ → Result Patch LinkFault
-data_patch object maps taken symbol at slot =
-    provided (is_short_load object at) (NoLoad slot)
+abbrev pub data_patch : List ℕ → Plan → List ℕ → List ℕ → SymbolEntry → ℕ → ℕ → Result Patch LinkFault
+data_patch object plan maps taken symbol at slot =
+    provided (is_short_load object at) (symbol_fault object plan symbol slot NoLoad)
     (Ok (record {
       at = 8 * slot;
       registers = slice_index object (at + 1) + 0x60;
@@ -94,16 +101,19 @@ data_patch object maps taken symbol at slot =
 -- A wide load of a map or of data.
 abbrev pub load_patch : List ℕ → Plan → List ℕ → List ℕ → SymbolEntry → ℕ → ℕ → Result Patch LinkFault
 load_patch object plan maps taken symbol at slot =
-    if is_among taken symbol.section then data_patch object maps taken symbol at slot else map_patch object plan maps symbol at slot
+    if is_among taken symbol.section then data_patch object plan maps taken symbol at slot else map_patch object plan maps symbol at slot
 
 -- What a relocation against a symbol makes of the slot that it names. One of a wide load names the first of two slots.
 abbrev pub patch_with : List ℕ → Plan → List ℕ → List ℕ → Part → RelocationEntry → SymbolEntry → Result Patch LinkFault
 patch_with object plan maps taken part relocation symbol =
-    provided (not (symbol.section == 0)) (Extern (part.first + relocation.offset / 8) (symbol_place object plan symbol))
-    (if relocation.kind == 10 then call_patch object plan symbol (part.slots.at + relocation.offset) (part.first + relocation.offset / 8)
+    let at = part.slots.at + relocation.offset in
+    let slot = part.first + relocation.offset / 8 in
+    let fault = symbol_fault object plan symbol slot in
+    provided (not (symbol.section == 0)) (fault Extern)
+    (if relocation.kind == 10 then call_patch object plan symbol at slot
     else (if relocation.kind == 1
-    then provided (nat_lt (relocation.offset / 8 + 1) part.slots.count) (NoLoad (part.first + relocation.offset / 8)) (load_patch object plan maps taken symbol (part.slots.at + relocation.offset) (part.first + relocation.offset / 8))
-    else Err (RelocationKind (part.first + relocation.offset / 8))))
+    then provided (nat_lt (relocation.offset / 8 + 1) part.slots.count) (fault NoLoad) (load_patch object plan maps taken symbol at slot)
+    else Err (fault RelocationKind)))
 
 -- How many bytes of the slots a relocation changes: that of a wide load has two slots.
 abbrev pub width_of : RelocationEntry → ℕ

@@ -4,7 +4,25 @@ ghost use Rattle.bpf_isa.specs.declared.fault.LoadFault.{LoadFault};
 
 use crate::sources::Source;
 use bpf_btf::BtfFault;
-use bpf_isa::LoadFault;
+use bpf_isa::{LoadFault, PieceFault};
+
+/// Why a relocation against a symbol isn't done.
+#[derive(Clone, Copy)]
+pub enum RelocationFault {
+    /// The symbol isn't defined in the object: a function or a variable of the kernel, or a missing
+    /// one.
+    Extern,
+    /// Neither a call nor a wide load.
+    RelocationKind,
+    /// A call of what is no function of the section or of `.text`.
+    CallTarget,
+    /// The relocation of a call is at another instruction.
+    NoCall,
+    /// A wide load of the address of data, or of what is no map.
+    Data,
+    /// The relocation of a map is at another instruction, or at one that has a number.
+    NoLoad,
+}
 
 /// Why no program is made of an object.
 ///
@@ -50,22 +68,13 @@ pub enum LinkFault {
     Place,
     /// A relocation names no symbol of the table.
     Symbol(usize),
-    /// A symbol that isn't defined in the object: a function or a variable of the kernel, or a
-    /// missing one. The name of it stands at this place in the file.
-    Extern {
+    /// A relocation against a symbol isn't done, for this reason. The name of the symbol stands at
+    /// this place in the file.
+    Relocation {
+        fault: RelocationFault,
         slot: usize,
         at: usize,
     },
-    /// Neither a call nor a wide load.
-    RelocationKind(usize),
-    /// A call of what is no function of the section or of `.text`.
-    CallTarget(usize),
-    /// The relocation of a call is at another instruction.
-    NoCall(usize),
-    /// A wide load of the address of data, or of what is no map.
-    Data(usize),
-    /// The relocation of a map is at another instruction, or at one that has a number.
-    NoLoad(usize),
     /// The words are no program; the slot of the fault comes from this one of the object.
     Program {
         fault: LoadFault,
@@ -77,8 +86,11 @@ pub enum LinkFault {
     LongData,
     /// A section of data that the program refers to doesn't lie in the file.
     DataSection,
-    /// A relocation of data is no address of data, or doesn't lie in them.
-    Pointer,
+    /// A relocation of data is no address of data, or doesn't lie in them. The name of its symbol
+    /// stands at this place in the file, which is the file's end where there is no symbol.
+    Pointer {
+        at: usize,
+    },
     /// More than one function of the code section may be the entry.
     ManyPrograms,
     /// The code section has no function of the name that is asked for, or it begins at no slot of it.
@@ -116,101 +128,85 @@ pub enum LinkFault {
     },
 }
 
+impl RelocationFault {
+    ghost use Rattle.bpf_link.specs.Faults.{relocation_fault};
+
+    /// Its number, and its text.
+    fn row(self) -> (u8, &'static str)
+        ensures number { result.0 ≡ (relocation_fault self).0 }
+        ensures text { result.1.now ≡ (relocation_fault self).1 }
+    {
+        match self {
+            RelocationFault::Extern => (19, "symbol is not defined in the object"),
+            RelocationFault::RelocationKind => (20, "unknown relocation"),
+            RelocationFault::CallTarget => (21, "call of no function of the program"),
+            RelocationFault::NoCall => (22, "relocation of a call at no call"),
+            RelocationFault::Data => (23, "reference to data that is no map"),
+            RelocationFault::NoLoad => (24, "relocation of a map at no empty wide load"),
+        }
+    }
+}
+
 impl LinkFault {
-    ghost use Rattle.bpf_link.specs.Faults.{link_fault_number, link_fault_text};
+    ghost use Rattle.bpf_link.specs.Faults.{link_fault};
+
+    /// Its number, and its text.
+    fn row(self) -> (u8, &'static str)
+        ensures number { result.0 ≡ (link_fault self).0 }
+        ensures text { result.1.now ≡ (link_fault self).1 }
+    {
+        match self {
+            LinkFault::NotElf => (1, "no ELF file"),
+            LinkFault::Class => (2, "not of 64 bits"),
+            LinkFault::Order => (3, "not little-endian"),
+            LinkFault::Kind => (4, "no relocatable object"),
+            LinkFault::Machine => (5, "not for BPF"),
+            LinkFault::SectionTable => (6, "malformed section table"),
+            LinkFault::LongName => (7, "section name longer than 255 bytes"),
+            LinkFault::NoSection => (8, "no such code section"),
+            LinkFault::ManySections => (9, "more than one code section"),
+            LinkFault::Section => (10, "malformed code section"),
+            LinkFault::TooLong => (11, "program too long"),
+            LinkFault::RunsOff => (12, "code section runs off its end"),
+            LinkFault::SymbolTable => (13, "malformed symbol table"),
+            LinkFault::ManyMapSections => (14, "more than one section of maps"),
+            LinkFault::TooManyMaps => (15, "more than 16 maps"),
+            LinkFault::RelocationTable => (16, "malformed relocation table"),
+            LinkFault::Place => (17, "relocation at no slot, or out of order"),
+            LinkFault::Symbol(_) => (18, "relocation against no symbol"),
+            LinkFault::Relocation { fault, .. } => fault.row(),
+            LinkFault::Program { fault, .. } => (25, fault.text()),
+            LinkFault::Memory => (BtfFault::Memory.number(), BtfFault::Memory.text()),
+            LinkFault::LongData => (27, "data longer than 65536 bytes"),
+            LinkFault::DataSection => (28, "malformed data section"),
+            LinkFault::Pointer { .. } => (29, "address in data of what is no data"),
+            LinkFault::ManyPrograms => (30, "more than one program in the code section"),
+            LinkFault::NoEntry => (31, "no such function in the code section"),
+            LinkFault::Helper { .. } => (25, PieceFault::UnknownHelper.text()),
+            LinkFault::StubList => (32, "malformed list of stubs"),
+            LinkFault::StubRange => (33, "helper or value of a stub out of range"),
+            LinkFault::StubTwice => (34, "two stubs of one helper"),
+            LinkFault::ManyStubs => (35, "more than 16 stubs"),
+            LinkFault::Fields { .. } => (36, "relocations of fields"),
+            LinkFault::Types(fault) | LinkFault::Map { fault, .. } => (
+                fault.number(),
+                fault.text(),
+            ),
+        }
+    }
 
     /// The number that is printed after E, 1 to 36, and 40 to 54 of BTF; that of a program's fault
     /// is 25.
     pub fn number(self) -> u8
-        ensures { result ≡ link_fault_number self }
+        ensures { result ≡ (link_fault self).0 }
     {
-        match self {
-            LinkFault::NotElf => 1,
-            LinkFault::Class => 2,
-            LinkFault::Order => 3,
-            LinkFault::Kind => 4,
-            LinkFault::Machine => 5,
-            LinkFault::SectionTable => 6,
-            LinkFault::LongName => 7,
-            LinkFault::NoSection => 8,
-            LinkFault::ManySections => 9,
-            LinkFault::Section => 10,
-            LinkFault::TooLong => 11,
-            LinkFault::RunsOff => 12,
-            LinkFault::SymbolTable => 13,
-            LinkFault::ManyMapSections => 14,
-            LinkFault::TooManyMaps => 15,
-            LinkFault::RelocationTable => 16,
-            LinkFault::Place => 17,
-            LinkFault::Symbol(_) => 18,
-            LinkFault::Extern { .. } => 19,
-            LinkFault::RelocationKind(_) => 20,
-            LinkFault::CallTarget(_) => 21,
-            LinkFault::NoCall(_) => 22,
-            LinkFault::Data(_) => 23,
-            LinkFault::NoLoad(_) => 24,
-            LinkFault::Program { .. } => 25,
-            LinkFault::Memory => 26,
-            LinkFault::LongData => 27,
-            LinkFault::DataSection => 28,
-            LinkFault::Pointer => 29,
-            LinkFault::ManyPrograms => 30,
-            LinkFault::NoEntry => 31,
-            LinkFault::Helper { .. } => 25,
-            LinkFault::StubList => 32,
-            LinkFault::StubRange => 33,
-            LinkFault::StubTwice => 34,
-            LinkFault::ManyStubs => 35,
-            LinkFault::Fields { .. } => 36,
-            LinkFault::Types(fault) => fault.number(),
-            LinkFault::Map { fault, .. } => fault.number(),
-        }
+        self.row().0
     }
 
     /// The text that is printed after the number. That of a program's fault is the fault's own.
     pub fn text(self) -> &'static str
-        ensures { result.now ≡ link_fault_text self }
+        ensures { result.now ≡ (link_fault self).1 }
     {
-        match self {
-            LinkFault::NotElf => "no ELF file",
-            LinkFault::Class => "not of 64 bits",
-            LinkFault::Order => "not little-endian",
-            LinkFault::Kind => "no relocatable object",
-            LinkFault::Machine => "not for BPF",
-            LinkFault::SectionTable => "malformed section table",
-            LinkFault::LongName => "section name longer than 255 bytes",
-            LinkFault::NoSection => "no such code section",
-            LinkFault::ManySections => "more than one code section",
-            LinkFault::Section => "malformed code section",
-            LinkFault::TooLong => "program too long",
-            LinkFault::RunsOff => "code section runs off its end",
-            LinkFault::SymbolTable => "malformed symbol table",
-            LinkFault::ManyMapSections => "more than one section of maps",
-            LinkFault::TooManyMaps => "more than 16 maps",
-            LinkFault::RelocationTable => "malformed relocation table",
-            LinkFault::Place => "relocation at no slot, or out of order",
-            LinkFault::Symbol(_) => "relocation against no symbol",
-            LinkFault::Extern { .. } => "symbol is not defined in the object",
-            LinkFault::RelocationKind(_) => "unknown relocation",
-            LinkFault::CallTarget(_) => "call of no function of the program",
-            LinkFault::NoCall(_) => "relocation of a call at no call",
-            LinkFault::Data(_) => "reference to data that is no map",
-            LinkFault::NoLoad(_) => "relocation of a map at no empty wide load",
-            LinkFault::Program { fault, .. } => fault.text(),
-            LinkFault::Memory => "out of memory",
-            LinkFault::LongData => "data longer than 65536 bytes",
-            LinkFault::DataSection => "malformed data section",
-            LinkFault::Pointer => "address in data of what is no data",
-            LinkFault::ManyPrograms => "more than one program in the code section",
-            LinkFault::NoEntry => "no such function in the code section",
-            LinkFault::Helper { .. } => "unknown helper",
-            LinkFault::StubList => "malformed list of stubs",
-            LinkFault::StubRange => "helper or value of a stub out of range",
-            LinkFault::StubTwice => "two stubs of one helper",
-            LinkFault::ManyStubs => "more than 16 stubs",
-            LinkFault::Fields { .. } => "relocations of fields",
-            LinkFault::Types(fault) => fault.text(),
-            LinkFault::Map { fault, .. } => fault.text(),
-        }
+        self.row().1
     }
 }

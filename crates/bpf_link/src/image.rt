@@ -1,16 +1,16 @@
 //! What the data of a program are at its start.
 ghost use Rattle.std.specs.Prelude.{◌≡◌, ◌≤◌, ◌<◌, ◌+◌, ◌⊎◌, length, IfOk, IfErr, Ok, Err};
 ghost use Rattle.bpf_link.specs.Data.{HasMaps};
-ghost use Rattle.bpf_link.specs.Images.{most_data, filled, whole_size, bytes_of, with_u64, address_of, with_address, with_relocated, with_pointer, with_pointers, image_of};
+ghost use Rattle.bpf_link.specs.Images.{most_data, filled, whole_size, bytes_of, with_u64, address_of, pointed_place, with_address, with_relocated, with_pointer, with_pointers, image_of};
 ghost use Rattle.bpf_link.specs.Links.{MemoryOr};
-ghost use Rattle.bpf_link.specs.Plans.{Lies, HasEntry};
+ghost use Rattle.bpf_link.specs.Plans.{Lies, HasEntry, LiesPlan};
 ghost use Rattle.bpf_link.specs.declared.fault.LinkFault.TheVariants.{Memory};
 
 use crate::data_sections::{data_number, is_among, pointers_of};
 use crate::fault::LinkFault;
 use crate::fields::{lies, u64_at};
 use crate::layout::{RelocationEntry, SectionHeader, SymbolEntry};
-use crate::plan::{Entries, Plan, relocation_at, symbol_at};
+use crate::plan::{Entries, Plan, relocation_at, symbol_at, symbol_place};
 use crate::sections::section_at;
 use byteorder::{ByteOrder, LittleEndian};
 use std::alloc::Global;
@@ -73,23 +73,24 @@ fn address_of(maps: &[u64], taken: &[usize], symbol: &SymbolEntry, more: u64) ->
         .wrapping_add(more)
 }
 
-/// Data with an address: that of a symbol, and what stood there.
+/// Data with an address: that of a symbol, and what stood there; or a fault.
 fn with_address(
     maps: &[u64],
     taken: &[usize],
     relocation: &RelocationEntry,
     symbol: &SymbolEntry,
+    fault: LinkFault,
     image: Vec<u8>,
 ) -> Result<Vec<u8>, LinkFault>
     requires few { length maps.now + length taken.now ≤ 16 }
     requires inside { relocation.now.offset + 8 ≤ length image.items }
     ensures ok { IfOk result (λ new.
-        with_address maps.now taken.now relocation.now symbol.now image.items ≡ Ok new.items) }
-    ensures err { IfErr result (λ fault.
-        with_address maps.now taken.now relocation.now symbol.now image.items ≡ Err fault) }
+        with_address maps.now taken.now relocation.now symbol.now fault image.items ≡ Ok new.items) }
+    ensures err { IfErr result (λ told.
+        with_address maps.now taken.now relocation.now symbol.now fault image.items ≡ Err told) }
 {
     if !is_among(taken, usize::from(symbol.section)) {
-        return Err(LinkFault::Pointer);
+        return Err(fault);
     }
     let at = relocation.offset as usize;
     let address = address_of(maps, taken, symbol, u64_at(&image, at));
@@ -117,6 +118,18 @@ fn with_pointer(
     with_relocated(object, plan, maps, taken, &relocation, image)
 }
 
+/// Where the name of a relocation's symbol stands in the file, or the file's end.
+fn pointed_place(object: &[u8], plan: &Plan, relocation: &RelocationEntry) -> usize
+    requires { LiesPlan object.now plan.now }
+    ensures { result ≡ pointed_place object.now plan.now relocation.now }
+{
+    let index = relocation.symbol as usize;
+    if index >= plan.symbols.count {
+        return object.len();
+    }
+    symbol_place(object, plan, &symbol_at(object, &plan.symbols, index))
+}
+
 /// Data with a relocation done, if it is one of an address of data.
 fn with_relocated(
     object: &[u8],
@@ -132,18 +145,21 @@ fn with_relocated(
     ensures err { IfErr result (λ fault. with_relocated object.now plan.now maps.now taken.now
         relocation.now image.items ≡ Err fault) }
 {
+    let fault = LinkFault::Pointer {
+        at: pointed_place(object, plan, relocation),
+    };
     if relocation.kind != 2 {
-        return Err(LinkFault::Pointer);
+        return Err(fault);
     }
     if !lies(&image, relocation.offset, 8) {
-        return Err(LinkFault::Pointer);
+        return Err(fault);
     }
     let index = relocation.symbol as usize;
     if index >= plan.symbols.count {
-        return Err(LinkFault::Pointer);
+        return Err(fault);
     }
     let symbol = symbol_at(object, &plan.symbols, index);
-    with_address(maps, taken, relocation, &symbol, image)
+    with_address(maps, taken, relocation, &symbol, fault, image)
 }
 
 /// Data with their relocations done.

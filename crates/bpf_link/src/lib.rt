@@ -23,7 +23,7 @@ mod stub_lists;
 mod stubs;
 mod words;
 
-pub use fault::LinkFault;
+pub use fault::{LinkFault, RelocationFault};
 pub use field_relocations::fields_as_compiled;
 pub use helpers::helper_name;
 pub use linker::{LinkOptions, Linked, link, link_with};

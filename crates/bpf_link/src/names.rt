@@ -160,7 +160,8 @@ fn fault_places(object: &[u8], section: &[u8], fault: &LinkFault) -> ArrayVec<us
     match fault {
         LinkFault::Map { at, .. } => only(*at),
         LinkFault::Fields { at, .. } => only(*at),
-        LinkFault::Extern { at, .. } => only(*at),
+        LinkFault::Relocation { at, .. } => only(*at),
+        LinkFault::Pointer { at } => only(*at),
         LinkFault::Program { source, .. } => source_places(*source),
         LinkFault::Helper { source, .. } => source_places(*source),
         LinkFault::NoSection => code_places(object),

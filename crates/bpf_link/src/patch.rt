@@ -3,11 +3,11 @@ ghost use Rattle.std.specs.Prelude.{◌≡◌, ◌≤◌, ◌<◌, ◌+◌, ◌*
 ghost use Rattle.bpf_isa.specs.Words.{u32_at};
 ghost use Rattle.bpf_link.specs.Data.{HasMaps};
 ghost use Rattle.bpf_link.specs.Links.{patch_width};
-ghost use Rattle.bpf_link.specs.Patches.{HasSlots, HasPlace, HasRelocation, is_call, part_with, call_to, call_patch, is_map, is_empty_load, map_number, map_patch, is_short_load, data_patch, load_patch, patch_with, is_next, patch_at, patch_of};
+ghost use Rattle.bpf_link.specs.Patches.{HasSlots, HasPlace, HasRelocation, is_call, symbol_fault, part_with, call_to, call_patch, is_map, is_empty_load, map_number, map_patch, is_short_load, data_patch, load_patch, patch_with, is_next, patch_at, patch_of};
 ghost use Rattle.bpf_link.specs.Plans.{FitsPart, Lies, LiesPlan};
 
 use crate::data_sections::{data_number, is_among};
-use crate::fault::LinkFault;
+use crate::fault::{LinkFault, RelocationFault};
 use crate::fields::u32_at;
 use crate::layout::{RelocationEntry, SymbolEntry};
 use crate::plan::{Entries, Part, Plan, relocation_at, symbol_at, symbol_place};
@@ -31,9 +31,26 @@ fn is_call(object: &[u8], at: usize) -> bool
     object[at] == 0x85 && object[at + 1] == 0x10
 }
 
-/// The part of the program that a section is, for a call in a slot.
-fn part_with(plan: &Plan, section: usize, slot: usize) -> Result<Part, LinkFault>
-    ensures { result ≡ part_with plan.now section slot }
+/// Why the relocation of a slot, against a symbol, isn't done.
+fn symbol_fault(
+    object: &[u8],
+    plan: &Plan,
+    symbol: &SymbolEntry,
+    slot: usize,
+    fault: RelocationFault,
+) -> LinkFault
+    ensures { result ≡ symbol_fault object.now plan.now symbol.now slot fault }
+{
+    LinkFault::Relocation {
+        fault,
+        slot,
+        at: symbol_place(object, plan, symbol),
+    }
+}
+
+/// The part of the program that a section is, or a fault.
+fn part_with(plan: &Plan, section: usize, fault: LinkFault) -> Result<Part, LinkFault>
+    ensures { result ≡ part_with plan.now section fault }
 {
     if section == plan.code.section {
         return Ok(plan.code);
@@ -41,27 +58,33 @@ fn part_with(plan: &Plan, section: usize, slot: usize) -> Result<Part, LinkFault
     if section == plan.text.section {
         return Ok(plan.text);
     }
-    Err(LinkFault::CallTarget(slot))
+    Err(fault)
 }
 
-/// A call in a slot of what lies at a value in a part, with what stood in imm.
-fn call_to(target: &Part, value: u64, imm: u32, slot: usize) -> Result<Patch, LinkFault>
+/// A call in a slot of what lies at a value in a part, with what stood in imm, or a fault.
+fn call_to(
+    target: &Part,
+    value: u64,
+    imm: u32,
+    slot: usize,
+    fault: LinkFault,
+) -> Result<Patch, LinkFault>
     requires short { target.now.first + target.now.slots.count ≤ 65535 }
     requires slot { slot < 65535 }
-    ensures value { result ≡ call_to target.now value imm slot }
+    ensures value { result ≡ call_to target.now value imm slot fault }
     ensures at { IfOk result (λ patch. patch.at ≡ 8 * slot) }
 {
     if value % 8 != 0 {
-        return Err(LinkFault::CallTarget(slot));
+        return Err(fault);
     }
     let from = value / 8;
     let count = target.slots.count as u64;
     if from >= count {
-        return Err(LinkFault::CallTarget(slot));
+        return Err(fault);
     }
     let index = (from + u64::from(imm) + 1) % 4_294_967_296;
     if index >= count {
-        return Err(LinkFault::CallTarget(slot));
+        return Err(fault);
     }
     let distance = (4_294_967_296 + (target.first as u64 + index) - (slot as u64 + 1))
         % 4_294_967_296;
@@ -87,10 +110,12 @@ fn call_patch(
     ensures at { IfOk result (λ patch. patch.at ≡ 8 * slot) }
 {
     if !is_call(object, at) {
-        return Err(LinkFault::NoCall(slot));
+        let fault = RelocationFault::NoCall;
+        return Err(symbol_fault(object, plan, symbol, slot, fault));
     }
-    let target = part_with(plan, usize::from(symbol.section), slot)?;
-    call_to(&target, symbol.value, u32_at(object, at + 4), slot)
+    let fault = symbol_fault(object, plan, symbol, slot, RelocationFault::CallTarget);
+    let target = part_with(plan, usize::from(symbol.section), fault)?;
+    call_to(&target, symbol.value, u32_at(object, at + 4), slot, fault)
 }
 
 /// Whether a symbol names a map.
@@ -139,10 +164,12 @@ fn map_patch(
     ensures at { IfOk result (λ patch. patch.at ≡ 8 * slot) }
 {
     if !is_map(plan.maps, symbol) {
-        return Err(LinkFault::Data(slot));
+        let fault = RelocationFault::Data;
+        return Err(symbol_fault(object, plan, symbol, slot, fault));
     }
     if !is_empty_load(object, at) {
-        return Err(LinkFault::NoLoad(slot));
+        let fault = RelocationFault::NoLoad;
+        return Err(symbol_fault(object, plan, symbol, slot, fault));
     }
     Ok(Patch {
         at: 8 * slot,
@@ -163,6 +190,7 @@ fn is_short_load(object: &[u8], at: usize) -> bool
 /// The wide load of an address in data, in the two slots at a place in the file.
 fn data_patch(
     object: &[u8],
+    plan: &Plan,
     maps: &[u64],
     taken: &[usize],
     symbol: &SymbolEntry,
@@ -171,11 +199,12 @@ fn data_patch(
 ) -> Result<Patch, LinkFault>
     requires slots { HasSlots object.now 16 at slot }
     requires few { length maps.now + length taken.now ≤ 16 }
-    ensures value { result ≡ data_patch object.now maps.now taken.now symbol.now at slot }
+    ensures value { result ≡ data_patch object.now plan.now maps.now taken.now symbol.now at slot }
     ensures at { IfOk result (λ patch. patch.at ≡ 8 * slot) }
 {
     if !is_short_load(object, at) {
-        return Err(LinkFault::NoLoad(slot));
+        let fault = RelocationFault::NoLoad;
+        return Err(symbol_fault(object, plan, symbol, slot, fault));
     }
     let place = (symbol.value % 4_294_967_296 + u64::from(u32_at(object, at + 4))) % 4_294_967_296;
     Ok(Patch {
@@ -202,7 +231,7 @@ fn load_patch(
     ensures at { IfOk result (λ patch. patch.at ≡ 8 * slot) }
 {
     if is_among(taken, usize::from(symbol.section)) {
-        return data_patch(object, maps, taken, symbol, at, slot);
+        return data_patch(object, plan, maps, taken, symbol, at, slot);
     }
     map_patch(object, plan, maps, symbol, at, slot)
 }
@@ -227,21 +256,21 @@ fn patch_with(
     let at = part.slots.at + offset;
     let slot = part.first + offset / 8;
     if symbol.section == 0 {
-        return Err(LinkFault::Extern {
-            slot,
-            at: symbol_place(object, plan, symbol),
-        });
+        let fault = RelocationFault::Extern;
+        return Err(symbol_fault(object, plan, symbol, slot, fault));
     }
     if relocation.kind == 10 {
         return call_patch(object, plan, symbol, at, slot);
     }
     if relocation.kind == 1 {
         if offset / 8 + 1 >= part.slots.count {
-            return Err(LinkFault::NoLoad(slot));
+            let fault = RelocationFault::NoLoad;
+            return Err(symbol_fault(object, plan, symbol, slot, fault));
         }
         return load_patch(object, plan, maps, taken, symbol, at, slot);
     }
-    Err(LinkFault::RelocationKind(slot))
+    let fault = RelocationFault::RelocationKind;
+    Err(symbol_fault(object, plan, symbol, slot, fault))
 }
 
 /// Whether the slot of a relocation follows that of the one before.

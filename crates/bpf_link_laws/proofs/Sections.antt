@@ -10,7 +10,7 @@ use Rattle.byteorder.specs.Numbers.{length-bytes_low_first}
 use Rattle.bpf_isa.specs.declared.maps.MapShape.{MapShape}
 use Rattle.bpf_isa.specs.Programs.{Checked, IsProgram}
 use Rattle.bpf_link.specs.declared.fault.LinkFault.{LinkFault}
-use Rattle.bpf_link.specs.declared.fault.LinkFault.TheVariants.{LongData, DataSection, Pointer, NoEntry, ManyPrograms}
+use Rattle.bpf_link.specs.declared.fault.LinkFault.TheVariants.{LongData, DataSection, NoEntry, ManyPrograms}
 use Rattle.bpf_link.specs.declared.layout.RelocationEntry.{RelocationEntry}
 use Rattle.bpf_link.specs.declared.layout.SectionHeader.{SectionHeader}
 use Rattle.bpf_link.specs.declared.layout.SymbolEntry.{SymbolEntry}
@@ -70,10 +70,10 @@ u64_length bytes at n fits = let eight : length (little_bytes 8 n) ≡ 8 = lengt
 pointer_length : (object : List ℕ) (plan : Plan) (maps taken : List ℕ) (relocation : RelocationEntry) (image new : List ℕ) → with_relocated object plan maps taken relocation image ≡ Ok new → length new ≡ length image
 pointer_length object plan maps taken relocation image new e =
     let symbol = symbol_at object plan.symbols relocation.symbol in
-    let a = provided_ok (relocation.kind == 2) Pointer _ new e in
-    let b = provided_ok (nat_le (relocation.offset + 8) (length image)) Pointer _ new a.1 in
-    let c = provided_ok (nat_lt relocation.symbol plan.symbols.count) Pointer _ new b.1 in
-    let d = provided_ok (is_among taken symbol.section) Pointer _ new c.1 in
+    let a = provided_ok (relocation.kind == 2) _ _ new e in
+    let b = provided_ok (nat_le (relocation.offset + 8) (length image)) _ _ new a.1 in
+    let c = provided_ok (nat_lt relocation.symbol plan.symbols.count) _ _ new b.1 in
+    let d = provided_ok (is_among taken symbol.section) _ _ new c.1 in
     ap length (sym (ok_same _ new d.1)) ∙ u64_length image relocation.offset (address_of maps taken symbol (u64_at image relocation.offset)) (is_most (relocation.offset + 8) (length image) b.0)
 
 pointers_length : (object : List ℕ) (plan : Plan) (maps taken : List ℕ) (relocations : Entries) (image : List ℕ) (n : ℕ) (new : List ℕ) → steps (with_pointer object plan maps taken relocations) image n ≡ Ok new → length new ≡ length image

@@ -1,6 +1,6 @@
 //! The numbers and texts of the linker's faults.
 use bpf_isa::LoadFault;
-use bpf_link::LinkFault;
+use bpf_link::{LinkFault, RelocationFault};
 use std::alloc::{AllocError, Global};
 use std::process::Abort;
 
@@ -63,6 +63,14 @@ fn early_fault(number: usize) -> LinkFault {
     }
 }
 
+fn at_slot(fault: RelocationFault) -> LinkFault {
+    LinkFault::Relocation {
+        fault,
+        slot: 0,
+        at: 0,
+    }
+}
+
 fn fault(number: usize) -> LinkFault {
     match number {
         14 => LinkFault::ManyMapSections,
@@ -70,12 +78,12 @@ fn fault(number: usize) -> LinkFault {
         16 => LinkFault::RelocationTable,
         17 => LinkFault::Place,
         18 => LinkFault::Symbol(0),
-        19 => LinkFault::Extern { slot: 0, at: 0 },
-        20 => LinkFault::RelocationKind(0),
-        21 => LinkFault::CallTarget(0),
-        22 => LinkFault::NoCall(0),
-        23 => LinkFault::Data(0),
-        24 => LinkFault::NoLoad(0),
+        19 => at_slot(RelocationFault::Extern),
+        20 => at_slot(RelocationFault::RelocationKind),
+        21 => at_slot(RelocationFault::CallTarget),
+        22 => at_slot(RelocationFault::NoCall),
+        23 => at_slot(RelocationFault::Data),
+        24 => at_slot(RelocationFault::NoLoad),
         25 => LinkFault::Program {
             fault: LoadFault::Empty,
             source: None,
@@ -83,7 +91,7 @@ fn fault(number: usize) -> LinkFault {
         26 => LinkFault::Memory,
         27 => LinkFault::LongData,
         28 => LinkFault::DataSection,
-        29 => LinkFault::Pointer,
+        29 => LinkFault::Pointer { at: 0 },
         30 => LinkFault::ManyPrograms,
         31 => LinkFault::NoEntry,
         32 => LinkFault::StubList,

@@ -4,7 +4,7 @@ use Rattle.std.specs.Fmt.{digit_glyph}
 use Rattle.bpf_isa.specs.Faults.{load_fault, map_fault}
 use Rattle.bpf_isa.specs.declared.fault.LoadFault.{LoadFault}
 use Rattle.bpf_isa.specs.declared.fault.LoadFault.TheVariants as load
-use Rattle.bpf_link.specs.Faults.{link_fault_number, link_fault_text}
+use Rattle.bpf_link.specs.Faults.{link_fault}
 use Rattle.bpf_link.specs.Helpers.{helper_name}
 use Rattle.bpf_link.specs.declared.fault.LinkFault.{LinkFault}
 use Rattle.bpf_link.specs.declared.fault.LinkFault.TheVariants as linking
@@ -81,12 +81,7 @@ slot_of load.Memory = None
 -- The slot of an object's fault, where the words that are linked have one, or a relocation.
 abbrev pub slot_of_words : LinkFault → Option ℕ
 slot_of_words (linking.Symbol slot) = Some slot
-slot_of_words (linking.Extern slot at) = Some slot
-slot_of_words (linking.RelocationKind slot) = Some slot
-slot_of_words (linking.CallTarget slot) = Some slot
-slot_of_words (linking.NoCall slot) = Some slot
-slot_of_words (linking.Data slot) = Some slot
-slot_of_words (linking.NoLoad slot) = Some slot
+slot_of_words (linking.Relocation fault slot at) = Some slot
 slot_of_words (linking.Program fault source) = slot_of fault
 slot_of_words (linking.Helper slot helper source) = Some slot
 slot_of_words (linking.Fields count slot at) = Some slot
@@ -109,7 +104,7 @@ origin_text fault = []
 
 abbrev pub object_line : LinkFault → List ℕ → List ℕ
 object_line fault name =
-    refusal_text (codes "refused E") (link_fault_number fault) (placed (codes " at slot ") (slot_of_words fault)) (link_fault_text fault ++ more_of fault ++ name_text name ++ origin_text fault)
+    refusal_text (codes "refused E") (link_fault fault).0 (placed (codes " at slot ") (slot_of_words fault)) ((link_fault fault).1 ++ more_of fault ++ name_text name ++ origin_text fault)
 
 -- A name that no test has.
 abbrev pub no_test_line : List ℕ → List ℕ

@@ -361,12 +361,7 @@ fn slot_of_words(fault: &LinkFault) -> Option<usize>
 {
     match fault {
         LinkFault::Symbol(slot) => Some(*slot),
-        LinkFault::Extern { slot, .. } => Some(*slot),
-        LinkFault::RelocationKind(slot) => Some(*slot),
-        LinkFault::CallTarget(slot) => Some(*slot),
-        LinkFault::NoCall(slot) => Some(*slot),
-        LinkFault::Data(slot) => Some(*slot),
-        LinkFault::NoLoad(slot) => Some(*slot),
+        LinkFault::Relocation { slot, .. } => Some(*slot),
         LinkFault::Program { fault, .. } => slot_of(fault),
         LinkFault::Helper { slot, .. } => Some(*slot),
         LinkFault::Fields { slot, .. } => Some(*slot),

@@ -1,6 +1,7 @@
 use Rattle.std.proofs.Common.{◌≡◌, ◌∙◌, ◌+◌, ◌==◌, nat_le, nat_lt, true, Ok, length, sym, ap, subst, rules, tests}
 use Rattle.std.specs.Prelude.{IfOk}
-use Rattle.bpf_link.specs.Images.{with_address}
+use Rattle.bpf_link.specs.declared.fault.LinkFault.TheVariants.{Pointer}
+use Rattle.bpf_link.specs.Images.{pointed_place, with_address}
 use Rattle.bpf_link.proofs.Images.{relocated_is}
 use Rattle.bpf_link.proofs.image.with_relocated.Goals as goal
 
@@ -12,5 +13,6 @@ returns-clause-ok c =
     let known : nat_lt relocation.symbol c.args.plan.now.symbols.count ≡ true = search (rules, tests) in
     subst (λ r. IfOk c.with_address.result (λ new. r ≡ Ok new.items))
     (sym (relocated_is c.args.object.now c.args.plan.now c.args.maps.now c.args.taken.now relocation c.args.image.items kind inside known
-    ∙ ap (λ symbol. with_address c.args.maps.now c.args.taken.now relocation symbol c.args.image.items) (sym c.symbol_at-symbol.ensures)))
+    ∙ ap (λ symbol. with_address c.args.maps.now c.args.taken.now relocation symbol (Pointer (pointed_place c.args.object.now c.args.plan.now relocation)) c.args.image.items) (sym c.symbol_at-symbol.ensures)
+    ∙ ap (λ at. with_address c.args.maps.now c.args.taken.now relocation c.symbol_at-symbol.result (Pointer at) c.args.image.items) (sym c.pointed_place.ensures)))
     c.with_address.ensures.ok

@@ -1,6 +1,6 @@
 use Rattle.std.proofs.Common.{◌≡◌, ◌++◌, ℕ, List, append_assoc, codes, decimal, refl, subst}
 use Rattle.counted_io.specs.Writing.{Writes}
-use Rattle.bpf_link.specs.Faults.{link_fault_number, link_fault_text}
+use Rattle.bpf_link.specs.Faults.{link_fault}
 use Rattle.bpfdb_jobs.specs.Faults.{more_of, name_text, origin_text, placed, slot_of_words}
 use Rattle.bpfdb_jobs.proofs.line.put_object.Goals as goal
 
@@ -17,6 +17,6 @@ returns g c = λ first front known.
     let behind = c.put_origin-placed.ensures first _ named in
     let whole = rw (c.number.ensures, c.slot_of_words.ensures, c.text.ensures) at (c.put.ensures first _ behind) in
     subst (λ line. Writes g.E.Write.contents first c.put.new.writer c.put.result line)
-    (in_line front (codes "refused E") (decimal (link_fault_number c.args.fault.now)) (placed (codes " at slot ") (slot_of_words c.args.fault.now)) (codes ": ")
-    (link_fault_text c.args.fault.now) (more_of c.args.fault.now) (name_text c.args.name.now) (origin_text c.args.fault.now) (codes "\n"))
+    (in_line front (codes "refused E") (decimal (link_fault c.args.fault.now).0) (placed (codes " at slot ") (slot_of_words c.args.fault.now)) (codes ": ")
+    (link_fault c.args.fault.now).1 (more_of c.args.fault.now) (name_text c.args.name.now) (origin_text c.args.fault.now) (codes "\n"))
     whole
