@@ -84,10 +84,10 @@ fn with_address(
 ) -> Result<Vec<u8>, LinkFault>
     requires few { length maps.now + length taken.now ≤ 16 }
     requires inside { relocation.now.offset + 8 ≤ length image.items }
-    ensures ok { IfOk result (λ new.
-        with_address maps.now taken.now relocation.now symbol.now fault image.items ≡ Ok new.items) }
-    ensures err { IfErr result (λ told.
-        with_address maps.now taken.now relocation.now symbol.now fault image.items ≡ Err told) }
+    ensures ok { IfOk result (λ new. with_address maps.now taken.now relocation.now symbol.now fault
+        image.items ≡ Ok new.items) }
+    ensures err { IfErr result (λ told. with_address maps.now taken.now relocation.now symbol.now
+        fault image.items ≡ Err told) }
 {
     if !is_among(taken, usize::from(symbol.section)) {
         return Err(fault);
