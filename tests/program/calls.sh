@@ -42,6 +42,82 @@ typed '' 0 '' "$greeting> " debug program
 typed 'stepi\n' 0 '0x2a\n' '' run program
 typed 'stepi\n' 2 '' 'refused J1: journal size out of range\n' debug --journal 0 program
 
+# hinted LINE HINT ARGUMENT..: the command line is refused with this line; where standard error is a terminal, this hint follows, if there is one.
+compile errors
+hinted() {
+    line=$1 hint=$2
+    shift 2
+    : > script
+    run "$@"
+    check "bpfdb $*" 2 '' "$line\n"
+    ./errors "$program" "$@" < script > found/out 2> found/err
+    echo $? > found/status
+    check "bpfdb $* with a terminal as standard error" 2 '' "$line\n${hint:+$hint\n}"
+}
+
+# C3, and C4 and C6 at slot 0, of what begins as an object (0x7f, E, L, F) or as a text have a hint: with each subcommand that checks a program.
+bytes object 7f 45 4c 46 02 01 01 00 00 00 00 00 00 00 00 00
+head -c 13 object > cut.o
+printf 'mov r0, 7\nexit\n' > plain.s
+printf '; sevens\nmov r0, 7\nexit\n' > comment.s
+printf 'exit ; 12345678\n' > unused.s
+ragged='refused C3: length is no multiple of 8'
+unknown='refused C4 at slot 0: unknown instruction'
+unused='refused C6 at slot 0: unused field is not zero'
+for subcommand in run trace debug origin gdb disasm check; do
+    hinted "$unused" 'object looks like an object: bpfdb link' "$subcommand" object
+    hinted "$ragged" 'plain.s looks like a listing: --listing' "$subcommand" plain.s
+done
+hinted "$ragged" 'cut.o looks like an object: bpfdb link' check cut.o
+hinted "$unknown" 'comment.s looks like a listing: --listing' check comment.s
+hinted "$unused" 'unused.s looks like a listing: --listing' check unused.s
+cp object "$(printf 'a\033b')"
+hinted "$unused" 'a\\x1bb looks like an object: bpfdb link' check "$(printf 'a\033b')"
+
+# A text has a line feed among its first 4,096 bytes, and there none but printing ASCII, tabs, carriage returns and line feeds.
+printf '\ta\r\nb' > blanks.s
+hinted "$ragged" 'blanks.s looks like a listing: --listing' check blanks.s
+for count in 4095 4096; do
+    { head -c "$count" /dev/zero | tr '\0' a; printf '\nb'; } > "late$count.s"
+done
+hinted "$ragged" 'late4095.s looks like a listing: --listing' check late4095.s
+hinted "$ragged" '' check late4096.s
+printf 'exit' > unended.s
+printf 'exit ; \303\244\n' > umlaut.s
+printf 'exit\177\n' > delete.s
+for text in unended umlaut delete; do
+    hinted "$ragged" '' check "$text.s"
+done
+{ head -c 4095 /dev/zero | tr '\0' '\n'; printf 'a\377b'; } > binary-later.s
+hinted "$ragged" 'binary-later.s looks like a listing: --listing' check binary-later.s
+
+# Nothing is said of other bytes, of other faults (here C6 at slot 1 of a text, whose first word jumps to slot 2571), nor where FILE isn't read as words.
+bytes zeros 00 00 00 00 00 00 00 00
+hinted "$unknown" '' run zeros
+bytes zeros 00 00 00
+hinted "$ragged" '' run zeros
+bytes later b7 00 00 00 00 00 00 00 95 10 00 00 00 00 00 00
+hinted 'refused C6 at slot 1: unused field is not zero' '' run later
+{ printf 'e\t\n\naaaa'; yes 'exit ; 1' | head -n 2600 | tr -d '\n'; } > later.s
+hinted 'refused C6 at slot 1: unused field is not zero' '' run later.s
+hinted 'refused M5: malformed map list' '' run --maps x object
+hinted 'refused A6 at line 1: byte outside ASCII text' '' run --listing object
+hinted 'refused A6 at line 1: byte outside ASCII text' '' asm object
+hinted 'refused A6 at line 1: byte outside ASCII text' '' lines object
+hinted 'refused E1: no ELF file' '' link plain.s
+hinted 'cannot read missing' '' run missing
+hinted 'refused J1: journal size out of range' '' debug --journal 0 program
+
+# Of a listing whose program the checker refuses the line of the slot is told, by its table.
+printf 'mov r0, 0\nja end ; too far\nexit\nend:\n' > far.s
+printf '; two slots\nlddw r1, 5\n\nlast: mov r10, 1\nexit\n' > wide.s
+hinted 'refused C8 at slot 1: target is no instruction' 'slot 1 is line 2 of far.s' run --listing far.s
+for subcommand in run trace debug origin gdb disasm check; do
+    hinted 'refused C7 at slot 2: write to r10' 'slot 2 is line 4 of wide.s' "$subcommand" --listing wide.s
+done
+: > empty.s
+hinted 'refused C1: empty program' '' run --listing empty.s
+
 # What is interrupted is made again, and what comes short goes on: the answers are those of the other parts.
 "$program" asm long.s > long.bin
 for how in INTERRUPTED=0 INTERRUPTED=1 INTERRUPTED=5 SHORT=1 'INTERRUPTED=2 SHORT=3' 'INTERRUPTED=1 SHORT=1000'; do

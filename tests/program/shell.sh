@@ -232,3 +232,9 @@ printf 'stepi\nfrob\n' > script
 PATH=$PWD/bare "$shell" < script > found/out 2> found/err
 echo $? > found/status
 check 'bpfdb-shell without python3' 0 '1 forward; done; at 1: exit\nrefused Q1: unknown command\n' 'bpfdb-shell: there is no python3, so this is bpfdb debug alone\n'
+# (that says what an object is, where standard error is a terminal)
+compile errors
+bytes object 7f 45 4c 46 02 01 01 00
+PATH=$PWD/bare ./errors "$shell" object < script > found/out 2> found/err
+echo $? > found/status
+check 'bpfdb-shell without python3: an object' 2 '' 'bpfdb-shell: there is no python3, so this is bpfdb debug alone\nrefused C6 at slot 0: unused field is not zero\nobject looks like an object: bpfdb link\n'

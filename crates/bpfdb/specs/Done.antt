@@ -1,9 +1,10 @@
 -- What becomes of a plan, and of help that is asked for.
-use Rattle.std.specs.Prelude.{ℕ, ◌≡◌, List, Option, Some}
+use Rattle.std.specs.Prelude.{ℕ, ◌≡◌, Bool, List, Option, Some}
 use Rattle.bpfdb_cli.specs.declared.plans.Plan.{Plan}
 use Rattle.bpfdb_jobs.specs.Done.{DoesJob}
 use Rattle.bpfdb_jobs.specs.Endings.{Gets, Loses, Told}
 use Rattle.bpfdb_jobs.specs.Faults.{line_of}
+use Rattle.bpfdb_jobs.specs.Hints.{AddsHint}
 use Rattle.bpfdb_jobs.specs.Statuses.{EndsWith}
 use Rattle.bpfdb_jobs.specs.declared.fault.JobFault.{JobFault}
 use Rattle.bpfdb_jobs.specs.declared.fault.JobFault.TheVariants.{Memory, Output}
@@ -12,16 +13,23 @@ use Rattle.bpfdb.specs.Files.{AreRead, IsUnread}
 use Rattle.bpfdb.specs.Jobs.{IsJobOf}
 use Rattle.counted_io.specs.Counted.{Tally}
 
+-- A job is done, and its hint follows on standard error where that is a terminal.
+pub record DoesHinted {R W E : Type 0} (remaining : R → Option (List ℕ)) (contents : W → Option (List ℕ)) (lines : E → Option (List ℕ))
+    (at_terminal : Bool) (job : Job) (reader reader' : Tally R) (writer writer' : Tally W) (errors errors' : Tally E) (status : ℕ) : Type 0 where
+  pub told : Tally E
+  pub does : DoesJob remaining contents lines job.subcommand job reader reader' writer writer' errors told status
+  pub adds : AddsHint lines at_terminal job status told errors'
+
 -- Its files can't be read, which is told, and nothing else happens; or they are, and its job is done.
 pub data DoesPlan {R W E : Type 0} (bytes_at : List ℕ → Option (List ℕ)) (remaining : R → Option (List ℕ)) (contents : W → Option (List ℕ))
-    (lines : E → Option (List ℕ)) (plan : Plan) (reader reader' : Tally R) (writer writer' : Tally W) (errors errors' : Tally E) (status : ℕ)
-    : Type 0 where
+    (lines : E → Option (List ℕ)) (at_terminal : Bool) (plan : Plan) (reader reader' : Tally R) (writer writer' : Tally W)
+    (errors errors' : Tally E) (status : ℕ) : Type 0 where
   Unread : (fault : JobFault) → IsUnread bytes_at plan fault → reader' ≡ reader → writer' ≡ writer → Told lines errors errors' (line_of fault)
-      → status ≡ 2 → DoesPlan bytes_at remaining contents lines plan reader reader' writer writer' errors errors' status
+      → status ≡ 2 → DoesPlan bytes_at remaining contents lines at_terminal plan reader reader' writer writer' errors errors' status
   Done : (of_file of_path of_script : List ℕ) → (job : Job) → AreRead bytes_at plan of_file of_path of_script
       → IsJobOf plan of_file of_path of_script job
-      → DoesJob remaining contents lines job.subcommand job reader reader' writer writer' errors errors' status
-      → DoesPlan bytes_at remaining contents lines plan reader reader' writer writer' errors errors' status
+      → DoesHinted remaining contents lines at_terminal job reader reader' writer writer' errors errors' status
+      → DoesPlan bytes_at remaining contents lines at_terminal plan reader reader' writer writer' errors errors' status
 
 -- A status other than 2 is that of its job, over some bytes of its files.
 pub record EndsPlanWith (plan : Plan) (status : ℕ) : Type 0 where

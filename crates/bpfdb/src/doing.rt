@@ -1,8 +1,7 @@
 //! What is done of a command line, over any files, reader and writers.
 ghost use Rattle.std.specs.Prelude.{◌≤◌};
-ghost use Rattle.bpfdb.specs.Done.{DoesPlan, Helps};
+ghost use Rattle.bpfdb.specs.Done.{DoesHinted, DoesPlan, Helps};
 ghost use Rattle.bpfdb.specs.Jobs.{IsJobOf};
-ghost use Rattle.bpfdb_jobs.specs.Done.{DoesJob};
 ghost use Rattle.bpfdb_jobs.specs.declared.job.Job.{Job};
 ghost use Rattle.bpfdb_limits.specs.Limits.{IsLimit};
 ghost use Rattle.counted_io.specs.Writing.{Writes};
@@ -11,25 +10,27 @@ use crate::files::{kind_of, read_given, read_named};
 use crate::job::job_of;
 use bpfdb_cli::Plan;
 use bpfdb_files::{FileKind, Opener};
-use bpfdb_jobs::{JobFault, give_up, tool};
+use bpfdb_jobs::{JobFault, add_hint, give_up, tool};
 use clap::Error;
 use counted_io::{Counted, WriteFault, write_text};
 use std::alloc::Global;
 use std::io::{Read, Write};
 
 /// Reads the files of a plan, FILE before PATH is opened, and that before the script; then does its
-/// job. Answers the exit status.
+/// job. Where standard error is a terminal, the job's hint follows, if there is one. Answers the exit
+/// status.
 pub fn do_plan<F: Opener, R: Read, W: Write, E: Write>(
     alloc: Global,
     files: &F,
     plan: &Plan<'_>,
+    at_terminal: bool,
     reader: &mut Counted<R>,
     writer: &mut Counted<W>,
     errors: &mut Counted<E>,
 ) -> u8
     requires limit { IsLimit plan.now.options.limit }
-    ensures does { DoesPlan (F.bytes_at files.now) R.remaining W.contents E.contents plan.now
-        reader.old reader.new writer.old writer.new errors.old errors.new result }
+    ensures does { DoesPlan (F.bytes_at files.now) R.remaining W.contents E.contents at_terminal
+        plan.now reader.old reader.new writer.old writer.new errors.old errors.new result }
     ensures status { result ≤ 2 }
 {
     let file = match read_named(alloc, files, plan.file, kind_of(plan)) {
@@ -50,31 +51,36 @@ pub fn do_plan<F: Opener, R: Read, W: Write, E: Write>(
         file.as_slice(),
         context.as_slice(),
         script.as_slice(),
+        at_terminal,
         reader,
         writer,
         errors,
     )
 }
 
-/// Does the job of a plan, with the bytes of FILE, those of PATH and those of the script.
+/// Does the job of a plan, with the bytes of FILE, those of PATH and those of the script, and adds its
+/// hint.
 fn do_read<R: Read, W: Write, E: Write>(
     alloc: Global,
     plan: &Plan<'_>,
     file: &[u8],
     context: &[u8],
     script: &[u8],
+    at_terminal: bool,
     reader: &mut Counted<R>,
     writer: &mut Counted<W>,
     errors: &mut Counted<E>,
 ) -> u8
     requires limit { IsLimit plan.now.options.limit }
     ensures does { (job : Job) × IsJobOf plan.now file.now context.now script.now job
-        × DoesJob R.remaining W.contents E.contents job.subcommand job reader.old reader.new
+        × DoesHinted R.remaining W.contents E.contents at_terminal job reader.old reader.new
         writer.old writer.new errors.old errors.new result }
     ensures status { result ≤ 2 }
 {
     let job = job_of(plan, file, context, script);
-    tool(alloc, &job, reader, writer, errors)
+    let status = tool(alloc, &job, reader, writer, errors);
+    add_hint(alloc, &job, at_terminal, status, errors);
+    status
 }
 
 /// Writes help, in `clap`'s words. Answers the exit status: 0, or 2 where that fails or memory runs

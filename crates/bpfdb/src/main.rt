@@ -144,10 +144,19 @@ fn do_over_streams<F: Opener>(
         return give_up(errors, &JobFault::Memory);
     };
     let mut writer = Counted::new(output);
+    let at_terminal = rt.stderr().is_terminal();
     let mut input = Retrying::new(rt.reader());
     if is_closed(rt, &mut input) {
         let mut reader = Counted::new(b"".as_slice());
-        return do_plan(rt.alloc(), files, plan, &mut reader, &mut writer, errors);
+        return do_plan(
+            rt.alloc(),
+            files,
+            plan,
+            at_terminal,
+            &mut reader,
+            &mut writer,
+            errors,
+        );
     }
     if is_typed(rt, plan) {
         let input = Prompting::new(input, Retrying::new(rt.stderr()), greeting);
@@ -155,13 +164,29 @@ fn do_over_streams<F: Opener>(
             return give_up(errors, &JobFault::Memory);
         };
         let mut reader = Counted::new(input);
-        return do_plan(rt.alloc(), files, plan, &mut reader, &mut writer, errors);
+        return do_plan(
+            rt.alloc(),
+            files,
+            plan,
+            at_terminal,
+            &mut reader,
+            &mut writer,
+            errors,
+        );
     }
     let Ok(input) = BufReader::new(rt.alloc(), input) else {
         return give_up(errors, &JobFault::Memory);
     };
     let mut reader = Counted::new(input);
-    do_plan(rt.alloc(), files, plan, &mut reader, &mut writer, errors)
+    do_plan(
+        rt.alloc(),
+        files,
+        plan,
+        at_terminal,
+        &mut reader,
+        &mut writer,
+        errors,
+    )
 }
 
 /// Whether commands are typed: the plan reads them, and standard input is a terminal.

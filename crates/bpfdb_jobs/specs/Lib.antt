@@ -2,7 +2,9 @@ pub mod Connections
 pub mod Done
 pub mod Endings
 pub mod Faults
+pub mod Hints
 pub mod Jobs
+pub mod Looks
 pub mod MapLines
 pub mod Obeying
 pub mod Openings

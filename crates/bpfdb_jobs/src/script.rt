@@ -36,7 +36,7 @@ pub fn obey_script(session: &mut Session<RingKeeper>, script: &[u8]) -> Result<u
 }
 
 /// The first line of a text, without its line feed, and what follows that.
-fn first_line(text: &[u8]) -> (&[u8], &[u8])
+pub fn first_line(text: &[u8]) -> (&[u8], &[u8])
     ensures line { result.0.now ≡ before_first (λ b. b == 10) text.now }
     ensures others { result.1.now ≡ after_first (λ b. b == 10) text.now }
 {

@@ -1,0 +1,8 @@
+use Rattle.bpfdb.proofs.doing.do_read.Goals as goal
+
+pub returns-clause-does : goal.returns-clause-does
+returns-clause-does g c = (
+  c.job_of-job.result,
+  c.job_of-job.ensures,
+  record { told = c.tool-status.new.errors; does = c.tool-status.ensures.does; adds = c.add_hint.ensures },
+)

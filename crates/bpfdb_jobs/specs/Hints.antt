@@ -1,0 +1,99 @@
+-- What is said at a terminal behind a refusal of a program: what FILE looks like where it isn't words, and the line of a slot where it is a
+-- listing. bpfdb's own choice.
+use Rattle.std.specs.Prelude.{ℕ, ◌≡◌, ◌==◌, ◌&&◌, Bool, true, false, if◌then◌else◌, List, [], ◌∷◌, ◌++◌, Option, Some, None, option_map, codes, decimal}
+use Rattle.std.specs.List.{after_first, before_first}
+use Rattle.std.specs.Option.{option_and_then, option_map_or}
+use Rattle.bpf_isa.specs.Programs.{Checked}
+use Rattle.bpf_isa.specs.declared.fault.LoadFault.{LoadFault}
+use Rattle.bpf_isa.specs.declared.fault.LoadFault.TheVariants.{Ragged, At}
+use Rattle.bpf_isa.specs.declared.fault.PieceFault.TheVariants.{Word}
+use Rattle.bpf_isa.specs.declared.fault.WordFault.TheVariants.{UnknownInstruction, UnusedField}
+use Rattle.bpf_text.specs.LineTable.{IsLineTable}
+use Rattle.bpf_text.specs.Listing.{IsFaultOf}
+use Rattle.bpf_text.specs.declared.fault.AsmFault.{AsmFault}
+use Rattle.counted_io.specs.Counted.{Tally}
+use Rattle.counted_io.specs.Lines.{lines}
+use Rattle.counted_io.specs.Numerals.{as_u64, natural}
+use Rattle.bpfdb_jobs.specs.Endings.{Told}
+use Rattle.bpfdb_jobs.specs.Faults.{shown}
+use Rattle.bpfdb_jobs.specs.Jobs.{IsProgramOf}
+use Rattle.bpfdb_jobs.specs.Looks.{is_object, is_text}
+use Rattle.bpfdb_jobs.specs.Refusals.{RefusesProgram}
+use Rattle.bpfdb_jobs.specs.declared.hint.Hint.{Hint}
+use Rattle.bpfdb_jobs.specs.declared.hint.Hint.TheVariants as hint
+use Rattle.bpfdb_jobs.specs.declared.job.Job.{Job}
+use Rattle.bpfdb_jobs.specs.declared.refusal.JobRefusal.{JobRefusal}
+use Rattle.bpfdb_jobs.specs.declared.refusal.JobRefusal.TheVariants.{Load}
+use Rattle.bpfdb_options.specs.declared.subcommand.Subcommand.{Subcommand}
+use Rattle.bpfdb_options.specs.declared.subcommand.Subcommand.TheVariants.{Asm, Lines, Link, Test}
+
+-- Subcommands that check a program.
+abbrev pub is_check : Subcommand → Bool
+is_check Asm = false
+is_check Lines = false
+is_check Link = false
+is_check Test = false
+is_check subcommand = true
+
+-- The faults of a file that isn't words: C3, and at the first slot C4 and C6.
+abbrev pub is_of_file : LoadFault → Bool
+is_of_file Ragged = true
+is_of_file (At slot (Word UnknownInstruction)) = slot == 0
+is_of_file (At slot (Word UnusedField)) = slot == 0
+is_of_file fault = false
+
+abbrev pub look_of : List ℕ → Option Hint
+look_of file = if is_object file then Some hint.Object else if is_text file then Some hint.Listing else None
+
+-- After a refusal of words.
+abbrev pub look_after : JobRefusal → List ℕ → Option Hint
+look_after (Load fault) file = if is_of_file fault then look_of file else None
+look_after refusal file = None
+
+-- The line of an instruction, by the rows of a listing's table: their first word is the slot, their second one the line.
+abbrev pub number_of : List ℕ → Option ℕ
+number_of word = option_and_then as_u64 (natural word)
+
+abbrev pub is_number : ℕ → List ℕ → Bool
+is_number n word = option_map_or (λ m. m == n) (number_of word) false
+
+abbrev pub line_at : ℕ → List (List ℕ) → Option ℕ
+line_at slot [] = None
+line_at slot (row ∷ rows) = if is_number slot (before_first (λ b. b == 32) row)
+    then number_of (before_first (λ b. b == 32) (after_first (λ b. b == 32) row))
+    else line_at slot rows
+
+-- After a refusal of a listing's program, by its table.
+abbrev pub place_after : JobRefusal → List ℕ → Option Hint
+place_after (Load (At slot fault)) table = option_map (hint.Line slot) (line_at slot (lines table))
+place_after refusal table = None
+
+-- The hint of a job, if there is one: none where FILE isn't read as a program, or that is accepted, or no table is made of a listing.
+pub data IsHintOf (job : Job) (hint : Option Hint) : Type 0 where
+  Unchecked : is_check job.subcommand ≡ false → hint ≡ None → IsHintOf job hint
+  Accepted : (code : Checked) → IsProgramOf job code → hint ≡ None → IsHintOf job hint
+  Looks : (refusal : JobRefusal) → is_check job.subcommand ≡ true → job.options.is_listing ≡ false → RefusesProgram job refusal
+      → hint ≡ look_after refusal job.file.now → IsHintOf job hint
+  Stands : (refusal : JobRefusal) (table : List ℕ) → is_check job.subcommand ≡ true → job.options.is_listing ≡ true → RefusesProgram job refusal
+      → IsLineTable job.file.now table → hint ≡ place_after refusal table → IsHintOf job hint
+  Untold : (why : AsmFault) → job.options.is_listing ≡ true → IsFaultOf job.file.now why → hint ≡ None → IsHintOf job hint
+
+-- Its line on standard error.
+abbrev pub place_line : List ℕ → ℕ → ℕ → List ℕ
+place_line name slot line = codes "slot " ++ decimal slot ++ codes " is line " ++ decimal line ++ codes " of " ++ shown name ++ codes "\n"
+
+abbrev pub hint_line : List ℕ → Hint → List ℕ
+hint_line name hint.Object = shown name ++ codes " looks like an object: bpfdb link\n"
+hint_line name hint.Listing = shown name ++ codes " looks like a listing: --listing\n"
+hint_line name (hint.Line slot line) = place_line name slot line
+
+abbrev pub AddsLine : {E : Type 0} → (E → Option (List ℕ)) → List ℕ → Tally E → Tally E → Option Hint → Type 0
+AddsLine lines name errors errors' None = errors' ≡ errors
+AddsLine lines name errors errors' (Some hint) = Told lines errors errors' (hint_line name hint)
+
+-- What follows a job on standard error: where that is a terminal, and the status is 2, its hint, as far as it can be written; else nothing.
+pub data AddsHint {E : Type 0} (lines : E → Option (List ℕ)) (at_terminal : Bool) (job : Job) (status : ℕ) (errors errors' : Tally E)
+    : Type 0 where
+  Silent : (at_terminal && status == 2) ≡ false → errors' ≡ errors → AddsHint lines at_terminal job status errors errors'
+  Hinted : (hint : Option Hint) → (at_terminal && status == 2) ≡ true → IsHintOf job hint → AddsLine lines job.name.now errors errors' hint
+      → AddsHint lines at_terminal job status errors errors'

@@ -1,0 +1,232 @@
+//! A hint at a terminal behind a refusal: what FILE looks like where it isn't words, and the line of
+//! a slot where it is a listing.
+ghost use Rattle.std.specs.Prelude.{◌≡◌, ◌++◌, option_map, true};
+ghost use Rattle.counted_io.specs.Lines.{lines};
+ghost use Rattle.counted_io.specs.Writing.{Writes, WritesAfter};
+ghost use Rattle.bpfdb_jobs.specs.Endings.{Told};
+ghost use Rattle.bpfdb_jobs.specs.Faults.{shown};
+ghost use Rattle.bpfdb_jobs.specs.Hints.{AddsHint, AddsLine, IsHintOf, hint_line, is_check, is_of_file, line_at, look_after, look_of, place_after, place_line};
+ghost use Rattle.bpfdb_jobs.specs.Refusals.{RefusesProgram};
+ghost use Rattle.bpfdb_jobs.specs.declared.hint.Hint.TheVariants as hint;
+
+use crate::job::Job;
+use crate::look::{is_object, is_text};
+use crate::name::put_name;
+use crate::opening::program_of;
+use crate::refusal::JobRefusal;
+use crate::row::line_at;
+use bpf_isa::{LoadFault, PieceFault, WordFault};
+use bpf_text::line_table;
+use bpfdb_options::Subcommand;
+use counted_io::{Counted, WriteFault, put, put_decimal};
+use std::alloc::Global;
+use std::io::Write;
+
+/// What is said of a refused program to someone at a terminal.
+#[derive(Clone, Copy)]
+pub enum Hint {
+    /// FILE looks like an object, which `link` takes.
+    Object,
+    /// FILE looks like a listing, which `--listing` takes.
+    Listing,
+    /// The instruction at the slot of the fault stands in this line of the listing.
+    Line(usize, u64),
+}
+
+/// Adds the hint of a job that ended with this status, if there is one, on standard error where that
+/// is a terminal. What of it can't be written is left out.
+pub fn add_hint<E: Write>(
+    alloc: Global,
+    job: &Job<'_>,
+    at_terminal: bool,
+    status: u8,
+    errors: &mut Counted<E>,
+)
+    ensures { AddsHint E.contents at_terminal job.now status errors.old errors.new }
+{
+    if at_terminal && status == 2 {
+        let hint = hint_of(alloc, job);
+        tell_hint(errors, job.name, hint);
+    }
+}
+
+/// The hint of a job, if there is one.
+fn hint_of(alloc: Global, job: &Job<'_>) -> Option<Hint>
+    ensures { IsHintOf job.now result }
+{
+    if !is_check(job.subcommand) {
+        return None;
+    }
+    match program_of(alloc, job) {
+        Ok(_) => None,
+        Err(refusal) => hint_behind(alloc, job, &refusal),
+    }
+}
+
+/// The hint behind a refusal of a job's program.
+fn hint_behind(alloc: Global, job: &Job<'_>, refusal: &JobRefusal<'_>) -> Option<Hint>
+    requires checks { is_check job.now.subcommand ≡ true }
+    requires refuses { RefusesProgram job.now refusal.now }
+    ensures { IsHintOf job.now result }
+{
+    if !job.options.is_listing {
+        return look_after(refusal, job.file);
+    }
+    match line_table(alloc, job.file) {
+        Ok(table) => place_after(refusal, table.as_slice()),
+        Err(_) => None,
+    }
+}
+
+/// Whether a subcommand checks a program.
+fn is_check(subcommand: Subcommand) -> bool
+    ensures { result ≡ is_check subcommand }
+{
+    match subcommand {
+        Subcommand::Asm => false,
+        Subcommand::Lines => false,
+        Subcommand::Link => false,
+        Subcommand::Test => false,
+        _ => true,
+    }
+}
+
+/// The hint after a refusal of words.
+fn look_after(refusal: &JobRefusal<'_>, file: &[u8]) -> Option<Hint>
+    ensures { result ≡ look_after refusal.now file.now }
+{
+    match refusal {
+        JobRefusal::Load(fault) => {
+            if is_of_file(fault) {
+                look_of(file)
+            } else {
+                None
+            }
+        }
+        _ => None,
+    }
+}
+
+/// Whether a fault is one of a file that isn't words.
+fn is_of_file(fault: &LoadFault) -> bool
+    ensures { result ≡ is_of_file fault.now }
+{
+    match fault {
+        LoadFault::Ragged => true,
+        LoadFault::At {
+            slot,
+            fault: PieceFault::Word(WordFault::UnknownInstruction),
+        } => *slot == 0,
+        LoadFault::At {
+            slot,
+            fault: PieceFault::Word(WordFault::UnusedField),
+        } => *slot == 0,
+        _ => false,
+    }
+}
+
+/// What a file looks like.
+fn look_of(file: &[u8]) -> Option<Hint>
+    ensures { result ≡ look_of file.now }
+{
+    if is_object(file) {
+        Some(Hint::Object)
+    } else if is_text(file) {
+        Some(Hint::Listing)
+    } else {
+        None
+    }
+}
+
+/// The hint after a refusal of a listing's program, by its table.
+fn place_after(refusal: &JobRefusal<'_>, table: &[u8]) -> Option<Hint>
+    ensures { result ≡ place_after refusal.now table.now }
+{
+    match refusal {
+        JobRefusal::Load(LoadFault::At { slot, .. }) => place_of(*slot, table),
+        _ => None,
+    }
+}
+
+/// The place of a slot in its listing.
+fn place_of(slot: usize, table: &[u8]) -> Option<Hint>
+    ensures { result ≡ option_map (hint.Line slot) (line_at slot (lines table.now)) }
+{
+    match line_at(table, slot as u64) {
+        Some(line) => Some(Hint::Line(slot, line)),
+        None => None,
+    }
+}
+
+/// Writes the line of a hint, if there is one. What of it can't be written is left out.
+fn tell_hint<E: Write>(errors: &mut Counted<E>, name: &str, hint: Option<Hint>)
+    ensures { AddsLine E.contents name.now errors.old errors.new hint }
+{
+    match hint {
+        Some(hint) => try_hint(errors, name, &hint),
+        None => {}
+    }
+}
+
+/// Writes the line of a hint, as far as it can be written.
+fn try_hint<E: Write>(errors: &mut Counted<E>, name: &str, hint: &Hint)
+    ensures { Told E.contents errors.old errors.new (hint_line name.now hint.now) }
+{
+    match flush_hint(errors, name, hint) {
+        Ok(()) => {}
+        Err(WriteFault) => {}
+    }
+}
+
+/// Writes the line of a hint, and flushes.
+fn flush_hint<E: Write>(errors: &mut Counted<E>, name: &str, hint: &Hint) -> Result<(), WriteFault>
+    ensures { Writes E.contents errors.old errors.new result (hint_line name.now hint.now) }
+{
+    match write_hint(errors, name, hint) {
+        Ok(()) => {}
+        Err(fault) => return Err(fault),
+    }
+    match errors.flush() {
+        Ok(()) => Ok(()),
+        Err(_) => Err(WriteFault),
+    }
+}
+
+/// Writes the line of a hint.
+fn write_hint<E: Write>(errors: &mut Counted<E>, name: &str, hint: &Hint) -> Result<(), WriteFault>
+    ensures { Writes E.contents errors.old errors.new result (hint_line name.now hint.now) }
+{
+    match hint {
+        Hint::Object => write_look(errors, name, b" looks like an object: bpfdb link\n"),
+        Hint::Listing => write_look(errors, name, b" looks like a listing: --listing\n"),
+        Hint::Line(slot, line) => put_place(errors, Ok(()), name, *slot as u64, *line),
+    }
+}
+
+/// Writes the name of FILE, and what it looks like.
+fn write_look<E: Write>(errors: &mut Counted<E>, name: &str, look: &[u8]) -> Result<(), WriteFault>
+    ensures { Writes E.contents errors.old errors.new result (shown name.now ++ look.now) }
+{
+    let named = put_name(errors, Ok(()), name.as_bytes());
+    put(errors, named, look)
+}
+
+/// Writes the line of a slot, after what was written so far, unless that failed.
+fn put_place<E: Write>(
+    errors: &mut Counted<E>,
+    so_far: Result<(), WriteFault>,
+    name: &str,
+    slot: u64,
+    line: u64,
+) -> Result<(), WriteFault>
+    ensures { WritesAfter E.contents errors.old so_far errors.new result
+        (place_line name.now slot line) }
+{
+    let begun = put(errors, so_far, b"slot ");
+    let placed = put_decimal(errors, begun, slot);
+    let parted = put(errors, placed, b" is line ");
+    let lined = put_decimal(errors, parted, line);
+    let joined = put(errors, lined, b" of ");
+    let named = put_name(errors, joined, name.as_bytes());
+    put(errors, named, b"\n")
+}
