@@ -4,6 +4,7 @@ use Rattle.std.proofs.lemmas.List.{drop_more}
 use Rattle.bpf_isa.specs.declared.maps.MapShape.{MapShape}
 use Rattle.bpf_machine.specs.Edits.{edited}
 use Rattle.bpf_machine.specs.State.{State}
+use Rattle.bpf_machine.specs.declared.edit.Edit.TheVariants as edit
 use Rattle.bpf_suite.specs.Outcomes.{edit_of, is_there, missing, with_cells}
 use Rattle.bpf_suite.specs.declared.cells.Cell.{Cell}
 use Rattle.bpf_suite.proofs.Lists.{find-no, find-yes}
@@ -12,6 +13,10 @@ use Rattle.bpf_suite.proofs.Lists.{find-no, find-yes}
 pub edited-program : (x : State) (cell : Cell) → (edited x (edit_of cell)).program ≡ x.program
 unfolding edited
 edited-program x cell = refl
+
+pub edited-cell : (x : State) (map index : ℕ) (bytes : List ℕ) → (edited x (edit.Cell map index bytes)).program ≡ x.program
+unfolding edited
+edited-cell x map index bytes = refl
 
 -- a cell that is there, and one that isn't
 pub with_cells-next : (cells : List Cell) (i : ℕ) (d : Cell) (x : State) → i < length cells

@@ -2,7 +2,9 @@ pub mod CellValues
 pub mod Cuts
 pub mod Lists
 pub mod Patterns
+pub mod Programs
 pub mod Reporting
+pub mod Shares
 pub mod Tests
 pub mod Texts
 pub mod Trimming

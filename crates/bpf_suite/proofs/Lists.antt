@@ -1,5 +1,5 @@
 -- Elements of a list that pass a test.
-use Rattle.std.proofs.Common.{ℕ, ◌≡◌, ◌<◌, ◌≤◌, ◌+◌, ◌-◌, append_assoc, take, length-drop, Bool, true, false, not, ◌&&◌, List, [], ◌∷◌, ◌++◌, drop, length, get_or, Option, Some, None, unwrap_or, cond, refl, sym, ap, subst, ◌∙◌, arith, nat_lt}
+use Rattle.std.proofs.Common.{ℕ, ◌≡◌, ◌<◌, ◌≤◌, ◌+◌, ◌-◌, append_assoc, take, length-drop, map, Bool, true, false, not, ◌&&◌, List, [], ◌∷◌, ◌++◌, drop, length, get_or, Option, Some, None, unwrap_or, cond, refl, sym, ap, subst, ◌∙◌, arith, nat_lt}
 use Rattle.std.specs.List.{filter, filter_map, find, list_all, position, position_or_len, slice_range}
 use Rattle.std.specs.List.{items_where_true}
 use Rattle.std.specs.List.Retain.{IsFiltered, ReturnsInTurn}
@@ -97,3 +97,13 @@ kept R test f says (b ∷ bs) (x ∷ xs) q e h =
 pub filter-kept : {X P : Type 0} (R : P → X → Bool → P → Type 0) (test : X → Bool) (f : P)
     → ((x : X) (b : Bool) (q : P) → R f x b q → (q ≡ f) × (b ≡ test x)) → (xs ys : List X) → IsFiltered R f xs ys → ys ≡ filter test xs
 filter-kept R test f says xs ys h = h.4 ∙ kept R test f says h.0 xs h.1 h.2 h.3
+
+-- those that pass, of what a function makes of each
+filter-map-first : {X Y : Type 0} (p : Y → Bool) (f : X → Y) (x : X) (xs : List X) (b : Bool) → p (f x) ≡ b
+    → filter p (map f xs) ≡ map f (filter (λ y. p (f y)) xs) → filter p (map f (x ∷ xs)) ≡ map f (filter (λ y. p (f y)) (x ∷ xs))
+filter-map-first p f x xs true e rest = rw e (ap (λ ys. f x ∷ ys) rest)
+filter-map-first p f x xs false e rest = rw e rest
+
+pub filter-map : {X Y : Type 0} (p : Y → Bool) (f : X → Y) (xs : List X) → filter p (map f xs) ≡ map f (filter (λ x. p (f x)) xs)
+filter-map p f [] = refl
+filter-map p f (x ∷ xs) = filter-map-first p f x xs (p (f x)) refl (filter-map p f xs)

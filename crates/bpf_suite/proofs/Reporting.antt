@@ -1,5 +1,6 @@
 -- Reports on tests, one after another.
-use Rattle.std.proofs.Common.{ℕ, suc, ◌≡◌, ◌+◌, Bool, true, false, ◌&&◌, List, [], ◌∷◌, ◌++◌, append_assoc, length, length-append, Option, Ok, Err, refl, sym, ap, ◌∙◌, arith}
+use Rattle.std.proofs.Common.{ℕ, suc, ◌≡◌, ◌+◌, Bool, true, false, ◌&&◌, List, [], ◌∷◌, ◌++◌, append_assoc, length, length-append, Option, Result, Ok, Err, refl, sym, ap, ◌∙◌, arith}
+use Rattle.std.specs.Prelude.{IfOk}
 use Rattle.std.proofs.lemmas.List.{append-nil}
 use Rattle.counted_io.specs.Counted.{Tally, one_more}
 use Rattle.counted_io.specs.Writing.{Writes}
@@ -174,6 +175,26 @@ BreaksOff-first contents a b e front file k tests w = record {
   outcomes = [];
   come = tt;
   written = rw (append-nil front) (record { ok = tt; same = tt; err = w.err; fault = w.fault });
+}
+
+-- a test that came to this
+pub told-by : {T : Type 0} (contents : T → Option (List ℕ)) (a b : Tally T) (file : List ℕ) (k : ℕ) (test : List Section) (outcome : Outcome)
+    (r : Result Bool SuiteFault) → Comes (setting test) outcome
+    → IfOk r (λ passed. (passed ≡ passes test outcome) × Writes contents a b r (test_text file k test outcome))
+    → IfOk r (λ passed. (x : Outcome) × Comes (setting test) x × (passed ≡ passes test x) × Writes contents a b r (test_text file k test x))
+told-by contents a b file k test outcome (Ok passed) comes told = (outcome, comes, told.0, told.1)
+told-by contents a b file k test outcome (Err e) comes told = tt
+
+-- a run that isn't begun
+pub BreaksOff-nothing : {T : Type 0} (contents : T → Option (List ℕ)) (a : Tally T) (file : List ℕ) (k : ℕ) (tests : List (List Section))
+    → BreaksOff contents Memory a a [] file k tests
+BreaksOff-nothing contents a file k tests = record {
+  done = [];
+  left = tests;
+  all = refl;
+  outcomes = [];
+  come = tt;
+  written = record { ok = Appends-nil (contents a.inner); same = refl; err = tt; fault = tt };
 }
 
 -- a run whose report stands whole, and isn't flushed

@@ -7,40 +7,39 @@ use Rattle.bpf_suite.specs.Kinds.{is_name}
 use Rattle.bpf_suite.specs.declared.section.Section.{Section}
 
 -- a name begins a test, and another section doesn't
-named-yes : (shared sections : List Section) → begins_name sections ≡ true
-    → with_shared shared (named sections) ≡ (own_of sections ++ shared) ∷ with_shared shared (named (drop 1 sections))
-named-yes shared [] e = cc
-named-yes shared (section ∷ more) e = let here : is_name section.kind ≡ true = e in rw here refl
+named-yes : (sections : List Section) → begins_name sections ≡ true → named sections ≡ own_of sections ∷ named (drop 1 sections)
+named-yes [] e = cc
+named-yes (section ∷ more) e = let here : is_name section.kind ≡ true = e in rw here refl
 
 named-no : (sections : List Section) → begins_name sections ≡ false → named sections ≡ named (drop 1 sections)
 named-no [] e = refl
 named-no (section ∷ more) e = let here : is_name section.kind ≡ false = e in rw here refl
 
-pub found-yes : (found : List (List Section)) (shared sections own : List Section) → begins_name sections ≡ true → own ≡ own_of sections
-    → (found ++ (own ++ shared) ∷ []) ++ with_shared shared (named (drop 1 sections)) ≡ found ++ with_shared shared (named sections)
-found-yes found shared sections own e same =
-    append_assoc found ((own ++ shared) ∷ []) (with_shared shared (named (drop 1 sections)))
-    ∙ ap (λ o. found ++ (o ++ shared) ∷ with_shared shared (named (drop 1 sections))) same
-    ∙ ap (λ t. found ++ t) (sym (named-yes shared sections e))
+pub found-yes : (found : List (List Section)) (sections own : List Section) → begins_name sections ≡ true → own ≡ own_of sections
+    → (found ++ own ∷ []) ++ named (drop 1 sections) ≡ found ++ named sections
+found-yes found sections own e same =
+    append_assoc found (own ∷ []) (named (drop 1 sections))
+    ∙ ap (λ o. found ++ o ∷ named (drop 1 sections)) same
+    ∙ ap (λ t. found ++ t) (sym (named-yes sections e))
 
-pub found-no : (found : List (List Section)) (shared sections : List Section) → begins_name sections ≡ false
-    → found ++ with_shared shared (named (drop 1 sections)) ≡ found ++ with_shared shared (named sections)
-found-no found shared sections e = ap (λ n. found ++ with_shared shared n) (sym (named-no sections e))
+pub found-no : (found : List (List Section)) (sections : List Section) → begins_name sections ≡ false
+    → found ++ named (drop 1 sections) ≡ found ++ named sections
+found-no found sections e = ap (λ n. found ++ n) (sym (named-no sections e))
 
 -- sections from a place on, without the first
 pub drop-one : {X : Type 0} (xs : List X) (at : ℕ) (d : X) → at < length xs → drop 1 (drop at xs) ≡ drop (at + 1) xs
 drop-one xs at d h = ap (drop 1) (drop_more xs at d h)
 
 -- a file without names is one test
-pub or_alone-none : (found : List (List Section)) (shared : List Section) (tests : List (List Section)) → found ≡ with_shared shared tests → length found ≡ 0
-    → found ++ shared ∷ [] ≡ or_alone shared tests
-or_alone-none found shared [] e none = ap (λ f. f ++ shared ∷ []) e
-or_alone-none found shared (test ∷ tests) e none = absurd (let long = ap length e in omega (arith, none, long))
+pub or_alone-none : (shared own : List Section) (found tests : List (List Section)) → found ≡ tests → length found ≡ 0 → own ≡ []
+    → with_shared shared (found ++ own ∷ []) ≡ or_alone shared tests
+or_alone-none shared own found [] e none nothing = rw (e, nothing) refl
+or_alone-none shared own found (test ∷ tests) e none nothing = absurd (let long = ap length e in omega (arith, none, long))
 
-pub or_alone-some : (found : List (List Section)) (shared : List Section) (tests : List (List Section)) → found ≡ with_shared shared tests → 0 < length found
-    → found ≡ or_alone shared tests
-or_alone-some found shared [] e some = absurd (let long = ap length e in omega (arith, some, long))
-or_alone-some found shared (test ∷ tests) e some = e
+pub or_alone-some : (shared : List Section) (found tests : List (List Section)) → found ≡ tests → 0 < length found
+    → with_shared shared found ≡ or_alone shared tests
+or_alone-some shared found [] e some = absurd (let long = ap length e in omega (arith, some, long))
+or_alone-some shared found (test ∷ tests) e some = ap (with_shared shared) e
 
 -- a file has a test
 or_alone-long : (shared : List Section) (found : List (List Section)) → 0 < length (or_alone shared found)

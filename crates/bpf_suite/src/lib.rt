@@ -1,10 +1,12 @@
 //! Files of tests: what programs come to, held against what is expected.
 #![tactic(auto)]
 
+mod bench;
 mod body;
 mod cells;
 mod fault;
 mod kind;
+mod list;
 mod outcome;
 mod refusal;
 mod report;
@@ -17,7 +19,8 @@ mod values;
 mod verdict;
 
 pub use fault::{FileFault, SectionFault};
+pub use list::{TestList, choose};
 pub use report::{SuiteFault, run_tests, write_plan};
 pub use shown::WordsFault;
 pub use suite::Suite;
-pub use test::{Test, choose};
+pub use test::Test;

@@ -3,8 +3,10 @@ ghost use Rattle.std.specs.Prelude.{◌≡◌, ◌++◌, IfErr, IfOk, OnErr, OnO
 ghost use Rattle.bpf_isa.specs.Programs.{Checked};
 ghost use Rattle.bpf_machine.specs.Edits.{edited};
 ghost use Rattle.bpf_machine.specs.State.{initial};
+ghost use Rattle.bpf_session.specs.Plain.{plain_end};
 ghost use Rattle.bpfdb_replies.specs.Texts.{place};
 ghost use Rattle.counted_io.specs.Writing.{WritesAfter};
+ghost use Rattle.bpf_suite.specs.Benches.{Loads, RefusesProgram};
 ghost use Rattle.bpf_suite.specs.Outcomes.{Ends, HasMaps, HasWords, IsOpened, IsProgramOf, Refuses, cell_name, cell_place, edit_of, is_there, limit_word, missing, outcome_text, placed, refusal_text, slot_of, text_of_refusal, with_cells};
 
 use crate::cells::Cell;
@@ -16,7 +18,7 @@ use bpf_session::run_plain;
 use bpf_text::{AsmFault, assemble};
 use bpfdb_replies::write_place;
 use counted_io::{Counted, WriteFault, put, put_decimal};
-use std::alloc::Global;
+use std::alloc::{AllocError, Global};
 use std::io::{Write, sink};
 
 /// The number of the refusal of a cell, in the debugger too.
@@ -25,7 +27,7 @@ const NO_CELL: u64 = 14;
 /// The map table.
 fn maps_of(setting: &Setting<'_>) -> Result<MapTable, Refusal>
     ensures ok { IfOk result (HasMaps setting.now.maps) }
-    ensures err { IfErr result (Refuses setting.now) }
+    ensures err { IfErr result (RefusesProgram setting.now) }
 {
     match &setting.maps {
         None => Ok(MapTable::empty()),
@@ -40,7 +42,7 @@ fn maps_of(setting: &Setting<'_>) -> Result<MapTable, Refusal>
 /// checker looks at the words.
 fn program_of(alloc: Global, setting: &Setting<'_>) -> Result<Program, Refusal>
     ensures ok { IfOk result (IsProgramOf setting.now) }
-    ensures err { IfErr result (Refuses setting.now) }
+    ensures err { IfErr result (RefusesProgram setting.now) }
 {
     let maps = match maps_of(setting) {
         Ok(maps) => maps,
@@ -58,7 +60,7 @@ fn assembled(alloc: Global, setting: &Setting<'_>, maps: &MapTable) -> Result<Pr
     requires maps { HasMaps setting.now.maps maps.now }
     requires listing { setting.now.is_listing ≡ true }
     ensures ok { IfOk result (IsProgramOf setting.now) }
-    ensures err { IfErr result (Refuses setting.now) }
+    ensures err { IfErr result (RefusesProgram setting.now) }
 {
     match assemble(alloc, setting.program.bytes) {
         Ok(words) => checked(alloc, setting, words.as_slice(), maps),
@@ -76,7 +78,7 @@ fn checked(
     requires maps { HasMaps setting.now.maps maps.now }
     requires words { HasWords setting.now.is_listing setting.now.program words.now }
     ensures ok { IfOk result (IsProgramOf setting.now) }
-    ensures err { IfErr result (Refuses setting.now) }
+    ensures err { IfErr result (RefusesProgram setting.now) }
 {
     match check(alloc, words, maps) {
         Ok(program) => {
@@ -84,6 +86,26 @@ fn checked(
             Ok(program)
         }
         Err(fault) => Err(Refusal::Load(fault)),
+    }
+}
+
+/// A machine that stands on the program, with no context; or why there is none, unless that is want
+/// of memory.
+pub fn loaded(alloc: Global, setting: &Setting<'_>) -> Result<Result<Cpu, Refusal>, AllocError>
+    ensures { IfOk result (Loads setting.now) }
+{
+    match program_of(alloc, setting) {
+        Ok(program) => match Cpu::open(alloc, program, &[]) {
+            Ok(cpu) => Ok(Ok(cpu)),
+            Err(_) => Err(AllocError),
+        },
+        Err(refusal) => {
+            if refusal.is_memory() {
+                Err(AllocError)
+            } else {
+                Ok(Err(refusal))
+            }
+        }
     }
 }
 
@@ -110,6 +132,7 @@ fn set_cell(cpu: &mut Cpu, cell: &Cell) -> Result<(), Refusal>
     ensures err { OnErr result (is_there cpu.old.program.maps cell.now ≡ false) }
     ensures told { IfErr result (λ refusal.
         refusal ≡ Refusal.NoCell cell.now.map cell.now.index) }
+    ensures program { cpu.new.program ≡ cpu.old.program }
 {
     let edit = Edit::Cell {
         map: cell.map,
@@ -129,6 +152,7 @@ fn set_cells(cpu: &mut Cpu, cells: &[Cell]) -> Result<(), Refusal>
     ensures err { IfErr result (λ refusal. (cell : Cell)
         × (missing cpu.old.program.maps cells.now ≡ Some cell)
         × (refusal ≡ Refusal.NoCell cell.map cell.index)) }
+    ensures program { cpu.new.program ≡ cpu.old.program }
 {
     for cell in cells {
         match set_cell(cpu, cell) {
@@ -136,6 +160,25 @@ fn set_cells(cpu: &mut Cpu, cells: &[Cell]) -> Result<(), Refusal>
             Err(refusal) => return Err(refusal),
         }
     }
+    Ok(())
+}
+
+/// What comes of a program on a machine that was opened on it and the context: cells get their
+/// values, and it runs to its end, or takes as many steps as it may.
+fn finish(cpu: &mut Cpu, setting: &Setting<'_>) -> Result<(), Refusal>
+    ensures ok { OnOk result (missing cpu.old.program.maps setting.now.cells ≡ None) }
+    ensures next { OnOk result (cpu.new
+        ≡ plain_end setting.now.limit (with_cells setting.now.cells cpu.old)) }
+    ensures err { IfErr result (λ refusal. (cell : Cell)
+        × (missing cpu.old.program.maps setting.now.cells ≡ Some cell)
+        × (refusal ≡ Refusal.NoCell cell.map cell.index)) }
+    ensures program { cpu.new.program ≡ cpu.old.program }
+{
+    match set_cells(cpu, setting.cells.as_slice()) {
+        Ok(()) => {}
+        Err(refusal) => return Err(refusal),
+    }
+    let _ending = run_plain(cpu, setting.limit, &mut Counted::new(sink()));
     Ok(())
 }
 
@@ -149,12 +192,23 @@ pub fn outcome_of(alloc: Global, setting: &Setting<'_>) -> Result<Cpu, Refusal>
         Ok(cpu) => cpu,
         Err(refusal) => return Err(refusal),
     };
-    match set_cells(&mut cpu, setting.cells.as_slice()) {
-        Ok(()) => {}
-        Err(refusal) => return Err(refusal),
+    match finish(&mut cpu, setting) {
+        Ok(()) => Ok(cpu),
+        Err(refusal) => Err(refusal),
     }
-    let _ending = run_plain(&mut cpu, setting.limit, &mut Counted::new(sink()));
-    Ok(cpu)
+}
+
+/// What comes of a program on a machine that stands on it, whatever that did before.
+pub fn outcome_on(alloc: Global, cpu: &mut Cpu, setting: &Setting<'_>) -> Result<(), Refusal>
+    requires { IsProgramOf setting.now cpu.old.program }
+    ensures ok { OnOk result (Ends setting.now cpu.new) }
+    ensures err { IfErr result (Refuses setting.now) }
+    ensures program { cpu.new.program ≡ cpu.old.program }
+{
+    match cpu.reopen(alloc, setting.context.bytes) {
+        Ok(()) => finish(cpu, setting),
+        Err(fault) => Err(Refusal::Open(fault)),
+    }
 }
 
 /// Writes an outcome.

@@ -1,13 +1,16 @@
 //! The report on tests, in the Test Anything Protocol.
-ghost use Rattle.std.specs.Prelude.{◌≡◌, ◌&&◌, List, [], IfErr, IfOk};
+ghost use Rattle.std.specs.Prelude.{◌≡◌, ◌&&◌, ◌++◌, List, [], IfErr, IfOk};
 ghost use Rattle.counted_io.specs.Writing.{Writes, WritesAfter};
+ghost use Rattle.bpf_suite.specs.Files.{with_shared};
 ghost use Rattle.bpf_suite.specs.Outcomes.{Comes, Outcome};
 ghost use Rattle.bpf_suite.specs.Reports.{AreOutcomes, BreaksAt, BreaksOff, after_word, all_pass, diagnosis, named_text, plan, report_text, show_line, test_text, tests_text, verdict_text, verdict_word, wanted, wanted_outcome};
 ghost use Rattle.bpf_suite.specs.Tests.{setting};
 ghost use Rattle.bpf_suite.specs.Verdicts.{passes, wrong_cells};
 
+use crate::bench::{Bench, shares_program};
 use crate::cells::CellLine;
 use crate::kind::Part;
+use crate::list::{Own, TestList};
 use crate::outcome::{outcome_of, put_outcome};
 use crate::refusal::Refusal;
 use crate::section::Text;
@@ -44,7 +47,7 @@ pub fn write_plan<W: Write>(writer: &mut Counted<W>, tests: usize) -> Result<(),
 pub fn run_tests<W: Write>(
     alloc: Global,
     file: &[u8],
-    tests: &[Test<'_, '_>],
+    tests: &TestList<'_, '_>,
     first: u64,
     writer: &mut Counted<W>,
 ) -> Result<bool, SuiteFault>
@@ -56,10 +59,35 @@ pub fn run_tests<W: Write>(
     ensures err { IfErr result (λ why.
         BreaksOff W.contents why writer.old writer.new [] file.now first tests.now) }
 {
+    match Bench::of(alloc, tests.shared) {
+        Ok(bench) => run_each(alloc, file, tests.own.as_slice(), bench, first, writer),
+        Err(_) => Err(SuiteFault::Memory),
+    }
+}
+
+/// Runs tests by their own sections, the first of which has a number, and reports on each. Answers
+/// whether all passed.
+fn run_each<'b, 'a, W: Write>(
+    alloc: Global,
+    file: &[u8],
+    own: &[Own<'b, 'a>],
+    mut bench: Bench<'b, 'a>,
+    first: u64,
+    writer: &mut Counted<W>,
+) -> Result<bool, SuiteFault>
+    ensures ok { IfOk result (λ passed. let tests = with_shared bench.entry.sections own.now in
+        (outcomes : List Outcome)
+        × AreOutcomes tests outcomes
+        × (passed ≡ all_pass tests outcomes)
+        × Writes W.contents writer.old writer.new result
+        (tests_text file.now first tests outcomes)) }
+    ensures err { IfErr result (λ why. BreaksOff W.contents why writer.old writer.new []
+        file.now first (with_shared bench.entry.sections own.now)) }
+{
     let mut passed = true;
     let mut number = first;
-    for test in tests {
-        match report(alloc, file, test, number, writer) {
+    for sections in own {
+        match report(alloc, file, sections, &mut bench, number, writer) {
             Ok(ok) => {
                 passed = both(passed, ok);
                 number = number.saturating_add(1);
@@ -76,30 +104,59 @@ fn both(one: bool, other: bool) -> bool
     one && other
 }
 
-/// Runs a test, and reports on it. Answers whether it passed.
-fn report<W: Write>(
+/// Runs the test with these sections of its own, and reports on it. Answers whether it passed.
+fn report<'b, 'a, W: Write>(
     alloc: Global,
     file: &[u8],
-    test: &Test<'_, '_>,
+    own: &Own<'b, 'a>,
+    bench: &mut Bench<'b, 'a>,
     number: u64,
     writer: &mut Counted<W>,
 ) -> Result<bool, SuiteFault>
-    ensures ok { IfOk result (λ passed. (outcome : Outcome) × Comes (setting test.now) outcome
-        × (passed ≡ passes test.now outcome)
+    ensures ok { IfOk result (λ passed. let test = own.now ++ bench.old.sections in
+        (outcome : Outcome) × Comes (setting test) outcome
+        × (passed ≡ passes test outcome)
         × Writes W.contents writer.old writer.new result
-        (test_text file.now number test.now outcome)) }
+        (test_text file.now number test outcome)) }
+    ensures err { IfErr result (λ why. BreaksAt W.contents why writer.old writer.new file.now number
+        (own.now ++ bench.old.sections)) }
+    ensures sections { bench.new.sections ≡ bench.old.sections }
+{
+    let test = bench.test(own);
+    if !shares_program(own.sections) {
+        return match test_outcome(alloc, &test) {
+            Ok(outcome) => tell(alloc, file, &test, &outcome, number, writer),
+            Err(_) => Err(SuiteFault::Memory),
+        };
+    }
+    match bench.run(alloc, own) {
+        Ok(None) => tell(alloc, file, &test, bench.machine(), number, writer),
+        Ok(Some(refusal)) => tell(alloc, file, &test, &Err(refusal), number, writer),
+        Err(_) => Err(SuiteFault::Memory),
+    }
+}
+
+/// Reports on a test that came to this. Answers whether it passed.
+fn tell<W: Write>(
+    alloc: Global,
+    file: &[u8],
+    test: &Test<'_, '_>,
+    outcome: &Result<Cpu, Refusal>,
+    number: u64,
+    writer: &mut Counted<W>,
+) -> Result<bool, SuiteFault>
+    requires { Comes (setting test.now) outcome.now }
+    ensures ok { IfOk result (λ passed. (passed ≡ passes test.now outcome.now)
+        × Writes W.contents writer.old writer.new result
+        (test_text file.now number test.now outcome.now)) }
     ensures err { IfErr result (λ why.
         BreaksAt W.contents why writer.old writer.new file.now number test.now) }
 {
-    let outcome = match test_outcome(alloc, test) {
-        Ok(outcome) => outcome,
-        Err(_) => return Err(SuiteFault::Memory),
-    };
-    let wrong = match wrong_cells(alloc, test, &outcome) {
+    let wrong = match wrong_cells(alloc, test, outcome) {
         Ok(wrong) => wrong,
         Err(_) => return Err(SuiteFault::Memory),
     };
-    let passed = match passes(alloc, test, &outcome, wrong.as_slice()) {
+    let passed = match passes(alloc, test, outcome, wrong.as_slice()) {
         Ok(passed) => passed,
         Err(_) => return Err(SuiteFault::Memory),
     };
@@ -109,7 +166,7 @@ fn report<W: Write>(
         passed,
         number,
         test,
-        &outcome,
+        outcome,
         wrong.as_slice(),
     ) {
         Ok(()) => Ok(passed),

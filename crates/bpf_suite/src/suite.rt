@@ -2,7 +2,7 @@
 ghost use Rattle.std.specs.Prelude.{◌≡◌, ◌≤◌, ◌<◌, ◌∷◌, ◌++◌, drop, List, None, IfErr, IfOk, OnOk, get_or, is_some, length, slice_range, []};
 ghost use Rattle.bpf_suite.specs.Bodies.{bytes_of, is_pattern, solid};
 ghost use Rattle.bpf_suite.specs.Faults.{IsFaultOf, alone_fault, fault_at, file_fault, first_fault, is_well_formed, same_test, section_fault, sections_fault};
-ghost use Rattle.bpf_suite.specs.Files.{begins_name, named, own_of, sections, tests, until_name, with_shared};
+ghost use Rattle.bpf_suite.specs.Files.{begins_name, named, own_of, sections, tests, until_name};
 ghost use Rattle.bpf_suite.specs.declared.section.Section.{Section};
 
 use crate::body::{
@@ -12,6 +12,7 @@ use crate::body::{
 use crate::cells::{are_cells, are_patterns};
 use crate::fault::{FileFault, SectionFault};
 use crate::kind::{Kind, Part};
+use crate::list::{Own, TestList};
 use crate::section::{Section, front, sections, until_name};
 use crate::test::{Test, has_part};
 use std::alloc::{AllocError, Global};
@@ -54,69 +55,56 @@ impl<'a> Suite<'a> {
     }
 
     /// Its tests.
-    pub fn tests<'b>(&'b self, alloc: Global) -> Result<Vec<Test<'b, 'a>>, AllocError>
-        ensures { IfOk result (λ found. found.items ≡ tests self.now) }
+    pub fn tests<'b>(&'b self, alloc: Global) -> Result<TestList<'b, 'a>, AllocError>
+        ensures { IfOk result (λ found. found ≡ tests self.now) }
     {
         tests(alloc, self.sections.as_slice())
     }
 }
 
 /// The tests of sections.
-fn tests<'b, 'a>(
-    alloc: Global,
-    sections: &'b [Section<'a>],
-) -> Result<Vec<Test<'b, 'a>>, AllocError>
-    ensures { IfOk result (λ found. found.items ≡ tests sections.now) }
+fn tests<'b, 'a>(alloc: Global, sections: &'b [Section<'a>]) -> Result<TestList<'b, 'a>, AllocError>
+    ensures { IfOk result (λ found. found ≡ tests sections.now) }
 {
     let shared = until_name(sections);
-    let mut found = named(alloc, sections, shared)?;
-    if found.is_empty() {
-        push_test(&mut found, &shared[..0], shared)?;
+    let mut own = named(alloc, sections)?;
+    if own.is_empty() {
+        push_own(&mut own, &shared[..0])?;
     }
-    Ok(found)
+    Ok(TestList { own, shared })
 }
 
-/// The tests that names begin.
-fn named<'b, 'a>(
-    alloc: Global,
-    sections: &'b [Section<'a>],
-    shared: &'b [Section<'a>],
-) -> Result<Vec<Test<'b, 'a>>, AllocError>
-    ensures { IfOk result (λ found. found.items ≡ with_shared shared.now (named sections.now)) }
+/// The own sections of the tests that names begin.
+fn named<'b, 'a>(alloc: Global, sections: &'b [Section<'a>]) -> Result<Vec<Own<'b, 'a>>, AllocError>
+    ensures { IfOk result (λ found. found.items ≡ named sections.now) }
 {
     let mut found = Vec::new(alloc);
     for at in 0..sections.len() {
-        push_named(&mut found, &sections[at..], shared)?;
+        push_named(&mut found, &sections[at..])?;
     }
     Ok(found)
 }
 
 /// Adds the test that the first section begins, if that is a name.
 fn push_named<'b, 'a>(
-    found: &mut Vec<Test<'b, 'a>>,
+    found: &mut Vec<Own<'b, 'a>>,
     sections: &'b [Section<'a>],
-    shared: &'b [Section<'a>],
 ) -> Result<(), AllocError>
-    ensures { OnOk result (found.new.items ++ with_shared shared.now (named (drop 1 sections.now))
-        ≡ found.old.items ++ with_shared shared.now (named sections.now)) }
+    ensures { OnOk result (found.new.items ++ named (drop 1 sections.now)
+        ≡ found.old.items ++ named sections.now) }
 {
     if begins_name(sections) {
-        push_test(found, own_of(sections), shared)
+        push_own(found, own_of(sections))
     } else {
         Ok(())
     }
 }
 
-/// Adds a test.
-fn push_test<'b, 'a>(
-    found: &mut Vec<Test<'b, 'a>>,
-    own: &'b [Section<'a>],
-    shared: &'b [Section<'a>],
-) -> Result<(), AllocError>
-    ensures { OnOk result (found.new.items
-        ≡ found.old.items ++ (own.now ++ shared.now) ∷ []) }
+/// Adds a test by its own sections.
+fn push_own<'b, 'a>(found: &mut Vec<Own<'b, 'a>>, own: &'b [Section<'a>]) -> Result<(), AllocError>
+    ensures { OnOk result (found.new.items ≡ found.old.items ++ own.now ∷ []) }
 {
-    match found.push(Test { own, shared }) {
+    match found.push(Own { sections: own }) {
         Ok(()) => Ok(()),
         Err(_) => Err(AllocError),
     }

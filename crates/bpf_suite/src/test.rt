@@ -1,7 +1,7 @@
 //! The parts of a test.
 ghost use Rattle.std.specs.Prelude.{◌≡◌, ◌++◌, IfOk, [], unwrap_or};
 ghost use Rattle.bpf_suite.specs.Bodies.{bytes_of};
-ghost use Rattle.bpf_suite.specs.Tests.{body_for, cells, chosen, context, first_line, has_listing, is_listing, is_named, limit, maps, program, section_for, text_or_bytes, title};
+ghost use Rattle.bpf_suite.specs.Tests.{body_for, cells, context, first_line, has_listing, is_listing, is_named, limit, maps, program, section_for, text_or_bytes, title};
 ghost use Rattle.bpf_suite.specs.Faults.{has_part, lack};
 
 use crate::body::{bytes_of, limit_of, trimmed};
@@ -116,7 +116,7 @@ impl<'b, 'a> Test<'b, 'a> {
     }
 
     /// Whether it has this name.
-    fn is_named(&self, name: &[u8]) -> bool
+    pub fn is_named(&self, name: &[u8]) -> bool
         ensures { result ≡ is_named name.now self.now }
     {
         self.title() == name
@@ -177,13 +177,6 @@ impl<'b, 'a> Test<'b, 'a> {
             None => DEFAULT_LIMIT,
         }
     }
-}
-
-/// Keeps the tests of a name alone.
-pub fn choose(tests: &mut Vec<Test<'_, '_>>, name: &[u8])
-    ensures { tests.new.items ≡ chosen name.now tests.old.items }
-{
-    tests.retain(|test| test.is_named(name));
 }
 
 fn is_listing(kind: Kind) -> bool

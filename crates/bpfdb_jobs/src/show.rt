@@ -10,7 +10,7 @@ use crate::job::Job;
 use crate::refusal::JobRefusal;
 use crate::report::{ended, give_up, write_out};
 use crate::suite::{asked_tests, refuse};
-use bpf_suite::{Suite, Test, WordsFault};
+use bpf_suite::{Suite, Test, TestList, WordsFault};
 use bpfdb_options::TestPart;
 use counted_io::Counted;
 use std::alloc::Global;
@@ -40,20 +40,21 @@ pub fn show_job<W: Write, E: Write>(
         Ok(asked) => asked,
         Err(refusal) => return give_up(errors, &JobFault::Refused(refusal)),
     };
-    match only_of(asked.as_slice()) {
-        Some(test) => show_test(alloc, job, part, test, writer, errors),
+    match only_of(&asked) {
+        Some(test) => show_test(alloc, job, part, &test, writer, errors),
         None => give_up(errors, &JobFault::Refused(JobRefusal::ManyTests)),
     }
 }
 
 /// The only one of tests.
-fn only_of<'t, 'b, 'a>(tests: &'t [Test<'b, 'a>]) -> Option<&'t Test<'b, 'a>>
-    ensures one { IfSome result (λ test. tests.now ≡ test.now ∷ []) }
+fn only_of<'b, 'a>(tests: &TestList<'b, 'a>) -> Option<Test<'b, 'a>>
+    ensures one { IfSome result (λ test. tests.now ≡ test ∷ []) }
     ensures others { IfNone result (length tests.now ≢ 1) }
 {
-    match tests {
-        [test] => Some(test),
-        _ => None,
+    if tests.len() == 1 {
+        Some(tests.at(0))
+    } else {
+        None
     }
 }
 

@@ -14,7 +14,7 @@ use crate::job::Job;
 use crate::refusal::JobRefusal;
 use crate::report::give_up;
 use crate::show::show_job;
-use bpf_suite::{FileFault, Suite, SuiteFault, Test, choose, run_tests, write_plan};
+use bpf_suite::{FileFault, Suite, SuiteFault, TestList, choose, run_tests, write_plan};
 use counted_io::{Counted, WriteFault};
 use std::alloc::Global;
 use std::io::Write;
@@ -59,7 +59,7 @@ fn report_job<W: Write, E: Write>(
         Ok(asked) => asked,
         Err(refusal) => return give_up(errors, &JobFault::Refused(refusal)),
     };
-    match run_suite(alloc, job.name.as_bytes(), asked.as_slice(), writer) {
+    match run_suite(alloc, job.name.as_bytes(), &asked, writer) {
         Ok(passed) => status_of(passed),
         Err(why) => give_up(errors, &fault_of_suite(why)),
     }
@@ -68,10 +68,10 @@ fn report_job<W: Write, E: Write>(
 /// The tests that are asked for, of all of a file.
 pub fn asked_tests<'b, 'a, 'n>(
     only: Option<&'n str>,
-    mut all: Vec<Test<'b, 'a>>,
-) -> Result<Vec<Test<'b, 'a>>, JobRefusal<'n>>
-    ensures asked { IfOk result (λ asked. AreAsked only.entry all.entry.items asked.items) }
-    ensures none { IfErr result (LacksName only.entry all.entry.items) }
+    mut all: TestList<'b, 'a>,
+) -> Result<TestList<'b, 'a>, JobRefusal<'n>>
+    ensures asked { IfOk result (AreAsked only.entry all.entry) }
+    ensures none { IfErr result (LacksName only.entry all.entry) }
 {
     let Some(name) = only else {
         return Ok(all);
@@ -118,7 +118,7 @@ fn status_of(passed: bool) -> u8
 fn run_suite<W: Write>(
     alloc: Global,
     file: &[u8],
-    tests: &[Test<'_, '_>],
+    tests: &TestList<'_, '_>,
     writer: &mut Counted<W>,
 ) -> Result<bool, SuiteFault>
     ensures ok { IfOk result (λ passed. (outcomes : List Outcome)
@@ -143,7 +143,7 @@ fn run_suite<W: Write>(
 fn write_report<W: Write>(
     alloc: Global,
     file: &[u8],
-    tests: &[Test<'_, '_>],
+    tests: &TestList<'_, '_>,
     writer: &mut Counted<W>,
 ) -> Result<bool, SuiteFault>
     ensures ok { IfOk result (λ passed. (outcomes : List Outcome)

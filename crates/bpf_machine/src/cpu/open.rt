@@ -1,6 +1,7 @@
 //! Opening a machine.
-ghost use Rattle.std.specs.Prelude.{IfOk, IfErr};
+ghost use Rattle.std.specs.Prelude.{◌≡◌, ◌==◌, ◌∷◌, IfOk, IfErr, OnErr, OnOk, if◌then◌else◌, length, replicate, slice_index, take};
 ghost use Rattle.bpf_machine.specs.Opening.{Opened, Refused};
+ghost use Rattle.bpf_machine.specs.Platform.{context_base, frame_pointer as frame_pointer_of};
 
 use super::Cpu;
 use crate::code::codes_of;
@@ -15,7 +16,7 @@ use std::alloc::Global;
 
 impl Cpu {
     /// Opens a machine at its program's first slot. The context is at most 65,536 bytes; r1 is its
-    /// address, 0 where it is empty, and r2 its length. This is the machine's only call that takes
+    /// address, 0 where it is empty, and r2 its length. Besides `reopen` no call of a machine takes
     /// memory.
     pub fn open(alloc: Global, program: Program, context: &[u8]) -> Result<Cpu, OpenFault>
         ensures ok { IfOk result (Opened program context.now) }
@@ -26,7 +27,6 @@ impl Cpu {
             Ok(memory) => memory,
             Err(fault) => return Err(fault),
         };
-        let base = if context.is_empty() { 0 } else { CONTEXT_BASE };
         let code = match codes_of(alloc, &program) {
             Ok(code) => code,
             Err(_) => return Err(OpenFault::OutOfMemory),
@@ -40,23 +40,56 @@ impl Cpu {
             code,
             flats,
             pc: 0,
-            registers: [
-                0,
-                base,
-                context.len() as u64,
-                0,
-                0,
-                0,
-                0,
-                0,
-                0,
-                0,
-                frame_pointer(0),
-            ],
+            registers: opening_registers(context),
             frames: ArrayVec::new(),
             memory,
             status: Status::Running,
             trace: ArrayVec::new(),
         })
     }
+
+    /// Opens the machine again on its program, with another context. Its memory is new, and what was
+    /// made of the program stays, so this takes no time in the program's length. A machine that
+    /// isn't opened stays as it was.
+    pub fn reopen(&mut self, alloc: Global, context: &[u8]) -> Result<(), OpenFault>
+        ensures ok { OnOk result (Opened self.old.program context.now self.new) }
+        ensures err { IfErr result (Refused context.now) }
+        ensures same { OnErr result (self.new ≡ self.old) }
+    {
+        self.invariant();
+        let memory = match Memory::open(alloc, self.program.maps(), context) {
+            Ok(memory) => memory,
+            Err(fault) => return Err(fault),
+        };
+        self.memory = memory;
+        self.pc = 0;
+        self.registers = opening_registers(context);
+        self.frames.clear();
+        self.status = Status::Running;
+        self.trace.clear();
+        Ok(())
+    }
+}
+
+/// The registers at opening, and the frame pointer behind them.
+fn opening_registers(context: &[u8]) -> [u64; 11]
+    ensures value { take 10 result
+        ≡ 0 ∷ (if length context.now == 0 then 0 else context_base) ∷ length context.now
+        ∷ replicate 7 0 }
+    ensures pointer { slice_index result 10 ≡ frame_pointer_of 0 }
+{
+    let base = if context.is_empty() { 0 } else { CONTEXT_BASE };
+    [
+        0,
+        base,
+        context.len() as u64,
+        0,
+        0,
+        0,
+        0,
+        0,
+        0,
+        0,
+        frame_pointer(0),
+    ]
 }

@@ -51,7 +51,7 @@ no-test contents lines part job writer errors errors' ManyTests status sound lac
 pub returns-in-Err-asked_tests-clause-does : goal.returns-in-Err-asked_tests-clause-does
 returns-in-Err-asked_tests-clause-does g c =
     let s = c.in-Ok.ensures.ok in
-    let ts : c.in-Ok-tests.tests.items ≡ tests (sections c.args.job.now.file.now) = c.in-Ok-tests.ensures ∙ ap tests s.0 in
+    let ts : c.in-Ok-tests.tests ≡ tests (sections c.args.job.now.file.now) = c.in-Ok-tests.ensures ∙ ap tests s.0 in
     no-test g.W.Write.contents g.E.Write.contents c.args.part c.args.job.now c.args.writer.now c.args.errors.now c.give_up-in-Err-asked_tests.new.errors
     c.in-Err-asked_tests.refusal c.give_up-in-Err-asked_tests.result s.1 (rw ts at c.in-Err-asked_tests.ensures.none)
     c.give_up-in-Err-asked_tests.ensures.told c.give_up-in-Err-asked_tests.ensures.value
@@ -69,17 +69,17 @@ above-one (suc (suc n)) some other = omega arith
 pub show_test-requires : goal.show_test-requires
 show_test-requires g c =
     let s = c.in-Ok.ensures.ok in
-    let ts : c.in-Ok-tests.tests.items ≡ tests (sections c.args.job.now.file.now) = c.in-Ok-tests.ensures ∙ ap tests s.0 in
-    let one : c.in-Ok-asked_tests.asked.items ≡ c.in-Some.test.now ∷ [] = sym c.as_slice.ensures.value ∙ c.in-Some.ensures.one in
+    let ts : c.in-Ok-tests.tests ≡ tests (sections c.args.job.now.file.now) = c.in-Ok-tests.ensures ∙ ap tests s.0 in
+    let one : c.in-Ok-asked_tests.asked ≡ c.in-Some.test ∷ [] = c.in-Some.ensures.one in
     record { sound = s.1; asked_for = rw one at (rw ts at c.in-Ok-asked_tests.ensures.asked) }
 
 pub returns-clause-does : goal.returns-clause-does
 returns-clause-does g c =
     let s = c.in-Ok.ensures.ok in
-    let ts : c.in-Ok-tests.tests.items ≡ tests (sections c.args.job.now.file.now) = c.in-Ok-tests.ensures ∙ ap tests s.0 in
-    let asked = c.in-Ok-asked_tests.asked.items in
+    let ts : c.in-Ok-tests.tests ≡ tests (sections c.args.job.now.file.now) = c.in-Ok-tests.ensures ∙ ap tests s.0 in
+    let asked = c.in-Ok-asked_tests.asked in
     let are = rw ts at c.in-Ok-asked_tests.ensures.asked in
     let some : 0 < length asked = some-asked c.args.job.now.options.only (sections c.args.job.now.file.now) asked are in
-    let other : length asked ≢ 1 = λ e. c.in-None.ensures.others (ap length c.as_slice.ensures.value ∙ e) in
+    let other : length asked ≢ 1 = c.in-None.ensures.others in
     Refused ManyTests (asked, record { sound = s.1; asked_for = are }, above-one (length asked) some other) refl
     c.give_up-in-None.ensures.told c.give_up-in-None.ensures.value

@@ -45,7 +45,7 @@ no-test contents lines job writer errors errors' ManyTests status sound lacks to
 pub returns-in-Err-asked_tests-clause-does : goal.returns-in-Err-asked_tests-clause-does
 returns-in-Err-asked_tests-clause-does g c =
     let s = c.in-Ok.ensures.ok in
-    let ts : c.in-Ok-tests.tests.items ≡ tests (sections c.args.job.now.file.now) = c.in-Ok-tests.ensures ∙ ap tests s.0 in
+    let ts : c.in-Ok-tests.tests ≡ tests (sections c.args.job.now.file.now) = c.in-Ok-tests.ensures ∙ ap tests s.0 in
     no-test g.W.Write.contents g.E.Write.contents c.args.job.now c.args.writer.now c.args.errors.now c.give_up-in-Err-asked_tests.new.errors
     c.in-Err-asked_tests.refusal c.give_up-in-Err-asked_tests.result s.1 (rw ts at c.in-Err-asked_tests.ensures.none)
     c.give_up-in-Err-asked_tests.ensures.told c.give_up-in-Err-asked_tests.ensures.value
@@ -53,15 +53,15 @@ returns-in-Err-asked_tests-clause-does g c =
 pub returns-in-Ok-run_suite-clause-does : goal.returns-in-Ok-run_suite-clause-does
 returns-in-Ok-run_suite-clause-does g c =
     let s = c.in-Ok.ensures.ok in
-    let ts : c.in-Ok-tests.tests.items ≡ tests (sections c.args.job.now.file.now) = c.in-Ok-tests.ensures ∙ ap tests s.0 in
-    let o = rw (c.as_slice.ensures.value, c.as_bytes.ensures.value) at c.in-Ok-run_suite.ensures.ok in
-    Reported c.in-Ok-asked_tests.asked.items o.0 record { sound = s.1; asked_for = rw ts at c.in-Ok-asked_tests.ensures.asked } o.1 (o.3.ok, o.3.same) refl
+    let ts : c.in-Ok-tests.tests ≡ tests (sections c.args.job.now.file.now) = c.in-Ok-tests.ensures ∙ ap tests s.0 in
+    let o = rw c.as_bytes.ensures.value at c.in-Ok-run_suite.ensures.ok in
+    Reported c.in-Ok-asked_tests.asked o.0 record { sound = s.1; asked_for = rw ts at c.in-Ok-asked_tests.ensures.asked } o.1 (o.3.ok, o.3.same) refl
     (c.status_of.ensures ∙ ap status_of o.2)
 
 pub returns-clause-does : goal.returns-clause-does
 returns-clause-does g c =
     let s = c.in-Ok.ensures.ok in
-    let ts : c.in-Ok-tests.tests.items ≡ tests (sections c.args.job.now.file.now) = c.in-Ok-tests.ensures ∙ ap tests s.0 in
-    BrokenOff c.in-Err-run_suite.why c.in-Ok-asked_tests.asked.items record { sound = s.1; asked_for = rw ts at c.in-Ok-asked_tests.ensures.asked }
-    (rw (c.as_slice.ensures.value, c.as_bytes.ensures.value) at c.in-Err-run_suite.ensures.err) (rw c.fault_of_suite.ensures at c.give_up-in-Err-run_suite.ensures.told)
+    let ts : c.in-Ok-tests.tests ≡ tests (sections c.args.job.now.file.now) = c.in-Ok-tests.ensures ∙ ap tests s.0 in
+    BrokenOff c.in-Err-run_suite.why c.in-Ok-asked_tests.asked record { sound = s.1; asked_for = rw ts at c.in-Ok-asked_tests.ensures.asked }
+    (rw c.as_bytes.ensures.value at c.in-Err-run_suite.ensures.err) (rw c.fault_of_suite.ensures at c.give_up-in-Err-run_suite.ensures.told)
     c.give_up-in-Err-run_suite.ensures.value

@@ -1,0 +1,41 @@
+-- The program that tests of a file share: it is checked once, and they run on one machine, one after another.
+use Rattle.std.specs.Prelude.{ℕ, ◌≡◌, Bool, false, not, ◌&&◌, List, Option, Some, None, Ok, Err}
+use Rattle.bpf_suite.specs.Faults.{has_part}
+use Rattle.bpf_suite.specs.Outcomes.{IsProgramOf, Outcome, Refuses, is_memory}
+use Rattle.bpf_suite.specs.Tests.{program, setting}
+use Rattle.bpf_suite.specs.declared.kind.Part.TheVariants as part
+use Rattle.bpf_suite.specs.declared.refusal.Refusal.{Refusal}
+use Rattle.bpf_suite.specs.declared.refusal.Refusal.TheVariants.{Maps, Listing, Load, Open, NoCell}
+use Rattle.bpf_suite.specs.declared.section.Section.{Section}
+use Rattle.bpf_suite.specs.declared.setting.Setting.{Setting}
+
+-- A test has the shared program, where its own sections have neither a program nor maps.
+abbrev pub shares_program : List Section → Bool
+shares_program own = not (has_part part.Program own) && not (has_part part.Maps own)
+
+-- Why a program is refused whatever it would run on.
+abbrev pub RefusesProgram : Setting → Refusal → Type 0
+RefusesProgram t (Maps fault) = Refuses t (Maps fault)
+RefusesProgram t (Listing fault) = Refuses t (Listing fault)
+RefusesProgram t (Load fault) = Refuses t (Load fault)
+RefusesProgram t (Open fault) = ⊥
+RefusesProgram t (NoCell map index) = ⊥
+
+-- What a program comes to before it runs: a machine stands on it, in some state, or it is refused.
+abbrev pub Loads : Setting → Outcome → Type 0
+Loads t (Ok x) = IsProgramOf t x.program
+Loads t (Err refusal) = RefusesProgram t refusal × (is_memory refusal ≡ false)
+
+-- The sections that tests share, and the machine of their program, or why there is none.
+pub record Shared : Type 0 where
+  pub sections : List Section
+  pub machine : Outcome
+
+pub record IsBench (sections : List Section) (read : List ℕ) (machine : Outcome) : Type 0 where
+  pub text : read ≡ program sections
+  pub loads : Loads (setting sections) machine
+
+-- What a test comes to: that machine, or a refusal of its own.
+abbrev pub outcome_by : Outcome → Option Refusal → Outcome
+outcome_by machine None = machine
+outcome_by machine (Some refusal) = Err refusal
