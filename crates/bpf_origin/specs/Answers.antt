@@ -1,12 +1,18 @@
 -- Where the values at some places came from: one pass over a history, the newest move first.
-use Rattle.std.specs.Prelude.{ℕ, ◌+◌, ◌-◌, nat_lt, ◌==◌, if◌then◌else◌, List, [], ◌∷◌, ◌++◌, length}
+use Rattle.std.specs.Prelude.{◌≡◌, ◌≤◌, ℕ, ◌+◌, ◌-◌, nat_lt, ◌==◌, if◌then◌else◌, List, [], ◌∷◌, ◌++◌, Option, Result, length}
+use Rattle.counted_io.specs.Counted.{Tally}
+use Rattle.counted_io.specs.Writing.{WritesAfter}
+use Rattle.counted_io.specs.declared.fault.WriteFault.{WriteFault}
 use Rattle.bpf_machine.specs.Moves.{overwritten}
 use Rattle.bpf_machine.specs.State.{State}
 use Rattle.bpf_journal.specs.Histories.{Record}
+use Rattle.bpf_journal.specs.Tracks.{Track}
 use Rattle.bpf_origin.specs.declared.place.Place.{Place}
 use Rattle.bpf_origin.specs.declared.question.Question.{Question}
 use Rattle.bpf_origin.specs.declared.question.Extent.{Extent}
 use Rattle.bpf_origin.specs.declared.question.Extent.TheVariants.{Whole, Lines, Places}
+use Rattle.bpf_origin.specs.declared.question.Told.{Told}
+use Rattle.bpf_origin.specs.Pasts.{StandsThere, gone_from}
 use Rattle.bpf_origin.specs.Writes.{written}
 use Rattle.bpf_origin.specs.Reads.{followed}
 use Rattle.bpf_origin.specs.Wanted.{most_places, want_parts, are_hit, still_wanted}
@@ -39,3 +45,12 @@ answer q k n wanted (r ∷ h) y =
     (if nat_lt most_places (length (wanted_before q r y wanted)) then record { text = places_text; extent = Places }
     else answer q (k + 1) (n - 1) (wanted_before q r y wanted) h r.before))
     else answer q (k + 1) n (still_wanted y (overwritten r.before r.move) wanted) h r.before
+
+-- The answer was written, and the moves that were taken back for it can be made again.
+pub record TellsOrigin {P W : Type 0} (state : P → State) (follows : P → Track → Type 0) (size : P → ℕ) (contents : W → Option (List ℕ)) (answers : Track → Answer)
+    (old new : P) (was : Tally W) (before : Result (Unit {0}) WriteFault) (now : Tally W) (told : Told) : Type 0 where
+  pub text : (t : Track) → follows old t → WritesAfter contents was before now told.written (answers t).text
+  pub extent : (t : Track) → follows old t → told.extent ≡ (answers t).extent
+  pub back : (t : Track) → follows old t → StandsThere state follows new (gone_from told.moves t (state old))
+  pub within : (t : Track) → follows old t → told.moves ≤ length t.history
+  pub room : size new ≡ size old

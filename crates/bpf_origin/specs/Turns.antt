@@ -21,6 +21,11 @@ use Rattle.bpf_origin.specs.Answers.{answer, with_line}
 abbrev pub Written : Type 0
 Written = Result (Unit {0}) WriteFault
 
+-- A turn takes the one record back, and leaves room for so many lines where the pass goes on.
+pub record TakesOne (left : ℕ) (turn : Turn) : Type 0 where
+  pub lines : turn.cut ≡ None → turn.lines ≡ left
+  pub one : turn.taken ≡ 1
+
 module _ {W : Type 0} (contents : W → Option (List ℕ)) where
   -- It was told from the middle of its line on, and what it read is wanted, unless there is no room for that.
   pub record TellsRest (q : Question) (r : Record) (wanted left : List Place) (old : Tally W) (before : Written) (now : Tally W) (turn : Turn) : Type 0 where

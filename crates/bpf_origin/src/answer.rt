@@ -1,9 +1,7 @@
 //! The whole answer to where the values of some parts came from.
-ghost use Rattle.std.specs.Prelude.{◌≡◌, ◌≤◌, length};
-ghost use Rattle.counted_io.specs.Writing.{WritesAfter};
 ghost use Rattle.bpf_journal.specs.Tracks.{Track};
+ghost use Rattle.bpf_origin.specs.Answers.{TellsOrigin};
 ghost use Rattle.bpf_origin.specs.Asked.{answer_about};
-ghost use Rattle.bpf_origin.specs.Pasts.{StandsThere, gone_from};
 
 use crate::origin::put_origin;
 use crate::past::Past;
@@ -21,16 +19,9 @@ pub fn put_answer<P: Past, W: Write>(
     writer: &mut Counted<W>,
     so_far: Result<(), WriteFault>,
 ) -> Told
-    ensures text { (t : Track) → P.follows history.old t →
-        WritesAfter W.contents writer.old so_far writer.new result.written
-        (answer_about question parts.now t.history (P.state history.old)).text }
-    ensures extent { (t : Track) → P.follows history.old t → result.extent
-        ≡ (answer_about question parts.now t.history (P.state history.old)).extent }
-    ensures back { (t : Track) → P.follows history.old t →
-        StandsThere P.state P.follows history.new
-        (gone_from result.moves t (P.state history.old)) }
-    ensures within { (t : Track) → P.follows history.old t → result.moves ≤ length t.history }
-    ensures room { P.room history.new ≡ P.room history.old }
+    ensures { TellsOrigin P.state P.follows P.room W.contents
+        (λ (t : Track). answer_about question parts.now t.history (P.state history.old))
+        history.old history.new writer.old so_far writer.new result }
 {
     let mut wanted = Wanted::new();
     if !wanted.want_parts(parts) {

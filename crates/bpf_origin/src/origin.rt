@@ -1,16 +1,14 @@
 //! Where values came from: one pass over a history, each move taken back once.
-ghost use Rattle.std.specs.Prelude.{◌≡◌, ◌<◌, ◌≤◌, ◌∷◌, ◌+◌, ◌^◌, ℕ, List, Some, None, length, true, false, if◌then◌else◌};
+ghost use Rattle.std.specs.Prelude.{◌≡◌, ◌<◌, ◌≤◌, ◌∷◌, ◌+◌, ◌^◌, ℕ, List, Some, None, true, false, if◌then◌else◌};
 ghost use Rattle.bpf_entries.specs.Past.{Fewer, past};
 ghost use Rattle.bpf_entries.specs.Status.{has_ended};
-ghost use Rattle.counted_io.specs.Writing.{WritesAfter};
 ghost use Rattle.bpf_journal.specs.Histories.{Record, is_step};
 ghost use Rattle.bpf_journal.specs.Tracks.{Track};
 ghost use Rattle.bpf_machine.specs.declared.moves.Move.{Move};
 ghost use Rattle.bpf_origin.specs.declared.place.Place.{Place};
-ghost use Rattle.bpf_origin.specs.Answers.{answer};
-ghost use Rattle.bpf_origin.specs.Pasts.{StandsThere, gone_from};
+ghost use Rattle.bpf_origin.specs.Answers.{TellsOrigin, answer};
 ghost use Rattle.bpf_origin.specs.Reads as reads;
-ghost use Rattle.bpf_origin.specs.Turns.{TakesTurn, TellsRest, WentBack};
+ghost use Rattle.bpf_origin.specs.Turns.{TakesOne, TakesTurn, TellsRest, WentBack};
 ghost use Rattle.bpf_origin.specs.Wanted as spec;
 ghost use Rattle.bpf_origin.specs.Writes as writes;
 
@@ -49,16 +47,9 @@ pub fn put_origin<P: Past, W: Write>(
     writer: &mut Counted<W>,
     so_far: Result<(), WriteFault>,
 ) -> Told
-    ensures text { (t : Track) → P.follows history.old t →
-        WritesAfter W.contents writer.old so_far writer.new result.written
-        (answer question 0 question.lines wanted.old t.history (P.state history.old)).text }
-    ensures extent { (t : Track) → P.follows history.old t → result.extent
-        ≡ (answer question 0 question.lines wanted.old t.history (P.state history.old)).extent }
-    ensures back { (t : Track) → P.follows history.old t →
-        StandsThere P.state P.follows history.new
-        (gone_from result.moves t (P.state history.old)) }
-    ensures within { (t : Track) → P.follows history.old t → result.moves ≤ length t.history }
-    ensures room { P.room history.new ≡ P.room history.old }
+    ensures { TellsOrigin P.state P.follows P.room W.contents
+        (λ (t : Track). answer question 0 question.lines wanted.old t.history
+        (P.state history.old)) history.old history.new writer.old so_far writer.new result }
 {
     let mut told = so_far;
     let mut lines = question.lines;
@@ -151,8 +142,7 @@ fn tell_rest<P: Past, W: Write>(
     ensures tells { (r : Record) (h f : List Record) →
         P.follows history.old (record { history = r ∷ h; ahead = f }) →
         TellsRest W.contents question r wanted.old wanted.new writer.old so_far writer.new result }
-    ensures lines { result.cut ≡ None → result.lines ≡ lines }
-    ensures one { result.taken ≡ 1 }
+    ensures turn { TakesOne lines result }
     ensures room { P.room history.new ≡ P.room history.old }
 {
     let Some(taken) = history.take_back() else {

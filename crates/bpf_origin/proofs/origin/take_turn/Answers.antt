@@ -34,4 +34,4 @@ returns-clause-takes g c = λ r h f stands.
     turn_told g.P.Past.state g.P.Past.follows g.W.Write.contents c.args.question r h f c.args.moves c.args.lines c.args.wanted.now c.pass-2.new.wanted c.tell_rest.new.wanted (g.P.Past.state c.args.history.now) c.tell_rest.new.history _ _ _ _ _ c.tell_rest.result c.in-Some.entry c.written-wrote.result.items
     (let d = c.in-Some.entry-is in cc) wrote (rw c.as_slice.ensures.value at (sym c.are_hit.ensures ∙ c.if-not-are_hit.false)) some
     (rw (c.machine-2.ensures, c.as_slice-2.ensures.value) at c.put_head-headed.ensures) (rw c.machine-3.ensures at c.pass-2.ensures)
-    (c.tell_rest.ensures.back r h f stands) (c.tell_rest.ensures.tells r h f stands) c.tell_rest.ensures.lines c.tell_rest.ensures.one
+    (c.tell_rest.ensures.back r h f stands) (c.tell_rest.ensures.tells r h f stands) c.tell_rest.ensures.turn.lines c.tell_rest.ensures.turn.one
