@@ -42,8 +42,8 @@ fn ext_found(object: &[u8], plan: &Plan) -> Found
     found_named(object, &plan.sections, b".BTF.ext")
 }
 
-/// The same place, if at most 255 bytes of a name stand there; else the file's end, where there is
-/// none. So a name is compared with each block of a list in a moment.
+/// A place at which at most 255 bytes of a name stand, as it is; in place of another the file's end,
+/// where no name stands. So a name is compared with each block of a list in a moment.
 fn short_name(object: &[u8], at: usize) -> usize
     requires { at ≤ length object.now }
     ensures value { result ≡ short_name object.now at }

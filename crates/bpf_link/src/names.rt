@@ -70,7 +70,7 @@ fn code_places(object: &[u8]) -> ArrayVec<usize, 17>
     }
 }
 
-/// The same in a table of sections.
+/// The places of the names of the sections of code that a table has, the first 17.
 fn code_places_in(object: &[u8], sections: &Sections) -> ArrayVec<usize, 17>
     requires { HasTable object.now sections.now }
     ensures { result.items ≡ built (with_code object.now sections.now) sections.now.count }
@@ -123,7 +123,7 @@ fn function_places(object: &[u8], section: &[u8], known: bool) -> ArrayVec<usize
     }
 }
 
-/// The same by the plan for that section.
+/// The places of the names of the functions that a plan has, the first 17.
 fn function_places_in(object: &[u8], plan: &Plan, known: bool) -> ArrayVec<usize, 17>
     requires { LiesPlan object.now plan.now }
     ensures { result.items ≡ built (with_function object.now plan.now known)

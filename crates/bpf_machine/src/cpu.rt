@@ -35,7 +35,7 @@ pub struct Cpu {
     program: Program,
     /// The program's instructions in the machine's own form, slot by slot.
     code: Vec<Code>,
-    /// The same in the form that a run takes.
+    /// Its instructions in the form that a run takes, slot by slot.
     flats: Vec<FlatCode>,
     pc: u16,
     /// r0 to r9, and the frame pointer, which follows from the depth.

@@ -107,7 +107,7 @@ pub(crate) fn manners_after(request: &Request, moves: u64, manners: Manners) -> 
     }
 }
 
-/// The same with another count of moves.
+/// Manners as they are, but for the count of moves.
 pub(crate) fn with_moves(moves: u64, manners: Manners) -> Manners
     ensures { result ≡ record manners { moves = moves } }
 {

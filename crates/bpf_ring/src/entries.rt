@@ -188,7 +188,8 @@ impl EntryRing {
         }
     }
 
-    /// The same of an entry whose bytes go around the block's end, or where none is held.
+    /// How many bytes the newest entry has, and its tag, where its bytes go around the block's end.
+    /// None where none is held.
     #[inline(never)]
     fn newest_apart(&self) -> Option<Head>
         ensures none { IsHeld self.now.ring self.now.counts [] → result ≡ None }

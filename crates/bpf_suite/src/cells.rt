@@ -28,7 +28,7 @@ impl<'a> CellLine<'a> {
         self.digits.bytes
     }
 
-    /// The same line.
+    /// A copy of the line, over the same digits.
     pub fn copied(&self) -> CellLine<'a>
         ensures { result ≡ self.now }
     {

@@ -42,7 +42,7 @@ impl<'a> Section<'a> {
         self.body.bytes
     }
 
-    /// The same section.
+    /// A copy of the section, over the same text.
     pub fn copied(&self) -> Section<'a>
         ensures { result ≡ self.now }
     {
