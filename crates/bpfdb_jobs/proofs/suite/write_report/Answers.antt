@@ -21,7 +21,7 @@ pub returns-in-Ok-run_tests-clause-ok : goal.returns-in-Ok-run_tests-clause-ok
 returns-in-Ok-run_tests-clause-ok g c =
     let o = c.in-Ok-run_tests.ensures.ok in
     let ts = c.args.tests.now in
-    let w = rw c.in-Ok.is at c.write_plan.ensures in (
+    let w = rw (c.in-Ok.is, c.len.ensures) at c.write_plan.ensures in (
       o.0,
       o.1,
       o.2,
@@ -31,11 +31,11 @@ returns-in-Ok-run_tests-clause-ok g c =
 
 pub returns-in-Err-run_tests-clause-err : goal.returns-in-Err-run_tests-clause-err
 returns-in-Err-run_tests-clause-err g c =
-    let w = rw c.in-Ok.is at c.write_plan.ensures in
+    let w = rw (c.in-Ok.is, c.len.ensures) at c.write_plan.ensures in
     BreaksOff-behind g.W.Write.contents c.args.writer.now c.write_plan.new.writer c.run_tests.new.writer _ c.in-Err-run_tests.fault
     (plan (length c.args.tests.now)) c.args.file.now 1 c.args.tests.now w c.in-Err-run_tests.ensures.err
 
 pub returns-in-Err-clause-err : goal.returns-in-Err-clause-err
 returns-in-Err-clause-err g c =
     BreaksOff-first g.W.Write.contents c.args.writer.now c.write_plan.new.writer _ (plan (length c.args.tests.now)) c.args.file.now 1 c.args.tests.now
-    (rw c.in-Err.is at c.write_plan.ensures)
+    (rw (c.in-Err.is, c.len.ensures) at c.write_plan.ensures)
