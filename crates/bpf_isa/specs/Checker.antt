@@ -1,5 +1,5 @@
 -- The checker: which bytes are a program. What RFC 9669 leaves to a platform (helpers, maps, r10) is bpfdb's own choice.
-use Rattle.std.specs.Prelude.{◌≡◌, ◌≢◌, ◌<◌, ◌≤◌, ◌⊎◌, ℕ, zero, suc, pos, ◌+◌, ◌*◌, ◌/◌, ◌%◌, Bool, true, not, ◌&&◌, ◌==◌, if◌then◌else◌, IsTrue, List, Some, IfSome, MatchOption, length, map, take, drop, slice_index, slice_get}
+use Rattle.std.specs.Prelude.{◌≡◌, ◌≢◌, ◌<◌, ◌≤◌, ℕ, zero, suc, pos, ◌+◌, ◌*◌, ◌/◌, ◌%◌, Bool, true, not, ◌&&◌, ◌==◌, if◌then◌else◌, IsTrue, List, Some, IfSome, IsSome, MatchOption, length, map, take, drop, slice_index, slice_get}
 use Rattle.std.specs.List.{concat, filter, range_with_len}
 use Rattle.bpf_isa.specs.declared.instruction.Insn.{Insn}
 use Rattle.bpf_isa.specs.declared.instruction.Insn.TheVariants.{CallHelper, LoadWide}
@@ -10,6 +10,7 @@ use Rattle.bpf_isa.specs.declared.fault.PieceFault.TheVariants.{Word, WritesFram
 use Rattle.bpf_isa.specs.declared.fault.LoadFault.{LoadFault}
 use Rattle.bpf_isa.specs.declared.fault.LoadFault.TheVariants.{Empty, TooLong, Ragged, At, Memory}
 use Rattle.bpf_isa.specs.Faults.{IsLeast, piece_fault}
+use Rattle.bpf_isa.specs.Helpers.{helper_of}
 use Rattle.bpf_isa.specs.WideLoads.{wide_opcode}
 use Rattle.bpf_isa.specs.Insns.{slots_of, FallsThrough, target_of, written_of}
 use Rattle.bpf_isa.specs.Words.{fields_of, ReadsAs}
@@ -40,22 +41,9 @@ PiecesAreTheBytes = (bytes : List ℕ) → length bytes % 8 ≡ 0 → let starts
 abbrev pub Lands : List ℕ → ℕ → Insn → Type 0
 Lands bytes p insn = IfSome (target_of p insn) (λ target. (q : ℕ) × (target ≡ pos q) × IsStartIn bytes q)
 
--- The numbers of the helpers.
-abbrev pub lookup_helper : ℕ
-lookup_helper = 1
-
-abbrev pub update_helper : ℕ
-update_helper = 2
-
-abbrev pub trace_helper : ℕ
-trace_helper = 64
-
-abbrev pub IsHelper : ℕ → Type 0
-IsHelper helper = (helper ≡ lookup_helper) ⊎ ((helper ≡ update_helper) ⊎ (helper ≡ trace_helper))
-
 -- A call's helper exists.
 abbrev pub HelperExists : Insn → Type 0
-HelperExists (CallHelper helper) = IsHelper helper
+HelperExists (CallHelper number) = IsSome (helper_of number)
 HelperExists _ = Unit {0}
 
 -- A wide load's map exists, and the byte that it names lies in the map's values.

@@ -11,6 +11,7 @@ pub mod Insns
 pub mod Mnemonics
 pub mod Words
 pub mod WordFaults
+pub mod Helpers
 pub mod Checker
 pub mod Programs
 pub mod Sizes

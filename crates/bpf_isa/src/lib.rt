@@ -22,7 +22,7 @@ mod words;
 pub use decoder::decode;
 pub use encoder::encode;
 pub use fault::{LoadFault, MapFault, PieceFault, WordFault};
-pub use helpers::{LOOKUP, TRACE, UPDATE};
+pub use helpers::Helper;
 pub use instruction::{
     Address, AtomicOp, BinaryOp, ByteOrder, Condition, Extension, Insn, LoadSize, SignedSize, Size,
     Source, SourceKind, SwapWidth, WideValue, Width,

@@ -3,7 +3,7 @@ ghost use Rattle.std.specs.Prelude.{◌≡◌, ◌≤◌, ◌↔◌, IsTrue, Lis
 ghost use Rattle.bpf_isa.specs.Checker.{HelperExists, MapExists, Lands, most_slots};
 ghost use Rattle.bpf_isa.specs.Scaffolding.Checking.{AreStarts, SparesTen};
 
-use crate::helpers::{LOOKUP, TRACE, UPDATE};
+use crate::helpers::Helper;
 use crate::instruction::{AtomicOp, Insn, WideValue};
 use crate::maps::MapTable;
 use crate::register::Reg;
@@ -67,7 +67,7 @@ impl Insn {
         ensures { IsTrue result ↔ HelperExists self.now }
     {
         match self {
-            Insn::CallHelper { helper } => matches!(*helper, LOOKUP | UPDATE | TRACE),
+            Insn::CallHelper { helper } => Helper::of(*helper).is_some(),
             _ => true,
         }
     }

@@ -8,14 +8,10 @@ use Rattle.bpf_machine.specs.Platform.{context_limit}
 use Rattle.bpf_machine.specs.Regions.{Image, opened}
 use Rattle.bpf_machine.specs.State.{State, initial}
 
--- A fault's number and text.
-abbrev pub number_of : OpenFault → ℕ
-number_of ContextTooLong = 1
-number_of OutOfMemory = 2
-
-abbrev pub text_of : OpenFault → List ℕ
-text_of ContextTooLong = codes "context too long"
-text_of OutOfMemory = codes "out of memory"
+-- A fault's number, which is printed after O, and its text.
+abbrev pub open_fault : OpenFault → ℕ × List ℕ
+open_fault ContextTooLong = (1, codes "context too long")
+open_fault OutOfMemory = (2, codes "out of memory")
 
 -- Why memory or a machine is not opened.
 abbrev pub Refused : List ℕ → OpenFault → Type 0

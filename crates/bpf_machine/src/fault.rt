@@ -14,11 +14,11 @@ pub enum OpenFault {
 }
 
 impl OpenFault {
-    ghost use Rattle.bpf_machine.specs.Opening.{number_of, text_of};
+    ghost use Rattle.bpf_machine.specs.Opening.{open_fault};
 
     /// The fault's number, behind the letter O.
     pub fn number(&self) -> u8
-        ensures { result ≡ number_of self.now }
+        ensures { result ≡ (open_fault self.now).0 }
     {
         match self {
             OpenFault::ContextTooLong => 1,
@@ -28,7 +28,7 @@ impl OpenFault {
 
     /// The fault's text.
     pub fn text(&self) -> &'static str
-        ensures { result.now ≡ text_of self.now }
+        ensures { result.now ≡ (open_fault self.now).1 }
     {
         match self {
             OpenFault::ContextTooLong => "context too long",

@@ -1,6 +1,6 @@
 -- Two states that stand alike and agree on what the step reads and on its addresses make the same change.
 use Rattle.std.proofs.Common.{◌≡◌, ◌≤◌, ◌<◌, ℕ, ℤ, pos, zero, suc, ◌+◌, ◌-◌, ◌*◌, ◌%◌, ◌^◌, ◌+ℤ◌, List, [], ◌∷◌, ◌++◌, length, flat_map, Bool, true, false, Option, Some, None, refl, sym, ap, ◌∙◌, inl, inr, arith}
-use Rattle.std.specs.Prelude.{All, ◌==◌, ◌&&◌, ◌||◌, nat_lt, nat_le, option_map, unwrap_or, unsigned_abs, slice_get, slice_index, if◌then◌else◌}
+use Rattle.std.specs.Prelude.{All, IsSome, ◌==◌, ◌&&◌, ◌||◌, nat_lt, nat_le, option_map, unwrap_or, unsigned_abs, slice_get, slice_index, if◌then◌else◌}
 use Rattle.std.specs.Option.{option_map_or}
 use Rattle.std.proofs.lemmas.Bool.{cases_lt, and_parts}
 use Rattle.std.proofs.lemmas.Bool.Decides.{nat_tests}
@@ -10,7 +10,10 @@ use Rattle.std.proofs.lemmas.Grind.{same_number_lists}
 use Rattle.std.proofs.lemmas.Option.{slice_get_past}
 use Rattle.std.proofs.Math.Bool.{or-true}
 use Rattle.byteorder.specs.Endian.{little_number}
-use Rattle.bpf_isa.specs.Checker.{lookup_helper, update_helper}
+use Rattle.bpf_isa.specs.Checker.{HelperExists}
+use Rattle.bpf_isa.specs.Helpers.{helper_of}
+use Rattle.bpf_isa.specs.declared.helpers.Helper.{Helper}
+use Rattle.bpf_isa.specs.declared.helpers.Helper.TheVariants as named
 use Rattle.bpf_isa.specs.Maps.{IsShape}
 use Rattle.bpf_isa.specs.Programs.{replaced_by}
 use Rattle.bpf_isa.specs.Sizes.{size_len, signed_len}
@@ -38,7 +41,7 @@ use Rattle.bpf_machine.specs.Arithmetic.{result, negated, sign_extended}
 use Rattle.bpf_machine.specs.Atomics.{combined, size_of, replacement, atomic_at}
 use Rattle.bpf_machine.specs.ByAddress.{byte}
 use Rattle.bpf_machine.specs.Calls.{call}
-use Rattle.bpf_machine.specs.Helpers.{map_shape, with_key, lookup, update_of, update, trace, answer}
+use Rattle.bpf_machine.specs.Helpers.{map_shape, with_key, helper, update_of, trace, answer}
 use Rattle.bpf_machine.specs.Jumps.{holds}
 use Rattle.bpf_machine.specs.Next.{operand, target, jumps, change_by, change}
 use Rattle.bpf_machine.specs.Numbers.{bits_of, wrap, extended}
@@ -55,7 +58,7 @@ use Rattle.bpf_origin.specs.declared.place.Part.{Part}
 use Rattle.bpf_origin.specs.declared.place.Part.TheVariants as part
 use Rattle.bpf_origin.specs.Laws.{StandAlike, Agree, AgreeOn}
 use Rattle.bpf_origin.specs.Places.{depth_for, own_register, value, same, bytes_from, places_of}
-use Rattle.bpf_origin.specs.Reads.{of_register, of_source, of_first, of_compared, of_key, of_value, reads_by, bases_by, conditions_by}
+use Rattle.bpf_origin.specs.Reads.{of_register, of_source, of_first, of_compared, of_key, of_value, of_helper, helper_bases, reads_by, bases_by, conditions_by}
 use Rattle.bpf_origin.specs.Wanted.{is_in}
 
 -- Agreement part by part.
@@ -360,37 +363,38 @@ module _ (x z : State) (hx : IsState x) (hz : IsState z) (al : StandAlike x z) w
       trace_by (nat_lt (length x.trace) trace_limit) (register_same 1 each)
       ∙ ap (λ n. if nat_lt n trace_limit then Trace (register z 1) (z.pc + 1) else answer z (2 ^ 64 - 1)) al.words
 
-  help_same : (one two : Bool) (c : Change) → AgreeEach (if one then of_key x else if two then of_key x ++ (of_register x 4 ++ of_value x c) else of_register x 1) x z → AgreeEach (if one then of_register x 2 else if two then of_register x 2 ++ of_register x 3 else []) x z → (if one then lookup x else if two then update x else trace x) ≡ (if one then lookup z else if two then update z else trace z)
-  help_same true two c each base =
+  help_same : (o : Option Helper) → IsSome o → (c : Change) → AgreeEach (option_map_or (of_helper x c) o []) x z → AgreeEach (option_map_or (helper_bases x) o []) x z → option_map_or (helper x) o (Stop x.status) ≡ option_map_or (helper z) o (Stop z.status)
+  help_same None exists c each base = cc
+  help_same (Some named.Lookup) exists c each base =
       key_same (λ i shape key. answer x (if nat_lt key shape.entries then cell_address i key shape.value_size else 0))
       (λ i shape key. answer z (if nat_lt key shape.entries then cell_address i key shape.value_size else 0)) each base
       (λ i shape key. answer_same (if nat_lt key shape.entries then cell_address i key shape.value_size else 0))
-  help_same false true c each base =
+  help_same (Some named.Update) exists c each base =
       let key = split_each (of_key x) (of_register x 4 ++ of_value x c) x z each in
       let flags = split_each (of_register x 4) (of_value x c) x z key.1 in
       let pointers = split_each (of_register x 2) (of_register x 3) x z base in
       key_same (update_of x) (update_of z) key.0 pointers.0 (λ i shape k. update_same i shape k (register_same 3 pointers.1) (register_same 4 flags.0))
-  help_same false false c each base = trace_same each
+  help_same (Some named.Trace) exists c each base = trace_same each
 
   -- Every instruction.
-  pub change_same : (i : Insn) → AgreeEach (reads_by x i) x z → AgreeEach (bases_by x i) x z → AgreeEach (conditions_by x i) x z → change_by x i ≡ change_by z i
+  pub change_same : (i : Insn) → HelperExists i → AgreeEach (reads_by x i) x z → AgreeEach (bases_by x i) x z → AgreeEach (conditions_by x i) x z → change_by x i ≡ change_by z i
   unfolding change_by
-  change_same (insn.Binary op width dst s) each base tests = set_same dst _ _ 1 (binary_same op width dst s each)
-  change_same (insn.Negate width dst) each base tests = set_same dst _ _ 1 (ap (negated (bits_of width)) (low_same (bits_of width) dst each))
-  change_same (insn.SignExtend extension dst src) each base tests = set_same dst _ _ 1 (ap (sign_extended extension) (register_same src each))
-  change_same (insn.SwapBytes order width dst) each base tests = set_same dst _ _ 1 (ap (swapped order width) (register_same dst each))
-  change_same (insn.JumpIf condition width dst s offset) each base tests =
+  change_same (insn.Binary op width dst s) exists each base tests = set_same dst _ _ 1 (binary_same op width dst s each)
+  change_same (insn.Negate width dst) exists each base tests = set_same dst _ _ 1 (ap (negated (bits_of width)) (low_same (bits_of width) dst each))
+  change_same (insn.SignExtend extension dst src) exists each base tests = set_same dst _ _ 1 (ap (sign_extended extension) (register_same src each))
+  change_same (insn.SwapBytes order width dst) exists each base tests = set_same dst _ _ 1 (ap (swapped order width) (register_same dst each))
+  change_same (insn.JumpIf condition width dst s offset) exists each base tests =
       branch_same (jumps x condition width dst s) (jumps z condition width dst s) offset (jumps_same condition width dst s tests)
-  change_same (insn.Jump offset) each base tests = ap Go (target_same offset)
-  change_same (insn.JumpLong distance) each base tests = ap Go (target_same distance)
-  change_same (insn.CallHelper number) each base tests = help_same (number == lookup_helper) (number == update_helper) (change x) each base
-  change_same (insn.CallLocal distance) each base tests =
+  change_same (insn.Jump offset) exists each base tests = ap Go (target_same offset)
+  change_same (insn.JumpLong distance) exists each base tests = ap Go (target_same distance)
+  change_same (insn.CallHelper number) exists each base tests = help_same (helper_of number) exists (change x) each base
+  change_same (insn.CallLocal distance) exists each base tests =
       ap (λ to. call x to) (target_same distance)
       ∙ ap (λ d. if nat_lt (d + 1) frame_count then Call (target z distance) else Stop (Faulted Depth)) deep
-  change_same insn.Exit each base tests = ap (λ d. if d == 0 then Stop Exited else Return) deep
-  change_same (insn.Load (Plain size) dst from) each base tests = load_same from (size_len size) dst (λ n. n) each base
-  change_same (insn.Load (Signed size) dst from) each base tests =
+  change_same insn.Exit exists each base tests = ap (λ d. if d == 0 then Stop Exited else Return) deep
+  change_same (insn.Load (Plain size) dst from) exists each base tests = load_same from (size_len size) dst (λ n. n) each base
+  change_same (insn.Load (Signed size) dst from) exists each base tests =
       load_same from (signed_len size) dst (λ n. extended (8 * signed_len size) 64 n) each base
-  change_same (insn.Store size to s) each base tests = store_same to size (operand x 64 s) (operand z 64 s) (operand_same 64 s each) base
-  change_same (insn.Atomic op width to src) each base tests = atomic_same op width to src (size_len (size_of width)) each base
-  change_same (insn.LoadWide dst value) each base tests = set_same dst _ _ 2 refl
+  change_same (insn.Store size to s) exists each base tests = store_same to size (operand x 64 s) (operand z 64 s) (operand_same 64 s each) base
+  change_same (insn.Atomic op width to src) exists each base tests = atomic_same op width to src (size_len (size_of width)) each base
+  change_same (insn.LoadWide dst value) exists each base tests = set_same dst _ _ 2 refl

@@ -4,6 +4,7 @@ use Rattle.std.specs.Prelude.{IsSome, map, option_map, unwrap_or, slice_get}
 use Rattle.std.specs.Option.{option_map_or}
 use Rattle.std.proofs.lemmas.List.{map-append, take-map}
 use Rattle.std.proofs.lemmas.Option.{slice_get-map}
+use Rattle.bpf_isa.specs.Checker.{HelperExists}
 use Rattle.bpf_isa.specs.Programs.{insn_at}
 use Rattle.bpf_isa.specs.declared.instruction.Insn.{Insn}
 use Rattle.bpf_isa.specs.declared.instruction.Insn.TheVariants as insn
@@ -60,11 +61,11 @@ module _ (x z : State) (hx : IsState x) (hz : IsState z) (al : StandAlike x z) w
       subst (λ (c : Change). WroteAlike (changed x c) (entry_of x c) (next z) (step_entry z)) (sym e)
       (subst (λ (c : Change). WroteAlike (changed x (Go a)) (entry_of x (Go a)) (changed z c) (entry_of z c)) (sym f) (go_alike a b))
 
-  step_alike : (i : Insn) → change x ≡ change_by x i → change z ≡ change_by z i → AgreeEach (reads_by x i) x z → AgreeEach (bases_by x i) x z → WroteAlike (next x) (step_entry x) (next z) (step_entry z)
+  step_alike : (i : Insn) → HelperExists i → change x ≡ change_by x i → change z ≡ change_by z i → AgreeEach (reads_by x i) x z → AgreeEach (bases_by x i) x z → WroteAlike (next x) (step_entry x) (next z) (step_entry z)
   unfolding change_by
-  step_alike (insn.JumpIf condition width dst s offset) e f each base = went_alike _ _ e f
-  step_alike i e f each base =
-      acted_alike (f ∙ sym (change_same x z hx hz al i each base tt) ∙ sym e) (subst (ReadAlike x z) (sym e) (change_read x z hx hz al i e each))
+  step_alike (insn.JumpIf condition width dst s offset) exists e f each base = went_alike _ _ e f
+  step_alike i exists e f each base =
+      acted_alike (f ∙ sym (change_same x z hx hz al i exists each base tt) ∙ sym e) (subst (ReadAlike x z) (sym e) (change_read x z hx hz al i e each))
 
 -- Memory with other bytes has as long a context.
 put_context : (m : Image) (a n : ℕ) (new : List ℕ) → (put m a n new).context_len ≡ m.context_len
@@ -204,7 +205,7 @@ module _ (x z : State) (hx : IsState x) (hz : IsState z) (al : StandAlike x z) (
   step_writes : AgreeEach (reads x move.Step ++ bases x move.Step) x z → WroteAlike (next x) (step_entry x) (next z) (step_entry z)
   step_writes each =
       let two = split_each (reads x move.Step) (bases x move.Step) x z each in
-      step_alike x z hx hz al i (change_at x i here) (change_at z i there)
+      step_alike x z hx hz al i (hx.checked.helpers x.pc i here) (change_at x i here) (change_at z i there)
       (subst (λ (ps : List Part). AgreeEach ps x z) (table_here reads_by) two.0)
       (subst (λ (ps : List Part). AgreeEach ps x z) (table_here bases_by) two.1)
 
@@ -213,7 +214,7 @@ module _ (x z : State) (hx : IsState x) (hz : IsState z) (al : StandAlike x z) (
       let two = split_each (reads x move.Step) (bases x move.Step ++ conditions x move.Step) x z each in
       let more = split_each (bases x move.Step) (conditions x move.Step) x z two.1 in
       change_at z i there
-      ∙ sym (change_same x z hx hz al i
+      ∙ sym (change_same x z hx hz al i (hx.checked.helpers x.pc i here)
       (subst (λ (ps : List Part). AgreeEach ps x z) (table_here reads_by) two.0)
       (subst (λ (ps : List Part). AgreeEach ps x z) (table_here bases_by) more.0)
       (subst (λ (ps : List Part). AgreeEach ps x z) (table_here conditions_by) more.1))

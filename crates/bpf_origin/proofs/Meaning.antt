@@ -7,7 +7,9 @@ use Rattle.std.proofs.lemmas.Bool.Decides.{nat_tests}
 use Rattle.std.proofs.lemmas.Grind.{flat_map-append}
 use Rattle.std.proofs.lemmas.List.Folds.{list_any-append}
 use Rattle.std.proofs.Math.Bool.{or-true}
-use Rattle.bpf_isa.specs.Checker.{lookup_helper, update_helper}
+use Rattle.bpf_isa.specs.Helpers.{helper_of}
+use Rattle.bpf_isa.specs.declared.helpers.Helper.{Helper}
+use Rattle.bpf_isa.specs.declared.helpers.Helper.TheVariants as named
 use Rattle.bpf_isa.specs.Programs.{insn_at}
 use Rattle.bpf_isa.specs.Sizes.{size_len}
 use Rattle.bpf_isa.specs.declared.instruction.AtomicOp.{AtomicOp}
@@ -43,7 +45,7 @@ use Rattle.bpf_origin.specs.declared.place.Part.TheVariants as part
 use Rattle.bpf_origin.specs.Laws.{StandAlike, Agree, AgreeOn}
 use Rattle.bpf_origin.specs.Meaning.{passed, left_of, GoAlike, ArePlaces, LeftIsAll}
 use Rattle.bpf_origin.specs.Places.{depth_for, value, IsPlace, same, bytes_from, places_of}
-use Rattle.bpf_origin.specs.Reads.{of_register, of_source, of_first, of_compared, of_key, of_value, reads_by, bases_by, reads, bases, followed}
+use Rattle.bpf_origin.specs.Reads.{of_register, of_source, of_first, of_compared, of_key, of_value, of_helper, helper_bases, reads_by, bases_by, reads, bases, followed}
 use Rattle.bpf_origin.specs.Wanted.{is_in, want, want_all, is_among, are_hit, spared, handed, carried, still_wanted}
 use Rattle.bpf_origin.specs.Writes.{written, writes, inherited, came_from}
 use Rattle.bpf_origin.proofs.Agreeing.{in_first, in_second, eq_self, same_self, same_depth}
@@ -382,17 +384,18 @@ value_in : (x : State) (c : Change) → PartsIn x (of_value x c)
 value_in x (Cell a from n after) = tt
 value_in x _ = tt
 
-helper_in : (x : State) (one two : Bool) (c : Change) → PartsIn x (if one then of_key x else if two then of_key x ++ (of_register x 4 ++ of_value x c) else of_register x 1)
-helper_in x true two c = key_in x
-helper_in x false true c = parts_more x (of_key x) (of_register x 4 ++ of_value x c) (key_in x) (parts_more x (of_register x 4) (of_value x c) (register_in x 4) (value_in x c))
-helper_in x false false c = register_in x 1
+helper_in : (x : State) (o : Option Helper) (c : Change) → PartsIn x (option_map_or (of_helper x c) o [])
+helper_in x None c = tt
+helper_in x (Some named.Lookup) c = key_in x
+helper_in x (Some named.Update) c = parts_more x (of_key x) (of_register x 4 ++ of_value x c) (key_in x) (parts_more x (of_register x 4) (of_value x c) (register_in x 4) (value_in x c))
+helper_in x (Some named.Trace) c = register_in x 1
 
 reads_in_by : (x : State) (i : Insn) → PartsIn x (reads_by x i)
 reads_in_by x (insn.Binary op width dst s) = parts_more x (of_first x op dst) (of_source x s) (first_in x op dst) (source_in x s)
 reads_in_by x (insn.Negate width dst) = register_in x dst
 reads_in_by x (insn.SignExtend extension dst src) = register_in x src
 reads_in_by x (insn.SwapBytes order width dst) = register_in x dst
-reads_in_by x (insn.CallHelper number) = helper_in x (number == lookup_helper) (number == update_helper) (change x)
+reads_in_by x (insn.CallHelper number) = helper_in x (helper_of number) (change x)
 reads_in_by x (insn.Load size dst from) = tt
 reads_in_by x (insn.Store size to s) = source_in x s
 reads_in_by x (insn.Atomic op width to src) =
@@ -400,13 +403,14 @@ reads_in_by x (insn.Atomic op width to src) =
     (parts_more x (of_register x src) (part.Bytes (address x to) (size_len (size_of width)) ∷ []) (register_in x src) tt)
 reads_in_by x _ = tt
 
-pointers_in : (x : State) (one two : Bool) → PartsIn x (if one then of_register x 2 else if two then of_register x 2 ++ of_register x 3 else [])
-pointers_in x true two = register_in x 2
-pointers_in x false true = parts_more x (of_register x 2) (of_register x 3) (register_in x 2) (register_in x 3)
-pointers_in x false false = tt
+pointers_in : (x : State) (o : Option Helper) → PartsIn x (option_map_or (helper_bases x) o [])
+pointers_in x None = tt
+pointers_in x (Some named.Lookup) = register_in x 2
+pointers_in x (Some named.Update) = parts_more x (of_register x 2) (of_register x 3) (register_in x 2) (register_in x 3)
+pointers_in x (Some named.Trace) = tt
 
 bases_in_by : (x : State) (i : Insn) → PartsIn x (bases_by x i)
-bases_in_by x (insn.CallHelper number) = pointers_in x (number == lookup_helper) (number == update_helper)
+bases_in_by x (insn.CallHelper number) = pointers_in x (helper_of number)
 bases_in_by x (insn.Load size dst from) = register_in x from.base
 bases_in_by x (insn.Store size to s) = register_in x to.base
 bases_in_by x (insn.Atomic op width to src) = register_in x to.base

@@ -10,7 +10,9 @@ use Rattle.std.proofs.lemmas.Option.{slice_get_past}
 use Rattle.std.proofs.Math.Seq.{get_or-append_seam}
 use Rattle.byteorder.specs.Endian.{little_bytes}
 use Rattle.byteorder.specs.Numbers.{length-bytes_low_first}
-use Rattle.bpf_isa.specs.Checker.{lookup_helper, update_helper}
+use Rattle.bpf_isa.specs.Helpers.{helper_of}
+use Rattle.bpf_isa.specs.declared.helpers.Helper.{Helper}
+use Rattle.bpf_isa.specs.declared.helpers.Helper.TheVariants as named
 use Rattle.bpf_isa.specs.Sizes.{size_len, signed_len}
 use Rattle.bpf_isa.specs.declared.instruction.AtomicOp.{AtomicOp}
 use Rattle.bpf_isa.specs.declared.instruction.AtomicOp.TheVariants as atomics
@@ -32,7 +34,7 @@ use Rattle.bpf_machine.specs.ByAddress.{byte_at, byte}
 use Rattle.bpf_machine.specs.Calls.{pushed, entered}
 use Rattle.bpf_machine.specs.Entries.{entry_of}
 use Rattle.bpf_machine.specs.Fetched.{Fits}
-use Rattle.bpf_machine.specs.Helpers.{map_shape, lookup, update_of, update, trace, answer}
+use Rattle.bpf_machine.specs.Helpers.{map_shape, helper, update_of, update, answer}
 use Rattle.bpf_machine.specs.Next.{change_by, change, changed, next}
 use Rattle.bpf_machine.specs.Numbers.{bits_of}
 use Rattle.bpf_machine.specs.Platform.{frame_base, frame_len, cell_address, token_base, trace_limit}
@@ -45,7 +47,7 @@ use Rattle.bpf_origin.specs.declared.place.Place.TheVariants.{Register, Word, By
 use Rattle.bpf_origin.specs.declared.place.Part.TheVariants as part
 use Rattle.bpf_origin.specs.Laws.{StandAlike, Agree, WroteAlike}
 use Rattle.bpf_origin.specs.Places.{depth_for, own_register, value, same, has, bytes_from}
-use Rattle.bpf_origin.specs.Reads.{of_register, of_compared, of_key, of_value, reads_by}
+use Rattle.bpf_origin.specs.Reads.{of_register, of_compared, of_key, of_value, of_helper, reads_by}
 use Rattle.bpf_origin.specs.Writes.{register_written, bytes_written, word_written, written, writes}
 use Rattle.bpf_origin.proofs.Agreeing.{AgreeEach, split_each, deep, index_same, index_there, run_same, number_same}
 
@@ -317,8 +319,9 @@ module _ (x z : State) (hx : IsState x) (hz : IsState z) (al : StandAlike x z) w
   update_reads =
       key_read (update_of x) (register x 1) (map_shape x (register x 1)) (λ i shape key. update_read (cell_address i key shape.value_size) shape.value_size (nat_lt 2 (register x 4)) (register x 4 == 1) (nat_le shape.entries key))
 
-  help_read : (one two : Bool) (c : Change) → c ≡ (if one then lookup x else if two then update x else trace x) → AgreeEach (if one then of_key x else if two then of_key x ++ (of_register x 4 ++ of_value x c) else of_register x 1) x z → ReadAlike x z (if one then lookup x else if two then update x else trace x)
-  help_read true two c e each = looked (register x 1) (map_shape x (register x 1))
+  help_read : (o : Option Helper) (c : Change) → c ≡ option_map_or (helper x) o (Stop x.status) → AgreeEach (option_map_or (of_helper x c) o []) x z → ReadAlike x z (option_map_or (helper x) o (Stop x.status))
+  help_read None c e each = tt
+  help_read (Some named.Lookup) c e each = looked (register x 1) (map_shape x (register x 1))
     where
       found_read : (shape : MapShape) (n : ℕ) (found : Option ℕ) → ReadAlike x z (option_map_or (λ at. answer x (if nat_lt (number_at x.memory at 4) shape.entries then cell_address (n - token_base) (number_at x.memory at 4) shape.value_size else 0)) found (fault (register x 2)))
       found_read shape n None = tt
@@ -327,11 +330,11 @@ module _ (x z : State) (hx : IsState x) (hz : IsState z) (al : StandAlike x z) w
       looked : (n : ℕ) (found : Option MapShape) → ReadAlike x z (option_map_or (λ shape. access x (register x 2) 4 (λ at. answer x (if nat_lt (number_at x.memory at 4) shape.entries then cell_address (n - token_base) (number_at x.memory at 4) shape.value_size else 0))) found (Stop (Faulted (Token n))))
       looked n None = tt
       looked n (Some shape) = found_read shape n (accessible x (register x 2) 4)
-  help_read false true c e each =
+  help_read (Some named.Update) c e each =
       let key = split_each (of_key x) (of_register x 4 ++ of_value x c) x z each in
       let flags = split_each (of_register x 4) (of_value x c) x z key.1 in
       update_reads (subst (λ (d : Change). AgreeEach (of_value x d) x z) e flags.1)
-  help_read false false c e each = trace_read (nat_lt (length x.trace) trace_limit)
+  help_read (Some named.Trace) c e each = trace_read (nat_lt (length x.trace) trace_limit)
 
   call_read : (room : Bool) (to : ℕ) → ReadAlike x z (if room then Call to else Stop (Faulted Depth))
   call_read true to = tt
@@ -343,7 +346,7 @@ module _ (x z : State) (hx : IsState x) (hz : IsState z) (al : StandAlike x z) w
 
   pub change_read : (i : Insn) → change x ≡ change_by x i → AgreeEach (reads_by x i) x z → ReadAlike x z (change_by x i)
   unfolding change_by
-  change_read (insn.CallHelper number) e each = help_read (number == lookup_helper) (number == update_helper) (change x) e each
+  change_read (insn.CallHelper number) e each = help_read (helper_of number) (change x) e each
   change_read (insn.CallLocal distance) e each = call_read _ _
   change_read insn.Exit e each = exit_read (depth x == 0)
   change_read (insn.Load (Plain size) dst from) e each = load_read _ _ dst _ (accessible x (address x from) (size_len size))

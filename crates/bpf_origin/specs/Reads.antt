@@ -1,8 +1,10 @@
 -- What a step reads for the values that it writes (RFC 9669, sections 4 and 5), in the state before it. A register that only makes an
 -- address is told apart from what is read there, and so is one that only decides where a jump goes.
-use Rattle.std.specs.Prelude.{ℕ, Bool, nat_lt, ◌==◌, if◌then◌else◌, List, [], ◌∷◌, ◌++◌}
+use Rattle.std.specs.Prelude.{ℕ, Bool, nat_lt, if◌then◌else◌, List, [], ◌∷◌, ◌++◌}
 use Rattle.std.specs.Option.{option_map_or}
-use Rattle.bpf_isa.specs.Checker.{lookup_helper, update_helper}
+use Rattle.bpf_isa.specs.Helpers.{helper_of}
+use Rattle.bpf_isa.specs.declared.helpers.Helper.{Helper}
+use Rattle.bpf_isa.specs.declared.helpers.Helper.TheVariants as named
 use Rattle.bpf_isa.specs.Programs.{insn_at}
 use Rattle.bpf_isa.specs.Sizes.{size_len, signed_len}
 use Rattle.bpf_isa.specs.declared.instruction.AtomicOp.{AtomicOp}
@@ -61,11 +63,10 @@ abbrev pub of_value : State → Change → List Part
 of_value x (Cell a from n next) = part.Bytes (register x 3) n ∷ []
 of_value x _ = []
 
-abbrev pub of_helper : State → ℕ → List Part
-of_helper x number =
-    if number == lookup_helper then of_key x
-    else if number == update_helper then of_key x ++ (of_register x 4 ++ of_value x (change x))
-    else of_register x 1
+abbrev pub of_helper : State → Change → Helper → List Part
+of_helper x c named.Lookup = of_key x
+of_helper x c named.Update = of_key x ++ (of_register x 4 ++ of_value x c)
+of_helper x c named.Trace = of_register x 1
 
 -- What an instruction reads. Jumps, calls, returns and wide loads read nothing that they write.
 abbrev pub reads_by : State → Insn → List Part
@@ -73,7 +74,7 @@ reads_by x (insn.Binary op width dst source) = of_first x op dst ++ of_source x 
 reads_by x (insn.Negate width dst) = of_register x dst
 reads_by x (insn.SignExtend extension dst src) = of_register x src
 reads_by x (insn.SwapBytes order width dst) = of_register x dst
-reads_by x (insn.CallHelper number) = of_helper x number
+reads_by x (insn.CallHelper number) = option_map_or (of_helper x (change x)) (helper_of number) []
 reads_by x (insn.Load size dst from) = part.Bytes (address x from) (load_len size) ∷ []
 reads_by x (insn.Store size to source) = of_source x source
 reads_by x (insn.Atomic op width to src) =
@@ -81,14 +82,13 @@ reads_by x (insn.Atomic op width to src) =
 reads_by x _ = []
 
 -- The registers that make its addresses: the base of an access, a helper's pointers to key and value.
-abbrev pub helper_bases : State → ℕ → List Part
-helper_bases x number =
-    if number == lookup_helper then of_register x 2
-    else if number == update_helper then of_register x 2 ++ of_register x 3
-    else []
+abbrev pub helper_bases : State → Helper → List Part
+helper_bases x named.Lookup = of_register x 2
+helper_bases x named.Update = of_register x 2 ++ of_register x 3
+helper_bases x named.Trace = []
 
 abbrev pub bases_by : State → Insn → List Part
-bases_by x (insn.CallHelper number) = helper_bases x number
+bases_by x (insn.CallHelper number) = option_map_or (helper_bases x) (helper_of number) []
 bases_by x (insn.Load size dst from) = of_register x from.base
 bases_by x (insn.Store size to source) = of_register x to.base
 bases_by x (insn.Atomic op width to src) = of_register x to.base

@@ -1,6 +1,8 @@
 //! What a step reads: the table of the definitions, row by row.
 ghost use Rattle.std.specs.Prelude.{false, ◌≡◌, ◌≤◌, ◌<◌, ◌+◌, ◌++◌, ◌∷◌, [], length, nat_lt, if◌then◌else◌};
+ghost use Rattle.std.specs.Option.{option_map_or};
 ghost use Rattle.arrayvec.specs.ArrayVec.{array_vec_len};
+ghost use Rattle.bpf_isa.specs.Helpers.{helper_of};
 ghost use Rattle.bpf_isa.specs.Sizes.{size_len, signed_len};
 ghost use Rattle.bpf_machine.specs.declared.moves.Move.TheVariants as move_of;
 ghost use Rattle.bpf_machine.specs.Access.{address as address_in};
@@ -13,7 +15,7 @@ ghost use Rattle.bpf_origin.specs.Reads as spec;
 
 use crate::place::Part;
 use arrayvec::ArrayVec;
-use bpf_isa::{Address, AtomicOp, BinaryOp, Insn, LOOKUP, LoadSize, Reg, Source, UPDATE, Width};
+use bpf_isa::{Address, AtomicOp, BinaryOp, Helper, Insn, LoadSize, Reg, Source, Width};
 use bpf_machine::{Change, Cpu, Fault, Status};
 use bpfdb_replies::number_in;
 
@@ -101,7 +103,7 @@ fn add_reads(cpu: &Cpu, insn: &Insn, parts: &mut Parts)
         }
         Insn::Negate { dst, .. } | Insn::SwapBytes { dst, .. } => add_register(cpu, dst, parts),
         Insn::SignExtend { src, .. } => add_register(cpu, src, parts),
-        Insn::CallHelper { helper } => add_helper(cpu, helper, parts),
+        Insn::CallHelper { helper } => add_call(cpu, helper, parts),
         Insn::Load { size, from, .. } => {
             add_bytes(address_of(cpu, from), load_len(size), parts);
         }
@@ -209,20 +211,36 @@ fn add_argument(cpu: &Cpu, number: u8, parts: &mut Parts)
     }
 }
 
-/// Adds what a helper reads.
-fn add_helper(cpu: &Cpu, helper: u32, parts: &mut Parts)
+/// Adds what the call of a helper reads.
+fn add_call(cpu: &Cpu, number: u32, parts: &mut Parts)
     requires runs { has_ended cpu.now.status ≡ false }
     requires first { parts.old.items ≡ [] }
-    ensures items { parts.new.items ≡ spec.of_helper cpu.now helper }
+    ensures items { parts.new.items ≡
+        option_map_or (spec.of_helper cpu.now (change_in cpu.now)) (helper_of number) [] }
+    ensures count { length parts.new.items ≤ 4 }
+{
+    match Helper::of(number) {
+        Some(helper) => add_helper(cpu, helper, parts),
+        None => {}
+    }
+}
+
+/// Adds what a helper reads.
+fn add_helper(cpu: &Cpu, helper: Helper, parts: &mut Parts)
+    requires runs { has_ended cpu.now.status ≡ false }
+    requires first { parts.old.items ≡ [] }
+    ensures items { parts.new.items ≡ spec.of_helper cpu.now (change_in cpu.now) helper }
     ensures count { length parts.new.items ≤ 4 }
 {
     add_argument(cpu, 1, parts);
-    if helper == LOOKUP {
-        add_bytes(number_in(cpu, 2), 4, parts);
-    } else if helper == UPDATE {
-        add_bytes(number_in(cpu, 2), 4, parts);
-        add_argument(cpu, 4, parts);
-        add_value(cpu, parts);
+    match helper {
+        Helper::Lookup => add_bytes(number_in(cpu, 2), 4, parts),
+        Helper::Update => {
+            add_bytes(number_in(cpu, 2), 4, parts);
+            add_argument(cpu, 4, parts);
+            add_value(cpu, parts);
+        }
+        Helper::Trace => {}
     }
 }
 
@@ -241,16 +259,19 @@ fn add_value(cpu: &Cpu, parts: &mut Parts)
     }
 }
 
-/// Adds the registers that point to a helper's key and value.
-fn add_pointers(cpu: &Cpu, helper: u32, parts: &mut Parts)
+/// Adds the registers that point to the key and the value of a helper's call.
+fn add_pointers(cpu: &Cpu, number: u32, parts: &mut Parts)
     requires { length parts.old.items ≤ 4 }
-    ensures { parts.new.items ≡ parts.old.items ++ spec.helper_bases cpu.now helper }
+    ensures { parts.new.items ≡ parts.old.items
+        ++ option_map_or (spec.helper_bases cpu.now) (helper_of number) [] }
 {
-    if helper == LOOKUP {
-        add_argument(cpu, 2, parts);
-    } else if helper == UPDATE {
-        add_argument(cpu, 2, parts);
-        add_argument(cpu, 3, parts);
+    match Helper::of(number) {
+        Some(Helper::Lookup) => add_argument(cpu, 2, parts),
+        Some(Helper::Update) => {
+            add_argument(cpu, 2, parts);
+            add_argument(cpu, 3, parts);
+        }
+        Some(Helper::Trace) | None => {}
     }
 }
 

@@ -12,6 +12,7 @@ use Rattle.bpf_text.specs.Listing.{IsFaultOf, IsListing}
 use Rattle.bpf_text.specs.declared.fault.AsmFault.TheVariants as assembly
 use Rattle.bpf_machine.specs.Edits.{edited, has_cell}
 use Rattle.bpf_machine.specs.Opening as opening
+use Rattle.bpf_machine.specs.Opening.{open_fault}
 use Rattle.bpf_machine.specs.Platform.{context_limit}
 use Rattle.bpf_machine.specs.State.{State, initial}
 use Rattle.bpf_machine.specs.declared.edit.Edit.{Edit}
@@ -117,7 +118,7 @@ abbrev pub refusal_text : Refusal → List ℕ
 refusal_text (Maps fault) = text_of_refusal (codes "refused M") (map_fault fault).0 [] (map_fault fault).1
 refusal_text (Listing fault) = text_of_refusal (codes "refused A") (asm_fault fault).0 (placed (codes " at line ") (fault_line fault)) (asm_fault fault).1
 refusal_text (Load fault) = text_of_refusal (codes "refused C") (load_fault fault).0 (placed (codes " at slot ") (slot_of fault)) (load_fault fault).1
-refusal_text (Open fault) = text_of_refusal (codes "refused O") (opening.number_of fault) [] (opening.text_of fault)
+refusal_text (Open fault) = text_of_refusal (codes "refused O") (open_fault fault).0 [] (open_fault fault).1
 refusal_text (NoCell map index) = text_of_refusal (codes "refused Q") 14 (cell_place map index) (codes "no such cell or wrong length")
 
 -- The word in front of where a machine stands that still runs.

@@ -11,7 +11,7 @@ use Rattle.bpf_link.specs.declared.fault.LinkFault.TheVariants as linking
 use Rattle.bpf_link.specs.declared.sources.Source.{Source}
 use Rattle.bpf_suite.specs.Faults as suite
 use Rattle.bpf_text.specs.Faults.{asm_fault, fault_line}
-use Rattle.bpf_machine.specs.Opening as opening
+use Rattle.bpf_machine.specs.Opening.{open_fault}
 use Rattle.bpf_journal.specs.Opening as journal
 use Rattle.bpf_origin.specs.Asked as asked
 use Rattle.bpf_trace.specs.Traces.{limit_line}
@@ -114,7 +114,7 @@ abbrev pub refusal_line : JobRefusal → List ℕ
 refusal_line (Maps fault) = refusal_text (codes "refused M") (map_fault fault).0 [] (map_fault fault).1
 refusal_line (Listing fault) = refusal_text (codes "refused A") (asm_fault fault).0 (placed (codes " at line ") (fault_line fault)) (asm_fault fault).1
 refusal_line (Load fault) = refusal_text (codes "refused C") (load_fault fault).0 (placed (codes " at slot ") (slot_of fault)) (load_fault fault).1
-refusal_line (Open fault) = refusal_text (codes "refused O") (opening.number_of fault) [] (opening.text_of fault)
+refusal_line (Open fault) = refusal_text (codes "refused O") (open_fault fault).0 [] (open_fault fault).1
 refusal_line (Journal fault) = refusal_text (codes "refused J") (journal.number_of fault) [] (journal.text_of fault)
 refusal_line (Script refusal) = commands.refusal_text refusal
 refusal_line (What fault) = refusal_text (codes "refused V") (asked.number_of fault) [] (asked.text_of fault)

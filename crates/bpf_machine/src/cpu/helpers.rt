@@ -13,11 +13,23 @@ use super::step::{fault, r0};
 use crate::change::Change;
 use crate::platform::{TOKEN_BASE, TRACE_LIMIT, cell_address};
 use bpf_entries::{Fault, Status};
-use bpf_isa::{MapShape, Reg, Size};
+use bpf_isa::{Helper, MapShape, Reg, Size};
 
 impl Cpu {
+    /// What a helper does.
+    pub(super) fn help(&self, helper: Helper) -> Change
+        requires { IsStart self.now.program (self.now.pc + 1) }
+        ensures { result ≡ spec.helper self.now helper }
+    {
+        match helper {
+            Helper::Lookup => self.lookup(),
+            Helper::Update => self.update(),
+            Helper::Trace => self.trace_word(),
+        }
+    }
+
     /// Lookup: the address of the value of a key, 0 where the map has no such key.
-    pub(super) fn lookup(&self) -> Change
+    fn lookup(&self) -> Change
         requires { IsStart self.now.program (self.now.pc + 1) }
         ensures { result ≡ spec.lookup self.now }
     {
@@ -39,7 +51,7 @@ impl Cpu {
     }
 
     /// Update: a cell becomes the bytes at an address.
-    pub(super) fn update(&self) -> Change
+    fn update(&self) -> Change
         requires { IsStart self.now.program (self.now.pc + 1) }
         ensures { result ≡ spec.update self.now }
     {
@@ -85,7 +97,7 @@ impl Cpu {
     }
 
     /// Trace: a word is appended to the trace list, where there is room.
-    pub(super) fn trace_word(&self) -> Change
+    fn trace_word(&self) -> Change
         requires { IsStart self.now.program (self.now.pc + 1) }
         ensures { result ≡ spec.trace self.now }
     {
