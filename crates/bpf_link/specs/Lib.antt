@@ -15,8 +15,8 @@ pub mod MapTypes
 pub mod Links
 pub mod Laid
 pub mod Shapes
-pub mod Programs
 pub mod Refusals
 pub mod Names
 pub mod Helpers
 pub mod FieldRelocations
+pub mod Programs

@@ -1,13 +1,16 @@
 -- What is made of an object: a program with its maps.
-use Rattle.std.specs.Prelude.{◌≡◌, ◌≤◌, ℕ, ◌+◌, List, Ok, length}
+use Rattle.std.specs.Prelude.{◌≡◌, ◌⊎◌, ◌≤◌, ℕ, ◌+◌, Bool, List, Ok, length}
 use Rattle.bpf_isa.specs.Checker.{IsAccepted}
+use Rattle.bpf_link.specs.declared.fault.LinkFault.{LinkFault}
 use Rattle.bpf_link.specs.declared.linker.Linked.{Linked}
 use Rattle.bpf_link.specs.declared.linker.Program.{Program}
 use Rattle.bpf_link.specs.declared.plan.Plan.{Plan}
 use Rattle.bpf_link.specs.declared.stubs.Stub.{Stub}
+use Rattle.bpf_link.specs.FieldRelocations.{AreLeft, IsFieldsFault}
 use Rattle.bpf_link.specs.Laid.{IsLaidOut}
 use Rattle.bpf_link.specs.Links.{AllShapes, Made, least_maps, linked, maps_of, planned, program_of}
 use Rattle.bpf_link.specs.Plans.{LiesPlan}
+use Rattle.bpf_link.specs.Refusals.{IsLinkFault}
 use Rattle.bpf_link.specs.Shapes.{AreDataShapes, HasShapes}
 
 -- A program of a plan by its parts, and one with the shapes of its maps.
@@ -49,3 +52,12 @@ pub record IsLinked (object name entry : List ℕ) (stubs : List Stub) (program 
   pub laid : IsLaidOut object plan entry stubs program.words.items
   pub shapes : HasShapes object plan program.shapes.items
   pub accepted : IsAccepted program.words.items (least_maps program.maps program.data_maps.items)
+
+-- So many relocations of its fields are left undone: none unless that is asked for.
+pub record IsLinkedAs (object name entry : List ℕ) (stubs : List Stub) (as_compiled : Bool) (program : Linked) : Type 0 where
+  pub linked : IsLinked object name entry stubs program
+  pub left : AreLeft object name as_compiled program.fields
+
+-- Why an object isn't linked: there is no program, or its fields aren't to be left as compiled.
+abbrev pub IsLinkRefusal : List ℕ → List ℕ → List ℕ → List Stub → Bool → LinkFault → Type 0
+IsLinkRefusal object name entry stubs as_compiled fault = IsLinkFault object name entry stubs fault ⊎ IsFieldsFault object name as_compiled fault

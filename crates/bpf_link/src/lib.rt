@@ -24,7 +24,6 @@ mod stubs;
 mod words;
 
 pub use fault::{LinkFault, RelocationFault};
-pub use field_relocations::fields_as_compiled;
 pub use helpers::helper_name;
 pub use linker::{LinkOptions, Linked, link, link_with};
 pub use names::fault_names;

@@ -1,18 +1,19 @@
 //! The linker: from an object to the words of a program.
-ghost use Rattle.std.specs.Prelude.{◌≡◌, ◌≤◌, ◌<◌, ◌+◌, List, [], length, IfOk, IfErr, Ok};
+ghost use Rattle.std.specs.Prelude.{◌≡◌, ◌≤◌, ◌<◌, ◌+◌, List, [], length, false, IfOk, IfErr, Ok};
 ghost use Rattle.bpf_isa.specs.Checker.{IsRefused};
 ghost use Rattle.bpf_isa.specs.declared.maps.MapShape.{MapShape};
 ghost use Rattle.bpf_isa.specs.Maps.{IsShape};
 ghost use Rattle.bpf_link.specs.Data.{AreTaken, HasData};
 ghost use Rattle.bpf_link.specs.Links.{AllShapes, MemoryOr, planned, program_of, program_words, plain_maps, least_maps, data_shape, data_shapes, told_of};
 ghost use Rattle.bpf_link.specs.Plans.{LiesPlan};
-ghost use Rattle.bpf_link.specs.Programs.{HasOwnMaps, IsLinked, IsProgram, linked_of, made_of};
+ghost use Rattle.bpf_link.specs.Programs.{HasOwnMaps, IsLinked, IsLinkRefusal, IsLinkedAs, IsProgram, linked_of, made_of};
 ghost use Rattle.bpf_link.specs.Refusals.{IsLinkFault, IsShapeFault};
 ghost use Rattle.bpf_link.specs.Shapes.{HasShapes};
 
 use crate::data_sections::data_of;
 use crate::entry::entry_of;
 use crate::fault::LinkFault;
+use crate::field_relocations::fields_as_compiled;
 use crate::fields::u32_at;
 use crate::header::open;
 use crate::plan::{Plan, plan_of};
@@ -37,6 +38,9 @@ pub struct LinkOptions<'a> {
     pub entry: &'a [u8],
     /// The helpers whose calls are answered by a constant: each call is `mov r0, VALUE` instead.
     pub stubs: &'a [Stub],
+    /// Whether relocations of fields (CO-RE) may be left undone: the words then have these fields
+    /// where the headers had them with which the object was compiled.
+    pub as_compiled: bool,
 }
 
 /// The program of a plan, whose maps have no shapes yet.
@@ -75,6 +79,8 @@ pub struct Linked {
     /// size; and those of data. None where there is no BTF and the object doesn't define each of
     /// its own as an array.
     pub shapes: ArrayVec<MapShape, 16>,
+    /// How many relocations of fields are left undone.
+    pub fields: u32,
 }
 
 /// The most bytes of a section's name.
@@ -234,7 +240,7 @@ fn program_of(
     })
 }
 
-/// A program with the shapes of its maps.
+/// A program with the shapes of its maps, and no relocations of fields yet.
 fn with_shapes(
     alloc: Global,
     object: &[u8],
@@ -255,6 +261,7 @@ fn with_shapes(
             answered: program.answered,
             data_maps: program.data_maps,
             shapes,
+            fields: 0,
         }),
         Err(fault) => Err(fault),
     }
@@ -269,17 +276,42 @@ fn with_shapes(
 /// entry isn't the first slot of the section, slot 0 jumps to it; where data aren't zeros at the
 /// start, slot 0 jumps to a setup behind the code, which stores them and goes on at the entry. In
 /// both cases the code begins at slot 1. The words pass the checker, for maps that have at least
-/// one byte. Takes time in proportion to the length of the object, and to the number of stubs.
+/// one byte. Relocations of fields are done in none: where there are some, the object is refused
+/// unless it is asked for that they are left as compiled. Takes time in proportion to the length of
+/// the object, and to the number of stubs.
 pub fn link_with(
     alloc: Global,
     object: &[u8],
     options: &LinkOptions<'_>,
 ) -> Result<Linked, LinkFault>
+    ensures ok { IfOk result (IsLinkedAs object.now options.now.section.now options.now.entry.now
+        options.now.stubs.now options.now.as_compiled) }
+    ensures err { IfErr result (IsLinkRefusal object.now options.now.section.now
+        options.now.entry.now options.now.stubs.now options.now.as_compiled) }
+{
+    let linked = match link_words(alloc, object, options) {
+        Ok(linked) => linked,
+        Err(fault) => return Err(fault),
+    };
+    match fields_as_compiled(alloc, object, options.section, options.as_compiled) {
+        Ok(fields) => Ok(Linked {
+            words: linked.words,
+            maps: linked.maps,
+            data_maps: linked.data_maps,
+            answered: linked.answered,
+            shapes: linked.shapes,
+            fields,
+        }),
+        Err(fault) => Err(fault),
+    }
+}
+
+/// The program of a code section, whose relocations of fields aren't looked at.
+fn link_words(alloc: Global, object: &[u8], options: &LinkOptions<'_>) -> Result<Linked, LinkFault>
     ensures ok { IfOk result (IsLinked object.now options.now.section.now options.now.entry.now
         options.now.stubs.now) }
-    ensures err { IfErr result
-        (IsLinkFault object.now options.now.section.now options.now.entry.now
-        options.now.stubs.now) }
+    ensures err { IfErr result (IsLinkFault object.now options.now.section.now
+        options.now.entry.now options.now.stubs.now) }
 {
     let plan = match planned(object, options.section) {
         Ok(plan) => plan,
@@ -331,8 +363,8 @@ fn told_of(object: &[u8], plan: &Plan, words: &[u8], fault: LoadFault) -> LinkFa
 
 /// The program of a code section: that of `link_with`, where nothing but the section is asked for.
 pub fn link(alloc: Global, object: &[u8], section: &[u8]) -> Result<Linked, LinkFault>
-    ensures ok { IfOk result (IsLinked object.now section.now [] []) }
-    ensures err { IfErr result (IsLinkFault object.now section.now [] []) }
+    ensures ok { IfOk result (IsLinkedAs object.now section.now [] [] false) }
+    ensures err { IfErr result (IsLinkRefusal object.now section.now [] [] false) }
 {
     link_with(
         alloc,
@@ -341,6 +373,7 @@ pub fn link(alloc: Global, object: &[u8], section: &[u8]) -> Result<Linked, Link
             section,
             entry: &[],
             stubs: &[],
+            as_compiled: false,
         },
     )
 }

@@ -283,6 +283,7 @@ fn link_asked(
         section: section.as_bytes(),
         entry: entry.as_bytes(),
         stubs,
+        as_compiled: false,
     };
     link_with(alloc, object, &options)
 }

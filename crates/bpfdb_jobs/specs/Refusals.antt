@@ -8,8 +8,7 @@ use Rattle.bpf_isa.specs.Programs.{Checked}
 use Rattle.bpf_isa.specs.declared.maps.MapShape.{MapShape}
 use Rattle.bpf_text.specs.Listing.{IsFaultOf}
 use Rattle.bpf_link.specs.Names.{fault_names}
-use Rattle.bpf_link.specs.FieldRelocations.{IsFieldsFault}
-use Rattle.bpf_link.specs.Refusals.{IsLinkFault}
+use Rattle.bpf_link.specs.Programs.{IsLinkRefusal}
 use Rattle.bpf_link.specs.declared.stubs.Stub.{Stub}
 use Rattle.bpf_suite.specs.Faults as suite
 use Rattle.bpf_suite.specs.Files.{sections, tests}
@@ -65,8 +64,7 @@ RefusesListing job refusal = ⊥
 
 abbrev pub RefusesObject : Job → JobRefusal → Type 0
 RefusesObject job (Object fault name) = (name.now ≡ fault_names job.file.now (section_of job) fault) × ((stubs_of job ≡ Err fault)
-    ⊎ ((stubs : List Stub) × (stubs_of job ≡ Ok stubs) × IsLinkFault job.file.now (section_of job) (entry_of job) stubs fault)
-    ⊎ IsFieldsFault job.file.now (section_of job) job.options.as_compiled fault)
+    ⊎ ((stubs : List Stub) × (stubs_of job ≡ Ok stubs) × IsLinkRefusal job.file.now (section_of job) (entry_of job) stubs job.options.as_compiled fault))
 RefusesObject job refusal = ⊥
 
 -- No test has the name that is asked for.

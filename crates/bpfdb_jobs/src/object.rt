@@ -1,9 +1,8 @@
 //! What a job of `link` does.
 ghost use Rattle.std.specs.Prelude.{◌≡◌, ◌≤◌, ℕ, List, IfErr, IfOk, Ok, Err};
 ghost use Rattle.std.specs.Borrow.{Bor};
-ghost use Rattle.bpf_link.specs.Refusals.{IsLinkFault};
 ghost use Rattle.bpf_link.specs.Names.{fault_names};
-ghost use Rattle.bpf_link.specs.Programs.{IsLinked};
+ghost use Rattle.bpf_link.specs.Programs.{IsLinkRefusal, IsLinkedAs};
 ghost use Rattle.bpfdb_jobs.specs.Endings.{EndsPrinted, Told};
 ghost use Rattle.bpfdb_jobs.specs.Faults.{line_of};
 ghost use Rattle.bpfdb_jobs.specs.Jobs.{answered_if, entry_of, fields_if, section_of, stubs_of};
@@ -15,9 +14,7 @@ use crate::maps::tell_linked;
 use crate::refusal::JobRefusal;
 use crate::report::{give_up, told_as, write_out};
 use arrayvec::ArrayVec;
-use bpf_link::{
-    LinkFault, LinkOptions, Linked, Stub, fault_names, fields_as_compiled, link_with, stubs_in,
-};
+use bpf_link::{LinkFault, LinkOptions, Linked, Stub, fault_names, link_with, stubs_in};
 use counted_io::{Counted, WriteFault};
 use std::alloc::Global;
 use std::io::Write;
@@ -41,20 +38,14 @@ pub fn link_job<W: Write, E: Write>(
         }
     };
     let named = stubs.as_slice();
-    let linked = match linked_from(alloc, job.file, section_of(job), entry_of(job), named) {
+    let linked = match linked_from(alloc, job, named) {
         Ok(linked) => linked,
         Err(fault) => {
             return refuse(job, errors, fault);
         }
     };
-    let left = match fields_as_compiled(alloc, job.file, section_of(job), job.options.as_compiled) {
-        Ok(left) => left,
-        Err(fault) => {
-            return refuse(job, errors, fault);
-        }
-    };
     let answered = answered_if(job, linked.answered);
-    let fields = fields_if(job, left);
+    let fields = fields_if(job, linked.fields);
     match write_out(writer, linked.words.as_slice()) {
         Ok(()) => told_as(
             tell_linked(errors, linked.shapes.as_slice(), answered, fields),
@@ -76,24 +67,21 @@ fn refuse<E: Write>(job: &Job<'_>, errors: &mut Counted<E>, fault: LinkFault) ->
     give_up(errors, &JobFault::Refused(JobRefusal::Object(fault, name)))
 }
 
-/// The program of an object's code section, from an entry, with the calls of some helpers answered.
-fn linked_from(
-    alloc: Global,
-    object: &[u8],
-    section: &[u8],
-    entry: &[u8],
-    stubs: &[Stub],
-) -> Result<Linked, LinkFault>
-    ensures ok { IfOk result (IsLinked object.now section.now entry.now stubs.now) }
-    ensures err { IfErr result (IsLinkFault object.now section.now entry.now stubs.now) }
+/// The program of a job's object, with the calls of some helpers answered.
+fn linked_from(alloc: Global, job: &Job<'_>, stubs: &[Stub]) -> Result<Linked, LinkFault>
+    ensures ok { IfOk result (IsLinkedAs job.now.file.now (section_of job.now) (entry_of job.now)
+        stubs.now job.now.options.as_compiled) }
+    ensures err { IfErr result (IsLinkRefusal job.now.file.now (section_of job.now)
+        (entry_of job.now) stubs.now job.now.options.as_compiled) }
 {
     link_with(
         alloc,
-        object,
+        job.file,
         &LinkOptions {
-            section,
-            entry,
+            section: section_of(job),
+            entry: entry_of(job),
             stubs,
+            as_compiled: job.options.as_compiled,
         },
     )
 }

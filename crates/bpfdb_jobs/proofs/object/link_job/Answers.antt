@@ -1,8 +1,7 @@
 use Rattle.std.proofs.Common.{◌≡◌, ℕ, Ok, List, inl, inr, ap, refl, sym, ◌∙◌}
-use Rattle.bpf_link.specs.FieldRelocations.{AreLeft}
 use Rattle.bpf_link.specs.declared.linker.Linked.{Linked}
 use Rattle.bpf_link.specs.declared.stubs.Stub.{Stub}
-use Rattle.bpf_link.specs.Programs.{IsLinked, linked_of}
+use Rattle.bpf_link.specs.Programs.{IsLinkedAs, linked_of}
 use Rattle.bpfdb_jobs.specs.Endings.{OutLost, Refused}
 use Rattle.bpfdb_jobs.specs.Jobs.{Prints, answered_if, entry_of, fields_if, printed, section_of, stubs_of}
 use Rattle.bpfdb_jobs.specs.MapLines.{linked_told}
@@ -13,29 +12,28 @@ use Rattle.bpfdb_options.specs.declared.subcommand.Subcommand.TheVariants.{Link}
 use Rattle.bpfdb_jobs.proofs.object.link_job.Goals as goal
 
 -- what is printed of a program that was linked
-linked-prints : (job : Job) (stubs : List Stub) (program : Linked) (left : ℕ) → stubs_of job ≡ Ok stubs
-    → IsLinked job.file.now (section_of job) (entry_of job) stubs program
-    → AreLeft job.file.now (section_of job) job.options.as_compiled left
-    → Prints Link job (record (printed program.words.items) { err = linked_told program.shapes.items (answered_if job.options.stubs program.answered) (fields_if job.options.as_compiled left) })
-linked-prints job stubs program left asked made fields = (
+linked-prints : (job : Job) (stubs : List Stub) (program : Linked) → stubs_of job ≡ Ok stubs
+    → IsLinkedAs job.file.now (section_of job) (entry_of job) stubs job.options.as_compiled program
+    → Prints Link job (record (printed program.words.items) { err = linked_told program.shapes.items (answered_if job.options.stubs program.answered) (fields_if job.options.as_compiled program.fields) })
+linked-prints job stubs program asked made = (
   program.words.items,
   program.shapes.items,
   program.answered,
-  left,
+  program.fields,
   record {
-    plan = made.plan;
+    plan = made.linked.plan;
     stubs = stubs;
     asked = asked;
     made = record {
       program = linked_of program;
-      linked = made.ok;
+      linked = made.linked.ok;
       words = refl;
-      accepted = made.accepted;
+      accepted = made.linked.accepted;
     };
-    plans = made.plans;
-    shaped = made.shapes;
+    plans = made.linked.plans;
+    shaped = made.linked.shapes;
     counted = refl;
-    left = fields;
+    left = made.left;
   },
   refl,
 )
@@ -44,13 +42,11 @@ pub returns-in-Ok-write_out-clause-does : goal.returns-in-Ok-write_out-clause-do
 returns-in-Ok-write_out-clause-does g c =
     let w = rw c.in-Ok-write_out.is at (rw c.as_slice.ensures.value at c.write_out.ensures) in
     let program = c.in-Ok-linked_from.linked in
-    let left = c.in-Ok-fields_as_compiled.left in
     let asked = c.in-Ok.ensures.ok ∙ ap Ok (sym c.as_slice-named.ensures.value) in
     err-printed g.W.Write.contents g.E.Write.contents Link c.args.job.now
-    (record (printed program.words.items) { err = linked_told program.shapes.items (answered_if c.args.job.now.options.stubs program.answered) (fields_if c.args.job.now.options.as_compiled left) })
+    (record (printed program.words.items) { err = linked_told program.shapes.items (answered_if c.args.job.now.options.stubs program.answered) (fields_if c.args.job.now.options.as_compiled program.fields) })
     c.args.writer.now c.write_out.new.writer c.args.errors.now c.tell_linked.new.errors c.tell_linked.result c.told_as.result
-    (linked-prints c.args.job.now c.as_slice-named.result.now program left asked (rw c.entry_of.ensures at (rw c.section_of.ensures at c.in-Ok-linked_from.ensures.ok))
-    (rw c.section_of-2.ensures at c.in-Ok-fields_as_compiled.ensures.ok))
+    (linked-prints c.args.job.now c.as_slice-named.result.now program asked c.in-Ok-linked_from.ensures.ok)
     (w.ok, w.same) (rw (c.as_slice-in-Ok-write_out.ensures.value, c.answered_if-answered.ensures, c.fields_if-fields.ensures) at c.tell_linked.ensures.ok)
     (rw (c.as_slice-in-Ok-write_out.ensures.value, c.answered_if-answered.ensures, c.fields_if-fields.ensures) at c.tell_linked.ensures.err)
     c.told_as.ensures.ok c.told_as.ensures.err
@@ -64,22 +60,14 @@ pub returns-in-Err-linked_from-clause-does : goal.returns-in-Err-linked_from-cla
 returns-in-Err-linked_from-clause-does g c =
     let asked = c.in-Ok.ensures.ok ∙ ap Ok (sym c.as_slice-named.ensures.value) in
     let told = c.refuse-in-Err-linked_from.ensures.told in
-    Refused (Object c.in-Err-linked_from.fault told.0) (told.1, inr (inl (c.as_slice-named.result.now, asked, rw c.entry_of.ensures at (rw c.section_of.ensures at c.in-Err-linked_from.ensures.err)))) refl
+    Refused (Object c.in-Err-linked_from.fault told.0) (told.1, inr (c.as_slice-named.result.now, asked, c.in-Err-linked_from.ensures.err)) refl
     told.2 c.refuse-in-Err-linked_from.ensures.value
 
 pub returns-clause-does : goal.returns-clause-does
 returns-clause-does g c =
     let w = rw c.in-Err-write_out.is at (rw c.as_slice.ensures.value at c.write_out.ensures) in
     let program = c.in-Ok-linked_from.linked in
-    let left = c.in-Ok-fields_as_compiled.left in
     let asked = c.in-Ok.ensures.ok ∙ ap Ok (sym c.as_slice-named.ensures.value) in
-    OutLost (record (printed program.words.items) { err = linked_told program.shapes.items (answered_if c.args.job.now.options.stubs program.answered) (fields_if c.args.job.now.options.as_compiled left) })
-    (linked-prints c.args.job.now c.as_slice-named.result.now program left asked (rw c.entry_of.ensures at (rw c.section_of.ensures at c.in-Ok-linked_from.ensures.ok))
-    (rw c.section_of-2.ensures at c.in-Ok-fields_as_compiled.ensures.ok))
+    OutLost (record (printed program.words.items) { err = linked_told program.shapes.items (answered_if c.args.job.now.options.stubs program.answered) (fields_if c.args.job.now.options.as_compiled program.fields) })
+    (linked-prints c.args.job.now c.as_slice-named.result.now program asked c.in-Ok-linked_from.ensures.ok)
     (w.err, w.fault) c.give_up.ensures.told c.give_up.ensures.value
-
-pub returns-in-Err-fields_as_compiled-clause-does : goal.returns-in-Err-fields_as_compiled-clause-does
-returns-in-Err-fields_as_compiled-clause-does g c =
-    let told = c.refuse-in-Err-fields_as_compiled.ensures.told in
-    Refused (Object c.in-Err-fields_as_compiled.fault told.0) (told.1, inr (inr (rw c.section_of-2.ensures at c.in-Err-fields_as_compiled.ensures.err))) refl
-    told.2 c.refuse-in-Err-fields_as_compiled.ensures.value

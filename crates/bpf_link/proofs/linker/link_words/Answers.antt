@@ -2,7 +2,7 @@ use Rattle.std.proofs.Common.{◌∙◌, inl, inr, length, sym, ap, subst}
 use Rattle.bpf_isa.specs.Checker.{IsRefused}
 use Rattle.bpf_link.specs.Plans.{after}
 use Rattle.bpf_link.specs.Links.{program_of, least_maps, told_of}
-use Rattle.bpf_link.proofs.linker.link_with.Goals as goal
+use Rattle.bpf_link.proofs.linker.link_words.Goals as goal
 
 pub told_of-requires : goal.told_of-requires
 told_of-requires c = record {
