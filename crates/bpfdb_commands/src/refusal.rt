@@ -2,6 +2,7 @@
 ghost use Rattle.std.specs.Prelude.{◌≡◌};
 ghost use Rattle.bpfdb_commands.specs.Refusals.{refusal_row};
 
+use bpf_isa::LoadFault;
 use thiserror::Error;
 
 /// Why a command line is refused. A refused line changes nothing.
@@ -43,49 +44,41 @@ pub enum Refusal {
 }
 
 impl Refusal {
+    /// Its number, and its text.
+    fn row(self) -> (u8, &'static str)
+        ensures number { result.0 ≡ (refusal_row self).0 }
+        ensures text { result.1.now ≡ (refusal_row self).1 }
+    {
+        match self {
+            Refusal::UnknownCommand => (1, "unknown command"),
+            Refusal::WrongArgument => (2, "wrong argument"),
+            Refusal::MachineEnded => (3, "the machine has ended"),
+            Refusal::NoKeptStep => (4, "no kept step"),
+            Refusal::FewerCommands => (5, "fewer kept commands"),
+            Refusal::AddressNotPresent => (6, "address not present"),
+            Refusal::RegisterNotWritable => (7, "register not writable"),
+            Refusal::NoStart => (8, "no instruction starts there"),
+            Refusal::OutermostFrame => (9, "outermost frame"),
+            Refusal::TableFull => (10, "table is full"),
+            Refusal::ThereOrNot => (11, "not there or already there"),
+            Refusal::LineTooLong => (12, "line too long"),
+            Refusal::NothingToRedo => (13, "nothing to redo"),
+            Refusal::NoCell => (14, "no such cell or wrong length"),
+            Refusal::OutOfMemory => (15, LoadFault::Memory.text()),
+        }
+    }
+
     /// The number that is printed after `Q`.
     pub fn number(self) -> u8
         ensures { result ≡ (refusal_row self).0 }
     {
-        match self {
-            Refusal::UnknownCommand => 1,
-            Refusal::WrongArgument => 2,
-            Refusal::MachineEnded => 3,
-            Refusal::NoKeptStep => 4,
-            Refusal::FewerCommands => 5,
-            Refusal::AddressNotPresent => 6,
-            Refusal::RegisterNotWritable => 7,
-            Refusal::NoStart => 8,
-            Refusal::OutermostFrame => 9,
-            Refusal::TableFull => 10,
-            Refusal::ThereOrNot => 11,
-            Refusal::LineTooLong => 12,
-            Refusal::NothingToRedo => 13,
-            Refusal::NoCell => 14,
-            Refusal::OutOfMemory => 15,
-        }
+        self.row().0
     }
 
     /// The text that is printed after the number.
     pub fn text(self) -> &'static str
         ensures { result.now ≡ (refusal_row self).1 }
     {
-        match self {
-            Refusal::UnknownCommand => "unknown command",
-            Refusal::WrongArgument => "wrong argument",
-            Refusal::MachineEnded => "the machine has ended",
-            Refusal::NoKeptStep => "no kept step",
-            Refusal::FewerCommands => "fewer kept commands",
-            Refusal::AddressNotPresent => "address not present",
-            Refusal::RegisterNotWritable => "register not writable",
-            Refusal::NoStart => "no instruction starts there",
-            Refusal::OutermostFrame => "outermost frame",
-            Refusal::TableFull => "table is full",
-            Refusal::ThereOrNot => "not there or already there",
-            Refusal::LineTooLong => "line too long",
-            Refusal::NothingToRedo => "nothing to redo",
-            Refusal::NoCell => "no such cell or wrong length",
-            Refusal::OutOfMemory => "out of memory",
-        }
+        self.row().1
     }
 }
