@@ -71,119 +71,127 @@ pub enum MapFault {
 impl WordFault {
     ghost use Rattle.bpf_isa.specs.Faults.{word_fault};
 
+    /// Its number, and its text.
+    fn row(self) -> (u8, &'static str)
+        ensures number { result.0 ≡ (word_fault self).0 }
+        ensures text { result.1.now ≡ (word_fault self).1 }
+    {
+        match self {
+            WordFault::UnknownInstruction => (4, "unknown instruction"),
+            WordFault::RegisterAboveTen => (5, "register above 10"),
+            WordFault::UnusedField => (6, "unused field is not zero"),
+            WordFault::CutOff => (9, "wide instruction cut off"),
+        }
+    }
+
     /// The number that is printed after C.
     pub fn number(self) -> u8
         ensures { result ≡ (word_fault self).0 }
     {
-        match self {
-            WordFault::UnknownInstruction => 4,
-            WordFault::RegisterAboveTen => 5,
-            WordFault::UnusedField => 6,
-            WordFault::CutOff => 9,
-        }
+        self.row().0
     }
 
     /// The text that is printed after the number.
     pub fn text(self) -> &'static str
         ensures { result.now ≡ (word_fault self).1 }
     {
-        match self {
-            WordFault::UnknownInstruction => "unknown instruction",
-            WordFault::RegisterAboveTen => "register above 10",
-            WordFault::UnusedField => "unused field is not zero",
-            WordFault::CutOff => "wide instruction cut off",
-        }
+        self.row().1
     }
 }
 
 impl PieceFault {
     ghost use Rattle.bpf_isa.specs.Faults.{piece_fault};
 
+    /// Its number, and its text.
+    fn row(self) -> (u8, &'static str)
+        ensures number { result.0 ≡ (piece_fault self).0 }
+        ensures text { result.1.now ≡ (piece_fault self).1 }
+    {
+        match self {
+            PieceFault::Word(fault) => fault.row(),
+            PieceFault::WritesFramePointer => (7, "write to r10"),
+            PieceFault::NoTarget => (8, "target is no instruction"),
+            PieceFault::RunsOff => (10, "program runs off its end"),
+            PieceFault::UnknownHelper => (11, "unknown helper"),
+            PieceFault::NoMap => (12, "no such map or offset"),
+        }
+    }
+
     /// The number that is printed after C.
     pub fn number(self) -> u8
         ensures { result ≡ (piece_fault self).0 }
     {
-        match self {
-            PieceFault::Word(fault) => fault.number(),
-            PieceFault::WritesFramePointer => 7,
-            PieceFault::NoTarget => 8,
-            PieceFault::RunsOff => 10,
-            PieceFault::UnknownHelper => 11,
-            PieceFault::NoMap => 12,
-        }
+        self.row().0
     }
 
     /// The text that is printed after the number.
     pub fn text(self) -> &'static str
         ensures { result.now ≡ (piece_fault self).1 }
     {
-        match self {
-            PieceFault::Word(fault) => fault.text(),
-            PieceFault::WritesFramePointer => "write to r10",
-            PieceFault::NoTarget => "target is no instruction",
-            PieceFault::RunsOff => "program runs off its end",
-            PieceFault::UnknownHelper => "unknown helper",
-            PieceFault::NoMap => "no such map or offset",
-        }
+        self.row().1
     }
 }
 
 impl LoadFault {
     ghost use Rattle.bpf_isa.specs.Faults.{load_fault};
 
+    /// Its number, and its text.
+    fn row(self) -> (u8, &'static str)
+        ensures number { result.0 ≡ (load_fault self).0 }
+        ensures text { result.1.now ≡ (load_fault self).1 }
+    {
+        match self {
+            LoadFault::Empty => (1, "empty program"),
+            LoadFault::TooLong => (2, "program too long"),
+            LoadFault::Ragged => (3, "length is no multiple of 8"),
+            LoadFault::At { fault, .. } => fault.row(),
+            LoadFault::Memory => (13, "out of memory"),
+        }
+    }
+
     /// The number that is printed after C.
     pub fn number(self) -> u8
         ensures { result ≡ (load_fault self).0 }
     {
-        match self {
-            LoadFault::Empty => 1,
-            LoadFault::TooLong => 2,
-            LoadFault::Ragged => 3,
-            LoadFault::At { fault, .. } => fault.number(),
-            LoadFault::Memory => 13,
-        }
+        self.row().0
     }
 
     /// The text that is printed after the number.
     pub fn text(self) -> &'static str
         ensures { result.now ≡ (load_fault self).1 }
     {
-        match self {
-            LoadFault::Empty => "empty program",
-            LoadFault::TooLong => "program too long",
-            LoadFault::Ragged => "length is no multiple of 8",
-            LoadFault::At { fault, .. } => fault.text(),
-            LoadFault::Memory => "out of memory",
-        }
+        self.row().1
     }
 }
 
 impl MapFault {
     ghost use Rattle.bpf_isa.specs.Faults.{map_fault};
 
+    /// Its number, and its text.
+    fn row(self) -> (u8, &'static str)
+        ensures number { result.0 ≡ (map_fault self).0 }
+        ensures text { result.1.now ≡ (map_fault self).1 }
+    {
+        match self {
+            MapFault::ValueSize => (1, "value size not 1 to 256"),
+            MapFault::Entries => (2, "entries not 1 to 4096"),
+            MapFault::Total => (3, "map larger than 65536 bytes"),
+            MapFault::Full => (4, "more than 16 maps"),
+            MapFault::Malformed => (5, "malformed map list"),
+        }
+    }
+
     /// The number that is printed after M.
     pub fn number(self) -> u8
         ensures { result ≡ (map_fault self).0 }
     {
-        match self {
-            MapFault::ValueSize => 1,
-            MapFault::Entries => 2,
-            MapFault::Total => 3,
-            MapFault::Full => 4,
-            MapFault::Malformed => 5,
-        }
+        self.row().0
     }
 
     /// The text that is printed after the number.
     pub fn text(self) -> &'static str
         ensures { result.now ≡ (map_fault self).1 }
     {
-        match self {
-            MapFault::ValueSize => "value size not 1 to 256",
-            MapFault::Entries => "entries not 1 to 4096",
-            MapFault::Total => "map larger than 65536 bytes",
-            MapFault::Full => "more than 16 maps",
-            MapFault::Malformed => "malformed map list",
-        }
+        self.row().1
     }
 }

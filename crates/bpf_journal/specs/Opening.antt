@@ -5,13 +5,9 @@ use Rattle.bpf_journal.specs.declared.fault.JournalFault.{JournalFault}
 use Rattle.bpf_journal.specs.declared.fault.JournalFault.TheVariants.{SizeOutOfRange, OutOfMemory}
 
 -- A fault's number and text.
-abbrev pub number_of : JournalFault → ℕ
-number_of SizeOutOfRange = 1
-number_of OutOfMemory = 2
-
-abbrev pub text_of : JournalFault → List ℕ
-text_of SizeOutOfRange = codes "journal size out of range"
-text_of OutOfMemory = codes "out of memory"
+abbrev pub journal_fault : JournalFault → ℕ × List ℕ
+journal_fault SizeOutOfRange = (1, codes "journal size out of range")
+journal_fault OutOfMemory = (2, codes "out of memory")
 
 -- Why no journal of this size can be opened: the size is none, or there is no memory for it.
 abbrev pub RefusesSize : ℕ → JournalFault → Type 0

@@ -1,7 +1,7 @@
 //! Why a journal can't be opened, and why a move is not made.
 ghost use Rattle.std.specs.Prelude.{◌≡◌};
 
-use bpf_machine::EditFault;
+use bpf_machine::{EditFault, OpenFault};
 use thiserror::Error;
 
 /// Why a journal can't be opened.
@@ -15,26 +15,31 @@ pub enum JournalFault {
 }
 
 impl JournalFault {
-    ghost use Rattle.bpf_journal.specs.Opening.{number_of, text_of};
+    ghost use Rattle.bpf_journal.specs.Opening.{journal_fault};
+
+    /// Its number, and its text.
+    fn row(&self) -> (u8, &'static str)
+        ensures number { result.0 ≡ (journal_fault self.now).0 }
+        ensures text { result.1.now ≡ (journal_fault self.now).1 }
+    {
+        match self {
+            JournalFault::SizeOutOfRange => (1, "journal size out of range"),
+            JournalFault::OutOfMemory => (2, OpenFault::OutOfMemory.text()),
+        }
+    }
 
     /// The fault's number, behind the letter J.
     pub fn number(&self) -> u8
-        ensures { result ≡ number_of self.now }
+        ensures { result ≡ (journal_fault self.now).0 }
     {
-        match self {
-            JournalFault::SizeOutOfRange => 1,
-            JournalFault::OutOfMemory => 2,
-        }
+        self.row().0
     }
 
     /// The fault's text.
     pub fn text(&self) -> &'static str
-        ensures { result.now ≡ text_of self.now }
+        ensures { result.now ≡ (journal_fault self.now).1 }
     {
-        match self {
-            JournalFault::SizeOutOfRange => "journal size out of range",
-            JournalFault::OutOfMemory => "out of memory",
-        }
+        self.row().1
     }
 }
 

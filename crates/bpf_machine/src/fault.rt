@@ -1,6 +1,7 @@
 //! Why a machine can't be opened.
 ghost use Rattle.std.specs.Prelude.{◌≡◌};
 
+use bpf_isa::LoadFault;
 use thiserror::Error;
 
 /// Why a machine or its memory can't be opened.
@@ -16,23 +17,28 @@ pub enum OpenFault {
 impl OpenFault {
     ghost use Rattle.bpf_machine.specs.Opening.{open_fault};
 
+    /// Its number, and its text.
+    fn row(&self) -> (u8, &'static str)
+        ensures number { result.0 ≡ (open_fault self.now).0 }
+        ensures text { result.1.now ≡ (open_fault self.now).1 }
+    {
+        match self {
+            OpenFault::ContextTooLong => (1, "context too long"),
+            OpenFault::OutOfMemory => (2, LoadFault::Memory.text()),
+        }
+    }
+
     /// The fault's number, behind the letter O.
     pub fn number(&self) -> u8
         ensures { result ≡ (open_fault self.now).0 }
     {
-        match self {
-            OpenFault::ContextTooLong => 1,
-            OpenFault::OutOfMemory => 2,
-        }
+        self.row().0
     }
 
     /// The fault's text.
     pub fn text(&self) -> &'static str
         ensures { result.now ≡ (open_fault self.now).1 }
     {
-        match self {
-            OpenFault::ContextTooLong => "context too long",
-            OpenFault::OutOfMemory => "out of memory",
-        }
+        self.row().1
     }
 }

@@ -64,13 +64,9 @@ abbrev pub what_in : State → List ℕ → Result What WhatFault
 what_in x text = if_there x (what_of text)
 
 -- A refusal's number and text.
-abbrev pub number_of : WhatFault → ℕ
-number_of Unknown = 1
-number_of Absent = 2
-
-abbrev pub text_of : WhatFault → List ℕ
-text_of Unknown = codes "neither r0 to r9 nor ADDRESS:COUNT"
-text_of Absent = codes "address not present"
+abbrev pub what_fault : WhatFault → ℕ × List ℕ
+what_fault Unknown = (1, codes "neither r0 to r9 nor ADDRESS:COUNT")
+what_fault Absent = (2, codes "address not present")
 
 -- The parts that it is in a state: a register of the function that runs; where nothing is named, what `asked` says.
 abbrev pub part_asked : State → What → Part

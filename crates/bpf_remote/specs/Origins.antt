@@ -8,7 +8,7 @@ use Rattle.hex.specs.Hex.{decode_of}
 use Rattle.bpf_entries.specs.Keeping.{Kept}
 use Rattle.bpf_journal.specs.Tracks.{Track}
 use Rattle.bpf_machine.specs.State.{State}
-use Rattle.bpf_origin.specs.Asked.{answer_about, number_of, parts_asked, text_of, what_in}
+use Rattle.bpf_origin.specs.Asked.{answer_about, parts_asked, what_fault, what_in}
 use Rattle.bpf_origin.specs.Pasts.{CourseStands, gone_from}
 use Rattle.bpf_origin.specs.declared.fault.WhatFault.{WhatFault}
 use Rattle.bpf_origin.specs.declared.question.Question.{Question}
@@ -47,7 +47,7 @@ question_of moves t = record { addresses = false; lines = most_lines; opening = 
 
 -- The line of a refusal.
 abbrev pub what_refusal : WhatFault → List ℕ
-what_refusal fault = codes "refused V" ++ decimal (number_of fault) ++ codes ": " ++ text_of fault ++ codes "\n"
+what_refusal fault = codes "refused V" ++ decimal (what_fault fault).0 ++ codes ": " ++ (what_fault fault).1 ++ codes "\n"
 
 -- A text is told, or that it is too long.
 abbrev pub too_long : List ℕ

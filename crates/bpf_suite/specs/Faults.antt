@@ -17,21 +17,13 @@ use Rattle.bpf_suite.specs.declared.fault.FileFault.TheVariants.{Line, Memory}
 use Rattle.bpf_suite.specs.declared.section.Section.{Section}
 
 -- Their numbers and texts.
-abbrev pub fault_number : SectionFault → ℕ
-fault_number Stray = 1
-fault_number Unknown = 2
-fault_number Twice = 3
-fault_number Malformed = 4
-fault_number NoProgram = 5
-fault_number NothingExpected = 6
-
-abbrev pub fault_text : SectionFault → List ℕ
-fault_text Stray = codes "text in front of the first section"
-fault_text Unknown = codes "unknown section"
-fault_text Twice = codes "section given twice"
-fault_text Malformed = codes "malformed section"
-fault_text NoProgram = codes "test without a program"
-fault_text NothingExpected = codes "test without an expectation"
+abbrev pub section_fault : SectionFault → ℕ × List ℕ
+section_fault Stray = (1, codes "text in front of the first section")
+section_fault Unknown = (2, codes "unknown section")
+section_fault Twice = (3, codes "section given twice")
+section_fault Malformed = (4, codes "malformed section")
+section_fault NoProgram = (5, codes "test without a program")
+section_fault NothingExpected = (6, codes "test without an expectation")
 
 -- Whether some section is a part.
 abbrev pub has_part : Part → List Section → Bool

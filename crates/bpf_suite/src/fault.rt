@@ -1,6 +1,6 @@
 //! What is wrong with a test file.
 ghost use Rattle.std.specs.Prelude.{◌≡◌};
-ghost use Rattle.bpf_suite.specs.Faults.{fault_number, fault_text};
+ghost use Rattle.bpf_suite.specs.Faults.{section_fault};
 
 /// What is wrong with a section, or in front of the sections.
 #[derive(Clone, Copy)]
@@ -29,31 +29,32 @@ pub enum FileFault {
 }
 
 impl SectionFault {
-    /// The number that is printed after T.
-    pub fn number(self) -> u8
-        ensures { result ≡ fault_number self }
+    /// Its number, and its text.
+    fn row(self) -> (u8, &'static str)
+        ensures number { result.0 ≡ (section_fault self).0 }
+        ensures text { result.1.now ≡ (section_fault self).1 }
     {
         match self {
-            SectionFault::Stray => 1,
-            SectionFault::Unknown => 2,
-            SectionFault::Twice => 3,
-            SectionFault::Malformed => 4,
-            SectionFault::NoProgram => 5,
-            SectionFault::NothingExpected => 6,
+            SectionFault::Stray => (1, "text in front of the first section"),
+            SectionFault::Unknown => (2, "unknown section"),
+            SectionFault::Twice => (3, "section given twice"),
+            SectionFault::Malformed => (4, "malformed section"),
+            SectionFault::NoProgram => (5, "test without a program"),
+            SectionFault::NothingExpected => (6, "test without an expectation"),
         }
+    }
+
+    /// The number that is printed after T.
+    pub fn number(self) -> u8
+        ensures { result ≡ (section_fault self).0 }
+    {
+        self.row().0
     }
 
     /// The text that is printed after the number.
     pub fn text(self) -> &'static str
-        ensures { result.now ≡ fault_text self }
+        ensures { result.now ≡ (section_fault self).1 }
     {
-        match self {
-            SectionFault::Stray => "text in front of the first section",
-            SectionFault::Unknown => "unknown section",
-            SectionFault::Twice => "section given twice",
-            SectionFault::Malformed => "malformed section",
-            SectionFault::NoProgram => "test without a program",
-            SectionFault::NothingExpected => "test without an expectation",
-        }
+        self.row().1
     }
 }

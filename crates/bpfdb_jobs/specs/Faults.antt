@@ -9,11 +9,11 @@ use Rattle.bpf_link.specs.Helpers.{helper_name}
 use Rattle.bpf_link.specs.declared.fault.LinkFault.{LinkFault}
 use Rattle.bpf_link.specs.declared.fault.LinkFault.TheVariants as linking
 use Rattle.bpf_link.specs.declared.sources.Source.{Source}
-use Rattle.bpf_suite.specs.Faults as suite
+use Rattle.bpf_suite.specs.Faults.{section_fault}
 use Rattle.bpf_text.specs.Faults.{asm_fault, fault_line}
 use Rattle.bpf_machine.specs.Opening.{open_fault}
-use Rattle.bpf_journal.specs.Opening as journal
-use Rattle.bpf_origin.specs.Asked as asked
+use Rattle.bpf_journal.specs.Opening.{journal_fault}
+use Rattle.bpf_origin.specs.Asked.{what_fault}
 use Rattle.bpf_trace.specs.Traces.{limit_line}
 use Rattle.bpfdb_commands.specs.Refusals as commands
 use Rattle.bpfdb_jobs.specs.declared.fault.JobFault.{JobFault}
@@ -115,12 +115,12 @@ refusal_line (Maps fault) = refusal_text (codes "refused M") (map_fault fault).0
 refusal_line (Listing fault) = refusal_text (codes "refused A") (asm_fault fault).0 (placed (codes " at line ") (fault_line fault)) (asm_fault fault).1
 refusal_line (Load fault) = refusal_text (codes "refused C") (load_fault fault).0 (placed (codes " at slot ") (slot_of fault)) (load_fault fault).1
 refusal_line (Open fault) = refusal_text (codes "refused O") (open_fault fault).0 [] (open_fault fault).1
-refusal_line (Journal fault) = refusal_text (codes "refused J") (journal.number_of fault) [] (journal.text_of fault)
+refusal_line (Journal fault) = refusal_text (codes "refused J") (journal_fault fault).0 [] (journal_fault fault).1
 refusal_line (Script refusal) = commands.refusal_text refusal
-refusal_line (What fault) = refusal_text (codes "refused V") (asked.number_of fault) [] (asked.text_of fault)
+refusal_line (What fault) = refusal_text (codes "refused V") (what_fault fault).0 [] (what_fault fault).1
 refusal_line (Object fault name) = object_line fault name.now
 refusal_line (Tests fault line) =
-    refusal_text (codes "refused T") (suite.fault_number fault) (placed (codes " at line ") (Some line)) (suite.fault_text fault)
+    refusal_text (codes "refused T") (section_fault fault).0 (placed (codes " at line ") (Some line)) (section_fault fault).1
 refusal_line (NoTest name) = no_test_line name.now
 refusal_line ManyTests = codes "refused T8: more than one test is asked for\n"
 
