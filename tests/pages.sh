@@ -238,9 +238,9 @@ options() {
 # refusals: each number and text of the crates' refusals is a row of docs/COMMANDS.md, and no other is. Of variants of one number the first counts.
 refusals() {
     # (want of memory has the text that the checker's has; a long row is one line)
-    memory=$(sed -n 's/.*LoadFault::Memory => [^"]*"\([^"]*\)".*/\1/p' crates/bpf_isa/src/fault.rt)
-    cat crates/bpf_*/src/fault.rt crates/bpfdb_commands/src/refusal.rt | sed '/=> {$/{N;s/=> {\n *\("[^"]*"\)$/=> \1,/}' |
-        sed "s/LoadFault::Memory\.text()/\"$memory\"/; /=> ($/{N;N;N;s/(\n */(/;s/\n */ /g;s/, ),/),/}" | awk -v tested="$(grep -c '^| T1 ' docs/COMMANDS.md)" '
+    memory=$(sed -n 's/.*LoadFault::Memory => ([0-9]*, "\([^"]*\)").*/\1/p' crates/bpf_isa/src/fault.rt)
+    cat crates/bpf_*/src/fault.rt crates/bpfdb_commands/src/refusal.rt |
+        sed "s/[A-Za-z]*::[A-Za-z]*Memory\.text()/\"$memory\"/; /=> ($/{N;N;N;s/(\n */(/;s/\n */ /g;s/, ),/),/}" | awk -v tested="$(grep -c '^| T1 ' docs/COMMANDS.md)" '
         BEGIN {
             letter["LoadFault"] = letter["PieceFault"] = letter["WordFault"] = "C"
             letter["LineFault"] = letter["AsmFault"] = "A"
@@ -249,14 +249,6 @@ refusals() {
             if (tested) letter["SectionFault"] = "T"
         }
         { gsub(/\(_\)/, ""); sub(/ \{ \.\. \}/, ""); gsub(/ \| [A-Za-z]+::[A-Za-z]+/, "") }
-        match($0, /[A-Za-z]+::[A-Za-z]+ => ([0-9]+|"[^"]*"),$/) {
-            split(substr($0, RSTART, RLENGTH - 1), parts, / => /)
-            split(parts[1], name, "::")
-            if (!(name[1] in letter)) next
-            if (parts[2] ~ /^"/) print letter[name[1]] number[parts[1]], substr(parts[2], 2, length(parts[2]) - 2)
-            else number[parts[1]] = parts[2]
-        }
-        # (a row of a number and a text)
         match($0, /[A-Za-z]+::[A-Za-z]+ => \([0-9]+, "[^"]*"\),$/) {
             split(substr($0, RSTART, RLENGTH - 3), parts, / => \(|, "/)
             split(parts[1], name, "::")
