@@ -58,6 +58,8 @@ pub record IsLinkedAs (object name entry : List ℕ) (stubs : List Stub) (as_com
   pub linked : IsLinked object name entry stubs program
   pub left : AreLeft object name as_compiled program.fields
 
--- Why an object isn't linked: there is no program, or its fields aren't to be left as compiled.
+-- Why an object isn't linked: there is no program, or behind that its fields aren't to be left as compiled.
 abbrev pub IsLinkRefusal : List ℕ → List ℕ → List ℕ → List Stub → Bool → LinkFault → Type 0
-IsLinkRefusal object name entry stubs as_compiled fault = IsLinkFault object name entry stubs fault ⊎ IsFieldsFault object name as_compiled fault
+IsLinkRefusal object name entry stubs as_compiled fault =
+    IsLinkFault object name entry stubs fault
+    ⊎ ((program : Linked) × IsLinked object name entry stubs program × IsFieldsFault object name as_compiled fault)
