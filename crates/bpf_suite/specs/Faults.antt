@@ -53,8 +53,8 @@ lack test =
     else if not (has_part part.Expected test) then Some NothingExpected else None
 
 -- What is wrong with a section, where these stand before it in its test, and these behind it; the shared ones stand in each test.
-abbrev pub section_fault : List Section → List Section → Section → List Section → Option SectionFault
-section_fault shared earlier section more =
+abbrev pub fault_of : List Section → List Section → Section → List Section → Option SectionFault
+fault_of shared earlier section more =
     if is_part part.Nothing section.kind then Some Unknown
     else if has_part (part_of section.kind) earlier then Some Twice
     else if not (is_well_formed section.kind section.body) then Some Malformed
@@ -77,7 +77,7 @@ in_line line (Some fault) = Some (Line fault line)
 -- The fault of the first of these sections, where these stand before it in its test.
 abbrev pub fault_at : List Section → List Section → List Section → Option FileFault
 fault_at shared earlier [] = None
-fault_at shared earlier (section ∷ more) = in_line section.line (section_fault shared earlier section more)
+fault_at shared earlier (section ∷ more) = in_line section.line (fault_of shared earlier section more)
 
 -- The first fault of sections, where these stand before them in their test.
 abbrev pub first_fault : List Section → List Section → List Section → Option FileFault

@@ -1,7 +1,7 @@
 //! A test file without a fault.
 ghost use Rattle.std.specs.Prelude.{◌≡◌, ◌≤◌, ◌<◌, ◌∷◌, ◌++◌, drop, List, None, IfErr, IfOk, OnOk, get_or, is_some, length, slice_range, []};
 ghost use Rattle.bpf_suite.specs.Bodies.{bytes_of, is_pattern, solid};
-ghost use Rattle.bpf_suite.specs.Faults.{IsFaultOf, alone_fault, fault_at, file_fault, first_fault, is_well_formed, same_test, section_fault, sections_fault};
+ghost use Rattle.bpf_suite.specs.Faults.{IsFaultOf, alone_fault, fault_at, fault_of, file_fault, first_fault, is_well_formed, same_test, sections_fault};
 ghost use Rattle.bpf_suite.specs.Files.{begins_name, named, own_of, sections, tests, until_name};
 ghost use Rattle.bpf_suite.specs.declared.section.Section.{Section};
 
@@ -218,7 +218,7 @@ fn section_fault(
     more: &[Section<'_>],
 ) -> Result<Option<SectionFault>, AllocError>
     ensures { IfOk result (λ fault.
-        fault ≡ section_fault shared.now earlier.now section.now more.now) }
+        fault ≡ fault_of shared.now earlier.now section.now more.now) }
 {
     if section.kind.is(Part::Nothing) {
         return Ok(Some(SectionFault::Unknown));
