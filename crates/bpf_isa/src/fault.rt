@@ -1,11 +1,11 @@
 //! Faults: why bytes are no word, a map table or a program is refused.
 ghost use Rattle.std.specs.Prelude.{◌≡◌};
 
+use std::fmt::{self, Display, Formatter, Write};
 use thiserror::Error;
 
 /// Why bytes are no word.
 #[derive(Clone, Copy, Debug, Error)]
-#[error("refused C{}: {}", self.number(), self.text())]
 pub enum WordFault {
     /// No row of the tables has this opcode with these codes.
     UnknownInstruction,
@@ -19,7 +19,6 @@ pub enum WordFault {
 
 /// Why the piece at a slot is refused.
 #[derive(Clone, Copy, Debug, Error)]
-#[error("refused C{}: {}", self.number(), self.text())]
 pub enum PieceFault {
     /// Its bytes are no word.
     Word(WordFault),
@@ -37,7 +36,6 @@ pub enum PieceFault {
 
 /// Why bytes are no program.
 #[derive(Clone, Copy, Debug, Error)]
-#[error("refused C{}: {}", self.number(), self.text())]
 pub enum LoadFault {
     /// There are no bytes.
     Empty,
@@ -46,7 +44,6 @@ pub enum LoadFault {
     /// The length is no multiple of 8.
     Ragged,
     /// The lowest slot with a fault, and its fault with the least number.
-    #[error("refused C{} at slot {slot}: {}", fault.number(), fault.text())]
     At { slot: usize, fault: PieceFault },
     /// Memory ran out.
     Memory,
@@ -54,7 +51,6 @@ pub enum LoadFault {
 
 /// Why a map, or a list of maps, is refused.
 #[derive(Clone, Copy, Debug, Error)]
-#[error("refused M{}: {}", self.number(), self.text())]
 pub enum MapFault {
     /// A value isn't 1 to 256 bytes.
     ValueSize,
@@ -193,5 +189,39 @@ impl MapFault {
         ensures { result.now ≡ (map_fault self).1 }
     {
         self.row().1
+    }
+}
+
+impl Display for WordFault {
+    fn fmt<W: Write>(&self, f: &mut Formatter<W>) -> fmt::Result {
+        write!(f, "refused C{}: {}", self.number(), self.text())
+    }
+}
+
+impl Display for PieceFault {
+    fn fmt<W: Write>(&self, f: &mut Formatter<W>) -> fmt::Result {
+        write!(f, "refused C{}: {}", self.number(), self.text())
+    }
+}
+
+impl Display for LoadFault {
+    fn fmt<W: Write>(&self, f: &mut Formatter<W>) -> fmt::Result {
+        match *self {
+            LoadFault::At { slot, fault } => {
+                write!(
+                    f,
+                    "refused C{} at slot {slot}: {}",
+                    fault.number(),
+                    fault.text()
+                )
+            }
+            _ => write!(f, "refused C{}: {}", self.number(), self.text()),
+        }
+    }
+}
+
+impl Display for MapFault {
+    fn fmt<W: Write>(&self, f: &mut Formatter<W>) -> fmt::Result {
+        write!(f, "refused M{}: {}", self.number(), self.text())
     }
 }
