@@ -4,11 +4,11 @@ ghost use Rattle.bpf_btf.specs.Faults.{btf_fault};
 
 use crate::map_kinds::kind_text;
 use bpf_isa::{LoadFault, MapFault};
+use std::fmt::{self, Display, Formatter, Write};
 use thiserror::Error;
 
 /// Why a map has no shape, or why BTF isn't read.
 #[derive(Clone, Copy, Debug, Error)]
-#[error("refused E{}: {}", self.number(), self.text())]
 pub enum BtfFault {
     /// The bytes don't begin as BTF does.
     NoBtf,
@@ -86,5 +86,11 @@ impl BtfFault {
         ensures { result.now ≡ (btf_fault self).1 }
     {
         self.row().1
+    }
+}
+
+impl Display for BtfFault {
+    fn fmt<W: Write>(&self, f: &mut Formatter<W>) -> fmt::Result {
+        write!(f, "refused E{}: {}", self.number(), self.text())
     }
 }
