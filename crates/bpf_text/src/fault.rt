@@ -3,6 +3,7 @@ ghost use Rattle.std.specs.Prelude.{◌≡◌};
 ghost use Rattle.bpf_text.specs.Faults.{asm_fault, fault_line, line_fault};
 
 use bpf_isa::LoadFault;
+use std::fmt::{self, Display, Formatter, Write};
 use thiserror::Error;
 
 /// What is wrong with a line of a listing.
@@ -29,10 +30,8 @@ pub enum LineFault {
 
 /// Why a listing isn't assembled.
 #[derive(Clone, Copy, Debug, Error)]
-#[error("refused A{}: {}", self.number(), self.text())]
 pub enum AsmFault {
     /// The first fault, and its line, counted from 1.
-    #[error("refused A{} at line {}: {}", self.number(), .1, self.text())]
     Line(LineFault, usize),
     /// A7: out of memory.
     Memory,
@@ -89,6 +88,22 @@ impl AsmFault {
         match *self {
             AsmFault::Line(_, line) => Some(line),
             AsmFault::Memory => None,
+        }
+    }
+}
+
+impl Display for AsmFault {
+    fn fmt<W: Write>(&self, f: &mut Formatter<W>) -> fmt::Result {
+        match *self {
+            AsmFault::Line(_, line) => {
+                write!(
+                    f,
+                    "refused A{} at line {line}: {}",
+                    self.number(),
+                    self.text()
+                )
+            }
+            AsmFault::Memory => write!(f, "refused A{}: {}", self.number(), self.text()),
         }
     }
 }
