@@ -2,11 +2,11 @@
 ghost use Rattle.std.specs.Prelude.{◌≡◌};
 
 use bpf_isa::LoadFault;
+use std::fmt::{self, Display, Formatter, Write};
 use thiserror::Error;
 
 /// Why a machine or its memory can't be opened.
 #[derive(Clone, Copy, Debug, Error)]
-#[error("refused O{}: {}", self.number(), self.text())]
 pub enum OpenFault {
     /// The context is longer than 65,536 bytes.
     ContextTooLong,
@@ -40,5 +40,11 @@ impl OpenFault {
         ensures { result.now ≡ (open_fault self.now).1 }
     {
         self.row().1
+    }
+}
+
+impl Display for OpenFault {
+    fn fmt<W: Write>(&self, f: &mut Formatter<W>) -> fmt::Result {
+        write!(f, "refused O{}: {}", self.number(), self.text())
     }
 }
