@@ -2,11 +2,11 @@
 ghost use Rattle.std.specs.Prelude.{◌≡◌};
 
 use bpf_machine::{EditFault, OpenFault};
+use std::fmt::{self, Display, Formatter, Write};
 use thiserror::Error;
 
 /// Why a journal can't be opened.
 #[derive(Clone, Copy, Debug, Error)]
-#[error("refused J{}: {}", self.number(), self.text())]
 pub enum JournalFault {
     /// Its size is not 1,024 to 16,777,216 bytes.
     SizeOutOfRange,
@@ -40,6 +40,12 @@ impl JournalFault {
         ensures { result.now ≡ (journal_fault self.now).1 }
     {
         self.row().1
+    }
+}
+
+impl Display for JournalFault {
+    fn fmt<W: Write>(&self, f: &mut Formatter<W>) -> fmt::Result {
+        write!(f, "refused J{}: {}", self.number(), self.text())
     }
 }
 
