@@ -3,11 +3,11 @@ ghost use Rattle.std.specs.Prelude.{◌≡◌};
 ghost use Rattle.bpfdb_commands.specs.Refusals.{refusal_row};
 
 use bpf_isa::LoadFault;
+use std::fmt::{self, Display, Formatter, Write};
 use thiserror::Error;
 
 /// Why a command line is refused. A refused line changes nothing.
 #[derive(Clone, Copy, Debug, Error)]
-#[error("refused Q{}: {}", self.number(), self.text())]
 pub enum Refusal {
     /// Q1: no command has this name.
     UnknownCommand,
@@ -80,5 +80,11 @@ impl Refusal {
         ensures { result.now ≡ (refusal_row self).1 }
     {
         self.row().1
+    }
+}
+
+impl Display for Refusal {
+    fn fmt<W: Write>(&self, f: &mut Formatter<W>) -> fmt::Result {
+        write!(f, "refused Q{}: {}", self.number(), self.text())
     }
 }
