@@ -1,7 +1,7 @@
 //! The mnemonics of loads, stores, atomic operations and wide loads (RFC 9669, section 5).
-ghost use Rattle.std.specs.Prelude.{◌≡◌, ◌%◌, IfSome};
+ghost use Rattle.std.specs.Prelude.{◌≡◌, ◌%◌, IfSome, Some};
 ghost use Rattle.bpf_isa.specs.Words.{HasCodes};
-ghost use Rattle.bpf_isa.specs.Memory.{atomic_opcode};
+ghost use Rattle.bpf_isa.specs.Memory.{atomic_code, atomic_opcode};
 ghost use Rattle.bpf_isa.specs.Scaffolding.Codec.{row, IsOnly, store_class_of};
 
 use crate::fields::Fields;
@@ -62,25 +62,35 @@ pub fn store_mnemonic(fields: Fields, form: SourceKind) -> Option<Mnemonic>
     Some(Mnemonic::Store(size, form))
 }
 
-/// The atomic operation that imm names.
+/// The mnemonic of the atomic operation that imm names.
 fn atomic_mnemonic(fields: Fields, width: Width) -> Option<Mnemonic>
     requires { fields.opcode ≡ atomic_opcode width }
     ensures found { IfSome result (λ mnemonic. (kind : SourceKind) →
         HasCodes (row mnemonic kind) fields) }
     ensures only { IsOnly fields result }
 {
-    let op = match fields.imm {
-        0x00 => AtomicOp::Add,
-        0x40 => AtomicOp::Or,
-        0x50 => AtomicOp::And,
-        0xa0 => AtomicOp::Xor,
-        0x01 => AtomicOp::FetchAdd,
-        0x41 => AtomicOp::FetchOr,
-        0x51 => AtomicOp::FetchAnd,
-        0xa1 => AtomicOp::FetchXor,
-        0xe1 => AtomicOp::Exchange,
-        0xf1 => AtomicOp::CompareExchange,
-        _ => return None,
-    };
-    Some(Mnemonic::Atomic(op, width))
+    match atomic_op(fields.imm) {
+        Some(op) => Some(Mnemonic::Atomic(op, width)),
+        None => None,
+    }
+}
+
+/// The atomic operation with this code.
+fn atomic_op(imm: u32) -> Option<AtomicOp>
+    ensures found { IfSome result (λ op. imm ≡ atomic_code op) }
+    ensures only { (op : AtomicOp) → imm ≡ atomic_code op → result ≡ Some op }
+{
+    match imm {
+        0x00 => Some(AtomicOp::Add),
+        0x40 => Some(AtomicOp::Or),
+        0x50 => Some(AtomicOp::And),
+        0xa0 => Some(AtomicOp::Xor),
+        0x01 => Some(AtomicOp::FetchAdd),
+        0x41 => Some(AtomicOp::FetchOr),
+        0x51 => Some(AtomicOp::FetchAnd),
+        0xa1 => Some(AtomicOp::FetchXor),
+        0xe1 => Some(AtomicOp::Exchange),
+        0xf1 => Some(AtomicOp::CompareExchange),
+        _ => None,
+    }
 }

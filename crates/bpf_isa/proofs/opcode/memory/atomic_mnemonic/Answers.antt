@@ -14,5 +14,14 @@ use Rattle.bpf_isa.proofs.opcode.memory.atomic_mnemonic.Goals as goal
 is_atomic : (mnemonic : Mnemonic) (kind : SourceKind) (fields : Fields) (width : Width) → fields.opcode ≡ atomic_opcode width → HasCodes (row mnemonic kind) fields → (op : AtomicOp) × (mnemonic ≡ Atomic op width) × (fields.imm ≡ atomic_code op)
 is_atomic mnemonic kind fields width opcode codes = grind arith
 
-pub returns-in_default-clause-only : goal.returns-in_default-clause-only
-returns-in_default-clause-only c = λ mnemonic kind codes. let known = is_atomic mnemonic kind _ _ c.requires codes in let same : c.args.fields.imm ≡ atomic_code known.0 = known.2 in absurd (grind (arith, same))
+pub returns-in-None-clause-only : goal.returns-in-None-clause-only
+returns-in-None-clause-only c = λ mnemonic kind codes.
+    let known = is_atomic mnemonic kind _ _ c.requires codes in
+    let only = c.atomic_op.ensures.only known.0 known.2 in
+    cc only
+
+pub returns-in-Some-clause-only : goal.returns-in-Some-clause-only
+returns-in-Some-clause-only c = λ mnemonic kind codes.
+    let known = is_atomic mnemonic kind _ _ c.requires codes in
+    let only = c.atomic_op.ensures.only known.0 known.2 in
+    cc (known.1, only)
