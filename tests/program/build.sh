@@ -55,7 +55,7 @@ same 'make run: what is proved' wanted/order found/order
 
 # The second time there is nothing to do, also where a crate of tests has changed; a source that changed is proved.
 sleep 0.1
-touch copy/crates/bpf_isa_tests/src/lib.rt
+touch copy/crates/bpf_base_tests/src/lib.rt
 build '' 0
 : > wanted/out
 compare 'make run, the second time'

@@ -1,7 +1,7 @@
 //! Machines that aren't opened, and the longest context. Expected values are those of
 //! docs/MACHINE.md.
-use crate::machines::{EXIT, machine, program};
-use crate::rows::{check_number, check_text, stop_unless};
+use crate::machine::machines::{EXIT, machine, program};
+use crate::stops::{check_number, check_text, stop_unless};
 use bpf_isa::MapTable;
 use bpf_machine::{Cpu, EditFault, Ended, Memory, OpenFault};
 use std::alloc::{AllocError, Global};
@@ -43,7 +43,7 @@ fn the_longest_context(rt: HostRuntime) {
 /// Stops unless a fault is printed so.
 fn check_fault(rt: &impl Abort, text: Result<String, AllocError>, want: &str) {
     let text = text.expect(rt, "no memory");
-    check_text(rt, text.as_str(), want);
+    check_text(rt, text.as_str(), want, want);
 }
 
 #[test]

@@ -1,5 +1,6 @@
 //! Entries and what they weigh in a journal. Expected values are those of docs/MACHINE.md.
-use crate::rows::{check_number, parts, stop_unless, two};
+use crate::machine::rows::{parts, two};
+use crate::stops::{check_number, stop_unless};
 use bpf_isa::Reg;
 use bpf_machine::{ByteString, Entry, FrameBytes, Status};
 use std::process::Abort;

@@ -1,6 +1,7 @@
 //! The other ways to step. Expected values were worked out from RFC 9669 and docs/MACHINE.md.
-use crate::machines::{has_exited, is_at, machine, register};
-use crate::rows::{number, stop_unless};
+use crate::machine::machines::{has_exited, is_at, machine, register};
+use crate::machine::rows::number;
+use crate::stops::stop_unless;
 use bpf_machine::{Cpu, Ended};
 use std::alloc::Global;
 use std::process::Abort;

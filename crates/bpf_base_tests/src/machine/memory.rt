@@ -1,6 +1,6 @@
 //! What a memory lends, strings of bytes, and the laws of a machine.
-use crate::machines::{is_at, is_running, machine};
-use crate::rows::{check_number, check_text, stop_unless};
+use crate::machine::machines::{is_at, is_running, machine};
+use crate::stops::{check_number, check_text, stop_unless};
 use bpf_isa::MapTable;
 use bpf_machine::{ByteString, Memory, laws};
 use std::alloc::Global;
@@ -9,7 +9,7 @@ use std::process::Abort;
 /// Stops unless these bytes are those of a text.
 fn check_bytes(rt: &impl Abort, alloc: Global, bytes: &[u8], expected: &str) {
     let found = hex::encode(alloc, bytes).ok().expect(rt, "no memory");
-    check_text(rt, found.as_str(), expected);
+    check_text(rt, found.as_str(), expected, expected);
 }
 
 /// Stops unless a memory lends these two bytes of the context.

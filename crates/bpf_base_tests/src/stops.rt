@@ -18,6 +18,11 @@ pub fn check_text(rt: &impl Abort, found: &str, wanted: &str, row: &str) {
     assert_eq!(rt; found, wanted, "{row}");
 }
 
+/// Stops unless a number is the one that is wanted.
+pub fn check_number(rt: &impl Abort, found: u64, wanted: u64) {
+    assert_eq!(rt; found, wanted);
+}
+
 /// Stops unless something holds.
 pub fn stop_unless(rt: &impl Abort, holds: bool, what: &str) {
     assert!(rt; holds, "{what}");

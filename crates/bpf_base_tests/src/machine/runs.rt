@@ -1,7 +1,8 @@
 //! Long runs of bytes: whether they are present, and whether the program may access them. Expected
 //! values are those of docs/MACHINE.md.
-use crate::machines::{EXIT, machine};
-use crate::rows::{check_number, parts, stop_unless, two};
+use crate::machine::machines::{EXIT, machine};
+use crate::machine::rows::{parts, two};
+use crate::stops::{check_number, stop_unless};
 use bpf_machine::Cpu;
 use std::alloc::Global;
 use std::process::Abort;

@@ -1,8 +1,8 @@
 //! Shapes of maps and relocations of fields, of sections that are changed or not.
-use crate::sections::{EXT, FIELDS, MAPS};
+use crate::btf::sections::{EXT, FIELDS, MAPS};
+use crate::stops::{bytes, check_text, row, stop_unless};
 use bpf_btf::{Btf, BtfFault, CoreRelocations};
 use bpf_isa::MapShape;
-use bpf_testing::{bytes_of, row_of};
 use std::alloc::{AllocError, Global};
 use std::process::Abort;
 
@@ -104,10 +104,6 @@ xdp/a | 0=9e | E53 malformed section .BTF.ext
 xdp/a | 2=00 | E53 malformed section .BTF.ext
 ";
 
-fn bytes(rt: &impl Abort, alloc: Global, digits: &str) -> Vec<u8> {
-    bytes_of(alloc, digits).expect(rt, "no digits")
-}
-
 /// Puts bytes at a place of a section.
 fn put(rt: &impl Abort, section: &mut [u8], at: usize, bytes: &[u8]) {
     for (i, byte) in bytes.iter().enumerate() {
@@ -177,14 +173,9 @@ fn relocations_text(
     }
 }
 
-/// Stops unless two texts are the same.
-fn check_text(rt: &impl Abort, found: &str, wanted: &str, row: &str) {
-    assert_eq!(rt; found, wanted, "{row}");
-}
-
 /// Stops unless a row of shapes holds.
 fn check_shape(rt: &impl Abort, alloc: Global, line: &str) {
-    let row = row_of(line).expect(rt, "no row");
+    let row = row(rt, line);
     let section = changed(rt, alloc, MAPS, row.input);
     let found = shape_text(alloc, &section, row.name)
         .ok()
@@ -205,7 +196,7 @@ fn shapes(rt: HostRuntime) {
 
 /// Stops unless a row of relocations holds.
 fn check_relocation(rt: &impl Abort, alloc: Global, line: &str) {
-    let row = row_of(line).expect(rt, "no row");
+    let row = row(rt, line);
     let section = bytes(rt, alloc, FIELDS);
     let ext = changed(rt, alloc, EXT, row.input);
     let found = relocations_text(alloc, &section, &ext, row.name)
@@ -231,11 +222,6 @@ fn fault_of(alloc: Global, section: &[u8], name: &str) -> u8 {
         Ok(_) => 0,
         Err(fault) => fault.number(),
     }
-}
-
-/// Stops unless something holds.
-fn stop_unless(rt: &impl Abort, holds: bool, what: &str) {
-    assert!(rt; holds, "{what}");
 }
 
 /// Stops unless each shorter beginning of a section is refused: below 24 bytes it is none, and then
