@@ -1,4 +1,6 @@
-//! Tests of the instruction set, of BTF and of the machine: what only their libraries can be asked.
+//! Tests of the instruction set, of BTF, of listings and of the machine: what only their libraries
+//! can be asked.
+//!
 //! They stand in one crate, since what each of them stops at is proved once then.
 #![tactic(auto)]
 
@@ -10,3 +12,5 @@ mod isa;
 mod machine;
 #[cfg(test)]
 mod stops;
+#[cfg(test)]
+mod text;

@@ -1,5 +1,5 @@
 //! Counted readers and writers, blanks, and numbers as they are read and written.
-//! Their tests stand in `bpf_text_tests`.
+//! Their tests stand in `bpf_base_tests`.
 #![tactic(auto)]
 
 mod blank;

@@ -1,5 +1,5 @@
 //! Words: what the instruction of each does, and how many opcodes there are. (What each says is in
-//! its text: `bpf_text_tests` holds the same words against their texts. Words that are refused are
+//! its text: `text` holds the same words against their texts. Words that are refused are
 //! tests of the built program, `tests/program/suites/words.test`.)
 use crate::stops::{bytes, check_text, row, stop_unless};
 use bpf_isa::{Insn, Reg, SignedSize, Size, decode};

@@ -1,6 +1,6 @@
 //! Texts of numbers, instructions and faults.
-use crate::answers::append_insn;
 use crate::stops::{check_bytes, check_text, stop_unless};
+use crate::text::answers::append_insn;
 use bpf_isa::{Insn, Reg, WideValue};
 use bpf_text::{AsmFault, LineFault};
 use counted_io::{Counted, put, put_decimal, put_hexadecimal, put_signed, write_text};

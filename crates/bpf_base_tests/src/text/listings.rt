@@ -1,7 +1,7 @@
 //! Instructions and their texts, both ways, and what a reader of a fault looks for.
 //! (`tests/program/tables/` holds listings.)
-use crate::answers::{answer, lines_of, text_of, written};
 use crate::stops::{before, check_bytes, check_text, parts, row};
+use crate::text::answers::{answer, lines_of, text_of, written};
 use bpf_testing::{EDGES, INSTRUCTIONS};
 use bpf_text::{AsmFault, LineFault, assemble};
 use std::alloc::Global;
