@@ -10,6 +10,7 @@ use Rattle.bpf_btf.specs.Layout.{is_called, array_entry, member_entry}
 use Rattle.bpf_btf.specs.Faults.{provided, after}
 use Rattle.bpf_btf.specs.Types.{Types, start_of, type_of}
 use Rattle.bpf_btf.specs.Sizes.{resolved, size_of}
+use Rattle.bpf_isa.specs.Maps.{longest_value, most_entries, most_bytes}
 
 -- The last number below n that passes a test.
 abbrev pub last_below : (ℕ → Bool) → ℕ → Option ℕ
@@ -114,9 +115,9 @@ is_array kind = (kind == 2) || (kind == 6)
 -- The shape, if the machine may have it: the limits of `IsShape` of bpf_isa, in the order of their numbers.
 abbrev pub limited : ℕ → ℕ → Result MapShape BtfFault
 limited value entries =
-    provided (nat_lt 0 value && nat_le value 256) (Limits ValueSize)
-    (provided (nat_lt 0 entries && nat_le entries 4096) (Limits Entries)
-    (provided (nat_le (value * entries) 65536) (Limits Total)
+    provided (nat_lt 0 value && nat_le value longest_value) (Limits ValueSize)
+    (provided (nat_lt 0 entries && nat_le entries most_entries) (Limits Entries)
+    (provided (nat_le (value * entries) most_bytes) (Limits Total)
     (Ok (record { value_size = value; entries = entries }))))
 
 -- What a struct says: the kind before all, so that a hash is refused as one, then the sizes. Its other members say nothing of the shape.

@@ -8,7 +8,7 @@ use crate::fault::BtfFault;
 use crate::members::{latest, number_of, size_by};
 use crate::section::Btf;
 use crate::sizes::resolved;
-use bpf_isa::{MapFault, MapShape};
+use bpf_isa::{LONGEST_VALUE, MOST_BYTES, MOST_ENTRIES, MapFault, MapShape};
 
 /// The most bytes of a map's name. It is compared with the name of each variable of `.maps`, and
 /// with one as long as the section that would take time in the square of its length.
@@ -99,13 +99,13 @@ fn limited(value_size: u32, entries: u32) -> Result<MapShape, BtfFault>
     ensures value { result ≡ limited value_size entries }
     ensures possible { IfOk result IsShape }
 {
-    if value_size == 0 || value_size > 256 {
+    if value_size == 0 || value_size > LONGEST_VALUE {
         return Err(BtfFault::Limits(MapFault::ValueSize));
     }
-    if entries == 0 || entries > 4096 {
+    if entries == 0 || entries > MOST_ENTRIES {
         return Err(BtfFault::Limits(MapFault::Entries));
     }
-    if value_size * entries > 65536 {
+    if value_size * entries > MOST_BYTES {
         return Err(BtfFault::Limits(MapFault::Total));
     }
     Ok(MapShape {

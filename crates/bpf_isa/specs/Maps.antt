@@ -7,24 +7,37 @@ use Rattle.bpf_isa.specs.declared.fault.MapFault.{MapFault}
 use Rattle.bpf_isa.specs.declared.fault.MapFault.TheVariants.{ValueSize, Entries, Total, Full, Malformed}
 use Rattle.bpf_isa.specs.Faults.{IsLeast, map_fault}
 
--- The shape of a map: 1 to 256 bytes a value, 1 to 4,096 entries, at most 65,536 bytes in all.
+-- The most maps of a program, bytes of a value, entries, and bytes of a map in all.
+abbrev pub most_maps : ℕ
+most_maps = 16
+
+abbrev pub longest_value : ℕ
+longest_value = 256
+
+abbrev pub most_entries : ℕ
+most_entries = 4_096
+
+abbrev pub most_bytes : ℕ
+most_bytes = 65_536
+
+-- The shape of a map.
 pub record IsShape (shape : MapShape) : Type 0 where
   pub filled : (0 < shape.value_size) × (0 < shape.entries)
-  pub value : shape.value_size ≤ 256
-  pub entries : shape.entries ≤ 4096
-  pub total : shape.value_size * shape.entries ≤ 65536
+  pub value : shape.value_size ≤ longest_value
+  pub entries : shape.entries ≤ most_entries
+  pub total : shape.value_size * shape.entries ≤ most_bytes
 
--- A table: at most 16 maps.
+-- A table.
 pub record AreMaps (maps : List MapShape) : Type 0 where
-  pub few : length maps ≤ 16
+  pub few : length maps ≤ most_maps
   pub shapes : All IsShape maps
 
 -- Why a further map of a value size and a number of entries is refused.
 abbrev pub HasMapFault : List MapShape → ℕ → ℕ → MapFault → Type 0
-HasMapFault maps value entries ValueSize = (value ≡ 0) ⊎ (256 < value)
-HasMapFault maps value entries Entries = (entries ≡ 0) ⊎ (4096 < entries)
-HasMapFault maps value entries Total = 65536 < value * entries
-HasMapFault maps value entries Full = 16 ≤ length maps
+HasMapFault maps value entries ValueSize = (value ≡ 0) ⊎ (longest_value < value)
+HasMapFault maps value entries Entries = (entries ≡ 0) ⊎ (most_entries < entries)
+HasMapFault maps value entries Total = most_bytes < value * entries
+HasMapFault maps value entries Full = most_maps ≤ length maps
 HasMapFault maps value entries Malformed = ⊥
 
 -- The letter x.

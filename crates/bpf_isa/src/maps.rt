@@ -8,6 +8,18 @@ use crate::fault::MapFault;
 use arrayvec::ArrayVec;
 use std::marker::Model;
 
+/// How many maps a program may have.
+pub const MOST_MAPS: usize = 16;
+
+/// How many bytes a value of a map may have.
+pub const LONGEST_VALUE: u32 = 256;
+
+/// How many entries a map may have.
+pub const MOST_ENTRIES: u32 = 4_096;
+
+/// How many bytes a map may have in all.
+pub const MOST_BYTES: u32 = 65_536;
+
 /// The shape of an array map: the size of a value in bytes and the number of entries.
 #[derive(Clone, Copy, Default)]
 pub struct MapShape {
@@ -17,10 +29,10 @@ pub struct MapShape {
     pub entries: u32,
 }
 
-/// The maps of a program, at most 16.
+/// The maps of a program, at most `MOST_MAPS`.
 #[derive(Drop)]
 pub struct MapTable {
-    shapes: ArrayVec<MapShape, 16>,
+    shapes: ArrayVec<MapShape, MOST_MAPS>,
 }
 
 impl Model for MapTable {
@@ -80,13 +92,13 @@ impl MapTable {
         ensures fault { IfErr result (IsLeast map_fault (HasMapFault self.old value_size entries)) }
         ensures same { OnErr result (self.new ≡ self.old) }
     {
-        if value_size == 0 || value_size > 256 {
+        if value_size == 0 || value_size > LONGEST_VALUE {
             return Err(MapFault::ValueSize);
         }
-        if entries == 0 || entries > 4096 {
+        if entries == 0 || entries > MOST_ENTRIES {
             return Err(MapFault::Entries);
         }
-        if value_size * entries > 65536 {
+        if value_size * entries > MOST_BYTES {
             return Err(MapFault::Total);
         }
         if self.shapes.is_full() {

@@ -9,6 +9,7 @@ use Rattle.bpf_link.specs.declared.plan.Plan.{Plan}
 use Rattle.bpf_link.specs.Header.{provided}
 use Rattle.bpf_link.specs.Sections.{section_at, is_data, relocations_of}
 use Rattle.bpf_link.specs.Plans.{after, steps, relocations_in, relocation_at, symbol_at, LiesPlan}
+use Rattle.bpf_isa.specs.Maps.{most_maps}
 
 -- A section is among some.
 abbrev pub is_among : List ℕ → ℕ → Bool
@@ -22,10 +23,10 @@ refers_to_data object plan kind relocation =
     && (nat_lt relocation.symbol plan.symbols.count
     && (nat_lt section plan.sections.count && is_data object plan.sections (section_at object plan.sections section)))
 
--- One more section, at most 16.
+-- One more section, of at most so many as a program may have maps.
 abbrev pub with_section : ℕ → List ℕ → Result (List ℕ) LinkFault
 with_section section found =
-    if is_among found section then Ok found else provided (nat_lt (length found) 16) TooManyMaps (Ok (found ++ section ∷ []))
+    if is_among found section then Ok found else provided (nat_lt (length found) most_maps) TooManyMaps (Ok (found ++ section ∷ []))
 
 -- The sections of data with those that relocations of a kind refer to.
 abbrev pub with_referred : List ℕ → Plan → ℕ → RelocationEntry → List ℕ → Result (List ℕ) LinkFault
@@ -50,7 +51,7 @@ with_pointed object plan k found =
     else Ok found
 
 abbrev pub with_all_pointed : List ℕ → Plan → List ℕ → Result (List ℕ) LinkFault
-with_all_pointed object plan found = steps (with_pointed object plan) found 16
+with_all_pointed object plan found = steps (with_pointed object plan) found most_maps
 
 -- All that the program refers to, by its wide loads or by way of data.
 abbrev pub referred : List ℕ → Plan → Result (List ℕ) LinkFault
@@ -62,7 +63,7 @@ referred object plan =
 -- They in the order of their numbers.
 abbrev pub with_taken : List ℕ → ℕ → List ℕ → Result (List ℕ) LinkFault
 with_taken found section taken =
-    if is_among found section then provided (nat_lt (length taken) 16) TooManyMaps (Ok (taken ++ section ∷ [])) else Ok taken
+    if is_among found section then provided (nat_lt (length taken) most_maps) TooManyMaps (Ok (taken ++ section ∷ [])) else Ok taken
 
 abbrev pub in_order : List ℕ → ℕ → Result (List ℕ) LinkFault
 in_order found count = steps (with_taken found) [] count
@@ -74,15 +75,15 @@ data_of object plan = after (referred object plan) (λ found. in_order found pla
 abbrev pub AllBelow : ℕ → List ℕ → Type 0
 AllBelow n sections = All (λ section. section < n) sections
 
--- Sections of data become maps: at most 16, each one of the plan's.
+-- Sections of data become maps, each one of the plan's.
 pub record AreTaken (plan : Plan) (taken : List ℕ) : Type 0 where
-  pub few : length taken ≤ 16
+  pub few : length taken ≤ most_maps
   pub below : AllBelow plan.sections.count taken
 
--- A plan lies in the file, and it has at most 16 maps: its own, which stand at places of their section, and sections of data.
+-- A plan lies in the file, and it has at most `most_maps` maps: its own, which stand at places of their section, and sections of data.
 pub record HasMaps (object : List ℕ) (plan : Plan) (maps taken : List ℕ) : Type 0 where
   pub lies : LiesPlan object plan
-  pub few : length maps + length taken ≤ 16
+  pub few : length maps + length taken ≤ most_maps
 
 -- The sections are the plan's.
 pub record HasData (object : List ℕ) (plan : Plan) (maps taken : List ℕ) : Type 0 where

@@ -1,7 +1,7 @@
 -- The program that an object holds: the words of its code, with the relocations of these done.
 use Rattle.std.specs.Prelude.{◌≡◌, ◌⊎◌, ◌≤◌, All, ℕ, zero, suc, ◌+◌, ◌*◌, ◌/◌, ◌==◌, nat_le, nat_lt, min, Option, Some, None, is_some, List, [], ◌∷◌, ◌++◌, Result, Ok, Err, length, map, slice_range, slice_set, if◌then◌else◌}
 use Rattle.bpf_isa.specs.Checker.{IsAccepted, IsRefused, most_slots}
-use Rattle.bpf_isa.specs.Maps.{IsShape}
+use Rattle.bpf_isa.specs.Maps.{IsShape, most_maps, most_entries}
 use Rattle.bpf_isa.specs.declared.maps.MapShape.{MapShape}
 use Rattle.bpf_isa.specs.declared.fault.LoadFault.{LoadFault}
 use Rattle.bpf_isa.specs.declared.fault.LoadFault.TheVariants.{At}
@@ -24,10 +24,10 @@ use Rattle.bpf_link.specs.Sources.{source_of}
 use Rattle.bpf_link.specs.Stubs.{answered, answers}
 use Rattle.bpf_link.specs.declared.stubs.Stub.{Stub}
 
--- One more symbol: its value, where it names a map. There are at most 16 maps.
+-- One more symbol: its value, where it names a map. There are at most `most_maps`.
 abbrev pub with_symbol : ℕ → SymbolEntry → List ℕ → Result (List ℕ) LinkFault
 with_symbol maps symbol values =
-    if is_map maps symbol then provided (nat_lt (length values) 16) TooManyMaps (Ok (values ++ symbol.value ∷ [])) else Ok values
+    if is_map maps symbol then provided (nat_lt (length values) most_maps) TooManyMaps (Ok (values ++ symbol.value ∷ [])) else Ok values
 
 -- Where the maps stand in their section.
 abbrev pub maps_of : List ℕ → Plan → Result (List ℕ) LinkFault
@@ -84,7 +84,7 @@ planned object name =
 -- so that the address behind the data is one of the map, unless there is no room for it.
 abbrev pub data_shape : ℕ → MapShape
 data_shape size =
-    if nat_lt size 32768 then record { value_size = 8; entries = size / 8 + 1 } else record { value_size = 16; entries = min (size / 16 + 1) 4096 }
+    if nat_lt size 32768 then record { value_size = 8; entries = size / 8 + 1 } else record { value_size = 16; entries = min (size / 16 + 1) most_entries }
 
 -- The shapes of the maps that sections of data become.
 abbrev pub shape_of_data : List ℕ → Plan → ℕ → MapShape
@@ -124,7 +124,7 @@ program_of object entry stubs plan =
     after (entry_of object plan entry) (λ slot.
     after (maps_of object plan) (λ maps.
     after (data_of object plan) (λ taken.
-    provided (nat_le (length maps + length taken) 16) TooManyMaps
+    provided (nat_le (length maps + length taken) most_maps) TooManyMaps
     (after (program_words object plan maps taken slot stubs) (λ done.
     Ok (record { words = done.words; maps = length maps; data_maps = data_shapes object plan taken; answered = done.count }))))))
 

@@ -16,6 +16,7 @@ use Rattle.bpf_link.specs.declared.sections.Found.TheVariants.{Nothing, Only, Se
 use Rattle.bpf_link.specs.Sections.{section_at, is_named, found_below}
 use Rattle.bpf_link.specs.Plans.{after, steps, symbol_at, symbol_place, LiesPlan}
 use Rattle.bpf_link.specs.Patches.{is_map}
+use Rattle.bpf_isa.specs.Maps.{most_maps}
 
 -- The maps stand in `.maps`, where only BTF tells what they are.
 abbrev pub are_in_maps : List ℕ → Plan → Bool
@@ -48,10 +49,10 @@ is_something Several = true
 abbrev pub is_typed : List ℕ → Plan → List ℕ → Bool
 is_typed object plan maps = nat_lt 0 (length maps) && (are_in_maps object plan && is_something (types_found object plan.sections))
 
--- A plan lies in the file, and its maps stand at so many places of their section, at most 16.
+-- A plan lies in the file, and its maps stand at so many places of their section.
 pub record HasPlaces (object : List ℕ) (plan : Plan) (places : List ℕ) : Type 0 where
   pub lies : LiesPlan object plan
-  pub few : length places ≤ 16
+  pub few : length places ≤ most_maps
 
 -- A name stands at a place in the file, up to a zero.
 abbrev pub is_zero_byte : ℕ → Bool

@@ -71,13 +71,17 @@ fault_places object section link.ManyPrograms = function_places object true (pla
 fault_places object section link.NoEntry = function_places object false (planned object section)
 fault_places object section fault = []
 
+-- How many names a text has; what stands for the others is two dots.
+abbrev pub most_names : ℕ
+most_names = 16
+
 -- The names at places.
 abbrev pub parted : ℕ → List ℕ → List ℕ
 parted zero text = text
 parted (suc k) text = text ++ codes ", "
 
 abbrev pub name_of : List ℕ → List ℕ → ℕ → List ℕ
-name_of object places k = if nat_lt k 16 then short_at object (slice_index places k) else codes ".."
+name_of object places k = if nat_lt k most_names then short_at object (slice_index places k) else codes ".."
 
 abbrev pub with_name : List ℕ → List ℕ → ℕ → List ℕ → List ℕ
 with_name object places k text = parted k text ++ name_of object places k

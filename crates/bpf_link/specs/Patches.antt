@@ -15,11 +15,12 @@ use Rattle.bpf_link.specs.declared.patch.Patch.{Patch}
 use Rattle.bpf_link.specs.Header.{provided}
 use Rattle.bpf_link.specs.Plans.{after, relocation_at, symbol_at, symbol_place, FitsPart}
 use Rattle.bpf_link.specs.Data.{is_among, data_number}
+use Rattle.bpf_isa.specs.Checker.{most_slots}
 
 -- So many bytes of the object from a place on are those of a slot of the program, or of two.
 pub record HasSlots (object : List ℕ) (size place number : ℕ) : Type 0 where
   pub at : place + size ≤ length object
-  pub slot : number < 65535
+  pub slot : number < most_slots
 
 -- A relocation names a slot of a part.
 pub record HasPlace (object : List ℕ) (part : Part) (relocation : RelocationEntry) : Type 0 where

@@ -193,7 +193,7 @@ pub record LiesPart (object : List ℕ) (part : Part) : Type 0 where
 -- Its slots are among the first 65,535 of the program.
 pub record FitsPart (object : List ℕ) (part : Part) : Type 0 where
   pub lies : LiesPart object part
-  pub short : part.first + part.slots.count ≤ 65535
+  pub short : part.first + part.slots.count ≤ most_slots
 
 -- The code of a program, and the symbols, lie in the file.
 pub record HasCode (object : List ℕ) (symbols : Entries) (code : Part) : Type 0 where

@@ -12,6 +12,7 @@ use Rattle.bpf_link.specs.Links.{AllShapes, Made, least_maps, linked, maps_of, p
 use Rattle.bpf_link.specs.Plans.{LiesPlan}
 use Rattle.bpf_link.specs.Refusals.{IsLinkFault}
 use Rattle.bpf_link.specs.Shapes.{AreDataShapes, HasShapes}
+use Rattle.bpf_isa.specs.Maps.{most_maps}
 
 -- A program of a plan by its parts, and one with the shapes of its maps.
 abbrev pub made_of : Program → Made
@@ -30,10 +31,10 @@ linked_of program = record {
   answered = program.answered;
 }
 
--- The maps of a program are those of its plan, at most 16.
+-- The maps of a program are those of its plan.
 pub record HasOwnMaps (object : List ℕ) (plan : Plan) (program : Program) : Type 0 where
   pub lies : LiesPlan object plan
-  pub few : length program.maps.items + length program.data_maps.items ≤ 16
+  pub few : length program.maps.items + length program.data_maps.items ≤ most_maps
   pub maps : maps_of object plan ≡ Ok program.maps.items
   pub of_data : AreDataShapes object plan program.data_maps.items
 

@@ -39,11 +39,15 @@ stub_in item =
     after (value_in (after_first is_equals item)) (λ value.
     Ok (record { helper = helper; value = value }))))
 
--- One more stub. Each helper has one, and there are at most 16.
+-- The most stubs of a list.
+abbrev pub most_stubs : ℕ
+most_stubs = 16
+
+-- One more stub. Each helper has one.
 abbrev pub with_stub : Stub → List Stub → Result (List Stub) LinkFault
 with_stub stub stubs =
     provided (not (is_some (answer_of stubs stub.helper))) StubTwice
-    (provided (nat_lt (length stubs) 16) ManyStubs (Ok (stubs ++ stub ∷ [])))
+    (provided (nat_lt (length stubs) most_stubs) ManyStubs (Ok (stubs ++ stub ∷ [])))
 
 abbrev pub with_item : List (List ℕ) → ℕ → List Stub → Result (List Stub) LinkFault
 with_item items i stubs = after (stub_in (slice_index_or items i [])) (λ stub. with_stub stub stubs)

@@ -2,12 +2,14 @@
 ghost use Rattle.std.specs.Prelude.{◌≡◌, ◌≤◌, ◌<◌, ◌+◌, length, IfOk, IfErr, Ok, Err, ℕ};
 ghost use Rattle.bpf_link.specs.Data.{is_among, refers_to_data, with_section, with_reference, with_references, pointers_of, with_pointed, with_all_pointed, referred, with_taken, in_order, data_of, data_number, AllBelow};
 ghost use Rattle.bpf_link.specs.Plans.{Lies, HasEntry, LiesPlan};
+ghost use Rattle.bpf_isa.specs.Maps.{most_maps};
 
 use crate::fault::LinkFault;
 use crate::layout::RelocationEntry;
 use crate::plan::{Entries, Plan, relocation_at, relocations_in, symbol_at};
 use crate::sections::{is_data, relocations_of, section_at};
 use arrayvec::ArrayVec;
+use bpf_isa::MOST_MAPS;
 
 /// Whether a section is among some.
 pub fn is_among(sections: &[usize], section: usize) -> bool
@@ -42,8 +44,8 @@ fn refers_to_data(object: &[u8], plan: &Plan, kind: u32, relocation: &Relocation
 /// One more section, unless it is among them.
 fn with_section(
     section: usize,
-    mut found: ArrayVec<usize, 16>,
-) -> Result<ArrayVec<usize, 16>, LinkFault>
+    mut found: ArrayVec<usize, MOST_MAPS>,
+) -> Result<ArrayVec<usize, MOST_MAPS>, LinkFault>
     ensures ok { IfOk result (λ new. with_section section found.items ≡ Ok new.items) }
     ensures err { IfErr result (λ fault. with_section section found.items ≡ Err fault) }
 {
@@ -64,8 +66,8 @@ fn with_reference(
     kind: u32,
     relocations: &Entries,
     i: usize,
-    found: ArrayVec<usize, 16>,
-) -> Result<ArrayVec<usize, 16>, LinkFault>
+    found: ArrayVec<usize, MOST_MAPS>,
+) -> Result<ArrayVec<usize, MOST_MAPS>, LinkFault>
     requires plan { LiesPlan object.now plan.now }
     requires entry { HasEntry object.now 16 relocations.now i }
     ensures ok { IfOk result (λ new.
@@ -87,8 +89,8 @@ fn with_references(
     plan: &Plan,
     kind: u32,
     relocations: &Entries,
-    found: ArrayVec<usize, 16>,
-) -> Result<ArrayVec<usize, 16>, LinkFault>
+    found: ArrayVec<usize, MOST_MAPS>,
+) -> Result<ArrayVec<usize, MOST_MAPS>, LinkFault>
     requires plan { LiesPlan object.now plan.now }
     requires relocations { Lies object.now 16 relocations.now }
     ensures ok { IfOk result (λ new.
@@ -121,8 +123,8 @@ fn with_pointed(
     object: &[u8],
     plan: &Plan,
     k: usize,
-    found: ArrayVec<usize, 16>,
-) -> Result<ArrayVec<usize, 16>, LinkFault>
+    found: ArrayVec<usize, MOST_MAPS>,
+) -> Result<ArrayVec<usize, MOST_MAPS>, LinkFault>
     requires { LiesPlan object.now plan.now }
     ensures ok { IfOk result (λ new.
         with_pointed object.now plan.now k found.items ≡ Ok new.items) }
@@ -143,8 +145,8 @@ fn with_pointed(
 fn with_all_pointed(
     object: &[u8],
     plan: &Plan,
-    found: ArrayVec<usize, 16>,
-) -> Result<ArrayVec<usize, 16>, LinkFault>
+    found: ArrayVec<usize, MOST_MAPS>,
+) -> Result<ArrayVec<usize, MOST_MAPS>, LinkFault>
     requires { LiesPlan object.now plan.now }
     ensures ok { IfOk result (λ new.
         with_all_pointed object.now plan.now found.items ≡ Ok new.items) }
@@ -152,7 +154,7 @@ fn with_all_pointed(
         with_all_pointed object.now plan.now found.items ≡ Err fault) }
 {
     let mut all = found;
-    for k in 0..16 {
+    for k in 0..MOST_MAPS {
         match with_pointed(object, plan, k, all) {
             Ok(new) => all = new,
             Err(fault) => return Err(fault),
@@ -162,7 +164,7 @@ fn with_all_pointed(
 }
 
 /// The sections of data that the program refers to, by its wide loads or by way of data.
-fn referred(object: &[u8], plan: &Plan) -> Result<ArrayVec<usize, 16>, LinkFault>
+fn referred(object: &[u8], plan: &Plan) -> Result<ArrayVec<usize, MOST_MAPS>, LinkFault>
     requires { LiesPlan object.now plan.now }
     ensures ok { IfOk result (λ found. referred object.now plan.now ≡ Ok found.items) }
     ensures err { IfErr result (λ fault. referred object.now plan.now ≡ Err fault) }
@@ -181,8 +183,8 @@ fn referred(object: &[u8], plan: &Plan) -> Result<ArrayVec<usize, 16>, LinkFault
 fn with_taken(
     found: &[usize],
     section: usize,
-    mut taken: ArrayVec<usize, 16>,
-) -> Result<ArrayVec<usize, 16>, LinkFault>
+    mut taken: ArrayVec<usize, MOST_MAPS>,
+) -> Result<ArrayVec<usize, MOST_MAPS>, LinkFault>
     ensures ok { IfOk result (λ new. with_taken found.now section taken.items ≡ Ok new.items) }
     ensures err { IfErr result (λ fault. with_taken found.now section taken.items ≡ Err fault) }
     ensures below { (n : ℕ) → section < n → AllBelow n taken.items
@@ -200,7 +202,7 @@ fn with_taken(
 
 /// The sections among those that were found, in the order of their numbers, which are below
 /// `count`.
-fn in_order(found: &[usize], count: usize) -> Result<ArrayVec<usize, 16>, LinkFault>
+fn in_order(found: &[usize], count: usize) -> Result<ArrayVec<usize, MOST_MAPS>, LinkFault>
     ensures ok { IfOk result (λ taken. in_order found.now count ≡ Ok taken.items) }
     ensures err { IfErr result (λ fault. in_order found.now count ≡ Err fault) }
     ensures below { IfOk result (λ taken. AllBelow count taken.items) }
@@ -216,7 +218,7 @@ fn in_order(found: &[usize], count: usize) -> Result<ArrayVec<usize, 16>, LinkFa
 }
 
 /// The sections of data that the program refers to, in the order of their numbers.
-pub fn data_of(object: &[u8], plan: &Plan) -> Result<ArrayVec<usize, 16>, LinkFault>
+pub fn data_of(object: &[u8], plan: &Plan) -> Result<ArrayVec<usize, MOST_MAPS>, LinkFault>
     requires { LiesPlan object.now plan.now }
     ensures ok { IfOk result (λ taken. data_of object.now plan.now ≡ Ok taken.items) }
     ensures err { IfErr result (λ fault. data_of object.now plan.now ≡ Err fault) }
@@ -230,9 +232,9 @@ pub fn data_of(object: &[u8], plan: &Plan) -> Result<ArrayVec<usize, 16>, LinkFa
 
 /// The number of the map that a section becomes.
 pub fn data_number(maps: &[u64], taken: &[usize], section: usize) -> usize
-    requires { length maps.now + length taken.now ≤ 16 }
+    requires { length maps.now + length taken.now ≤ most_maps }
     ensures value { result ≡ data_number maps.now taken.now section }
-    ensures small { result ≤ 16 }
+    ensures small { result ≤ most_maps }
 {
     let mut number = 0;
     for other in taken {

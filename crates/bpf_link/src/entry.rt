@@ -3,6 +3,7 @@ ghost use Rattle.std.specs.Prelude.{◌≡◌, ◌<◌, ◌+◌, ◌==◌, lengt
 ghost use Rattle.bpf_link.specs.Entries.{is_function, is_program, is_entry, entry_found, slot_in, entry_at, entry_of};
 ghost use Rattle.bpf_link.specs.Plans.{LiesPlan};
 ghost use Rattle.bpf_link.specs.Sections.{FoundBelow, name_at};
+ghost use Rattle.bpf_isa.specs.Checker.{most_slots};
 
 use crate::fault::LinkFault;
 use crate::layout::SymbolEntry;
@@ -85,7 +86,7 @@ fn entry_at(object: &[u8], plan: &Plan, unnamed: bool, found: Found) -> Result<u
     requires plan { LiesPlan object.now plan.now }
     requires found { FoundBelow plan.now.symbols.count found }
     ensures value { result ≡ entry_at object.now plan.now unnamed found }
-    ensures small { IfOk result (λ slot. slot < 65535) }
+    ensures small { IfOk result (λ slot. slot < most_slots) }
 {
     match found {
         Found::Nothing => {
@@ -104,7 +105,7 @@ fn entry_at(object: &[u8], plan: &Plan, unnamed: bool, found: Found) -> Result<u
 pub fn entry_of(object: &[u8], plan: &Plan, name: &[u8]) -> Result<usize, LinkFault>
     requires { LiesPlan object.now plan.now }
     ensures value { result ≡ entry_of object.now plan.now name.now }
-    ensures small { IfOk result (λ slot. slot < 65535) }
+    ensures small { IfOk result (λ slot. slot < most_slots) }
 {
     if name.len() > LONGEST_NAME {
         return Err(LinkFault::NoEntry);

@@ -5,6 +5,7 @@ ghost use Rattle.bpf_link.specs.Links.{planned};
 ghost use Rattle.bpf_link.specs.MapTypes.{is_something};
 ghost use Rattle.bpf_link.specs.Plans.{LiesPlan};
 ghost use Rattle.bpf_link.specs.Sections.{FoundBelow};
+ghost use Rattle.bpf_isa.specs.Checker.{most_slots};
 
 use crate::fault::LinkFault;
 use crate::linker::planned;
@@ -66,7 +67,7 @@ fn part_name(object: &[u8], plan: &Plan, part: &Part) -> usize
 
 /// Relocations of a part, by those of its section.
 fn fields_at(part: &Part, at: usize, sum: CoreRelocations) -> FieldRelocations
-    requires { part.now.first ≤ 65535 }
+    requires { part.now.first ≤ most_slots }
     ensures { result ≡ fields_at part.now at sum }
 {
     FieldRelocations {
@@ -85,7 +86,7 @@ fn listed_fields(
     part: &Part,
 ) -> Result<FieldRelocations, LinkFault>
     requires ext { HasExt object.now plan.now ext.now }
-    requires first { part.now.first ≤ 65535 }
+    requires first { part.now.first ≤ most_slots }
     ensures ok { IfOk result (ListedFields object.now plan.now types.now.strings
         (ext_bytes object.now plan.now) part.now) }
     ensures err { IfErr result (HasExtFault object.now plan.now) }
@@ -106,7 +107,7 @@ fn part_fields(
     part: &Part,
 ) -> Result<FieldRelocations, LinkFault>
     requires ext { HasExt object.now plan.now ext.now }
-    requires first { part.now.first ≤ 65535 }
+    requires first { part.now.first ≤ most_slots }
     ensures ok { IfOk result (PartFields (part.now.slots.count == 0)
         object.now plan.now types.now.strings (ext_bytes object.now plan.now) part.now) }
     ensures err { IfErr result (HasExtFault object.now plan.now) }

@@ -1,10 +1,11 @@
 //! What the data of a program are at its start.
 ghost use Rattle.std.specs.Prelude.{◌≡◌, ◌≤◌, ◌<◌, ◌+◌, ◌⊎◌, length, IfOk, IfErr, Ok, Err};
 ghost use Rattle.bpf_link.specs.Data.{HasMaps};
-ghost use Rattle.bpf_link.specs.Images.{most_data, filled, whole_size, bytes_of, with_u64, address_of, pointed_place, with_address, with_relocated, with_pointer, with_pointers, image_of};
+ghost use Rattle.bpf_link.specs.Images.{filled, whole_size, bytes_of, with_u64, address_of, pointed_place, with_address, with_relocated, with_pointer, with_pointers, image_of};
 ghost use Rattle.bpf_link.specs.Links.{MemoryOr};
 ghost use Rattle.bpf_link.specs.Plans.{Lies, HasEntry, LiesPlan};
 ghost use Rattle.bpf_link.specs.declared.fault.LinkFault.TheVariants.{Memory};
+ghost use Rattle.bpf_isa.specs.Maps.{most_maps};
 
 use crate::data_sections::{data_number, is_among, pointers_of};
 use crate::fault::LinkFault;
@@ -12,11 +13,9 @@ use crate::fields::{lies, u64_at};
 use crate::layout::{RelocationEntry, SectionHeader, SymbolEntry};
 use crate::plan::{Entries, Plan, relocation_at, symbol_at, symbol_place};
 use crate::sections::section_at;
+use bpf_isa::MOST_BYTES;
 use byteorder::{ByteOrder, LittleEndian};
 use std::alloc::Global;
-
-/// The most bytes of data.
-const MOST_DATA: u64 = 65536;
 
 /// Bytes, and zeros after them up to a whole number of eight.
 fn filled(alloc: Global, size: usize, bytes: &[u8]) -> Result<Vec<u8>, LinkFault>
@@ -38,7 +37,7 @@ fn bytes_of(alloc: Global, object: &[u8], section: &SectionHeader) -> Result<Vec
     ensures ok { IfOk result (λ image. bytes_of object.now section.now ≡ Ok image.items) }
     ensures err { IfErr result (MemoryOr (bytes_of object.now section.now)) }
 {
-    if section.size > MOST_DATA {
+    if section.size > u64::from(MOST_BYTES) {
         return Err(LinkFault::LongData);
     }
     let size = (section.size as usize + 7) / 8 * 8;
@@ -64,7 +63,7 @@ fn with_u64(mut image: Vec<u8>, at: usize, n: u64) -> Vec<u8>
 /// The address of a symbol of data, and a number more.
 #[tactic(auto, using(crate::proofs::Images::two_wraps))]
 fn address_of(maps: &[u64], taken: &[usize], symbol: &SymbolEntry, more: u64) -> u64
-    requires { length maps.now + length taken.now ≤ 16 }
+    requires { length maps.now + length taken.now ≤ most_maps }
     ensures { result ≡ address_of maps.now taken.now symbol.now more }
 {
     let map = data_number(maps, taken, usize::from(symbol.section)) as u64;
@@ -82,7 +81,7 @@ fn with_address(
     fault: LinkFault,
     image: Vec<u8>,
 ) -> Result<Vec<u8>, LinkFault>
-    requires few { length maps.now + length taken.now ≤ 16 }
+    requires few { length maps.now + length taken.now ≤ most_maps }
     requires inside { relocation.now.offset + 8 ≤ length image.items }
     ensures ok { IfOk result (λ new. with_address maps.now taken.now relocation.now symbol.now fault
         image.items ≡ Ok new.items) }

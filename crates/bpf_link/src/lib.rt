@@ -28,5 +28,5 @@ pub use helpers::helper_name;
 pub use linker::{LinkOptions, Linked, link, link_with};
 pub use names::fault_names;
 pub use sources::Source;
-pub use stub_lists::stubs_in;
+pub use stub_lists::{MOST_STUBS, stubs_in};
 pub use stubs::Stub;

@@ -1,8 +1,8 @@
 //! The linker: from an object to the words of a program.
 ghost use Rattle.std.specs.Prelude.{◌≡◌, ◌≤◌, ◌<◌, ◌+◌, List, [], length, false, IfOk, IfErr, Ok};
-ghost use Rattle.bpf_isa.specs.Checker.{IsRefused};
+ghost use Rattle.bpf_isa.specs.Checker.{IsRefused, most_slots};
 ghost use Rattle.bpf_isa.specs.declared.maps.MapShape.{MapShape};
-ghost use Rattle.bpf_isa.specs.Maps.{IsShape};
+ghost use Rattle.bpf_isa.specs.Maps.{IsShape, most_maps};
 ghost use Rattle.bpf_link.specs.Data.{AreTaken, HasData};
 ghost use Rattle.bpf_link.specs.Links.{AllShapes, MemoryOr, planned, program_of, program_words, plain_maps, least_maps, data_shape, data_shapes, told_of};
 ghost use Rattle.bpf_link.specs.Plans.{LiesPlan};
@@ -24,7 +24,9 @@ use crate::sources::source_of;
 use crate::stubs::{Stub, answered, answers};
 use crate::words::{maps_of, words_of};
 use arrayvec::ArrayVec;
-use bpf_isa::{LoadFault, MOST_SLOTS, MapShape, MapTable, PieceFault, check};
+use bpf_isa::{
+    LoadFault, MOST_ENTRIES, MOST_MAPS, MOST_SLOTS, MapShape, MapTable, PieceFault, check,
+};
 use std::alloc::Global;
 
 /// What is asked of a link.
@@ -48,8 +50,8 @@ pub struct LinkOptions<'a> {
 struct Program {
     words: Vec<u8>,
     /// Where the object's own maps stand in their section.
-    maps: ArrayVec<u64, 16>,
-    data_maps: ArrayVec<MapShape, 16>,
+    maps: ArrayVec<u64, MOST_MAPS>,
+    data_maps: ArrayVec<MapShape, MOST_MAPS>,
     answered: usize,
 }
 
@@ -71,14 +73,14 @@ pub struct Linked {
     /// The shapes of the maps that its data become, which come after those: one for each section
     /// that the program refers to, in the order of the sections' numbers. There are at most 16 maps
     /// in all.
-    pub data_maps: ArrayVec<MapShape, 16>,
+    pub data_maps: ArrayVec<MapShape, MOST_MAPS>,
     /// How many calls of helpers are answered by a stub.
     pub answered: usize,
     /// The shapes of all maps, in the order of their numbers: those that BTF gives maps in `.maps`,
     /// which the machine may have, or those that the object's section `maps` gives them, of any
     /// size; and those of data. None where there is no BTF and the object doesn't define each of
     /// its own as an array.
-    pub shapes: ArrayVec<MapShape, 16>,
+    pub shapes: ArrayVec<MapShape, MOST_MAPS>,
     /// How many relocations of fields are left undone.
     pub fields: u32,
 }
@@ -88,7 +90,7 @@ const LONGEST_NAME: usize = 255;
 
 /// A table of so many maps of one byte each.
 fn plain_maps(count: usize) -> MapTable
-    requires { count ≤ 16 }
+    requires { count ≤ most_maps }
     ensures { result ≡ plain_maps count }
 {
     let mut maps = MapTable::empty();
@@ -116,7 +118,7 @@ pub fn planned(object: &[u8], name: &[u8]) -> Result<Plan, LinkFault>
 
 /// A table of so many maps of one byte each, and after them those of data.
 fn least_maps(count: usize, shapes: &[MapShape]) -> MapTable
-    requires few { count + length shapes.now ≤ 16 }
+    requires few { count + length shapes.now ≤ most_maps }
     requires possible { AllShapes shapes.now }
     ensures { result ≡ least_maps count shapes.now }
 {
@@ -143,12 +145,12 @@ fn data_shape(size: u64) -> MapShape
     }
     MapShape {
         value_size: 16,
-        entries: (size / 16 + 1).min(4096) as u32,
+        entries: (size / 16 + 1).min(u64::from(MOST_ENTRIES)) as u32,
     }
 }
 
 /// The shapes of the maps that sections of data become.
-fn data_shapes(object: &[u8], plan: &Plan, taken: &[usize]) -> ArrayVec<MapShape, 16>
+fn data_shapes(object: &[u8], plan: &Plan, taken: &[usize]) -> ArrayVec<MapShape, MOST_MAPS>
     requires plan { LiesPlan object.now plan.now }
     requires taken { AreTaken plan.now taken.now }
     ensures value { result.items ≡ data_shapes object.now plan.now taken.now }
@@ -173,7 +175,7 @@ fn program_words(
     stubs: &[Stub],
 ) -> Result<Answered, LinkFault>
     requires data { HasData object.now plan.now maps.now taken.now }
-    requires begins { entry < 65535 }
+    requires begins { entry < most_slots }
     ensures ok { IfOk result (λ done.
         program_words object.now plan.now maps.now taken.now entry stubs.now
         ≡ Ok (record { words = done.words.items; count = done.count })) }
@@ -224,7 +226,7 @@ fn program_of(
         Err(fault) => return Err(fault),
     };
     let taken = sections.as_slice();
-    if own.len() + taken.len() > 16 {
+    if own.len() + taken.len() > MOST_MAPS {
         return Err(LinkFault::TooManyMaps);
     }
     let done = match program_words(alloc, object, plan, own, taken, slot, stubs) {

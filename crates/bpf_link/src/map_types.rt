@@ -18,7 +18,7 @@ use crate::sections::{Found, is_named, section_at};
 use crate::shapes::in_order;
 use arrayvec::ArrayVec;
 use bpf_btf::{Btf, BtfFault};
-use bpf_isa::MapShape;
+use bpf_isa::{MOST_MAPS, MapShape};
 use std::alloc::Global;
 
 /// Whether the maps stand in `.maps`.
@@ -205,7 +205,7 @@ fn typed_shapes(
     plan: &Plan,
     types: &Btf<'_>,
     places: &[u64],
-) -> Result<ArrayVec<MapShape, 16>, LinkFault>
+) -> Result<ArrayVec<MapShape, MOST_MAPS>, LinkFault>
     requires { HasPlaces object.now plan.now places.now }
     ensures ok { IfOk result (λ shapes.
         typed_shapes object.now plan.now types.now places.now ≡ Ok shapes.items) }
@@ -239,7 +239,7 @@ pub fn shapes_by_types(
     object: &[u8],
     plan: &Plan,
     maps: &[u64],
-) -> Result<ArrayVec<MapShape, 16>, LinkFault>
+) -> Result<ArrayVec<MapShape, MOST_MAPS>, LinkFault>
     requires { HasPlaces object.now plan.now maps.now }
     ensures ok { IfOk result (λ shapes. AreTyped object.now plan.now maps.now shapes.items) }
     ensures few { IfOk result (λ shapes. length shapes.items ≤ length maps.now) }

@@ -16,6 +16,9 @@ use crate::sections::{is_code, section_at, section_place};
 use crate::sources::Source;
 use arrayvec::ArrayVec;
 
+/// How many names a text has.
+const MOST_NAMES: usize = 16;
+
 /// The first bytes of a text, at most 255.
 fn cut(text: &[u8]) -> &[u8]
     ensures value { result.now ≡ cut text.now }
@@ -178,7 +181,7 @@ fn name_of<'a>(object: &'a [u8], places: &[usize], k: usize) -> &'a [u8]
     ensures value { result.now ≡ name_of object.now places.now k }
     ensures short { length result.now ≤ 255 }
 {
-    if k < 16 {
+    if k < MOST_NAMES {
         short_at(object, places[k])
     } else {
         b".."

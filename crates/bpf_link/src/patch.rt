@@ -5,6 +5,8 @@ ghost use Rattle.bpf_link.specs.Data.{HasMaps};
 ghost use Rattle.bpf_link.specs.Links.{patch_width};
 ghost use Rattle.bpf_link.specs.Patches.{HasSlots, HasPlace, HasRelocation, is_call, symbol_fault, part_with, call_to, call_patch, is_map, is_empty_load, map_number, map_patch, is_short_load, data_patch, load_patch, patch_with, is_next, patch_at, patch_of};
 ghost use Rattle.bpf_link.specs.Plans.{FitsPart, Lies, LiesPlan};
+ghost use Rattle.bpf_isa.specs.Maps.{most_maps};
+ghost use Rattle.bpf_isa.specs.Checker.{most_slots};
 
 use crate::data_sections::{data_number, is_among};
 use crate::fault::{LinkFault, RelocationFault};
@@ -69,8 +71,8 @@ fn call_to(
     slot: usize,
     fault: LinkFault,
 ) -> Result<Patch, LinkFault>
-    requires short { target.now.first + target.now.slots.count ≤ 65535 }
-    requires slot { slot < 65535 }
+    requires short { target.now.first + target.now.slots.count ≤ most_slots }
+    requires slot { slot < most_slots }
     ensures value { result ≡ call_to target.now value imm slot fault }
     ensures at { IfOk result (λ patch. patch.at ≡ 8 * slot) }
 {
@@ -137,7 +139,7 @@ fn is_empty_load(object: &[u8], at: usize) -> bool
 
 /// How many maps stand before a value.
 fn map_number(maps: &[u64], value: u64) -> u32
-    requires { length maps.now ≤ 16 }
+    requires { length maps.now ≤ most_maps }
     ensures { result ≡ map_number maps.now value }
 {
     let mut number = 0;
@@ -159,7 +161,7 @@ fn map_patch(
     slot: usize,
 ) -> Result<Patch, LinkFault>
     requires slots { HasSlots object.now 16 at slot }
-    requires maps { length maps.now ≤ 16 }
+    requires maps { length maps.now ≤ most_maps }
     ensures value { result ≡ map_patch object.now plan.now maps.now symbol.now at slot }
     ensures at { IfOk result (λ patch. patch.at ≡ 8 * slot) }
 {
@@ -198,7 +200,7 @@ fn data_patch(
     slot: usize,
 ) -> Result<Patch, LinkFault>
     requires slots { HasSlots object.now 16 at slot }
-    requires few { length maps.now + length taken.now ≤ 16 }
+    requires few { length maps.now + length taken.now ≤ most_maps }
     ensures value { result ≡ data_patch object.now plan.now maps.now taken.now symbol.now at slot }
     ensures at { IfOk result (λ patch. patch.at ≡ 8 * slot) }
 {
@@ -226,7 +228,7 @@ fn load_patch(
     slot: usize,
 ) -> Result<Patch, LinkFault>
     requires slots { HasSlots object.now 16 at slot }
-    requires few { length maps.now + length taken.now ≤ 16 }
+    requires few { length maps.now + length taken.now ≤ most_maps }
     ensures value { result ≡ load_patch object.now plan.now maps.now taken.now symbol.now at slot }
     ensures at { IfOk result (λ patch. patch.at ≡ 8 * slot) }
 {

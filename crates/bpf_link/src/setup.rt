@@ -4,6 +4,7 @@ ghost use Rattle.bpf_link.specs.Data.{HasData};
 ghost use Rattle.bpf_link.specs.Links.{MemoryOr};
 ghost use Rattle.bpf_link.specs.Setup.{with_place, store_words, with_store, with_stores, is_zero, with_image, with_section_image, stores_of, jump_words, with_entry, with_setup};
 ghost use Rattle.bpf_link.specs.declared.fault.LinkFault.TheVariants.{Memory};
+ghost use Rattle.bpf_isa.specs.Checker.{most_slots};
 
 use crate::fault::LinkFault;
 use crate::fields::u64_at;
@@ -185,7 +186,7 @@ fn with_jump(words: Vec<u8>, distance: u32) -> Result<Vec<u8>, LinkFault>
 
 /// A program without a setup, which begins at its entry.
 fn with_entry(alloc: Global, code: Vec<u8>, entry: usize) -> Result<Vec<u8>, LinkFault>
-    requires { entry < 65535 }
+    requires { entry < most_slots }
     ensures ok { IfOk result (λ words. words.items ≡ with_entry code.items entry) }
     ensures err { IfErr result (λ fault. fault ≡ Memory) }
 {
@@ -204,7 +205,7 @@ pub fn with_setup(
     entry: usize,
 ) -> Result<Vec<u8>, LinkFault>
     requires short { length code.items + length stores.now < 4294967296 }
-    requires inside { entry < 65535 }
+    requires inside { entry < most_slots }
     ensures ok { IfOk result (λ words. words.items ≡ with_setup code.items stores.now entry) }
     ensures err { IfErr result (λ fault. fault ≡ Memory) }
 {

@@ -5,13 +5,14 @@ ghost use Rattle.bpf_link.specs.MapTypes.{HasPlaces, is_typed};
 ghost use Rattle.bpf_link.specs.Refusals.{HasTypeFault};
 ghost use Rattle.bpf_link.specs.Shapes.{definition_at, is_array, shape_at, shapes_at, IsInOrder, AreDefined, AreOwn, is_unknown, all_shapes};
 ghost use Rattle.bpf_isa.specs.declared.maps.MapShape.{MapShape};
+ghost use Rattle.bpf_isa.specs.Maps.{most_maps};
 
 use crate::fault::LinkFault;
 use crate::layout::{MapDefinition, map_definition};
 use crate::map_types::{is_typed, shapes_by_types};
 use crate::plan::{Entries, Plan};
 use arrayvec::ArrayVec;
-use bpf_isa::MapShape;
+use bpf_isa::{MOST_MAPS, MapShape};
 use std::alloc::Global;
 
 /// The definition at a place of the section.
@@ -58,9 +59,9 @@ fn shape_at(object: &[u8], definitions: &Entries, place: u64) -> MapShape
 }
 
 /// The shapes of the maps at places of the section, none unless each is an array.
-fn shapes_at(object: &[u8], definitions: &Entries, places: &[u64]) -> ArrayVec<MapShape, 16>
+fn shapes_at(object: &[u8], definitions: &Entries, places: &[u64]) -> ArrayVec<MapShape, MOST_MAPS>
     requires lies { Lies object.now 1 definitions.now }
-    requires few { length places.now ≤ 16 }
+    requires few { length places.now ≤ most_maps }
     ensures { result.items ≡ shapes_at object.now definitions.now places.now }
 {
     let mut shapes = ArrayVec::new();
@@ -74,10 +75,10 @@ fn shapes_at(object: &[u8], definitions: &Entries, places: &[u64]) -> ArrayVec<M
 }
 
 /// Places in ascending order.
-pub fn in_order(places: &[u64]) -> ArrayVec<u64, 16>
-    requires { length places.now ≤ 16 }
+pub fn in_order(places: &[u64]) -> ArrayVec<u64, MOST_MAPS>
+    requires { length places.now ≤ most_maps }
     ensures value { IsInOrder places.now result.items }
-    ensures length { length result.items ≤ 16 }
+    ensures length { length result.items ≤ most_maps }
 {
     let mut ordered = ArrayVec::new();
     let _all = ordered.try_extend_from_slice(places);
@@ -87,9 +88,9 @@ pub fn in_order(places: &[u64]) -> ArrayVec<u64, 16>
 
 /// The shapes of maps that stand at places of the section, in the order of their numbers. None
 /// unless each is an array.
-fn shapes_of(object: &[u8], definitions: &Entries, maps: &[u64]) -> ArrayVec<MapShape, 16>
+fn shapes_of(object: &[u8], definitions: &Entries, maps: &[u64]) -> ArrayVec<MapShape, MOST_MAPS>
     requires lies { Lies object.now 1 definitions.now }
-    requires few { length maps.now ≤ 16 }
+    requires few { length maps.now ≤ most_maps }
     ensures defined { AreDefined object.now definitions.now maps.now result.items }
     ensures few { length result.items ≤ length maps.now }
 {
@@ -103,7 +104,7 @@ fn own_shapes(
     object: &[u8],
     plan: &Plan,
     maps: &[u64],
-) -> Result<ArrayVec<MapShape, 16>, LinkFault>
+) -> Result<ArrayVec<MapShape, MOST_MAPS>, LinkFault>
     requires { HasPlaces object.now plan.now maps.now }
     ensures ok { IfOk result (λ own. AreOwn (is_typed object.now plan.now maps.now)
         object.now plan.now maps.now own.items) }
@@ -125,9 +126,9 @@ pub fn all_shapes(
     plan: &Plan,
     maps: &[u64],
     others: &[MapShape],
-) -> Result<ArrayVec<MapShape, 16>, LinkFault>
+) -> Result<ArrayVec<MapShape, MOST_MAPS>, LinkFault>
     requires plan { LiesPlan object.now plan.now }
-    requires few { length maps.now + length others.now ≤ 16 }
+    requires few { length maps.now + length others.now ≤ most_maps }
     ensures ok { IfOk result (λ shapes. (own : List MapShape)
         × AreOwn (is_typed object.now plan.now maps.now) object.now plan.now maps.now own
         × (shapes.items ≡ all_shapes maps.now own others.now)) }
@@ -151,8 +152,11 @@ fn is_unknown(maps: &[u64], own: &[MapShape]) -> bool
 }
 
 /// Shapes, and after them those of data.
-fn with_data(mut shapes: ArrayVec<MapShape, 16>, others: &[MapShape]) -> ArrayVec<MapShape, 16>
-    requires { length shapes.items + length others.now ≤ 16 }
+fn with_data(
+    mut shapes: ArrayVec<MapShape, MOST_MAPS>,
+    others: &[MapShape],
+) -> ArrayVec<MapShape, MOST_MAPS>
+    requires { length shapes.items + length others.now ≤ most_maps }
     ensures { result.items ≡ shapes.items ++ others.now }
 {
     let _all = shapes.try_extend_from_slice(others);

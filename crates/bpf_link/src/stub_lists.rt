@@ -1,12 +1,15 @@
 //! Stubs as the command line lists them.
 ghost use Rattle.std.specs.Prelude.{◌≡◌, ◌≤◌, ◌<◌, ◌++◌, ◌∷◌, [], IfOk, IfErr, IfNone, IfSome, Ok, Err, length, position};
 ghost use Rattle.counted_io.specs.Numerals.{natural};
-ghost use Rattle.bpf_link.specs.StubLists.{number_below, helper_in, value_in, is_equals, stub_in, with_stub, stubs_in};
+ghost use Rattle.bpf_link.specs.StubLists.{number_below, helper_in, value_in, is_equals, stub_in, with_stub, stubs_in, most_stubs};
 
 use crate::fault::LinkFault;
 use crate::stubs::{Stub, is_answered};
 use arrayvec::ArrayVec;
 use counted_io::natural;
+
+/// How many stubs a list may have.
+pub const MOST_STUBS: usize = 16;
 
 /// The number that a text is, if it is below a bound.
 fn number_below(text: &[u8], bound: u64) -> Result<u32, LinkFault>
@@ -74,15 +77,15 @@ fn stub_in(item: &[u8]) -> Result<Stub, LinkFault>
 
 /// Why a stub can't be added to those before it.
 fn stub_fault(stubs: &[Stub], stub: Stub) -> Option<LinkFault>
-    requires { length stubs.now ≤ 16 }
+    requires { length stubs.now ≤ most_stubs }
     ensures none { IfNone result (with_stub stub stubs.now ≡ Ok (stubs.now ++ stub ∷ [])) }
-    ensures few { IfNone result (length stubs.now < 16) }
+    ensures few { IfNone result (length stubs.now < most_stubs) }
     ensures some { IfSome result (λ fault. with_stub stub stubs.now ≡ Err fault) }
 {
     if is_answered(stubs, stub.helper) {
         return Some(LinkFault::StubTwice);
     }
-    if stubs.len() == 16 {
+    if stubs.len() == MOST_STUBS {
         return Some(LinkFault::ManyStubs);
     }
     None
@@ -93,7 +96,7 @@ fn stub_fault(stubs: &[Stub], stub: Stub) -> Option<LinkFault>
 ///
 /// The fault is that of the first item that has one. Takes time in proportion to the length of the
 /// text.
-pub fn stubs_in(text: &[u8]) -> Result<ArrayVec<Stub, 16>, LinkFault>
+pub fn stubs_in(text: &[u8]) -> Result<ArrayVec<Stub, MOST_STUBS>, LinkFault>
     ensures ok { IfOk result (λ stubs. stubs_in text.now ≡ Ok stubs.items) }
     ensures err { IfErr result (λ fault. stubs_in text.now ≡ Err fault) }
 {

@@ -9,11 +9,12 @@ use crate::fault::LinkFault;
 use crate::patch::{Patch, is_map, patch_of};
 use crate::plan::{Part, Plan, symbol_at};
 use arrayvec::ArrayVec;
+use bpf_isa::MOST_MAPS;
 use byteorder::{ByteOrder, LittleEndian};
 use std::alloc::Global;
 
 /// Where the maps stand in their section.
-pub fn maps_of(object: &[u8], plan: &Plan) -> Result<ArrayVec<u64, 16>, LinkFault>
+pub fn maps_of(object: &[u8], plan: &Plan) -> Result<ArrayVec<u64, MOST_MAPS>, LinkFault>
     requires { LiesPlan object.now plan.now }
     ensures ok { IfOk result (λ maps. maps_of object.now plan.now ≡ Ok maps.items) }
     ensures err { IfErr result (λ fault. maps_of object.now plan.now ≡ Err fault) }

@@ -14,7 +14,9 @@ use crate::maps::tell_linked;
 use crate::refusal::JobRefusal;
 use crate::report::{give_up, told_as, write_out};
 use arrayvec::ArrayVec;
-use bpf_link::{LinkFault, LinkOptions, Linked, Stub, fault_names, link_with, stubs_in};
+use bpf_link::{
+    LinkFault, LinkOptions, Linked, MOST_STUBS, Stub, fault_names, link_with, stubs_in,
+};
 use counted_io::{Counted, WriteFault};
 use std::alloc::Global;
 use std::io::Write;
@@ -87,7 +89,7 @@ fn linked_from(alloc: Global, job: &Job<'_>, stubs: &[Stub]) -> Result<Linked, L
 }
 
 /// The helpers whose calls are answered.
-fn stubs_of(job: &Job<'_>) -> Result<ArrayVec<Stub, 16>, LinkFault>
+fn stubs_of(job: &Job<'_>) -> Result<ArrayVec<Stub, MOST_STUBS>, LinkFault>
     ensures ok { IfOk result (λ stubs. stubs_of job.now ≡ Ok stubs.items) }
     ensures err { IfErr result (λ fault. stubs_of job.now ≡ Err fault) }
 {

@@ -8,7 +8,7 @@ returns-clause-ok c =
     let found = c.in-Ok-data_of.ensures.ok ∙ ap Ok (sym c.as_slice-taken.ensures.value) in
     let size : length c.data_shapes-data_maps.result.items ≡ length c.as_slice-taken.result.now = ap length c.data_shapes-data_maps.ensures.value ∙ length-map _ _ in
     let own : length c.as_slice-own.result.now ≡ length c.in-Ok-maps_of.maps.items = ap length c.as_slice-own.ensures.value in
-    let few : length c.in-Ok-maps_of.maps.items + length c.data_shapes-data_maps.result.items ≤ 16 = omega (arith, size, own, c.if-own-taken-gt16.false) in
+    let few : length c.in-Ok-maps_of.maps.items + length c.data_shapes-data_maps.result.items ≤ 16 = omega (arith, size, own, c.if-own-taken-gt-MOST_MAPS.false) in
     record {
       ok = search (rules, tests);
       laid =
