@@ -10,7 +10,7 @@ use Rattle.bpf_btf.specs.Layout.{is_called, array_entry, member_entry}
 use Rattle.bpf_btf.specs.Faults.{provided, after}
 use Rattle.bpf_btf.specs.Types.{Types, start_of, type_of}
 use Rattle.bpf_btf.specs.Sizes.{resolved, size_of}
-use Rattle.bpf_isa.specs.Maps.{longest_value, most_entries, most_bytes}
+use Rattle.bpf_isa.specs.Maps.{longest_value, most_entries, most_map_bytes}
 
 -- The last number below n that passes a test.
 abbrev pub last_below : (ℕ → Bool) → ℕ → Option ℕ
@@ -117,7 +117,7 @@ abbrev pub limited : ℕ → ℕ → Result MapShape BtfFault
 limited value entries =
     provided (nat_lt 0 value && nat_le value longest_value) (Limits ValueSize)
     (provided (nat_lt 0 entries && nat_le entries most_entries) (Limits Entries)
-    (provided (nat_le (value * entries) most_bytes) (Limits Total)
+    (provided (nat_le (value * entries) most_map_bytes) (Limits Total)
     (Ok (record { value_size = value; entries = entries }))))
 
 -- What a struct says: the kind before all, so that a hash is refused as one, then the sizes. Its other members say nothing of the shape.

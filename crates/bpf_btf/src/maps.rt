@@ -8,7 +8,7 @@ use crate::fault::BtfFault;
 use crate::members::{latest, number_of, size_by};
 use crate::section::Btf;
 use crate::sizes::resolved;
-use bpf_isa::{LONGEST_VALUE, MOST_BYTES, MOST_ENTRIES, MapFault, MapShape};
+use bpf_isa::{LONGEST_VALUE, MOST_ENTRIES, MOST_MAP_BYTES, MapFault, MapShape};
 
 /// The most bytes of a map's name. It is compared with the name of each variable of `.maps`, and
 /// with one as long as the section that would take time in the square of its length.
@@ -105,7 +105,7 @@ fn limited(value_size: u32, entries: u32) -> Result<MapShape, BtfFault>
     if entries == 0 || entries > MOST_ENTRIES {
         return Err(BtfFault::Limits(MapFault::Entries));
     }
-    if value_size * entries > MOST_BYTES {
+    if value_size * entries > MOST_MAP_BYTES {
         return Err(BtfFault::Limits(MapFault::Total));
     }
     Ok(MapShape {

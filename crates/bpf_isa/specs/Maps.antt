@@ -17,15 +17,15 @@ longest_value = 256
 abbrev pub most_entries : ℕ
 most_entries = 4_096
 
-abbrev pub most_bytes : ℕ
-most_bytes = 65_536
+abbrev pub most_map_bytes : ℕ
+most_map_bytes = 65_536
 
 -- The shape of a map.
 pub record IsShape (shape : MapShape) : Type 0 where
   pub filled : (0 < shape.value_size) × (0 < shape.entries)
   pub value : shape.value_size ≤ longest_value
   pub entries : shape.entries ≤ most_entries
-  pub total : shape.value_size * shape.entries ≤ most_bytes
+  pub total : shape.value_size * shape.entries ≤ most_map_bytes
 
 -- A table.
 pub record AreMaps (maps : List MapShape) : Type 0 where
@@ -36,7 +36,7 @@ pub record AreMaps (maps : List MapShape) : Type 0 where
 abbrev pub HasMapFault : List MapShape → ℕ → ℕ → MapFault → Type 0
 HasMapFault maps value entries ValueSize = (value ≡ 0) ⊎ (longest_value < value)
 HasMapFault maps value entries Entries = (entries ≡ 0) ⊎ (most_entries < entries)
-HasMapFault maps value entries Total = most_bytes < value * entries
+HasMapFault maps value entries Total = most_map_bytes < value * entries
 HasMapFault maps value entries Full = most_maps ≤ length maps
 HasMapFault maps value entries Malformed = ⊥
 

@@ -27,7 +27,7 @@ pub use instruction::{
     Address, AtomicOp, BinaryOp, ByteOrder, Condition, Extension, Insn, LoadSize, SignedSize, Size,
     Source, SourceKind, SwapWidth, WideValue, Width,
 };
-pub use maps::{LONGEST_VALUE, MOST_BYTES, MOST_ENTRIES, MOST_MAPS, MapShape, MapTable};
+pub use maps::{LONGEST_VALUE, MOST_ENTRIES, MOST_MAP_BYTES, MOST_MAPS, MapShape, MapTable};
 pub use mnemonic::{Mnemonic, WideKind};
 pub use program::{MOST_SLOTS, Program, check};
 pub use register::Reg;

@@ -18,7 +18,7 @@ pub const LONGEST_VALUE: u32 = 256;
 pub const MOST_ENTRIES: u32 = 4_096;
 
 /// How many bytes a map may have in all.
-pub const MOST_BYTES: u32 = 65_536;
+pub const MOST_MAP_BYTES: u32 = 65_536;
 
 /// The shape of an array map: the size of a value in bytes and the number of entries.
 #[derive(Clone, Copy, Default)]
@@ -98,7 +98,7 @@ impl MapTable {
         if entries == 0 || entries > MOST_ENTRIES {
             return Err(MapFault::Entries);
         }
-        if value_size * entries > MOST_BYTES {
+        if value_size * entries > MOST_MAP_BYTES {
             return Err(MapFault::Total);
         }
         if self.shapes.is_full() {

@@ -13,7 +13,7 @@ use Rattle.bpf_link.specs.Header.{provided}
 use Rattle.bpf_link.specs.Sections.{section_at}
 use Rattle.bpf_link.specs.Plans.{after, steps, relocation_at, symbol_at, symbol_place}
 use Rattle.bpf_link.specs.Data.{is_among, data_number, pointers_of}
-use Rattle.bpf_isa.specs.Maps.{most_bytes}
+use Rattle.bpf_isa.specs.Maps.{most_map_bytes}
 
 -- Bytes, and zeros after them up to a whole number of eight.
 abbrev pub filled : ℕ → List ℕ → List ℕ
@@ -25,7 +25,7 @@ whole_size size = (size + 7) / 8 * 8
 -- The bytes of a section of data, SHT_NOBITS of zeros.
 abbrev pub bytes_of : List ℕ → SectionHeader → Result (List ℕ) LinkFault
 bytes_of object section =
-    provided (nat_le section.size most_bytes) LongData
+    provided (nat_le section.size most_map_bytes) LongData
     (if section.kind == 8 then Ok (filled (whole_size section.size) [])
     else provided (nat_le (section.offset + section.size) (length object)) DataSection
     (Ok (filled (whole_size section.size) (slice_range object section.offset (section.offset + section.size)))))

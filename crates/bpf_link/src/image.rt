@@ -13,7 +13,7 @@ use crate::fields::{lies, u64_at};
 use crate::layout::{RelocationEntry, SectionHeader, SymbolEntry};
 use crate::plan::{Entries, Plan, relocation_at, symbol_at, symbol_place};
 use crate::sections::section_at;
-use bpf_isa::MOST_BYTES;
+use bpf_isa::MOST_MAP_BYTES;
 use byteorder::{ByteOrder, LittleEndian};
 use std::alloc::Global;
 
@@ -37,7 +37,7 @@ fn bytes_of(alloc: Global, object: &[u8], section: &SectionHeader) -> Result<Vec
     ensures ok { IfOk result (λ image. bytes_of object.now section.now ≡ Ok image.items) }
     ensures err { IfErr result (MemoryOr (bytes_of object.now section.now)) }
 {
-    if section.size > u64::from(MOST_BYTES) {
+    if section.size > u64::from(MOST_MAP_BYTES) {
         return Err(LinkFault::LongData);
     }
     let size = (section.size as usize + 7) / 8 * 8;

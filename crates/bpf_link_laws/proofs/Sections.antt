@@ -35,7 +35,7 @@ use Rattle.bpf_machine.specs.ByAddress.{byte_at}
 use Rattle.bpf_machine.specs.Platform.{context_limit, frame_count, frame_len, map_address}
 use Rattle.bpf_machine.specs.Regions.{IsImage, map_len, maps_len, opened}
 use Rattle.bpf_machine.proofs.ByAddress.{law_opened}
-use Rattle.bpf_isa.specs.Maps.{most_bytes}
+use Rattle.bpf_isa.specs.Maps.{most_map_bytes}
 
 is_most : (a b : ℕ) → nat_le a b ≡ true → a ≤ b
 is_most a b e = grind (arith, nat_tests)
@@ -61,8 +61,8 @@ bytes_fit object section bytes false e =
 
 of_section : (object : List ℕ) (section : SectionHeader) (bytes : List ℕ) → bytes_of object section ≡ Ok bytes → Fits section.size bytes
 of_section object section bytes e =
-    let a = provided_ok (nat_le section.size most_bytes) LongData _ bytes e in
-    record { most = is_most section.size most_bytes a.0; whole = bytes_fit object section bytes (section.kind == 8) a.1 }
+    let a = provided_ok (nat_le section.size most_map_bytes) LongData _ bytes e in
+    record { most = is_most section.size most_map_bytes a.0; whole = bytes_fit object section bytes (section.kind == 8) a.1 }
 
 -- Addresses in them leave their length.
 u64_length : (bytes : List ℕ) (at n : ℕ) → at + 8 ≤ length bytes → length (with_u64 bytes at n) ≡ length bytes
