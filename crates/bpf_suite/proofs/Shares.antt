@@ -1,18 +1,19 @@
 -- Tests whose own sections leave them the program that all share.
-use Rattle.std.proofs.Common.{ℕ, ◌≡◌, true, false, not, Bool, ◌&&◌, ◌||◌, List, [], ◌∷◌, ◌++◌, Option, Some, None, cond, refl, sym, ap, ◌∙◌}
+use Rattle.std.proofs.Common.{ℕ, ◌≡◌, true, false, not, Bool, ◌||◌, List, [], ◌∷◌, ◌++◌, Option, Some, None, Result, cond, refl, sym, ap, subst, ◌∙◌}
 use Rattle.std.specs.List.{find, list_any}
-use Rattle.std.specs.Option.{option_map, option_map_or}
-use Rattle.bpf_suite.specs.Benches.{Loads, shares_program}
+use Rattle.std.specs.Option.{option_map, option_map_or, option_or}
+use Rattle.bpf_text.specs.declared.fault.AsmFault.{AsmFault}
+use Rattle.bpf_suite.specs.Benches.{IsBench, Loads, shares_program, with_maps}
 use Rattle.bpf_suite.specs.Bodies.{trimmed}
 use Rattle.bpf_suite.specs.Faults.{has_part}
 use Rattle.bpf_suite.specs.Kinds.{is_part}
-use Rattle.bpf_suite.specs.Outcomes.{Outcome}
-use Rattle.bpf_suite.specs.Tests.{cells, context, has_listing, is_listing, limit, maps, program, section_for, setting, text_or_bytes}
-use Rattle.bpf_suite.specs.declared.cells.Cell.{Cell}
+use Rattle.bpf_suite.specs.Outcomes.{Outcome, Reads}
+use Rattle.bpf_suite.specs.Tests.{has_listing, is_listing, maps, program, section_for, setting, text_or_bytes}
 use Rattle.bpf_suite.specs.declared.kind.Part.{Part}
 use Rattle.bpf_suite.specs.declared.kind.Part.TheVariants as part
 use Rattle.bpf_suite.specs.declared.section.Section.{Section}
 use Rattle.bpf_suite.specs.declared.setting.Setting.{Setting}
+use Rattle.bpf_suite.proofs.Lists.{find-append, or_else}
 use Rattle.bpf_suite.proofs.Programs.{Loads-same, SameProgram, other-way}
 
 -- what no element of a list is is found in the list behind it
@@ -29,55 +30,71 @@ find-behind p (x ∷ xs) ys e =
 section_for-behind : (p : Part) (own shared : List Section) → has_part p own ≡ false → section_for p (own ++ shared) ≡ section_for p shared
 section_for-behind p own shared e = find-behind (λ section. is_part p section.kind) own shared e
 
--- neither of two
-and-not : (a b : Bool) → (not a && not b) ≡ true → (a ≡ false) × (b ≡ false)
-and-not true b e = cc
-and-not false true e = cc
-and-not false false e = (refl, refl)
+-- maps of a test's own stand in front of those that are shared
+or-mapped : {X Y : Type 0} (f : X → Y) (one other : Option X) → option_map f (or_else one other) ≡ option_or (option_map f one) (option_map f other)
+or-mapped f None other = refl
+or-mapped f (Some x) other = refl
+
+not-true : (a : Bool) → not a ≡ true → a ≡ false
+not-true true e = cc
+not-true false e = refl
+
+maps-own : (own shared : List Section) → maps (own ++ shared) ≡ option_or (maps own) (maps shared)
+maps-own own shared =
+    ap (λ found. option_map (λ section. trimmed section.body) found) (find-append (λ section. is_part part.Maps section.kind) own shared)
+    ∙ or-mapped (λ section. trimmed section.body) (section_for part.Maps own) (section_for part.Maps shared)
 
 pub shared-program : (own shared : List Section) → shares_program own ≡ true → program (own ++ shared) ≡ program shared
 shared-program own shared e =
-    let none = and-not (has_part part.Program own) (has_part part.Maps own) e in
-    ap (λ found. option_map_or (λ section. text_or_bytes section.kind section.body) found []) (section_for-behind part.Program own shared none.0)
+    ap (λ found. option_map_or (λ section. text_or_bytes section.kind section.body) found [])
+    (section_for-behind part.Program own shared (not-true (has_part part.Program own) e))
 
-pub shared-setting : (own shared : List Section) → shares_program own ≡ true → SameProgram (setting (own ++ shared)) (setting shared)
-shared-setting own shared e =
-    let none = and-not (has_part part.Program own) (has_part part.Maps own) e in
-    record {
-      maps = ap (λ found. option_map (λ section. trimmed section.body) found) (section_for-behind part.Maps own shared none.1);
-      listing = ap (λ found. option_map_or (λ section. is_listing section.kind) found false) (section_for-behind part.Program own shared none.0);
-      program = shared-program own shared e;
-    }
+pub shared-listing : (own shared : List Section) → shares_program own ≡ true → has_listing (own ++ shared) ≡ has_listing shared
+shared-listing own shared e =
+    ap (λ found. option_map_or (λ section. is_listing section.kind) found false)
+    (section_for-behind part.Program own shared (not-true (has_part part.Program own) e))
 
--- what is said of a test, by its parts
-is-setting-of : (t : Setting) (s : List Section) → t.maps ≡ maps s → t.is_listing ≡ has_listing s → t.program ≡ program s
-    → t.context ≡ context s → t.cells ≡ cells s → t.limit ≡ limit s → t ≡ setting s
-is-setting-of t s m l p c v n =
-    ap (λ (x : Option (List ℕ)). record t { maps = x }) m
-    ∙ ap (λ (x : Bool). record t { maps = maps s; is_listing = x }) l
-    ∙ ap (λ (x : List ℕ). record t { maps = maps s; is_listing = has_listing s; program = x }) p
-    ∙ ap (λ (x : List ℕ). record t { maps = maps s; is_listing = has_listing s; program = program s; context = x }) c
-    ∙ ap (λ (x : List Cell). record t { maps = maps s; is_listing = has_listing s; program = program s; context = context s; cells = x }) v
-    ∙ ap (λ (x : ℕ). record t { maps = maps s; is_listing = has_listing s; program = program s; context = context s; cells = cells s; limit = x }) n
+-- the settings of a test and of its bench
+same-program : (own shared : List Section) → shares_program own ≡ true → SameProgram (setting (own ++ shared)) (with_maps (maps own) (setting shared))
+same-program own shared e = record { maps = maps-own own shared; listing = shared-listing own shared e; program = shared-program own shared e }
 
-pub is-setting : (t : Setting) (own shared : List Section) → shares_program own ≡ true → t.maps ≡ maps (own ++ shared)
-    → t.is_listing ≡ has_listing (own ++ shared) → t.program ≡ program shared → t.context ≡ context (own ++ shared) → t.cells ≡ cells (own ++ shared)
-    → t.limit ≡ limit (own ++ shared) → t ≡ setting (own ++ shared)
-is-setting t own shared e m l p c v n = is-setting-of t (own ++ shared) m l (p ∙ sym (shared-program own shared e)) c v n
-
-pub test-setting : (m : Option (List ℕ)) (l : Bool) (p b : List ℕ) (v : List Cell) (n : ℕ) (test own shared : List Section) → shares_program own ≡ true
-    → test ≡ own ++ shared → m ≡ maps test → l ≡ has_listing test → p ≡ program shared → b ≡ context test → v ≡ cells test → n ≡ limit test
-    → record { maps = m; is_listing = l; program = p; context = b; cells = v; limit = n } ≡ setting (own ++ shared)
-test-setting m l p b v n test own shared e is em el ep eb ev en =
-    is-setting record { maps = m; is_listing = l; program = p; context = b; cells = v; limit = n } own shared e (em ∙ ap maps is) (el ∙ ap has_listing is) ep
-    (eb ∙ ap context is) (ev ∙ ap cells is) (en ∙ ap limit is)
+-- the words of the shared program are those of a test
+pub reads-own : (own shared : List Section) (words : Result (List ℕ) AsmFault) → shares_program own ≡ true
+    → Reads (has_listing shared) (program shared) words → Reads (has_listing (own ++ shared)) (program (own ++ shared)) words
+reads-own own shared words e reads = rw (shared-listing own shared e, shared-program own shared e) reads
 
 -- the machine of the shared program is that of a test, and it stays one
-pub loads-own : (own shared : List Section) (machine : Outcome) → shares_program own ≡ true → Loads (setting shared) machine
+pub loads-own : (own shared : List Section) (machine : Outcome) → shares_program own ≡ true → Loads (with_maps (maps own) (setting shared)) machine
     → Loads (setting (own ++ shared)) machine
 loads-own own shared machine e loads =
-    Loads-same (setting shared) (setting (own ++ shared)) machine (other-way (setting (own ++ shared)) (setting shared) (shared-setting own shared e)) loads
+    Loads-same (with_maps (maps own) (setting shared)) (setting (own ++ shared)) machine
+    (other-way (setting (own ++ shared)) (with_maps (maps own) (setting shared)) (same-program own shared e)) loads
 
 pub loads-shared : (own shared : List Section) (machine : Outcome) → shares_program own ≡ true → Loads (setting (own ++ shared)) machine
-    → Loads (setting shared) machine
-loads-shared own shared machine e loads = Loads-same (setting (own ++ shared)) (setting shared) machine (shared-setting own shared e) loads
+    → Loads (with_maps (maps own) (setting shared)) machine
+loads-shared own shared machine e loads =
+    Loads-same (setting (own ++ shared)) (with_maps (maps own) (setting shared)) machine (same-program own shared e) loads
+
+-- a bench behind a test that was run on it
+pub bench-after : (own shared : List Section) (read : List ℕ) (words : Result (List ℕ) AsmFault) (before mine : Option (List ℕ)) (old new : Outcome) (t : Setting)
+    → shares_program own ≡ true → IsBench shared read words before old → mine ≡ maps own → t ≡ setting (own ++ shared) → Loads t new
+    → IsBench shared read words mine new
+bench-after own shared read words before mine old new t e bench is same loads = record {
+  text = bench.text;
+  reads = bench.reads;
+  loads = subst (λ (m : Option (List ℕ)). Loads (with_maps m (setting shared)) new) (sym is)
+      (loads-shared own shared new e (subst (λ (u : Setting). Loads u new) same loads));
+}
+
+-- the machine of the test before is that of a test, where both have the same maps of their own
+pub loads-again : (own shared : List Section) (read : List ℕ) (words : Result (List ℕ) AsmFault) (before mine : Option (List ℕ)) (machine : Outcome) (t : Setting)
+    → shares_program own ≡ true → IsBench shared read words before machine → before ≡ mine → mine ≡ maps own → t ≡ setting (own ++ shared) → Loads t machine
+loads-again own shared read words before mine machine t e bench alike is same =
+    subst (λ (u : Setting). Loads u machine) (sym same)
+    (loads-own own shared machine e (subst (λ (m : Option (List ℕ)). Loads (with_maps m (setting shared)) machine) (alike ∙ is) bench.loads))
+
+-- the words of its program
+pub words-again : (own shared : List Section) (read : List ℕ) (words : Result (List ℕ) AsmFault) (before : Option (List ℕ)) (machine : Outcome) (t : Setting)
+    → shares_program own ≡ true → IsBench shared read words before machine → t ≡ setting (own ++ shared) → Reads t.is_listing t.program words
+words-again own shared read words before machine t e bench same =
+    subst (λ (u : Setting). Reads u.is_listing u.program words) (sym same) (reads-own own shared words e bench.reads)

@@ -1,17 +1,23 @@
--- The program that tests of a file share: it is checked once, and they run on one machine, one after another.
-use Rattle.std.specs.Prelude.{ℕ, ◌≡◌, Bool, false, not, ◌&&◌, List, Option, Some, None, Ok, Err}
+-- The program that tests of a file share: its words are read once, it is checked with the maps of a test, and tests run on one machine, one after another.
+use Rattle.std.specs.Prelude.{ℕ, ◌≡◌, Bool, false, not, List, Option, Some, None, Result, Ok, Err}
+use Rattle.std.specs.Option.{option_or}
+use Rattle.bpf_text.specs.declared.fault.AsmFault.{AsmFault}
 use Rattle.bpf_suite.specs.Faults.{has_part}
-use Rattle.bpf_suite.specs.Outcomes.{IsProgramOf, Outcome, Refuses, is_memory}
-use Rattle.bpf_suite.specs.Tests.{program, setting}
+use Rattle.bpf_suite.specs.Outcomes.{IsProgramOf, Outcome, Reads, Refuses, is_memory}
+use Rattle.bpf_suite.specs.Tests.{has_listing, program, setting}
 use Rattle.bpf_suite.specs.declared.kind.Part.TheVariants as part
 use Rattle.bpf_suite.specs.declared.refusal.Refusal.{Refusal}
 use Rattle.bpf_suite.specs.declared.refusal.Refusal.TheVariants.{Maps, Listing, Load, Open, NoCell}
 use Rattle.bpf_suite.specs.declared.section.Section.{Section}
 use Rattle.bpf_suite.specs.declared.setting.Setting.{Setting}
 
--- A test has the shared program, where its own sections have neither a program nor maps.
+-- A test has the shared program, where its own sections have none.
 abbrev pub shares_program : List Section → Bool
-shares_program own = not (has_part part.Program own) && not (has_part part.Maps own)
+shares_program own = not (has_part part.Program own)
+
+-- What is said of a program, with other maps, if there are some.
+abbrev pub with_maps : Option (List ℕ) → Setting → Setting
+with_maps maps t = record t { maps = option_or maps t.maps }
 
 -- Why a program is refused whatever it would run on.
 abbrev pub RefusesProgram : Setting → Refusal → Type 0
@@ -31,9 +37,11 @@ pub record Shared : Type 0 where
   pub sections : List Section
   pub machine : Outcome
 
-pub record IsBench (sections : List Section) (read : List ℕ) (machine : Outcome) : Type 0 where
+-- The machine is that of a test with the shared program and these maps of its own, if it has some.
+pub record IsBench (sections : List Section) (read : List ℕ) (words : Result (List ℕ) AsmFault) (own : Option (List ℕ)) (machine : Outcome) : Type 0 where
   pub text : read ≡ program sections
-  pub loads : Loads (setting sections) machine
+  pub reads : Reads (has_listing sections) (program sections) words
+  pub loads : Loads (with_maps own (setting sections)) machine
 
 -- What a test comes to: that machine, or a refusal of its own.
 abbrev pub outcome_by : Outcome → Option Refusal → Outcome

@@ -1,5 +1,5 @@
 -- What comes of a test's program: it is refused, or it runs to its end or to the limit.
-use Rattle.std.specs.Prelude.{ℕ, ◌≡◌, ◌≤◌, true, false, Bool, not, List, [], ◌∷◌, ◌++◌, codes, decimal, find, length, map, Option, Some, None, Result, Ok, Err, slice_get}
+use Rattle.std.specs.Prelude.{ℕ, ◌≡◌, ◌≤◌, true, false, Bool, not, List, [], ◌∷◌, ◌++◌, codes, decimal, find, length, map, Option, Some, None, Result, Ok, Err, IfErr, OnErr, OnOk, slice_get}
 use Rattle.bpf_isa.specs.Checker.{IsRefused}
 use Rattle.bpf_isa.specs.Faults.{load_fault, map_fault}
 use Rattle.bpf_isa.specs.Maps.{IsListFault, IsMapList, items_of, shape_of}
@@ -9,6 +9,7 @@ use Rattle.bpf_isa.specs.declared.fault.LoadFault.TheVariants as load
 use Rattle.bpf_isa.specs.declared.maps.MapShape.{MapShape}
 use Rattle.bpf_text.specs.Faults.{asm_fault, fault_line}
 use Rattle.bpf_text.specs.Listing.{IsFaultOf, IsListing}
+use Rattle.bpf_text.specs.declared.fault.AsmFault.{AsmFault}
 use Rattle.bpf_text.specs.declared.fault.AsmFault.TheVariants as assembly
 use Rattle.bpf_machine.specs.Edits.{edited, has_cell}
 use Rattle.bpf_machine.specs.Opening as opening
@@ -37,6 +38,11 @@ abbrev pub HasWords : Bool → List ℕ → List ℕ → Type 0
 HasWords false program words = words ≡ program
 HasWords true program words = IsListing program words
 
+-- Its words, or the fault of its listing.
+abbrev pub Reads : Bool → List ℕ → Result (List ℕ) AsmFault → Type 0
+Reads listing program (Ok words) = HasWords listing program words
+Reads listing program (Err fault) = (listing ≡ true) × IsFaultOf program fault
+
 -- The program: the checker accepted its words with its maps.
 pub record IsProgramOf (t : Setting) (code : Checked) : Type 0 where
   pub maps : HasMaps t.maps code.maps
@@ -57,6 +63,14 @@ edit_of cell = edit.Cell cell.map cell.index cell.value
 abbrev pub with_cells : List Cell → State → State
 with_cells [] x = x
 with_cells (cell ∷ cells) x = with_cells cells (edited x (edit_of cell))
+
+-- A cell gets its value, unless it isn't there.
+pub record GivesCell (cell : Cell) (old new : State) (result : Result (Unit {0}) Refusal) : Type 0 where
+  pub ok : OnOk result (is_there old.program.maps cell ≡ true)
+  pub next : OnOk result (new ≡ edited old (edit_of cell))
+  pub err : OnErr result (is_there old.program.maps cell ≡ false)
+  pub told : IfErr result (λ refusal. refusal ≡ NoCell cell.map cell.index)
+  pub program : new.program ≡ old.program
 
 -- The machine is opened on the program and the context.
 pub record IsOpened (t : Setting) (code : Checked) : Type 0 where

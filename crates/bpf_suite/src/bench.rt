@@ -1,17 +1,19 @@
 //! The program that tests of a file share, and the machine that they run on, one after another.
-ghost use Rattle.std.specs.Prelude.{◌≡◌, ◌++◌, IfNone, IfOk, IfSome, true};
+ghost use Rattle.std.specs.Prelude.{◌≡◌, ◌++◌, Decides, IfNone, IfOk, IfSome, OnErr, OnOk, true};
 ghost use Rattle.bpf_suite.specs.Benches.{Loads, outcome_by, shares_program};
-ghost use Rattle.bpf_suite.specs.Outcomes.{Comes, Refuses};
-ghost use Rattle.bpf_suite.specs.Tests.{setting};
+ghost use Rattle.bpf_suite.specs.Outcomes.{Comes, Reads, Refuses};
+ghost use Rattle.bpf_suite.specs.Tests.{has_listing, program as program_of, setting};
 
 use crate::kind::Part;
 use crate::list::Own;
 use crate::outcome::{loaded, outcome_on};
 use crate::refusal::Refusal;
 use crate::section::{Section, Text};
-use crate::setting::Setting;
-use crate::test::{Test, has_part};
+use crate::setting::{Setting, setting_of};
+use crate::test::{Test, has_part, maps_in};
+use crate::words::{Words, words_of};
 use bpf_machine::Cpu;
+use bpf_text::AsmFault;
 use std::alloc::{AllocError, Global};
 use std::marker::Model;
 
@@ -22,6 +24,9 @@ pub struct Bench<'b, 'a> {
     shared: &'b [Section<'a>],
     /// A listing, or the bytes of words.
     program: Vec<u8>,
+    words: Result<Words, AsmFault>,
+    /// The maps of the test that was run last, where it has some of its own: those of the machine.
+    maps: Option<Text<'a>>,
     machine: Result<Cpu, Refusal>,
 }
 
@@ -32,7 +37,7 @@ impl<'b, 'a> Model for Bench<'b, 'a> {
 
     ghost view = { λ b. record { sections = b.shared.now; machine = b.machine } };
 
-    ghost invariant = { λ b. IsBench b.shared.now b.program.items b.machine };
+    ghost invariant = { λ b. IsBench b.shared.now b.program.items b.words b.maps b.machine };
 }
 
 impl<'b, 'a> Bench<'b, 'a> {
@@ -41,11 +46,14 @@ impl<'b, 'a> Bench<'b, 'a> {
         ensures { IfOk result (λ bench. bench.sections ≡ shared.now) }
     {
         let test = Test { own: &[], shared };
-        let machine = machine_of(alloc, &test)?;
         let program = test.program(alloc)?;
+        let words = words_of(alloc, test.has_listing(), program.as_slice())?;
+        let machine = machine_of(alloc, &test, program.as_slice(), &words)?;
         Ok(Bench {
             shared,
             program,
+            words,
+            maps: None,
             machine,
         })
     }
@@ -67,8 +75,9 @@ impl<'b, 'a> Bench<'b, 'a> {
         &self.machine
     }
 
-    /// Runs a test of the shared program on the machine. Answers why it is refused, if it is and
-    /// other tests aren't; else the machine is what it came to.
+    /// Runs a test of the shared program on the machine, which is made anew where it has other maps
+    /// than the test before. Answers why the test is refused, if it is and others aren't; else the
+    /// machine is what it came to.
     pub fn run(&mut self, alloc: Global, own: &Own<'b, 'a>) -> Result<Option<Refusal>, AllocError>
         requires { shares_program own.now ≡ true }
         ensures comes { IfOk result (λ refusal.
@@ -78,18 +87,11 @@ impl<'b, 'a> Bench<'b, 'a> {
         let test = self.test(own);
         let context = test.context(alloc)?;
         let cells = test.cells(alloc)?;
-        let setting = Setting {
-            maps: test.maps(),
-            is_listing: test.has_listing(),
-            program: Text {
-                bytes: self.program.as_slice(),
-            },
-            context: Text {
-                bytes: context.as_slice(),
-            },
-            cells,
-            limit: test.limit(),
-        };
+        let setting = setting_of(&test, self.program.as_slice(), context.as_slice(), cells);
+        let maps = maps_in(own.sections);
+        let stands = same_maps(&self.maps, &maps);
+        bring(alloc, &mut self.machine, stands, &setting, &self.words)?;
+        self.maps = maps;
         match run_on(alloc, &mut self.machine, &setting) {
             Some(refusal) => {
                 if refusal.is_memory() {
@@ -103,33 +105,58 @@ impl<'b, 'a> Bench<'b, 'a> {
     }
 }
 
-/// Whether a test with these sections of its own has the shared program, with the shared maps.
+/// Whether a test with these sections of its own has the shared program.
 pub fn shares_program(own: &[Section<'_>]) -> bool
     ensures { result ≡ shares_program own.now }
 {
-    !has_part(own, Part::Program) && !has_part(own, Part::Maps)
+    !has_part(own, Part::Program)
+}
+
+/// Whether two tests have the same text of maps of their own, or both none.
+fn same_maps(one: &Option<Text<'_>>, other: &Option<Text<'_>>) -> bool
+    ensures { Decides result (one.now ≡ other.now) }
+{
+    match (one, other) {
+        (Some(one), Some(other)) => one.bytes == other.bytes,
+        (None, None) => true,
+        _ => false,
+    }
 }
 
 /// A machine that stands on the program of a test, or why there is none.
-fn machine_of(alloc: Global, test: &Test<'_, '_>) -> Result<Result<Cpu, Refusal>, AllocError>
+fn machine_of(
+    alloc: Global,
+    test: &Test<'_, '_>,
+    program: &[u8],
+    words: &Result<Words, AsmFault>,
+) -> Result<Result<Cpu, Refusal>, AllocError>
+    requires program { program.now ≡ program_of test.now }
+    requires words { Reads (has_listing test.now) program.now words.now }
     ensures { IfOk result (Loads (setting test.now)) }
 {
-    let program = test.program(alloc)?;
     let context = test.context(alloc)?;
     let cells = test.cells(alloc)?;
-    let setting = Setting {
-        maps: test.maps(),
-        is_listing: test.has_listing(),
-        program: Text {
-            bytes: program.as_slice(),
-        },
-        context: Text {
-            bytes: context.as_slice(),
-        },
-        cells,
-        limit: test.limit(),
-    };
-    loaded(alloc, &setting)
+    let setting = setting_of(test, program, context.as_slice(), cells);
+    loaded(alloc, &setting, words)
+}
+
+/// Brings a machine onto a program, where it doesn't stand on it.
+fn bring(
+    alloc: Global,
+    machine: &mut Result<Cpu, Refusal>,
+    stands: bool,
+    setting: &Setting<'_, '_>,
+    words: &Result<Words, AsmFault>,
+) -> Result<(), AllocError>
+    requires words { Reads setting.now.is_listing setting.now.program words.now }
+    requires stands { stands ≡ true → Loads setting.now machine.old }
+    ensures ok { OnOk result (Loads setting.now machine.new) }
+    ensures err { OnErr result (machine.new ≡ machine.old) }
+{
+    if !stands {
+        *machine = loaded(alloc, setting, words)?;
+    }
+    Ok(())
 }
 
 /// Runs a program on its machine, if it has one. Answers why it is refused, if it is here and
@@ -137,7 +164,7 @@ fn machine_of(alloc: Global, test: &Test<'_, '_>) -> Result<Result<Cpu, Refusal>
 fn run_on(
     alloc: Global,
     machine: &mut Result<Cpu, Refusal>,
-    setting: &Setting<'_>,
+    setting: &Setting<'_, '_>,
 ) -> Option<Refusal>
     requires { Loads setting.now machine.old }
     ensures loads { Loads setting.now machine.new }

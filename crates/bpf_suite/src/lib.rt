@@ -17,6 +17,7 @@ mod suite;
 mod test;
 mod values;
 mod verdict;
+mod words;
 
 pub use fault::{FileFault, SectionFault};
 pub use list::{TestList, choose};

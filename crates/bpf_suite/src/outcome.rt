@@ -7,15 +7,16 @@ ghost use Rattle.bpf_session.specs.Plain.{plain_end};
 ghost use Rattle.bpfdb_replies.specs.Texts.{place};
 ghost use Rattle.counted_io.specs.Writing.{WritesAfter};
 ghost use Rattle.bpf_suite.specs.Benches.{Loads, RefusesProgram};
-ghost use Rattle.bpf_suite.specs.Outcomes.{Ends, HasMaps, HasWords, IsOpened, IsProgramOf, Refuses, cell_name, cell_place, edit_of, is_there, limit_word, missing, outcome_text, placed, refusal_text, slot_of, text_of_refusal, with_cells};
+ghost use Rattle.bpf_suite.specs.Outcomes.{Ends, GivesCell, HasMaps, HasWords, IsOpened, IsProgramOf, Reads, Refuses, cell_name, cell_place, limit_word, missing, outcome_text, placed, refusal_text, slot_of, text_of_refusal, with_cells};
 
 use crate::cells::Cell;
 use crate::refusal::Refusal;
 use crate::setting::Setting;
+use crate::words::Words;
 use bpf_isa::{LoadFault, MapTable, Program, check};
 use bpf_machine::{Cpu, Edit, Status};
 use bpf_session::run_plain;
-use bpf_text::{AsmFault, assemble};
+use bpf_text::AsmFault;
 use bpfdb_replies::write_place;
 use counted_io::{Counted, WriteFault, put, put_decimal};
 use std::alloc::{AllocError, Global};
@@ -25,7 +26,7 @@ use std::io::{Write, sink};
 const NO_CELL: u64 = 14;
 
 /// The map table.
-fn maps_of(setting: &Setting<'_>) -> Result<MapTable, Refusal>
+fn maps_of(setting: &Setting<'_, '_>) -> Result<MapTable, Refusal>
     ensures ok { IfOk result (HasMaps setting.now.maps) }
     ensures err { IfErr result (RefusesProgram setting.now) }
 {
@@ -38,9 +39,14 @@ fn maps_of(setting: &Setting<'_>) -> Result<MapTable, Refusal>
     }
 }
 
-/// The program: first its maps are read, then the listing, if it is one, is assembled, then the
-/// checker looks at the words.
-fn program_of(alloc: Global, setting: &Setting<'_>) -> Result<Program, Refusal>
+/// The program: first its maps are read, then its listing has a fault or words, then the checker
+/// looks at these.
+fn program_of(
+    alloc: Global,
+    setting: &Setting<'_, '_>,
+    words: &Result<Words, AsmFault>,
+) -> Result<Program, Refusal>
+    requires { Reads setting.now.is_listing setting.now.program words.now }
     ensures ok { IfOk result (IsProgramOf setting.now) }
     ensures err { IfErr result (RefusesProgram setting.now) }
 {
@@ -48,30 +54,16 @@ fn program_of(alloc: Global, setting: &Setting<'_>) -> Result<Program, Refusal>
         Ok(maps) => maps,
         Err(refusal) => return Err(refusal),
     };
-    if setting.is_listing {
-        assembled(alloc, setting, &maps)
-    } else {
-        checked(alloc, setting, setting.program.bytes, &maps)
-    }
-}
-
-/// The program of a listing.
-fn assembled(alloc: Global, setting: &Setting<'_>, maps: &MapTable) -> Result<Program, Refusal>
-    requires maps { HasMaps setting.now.maps maps.now }
-    requires listing { setting.now.is_listing ≡ true }
-    ensures ok { IfOk result (IsProgramOf setting.now) }
-    ensures err { IfErr result (RefusesProgram setting.now) }
-{
-    match assemble(alloc, setting.program.bytes) {
-        Ok(words) => checked(alloc, setting, words.as_slice(), maps),
-        Err(fault) => Err(Refusal::Listing(fault)),
+    match words {
+        Ok(words) => checked(alloc, setting, words.as_slice(), &maps),
+        Err(fault) => Err(Refusal::Listing(*fault)),
     }
 }
 
 /// The program of these words.
 fn checked(
     alloc: Global,
-    setting: &Setting<'_>,
+    setting: &Setting<'_, '_>,
     words: &[u8],
     maps: &MapTable,
 ) -> Result<Program, Refusal>
@@ -91,10 +83,15 @@ fn checked(
 
 /// A machine that stands on the program, with no context; or why there is none, unless that is want
 /// of memory.
-pub fn loaded(alloc: Global, setting: &Setting<'_>) -> Result<Result<Cpu, Refusal>, AllocError>
+pub fn loaded(
+    alloc: Global,
+    setting: &Setting<'_, '_>,
+    words: &Result<Words, AsmFault>,
+) -> Result<Result<Cpu, Refusal>, AllocError>
+    requires { Reads setting.now.is_listing setting.now.program words.now }
     ensures { IfOk result (Loads setting.now) }
 {
-    match program_of(alloc, setting) {
+    match program_of(alloc, setting, words) {
         Ok(program) => match Cpu::open(alloc, program, &[]) {
             Ok(cpu) => Ok(Ok(cpu)),
             Err(_) => Err(AllocError),
@@ -110,12 +107,17 @@ pub fn loaded(alloc: Global, setting: &Setting<'_>) -> Result<Result<Cpu, Refusa
 }
 
 /// A machine that is opened on the program and the context.
-fn machine_of(alloc: Global, setting: &Setting<'_>) -> Result<Cpu, Refusal>
+fn machine_of(
+    alloc: Global,
+    setting: &Setting<'_, '_>,
+    words: &Result<Words, AsmFault>,
+) -> Result<Cpu, Refusal>
+    requires { Reads setting.now.is_listing setting.now.program words.now }
     ensures ok { IfOk result (λ cpu. (code : Checked) × IsOpened setting.now code
         × (cpu ≡ initial code setting.now.context)) }
     ensures err { IfErr result (Refuses setting.now) }
 {
-    let program = match program_of(alloc, setting) {
+    let program = match program_of(alloc, setting, words) {
         Ok(program) => program,
         Err(refusal) => return Err(refusal),
     };
@@ -127,12 +129,7 @@ fn machine_of(alloc: Global, setting: &Setting<'_>) -> Result<Cpu, Refusal>
 
 /// Gives a cell its value.
 fn set_cell(cpu: &mut Cpu, cell: &Cell) -> Result<(), Refusal>
-    ensures ok { OnOk result (is_there cpu.old.program.maps cell.now ≡ true) }
-    ensures next { OnOk result (cpu.new ≡ edited cpu.old (edit_of cell.now)) }
-    ensures err { OnErr result (is_there cpu.old.program.maps cell.now ≡ false) }
-    ensures told { IfErr result (λ refusal.
-        refusal ≡ Refusal.NoCell cell.now.map cell.now.index) }
-    ensures program { cpu.new.program ≡ cpu.old.program }
+    ensures { GivesCell cell.now cpu.old cpu.new result }
 {
     let edit = Edit::Cell {
         map: cell.map,
@@ -165,7 +162,7 @@ fn set_cells(cpu: &mut Cpu, cells: &[Cell]) -> Result<(), Refusal>
 
 /// What comes of a program on a machine that was opened on it and the context: cells get their
 /// values, and it runs to its end, or takes as many steps as it may.
-fn finish(cpu: &mut Cpu, setting: &Setting<'_>) -> Result<(), Refusal>
+fn finish(cpu: &mut Cpu, setting: &Setting<'_, '_>) -> Result<(), Refusal>
     ensures ok { OnOk result (missing cpu.old.program.maps setting.now.cells ≡ None) }
     ensures next { OnOk result (cpu.new
         ≡ plain_end setting.now.limit (with_cells setting.now.cells cpu.old)) }
@@ -184,11 +181,16 @@ fn finish(cpu: &mut Cpu, setting: &Setting<'_>) -> Result<(), Refusal>
 
 /// What comes of a program: it is refused, or the machine in which it ended, or had taken as many
 /// steps as it may.
-pub fn outcome_of(alloc: Global, setting: &Setting<'_>) -> Result<Cpu, Refusal>
+pub fn outcome_of(
+    alloc: Global,
+    setting: &Setting<'_, '_>,
+    words: &Result<Words, AsmFault>,
+) -> Result<Cpu, Refusal>
+    requires { Reads setting.now.is_listing setting.now.program words.now }
     ensures ok { IfOk result (Ends setting.now) }
     ensures err { IfErr result (Refuses setting.now) }
 {
-    let mut cpu = match machine_of(alloc, setting) {
+    let mut cpu = match machine_of(alloc, setting, words) {
         Ok(cpu) => cpu,
         Err(refusal) => return Err(refusal),
     };
@@ -199,7 +201,7 @@ pub fn outcome_of(alloc: Global, setting: &Setting<'_>) -> Result<Cpu, Refusal>
 }
 
 /// What comes of a program on a machine that stands on it, whatever that did before.
-pub fn outcome_on(alloc: Global, cpu: &mut Cpu, setting: &Setting<'_>) -> Result<(), Refusal>
+pub fn outcome_on(alloc: Global, cpu: &mut Cpu, setting: &Setting<'_, '_>) -> Result<(), Refusal>
     requires { IsProgramOf setting.now cpu.old.program }
     ensures ok { OnOk result (Ends setting.now cpu.new) }
     ensures err { IfErr result (Refuses setting.now) }

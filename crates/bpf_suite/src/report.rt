@@ -13,12 +13,12 @@ use crate::kind::Part;
 use crate::list::{Own, TestList};
 use crate::outcome::{outcome_of, put_outcome};
 use crate::refusal::Refusal;
-use crate::section::Text;
-use crate::setting::Setting;
+use crate::setting::setting_of;
 use crate::shown::put_quoted;
 use crate::test::Test;
 use crate::values::{put_cells, wrong_cells};
 use crate::verdict::{passes, put_expected};
+use crate::words::words_of;
 use bpf_machine::Cpu;
 use counted_io::{Counted, WriteFault, put, put_decimal};
 use std::alloc::{AllocError, Global};
@@ -179,21 +179,11 @@ fn test_outcome(alloc: Global, test: &Test<'_, '_>) -> Result<Result<Cpu, Refusa
     ensures { IfOk result (Comes (setting test.now)) }
 {
     let program = test.program(alloc)?;
+    let words = words_of(alloc, test.has_listing(), program.as_slice())?;
     let context = test.context(alloc)?;
     let cells = test.cells(alloc)?;
-    let setting = Setting {
-        maps: test.maps(),
-        is_listing: test.has_listing(),
-        program: Text {
-            bytes: program.as_slice(),
-        },
-        context: Text {
-            bytes: context.as_slice(),
-        },
-        cells,
-        limit: test.limit(),
-    };
-    match outcome_of(alloc, &setting) {
+    let setting = setting_of(test, program.as_slice(), context.as_slice(), cells);
+    match outcome_of(alloc, &setting, &words) {
         Ok(cpu) => Ok(Ok(cpu)),
         Err(refusal) => {
             if refusal.is_memory() {

@@ -1,6 +1,7 @@
 //! The parts of a test.
 ghost use Rattle.std.specs.Prelude.{◌≡◌, ◌++◌, IfOk, [], unwrap_or};
-ghost use Rattle.bpf_suite.specs.Bodies.{bytes_of};
+ghost use Rattle.std.specs.Option.{option_map};
+ghost use Rattle.bpf_suite.specs.Bodies.{bytes_of, trimmed};
 ghost use Rattle.bpf_suite.specs.Tests.{body_for, cells, context, first_line, has_listing, is_listing, is_named, limit, maps, program, section_for, text_or_bytes, title};
 ghost use Rattle.bpf_suite.specs.Faults.{has_part, lack};
 
@@ -47,6 +48,25 @@ pub fn has_part(sections: &[Section<'_>], part: Part) -> bool
     ensures { result ≡ has_part part sections.now }
 {
     sections.iter().any(|section| section.kind.is(part))
+}
+
+/// The text of the maps that these sections have.
+pub fn maps_in<'a>(sections: &[Section<'a>]) -> Option<Text<'a>>
+    ensures { result ≡ maps sections.now }
+{
+    trimmed_body(section_in(sections, Part::Maps))
+}
+
+/// The body of a section, without spaces around it.
+fn trimmed_body<'a>(section: Option<Section<'a>>) -> Option<Text<'a>>
+    ensures { result ≡ option_map (λ found. trimmed found.body) section.entry }
+{
+    match section {
+        Some(section) => Some(Text {
+            bytes: trimmed(section.body.bytes),
+        }),
+        None => None,
+    }
 }
 
 impl<'b, 'a> Test<'b, 'a> {
@@ -153,12 +173,7 @@ impl<'b, 'a> Test<'b, 'a> {
     pub fn maps(&self) -> Option<Text<'a>>
         ensures { result ≡ maps self.now }
     {
-        match self.section(Part::Maps) {
-            Some(section) => Some(Text {
-                bytes: trimmed(section.body.bytes),
-            }),
-            None => None,
-        }
+        trimmed_body(self.section(Part::Maps))
     }
 
     /// The cells that it gives values to.
