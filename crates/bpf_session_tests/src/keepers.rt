@@ -1,18 +1,70 @@
-//! Keepers that have room for a few entries alone.
-ghost use Rattle.std.specs.Prelude.{◌≡◌, ◌<◌, ◌^◌, OnOk};
+//! Keepers that the tests open: a list, a ring, and one that has room for a few entries alone.
+ghost use Rattle.std.specs.Prelude.{◌≡◌, ◌<◌, ◌^◌, [], OnOk};
 ghost use Rattle.bpf_journal.specs.Keepers.{refusals_after};
+ghost use Rattle.bpf_journal.specs.Tracks.{RingHolds, ring_room};
 
-use crate::play::{LIMIT, machine, plays, ring_for, stop_unless};
-use bpf_journal::{Keeper, ListKeeper};
+use bpf_journal::{Keeper, ListKeeper, RingKeeper};
 use bpf_machine::Entry;
-use bpf_session::Session;
 use std::alloc::{AllocError, Global};
 use std::process::Abort;
+
+/// An empty list of so many bytes.
+pub fn list(rt: &impl Abort, alloc: Global, size: usize) -> ListKeeper
+    ensures { ⟦<ListKeeper as Keeper>⟧.holds result [] }
+{
+    match ListKeeper::open(alloc, size) {
+        Ok(keeper) => keeper,
+        Err(_) => panic!(rt; "no journal"),
+    }
+}
+
+/// An empty ring of so many bytes.
+pub fn ring(rt: &impl Abort, alloc: Global, size: usize) -> RingKeeper
+    ensures empty { RingHolds result [] }
+    ensures size { ring_room result ≡ size }
+{
+    match RingKeeper::open(alloc, size) {
+        Ok(keeper) => keeper,
+        Err(_) => panic!(rt; "no ring"),
+    }
+}
+
+/// An empty ring for the moves that will be taken back from a keeper.
+pub fn ring_for<K: Keeper>(rt: &impl Abort, alloc: Global, keeper: &K) -> RingKeeper
+    ensures empty { RingHolds result [] }
+    ensures size { ring_room result ≡ K.room keeper.now }
+{
+    ring(rt, alloc, keeper.capacity())
+}
+
+/// The oldest bytes of a ring, at most so many.
+pub fn oldest(rt: &impl Abort, alloc: Global, keeper: &RingKeeper, most: usize) -> Vec<u8> {
+    let mut bytes = Vec::new(alloc);
+    for index in 0..most {
+        match keeper.byte(index) {
+            Some(byte) => bytes.push(byte).ok().expect(rt, "no memory"),
+            None => return bytes,
+        }
+    }
+    bytes
+}
+
+/// An empty list that keeps so many entries at most, and takes so many pushes in all.
+pub fn narrow_list(rt: &impl Abort, alloc: Global, most: usize, left: usize) -> Narrow<ListKeeper>
+    ensures { ⟦<Narrow<ListKeeper> as Keeper>⟧.holds result [] }
+{
+    Narrow {
+        kept: list(rt, alloc, 65_536),
+        most,
+        left,
+        refusals: 0,
+    }
+}
 
 /// A keeper that keeps so many entries at most, takes so many pushes in all, and counts the refused
 /// ones.
 #[derive(Drop)]
-struct Narrow<K: Keeper> {
+pub struct Narrow<K: Keeper> {
     kept: K,
     most: usize,
     left: usize,
@@ -95,116 +147,4 @@ impl<K: Keeper> Keeper for Narrow<K> {
     fn walk_back(&self, at: usize) -> Option<(Entry, bool, usize)> {
         self.kept.walk_back(at)
     }
-}
-
-/// add r0, 1; ja -2.
-const ENDLESS: &str = "07000000010000000500feff00000000";
-
-// No entry is kept.
-const NO_ENTRY: &str = "\
-stepi 8|refused Q15: out of memory
-continue|refused Q15: out of memory
-set reg r0 1|refused Q15: out of memory
-info regs|r0=0x0 r1=0x0 r2=0x0 r3=0x0 r4=0x0 r5=0x0 r6=0x0 r7=0x0 r8=0x0 r9=0x0 r10=0x200000200
-|at 0: add r0, 1
-reverse-stepi|refused Q4: no kept step
-set mem 0 00|refused Q6: address not present
-set reg r10 1|refused Q7: register not writable
-set pc 2|refused Q8: no instruction starts there
-set cell 0 0 00|refused Q14: no such cell or wrong length
-";
-
-// One entry is kept at most.
-const ONE_ENTRY: &str = "\
-stepi 8|1 forward; memory; at 1: ja L0
-stepi 8|refused Q15: out of memory
-reverse-stepi|1 back; done; at 0: add r0, 1
-stepi|1 forward; done; at 1: ja L0
-set reg r0 1|refused Q15: out of memory
-undo|1 back; done; at 0: add r0, 1
-";
-
-// Five entries are kept at most.
-const FIVE_ENTRIES: &str = "\
-stepi 8|5 forward; memory; at 1: ja L0
-info regs|r0=0x3 r1=0x0 r2=0x0 r3=0x0 r4=0x0 r5=0x0 r6=0x0 r7=0x0 r8=0x0 r9=0x0 r10=0x200000200
-|at 1: ja L0
-reverse-stepi 3|3 back; done; at 0: add r0, 1
-continue|3 forward; memory; at 1: ja L0
-continue|refused Q15: out of memory
-undo 2|5 back; done; at 0: add r0, 1
-";
-
-// Five pushes are taken. Moves that are made again are kept again, and that may be refused. What is
-// refused stays, also behind a new move that is refused.
-const FIVE_PUSHES: &str = "\
-stepi 3|3 forward; done; at 1: ja L0
-undo|3 back; done; at 0: add r0, 1
-redo 3|2 redone; memory; at 0: add r0, 1
-info history|2 moves, 1 commands, 23 of 65536 bytes
-redo|refused Q15: out of memory
-info regs|r0=0x1 r1=0x0 r2=0x0 r3=0x0 r4=0x0 r5=0x0 r6=0x0 r7=0x0 r8=0x0 r9=0x0 r10=0x200000200
-|at 0: add r0, 1
-redo 0|refused Q2: wrong argument
-undo|2 back; done; at 0: add r0, 1
-redo 9|refused Q15: out of memory
-stepi|refused Q15: out of memory
-redo|refused Q15: out of memory
-set reg r0 1|refused Q15: out of memory
-redo 2|refused Q15: out of memory
-info history|0 moves, 0 commands, 0 of 65536 bytes
-";
-
-// Six pushes are taken.
-const SIX_PUSHES: &str = "\
-stepi 2|2 forward; done; at 0: add r0, 1
-set reg r0 7|ok
-undo 2|3 back; done; at 0: add r0, 1
-redo 2|2 redone; done; at 0: add r0, 1
-reverse-stepi|1 back; done; at 1: ja L0
-redo 9|1 redone; memory; at 0: add r0, 1
-info history|2 moves, 1 commands, 23 of 65536 bytes
-";
-
-/// A session whose keeper keeps so many entries at most, and takes so many pushes.
-fn narrow_session(
-    rt: &impl Abort,
-    alloc: Global,
-    most: usize,
-    left: usize,
-) -> Session<Narrow<ListKeeper>> {
-    let keeper = match ListKeeper::open(alloc, 65_536) {
-        Ok(kept) => Narrow {
-            kept,
-            most,
-            left,
-            refusals: 0,
-        },
-        Err(_) => panic!(rt; "no journal"),
-    };
-    let redo = ring_for(rt, alloc, &keeper);
-    Session::open(machine(rt, alloc, ENDLESS, &[]), keeper, redo, LIMIT)
-}
-
-/// Plays a transcript over such a keeper, and stops unless so many refusals are counted.
-fn play_narrow(
-    rt: &impl Abort,
-    alloc: Global,
-    most: usize,
-    left: usize,
-    refusals: u64,
-    transcript: &str,
-) {
-    let mut session = narrow_session(rt, alloc, most, left);
-    plays(rt, alloc, &mut session, transcript);
-    stop_unless(rt, session.keeper().refusals() == refusals, transcript);
-}
-
-#[test]
-fn refused_entries_stop_a_command(rt: HostRuntime) {
-    play_narrow(&rt, rt.alloc(), 0, 100, 3, NO_ENTRY);
-    play_narrow(&rt, rt.alloc(), 1, 100, 3, ONE_ENTRY);
-    play_narrow(&rt, rt.alloc(), 5, 100, 3, FIVE_ENTRIES);
-    play_narrow(&rt, rt.alloc(), 100, 5, 7, FIVE_PUSHES);
-    play_narrow(&rt, rt.alloc(), 100, 6, 1, SIX_PUSHES);
 }

@@ -1,15 +1,24 @@
-//! Tests of sessions that take the library's own functions: keepers that refuse, the bytes of
-//! rings, readers and writers that fail, and runs without history. (Transcripts stand in
-//! tests/program/transcripts, and are played from outside.)
+//! Tests of the journal, of sessions, of where a value came from, and of the remote protocol: what
+//! only their libraries can be asked.
+//!
+//! Tables of steps, edits, runs and packets, and transcripts, are asked of the built program
+//! (`tests/program/`). The tests stand in one crate, since what each of them stops at is proved
+//! once then.
 #![tactic(auto)]
 
 #[cfg(test)]
-mod faults;
+mod journal;
 #[cfg(test)]
 mod keepers;
 #[cfg(test)]
-mod plain;
+mod machines;
 #[cfg(test)]
-mod play;
+mod origin;
 #[cfg(test)]
-mod rings;
+mod remote;
+#[cfg(test)]
+mod session;
+#[cfg(test)]
+mod sessions;
+#[cfg(test)]
+mod stops;
