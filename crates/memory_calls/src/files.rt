@@ -48,7 +48,7 @@ fn kind<W: Write, E: Write>(
     output: &mut Counted<W>,
     errors: &mut Counted<E>,
 ) -> u8 {
-    match read_kind(alloc, &mut Counted::new(WORDS.as_slice()), kind) {
+    match read_kind(alloc, &mut Counted::new(WORDS), kind) {
         Ok(Some(bytes)) => say(output, &bytes),
         Ok(None) => tell_failure(errors),
         Err(fault) => tell(errors, fault),

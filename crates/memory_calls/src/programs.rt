@@ -15,19 +15,17 @@ use std::io::{Read, Write};
 const LISTING: &[u8] = b"; count\nloop: add r0, 1\njlt r0, 0x3, loop\nexit\n";
 
 /// Its words.
-pub const WORDS: [u8; 24] = [
-    0x07, 0, 0, 0, 1, 0, 0, 0, 0xa5, 0, 0xfe, 0xff, 3, 0, 0, 0, 0x95, 0, 0, 0, 0, 0, 0, 0,
-];
+pub const WORDS: &[u8] = b"\x07\0\0\0\x01\0\0\0\xa5\0\xfe\xff\x03\0\0\0\x95\0\0\0\0\0\0\0";
 
 /// The bytes of a context.
-const CONTEXT: [u8; 8] = [1, 2, 3, 4, 5, 6, 7, 8];
+const CONTEXT: &[u8] = b"\x01\x02\x03\x04\x05\x06\x07\x08";
 
 /// The most bytes of an object.
 const OBJECT_BYTES: usize = 4_096;
 
 /// The program of the listing; none where memory runs out.
 fn program(alloc: Global) -> Option<Program> {
-    check(alloc, &WORDS, &MapTable::empty()).ok()
+    check(alloc, WORDS, &MapTable::empty()).ok()
 }
 
 /// `check`: the bytes of the program.
@@ -36,7 +34,7 @@ pub fn check_words<W: Write, E: Write>(
     output: &mut Counted<W>,
     errors: &mut Counted<E>,
 ) -> u8 {
-    match check(alloc, &WORDS, &MapTable::empty()) {
+    match check(alloc, WORDS, &MapTable::empty()) {
         Ok(program) => say(output, program.bytes()),
         Err(fault) => refuse(errors, "C", fault.number(), fault.text()),
     }
@@ -103,7 +101,7 @@ pub fn open_memory<W: Write, E: Write>(
     if maps.add(8, 2).is_err() {
         return NOT_REACHED;
     }
-    match Memory::open(alloc, &maps, &CONTEXT) {
+    match Memory::open(alloc, &maps, CONTEXT) {
         Ok(mut memory) => match memory.bytes_mut(0x1_0000_0000, 8) {
             Some(bytes) => say(output, bytes),
             None => NOT_REACHED,
@@ -121,7 +119,7 @@ pub fn open_machine<W: Write, E: Write>(
     let Some(program) = program(alloc) else {
         return NOT_REACHED;
     };
-    match Cpu::open(alloc, program, &CONTEXT) {
+    match Cpu::open(alloc, program, CONTEXT) {
         Ok(cpu) => match cpu.peek(0x1_0000_0000, 8) {
             Some(bytes) => say(output, bytes),
             None => NOT_REACHED,

@@ -1,10 +1,11 @@
 //! Journals, and scripts over a list of entries: each of its pushes takes memory.
 use crate::NOT_REACHED;
+use crate::sessions::list_session;
 use crate::telling::{refuse, say_number, tell_failure};
 use bpf_isa::{MapTable, check};
 use bpf_journal::{Keeper, ListKeeper, RingKeeper};
 use bpf_machine::Cpu;
-use bpf_session::{Session, run};
+use bpf_session::{Count, Session, run};
 use counted_io::Counted;
 use std::alloc::Global;
 use std::io::Write;
@@ -16,16 +17,14 @@ const SIZE: usize = 1_024;
 const LIMIT: u64 = 1_000_000;
 
 /// mov r0, 42; exit.
-const ANSWER: [u8; 16] = [0xb7, 0, 0, 0, 0x2a, 0, 0, 0, 0x95, 0, 0, 0, 0, 0, 0, 0];
+const ANSWER: &[u8] = b"\xb7\0\0\0\x2a\0\0\0\x95\0\0\0\0\0\0\0";
 
 /// add r0, 1; ja L0.
-const LOOP: [u8; 16] = [0x07, 0, 0, 0, 1, 0, 0, 0, 0x05, 0, 0xfe, 0xff, 0, 0, 0, 0];
+const LOOP: &[u8] = b"\x07\0\0\0\x01\0\0\0\x05\0\xfe\xff\0\0\0\0";
 
 /// callf L2; exit; stb [r10-8], 7; exit.
-const CALL: [u8; 32] = [
-    0x85, 0x10, 0, 0, 1, 0, 0, 0, 0x95, 0, 0, 0, 0, 0, 0, 0, 0x72, 0x0a, 0xf8, 0xff, 7, 0, 0, 0,
-    0x95, 0, 0, 0, 0, 0, 0, 0,
-];
+const CALL: &[u8] = b"\
+\x85\x10\0\0\x01\0\0\0\x95\0\0\0\0\0\0\0\x72\x0a\xf8\xff\x07\0\0\0\x95\0\0\0\0\0\0\0";
 
 /// A program and a script.
 #[derive(Clone, Copy)]
@@ -42,9 +41,9 @@ impl Script {
     /// The program's words.
     fn words(self) -> &'static [u8] {
         match self {
-            Script::Answer => &ANSWER,
-            Script::Loop => &LOOP,
-            Script::Edits => &CALL,
+            Script::Answer => ANSWER,
+            Script::Loop => LOOP,
+            Script::Edits => CALL,
         }
     }
 
@@ -97,6 +96,13 @@ fn machine(alloc: Global, words: &[u8]) -> Option<Cpu> {
     Cpu::open(alloc, program, b"").ok()
 }
 
+/// A session over a list of the smallest size, at the start of a script's program; none where
+/// memory runs out.
+fn session(alloc: Global, script: Script) -> Option<Session<ListKeeper>> {
+    let cpu = machine(alloc, script.words())?;
+    list_session(alloc, cpu, SIZE, Count::new(LIMIT)?)
+}
+
 /// `run` over a list: the replies.
 pub fn run_script<W: Write, E: Write>(
     alloc: Global,
@@ -104,18 +110,9 @@ pub fn run_script<W: Write, E: Write>(
     output: &mut Counted<W>,
     errors: &mut Counted<E>,
 ) -> u8 {
-    let Some(cpu) = machine(alloc, script.words()) else {
+    let Some(mut session) = session(alloc, script) else {
         return NOT_REACHED;
     };
-    let keeper = match ListKeeper::open(alloc, SIZE) {
-        Ok(keeper) => keeper,
-        Err(_) => return NOT_REACHED,
-    };
-    let redo = match RingKeeper::open(alloc, SIZE) {
-        Ok(redo) => redo,
-        Err(_) => return NOT_REACHED,
-    };
-    let mut session = Session::open(cpu, keeper, redo, LIMIT);
     match run(&mut session, &mut Counted::new(script.text()), output) {
         Ok(()) => 0,
         Err(_) => tell_failure(errors),

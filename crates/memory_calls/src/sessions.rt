@@ -11,7 +11,7 @@ ghost use Rattle.bpf_journal.specs.Tracks.{RingHolds, ring_room};
 
 use crate::NOT_REACHED;
 use crate::telling::tell_failure;
-use bpf_isa::{MapTable, check};
+use bpf_isa::{MapTable, Program, check};
 use bpf_journal::{Keeper, ListKeeper, RingKeeper};
 use bpf_machine::Cpu;
 use bpf_session::{Count, RunFault, Session, run};
@@ -19,7 +19,7 @@ use bpfdb_files::{FileKind, read_kind};
 use counted_io::Counted;
 use std::alloc::Global;
 use std::fs;
-use std::io::Write;
+use std::io::{Read, Write};
 
 /// `session`: the replies.
 pub fn play<W: Write, E: Write>(
@@ -41,12 +41,12 @@ fn played<W: Write>(
     words: &[String],
     output: &mut Counted<W>,
 ) -> Option<Result<(), RunFault>> {
-    let cpu = machine(rt, words)?;
     let size = number(words, 5)? as usize;
     let limit = Count::new(number(words, 6)?)?;
+    let cpu = machine(rt, words)?;
     match word(words, 1) {
-        "list" => run_list(rt, cpu, size, limit, output),
-        "ring" => run_ring(rt, cpu, size, limit, output),
+        "list" => run_in(rt, list_session(rt.alloc(), cpu, size, limit), output),
+        "ring" => run_in(rt, ring_session(rt.alloc(), cpu, size, limit), output),
         "list-again" => run_list_again(rt, cpu, size, limit, output),
         "ring-again" => run_ring_again(rt, cpu, size, limit, output),
         _ => None,
@@ -66,10 +66,20 @@ fn number(words: &[String], at: usize) -> Option<u64> {
     word(words, at).parse::<u64>().ok()
 }
 
-/// The bytes of a program's file.
-fn program_at(rt: &HostRuntime, path: &str) -> Option<Vec<u8>> {
-    let file = fs::open(rt, path).ok()?;
-    read_kind(rt.alloc(), &mut Counted::new(file), FileKind::Program).ok()?
+/// The bytes that a reader gives; none where it fails, or memory runs out.
+fn bytes_of<R: Read + Drop>(alloc: Global, reader: R, kind: FileKind) -> Option<Vec<u8>> {
+    match read_kind(alloc, &mut Counted::new(reader), kind) {
+        Ok(bytes) => bytes,
+        Err(_) => None,
+    }
+}
+
+/// The bytes of a file.
+fn bytes_at(rt: &HostRuntime, path: &str, kind: FileKind) -> Option<Vec<u8>> {
+    match fs::open(rt, path) {
+        Ok(file) => bytes_of(rt.alloc(), file, kind),
+        Err(_) => None,
+    }
 }
 
 /// The bytes of a context's file; of none there are none.
@@ -77,8 +87,7 @@ fn context_at(rt: &HostRuntime, path: &str) -> Option<Vec<u8>> {
     if path == "-" {
         return Some(Vec::new(rt.alloc()));
     }
-    let file = fs::open(rt, path).ok()?;
-    read_kind(rt.alloc(), &mut Counted::new(file), FileKind::Context).ok()?
+    bytes_at(rt, path, FileKind::Context)
 }
 
 /// The maps of a text, which is empty where there are none.
@@ -89,12 +98,17 @@ fn maps_of(text: &str) -> Option<MapTable> {
     MapTable::parse(text.as_bytes()).ok()
 }
 
+/// The program that the words name, with its maps.
+fn program(rt: &HostRuntime, words: &[String]) -> Option<Program> {
+    let maps = maps_of(word(words, 4))?;
+    let bytes = bytes_at(rt, word(words, 2), FileKind::Program)?;
+    check(rt.alloc(), &bytes, &maps).ok()
+}
+
 /// The machine that the words name, before its first step.
 fn first_machine(rt: &HostRuntime, words: &[String]) -> Option<Cpu> {
-    let bytes = program_at(rt, word(words, 2))?;
     let context = context_at(rt, word(words, 3))?;
-    let maps = maps_of(word(words, 4))?;
-    let program = check(rt.alloc(), &bytes, &maps).ok()?;
+    let program = program(rt, words)?;
     Cpu::open(rt.alloc(), program, &context).ok()
 }
 
@@ -127,7 +141,12 @@ fn opened<K: Keeper + Drop>(alloc: Global, cpu: Cpu, keeper: K, limit: Count) ->
 }
 
 /// A session over a list.
-fn list_session(alloc: Global, cpu: Cpu, size: usize, limit: Count) -> Option<Session<ListKeeper>> {
+pub fn list_session(
+    alloc: Global,
+    cpu: Cpu,
+    size: usize,
+    limit: Count,
+) -> Option<Session<ListKeeper>> {
     match ListKeeper::open(alloc, size) {
         Ok(keeper) => opened(alloc, cpu, keeper, limit),
         Err(_) => None,
@@ -142,41 +161,23 @@ fn ring_session(alloc: Global, cpu: Cpu, size: usize, limit: Count) -> Option<Se
     }
 }
 
-/// Plays the script over a list.
-fn run_list<W: Write>(
+/// Plays the script in a session, if there is one.
+fn run_in<K: Keeper + Drop, W: Write>(
     rt: &HostRuntime,
-    cpu: Cpu,
-    size: usize,
-    limit: Count,
+    session: Option<Session<K>>,
     output: &mut Counted<W>,
 ) -> Option<Result<(), RunFault>> {
-    let mut session = list_session(rt.alloc(), cpu, size, limit)?;
-    Some(run(&mut session, &mut Counted::new(rt.reader()), output))
-}
-
-/// Plays the script over a ring.
-fn run_ring<W: Write>(
-    rt: &HostRuntime,
-    cpu: Cpu,
-    size: usize,
-    limit: Count,
-    output: &mut Counted<W>,
-) -> Option<Result<(), RunFault>> {
-    let mut session = ring_session(rt.alloc(), cpu, size, limit)?;
+    let mut session = session?;
     Some(run(&mut session, &mut Counted::new(rt.reader()), output))
 }
 
 /// The bytes of the whole script.
 fn script(rt: &HostRuntime) -> Option<Vec<u8>> {
-    read_kind(rt.alloc(), &mut Counted::new(rt.reader()), FileKind::Source).ok()?
+    bytes_of(rt.alloc(), rt.reader(), FileKind::Source)
 }
 
-/// The session over the machine and the list of another one.
-fn list_again(
-    alloc: Global,
-    session: Session<ListKeeper>,
-    limit: Count,
-) -> Option<Session<ListKeeper>> {
+/// The session over the machine and the keeper of another one.
+fn again<K: Keeper + Drop>(alloc: Global, session: Session<K>, limit: Count) -> Option<Session<K>> {
     let (cpu, keeper) = session.close();
     opened(alloc, cpu, keeper, limit)
 }
@@ -187,7 +188,8 @@ fn put_back(cpu: &Cpu, keeper: RingKeeper) -> RingKeeper
     ensures { HasHistory ⟦<RingKeeper as Keeper>⟧.holds result cpu.now }
 {
     let _cpu = cpu;
-    RingKeeper::from_ring(keeper.into_ring())
+    let ring = keeper.into_ring();
+    RingKeeper::from_ring(ring)
 }
 
 /// The session over the machine and the ring of another one.
@@ -201,7 +203,71 @@ fn ring_again(
     opened(alloc, cpu, keeper, limit)
 }
 
-/// Plays the lines of the script over a list, each in a session of its own.
+/// Plays a line over a list: the session that follows, or the fault.
+fn play_in_list<W: Write>(
+    alloc: Global,
+    mut session: Session<ListKeeper>,
+    limit: Count,
+    line: &str,
+    output: &mut Counted<W>,
+) -> Option<Result<Session<ListKeeper>, RunFault>> {
+    match run(&mut session, &mut Counted::new(line.as_bytes()), output) {
+        Ok(()) => Some(Ok(again(alloc, session, limit)?)),
+        Err(fault) => Some(Err(fault)),
+    }
+}
+
+/// Plays a line over a ring: the session that follows, or the fault.
+fn play_in_ring<W: Write>(
+    alloc: Global,
+    mut session: Session<RingKeeper>,
+    limit: Count,
+    line: &str,
+    output: &mut Counted<W>,
+) -> Option<Result<Session<RingKeeper>, RunFault>> {
+    match run(&mut session, &mut Counted::new(line.as_bytes()), output) {
+        Ok(()) => Some(Ok(ring_again(alloc, session, limit)?)),
+        Err(fault) => Some(Err(fault)),
+    }
+}
+
+/// Plays lines over a list, each in a session of its own.
+fn play_lists<W: Write>(
+    alloc: Global,
+    mut session: Session<ListKeeper>,
+    limit: Count,
+    text: &str,
+    output: &mut Counted<W>,
+) -> Option<Result<(), RunFault>> {
+    for line in text.lines() {
+        match play_in_list(alloc, session, limit, line, output) {
+            Some(Ok(next)) => session = next,
+            Some(Err(fault)) => return Some(Err(fault)),
+            None => return None,
+        }
+    }
+    Some(Ok(()))
+}
+
+/// Plays lines over a ring, each in a session of its own.
+fn play_rings<W: Write>(
+    alloc: Global,
+    mut session: Session<RingKeeper>,
+    limit: Count,
+    text: &str,
+    output: &mut Counted<W>,
+) -> Option<Result<(), RunFault>> {
+    for line in text.lines() {
+        match play_in_ring(alloc, session, limit, line, output) {
+            Some(Ok(next)) => session = next,
+            Some(Err(fault)) => return Some(Err(fault)),
+            None => return None,
+        }
+    }
+    Some(Ok(()))
+}
+
+/// Plays the script over a list, each line in a session of its own.
 fn run_list_again<W: Write>(
     rt: &HostRuntime,
     cpu: Cpu,
@@ -209,19 +275,13 @@ fn run_list_again<W: Write>(
     limit: Count,
     output: &mut Counted<W>,
 ) -> Option<Result<(), RunFault>> {
+    let session = list_session(rt.alloc(), cpu, size, limit)?;
     let bytes = script(rt)?;
     let text = str::from_utf8(&bytes).ok()?;
-    let mut session = list_session(rt.alloc(), cpu, size, limit)?;
-    for line in text.lines() {
-        if let Err(fault) = run(&mut session, &mut Counted::new(line.as_bytes()), output) {
-            return Some(Err(fault));
-        }
-        session = list_again(rt.alloc(), session, limit)?;
-    }
-    Some(Ok(()))
+    play_lists(rt.alloc(), session, limit, text, output)
 }
 
-/// Plays the lines of the script over a ring, each in a session of its own.
+/// Plays the script over a ring, each line in a session of its own.
 fn run_ring_again<W: Write>(
     rt: &HostRuntime,
     cpu: Cpu,
@@ -229,14 +289,8 @@ fn run_ring_again<W: Write>(
     limit: Count,
     output: &mut Counted<W>,
 ) -> Option<Result<(), RunFault>> {
+    let session = ring_session(rt.alloc(), cpu, size, limit)?;
     let bytes = script(rt)?;
     let text = str::from_utf8(&bytes).ok()?;
-    let mut session = ring_session(rt.alloc(), cpu, size, limit)?;
-    for line in text.lines() {
-        if let Err(fault) = run(&mut session, &mut Counted::new(line.as_bytes()), output) {
-            return Some(Err(fault));
-        }
-        session = ring_again(rt.alloc(), session, limit)?;
-    }
-    Some(Ok(()))
+    play_rings(rt.alloc(), session, limit, text, output)
 }
