@@ -2,7 +2,7 @@
 //! tables of docs/MACHINE.md by hand.
 use crate::keepers::list;
 use crate::machines::machine_of;
-use crate::stops::{check_bytes, stop_unless};
+use crate::stops::{check_printed, stop_unless};
 use bpf_isa::Reg;
 use bpf_journal::{ListKeeper, Timeline};
 use bpf_machine::{ByteString, Cpu, Edit};
@@ -264,7 +264,7 @@ fn check_answer(
 ) {
     let mut timeline = ended(rt, alloc, listing, context);
     let found = told(rt, alloc, &mut timeline, question, register);
-    check_bytes(rt, &found, wanted.as_bytes(), wanted);
+    check_printed(rt, &found, wanted, listing);
 }
 
 #[test]
@@ -319,7 +319,7 @@ fn an_edit(rt: HostRuntime) {
     let register = Reg::new(0).expect(&rt, "no register");
     make(&rt, &mut timeline, &Edit::Register { register, value: 5 });
     let found = told(&rt, rt.alloc(), &mut timeline, PLAIN, None);
-    check_bytes(&rt, &found, b"-1 r0 = 0x5; edit\n", "an edit");
+    check_printed(&rt, &found, "-1 r0 = 0x5; edit\n", POINTER);
 }
 
 /// Writes four bytes, takes two steps, begins again and takes one more.
@@ -338,5 +338,5 @@ fn edits_of_bytes_and_pc(rt: HostRuntime) {
     let mut timeline = started(&rt, rt.alloc(), EDITED, b"");
     begin_again(&rt, &mut timeline);
     let found = told(&rt, rt.alloc(), &mut timeline, PLAIN, None);
-    check_bytes(&rt, &found, EDITED_ANSWER.as_bytes(), EDITED);
+    check_printed(&rt, &found, EDITED_ANSWER, EDITED);
 }

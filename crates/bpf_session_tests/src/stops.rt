@@ -13,6 +13,16 @@ pub fn check_bytes(rt: &impl Abort, found: &[u8], wanted: &[u8], row: &str) {
     assert_eq!(rt; found, wanted, "{row}");
 }
 
+/// Stops unless what is printed is the text that is wanted of a row.
+pub fn check_printed(rt: &impl Abort, found: &[u8], wanted: &str, row: &str) {
+    check_text(rt, text_of(rt, found), wanted, row);
+}
+
+/// The text of bytes.
+pub fn text_of<'a>(rt: &impl Abort, bytes: &'a [u8]) -> &'a str {
+    str::from_utf8(bytes).ok().expect(rt, "no text")
+}
+
 /// Stops unless something holds.
 pub fn stop_unless(rt: &impl Abort, holds: bool, what: &str) {
     assert!(rt; holds, "{what}");

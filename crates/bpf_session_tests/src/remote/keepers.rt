@@ -1,7 +1,7 @@
 //! A connection whose session runs out of memory for what it keeps.
 use crate::machines::ENDLESS;
 use crate::sessions::narrow_session;
-use crate::stops::{check_bytes, cut, stop_unless};
+use crate::stops::{check_printed, cut, stop_unless};
 use bpf_journal::Keeper;
 use bpf_remote::{Layout, serve};
 use bpf_session::{Counted, Session};
@@ -55,7 +55,7 @@ fn told<K: Keeper>(
 fn check_row<K: Keeper>(rt: &impl Abort, alloc: Global, session: &mut Session<K>, row: &str) {
     let (stream, wanted) = cut(rt, row, "|");
     let found = told(rt, alloc, session, stream);
-    check_bytes(rt, &found, wanted.as_bytes(), row);
+    check_printed(rt, &found, wanted, row);
 }
 
 /// The same of each row, in one session.

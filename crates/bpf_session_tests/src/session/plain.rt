@@ -1,6 +1,6 @@
 //! Runs without history: how they end, what they print, and where they leave the machine.
 use crate::machines::{ANSWER, machine};
-use crate::stops::{check_text, kept, stop_unless};
+use crate::stops::{check_text, kept, stop_unless, text_of};
 use bpf_machine::Cpu;
 use bpf_session::{Ending, run_plain};
 use bpf_testing::{number_of, row_of};
@@ -34,8 +34,7 @@ fn ending_text(ending: Ending) -> &'static str {
 
 /// What is printed, with / for a line feed.
 fn line_of(rt: &impl Abort, alloc: Global, printed: &[u8]) -> String {
-    let text = str::from_utf8(printed).ok().expect(rt, "no text");
-    kept(rt, text.replace(alloc, '\n', "/"))
+    kept(rt, text_of(rt, printed).replace(alloc, '\n', "/"))
 }
 
 /// How a run of a machine ends, and what it prints.

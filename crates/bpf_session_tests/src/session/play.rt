@@ -1,6 +1,6 @@
 //! Transcripts. Each row of one is a command and its reply, with a bar between; a further line of a
 //! reply stands behind a bar alone, and a command without a reply has no bar.
-use crate::stops::{check_bytes, put, stop_unless};
+use crate::stops::{check_printed, put, stop_unless, text_of};
 use bpf_journal::Keeper;
 use bpf_session::{Session, run};
 use counted_io::Counted;
@@ -69,5 +69,5 @@ pub fn plays<K: Keeper>(
     let script = commands_of(rt, alloc, transcript);
     let wanted = replies_of(rt, alloc, transcript);
     let told = printed(rt, alloc, session, &script);
-    check_bytes(rt, &told, &wanted, transcript);
+    check_printed(rt, &told, text_of(rt, &wanted), transcript);
 }
