@@ -1,6 +1,6 @@
 -- Going back over a history, move by move, and making moves again.
 use Rattle.std.specs.Prelude.{IfSome}
-use Rattle.std.proofs.Common.{◌≡◌, ◌<◌, ◌≤◌, ℕ, zero, suc, ◌+◌, Bool, List, [], ◌∷◌, Option, None, true, false, length, refl, sym, ap, subst, ◌∙◌, arith, zero-add, suc-add}
+use Rattle.std.proofs.Common.{◌≡◌, ◌<◌, ℕ, zero, suc, ◌+◌, Bool, List, [], ◌∷◌, Option, true, false, length, refl, sym, ap, subst, ◌∙◌, arith, zero-add, suc-add}
 use Rattle.bpf_entries.specs.Keeping.{Kept}
 use Rattle.bpf_entries.specs.Status.{has_ended}
 use Rattle.bpf_journal.specs.Counts.{one_more}
@@ -13,7 +13,7 @@ use Rattle.bpf_machine.specs.declared.moves.Move.{Move}
 use Rattle.bpf_machine.specs.declared.moves.Move.TheVariants as move
 use Rattle.bpf_machine.specs.Moves.{IsMovable}
 use Rattle.bpf_machine.specs.State.{State}
-use Rattle.bpf_origin.specs.Pasts.{CourseStands, GoesBack, Stand, gone_back, stand, state_of}
+use Rattle.bpf_origin.specs.Pasts.{CourseStands, GoesBack, IsSameKeeper, Stand, gone_back, refusals_left, stand, state_of}
 
 -- From a stand on.
 abbrev onwards : ℕ → Stand → Stand
@@ -96,3 +96,12 @@ pub never_refused : (a b : ℕ) → a ≡ one_more b → a ≡ 0 → b ≡ 0 →
 never_refused a b e za zb =
     let f : 0 ≡ 1 = sym za ∙ e ∙ ap one_more zb in
     omega (arith, f)
+
+-- Where a move is left, a refusal is counted.
+pub one_refused : (left n : ℕ) → 0 < left → refusals_left left n ≡ one_more n
+one_refused zero n some = absurd (omega (arith, some))
+one_refused (suc left) n some = refl
+
+-- The keeper stays the same, one turn after another.
+pub keeps_on : {P : Type 0} (size refusals : P → ℕ) (a b c : P) → IsSameKeeper size refusals a b → IsSameKeeper size refusals b c → IsSameKeeper size refusals a c
+keeps_on size refusals a b c one other = record { room = other.room ∙ one.room; refused = other.refused ∙ one.refused }

@@ -1,5 +1,5 @@
 -- The pass over a history, as far as it has come.
-use Rattle.std.proofs.Common.{◌≡◌, ◌<◌, ◌≤◌, ℕ, zero, suc, ◌+◌, List, [], ◌∷◌, ◌++◌, length, Option, Some, None, refl, sym, ap, subst, ◌∙◌, arith}
+use Rattle.std.proofs.Common.{◌≡◌, ◌<◌, ◌≤◌, ℕ, ◌+◌, List, [], ◌∷◌, ◌++◌, length, Option, Some, None, refl, sym, ap, subst, ◌∙◌, arith}
 use Rattle.std.proofs.lemmas.List.{append-nil}
 use Rattle.counted_io.specs.Counted.{Tally}
 use Rattle.counted_io.specs.Writing.{WritesAfter}
@@ -14,7 +14,7 @@ use Rattle.bpf_origin.specs.declared.question.Extent.TheVariants.{Whole}
 use Rattle.bpf_origin.specs.declared.origin.Turn.{Turn}
 use Rattle.bpf_origin.specs.Texts.{left_text}
 use Rattle.bpf_origin.specs.Answers.{Answer, answer}
-use Rattle.bpf_origin.specs.Pasts.{Stand, StandsThere, gone_back, gone_from, stand}
+use Rattle.bpf_origin.specs.Pasts.{Stand, StandsThere, gone_from, stand}
 use Rattle.bpf_origin.specs.Turns.{Written, TakesTurn}
 use Rattle.bpf_origin.proofs.Backs.{back_more, back_on}
 

@@ -12,7 +12,7 @@ use Rattle.bpf_origin.specs.declared.question.Question.{Question}
 use Rattle.bpf_origin.specs.declared.question.Extent.{Extent}
 use Rattle.bpf_origin.specs.declared.question.Extent.TheVariants.{Whole, Lines, Places}
 use Rattle.bpf_origin.specs.declared.question.Told.{Told}
-use Rattle.bpf_origin.specs.Pasts.{StandsThere, gone_from}
+use Rattle.bpf_origin.specs.Pasts.{IsSameKeeper, StandsThere, gone_from}
 use Rattle.bpf_origin.specs.Writes.{written}
 use Rattle.bpf_origin.specs.Reads.{followed}
 use Rattle.bpf_origin.specs.Wanted.{most_places, want_parts, are_hit, still_wanted}
@@ -47,10 +47,10 @@ answer q k n wanted (r ∷ h) y =
     else answer q (k + 1) n (still_wanted y (overwritten r.before r.move) wanted) h r.before
 
 -- The answer was written, and the moves that were taken back for it can be made again.
-pub record TellsOrigin {P W : Type 0} (state : P → State) (follows : P → Track → Type 0) (size : P → ℕ) (contents : W → Option (List ℕ)) (answers : Track → Answer)
+pub record TellsOrigin {P W : Type 0} (state : P → State) (follows : P → Track → Type 0) (size refusals : P → ℕ) (contents : W → Option (List ℕ)) (answers : Track → Answer)
     (old new : P) (was : Tally W) (before : Result (Unit {0}) WriteFault) (now : Tally W) (told : Told) : Type 0 where
   pub text : (t : Track) → follows old t → WritesAfter contents was before now told.written (answers t).text
   pub extent : (t : Track) → follows old t → told.extent ≡ (answers t).extent
   pub back : (t : Track) → follows old t → StandsThere state follows new (gone_from told.moves t (state old))
   pub within : (t : Track) → follows old t → told.moves ≤ length t.history
-  pub room : size new ≡ size old
+  pub keeper : IsSameKeeper size refusals old new

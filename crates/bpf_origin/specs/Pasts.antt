@@ -1,6 +1,7 @@
 -- What goes back over the moves that led to a state: what that leaves of the history, and of what was taken back from it.
 use Rattle.std.specs.Prelude.{◌≡◌, ℕ, zero, suc, List, [], ◌∷◌, Option, Some, None}
 use Rattle.bpf_entries.specs.Keeping.{Kept}
+use Rattle.bpf_journal.specs.Counts.{one_more}
 use Rattle.bpf_journal.specs.Histories.{Record}
 use Rattle.bpf_journal.specs.TakingBack.{taken_of}
 use Rattle.bpf_journal.specs.Tracks.{CourseValue, Follows, Track}
@@ -41,3 +42,18 @@ state_of c = c.state
 
 abbrev pub CourseStands : {K : Type 0} → (K → List Kept → Type 0) → CourseValue K → Stand → Type 0
 CourseStands holds c s = StandsThere state_of (Follows holds) c s
+
+-- The journal has the size that it had, and its keeper refused nothing.
+pub record IsSameKeeper {P : Type 0} (size refusals : P → ℕ) (old new : P) : Type 0 where
+  pub room : size new ≡ size old
+  pub refused : refusals new ≡ refusals old
+
+-- Where moves are left that are to be made again, the keeper refused one push more.
+abbrev pub refusals_left : ℕ → ℕ → ℕ
+refusals_left zero n = n
+refusals_left (suc left) n = one_more n
+
+-- So many moves are left that are to be made again: none if the keeper refuses none, and none unless it refused one.
+pub record LeavesMoves {K : Type 0} (refusals : K → ℕ) (old new : K) (left : ℕ) : Type 0 where
+  pub none : ((keeper : K) → refusals keeper ≡ 0) → left ≡ 0
+  pub refused : refusals new ≡ refusals_left left (refusals old)

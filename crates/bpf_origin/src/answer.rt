@@ -19,7 +19,7 @@ pub fn put_answer<P: Past, W: Write>(
     writer: &mut Counted<W>,
     so_far: Result<(), WriteFault>,
 ) -> Told
-    ensures { TellsOrigin P.state P.follows P.room W.contents
+    ensures { TellsOrigin P.state P.follows P.room P.refused W.contents
         (λ (t : Track). answer_about question parts.now t.history (P.state history.old))
         history.old history.new writer.old so_far writer.new result }
 {

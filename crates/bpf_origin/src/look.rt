@@ -4,7 +4,7 @@ ghost use Rattle.bpf_journal.specs.Histories.{IsRun};
 ghost use Rattle.bpf_journal.specs.Tracks.{Follows, Track};
 ghost use Rattle.bpf_machine.specs.State.{State};
 ghost use Rattle.bpf_origin.specs.Asked.{answer_about};
-ghost use Rattle.bpf_origin.specs.Pasts.{CourseStands, gone_from};
+ghost use Rattle.bpf_origin.specs.Pasts.{CourseStands, LeavesMoves, gone_from};
 ghost use Rattle.counted_io.specs.Writing.{WritesAfter};
 
 use crate::answer::put_answer;
@@ -39,7 +39,7 @@ pub fn look_back<K: Keeper, W: Write>(
         (answer_about question parts.now t.history course.old.state).text }
     ensures stands { (t : Track) → Follows K.holds course.old t →
         CourseStands K.holds course.new (gone_from result.left t course.old.state) }
-    ensures none { ((keeper : K) → K.refused keeper ≡ 0) → result.left ≡ 0 }
+    ensures left { LeavesMoves K.refused course.old.keeper course.new.keeper result.left }
     ensures room { K.room course.new.keeper ≡ K.room course.old.keeper }
 {
     let told = put_answer(course, parts, question, writer, so_far);
@@ -54,7 +54,7 @@ fn go_on<K: Keeper>(course: &mut Course<K>, moves: u64) -> u64
     ensures stands { (t : Track) (y : State) → IsRun t.history y → moves ≤ length t.history →
         CourseStands K.holds course.old (gone_from moves t y) →
         CourseStands K.holds course.new (gone_from result t y) }
-    ensures none { ((keeper : K) → K.refused keeper ≡ 0) → result ≡ 0 }
+    ensures left { LeavesMoves K.refused course.old.keeper course.new.keeper result }
     ensures room { K.room course.new.keeper ≡ K.room course.old.keeper }
 {
     for k in 0..moves {

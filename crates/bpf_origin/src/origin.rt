@@ -7,6 +7,7 @@ ghost use Rattle.bpf_journal.specs.Tracks.{Track};
 ghost use Rattle.bpf_machine.specs.declared.moves.Move.{Move};
 ghost use Rattle.bpf_origin.specs.declared.place.Place.{Place};
 ghost use Rattle.bpf_origin.specs.Answers.{TellsOrigin, answer};
+ghost use Rattle.bpf_origin.specs.Pasts.{IsSameKeeper};
 ghost use Rattle.bpf_origin.specs.Reads as reads;
 ghost use Rattle.bpf_origin.specs.Turns.{TakesOne, TakesTurn, TellsRest, WentBack};
 ghost use Rattle.bpf_origin.specs.Wanted as spec;
@@ -39,7 +40,7 @@ pub struct Turn {
 
 /// Writes where the values at the wanted places came from: a line a move that wrote one of them,
 /// the newest first, and then a line a place that is left. Each move is taken back, so it ends at
-/// the oldest state that is kept, or where the answer is cut.
+/// the oldest state that is kept, or where the answer is cut. What is wanted behind it isn't said.
 pub fn put_origin<P: Past, W: Write>(
     history: &mut P,
     wanted: &mut Wanted,
@@ -47,7 +48,7 @@ pub fn put_origin<P: Past, W: Write>(
     writer: &mut Counted<W>,
     so_far: Result<(), WriteFault>,
 ) -> Told
-    ensures { TellsOrigin P.state P.follows P.room W.contents
+    ensures { TellsOrigin P.state P.follows P.room P.refused W.contents
         (λ (t : Track). answer question 0 question.lines wanted.old t.history
         (P.state history.old)) history.old history.new writer.old so_far writer.new result }
 {
@@ -101,7 +102,7 @@ fn take_turn<P: Past, W: Write>(
         TakesTurn P.state P.follows W.contents question moves lines wanted.old wanted.new r h f
         (P.state history.old) history.new writer.old so_far writer.new result }
     ensures one { result.taken ≤ 1 }
-    ensures room { P.room history.new ≡ P.room history.old }
+    ensures keeper { IsSameKeeper P.room P.refused history.old history.new }
 {
     let Some((entry, _)) = history.newest() else {
         return go_on(so_far, lines);
@@ -143,7 +144,7 @@ fn tell_rest<P: Past, W: Write>(
         P.follows history.old (record { history = r ∷ h; ahead = f }) →
         TellsRest W.contents question r wanted.old wanted.new writer.old so_far writer.new result }
     ensures turn { TakesOne lines result }
-    ensures room { P.room history.new ≡ P.room history.old }
+    ensures keeper { IsSameKeeper P.room P.refused history.old history.new }
 {
     let Some(taken) = history.take_back() else {
         return go_on(so_far, lines);

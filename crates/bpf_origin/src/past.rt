@@ -4,7 +4,7 @@ ghost use Rattle.bpf_entries.specs.Status.{has_ended};
 ghost use Rattle.bpf_journal.specs.Histories.{StandsFor, kept_of, newest};
 ghost use Rattle.bpf_journal.specs.Tracks.{Follows, Track};
 ghost use Rattle.bpf_machine.specs.State.{State};
-ghost use Rattle.bpf_origin.specs.Pasts.{GoesBack};
+ghost use Rattle.bpf_origin.specs.Pasts.{GoesBack, IsSameKeeper};
 
 use bpf_journal::{Course, Keeper, Taken, Timeline};
 use bpf_machine::{Cpu, Entry};
@@ -21,6 +21,9 @@ pub trait Past {
 
     /// The journal's size in bytes.
     ghost room: { Self → ℕ };
+
+    /// How many pushes the keeper of the moves has refused.
+    ghost refused: { Self → ℕ };
 
     /// The machine.
     fn machine(&self) -> &Cpu
@@ -41,7 +44,7 @@ pub trait Past {
             GoesBack state follows result t.history t.ahead self.old self.new }
         ensures runs { IfSome result (λ taken. taken.is_step ≡ true →
             has_ended (state self.new).status ≡ false) }
-        ensures room { room self.new ≡ room self.old };
+        ensures keeper { IsSameKeeper room refused self.old self.new };
 }
 
 impl<K: Keeper> Past for Timeline<K> {
@@ -50,6 +53,8 @@ impl<K: Keeper> Past for Timeline<K> {
     ghost follows = { λ t track. StandsFor K.holds t.keeper t.state track.history };
 
     ghost room = { λ t. K.room t.keeper };
+
+    ghost refused = { λ t. K.refused t.keeper };
 
     fn machine(&self) -> &Cpu {
         self.cpu()
@@ -75,6 +80,8 @@ impl<K: Keeper> Past for Course<K> {
     ghost follows = { λ c track. Follows K.holds c track };
 
     ghost room = { λ c. K.room c.keeper };
+
+    ghost refused = { λ c. K.refused c.keeper };
 
     fn machine(&self) -> &Cpu {
         self.cpu()

@@ -75,7 +75,8 @@ impl Wanted {
         true
     }
 
-    /// The places of a part are wanted. The answer is false where there is no room for all.
+    /// The places of a part are wanted. The answer is false where there is no room for all; which
+    /// are wanted then isn't said.
     pub fn want_part(&mut self, part: Part) -> bool
         ensures ok { result ≡ true → self.new ≡ spec.want_all self.old (places_of part) }
         ensures full { result ≡ false →
@@ -88,7 +89,7 @@ impl Wanted {
         }
     }
 
-    /// Bytes are wanted, so many from an address on.
+    /// Bytes are wanted, so many from an address on, as `want_part` says.
     fn want_run(&mut self, address: u64, len: usize) -> bool
         ensures ok { result ≡ true → self.new ≡ spec.want_all self.old (bytes_from address len) }
         ensures full { result ≡ false →
@@ -103,7 +104,8 @@ impl Wanted {
         true
     }
 
-    /// The places of parts are wanted. The answer is false where there is no room for all.
+    /// The places of parts are wanted. The answer is false where there is no room for all; which are
+    /// wanted then isn't said.
     pub fn want_parts(&mut self, parts: &[Part]) -> bool
         ensures ok { result ≡ true → self.new ≡ spec.want_parts self.old parts.now }
         ensures full { result ≡ false →

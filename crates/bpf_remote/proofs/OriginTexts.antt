@@ -1,5 +1,5 @@
 -- Answers to where a value came from, and their packets.
-use Rattle.std.proofs.Common.{◌≡◌, ◌≤◌, ◌<◌, ◌+◌, ◌*◌, inl, inr, ℕ, List, [], ◌∷◌, ◌++◌, Option, Some, None, Bool, true, false, Result, Ok, Err, IfOk, length, refl, sym, ap, subst, ◌∙◌, append_assoc, arith}
+use Rattle.std.proofs.Common.{◌≡◌, ◌≤◌, ◌*◌, inl, inr, ℕ, List, [], ◌∷◌, ◌++◌, Option, Some, None, Bool, true, false, Result, Ok, Err, IfOk, length, refl, sym, ap, subst, ◌∙◌, append_assoc, arith}
 use Rattle.std.specs.Prelude.{MatchResult, if◌then◌else◌, drop, take}
 use Rattle.std.specs.Option.{option_map, unwrap_or}
 use Rattle.std.proofs.lemmas.Grind.{common_steps}
@@ -19,7 +19,7 @@ use Rattle.bpf_origin.specs.declared.fault.WhatFault.{WhatFault}
 use Rattle.bpf_origin.specs.declared.what.What.{What}
 use Rattle.bpf_session.specs.Sessions.{HasPast, SessionValue}
 use Rattle.bpf_remote.specs.Numbers.{behind, hex_text}
-use Rattle.bpf_remote.specs.Origins.{ComesBack, asked_in, named_in, Fits, Shows, TellsOrigin, consoles, joined, longest_part, question_of, too_long, what_refusal}
+use Rattle.bpf_remote.specs.Origins.{ComesBack, asked_in, named_in, Fits, Shows, TellsOrigin, longest_part, question_of, too_long, what_refusal}
 use Rattle.bpf_remote.specs.Packets.{framed, longest_body}
 use Rattle.bpf_remote.proofs.Consoles.{no-text}
 

@@ -1,5 +1,5 @@
 -- `monitor origin`: where a value came from, asked of the session as it stands. bpfdb's own choice.
-use Rattle.std.specs.Prelude.{◌≡◌, ◌-◌, ◌==◌, ℕ, List, [], ◌∷◌, ◌++◌, ◌⊎◌, Option, Some, None, Result, Ok, Err, decimal, if◌then◌else◌, false, length}
+use Rattle.std.specs.Prelude.{◌≡◌, ◌==◌, ℕ, List, [], ◌∷◌, ◌++◌, ◌⊎◌, Option, Some, None, Result, Ok, Err, decimal, if◌then◌else◌, false, length}
 use lib.Chars.{codes}
 use Rattle.std.specs.Option.{option_map, option_and_then}
 use Rattle.std.specs.Result.{result_ok}
@@ -9,11 +9,10 @@ use Rattle.bpf_entries.specs.Keeping.{Kept}
 use Rattle.bpf_journal.specs.Tracks.{Track}
 use Rattle.bpf_machine.specs.State.{State}
 use Rattle.bpf_origin.specs.Asked.{answer_about, parts_asked, what_fault, what_in}
-use Rattle.bpf_origin.specs.Pasts.{CourseStands, gone_from}
+use Rattle.bpf_origin.specs.Pasts.{CourseStands, LeavesMoves, gone_from}
 use Rattle.bpf_origin.specs.declared.fault.WhatFault.{WhatFault}
 use Rattle.bpf_origin.specs.declared.question.Question.{Question}
 use Rattle.bpf_origin.specs.declared.what.What.{What}
-use Rattle.bpf_session.specs.Laws.{RefusesNone}
 use Rattle.bpf_session.specs.Sessions.{HasPast, SessionValue, bounds_of}
 use Rattle.bpf_remote.specs.Numbers.{behind, hex_text}
 use Rattle.bpf_remote.specs.Packets.{framed}
@@ -74,13 +73,13 @@ pub record Shows (text told : List ℕ) : Type 0 where
   pub sent : told ≡ consoles parts
 
 module _ {K : Type 0} (holds : K → List Kept → Type 0) (refusals room : K → ℕ) where
-  -- The session stands where it stood, or so many moves before that which its keeper refused to keep again, none if it refuses none. All
-  -- else of it is as it was.
+  -- The session stands where it stood, or so many moves before that as are left, since its keeper refused to keep one again. All else of
+  -- it is as it was.
   pub record ComesBack (old new : SessionValue K) (left : ℕ) : Type 0 where
     pub rest : new ≡ record old { moment = new.moment }
     pub bounds : bounds_of room new ≡ bounds_of room old
     pub stands : (t : Track) → HasPast holds old t → CourseStands holds new.moment (gone_from left t old.moment.state)
-    pub none : RefusesNone refusals → left ≡ 0
+    pub leaves : LeavesMoves refusals old.moment.keeper new.moment.keeper left
 
   -- What is told of what is asked, where so many moves lie before the state: the answer over the kept history, or the refusal.
   abbrev pub TellsOrigin : Result (Option What) WhatFault → SessionValue K → SessionValue K → ℕ → ℕ → List ℕ → Type 0

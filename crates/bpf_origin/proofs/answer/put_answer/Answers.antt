@@ -1,4 +1,4 @@
-use Rattle.std.proofs.Common.{◌≡◌, ◌∙◌, ap, refl, subst, sym, arith}
+use Rattle.std.proofs.Common.{◌∙◌, ap, refl, subst, sym, arith}
 use Rattle.counted_io.specs.Writing.{WritesAfter}
 use Rattle.bpf_origin.specs.Answers.{Answer}
 use Rattle.bpf_origin.proofs.Asking.{about_full, about_room}
@@ -14,7 +14,7 @@ returns-then-not-want_parts g c =
       extent = λ t stands. ap (λ (a : Answer). a.extent) (sym (about_full c.args.question c.args.parts.now t.history (g.P.Past.state c.args.history.now) full));
       back = λ t stands. record { at = refl; on = stands };
       within = λ t stands. omega arith;
-      room = refl;
+      keeper = record { room = refl; refused = refl };
     }
 
 pub returns : goal.returns
@@ -30,5 +30,5 @@ returns g c =
           ∙ ap (λ (a : Answer). a.extent) (sym (about_room c.args.question c.args.parts.now t.history (g.P.Past.state c.args.history.now) fits));
       back = c.put_origin.ensures.back;
       within = c.put_origin.ensures.within;
-      room = c.put_origin.ensures.room;
+      keeper = c.put_origin.ensures.keeper;
     }

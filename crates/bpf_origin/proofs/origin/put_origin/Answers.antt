@@ -1,14 +1,15 @@
-use Rattle.std.proofs.Common.{ℕ, refl, sym, subst, ◌∙◌, arith}
+use Rattle.std.proofs.Common.{ℕ, refl, sym, subst, arith}
 use Rattle.bpf_origin.specs.Pasts.{StandsThere, gone_from}
+use Rattle.bpf_origin.proofs.Backs.{keeps_on}
 use Rattle.bpf_origin.proofs.Going.{going_start, going_step, going_cut, going_end}
 use Rattle.bpf_origin.proofs.origin.put_origin.Goals as goal
 
 pub loop-k-init : goal.loop-k-init
-loop-k-init g c = (refl, λ t stands. going_start g.P.Past.state g.P.Past.follows g.W.Write.contents c.args.question _ _ _ t (g.P.Past.state c.args.history.now) _ c.args.question.lines c.args.wanted.now c.args.history.now stands refl refl refl)
+loop-k-init g c = (record { room = refl; refused = refl }, λ t stands. going_start g.P.Past.state g.P.Past.follows g.W.Write.contents c.args.question _ _ _ t (g.P.Past.state c.args.history.now) _ c.args.question.lines c.args.wanted.now c.args.history.now stands refl refl refl)
 
 pub loop-k-preserved : goal.loop-k-preserved
 loop-k-preserved g c = (
-  c.take_turn-turn.ensures.room ∙ c.loop-k.invariant.0,
+  keeps_on g.P.Past.room g.P.Past.refused _ _ _ c.loop-k.invariant.0 c.take_turn-turn.ensures.keeper,
   λ t stands.
       let n = c.moves-kept.ensures t stands in
       let here = c.loop-k-test.true in
@@ -33,7 +34,7 @@ returns-in-Some g c = record {
       let n = c.moves-kept.ensures t stands in
       let here = c.loop-k-test.true in
       (going_cut g.P.Past.state g.P.Past.follows g.W.Write.contents c.args.question _ _ _ t (g.P.Past.state c.args.history.now) _ c.loop-k.k _ _ _ _ _ _ _ _ c.take_turn-turn.result _ (c.loop-k.invariant.1 t stands) (omega arith) c.take_turn-turn.ensures.takes c.in-Some.is c.take_turn-turn.ensures.one).within;
-  room = c.take_turn-turn.ensures.room ∙ c.loop-k.invariant.0;
+  keeper = keeps_on g.P.Past.room g.P.Past.refused _ _ _ c.loop-k.invariant.0 c.take_turn-turn.ensures.keeper;
 }
 
 pub returns : goal.returns
@@ -55,5 +56,5 @@ returns g c = record {
       subst (λ (m : ℕ). StandsThere g.P.Past.state g.P.Past.follows c.loop-k.history (gone_from m t (g.P.Past.state c.args.history.now))) (sym n)
       (going_end g.P.Past.state g.P.Past.follows g.W.Write.contents c.args.question _ _ _ t (g.P.Past.state c.args.history.now) _ c.loop-k.k _ _ _ _ _ _ _ (c.loop-k.invariant.1 t stands) (omega arith) (rw (c.machine.ensures, c.as_slice.ensures.value) at c.put_left-last.ensures)).back;
   within = λ t stands. let n = c.moves-kept.ensures t stands in omega (arith, n);
-  room = c.loop-k.invariant.0;
+  keeper = c.loop-k.invariant.0;
 }

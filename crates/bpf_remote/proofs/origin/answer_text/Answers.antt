@@ -1,4 +1,4 @@
-use Rattle.std.proofs.Common.{ℕ, List, Some, refl, ap, sym, ◌∙◌}
+use Rattle.std.proofs.Common.{ℕ, Some, refl, ap, sym, ◌∙◌}
 use Rattle.arrayvec.specs.ArrayVec.{ArrayVec}
 use Rattle.counted_io.specs.Counted.{Tally}
 use Rattle.bpf_remote.proofs.LineTexts.{written}

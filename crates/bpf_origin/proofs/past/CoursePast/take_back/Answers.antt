@@ -8,3 +8,6 @@ pub returns-clause-runs : goal.returns-clause-runs
 returns-clause-runs g c =
     let i = c.invariant.ensures in
     course_runs g.K.Keeper.holds _ i.track.history i.track.ahead _ _ i.follows.history.1 (c.back.ensures.back i.track i.follows)
+
+pub returns-clause-keeper : goal.returns-clause-keeper
+returns-clause-keeper g c = record { room = c.back.ensures.room; refused = c.back.ensures.refused }
