@@ -1,17 +1,17 @@
 -- The program of a machine stays, whatever it does; and so does what it comes to for tests that share it.
-use Rattle.std.proofs.Common.{ℕ, zero, suc, ◌≡◌, true, false, Bool, List, [], ◌∷◌, ◌++◌, Option, Some, None, Ok, Err, refl, sym, ap, ◌∙◌}
+use Rattle.std.proofs.Common.{ℕ, zero, suc, ◌≡◌, Option, Some, None, Ok, Err, refl, sym, ◌∙◌}
 use Rattle.std.specs.Option.{option_map_or}
 use Rattle.bpf_isa.specs.Programs.{Checked}
 use Rattle.bpf_machine.specs.Calls.{innermost}
-use Rattle.bpf_machine.specs.Next.{change, changed, next, returned}
+use Rattle.bpf_machine.specs.Next.{change, changed, returned}
 use Rattle.bpf_machine.specs.Runs.{state_after}
-use Rattle.bpf_machine.specs.State.{State, initial}
+use Rattle.bpf_machine.specs.State.{State}
 use Rattle.bpf_machine.specs.declared.change.Change.{Change}
 use Rattle.bpf_machine.specs.declared.change.Change.TheVariants.{Set, Go, Store, Fetch, Call, Return, Cell, Trace, Stop}
 use Rattle.bpf_machine.specs.declared.frame.Frame.{Frame}
 use Rattle.bpf_session.specs.Plain.{plain_end, plain_steps}
 use Rattle.bpf_suite.specs.Benches.{Loads, RefusesProgram}
-use Rattle.bpf_suite.specs.Outcomes.{Comes, IsProgramOf, Outcome, Refuses, is_memory, with_cells}
+use Rattle.bpf_suite.specs.Outcomes.{Comes, IsProgramOf, Outcome, Refuses}
 use Rattle.bpf_suite.specs.declared.refusal.Refusal.{Refusal}
 use Rattle.bpf_suite.specs.declared.refusal.Refusal.TheVariants.{Maps, Listing, Load, Open, NoCell}
 use Rattle.bpf_suite.specs.declared.setting.Setting.{Setting}

@@ -1,6 +1,5 @@
-use Rattle.std.proofs.Common.{◌≡◌, ◌≤◌, ◌+◌, ℕ, List, length, arith}
-use Rattle.bpf_entries.specs.Keeping.{Kept}
-use Rattle.bpf_journal.proofs.ByteChanges.{Looking, looking_start, looking_place, looking_past, looking_shallow, looking_on, looking_step, looking_found, looking_end}
+use Rattle.std.proofs.Common.{arith}
+use Rattle.bpf_journal.proofs.ByteChanges.{looking_start, looking_place, looking_past, looking_shallow, looking_on, looking_step, looking_found, looking_end}
 use Rattle.bpf_journal.proofs.timeline.change_among.Goals as goal
 
 pub loop-k-init : goal.loop-k-init

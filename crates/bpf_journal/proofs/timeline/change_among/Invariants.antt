@@ -1,4 +1,4 @@
-use Rattle.std.proofs.Common.{◌≤◌, ◌-◌, List, length}
+use Rattle.std.proofs.Common.{◌≤◌, ◌-◌, List}
 use Rattle.bpf_entries.specs.Keeping.{Kept}
 use Rattle.bpf_journal.proofs.ByteChanges.{Looking}
 use Rattle.bpf_journal.proofs.timeline.change_among.Given as goal
