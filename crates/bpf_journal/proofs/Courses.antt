@@ -207,9 +207,9 @@ module _ {K : Type 0} (holds : K → List Kept → Type 0) where
   course_again room old new h (r ∷ f) b same roomy size = record { track = record { history = r ∷ h; ahead = f }; follows = b.2; size = same ∙ size ∙ sym roomy }
 
   -- nothing is made again where nothing was taken back
-  pub none_again : (old : CourseValue K) → ((es : List Kept) → RingHolds old.redo es → None ≡ newest es) → (h f : List Record) → Follows holds old (record { history = h; ahead = f }) → MakesAgain holds false h f old old
-  none_again old last h [] s = (refl, refl, s)
-  none_again old last h (r ∷ f) s = let e = last (map again_of (r ∷ f)) s.held in absurd cc
+  pub none_again : (old : CourseValue K) → ((ks : List Kept) (k : Kept) → RingHolds old.redo (k ∷ ks) → ⊥) → (h f : List Record) → Follows holds old (record { history = h; ahead = f }) → MakesAgain holds false h f old old
+  none_again old empty h [] s = (refl, refl, s)
+  none_again old empty h (r ∷ f) s = absurd (empty (map again_of f) (again_of r) s.held)
 
   -- what is handed over fits its fields
   pub handed_fits : (old : CourseValue K) (k : Kept) → ((h : List Record) → StandsFor holds old.keeper old.state h → Some k ≡ newest (map kept_of h)) → EntriesFit → (again : Entry) → again ≡ seen_again old.state k.0 → (is_of_step again ≡ false → FitsFields again) → (h : List Record) → StandsFor holds old.keeper old.state h → FitsFields again
@@ -225,14 +225,14 @@ module _ {K : Type 0} (holds : K → List Kept → Type 0) where
       by_move (move.Edit f) of e = edits (ap is_of_step (e ∙ ap (again_entry r.before) of) ∙ again_of_edit f)
 
   -- a course that is opened
-  pub follows_open : (s : CourseValue K) → RingHolds s.redo [] → (room : K → ℕ) → ((keeper : K) (es : List Kept) → holds keeper es → IsWithin (room keeper) es) → ring_room s.redo ≡ room s.keeper → (h : List Record) → StandsFor holds s.keeper s.state h → Follows holds s (track_of h)
+  pub follows_open : (s : CourseValue K) → RingHolds s.redo [] → (room : K → ℕ) → ((es : List Kept) → holds s.keeper es → IsWithin (room s.keeper) es) → ring_room s.redo ≡ room s.keeper → (h : List Record) → StandsFor holds s.keeper s.state h → Follows holds s (track_of h)
   follows_open s empty room within size h stands =
-      let w = (within s.keeper (map kept_of h) stands.0).weighs in
+      let w = (within (map kept_of h) stands.0).weighs in
       let same = weights_kept h in
       let zero : sum_by record_weight [] ≡ 0 = refl in
       record { history = stands; held = empty; ahead = tt; within = omega (arith, w, same, zero, size) }
 
-  pub course_open : (s : CourseValue K) → RingHolds s.redo [] → (room : K → ℕ) → ((keeper : K) (es : List Kept) → holds keeper es → IsWithin (room keeper) es) → ring_room s.redo ≡ room s.keeper → HasHistory holds s.keeper s.state → IsCourse holds room s
+  pub course_open : (s : CourseValue K) → RingHolds s.redo [] → (room : K → ℕ) → ((es : List Kept) → holds s.keeper es → IsWithin (room s.keeper) es) → ring_room s.redo ≡ room s.keeper → HasHistory holds s.keeper s.state → IsCourse holds room s
   course_open s empty room within size i = record { track = track_of i.history; follows = follows_open s empty room within size i.history i.stands; size = size }
 
   -- what is made again can be made

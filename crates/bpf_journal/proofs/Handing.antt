@@ -123,6 +123,24 @@ module _ {K : Type 0} (holds : K → List Kept → Type 0) (old new : K) where
     by true step = let is : nothing ≡ Some (tag (kind k.0) k.1) = (some es k holding step).0 in absurd cc
     by false step = (sym step, subst (λ b. held (if b then keep kept_weight size ls k else ls)) (sym step) kept)
 
+-- what is told of the newest, of a ring that holds none and of one that holds some
+module _ {A : Type 0} (holds : List Kept → Type 0) (answer : Option A) where
+  pub told_newest : (tell : Kept → A) → (holds [] → answer ≡ None) → ((ks : List Kept) (k : Kept) → holds (k ∷ ks) → answer ≡ Some (tell k))
+      → (es : List Kept) → holds es → answer ≡ option_map tell (newest es)
+  told_newest tell none some [] held = none held
+  told_newest tell none some (k ∷ es) held = some es k held
+
+-- the newest, and what is left without it
+pub newest_told : (holds : List Kept → Type 0) (answer : Option Kept) → (holds [] → answer ≡ None) → ((ks : List Kept) (k : Kept) → holds (k ∷ ks) → answer ≡ Some k)
+    → (es : List Kept) → holds es → answer ≡ newest es
+newest_told holds answer none some [] held = none held
+newest_told holds answer none some (k ∷ es) held = some es k held
+
+pub older_left : (holds left : List Kept → Type 0) → (holds [] → left []) → ((ks : List Kept) (k : Kept) → holds (k ∷ ks) → left ks)
+    → (es : List Kept) → holds es → left (older es)
+older_left holds left none some [] held = none held
+older_left holds left none some (k ∷ es) held = some es k held
+
 -- what was read of the newest tells of its move
 module _ (holds : List Kept → Type 0) (head : Head) (next : Taken) (read : (es : List Kept) → holds es → Some head ≡ option_map head_of (newest es))
     (told : (entry : Entry) (mark : Bool) → head.tag ≡ tag (kind entry) mark → next ≡ taken_by (entry, mark)) where

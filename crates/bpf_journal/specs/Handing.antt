@@ -16,28 +16,28 @@ abbrev pub Hands : Bool → List Kept → List Kept → ℕ → (List Kept → T
 Hands handed [] ls size held = (handed ≡ false) × held ls
 Hands handed (k ∷ es) ls size held = (handed ≡ is_of_step k.0) × held (if is_of_step k.0 then keep kept_weight size ls k else ls)
 
--- A ring of entries holds a list, and its size.
-abbrev pub EntriesHold : EntryRing → List Kept → Type 0
-EntriesHold ring es = IsHeld ring.ring ring.counts es
+-- A ring holds a list of entries and marks, the newest first; how many bytes it may have.
+abbrev pub RingHolds : EntryRing → List Kept → Type 0
+RingHolds ring es = IsHeld ring.ring ring.counts es
 
-abbrev pub entries_room : EntryRing → ℕ
-entries_room ring = ring.ring.size
+abbrev pub ring_room : EntryRing → ℕ
+ring_room ring = ring.ring.size
 
--- A keeper gives a ring, which holds lists as well and has a size, what it held at the state x; its moves are taken back to the state y.
-module _ {K R : Type 0} (holds : K → List Kept → Type 0) (refusals size : K → ℕ) (has : R → List Kept → Type 0) (ring_size : R → ℕ) where
+-- A keeper gives a ring what it held at the state x; its moves are taken back to the state y.
+module _ {K : Type 0} (holds : K → List Kept → Type 0) (refusals size : K → ℕ) where
   -- The newest entry goes over where it is of a step, else all stays.
-  pub record HandsOver (taken : Option Taken) (old new : K) (x y : State) (ring left : R) : Type 0 where
-    pub hands : (es ls : List Kept) → holds old es → has ring ls → Hands (is_some taken) es ls (ring_size ring) (has left)
+  pub record HandsOver (taken : Option Taken) (old new : K) (x y : State) (ring left : EntryRing) : Type 0 where
+    pub hands : (es ls : List Kept) → holds old es → RingHolds ring ls → Hands (is_some taken) es ls (ring_room ring) (RingHolds left)
     pub back : OnSome taken ((h : List Record) → StandsFor holds old x h → TakesBack holds taken h x new y)
     pub stays : taken ≡ None → (new ≡ old) × (y ≡ x) × (left ≡ ring)
-    pub ring_room : ring_size left ≡ ring_size ring
+    pub ring_size : ring_room left ≡ ring_room ring
     pub refused : refusals new ≡ refusals old
     pub room : size new ≡ size old
 
   -- So many of the newest go over, at most as many as they may be.
-  pub record HandsOverSteps (marks : List Bool) (stays : Stays) (most n : ℕ) (old new : K) (x y : State) (ring left : R) : Type 0 where
+  pub record HandsOverSteps (marks : List Bool) (stays : Stays) (most n : ℕ) (old new : K) (x y : State) (ring left : EntryRing) : Type 0 where
     pub within : n ≤ most
-    pub handed : (ws : List Made) (ls : List Kept) → holds old (map kept_by ws) → IsWay ws x → HandsBack marks stays y (holds new) (λ ms. has ring ls → has left ms) n ws ls x
-    pub ring_room : ring_size left ≡ ring_size ring
+    pub handed : (ws : List Made) (ls : List Kept) → holds old (map kept_by ws) → IsWay ws x → HandsBack marks stays y (holds new) (λ ms. RingHolds ring ls → RingHolds left ms) n ws ls x
+    pub ring_size : ring_room left ≡ ring_room ring
     pub refused : refusals new ≡ refusals old
     pub room : size new ≡ size old

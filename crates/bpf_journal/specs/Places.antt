@@ -1,15 +1,9 @@
 -- Scaffolding: lemmas behind the laws of the list keeper.
-use Rattle.std.specs.Prelude.{◌≡◌, ◌≤◌, ℕ, List, ◌++◌, length, drop, sum_by}
-use Rattle.std.proofs.Common.{sym, ap, subst, ◌∙◌, arith}
+use Rattle.std.specs.Prelude.{◌≡◌, List, ◌++◌, length, drop}
+use Rattle.std.proofs.Common.{sym, ap, ◌∙◌, arith}
 use Rattle.std.proofs.lemmas.List.{length-append}
 use Rattle.std.proofs.Math.Seq.{drop-append_seam}
-use Rattle.bpf_entries.specs.Keeping.{Kept, kept_weight}
-use Rattle.bpf_journal.specs.Keepers.{IsWithin}
-use Rattle.bpf_entries.specs.Keeping.{IsSize}
-
--- What is held is within the room.
-pub within_all : (room : ℕ) (kept es : List Kept) → es ≡ kept → IsSize room → sum_by kept_weight kept ≤ room → IsWithin room es
-within_all room kept es same size weighs = subst (λ (xs : List Kept). IsWithin room xs) (sym same) (record { size = size; weighs = weighs })
+use Rattle.bpf_entries.specs.Keeping.{Kept}
 
 -- Ends of one list that are as long are one.
 pub ends_apart : (n m a b : List Kept) → n ++ a ≡ m ++ b → length a ≡ length b → a ≡ b

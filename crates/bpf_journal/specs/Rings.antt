@@ -1,22 +1,9 @@
--- Scaffolding: lemmas behind the laws of the ring keeper.
-use Rattle.std.specs.Prelude.{◌≡◌, ◌≤◌, List, [], ◌∷◌, ◌++◌, length, sum_by}
+-- Scaffolding: the lemma behind a law of the ring of entries as a keeper.
+use Rattle.std.specs.Prelude.{◌≡◌, List, [], ◌∷◌, ◌++◌, sum_by}
 use Rattle.std.proofs.Common.{ap, arith}
 use Rattle.std.proofs.lemmas.List.Sums.{sum_by-cons, sum_by-append}
-use Rattle.bpf_entries.specs.Keeping.{IsSize, Kept, kept_weight}
+use Rattle.bpf_entries.specs.Keeping.{Kept, kept_weight}
 use Rattle.bpf_entries.proofs.Texts.{weight_high}
-use Rattle.bpf_journal.specs.Keepers.{IsWithin}
-use Rattle.bpf_ring.proofs.Held.{length-ring}
-use Rattle.bpf_ring.specs.Blocks.{Content}
-use Rattle.bpf_ring.specs.Held.{IsHeld}
-use Rattle.bpf_ring.specs.declared.counts.Counts.{Counts}
-
--- What a ring holds is within its size.
-pub within_ring : (content : Content) (counts : Counts) (es : List Kept) → IsHeld content counts es → IsSize content.size
-    → length content.bytes ≤ content.size → IsWithin content.size es
-within_ring content counts es held size fits = record {
-  size = size;
-  weighs = omega (arith, ap length held.bytes, length-ring es held.fit, fits);
-}
 
 -- Fronts of one list that weigh as much are one.
 pub fronts_apart : (n m a b : List Kept) → n ++ a ≡ m ++ b → sum_by kept_weight a ≡ sum_by kept_weight b → a ≡ b

@@ -3,11 +3,11 @@ use Rattle.std.specs.Prelude.{◌≡◌, ◌≤◌, ◌+◌, ℕ, zero, suc, Lis
 use Rattle.bpf_entries.specs.Keeping.{Kept, keep}
 use Rattle.bpf_machine.specs.Moves.{Leads, moved}
 use Rattle.bpf_machine.specs.State.{State}
-use Rattle.bpf_ring.specs.Held.{IsHeld}
+use Rattle.bpf_ring.specs.declared.entries.EntryRing.{EntryRing}
 use Rattle.bpf_journal.specs.Again.{again_of}
+pub use Rattle.bpf_journal.specs.Handing.{RingHolds, ring_room}
 use Rattle.bpf_journal.specs.Histories.{HasHistory, Record, StandsFor, record_weight}
 use Rattle.bpf_journal.specs.Runs.{history_after}
-use Rattle.bpf_journal.specs.declared.ring_keeper.RingKeeper.{RingKeeper}
 
 -- The history, the newest record first, and the records that were taken back since the latest new move, the next one to be made again first.
 pub record Track : Type 0 where
@@ -32,15 +32,8 @@ abbrev pub IsAhead : State → List Record → Type 0
 IsAhead x [] = Unit {0}
 IsAhead x (r ∷ f) = (r.before ≡ x) × Leads x r.move (moved x r.move) × IsAhead (moved x r.move) f
 
--- A ring holds a list of entries and marks, the newest first; how many bytes it may have.
-abbrev pub RingHolds : RingKeeper → List Kept → Type 0
-RingHolds ring es = IsHeld ring.entries.ring ring.entries.counts es
-
-abbrev pub ring_room : RingKeeper → ℕ
-ring_room ring = ring.entries.ring.size
-
 -- What a course is opened with: a keeper that stands with the state for some history, and an empty ring of its size.
-pub record CanOpen {K : Type 0} (holds : K → List Kept → Type 0) (room : K → ℕ) (keeper : K) (x : State) (redo : RingKeeper) : Type 0 where
+pub record CanOpen {K : Type 0} (holds : K → List Kept → Type 0) (room : K → ℕ) (keeper : K) (x : State) (redo : EntryRing) : Type 0 where
   pub past : HasHistory holds keeper x
   pub empty : RingHolds redo []
   pub size : ring_room redo ≡ room keeper
@@ -49,7 +42,7 @@ pub record CanOpen {K : Type 0} (holds : K → List Kept → Type 0) (room : K �
 pub record CourseValue (K : Type 0) : Type 0 where
   pub state : State
   pub keeper : K
-  pub redo : RingKeeper
+  pub redo : EntryRing
 
 -- They stand for a track: the keeper for the history, the ring holds what was taken back, its newest the next one, which leads on from the
 -- state; and both lists together fit the room.

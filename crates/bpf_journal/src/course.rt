@@ -15,13 +15,12 @@ ghost use Rattle.bpf_journal.specs.Tracks.{Follows, IsCourse, Track, track_after
 use crate::again::{entry_again, move_again};
 use crate::fault::TimelineFault;
 use crate::keeper::Keeper;
-use crate::ring_keeper::RingKeeper;
 use crate::run::Run;
 use crate::taken::Taken;
 use crate::timeline::{ByteChange, Timeline};
 use bpf_machine::laws::entries_fit;
 use bpf_machine::{Cpu, Edit};
-use bpf_ring::{Stays, StopTest};
+use bpf_ring::{EntryRing, Stays, StopTest};
 use std::marker::Model;
 
 /// A machine and a keeper, and the moves that were taken back since the latest new one. What is
@@ -30,7 +29,7 @@ use std::marker::Model;
 #[derive(Drop)]
 pub struct Course<K: Keeper> {
     timeline: Timeline<K>,
-    redo: RingKeeper,
+    redo: EntryRing,
 }
 
 impl<K: Keeper> Model for Course<K> {
@@ -46,12 +45,13 @@ impl<K: Keeper> Model for Course<K> {
 impl<K: Keeper> Course<K> {
     /// A machine with a keeper that holds the entries of some history that leads to the machine's
     /// state, and an empty ring of the keeper's capacity.
-    pub fn open(cpu: Cpu, keeper: K, redo: RingKeeper) -> Course<K>
+    pub fn open(cpu: Cpu, keeper: K, redo: EntryRing) -> Course<K>
         requires { CanOpen K.holds K.room keeper cpu redo }
         ensures value { result ≡ record { state = cpu; keeper = keeper; redo = redo } }
         ensures stands { (h : List Record) → StandsFor K.holds keeper cpu h →
             Follows K.holds result (track_of h) }
     {
+        keeper.invariant();
         Course {
             timeline: Timeline::open(cpu, keeper),
             redo,
@@ -237,7 +237,7 @@ impl<K: Keeper> Course<K> {
                 self.timeline.cpu().invariant();
                 entries_fit();
                 let again = entry_again(self.timeline.cpu(), &entry);
-                self.redo.add(&again, mark);
+                self.redo.push(&again, mark);
                 self.timeline.back()
             }
             None => None,
@@ -256,7 +256,7 @@ impl<K: Keeper> Course<K> {
             ≡ refusals_by result (K.refused self.old.keeper) }
         ensures room { K.room self.new.keeper ≡ K.room self.old.keeper }
     {
-        let Some(head) = self.redo.newest_head() else {
+        let Some(head) = self.redo.newest() else {
             return Ok(false);
         };
         let next = Taken::of_tag(head.tag);
@@ -265,7 +265,7 @@ impl<K: Keeper> Course<K> {
         }
         match self.timeline.step(next.mark) {
             Ok(_) => {
-                self.redo.drop_head(head);
+                self.redo.drop_newest(head);
                 Ok(true)
             }
             Err(TimelineFault::Move(_)) => unreachable!(),
@@ -305,7 +305,7 @@ impl<K: Keeper> Course<K> {
         };
         match self.timeline.make(&move_again(&entry), mark) {
             Ok(()) => {
-                self.redo.drop_newest();
+                self.redo.drop_last();
                 Ok(true)
             }
             Err(TimelineFault::Move(_)) => unreachable!(),

@@ -7,7 +7,7 @@ ghost use Rattle.bpf_machine.specs.Entries.{step_entry};
 ghost use Rattle.bpf_machine.specs.Next.{change as change_of};
 ghost use Rattle.bpf_ring.specs.Runs.{kept_after, kept_on};
 ghost use Rattle.bpf_journal.specs.EditEntries.{HoldsSome, is_of_step};
-ghost use Rattle.bpf_journal.specs.Handing.{EntriesHold, HandsOver, HandsOverSteps, entries_room};
+ghost use Rattle.bpf_journal.specs.Handing.{HandsOver, HandsOverSteps};
 ghost use Rattle.bpf_journal.specs.Histories.{HasHistory, Record, StandsFor, newest};
 ghost use Rattle.bpf_journal.specs.TakingBack.{TakesBack};
 ghost use Rattle.bpf_journal.specs.Keepers.{IsPlace, IsWithin, Keeps, Passes, PlacesDiffer, TakesNewest, TellsByteBefore, WalksBack, next_after};
@@ -36,6 +36,11 @@ pub trait Keeper {
 
     /// The place of a front: of the part of a list that is left without some of its newest.
     ghost place: { Self → List Kept → ℕ };
+
+    /// Brings into a proof that what is held weighs at most the journal's size, which is 1,024 to
+    /// 16,777,216 bytes.
+    fn invariant(&self)
+        ensures { (es : List Kept) → holds self.now es → IsWithin (room self.now) es };
 
     /// Keeps one more entry, and drops the fewest oldest ones that make room for it. A refusal, for
     /// want of memory, changes nothing that is held.
@@ -156,10 +161,8 @@ pub trait Keeper {
     /// they lie; by itself it reads the entry whole.
     fn hand_back(&mut self, cpu: &mut Cpu, ring: &mut EntryRing) -> Option<Taken>
         requires way { HasHistory holds self.old cpu.old }
-        ensures over { HandsOver holds refused room EntriesHold entries_room
+        ensures { HandsOver holds refused room
             result self.old self.new cpu.old cpu.new ring.old ring.new }
-        ensures fits { length ring.old.ring.bytes ≤ ring.old.ring.size →
-            length ring.new.ring.bytes ≤ ring.new.ring.size }
     {
         entries_fit();
         match self.last() {
@@ -187,10 +190,8 @@ pub trait Keeper {
         stays: Stays,
     ) -> u64
         requires way { HasHistory holds self.old cpu.old }
-        ensures over { HandsOverSteps holds refused room EntriesHold entries_room
+        ensures { HandsOverSteps holds refused room
             marks.now stays most result self.old self.new cpu.old cpu.new ring.old ring.new }
-        ensures fits { length ring.old.ring.bytes ≤ ring.old.ring.size →
-            length ring.new.ring.bytes ≤ ring.new.ring.size }
     {
         let _cpu = cpu;
         let _ring = ring;
@@ -282,9 +283,6 @@ pub trait Keeper {
 
     /// The count of refusals is a number of 64 bits.
     ghost counted: { (keeper : Self) → refused keeper < 2 ^ 64 };
-
-    /// What is held weighs at most the journal's size, which is 1,024 to 16,777,216 bytes.
-    ghost within: { (keeper : Self) (es : List Kept) → holds keeper es → IsWithin (room keeper) es };
 
     /// No two fronts of a held list have one place.
     ghost apart: { PlacesDiffer holds place };

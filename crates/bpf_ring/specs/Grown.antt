@@ -23,7 +23,6 @@ pub record MakesRoom (old new : EntryRing) (room : ℕ) : Type 0 where
 pub record RecordsStep (x y : State) (old new : EntryRing) (mark : Bool) : Type 0 where
   pub next : y ≡ next x
   pub size : new.ring.size ≡ old.ring.size
-  pub fits : length new.ring.bytes ≤ new.ring.size
   pub held : (ks : List Kept) → IsHeld old.ring old.counts ks → IsHeld new.ring new.counts (keep kept_weight old.ring.size ks (step_entry x, mark))
 
 -- Scaffolding: a step of a run was kept so, and whether the run stops behind it.
@@ -37,7 +36,6 @@ pub record TakesStep (test : Bool → State → Bool) (x y : State) (old new : E
 pub record KeepsRun (test : Bool → State → Bool) (most : ℕ) (x y : State) (old new : EntryRing) (n : ℕ) : Type 0 where
   pub to : RunsTo test most x y n
   pub size : new.ring.size ≡ old.ring.size
-  pub fits : length new.ring.bytes ≤ new.ring.size
   pub held : (ks : List Kept) → IsHeld old.ring old.counts ks → IsHeld new.ring new.counts (kept_after old.ring.size n x ks)
 
 -- From x n steps, at most so many, were kept without marks.
@@ -46,5 +44,4 @@ pub record KeepsSteps (most : ℕ) (x y : State) (old new : EntryRing) (n : ℕ)
   pub steps : AreSteps x n
   pub within : n ≤ most
   pub size : new.ring.size ≡ old.ring.size
-  pub fits : length new.ring.bytes ≤ new.ring.size
   pub held : (ks : List Kept) → IsHeld old.ring old.counts ks → IsHeld new.ring new.counts (kept_on old.ring.size n x ks)

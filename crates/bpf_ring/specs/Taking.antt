@@ -14,7 +14,6 @@ use Rattle.bpf_ring.specs.declared.entries.EntryRing.{EntryRing}
 -- It is let go, and y becomes the state before the move. The answer is its tag, and none where none is held.
 pub record TakesBack (y z : State) (old new : EntryRing) (taken : Option ℕ) : Type 0 where
   pub size : new.ring.size ≡ old.ring.size
-  pub fits : length new.ring.bytes ≤ new.ring.size
   pub none : IsHeld old.ring old.counts [] → (taken ≡ None) × (z ≡ y) × IsHeld new.ring new.counts []
   pub some : (ks : List Kept) (k : Kept) → IsHeld old.ring old.counts (k ∷ ks) → (taken ≡ Some (tag (kind k.0) k.1)) × IsHeld new.ring new.counts ks
   pub back : (ks : List Kept) (k : Kept) (x : State) (m : Move) → IsHeld old.ring old.counts (k ∷ ks) → Leads x m y → overwritten x m ≡ k.0 → z ≡ x
@@ -23,7 +22,6 @@ pub record TakesBack (y z : State) (old new : EntryRing) (taken : Option ℕ) : 
 -- is of an edit: then nothing changes.
 pub record HandsOver (y z : State) (old new other_old other_new : EntryRing) (taken : Option ℕ) : Type 0 where
   pub size : (new.ring.size ≡ old.ring.size) × (other_new.ring.size ≡ other_old.ring.size)
-  pub fits : (length new.ring.bytes ≤ new.ring.size) × (length other_new.ring.bytes ≤ other_new.ring.size)
   pub none : IsHeld old.ring old.counts [] → taken ≡ None
   pub edit : (ks : List Kept) (k : Kept) → IsHeld old.ring old.counts (k ∷ ks) → is_of_step k.0 ≡ false → taken ≡ None
   pub stays : taken ≡ None → (new ≡ old) × (z ≡ y) × (other_new ≡ other_old)
@@ -41,7 +39,6 @@ pub record Reverts (bytes : List ℕ) (count : ℕ) (y z : State) (told : ℕ) :
 -- it is of an edit: then nothing changes.
 pub record TakesText (bytes : List ℕ) (taken : Option ℕ) (y z : State) (old new : EntryRing) : Type 0 where
   pub size : new.ring.size ≡ old.ring.size
-  pub fits : length new.ring.bytes ≤ new.ring.size
   pub edit : (e : Entry) (mark : Bool) → bytes ≡ text e mark → is_of_step e ≡ false → taken ≡ None
   pub stays : taken ≡ None → (z ≡ y) × (new ≡ old)
   pub some : (e : Entry) (mark : Bool) → bytes ≡ text e mark → is_of_step e ≡ true → taken ≡ Some (tag (kind e) mark)

@@ -65,7 +65,6 @@ module _ (marks : List Bool) (stays : Stays) (z : State) (left other : List Kept
 pub record HandsSteps (marks : List Bool) (stays : Stays) (most : ℕ) (y z : State) (old new other_old other_new : EntryRing) (n : ℕ) : Type 0 where
   pub within : n ≤ most
   pub size : (new.ring.size ≡ old.ring.size) × (other_new.ring.size ≡ other_old.ring.size)
-  pub fits : (length new.ring.bytes ≤ new.ring.size) × (length other_new.ring.bytes ≤ other_new.ring.size)
   pub handed : (ws : List Made) (ls : List Kept) → IsHeld old.ring old.counts (map kept_by ws) → IsWay ws y
       → HandsBack marks stays z (IsHeld new.ring new.counts) (λ ms. IsHeld other_old.ring other_old.counts ls → IsHeld other_new.ring other_new.counts ms) n ws ls y
 

@@ -55,8 +55,6 @@ impl EntryRing {
         ensures { HandsSteps marks.now stays most cpu.old cpu.new self.old self.new
             other.old other.new result }
     {
-        self.invariant();
-        other.invariant();
         let text = self.ring.newest_run();
         let handed = other.ring.take_run(cpu, text, most, marks, stays);
         self.ring.drop_newest(handed.len);
@@ -64,7 +62,6 @@ impl EntryRing {
         let more = other.counts.entries.wrapping_add(handed.taken as usize);
         self.counts = self.counts.with_entries(less);
         other.counts = other.counts.with_entries(more);
-        self.invariant();
         other.invariant();
         handed.taken
     }

@@ -91,9 +91,11 @@ impl EntryRing {
     /// memory.
     pub fn into_buffer(self) -> HeapCircularBuffer<u8>
         ensures size { result.capacity ≡ self.ring.size }
+        ensures sized { IsSize result.capacity }
         ensures bytes { result.items ≡ self.ring.bytes }
     {
         let EntryRing { ring, counts: _ } = self;
+        let _size = ring.size();
         ring.into_buffer()
     }
 
@@ -277,7 +279,6 @@ impl EntryRing {
     /// Takes the newest entry off, None where none is held.
     pub fn pop(&mut self) -> Option<(Entry, bool)>
         ensures size { self.new.ring.size ≡ self.old.ring.size }
-        ensures fits { length self.new.ring.bytes ≤ self.new.ring.size }
         ensures none { IsHeld self.old.ring self.old.counts [] → (result ≡ None)
             × IsHeld self.new.ring self.new.counts [] }
         ensures some { (ks : List Kept) (k : Kept) → IsHeld self.old.ring self.old.counts (k ∷ ks) →
@@ -285,7 +286,6 @@ impl EntryRing {
     {
         let newest = self.last();
         self.drop_last();
-        self.invariant();
         newest
     }
 
@@ -305,7 +305,6 @@ impl EntryRing {
         let tag = self.ring.revert_newest(cpu, weight);
         self.ring.drop_newest(weight);
         self.counts.subtract(tag);
-        self.invariant();
         Some(tag)
     }
 
@@ -318,8 +317,6 @@ impl EntryRing {
         requires { HoldsWay self.old.ring self.old.counts cpu.old }
         ensures { HandsOver cpu.old cpu.new self.old self.new other.old other.new result }
     {
-        self.invariant();
-        other.invariant();
         match self.ring.newest_text() {
             Some(text) => {
                 let count = text.len();
@@ -327,7 +324,6 @@ impl EntryRing {
                     Some(tag) => {
                         self.ring.drop_newest(count);
                         self.counts.subtract(tag);
-                        self.invariant();
                         Some(tag)
                     }
                     None => None,
@@ -343,8 +339,6 @@ impl EntryRing {
         requires { HoldsWay self.old.ring self.old.counts cpu.old }
         ensures { HandsOver cpu.old cpu.new self.old self.new other.old other.new result }
     {
-        self.invariant();
-        other.invariant();
         let len = self.ring.len();
         if len < 5 {
             return None;
@@ -354,7 +348,6 @@ impl EntryRing {
             Some(tag) => {
                 self.ring.drop_newest(count);
                 self.counts.subtract(tag);
-                self.invariant();
                 Some(tag)
             }
             None => None,
@@ -397,7 +390,6 @@ impl EntryRing {
         requires { HasComeBy cpu.old text.now }
         ensures { TakesText text.now result cpu.old cpu.new self.old self.new }
     {
-        self.invariant();
         let weight = text_len(cpu, text);
         if !is_of_step(text) {
             return None;
@@ -405,7 +397,6 @@ impl EntryRing {
         cpu.revert_text(text);
         self.make_room(weight);
         self.append(text, is_marked(text), true);
-        self.invariant();
         Some(text[2])
     }
 
@@ -413,13 +404,11 @@ impl EntryRing {
     #[inline(always)]
     pub fn drop_last(&mut self)
         ensures size { self.new.ring.size ≡ self.old.ring.size }
-        ensures fits { length self.new.ring.bytes ≤ self.new.ring.size }
         ensures none { IsHeld self.old.ring self.old.counts [] →
             IsHeld self.new.ring self.new.counts [] }
         ensures some { (ks : List Kept) (k : Kept) → IsHeld self.old.ring self.old.counts (k ∷ ks) →
             IsHeld self.new.ring self.new.counts ks }
     {
-        self.invariant();
         match self.newest() {
             Some(head) => self.drop_newest(head),
             None => {}
@@ -431,13 +420,11 @@ impl EntryRing {
     pub fn drop_newest(&mut self, head: Head)
         requires { head.len ≤ length self.old.ring.bytes }
         ensures size { self.new.ring.size ≡ self.old.ring.size }
-        ensures fits { length self.new.ring.bytes ≤ self.new.ring.size }
         ensures held { (ks : List Kept) (k : Kept) → IsHeld self.old.ring self.old.counts (k ∷ ks) →
             head ≡ head_of k → IsHeld self.new.ring self.new.counts ks }
     {
         self.ring.drop_newest(head.len);
         self.counts.subtract(head.tag);
-        self.invariant();
     }
 
     /// Drops the oldest entry, whole.
@@ -473,7 +460,6 @@ impl EntryRing {
     pub fn push(&mut self, entry: &Entry, mark: bool)
         requires { FitsFields entry.now }
         ensures size { self.new.ring.size ≡ self.old.ring.size }
-        ensures fits { length self.new.ring.bytes ≤ self.new.ring.size }
         ensures held { (ks : List Kept) → IsHeld self.old.ring self.old.counts ks →
             IsHeld self.new.ring self.new.counts
             (keep kept_weight self.old.ring.size ks (entry.now, mark)) }
@@ -484,7 +470,6 @@ impl EntryRing {
         entry.write(&mut text, mark);
         let is_step = is_of_step(&text);
         self.append(&text[..weight], mark, is_step);
-        self.invariant();
     }
 
     /// Lets a machine do what `look` answered of it, and keeps the entry of that step: it is
@@ -518,7 +503,6 @@ impl EntryRing {
         self.make_room(weight);
         self.ring.record(cpu, change, weight, mark);
         self.counts.add(mark, true);
-        self.invariant();
     }
 
     /// Takes steps and keeps each, the first one with a mark, until the machine has ended, a test
@@ -530,7 +514,6 @@ impl EntryRing {
         ensures { KeepsRun (T.test test.now) most cpu.old cpu.new self.old self.new result }
     {
         if self.step(cpu, true, test) {
-            self.invariant();
             return 1;
         }
         let mut room = [0u8; BYTES];
@@ -539,18 +522,15 @@ impl EntryRing {
         while taken < most {
             let pieced = self.run_pieces(cpu, taken, most, test, &mut room);
             if pieced.is_over {
-                self.invariant();
                 return pieced.taken;
             }
             pause = next_pause(pause, pieced.last);
             let run = self.run_singly(cpu, pieced.taken, pause, most, test);
             taken = run.taken;
             if run.is_over {
-                self.invariant();
                 return taken;
             }
         }
-        self.invariant();
         taken
     }
 

@@ -35,7 +35,6 @@ impl EntryRing {
     /// Drops so many of a stretch of the newest entries.
     pub fn drop_of(&mut self, stretch: Stretch, count: u64)
         ensures size { self.new.ring.size ≡ self.old.ring.size }
-        ensures fits { length self.new.ring.bytes ≤ self.new.ring.size }
         ensures held { (ks : List Kept) → IsHeld self.old.ring self.old.counts ks →
             IsStretch stretch ks → IsHeld self.new.ring self.new.counts (drop count ks) }
     {
@@ -49,7 +48,6 @@ impl EntryRing {
     /// Drops a stretch of the newest entries.
     fn drop_stretch(&mut self, stretch: Stretch)
         ensures size { self.new.ring.size ≡ self.old.ring.size }
-        ensures fits { length self.new.ring.bytes ≤ self.new.ring.size }
         ensures held { (ks : List Kept) → IsHeld self.old.ring self.old.counts ks →
             IsStretch stretch ks → IsHeld self.new.ring self.new.counts (drop stretch.count ks) }
     {
@@ -57,13 +55,11 @@ impl EntryRing {
         self.ring.drop_newest(len);
         let entries = self.counts.entries.saturating_sub(stretch.count as usize);
         self.counts = self.counts.with_entries(entries);
-        self.invariant();
     }
 
     /// Drops the newest entries, so many, or all where there are fewer.
     fn drop_some(&mut self, count: u64)
         ensures size { self.new.ring.size ≡ self.old.ring.size }
-        ensures fits { length self.new.ring.bytes ≤ self.new.ring.size }
         ensures held { (ks : List Kept) → IsHeld self.old.ring self.old.counts ks →
             IsHeld self.new.ring self.new.counts (drop count ks) }
     {

@@ -32,7 +32,7 @@ byte_before-requires-clause-shallow g c =
     let r = c.requires.some in
     let n = c.len-len.ensures r.es r.held in
     let past = looking_past _ _ _ r.es _ _ _ _ _ _ _ r.held (omega (arith, c.loop-k.invariant.within, n)) (c.loop-k.invariant.looking r.es r.held) c.pass_over-passed.ensures in
-    looking_shallow _ _ _ r.es _ _ _ _ _ _ _ c.requires.shallow (g.met.K.Keeper.within _ r.es r.held) (omega (arith, c.if-k-len.false, n)) past.0
+    looking_shallow _ _ _ r.es _ _ _ _ _ _ _ c.requires.shallow (c.invariant.ensures r.es r.held) (omega (arith, c.if-k-len.false, n)) past.0
 
 pub returns-then-k-len : goal.returns-then-k-len
 returns-then-k-len g c = λ es held.

@@ -13,9 +13,9 @@ invariant_of-self g c =
     i.track.history i.track.ahead old.timeline.state
     (all_again g.K.Keeper.holds (g.K.Keeper.room old.timeline.keeper) n _ i.track.history i.track.ahead old.timeline.state c.repeat-taken.ensures.state
     (fewer_plain n c.newest_stretch-stretch.result.count (map again_of i.track.ahead) c.repeat-taken.ensures.within (c.newest_stretch-stretch.ensures.stretch _ i.follows.held).unmarked)
-    i.follows.ahead (omega (arith, i.follows.within, i.size)) (c.drop_of.ensures.room ∙ i.size)
+    i.follows.ahead (omega (arith, i.follows.within, i.size)) (c.drop_of.ensures.size ∙ i.size)
     (c.repeat-taken.ensures.kept i.track.history i.follows.history) (c.drop_of.ensures.held _ i.follows.held (c.newest_stretch-stretch.ensures.stretch _ i.follows.held)))
-    c.drop_of.ensures.room c.repeat-taken.ensures.room i.size
+    c.drop_of.ensures.size c.repeat-taken.ensures.room i.size
 
 pub returns-clause-made : goal.returns-clause-made
 returns-clause-made g c = λ t follows.
@@ -26,5 +26,5 @@ returns-clause-made g c = λ t follows.
     rw (← c.self.view_is)
     (all_again g.K.Keeper.holds (g.K.Keeper.room old.timeline.keeper) n _ t.history t.ahead old.timeline.state c.repeat-taken.ensures.state
     (fewer_plain n c.newest_stretch-stretch.result.count (map again_of t.ahead) c.repeat-taken.ensures.within (c.newest_stretch-stretch.ensures.stretch _ f.held).unmarked)
-    f.ahead (omega (arith, f.within, i.size)) (c.drop_of.ensures.room ∙ i.size)
+    f.ahead (omega (arith, f.within, i.size)) (c.drop_of.ensures.size ∙ i.size)
     (c.repeat-taken.ensures.kept t.history f.history) (c.drop_of.ensures.held _ f.held (c.newest_stretch-stretch.ensures.stretch _ f.held)))

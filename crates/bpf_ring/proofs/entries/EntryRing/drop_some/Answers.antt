@@ -6,7 +6,6 @@ use Rattle.bpf_ring.proofs.entries.EntryRing.drop_some.Goals as goal
 pub loop-init : goal.loop-init
 loop-init c = record {
   size = c.drop_stretch.ensures.size;
-  fits = c.drop_stretch.ensures.fits;
   held = λ ks held. c.drop_stretch.ensures.held ks held (c.newest_stretch-stretch.ensures.stretch ks held);
 }
 
@@ -16,6 +15,5 @@ loop-preserved c =
     let new = c.drop_last.new.self in
     record {
       size = c.drop_last.ensures.size ∙ i.size;
-      fits = c.drop_last.ensures.fits;
       held = λ ks held. rw add-one (drop_one (IsHeld c.loop.self.ring c.loop.self.counts) (IsHeld new.ring new.counts) c.loop.counter ks c.drop_last.ensures.none c.drop_last.ensures.some (i.held ks held));
     }

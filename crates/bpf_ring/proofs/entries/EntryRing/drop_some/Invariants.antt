@@ -6,6 +6,5 @@ use Rattle.bpf_ring.proofs.entries.EntryRing.drop_some.Given as goal
 abbrev pub invariant-loop : goal.invariant-loop
 invariant-loop l = record {
   size : l.self.ring.size ≡ l.fn.self.ring.size;
-  fits : length l.self.ring.bytes ≤ l.self.ring.size;
   held : (ks : List Kept) → IsHeld l.fn.self.ring l.fn.self.counts ks → IsHeld l.self.ring l.self.counts (drop l.counter ks);
 }

@@ -24,7 +24,6 @@ returns-in-Some-take_text c =
     let told = λ (ks : List Kept) (k : Kept) (held : IsHeld now.ring now.counts (k ∷ ks)). (newest_text now.ring now.counts n n ks k there held c.in-Some.ensures.len (λ a b. refl) c.in-Some.ensures.newest).1 in
     record {
       size = (c.drop_newest.ensures.size, c.in-Some-take_text.ensures.size);
-      fits = (c.invariant-in-Some-take_text.ensures.within, c.in-Some-take_text.ensures.fits);
       none = λ held. absurd (omega (arith, ap length held.bytes, c.in-Some.ensures.least, c.in-Some.ensures.within));
       edit = λ ks k held no. let none = c.in-Some-take_text.ensures.edit k.0 k.1 (told ks k held) no in absurd cc;
       stays = λ none. absurd cc;
@@ -52,7 +51,6 @@ returns-in-None-take_text c =
     let stays = c.in-None-take_text.ensures.stays refl in
     record {
       size = (refl, c.in-None-take_text.ensures.size);
-      fits = (c.invariant.ensures.within, c.in-None-take_text.ensures.fits);
       none = λ held. refl;
       edit = λ ks k held no. refl;
       stays = λ none. (refl, stays.0, stays.1);

@@ -29,7 +29,6 @@ returns-in-Some c =
     let told = λ (ks : List Kept) (k : Kept) (held : IsHeld now.ring now.counts (k ∷ ks)). (newest_text now.ring now.counts read n ks k _ held c.newest_len.ensures same refl).1 in
     record {
       size = (c.drop_newest.ensures.size, c.in-Some.ensures.size);
-      fits = (c.invariant-in-Some.ensures.within, c.in-Some.ensures.fits);
       none = λ held. absurd (omega (arith, ap length held.bytes, c.if-len-lt5.false, c.len-len.ensures.value));
       edit = λ ks k held no. let none = c.in-Some.ensures.edit k.0 k.1 (told ks k held) no in absurd cc;
       stays = λ none. absurd cc;
@@ -55,7 +54,6 @@ returns-in-None c =
     let stays = c.in-None.ensures.stays refl in
     record {
       size = (refl, c.in-None.ensures.size);
-      fits = (c.invariant.ensures.within, c.in-None.ensures.fits);
       none = λ held. refl;
       edit = λ ks k held no. refl;
       stays = λ none. (refl, stays.0, stays.1);

@@ -22,7 +22,6 @@ pub returns : goal.returns
 returns c = record {
   within = c.take_run-handed.ensures.within.0;
   size = (c.drop_newest.ensures.size, c.take_run-handed.ensures.size);
-  fits = (c.invariant-3.ensures.within, c.invariant-4.ensures.within);
   handed = λ ws ls held way.
       let now = c.args.self.now in
       let other = c.args.other.now in
@@ -43,7 +42,7 @@ returns c = record {
       let there = into (text_so other.ring other.counts ls base) in
       let counted = counts base in
       let few = few_entries ms there.fit in
-      let small : (other.counts.entries + n) % 2 ^ 64 ≡ other.counts.entries + n = omega (arith, counted.entries, few, ap length there.whole, c.invariant-4.ensures.within, c.invariant-4.ensures.sized.1) in
+      let small : (other.counts.entries + n) % 2 ^ 64 ≡ other.counts.entries + n = omega (arith, counted.entries, few, ap length there.whole, c.invariant.ensures.within, c.invariant.ensures.sized.1) in
       held_so new c.with_entries-other.result new.bytes ms refl there
       (subst (λ (k : Counts). Counted k ms) (sym (c.with_entries-other.ensures ∙ ap (λ (m : ℕ). record other.counts { entries = m }) small)) counted))
       held.counted (λ base. base.counted)

@@ -34,7 +34,6 @@ returns c =
     record {
       next = c.record.ensures.next;
       size = c.record.ensures.size ∙ c.make_room.ensures.size;
-      fits = c.invariant-2.ensures.within;
       held = λ ks held.
           let front = fit kept_weight (size - weight e) ks in
           let kept : IsHeld mid.ring mid.counts front = subst (λ n. IsHeld mid.ring mid.counts (fit kept_weight (size - n) ks)) weigh (c.make_room.ensures.held ks held) in

@@ -9,7 +9,6 @@ returns-then-step g c =
     record {
       to = run_stops test c.args.most 0 c.args.cpu.now c.args.cpu.now c.step.new.cpu (running_first test c.args.cpu.now) c.step.ensures.leads (omega (arith, c.requires.some)) (sym c.if-step.true ∙ c.step.ensures.stops);
       size = c.step.ensures.size;
-      fits = c.invariant.ensures.within;
       held = c.step.ensures.held;
     }
 

@@ -24,7 +24,6 @@ returns c =
     let tags : TagAt now.ring (length now.ring.bytes - c.within-weight.result) c.revert_newest-tag.result = c.revert_newest-tag.ensures.tag in
     record {
       size = c.drop_newest.ensures.size;
-      fits = c.invariant.ensures.within;
       none = λ held. absurd (omega (arith, ap length held.bytes, c.if-len-lt5.false, c.len-len.ensures.value));
       some = λ ks k held. (
         ap Some (newest_tag now.ring now.counts c.newest_len.result c.within-weight.result c.revert_newest-tag.result ks k held c.newest_len.ensures same tags),

@@ -11,7 +11,6 @@ use Rattle.bpf_ring.proofs.entries.EntryRing.take_text.Goals as goal
 pub returns-then-not-is_of_step : goal.returns-then-not-is_of_step
 returns-then-not-is_of_step c = record {
   size = refl;
-  fits = c.invariant.ensures.within;
   edit = λ e m is no. refl;
   stays = λ none. (refl, refl);
   some = λ e m is step. let here = c.is_of_step.ensures e m [] (is ∙ sym (append-nil (text e m))) in absurd cc;
@@ -22,7 +21,6 @@ returns-then-not-is_of_step c = record {
 pub returns : goal.returns
 returns c = record {
   size = c.append.ensures.size ∙ c.make_room.ensures.size;
-  fits = omega (arith, c.invariant-2.ensures.within);
   edit = λ e m is no. let here = c.is_of_step.ensures e m [] (is ∙ sym (append-nil (text e m))) in absurd cc;
   stays = λ none. absurd cc;
   some = λ e m is step. rw is refl;

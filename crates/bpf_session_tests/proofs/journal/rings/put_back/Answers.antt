@@ -1,12 +1,12 @@
-use Rattle.std.proofs.Common.{map}
+use Rattle.std.proofs.Common.{map, ◌∙◌}
 use Rattle.bpf_journal.specs.Histories.{kept_of}
 use Rattle.bpf_session_tests.proofs.journal.rings.put_back.Goals as goal
 
 pub returns : goal.returns
 returns c =
     let past = c.requires in
-    let bytes = c.into_ring-ring.ensures.bytes (map kept_of past.history) past.stands.0 in
+    let held = past.stands.0 in
     record {
       history = past.history;
-      stands = (c.from_ring.ensures.held (map kept_of past.history) bytes.0 bytes.1, past.stands.1);
+      stands = (c.from_buffer.ensures.held (map kept_of past.history) held.fit (c.into_buffer-ring.ensures.bytes ∙ held.bytes), past.stands.1);
     }

@@ -6,7 +6,7 @@ use Rattle.bpf_ring.specs.Blocks.{Content}
 use Rattle.bpf_ring.specs.Held.{IsHeld}
 use Rattle.bpf_ring.specs.declared.counts.Counts.{Counts}
 use Rattle.bpf_journal.specs.Keepers.{told_before}
-use Rattle.bpf_journal.proofs.ring_keeper.RingKeeperKeeper.byte_before.Goals as goal
+use Rattle.bpf_journal.proofs.entry_ring.EntryRingKeeper.byte_before.Goals as goal
 
 -- What is told of a place is told of the front there.
 tells : (content : Content) (counts : Counts) (at depth address after : ℕ) (result : Option (ℕ × ℕ × ℕ)) (newer front : List Kept)
@@ -18,5 +18,5 @@ tells content counts at depth address after result newer (k ∷ front) none some
 
 pub returns : goal.returns
 returns c = λ newer front held here.
-    let entries = c.args.self.now.entries in
+    let entries = c.args.self.now in
     tells entries.ring entries.counts c.args.at c.args.depth c.args.address c.args.after c.byte_before.result newer front c.byte_before.ensures.none c.byte_before.ensures.some held here

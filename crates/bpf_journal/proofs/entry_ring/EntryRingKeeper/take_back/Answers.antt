@@ -1,11 +1,11 @@
-use Rattle.bpf_journal.specs.contracts.ring_keeper.RingKeeperKeeper.TheImpl as impl
+use Rattle.bpf_journal.specs.contracts.entry_ring.EntryRingKeeper.TheImpl as impl
 use Rattle.bpf_journal.proofs.RingKeeping.{holds_way, some_back, none_back}
-use Rattle.bpf_journal.proofs.ring_keeper.RingKeeperKeeper.take_back.Goals as goal
+use Rattle.bpf_journal.proofs.entry_ring.EntryRingKeeper.take_back.Goals as goal
 
 pub take_back-requires : goal.take_back-requires
 take_back-requires c =
     let i = c.requires.way in
-    holds_way c.args.self.now.entries.ring c.args.self.now.entries.counts c.args.cpu.now i.history i.stands.0 i.stands.1
+    holds_way c.args.self.now.ring c.args.self.now.counts c.args.cpu.now i.history i.stands.0 i.stands.1
 
 pub returns-in-Some-clause-back : goal.returns-in-Some-clause-back
 returns-in-Some-clause-back c = λ h stands.
