@@ -3,7 +3,7 @@ use Rattle.std.specs.Prelude.{◌≡◌, ◌≤◌, ℕ, Bool, false, List, [], 
 use Rattle.bpf_entries.specs.Keeping.{Kept, keep, kept_weight}
 use Rattle.bpf_entries.specs.Past.{is_of_step}
 use Rattle.bpf_machine.specs.State.{State}
-use Rattle.bpf_ring.specs.Held.{IsHeld}
+pub use Rattle.bpf_ring.specs.Held.{RingHolds}
 use Rattle.bpf_ring.specs.Ways.{HandsBack, IsWay, Made, kept_by}
 use Rattle.bpf_ring.specs.declared.backward.Stays.{Stays}
 use Rattle.bpf_ring.specs.declared.entries.EntryRing.{EntryRing}
@@ -16,10 +16,7 @@ abbrev pub Hands : Bool → List Kept → List Kept → ℕ → (List Kept → T
 Hands handed [] ls size held = (handed ≡ false) × held ls
 Hands handed (k ∷ es) ls size held = (handed ≡ is_of_step k.0) × held (if is_of_step k.0 then keep kept_weight size ls k else ls)
 
--- A ring holds a list of entries and marks, the newest first; how many bytes it may have.
-abbrev pub RingHolds : EntryRing → List Kept → Type 0
-RingHolds ring es = IsHeld ring.ring ring.counts es
-
+-- How many bytes a ring may have.
 abbrev pub ring_room : EntryRing → ℕ
 ring_room ring = ring.ring.size
 

@@ -8,27 +8,27 @@ use Rattle.bpf_entries.specs.Texts.{kind, tag, text}
 use Rattle.bpf_machine.specs.declared.moves.Move.{Move}
 use Rattle.bpf_machine.specs.Moves.{Leads, overwritten}
 use Rattle.bpf_machine.specs.State.{State}
-use Rattle.bpf_ring.specs.Held.{IsHeld}
+use Rattle.bpf_ring.specs.Held.{RingHolds}
 use Rattle.bpf_ring.specs.declared.entries.EntryRing.{EntryRing}
 
 -- It is let go, and y becomes the state before the move. The answer is its tag, and none where none is held.
 pub record TakesBack (y z : State) (old new : EntryRing) (taken : Option ℕ) : Type 0 where
   pub size : new.ring.size ≡ old.ring.size
-  pub none : IsHeld old.ring old.counts [] → (taken ≡ None) × (z ≡ y) × IsHeld new.ring new.counts []
-  pub some : (ks : List Kept) (k : Kept) → IsHeld old.ring old.counts (k ∷ ks) → (taken ≡ Some (tag (kind k.0) k.1)) × IsHeld new.ring new.counts ks
-  pub back : (ks : List Kept) (k : Kept) (x : State) (m : Move) → IsHeld old.ring old.counts (k ∷ ks) → Leads x m y → overwritten x m ≡ k.0 → z ≡ x
+  pub none : RingHolds old [] → (taken ≡ None) × (z ≡ y) × RingHolds new []
+  pub some : (ks : List Kept) (k : Kept) → RingHolds old (k ∷ ks) → (taken ≡ Some (tag (kind k.0) k.1)) × RingHolds new ks
+  pub back : (ks : List Kept) (k : Kept) (x : State) (m : Move) → RingHolds old (k ∷ ks) → Leads x m y → overwritten x m ≡ k.0 → z ≡ x
 
 -- Where it is of a step, another ring keeps it, and y becomes the state before the step. The answer is its tag, and none where none is held or it
 -- is of an edit: then nothing changes.
 pub record HandsOver (y z : State) (old new other_old other_new : EntryRing) (taken : Option ℕ) : Type 0 where
   pub size : (new.ring.size ≡ old.ring.size) × (other_new.ring.size ≡ other_old.ring.size)
-  pub none : IsHeld old.ring old.counts [] → taken ≡ None
-  pub edit : (ks : List Kept) (k : Kept) → IsHeld old.ring old.counts (k ∷ ks) → is_of_step k.0 ≡ false → taken ≡ None
+  pub none : RingHolds old [] → taken ≡ None
+  pub edit : (ks : List Kept) (k : Kept) → RingHolds old (k ∷ ks) → is_of_step k.0 ≡ false → taken ≡ None
   pub stays : taken ≡ None → (new ≡ old) × (z ≡ y) × (other_new ≡ other_old)
-  pub some : (ks : List Kept) (k : Kept) → IsHeld old.ring old.counts (k ∷ ks) → is_of_step k.0 ≡ true → (taken ≡ Some (tag (kind k.0) k.1)) × IsHeld new.ring new.counts ks
-  pub back : (ks : List Kept) (k : Kept) (x : State) (m : Move) → IsHeld old.ring old.counts (k ∷ ks) → is_of_step k.0 ≡ true → Leads x m y → overwritten x m ≡ k.0 → z ≡ x
-  pub handed : (ks ls : List Kept) (k : Kept) → IsHeld old.ring old.counts (k ∷ ks) → is_of_step k.0 ≡ true → IsHeld other_old.ring other_old.counts ls
-      → IsHeld other_new.ring other_new.counts (keep kept_weight other_old.ring.size ls k)
+  pub some : (ks : List Kept) (k : Kept) → RingHolds old (k ∷ ks) → is_of_step k.0 ≡ true → (taken ≡ Some (tag (kind k.0) k.1)) × RingHolds new ks
+  pub back : (ks : List Kept) (k : Kept) (x : State) (m : Move) → RingHolds old (k ∷ ks) → is_of_step k.0 ≡ true → Leads x m y → overwritten x m ≡ k.0 → z ≡ x
+  pub handed : (ks ls : List Kept) (k : Kept) → RingHolds old (k ∷ ks) → is_of_step k.0 ≡ true → RingHolds other_old ls
+      → RingHolds other_new (keep kept_weight other_old.ring.size ls k)
 
 -- Scaffolding: of the move whose entry's text the newest bytes are, so many, y becomes the state before it, and the answer is the entry's tag.
 pub record Reverts (bytes : List ℕ) (count : ℕ) (y z : State) (told : ℕ) : Type 0 where
@@ -42,6 +42,6 @@ pub record TakesText (bytes : List ℕ) (taken : Option ℕ) (y z : State) (old 
   pub edit : (e : Entry) (mark : Bool) → bytes ≡ text e mark → is_of_step e ≡ false → taken ≡ None
   pub stays : taken ≡ None → (z ≡ y) × (new ≡ old)
   pub some : (e : Entry) (mark : Bool) → bytes ≡ text e mark → is_of_step e ≡ true → taken ≡ Some (tag (kind e) mark)
-  pub held : (ls : List Kept) (e : Entry) (mark : Bool) → FitsFields e → bytes ≡ text e mark → is_of_step e ≡ true → IsHeld old.ring old.counts ls
-      → IsHeld new.ring new.counts (keep kept_weight old.ring.size ls (e, mark))
+  pub held : (ls : List Kept) (e : Entry) (mark : Bool) → FitsFields e → bytes ≡ text e mark → is_of_step e ≡ true → RingHolds old ls
+      → RingHolds new (keep kept_weight old.ring.size ls (e, mark))
   pub back : (x : State) (m : Move) (mark : Bool) → Leads x m y → FitsFields (overwritten x m) → bytes ≡ text (overwritten x m) mark → is_of_step (overwritten x m) ≡ true → z ≡ x

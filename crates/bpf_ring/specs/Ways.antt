@@ -16,7 +16,7 @@ use Rattle.bpf_ring.specs.declared.backward.Stays.TheVariants.{Nothing, Depth, M
 use Rattle.bpf_ring.specs.declared.counts.Counts.{Counts}
 use Rattle.bpf_ring.specs.declared.entries.EntryRing.{EntryRing}
 use Rattle.bpf_ring.specs.Blocks.{Content}
-use Rattle.bpf_ring.specs.Held.{IsHeld}
+use Rattle.bpf_ring.specs.Held.{IsHeld, RingHolds}
 
 -- A move that was made, the state before it, and whether its entry is marked.
 pub record Made : Type 0 where
@@ -65,8 +65,8 @@ module _ (marks : List Bool) (stays : Stays) (z : State) (left other : List Kept
 pub record HandsSteps (marks : List Bool) (stays : Stays) (most : ℕ) (y z : State) (old new other_old other_new : EntryRing) (n : ℕ) : Type 0 where
   pub within : n ≤ most
   pub size : (new.ring.size ≡ old.ring.size) × (other_new.ring.size ≡ other_old.ring.size)
-  pub handed : (ws : List Made) (ls : List Kept) → IsHeld old.ring old.counts (map kept_by ws) → IsWay ws y
-      → HandsBack marks stays z (IsHeld new.ring new.counts) (λ ms. IsHeld other_old.ring other_old.counts ls → IsHeld other_new.ring other_new.counts ms) n ws ls y
+  pub handed : (ws : List Made) (ls : List Kept) → RingHolds old (map kept_by ws) → IsWay ws y
+      → HandsBack marks stays z (RingHolds new) (λ ms. RingHolds other_old ls → RingHolds other_new ms) n ws ls y
 
 -- Scaffolding: bytes are the text of entries, which fit their fields.
 pub record HasText (bytes : List ℕ) (ks : List Kept) : Type 0 where

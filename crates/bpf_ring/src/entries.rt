@@ -14,7 +14,7 @@ ghost use Rattle.bpf_machine.specs.Next.{change as change_of};
 ghost use Rattle.bpf_ring.specs.Counted.{Counted};
 ghost use Rattle.bpf_ring.specs.Heads.{head_of};
 ghost use Rattle.bpf_ring.specs.Grown.{KeepsRun, MakesRoom, RecordsStep, TakesStep};
-ghost use Rattle.bpf_ring.specs.Held.{HoldsWay, IsHeld};
+ghost use Rattle.bpf_ring.specs.Held.{HoldsWay, RingHolds};
 ghost use Rattle.bpf_ring.specs.Pieces.{RunsSingly};
 ghost use Rattle.bpf_ring.specs.Runs.{GoesOn};
 ghost use Rattle.bpf_ring.specs.Taking.{HandsOver, TakesBack, TakesText};
@@ -55,7 +55,7 @@ impl EntryRing {
     pub fn open(alloc: Global, size: usize) -> Result<EntryRing, AllocError>
         requires { IsSize size }
         ensures size { IfOk result (λ r. r.ring.size ≡ size) }
-        ensures empty { IfOk result (λ r. IsHeld r.ring r.counts []) }
+        ensures empty { IfOk result (λ r. RingHolds r []) }
     {
         Ok(EntryRing {
             ring: Ring::open(alloc, size)?,
@@ -70,7 +70,7 @@ impl EntryRing {
         ensures size { result.ring.size ≡ buffer.capacity }
         ensures bytes { result.ring.bytes ≡ buffer.items }
         ensures held { (ks : List Kept) → AllFit ks → buffer.items ≡ ring_of ks →
-            IsHeld result.ring result.counts ks }
+            RingHolds result ks }
     {
         let ring = Ring::from_buffer(buffer);
         let counts = counted(&ring);
@@ -109,7 +109,7 @@ impl EntryRing {
     /// Lets all entries go. It takes no memory.
     pub fn clear(&mut self)
         ensures size { self.new.ring.size ≡ self.old.ring.size }
-        ensures empty { IsHeld self.new.ring self.new.counts [] }
+        ensures empty { RingHolds self.new [] }
     {
         self.ring.clear();
         self.counts = Counts::none();
@@ -117,22 +117,21 @@ impl EntryRing {
 
     /// How many entries it holds.
     pub fn len(&self) -> usize
-        ensures { (ks : List Kept) → IsHeld self.now.ring self.now.counts ks → result ≡ length ks }
+        ensures { (ks : List Kept) → RingHolds self.now ks → result ≡ length ks }
     {
         self.counts.entries()
     }
 
     /// How many of them are marked.
     pub fn marked(&self) -> usize
-        ensures { (ks : List Kept) → IsHeld self.now.ring self.now.counts ks →
-            result ≡ count_by (λ k. k.1) ks }
+        ensures { (ks : List Kept) → RingHolds self.now ks → result ≡ count_by (λ k. k.1) ks }
     {
         self.counts.marks()
     }
 
     /// How many of them are of steps, and not of edits.
     pub fn steps(&self) -> usize
-        ensures { (ks : List Kept) → IsHeld self.now.ring self.now.counts ks →
+        ensures { (ks : List Kept) → RingHolds self.now ks →
             result ≡ count_by (λ k. of_step k.0) ks }
     {
         self.counts.steps()
@@ -140,8 +139,7 @@ impl EntryRing {
 
     /// How many bytes they have.
     pub fn weight(&self) -> usize
-        ensures { (ks : List Kept) → IsHeld self.now.ring self.now.counts ks →
-            result ≡ sum_by kept_weight ks }
+        ensures { (ks : List Kept) → RingHolds self.now ks → result ≡ sum_by kept_weight ks }
     {
         self.ring.len()
     }
@@ -155,9 +153,8 @@ impl EntryRing {
 
     /// The newest entry and its mark, None where none is held. It stays.
     pub fn last(&self) -> Option<(Entry, bool)>
-        ensures none { IsHeld self.now.ring self.now.counts [] → result ≡ None }
-        ensures some { (ks : List Kept) (k : Kept) → IsHeld self.now.ring self.now.counts (k ∷ ks) →
-            result ≡ Some k }
+        ensures none { RingHolds self.now [] → result ≡ None }
+        ensures some { (ks : List Kept) (k : Kept) → RingHolds self.now (k ∷ ks) → result ≡ Some k }
     {
         if self.ring.len() < 5 {
             return None;
@@ -176,8 +173,8 @@ impl EntryRing {
     /// held.
     #[inline(always)]
     pub fn newest(&self) -> Option<Head>
-        ensures none { IsHeld self.now.ring self.now.counts [] → result ≡ None }
-        ensures some { (ks : List Kept) (k : Kept) → IsHeld self.now.ring self.now.counts (k ∷ ks) →
+        ensures none { RingHolds self.now [] → result ≡ None }
+        ensures some { (ks : List Kept) (k : Kept) → RingHolds self.now (k ∷ ks) →
             result ≡ Some (head_of k) }
         ensures within { IfSome result (λ head. head.len ≤ length self.now.ring.bytes) }
     {
@@ -194,8 +191,8 @@ impl EntryRing {
     /// None where none is held.
     #[inline(never)]
     fn newest_apart(&self) -> Option<Head>
-        ensures none { IsHeld self.now.ring self.now.counts [] → result ≡ None }
-        ensures some { (ks : List Kept) (k : Kept) → IsHeld self.now.ring self.now.counts (k ∷ ks) →
+        ensures none { RingHolds self.now [] → result ≡ None }
+        ensures some { (ks : List Kept) (k : Kept) → RingHolds self.now (k ∷ ks) →
             result ≡ Some (head_of k) }
         ensures within { IfSome result (λ head. head.len ≤ length self.now.ring.bytes) }
     {
@@ -210,8 +207,7 @@ impl EntryRing {
 
     /// The place of the whole list: how many bytes it has.
     pub fn end(&self) -> usize
-        ensures { (ks : List Kept) → IsHeld self.now.ring self.now.counts ks →
-            result ≡ sum_by kept_weight ks }
+        ensures { (ks : List Kept) → RingHolds self.now ks → result ≡ sum_by kept_weight ks }
     {
         self.weight()
     }
@@ -221,8 +217,7 @@ impl EntryRing {
     pub fn walk_back(&self, place: usize) -> Option<(Entry, bool, usize)>
         ensures none { place ≡ 0 → result ≡ None }
         ensures some { (newer front : List Kept) (k : Kept) →
-            IsHeld self.now.ring self.now.counts (newer ++ k ∷ front) →
-            place ≡ sum_by kept_weight (k ∷ front) →
+            RingHolds self.now (newer ++ k ∷ front) → place ≡ sum_by kept_weight (k ∷ front) →
             result ≡ Some (k.0, k.1, sum_by kept_weight front) }
     {
         if place < 5 || place > self.ring.len() {
@@ -254,7 +249,7 @@ impl EntryRing {
         requires { depth + 1 < 2 ^ 32 }
         ensures none { place ≡ 0 → result ≡ None }
         ensures some { (newer front : List Kept) (k : Kept) →
-            IsHeld self.now.ring self.now.counts (newer ++ k ∷ front) →
+            RingHolds self.now (newer ++ k ∷ front) →
             place ≡ sum_by kept_weight (k ∷ front) →
             result ≡ Some (
               byte_before_by depth k.0 address after,
@@ -279,10 +274,9 @@ impl EntryRing {
     /// Takes the newest entry off, None where none is held.
     pub fn pop(&mut self) -> Option<(Entry, bool)>
         ensures size { self.new.ring.size ≡ self.old.ring.size }
-        ensures none { IsHeld self.old.ring self.old.counts [] → (result ≡ None)
-            × IsHeld self.new.ring self.new.counts [] }
-        ensures some { (ks : List Kept) (k : Kept) → IsHeld self.old.ring self.old.counts (k ∷ ks) →
-            (result ≡ Some k) × IsHeld self.new.ring self.new.counts ks }
+        ensures none { RingHolds self.old [] → (result ≡ None) × RingHolds self.new [] }
+        ensures some { (ks : List Kept) (k : Kept) → RingHolds self.old (k ∷ ks) →
+            (result ≡ Some k) × RingHolds self.new ks }
     {
         let newest = self.last();
         self.drop_last();
@@ -404,10 +398,9 @@ impl EntryRing {
     #[inline(always)]
     pub fn drop_last(&mut self)
         ensures size { self.new.ring.size ≡ self.old.ring.size }
-        ensures none { IsHeld self.old.ring self.old.counts [] →
-            IsHeld self.new.ring self.new.counts [] }
-        ensures some { (ks : List Kept) (k : Kept) → IsHeld self.old.ring self.old.counts (k ∷ ks) →
-            IsHeld self.new.ring self.new.counts ks }
+        ensures none { RingHolds self.old [] → RingHolds self.new [] }
+        ensures some { (ks : List Kept) (k : Kept) → RingHolds self.old (k ∷ ks) →
+            RingHolds self.new ks }
     {
         match self.newest() {
             Some(head) => self.drop_newest(head),
@@ -420,8 +413,8 @@ impl EntryRing {
     pub fn drop_newest(&mut self, head: Head)
         requires { head.len ≤ length self.old.ring.bytes }
         ensures size { self.new.ring.size ≡ self.old.ring.size }
-        ensures held { (ks : List Kept) (k : Kept) → IsHeld self.old.ring self.old.counts (k ∷ ks) →
-            head ≡ head_of k → IsHeld self.new.ring self.new.counts ks }
+        ensures held { (ks : List Kept) (k : Kept) → RingHolds self.old (k ∷ ks) →
+            head ≡ head_of k → RingHolds self.new ks }
     {
         self.ring.drop_newest(head.len);
         self.counts.subtract(head.tag);
@@ -433,9 +426,8 @@ impl EntryRing {
         requires { 5 ≤ length self.old.ring.bytes }
         ensures size { self.new.ring.size ≡ self.old.ring.size }
         ensures shrinks { length self.new.ring.bytes < length self.old.ring.bytes }
-        ensures held { (ks : List Kept) (z : Kept) →
-            IsHeld self.old.ring self.old.counts (ks ++ z ∷ []) →
-            IsHeld self.new.ring self.new.counts ks }
+        ensures held { (ks : List Kept) (z : Kept) → RingHolds self.old (ks ++ z ∷ []) →
+            RingHolds self.new ks }
     {
         let (len, tag) = self.ring.oldest();
         let count = within(len, self.ring.len());
@@ -460,8 +452,7 @@ impl EntryRing {
     pub fn push(&mut self, entry: &Entry, mark: bool)
         requires { FitsFields entry.now }
         ensures size { self.new.ring.size ≡ self.old.ring.size }
-        ensures held { (ks : List Kept) → IsHeld self.old.ring self.old.counts ks →
-            IsHeld self.new.ring self.new.counts
+        ensures held { (ks : List Kept) → RingHolds self.old ks → RingHolds self.new
             (keep kept_weight self.old.ring.size ks (entry.now, mark)) }
     {
         let weight = weight_in(entry);
@@ -627,9 +618,9 @@ impl EntryRing {
     fn append(&mut self, text: &[u8], mark: bool, is_step: bool)
         requires { length self.old.ring.bytes + length text.now ≤ self.old.ring.size }
         ensures size { self.new.ring.size ≡ self.old.ring.size }
-        ensures held { (ks : List Kept) (e : Entry) → IsHeld self.old.ring self.old.counts ks →
+        ensures held { (ks : List Kept) (e : Entry) → RingHolds self.old ks →
             FitsFields e → text.now ≡ text_of e mark → is_step ≡ of_step e →
-            IsHeld self.new.ring self.new.counts ((e, mark) ∷ ks) }
+            RingHolds self.new ((e, mark) ∷ ks) }
     {
         let _size = self.ring.size();
         self.ring.push(text);

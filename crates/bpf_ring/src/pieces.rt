@@ -7,7 +7,7 @@ ghost use Rattle.bpf_entries.specs.Rings.{AllFit, ring as ring_of};
 ghost use Rattle.bpf_entries.specs.Status.{has_ended};
 ghost use Rattle.bpf_machine.specs.State.{State};
 ghost use Rattle.bpf_ring.specs.Grown.{KeepsSteps};
-ghost use Rattle.bpf_ring.specs.Held.{IsHeld};
+ghost use Rattle.bpf_ring.specs.Held.{RingHolds};
 ghost use Rattle.bpf_ring.specs.Left.{Left};
 ghost use Rattle.bpf_ring.specs.Pieces.{KeepsPiece, RunsByPieces, entries_of};
 ghost use Rattle.bpf_ring.specs.Runs.{GoesOn};
@@ -107,7 +107,7 @@ impl EntryRing {
     fn drop_in_place(&mut self, room: usize)
         requires { room ≤ 1008 }
         ensures size { self.new.ring.size ≡ self.old.ring.size }
-        ensures left { (ks : List Kept) → IsHeld self.old.ring self.old.counts ks →
+        ensures left { (ks : List Kept) → RingHolds self.old ks →
             Left self.new.ring self.new.counts (self.old.ring.size - room) ks }
     {
         self.invariant();
@@ -136,9 +136,9 @@ impl EntryRing {
         requires room { length self.old.ring.bytes + length text.now ≤ self.old.ring.size }
         requires few { count ≤ 42 }
         ensures size { self.new.ring.size ≡ self.old.ring.size }
-        ensures held { (ks : List Kept) (x : State) → IsHeld self.old.ring self.old.counts ks →
+        ensures held { (ks : List Kept) (x : State) → RingHolds self.old ks →
             AllFit (entries_of count x) → text.now ≡ ring_of (entries_of count x) →
-            IsHeld self.new.ring self.new.counts (entries_of count x ++ ks) }
+            RingHolds self.new (entries_of count x ++ ks) }
     {
         let _size = self.ring.size();
         self.ring.push(text);

@@ -5,7 +5,7 @@ ghost use Rattle.bpf_entries.specs.Fields.{FitsFields};
 ghost use Rattle.bpf_entries.specs.Keeping.{Kept, kept_weight};
 ghost use Rattle.bpf_entries.specs.Texts.{text as text_of};
 ghost use Rattle.bpf_entries.specs.declared.entry.Entry.{Entry};
-ghost use Rattle.bpf_ring.specs.Held.{IsHeld};
+ghost use Rattle.bpf_ring.specs.Held.{RingHolds};
 ghost use Rattle.bpf_ring.specs.Quiet.{EndsQuiet, IsQuiet, IsQuietStretch, PassesOver};
 ghost use Rattle.bpf_ring.specs.Ways.{HasText};
 
@@ -18,8 +18,7 @@ impl EntryRing {
     /// piece, maybe none; and the place of the front without them.
     #[inline(always)]
     pub fn pass_over(&self, place: usize) -> (usize, usize)
-        ensures { (newer front : List Kept) →
-            IsHeld self.now.ring self.now.counts (newer ++ front) →
+        ensures { (newer front : List Kept) → RingHolds self.now (newer ++ front) →
             place ≡ sum_by kept_weight front → PassesOver front result }
     {
         if place > self.ring.len() {

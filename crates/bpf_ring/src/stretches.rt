@@ -5,7 +5,7 @@ ghost use Rattle.bpf_entries.specs.Keeping.{Kept};
 ghost use Rattle.bpf_entries.specs.Texts.{text as text_of};
 ghost use Rattle.bpf_entries.specs.declared.entry.Entry.{Entry};
 ghost use Rattle.std.specs.Prelude.{Bool};
-ghost use Rattle.bpf_ring.specs.Held.{IsHeld};
+ghost use Rattle.bpf_ring.specs.Held.{RingHolds};
 ghost use Rattle.bpf_ring.specs.Stretches.{EndsStep, IsStretch, IsUnmarked};
 ghost use Rattle.bpf_ring.specs.Ways.{HasText};
 
@@ -26,8 +26,7 @@ impl EntryRing {
     /// many, and maybe none.
     pub fn newest_stretch(&self, most: u64) -> Stretch
         ensures within { result.count ≤ most }
-        ensures stretch { (ks : List Kept) → IsHeld self.now.ring self.now.counts ks →
-            IsStretch result ks }
+        ensures stretch { (ks : List Kept) → RingHolds self.now ks → IsStretch result ks }
     {
         stretch_in(self.ring.newest_run(), most)
     }
@@ -35,8 +34,8 @@ impl EntryRing {
     /// Drops so many of a stretch of the newest entries.
     pub fn drop_of(&mut self, stretch: Stretch, count: u64)
         ensures size { self.new.ring.size ≡ self.old.ring.size }
-        ensures held { (ks : List Kept) → IsHeld self.old.ring self.old.counts ks →
-            IsStretch stretch ks → IsHeld self.new.ring self.new.counts (drop count ks) }
+        ensures held { (ks : List Kept) → RingHolds self.old ks →
+            IsStretch stretch ks → RingHolds self.new (drop count ks) }
     {
         if count == stretch.count {
             self.drop_stretch(stretch);
@@ -48,8 +47,8 @@ impl EntryRing {
     /// Drops a stretch of the newest entries.
     fn drop_stretch(&mut self, stretch: Stretch)
         ensures size { self.new.ring.size ≡ self.old.ring.size }
-        ensures held { (ks : List Kept) → IsHeld self.old.ring self.old.counts ks →
-            IsStretch stretch ks → IsHeld self.new.ring self.new.counts (drop stretch.count ks) }
+        ensures held { (ks : List Kept) → RingHolds self.old ks →
+            IsStretch stretch ks → RingHolds self.new (drop stretch.count ks) }
     {
         let len = stretch.len.min(self.ring.len());
         self.ring.drop_newest(len);
@@ -60,8 +59,8 @@ impl EntryRing {
     /// Drops the newest entries, so many, or all where there are fewer.
     fn drop_some(&mut self, count: u64)
         ensures size { self.new.ring.size ≡ self.old.ring.size }
-        ensures held { (ks : List Kept) → IsHeld self.old.ring self.old.counts ks →
-            IsHeld self.new.ring self.new.counts (drop count ks) }
+        ensures held { (ks : List Kept) → RingHolds self.old ks →
+            RingHolds self.new (drop count ks) }
     {
         let stretch = self.newest_stretch(count);
         self.drop_stretch(stretch);
