@@ -16,6 +16,7 @@ use Rattle.bpfdb_options.specs.Lines.{default_lines}
 use Rattle.bpfdb_options.specs.Registers.{registers_name}
 use Rattle.bpfdb_options.specs.Subcommands.{subcommand_name}
 use Rattle.bpfdb_options.specs.TestParts.{test_part_name}
+use Rattle.bpfdb_options.specs.declared.options.Options.{Options}
 use Rattle.bpfdb_options.specs.declared.registers.Registers.{Registers}
 use Rattle.bpfdb_options.specs.declared.registers.Registers.TheVariants.{X86}
 use Rattle.bpfdb_options.specs.declared.test_part.TestPart.{TestPart}
@@ -40,45 +41,53 @@ NamesPart None part = part ≡ None
 NamesPart (Some text) None = ⊥
 NamesPart (Some text) (Some part) = test_part_name part ≡ text
 
--- A plan says what a subcommand's matches say.
+-- Options say what a subcommand's matches say.
+pub record Chooses (rows : List Row) (options : Options) : Type 0 where
+  pub maps : option_map (λ s. s.now) options.maps ≡ first_of (codes "maps") rows
+  pub journal : options.journal ≡ number_or default_journal (first_of (codes "journal") rows)
+  pub limit : options.limit ≡ number_or default_limit (first_of (codes "steps") rows)
+  pub from : options.from ≡ number_or 1 (first_of (codes "from") rows)
+  pub count : options.count ≡ number_or greatest_count (first_of (codes "count") rows)
+  pub profile : options.is_profile ≡ is_given (first_of (codes "profile") rows)
+  pub listing : options.is_listing ≡ is_given (first_of (codes "listing") rows)
+  pub section : option_map (λ s. s.now) options.section ≡ first_of (codes "section") rows
+  pub entry : option_map (λ s. s.now) options.entry ≡ first_of (codes "entry") rows
+  pub stubs : option_map (λ s. s.now) options.stubs ≡ first_of (codes "stub") rows
+  pub as_compiled : options.as_compiled ≡ is_given (first_of (codes "as-compiled") rows)
+  pub registers : NamesRegisters (first_of (codes "registers") rows) options.registers
+  pub what : option_map (λ s. s.now) options.what ≡ first_of (codes "what") rows
+  pub lines : options.lines ≡ number_or default_lines (first_of (codes "lines") rows)
+  pub addresses : options.addresses ≡ is_given (first_of (codes "addresses") rows)
+  pub only : option_map (λ s. s.now) options.only ≡ first_of (codes "only") rows
+  pub show : NamesPart (first_of (codes "show") rows) options.show
+
+-- A plan says what they say.
 pub record Says (name : Text) (rows : List Row) (plan : Plan) : Type 0 where
   pub subcommand : subcommand_name plan.subcommand ≡ name
   pub file : first_of (codes "file") rows ≡ Some plan.file.now
   pub memory : option_map (λ s. s.now) plan.memory ≡ first_of (codes "mem") rows
   pub script : option_map (λ s. s.now) plan.script ≡ first_of (codes "script") rows
-  pub maps : option_map (λ s. s.now) plan.options.maps ≡ first_of (codes "maps") rows
-  pub journal : plan.options.journal ≡ number_or default_journal (first_of (codes "journal") rows)
-  pub limit : plan.options.limit ≡ number_or default_limit (first_of (codes "steps") rows)
-  pub from : plan.options.from ≡ number_or 1 (first_of (codes "from") rows)
-  pub count : plan.options.count ≡ number_or greatest_count (first_of (codes "count") rows)
-  pub profile : plan.options.is_profile ≡ is_given (first_of (codes "profile") rows)
-  pub listing : plan.options.is_listing ≡ is_given (first_of (codes "listing") rows)
-  pub section : option_map (λ s. s.now) plan.options.section ≡ first_of (codes "section") rows
-  pub entry : option_map (λ s. s.now) plan.options.entry ≡ first_of (codes "entry") rows
-  pub stubs : option_map (λ s. s.now) plan.options.stubs ≡ first_of (codes "stub") rows
-  pub as_compiled : plan.options.as_compiled ≡ is_given (first_of (codes "as-compiled") rows)
-  pub registers : NamesRegisters (first_of (codes "registers") rows) plan.options.registers
-  pub what : option_map (λ s. s.now) plan.options.what ≡ first_of (codes "what") rows
-  pub lines : plan.options.lines ≡ number_or default_lines (first_of (codes "lines") rows)
-  pub addresses : plan.options.addresses ≡ is_given (first_of (codes "addresses") rows)
-  pub only : option_map (λ s. s.now) plan.options.only ≡ first_of (codes "only") rows
-  pub show : NamesPart (first_of (codes "show") rows) plan.options.show
+  pub options : Chooses rows plan.options
 
 -- A number that is given is one below 2^64.
 abbrev pub IsNumber : Option Text → Type 0
 IsNumber None = Unit {0}
 IsNumber (Some text) = IsNumeral 10 (without_leading_plus text) × (digits_value 10 (without_leading_plus text) < 2 ^ 64)
 
--- A plan says what a subcommand's matches say, and their numbers are in their ranges.
-pub record IsPlanOf (name : Text) (rows : List Row) (plan : Plan) : Type 0 where
-  pub says : Says name rows plan
+-- The numbers that the matches give are in their ranges.
+pub record AreInRange (rows : List Row) (options : Options) : Type 0 where
   pub journal : IsNumber (first_of (codes "journal") rows)
   pub steps : IsNumber (first_of (codes "steps") rows)
   pub lines : IsNumber (first_of (codes "lines") rows)
   pub from : IsNumber (first_of (codes "from") rows)
   pub count : IsNumber (first_of (codes "count") rows)
-  pub limit : IsLimit plan.options.limit
-  pub most : IsLimit plan.options.lines
+  pub limit : IsLimit options.limit
+  pub most : IsLimit options.lines
+
+-- A plan says what a subcommand's matches say, with numbers in their ranges.
+pub record IsPlanOf (name : Text) (rows : List Row) (plan : Plan) : Type 0 where
+  pub says : Says name rows plan
+  pub numbers : AreInRange rows plan.options
 
 -- A plan says what the words say, the program's name first, and `clap` finds no fault in these words.
 pub record IsPlan (words : List Text) (plan : Plan) : Type 0 where

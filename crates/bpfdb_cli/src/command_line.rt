@@ -28,7 +28,7 @@ fn text_option<'a>(
         .long_help(long_about)
 }
 
-/// An option with a number of steps.
+/// An option with a number, of steps or of lines.
 fn count_option<'a>(
     alloc: Global,
     name: &'a str,
@@ -97,18 +97,14 @@ fn argument_of<'a>(alloc: Global, option: CliOption) -> Arg<'a>
             text_option(alloc, "script", "PATH", help::SCRIPT, help::SCRIPT_LONG)
         }
         CliOption::AsCompiled => flag(alloc, "as-compiled", help::AS_COMPILED),
-        CliOption::Lines => text_option(
+        CliOption::Lines => count_option(
             alloc,
             "lines",
             "N",
             help::LINES_MOST,
             help::LINES_MOST_LONG,
-        ).value_parser(value_parser!(u64).range(1..=GREATEST_COUNT.cast_signed()))
-            .default_value("1000"),
-        CliOption::Addresses => Arg::new(alloc, "addresses")
-            .long("addresses")
-            .action(ArgAction::SetTrue)
-            .help(help::ADDRESSES),
+        ).default_value("1000"),
+        CliOption::Addresses => flag(alloc, "addresses", help::ADDRESSES),
         CliOption::Only => text_option(alloc, "only", "NAME", help::ONLY, help::ONLY_LONG),
         CliOption::Show => text_option(alloc, "show", "PART", help::SHOW, help::SHOW_LONG),
         CliOption::What => Arg::new(alloc, "what")

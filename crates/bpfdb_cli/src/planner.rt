@@ -4,7 +4,7 @@ ghost use Rattle.std.specs.Str.Parse.{IsNumeral, digits_value, without_leading_p
 ghost use Rattle.clap.specs.Words.{Row, Text, first_of, found_of, rows_of, subcommand_rows_of};
 ghost use Rattle.bpfdb_limits.specs.Limits.{IsLimit};
 ghost use Rattle.bpfdb_cli.specs.Scaffolding.{AskAlike};
-ghost use Rattle.bpfdb_cli.specs.Plans.{HasKindIfTold, IsFaultOf, IsPlan, IsPlanOf, NamesPart, NamesRegisters, Says, Tells, is_given, number_or};
+ghost use Rattle.bpfdb_cli.specs.Plans.{AreInRange, Chooses, HasKindIfTold, IsFaultOf, IsPlan, IsPlanOf, NamesPart, NamesRegisters, Says, Tells, is_given, number_or};
 
 use crate::command_line::command_line;
 use crate::plans::{Plan, PlanFault};
@@ -108,64 +108,59 @@ fn plan_in<'a>(name: &'a str, found: &ArgMatches<'a>) -> Option<Plan<'a>>
         Some(file) => file,
         None => return None,
     };
-    let journal = match number_or(text_of(found, "journal"), DEFAULT_JOURNAL) {
-        Some(journal) => journal,
+    let options = match options_in(found) {
+        Some(options) => options,
         None => return None,
     };
-    let limit = match number_or(text_of(found, "steps"), DEFAULT_LIMIT) {
-        Some(limit) => limit,
-        None => return None,
-    };
-    let lines = match number_or(text_of(found, "lines"), DEFAULT_LINES) {
-        Some(lines) => lines,
-        None => return None,
-    };
-    let from = match number_or(text_of(found, "from"), 1) {
-        Some(from) => from,
-        None => return None,
-    };
-    let count = match number_or(text_of(found, "count"), GREATEST_COUNT) {
-        Some(count) => count,
-        None => return None,
-    };
-    let registers = match registers_of(text_of(found, "registers")) {
-        Some(registers) => registers,
-        None => return None,
-    };
-    let show = match part_of(text_of(found, "show")) {
-        Some(show) => show,
-        None => return None,
-    };
+    Some(Plan {
+        subcommand,
+        file,
+        memory: text_of(found, "mem"),
+        script: text_of(found, "script"),
+        options,
+    })
+}
+
+/// The options of a subcommand's matches. None where a number is out of its range, or a name none
+/// of those that its option takes.
+fn options_in<'a>(found: &ArgMatches<'a>) -> Option<Options<'a>>
+    ensures value { IfSome result (Chooses (rows_of (found_of found.now))) }
+    ensures none { IfNone result ((options : Options) →
+        Chooses (rows_of (found_of found.now)) options →
+        AreInRange (rows_of (found_of found.now)) options → ⊥) }
+    ensures limit { IfSome result (λ options. IsLimit options.limit) }
+{
+    let journal = number_or(text_of(found, "journal"), DEFAULT_JOURNAL)?;
+    let limit = number_or(text_of(found, "steps"), DEFAULT_LIMIT)?;
+    let lines = number_or(text_of(found, "lines"), DEFAULT_LINES)?;
+    let from = number_or(text_of(found, "from"), 1)?;
+    let count = number_or(text_of(found, "count"), GREATEST_COUNT)?;
+    let registers = registers_of(text_of(found, "registers"))?;
+    let show = part_of(text_of(found, "show"))?;
     if !is_limit(limit) {
         return None;
     }
     if !is_limit(lines) {
         return None;
     }
-    Some(Plan {
-        subcommand,
-        file,
-        memory: text_of(found, "mem"),
-        script: text_of(found, "script"),
-        options: Options {
-            maps: text_of(found, "maps"),
-            journal,
-            limit,
-            from,
-            count,
-            is_profile: is_given(text_of(found, "profile")),
-            is_listing: is_given(text_of(found, "listing")),
-            section: text_of(found, "section"),
-            entry: text_of(found, "entry"),
-            stubs: text_of(found, "stub"),
-            as_compiled: is_given(text_of(found, "as-compiled")),
-            registers,
-            what: text_of(found, "what"),
-            lines,
-            addresses: is_given(text_of(found, "addresses")),
-            only: text_of(found, "only"),
-            show,
-        },
+    Some(Options {
+        maps: text_of(found, "maps"),
+        journal,
+        limit,
+        from,
+        count,
+        is_profile: is_given(text_of(found, "profile")),
+        is_listing: is_given(text_of(found, "listing")),
+        section: text_of(found, "section"),
+        entry: text_of(found, "entry"),
+        stubs: text_of(found, "stub"),
+        as_compiled: is_given(text_of(found, "as-compiled")),
+        registers,
+        what: text_of(found, "what"),
+        lines,
+        addresses: is_given(text_of(found, "addresses")),
+        only: text_of(found, "only"),
+        show,
     })
 }
 
