@@ -1,5 +1,5 @@
 -- The newest entry's move is taken back, and the entry is let go, or goes over to another ring.
-use Rattle.std.specs.Prelude.{◌≡◌, ◌≤◌, ◌-◌, ◌++◌, ◌∷◌, [], ℕ, Bool, true, false, List, Option, Some, None, length, drop}
+use Rattle.std.specs.Prelude.{◌≡◌, ◌-◌, ◌++◌, ◌∷◌, [], ℕ, Bool, true, false, List, Option, Some, None, length, drop}
 use Rattle.bpf_entries.specs.declared.entry.Entry.{Entry}
 use Rattle.bpf_entries.specs.Fields.{FitsFields}
 use Rattle.bpf_entries.specs.Keeping.{Kept, keep, kept_weight}

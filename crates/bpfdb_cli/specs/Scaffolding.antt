@@ -1,5 +1,5 @@
 -- Scaffolding: the words that `clap` is asked, since its `help` takes no option.
-use Rattle.std.specs.Prelude.{◌≡◌, ◌⊎◌, List, [], ◌∷◌, codes}
+use Rattle.std.specs.Prelude.{◌≡◌, ◌⊎◌, List, ◌∷◌, codes}
 use Rattle.clap.specs.Words.{Text}
 
 -- Help is asked for by a subcommand.

@@ -1,7 +1,6 @@
 use Rattle.std.proofs.Math.ListN.{get_or}
 use Rattle.std.proofs.Common.{◌≡◌, ◌≤◌, ◌+◌, ◌∙◌, ℕ, suc, List, [], ◌∷◌, map, Bool, true, false, not, inr, refl, sym, ap, subst, length, codes, take, arith}
 use Rattle.std.specs.Borrow.{Bor}
-use Rattle.std.specs.Str.{bytes_eq}
 use Rattle.std.proofs.lemmas.Slice.Eq.{bytes_eq-Decides}
 use Rattle.bpfdb_cli.specs.Scaffolding.{AskAlike, IsHelp}
 use Rattle.bpfdb_cli.proofs.planner.asked_of.Goals as goal

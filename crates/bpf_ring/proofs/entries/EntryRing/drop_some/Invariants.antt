@@ -1,4 +1,4 @@
-use Rattle.std.proofs.Common.{◌≡◌, ◌≤◌, List, length, drop}
+use Rattle.std.proofs.Common.{◌≡◌, List, drop}
 use Rattle.bpf_entries.specs.Keeping.{Kept}
 use Rattle.bpf_ring.specs.Held.{IsHeld}
 use Rattle.bpf_ring.proofs.entries.EntryRing.drop_some.Given as goal

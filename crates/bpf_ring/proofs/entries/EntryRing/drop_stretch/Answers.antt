@@ -1,4 +1,4 @@
-use Rattle.std.proofs.Common.{◌≡◌, ◌∙◌, ℕ, ap, arith}
+use Rattle.std.proofs.Common.{◌∙◌, ℕ, ap, arith}
 use Rattle.bpf_ring.proofs.StretchLaws.{without_stretch}
 use Rattle.bpf_ring.proofs.entries.EntryRing.drop_stretch.Goals as goal
 

@@ -1,4 +1,4 @@
-use Rattle.std.proofs.Common.{◌++◌, ◌-◌, ℕ, List, length, take, sym, subst}
+use Rattle.std.proofs.Common.{◌-◌, ℕ, List, length, take, sym, subst}
 use Rattle.bpf_ring.proofs.Ways.{behind_others, text_so}
 use Rattle.bpf_ring.specs.Ways.{HasText}
 use Rattle.bpf_ring.proofs.entries.EntryRing.newest_stretch.Goals as goal

@@ -1,8 +1,7 @@
-use Rattle.std.proofs.Common.{◌≡◌, ◌≤◌, ◌-◌, ◌++◌, ◌∙◌, ℕ, List, length, take, drop, refl, sym, ap, subst, append_assoc, arith}
-use Rattle.std.specs.Prelude.{sum_by}
+use Rattle.std.proofs.Common.{◌≡◌, ◌-◌, ◌++◌, ◌∙◌, length, take, sym, ap, arith}
 use Rattle.std.proofs.lemmas.List.{take-append-drop, take_at}
 use Rattle.std.proofs.lemmas.List.Sums.{sum_by-take-drop}
-use Rattle.bpf_entries.specs.Keeping.{Kept, kept_weight}
+use Rattle.bpf_entries.specs.Keeping.{kept_weight}
 use Rattle.bpf_entries.specs.Rings.{ring}
 use Rattle.bpf_ring.proofs.Held.{fit_front, length-ring, ring-append}
 use Rattle.bpf_ring.specs.Ways.{HasText}
