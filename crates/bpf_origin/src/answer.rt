@@ -31,6 +31,5 @@ pub fn put_answer<P: Past, W: Write>(
             moves: 0,
         };
     }
-    let _places = wanted.as_slice();
     put_origin(history, &mut wanted, question, writer, so_far)
 }

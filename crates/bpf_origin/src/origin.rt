@@ -161,7 +161,6 @@ fn tell_rest<P: Past, W: Write>(
         let last = put(writer, told, b"cut: more than 4096 places are wanted\n");
         return cut(last, Extent::Places, 1);
     }
-    let _places = wanted.as_slice();
     go_on(told, lines)
 }
 

@@ -1,5 +1,5 @@
 //! The wanted places.
-ghost use Rattle.std.specs.Prelude.{◌≡◌, ◌≤◌, ◌<◌, ◌-◌, ℕ, ◌++◌, ◌∷◌, [], filter, flat_map, length, not, IsTrue, true, false};
+ghost use Rattle.std.specs.Prelude.{◌≡◌, ◌≤◌, ◌↔◌, ◌-◌, ℕ, ◌++◌, ◌∷◌, [], filter, flat_map, length, not, take, IsTrue};
 ghost use Rattle.bpf_origin.specs.Places.{bytes_from, places_of, same};
 ghost use Rattle.bpf_origin.specs.Wanted as spec;
 
@@ -58,13 +58,13 @@ impl Wanted {
         self.places.iter().any(|place| is_among(parts, *place))
     }
 
-    /// One more place is wanted. Nothing changes, and the answer is false, where there is no room
-    /// for it.
+    /// One more place is wanted, where there is room for it; else nothing changes. Answers whether
+    /// it is wanted.
     pub fn want(&mut self, place: Place) -> bool
-        ensures ok { result ≡ true → self.new ≡ spec.want self.old place }
-        ensures full { result ≡ false → (self.new ≡ self.old)
-            × (spec.most_places < length (spec.want self.old place)) }
+        ensures value { self.new ≡ take spec.most_places (spec.want self.old place) }
+        ensures all { IsTrue result ↔ (length (spec.want self.old place) ≤ spec.most_places) }
     {
+        let _places = self.as_slice();
         if self.is_in(place) {
             return true;
         }
@@ -75,12 +75,12 @@ impl Wanted {
         true
     }
 
-    /// The places of a part are wanted. The answer is false where there is no room for all; which
-    /// are wanted then isn't said.
+    /// The places of a part are wanted, one after another, as many as there is room for. Answers
+    /// whether all are.
     pub fn want_part(&mut self, part: Part) -> bool
-        ensures ok { result ≡ true → self.new ≡ spec.want_all self.old (places_of part) }
-        ensures full { result ≡ false →
-            spec.most_places < length (spec.want_all self.old (places_of part)) }
+        ensures value { self.new ≡ take spec.most_places (spec.want_all self.old (places_of part)) }
+        ensures all { IsTrue result
+            ↔ (length (spec.want_all self.old (places_of part)) ≤ spec.most_places) }
     {
         match part {
             Part::Register { depth, number } => self.want(Place::Register { depth, number }),
@@ -91,9 +91,10 @@ impl Wanted {
 
     /// Bytes are wanted, so many from an address on, as `want_part` says.
     fn want_run(&mut self, address: u64, len: usize) -> bool
-        ensures ok { result ≡ true → self.new ≡ spec.want_all self.old (bytes_from address len) }
-        ensures full { result ≡ false →
-            spec.most_places < length (spec.want_all self.old (bytes_from address len)) }
+        ensures value { self.new
+            ≡ take spec.most_places (spec.want_all self.old (bytes_from address len)) }
+        ensures all { IsTrue result
+            ↔ (length (spec.want_all self.old (bytes_from address len)) ≤ spec.most_places) }
     {
         for k in 0..len {
             let at = address.wrapping_add(k as u64);
@@ -101,21 +102,22 @@ impl Wanted {
                 return false;
             }
         }
+        let _places = self.as_slice();
         true
     }
 
-    /// The places of parts are wanted. The answer is false where there is no room for all; which are
-    /// wanted then isn't said.
+    /// The places of parts are wanted, as `want_part` says.
     pub fn want_parts(&mut self, parts: &[Part]) -> bool
-        ensures ok { result ≡ true → self.new ≡ spec.want_parts self.old parts.now }
-        ensures full { result ≡ false →
-            spec.most_places < length (spec.want_parts self.old parts.now) }
+        ensures value { self.new ≡ take spec.most_places (spec.want_parts self.old parts.now) }
+        ensures all { IsTrue result
+            ↔ (length (spec.want_parts self.old parts.now) ≤ spec.most_places) }
     {
         for part in parts {
             if !self.want_part(*part) {
                 return false;
             }
         }
+        let _places = self.as_slice();
         true
     }
 

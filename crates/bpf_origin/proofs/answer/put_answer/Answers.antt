@@ -1,12 +1,14 @@
-use Rattle.std.proofs.Common.{◌∙◌, ap, refl, subst, sym, arith}
+use Rattle.std.proofs.Common.{◌∙◌, [], ap, refl, subst, sym, arith}
 use Rattle.counted_io.specs.Writing.{WritesAfter}
 use Rattle.bpf_origin.specs.Answers.{Answer}
+use Rattle.bpf_origin.specs.Wanted.{most_places, want_parts}
 use Rattle.bpf_origin.proofs.Asking.{about_full, about_room}
+use Rattle.bpf_origin.proofs.Wanting.{all_fit, some_left}
 use Rattle.bpf_origin.proofs.answer.put_answer.Goals as goal
 
 pub returns-then-not-want_parts : goal.returns-then-not-want_parts
 returns-then-not-want_parts g c =
-    let full = rw c.new-wanted.ensures at (c.if-not-want_parts.ensures.full refl) in
+    let full = some_left most_places (want_parts [] c.args.parts.now) (rw c.new-wanted.ensures at c.if-not-want_parts.ensures.all) in
     record {
       text = λ t stands.
           subst (λ (a : Answer). WritesAfter g.W.Write.contents c.args.writer.now c.args.so_far c.put.new.writer c.put.result a.text)
@@ -19,8 +21,8 @@ returns-then-not-want_parts g c =
 
 pub returns : goal.returns
 returns g c =
-    let is = rw c.new-wanted.ensures at (c.if-not-want_parts.ensures.ok refl) in
-    let fits = rw (c.as_slice-places.ensures.value, is) at c.as_slice-places.ensures.fits in
+    let fits = rw c.new-wanted.ensures at (c.if-not-want_parts.ensures.all.0 refl) in
+    let is = all_fit most_places (want_parts [] c.args.parts.now) c.want_parts.new.self (rw c.new-wanted.ensures at c.if-not-want_parts.ensures.value) fits in
     record {
       text = λ t stands.
           subst (λ (a : Answer). WritesAfter g.W.Write.contents c.args.writer.now c.args.so_far c.put_origin.new.writer c.put_origin.result.written a.text)

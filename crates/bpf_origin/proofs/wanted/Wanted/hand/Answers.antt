@@ -2,6 +2,7 @@ use Rattle.std.proofs.Common.{not, ap, ◌∙◌, sym, rules, filter}
 use Rattle.arrayvec.proofs.ArrayVecLemmas.{filter-from_retain}
 use Rattle.bpf_origin.specs.declared.place.Place.TheVariants.{Register}
 use Rattle.bpf_origin.specs.Places.{same}
+use Rattle.bpf_origin.specs.Wanted.{most_places}
 use Rattle.bpf_origin.proofs.Wanting.{handed_told}
 use Rattle.bpf_origin.proofs.wanted.Wanted.hand.Goals as goal
 
@@ -10,5 +11,5 @@ returns c =
     let left = filter-from_retain _ _ _ (λ x b f' y called. search rules) _ _ c.retain.ensures.filtered
     ∙ ap (filter (λ q. not (same (Register c.args.depth c.args.number) q))) c.self.view_is in
     let fits = rw c.as_slice-places.ensures.value at c.as_slice-places.ensures.fits in
-    handed_told c.args.self.now _ _ c.args.depth c.args.number c.want-there.result (sym c.is_in.ensures ∙ c.if-not-is_in.false) left fits
-    (rw c.saturating_sub.ensures at c.want-there.ensures.ok) (rw c.saturating_sub.ensures at c.want-there.ensures.full)
+    handed_told most_places c.args.self.now _ _ c.args.depth c.args.number _ (sym c.is_in.ensures ∙ c.if-not-is_in.false) left fits
+    c.saturating_sub.ensures c.want-there.ensures.value

@@ -1,18 +1,18 @@
 use Rattle.bpf_origin.specs.Wanted.{want_all}
 use Rattle.bpf_origin.proofs.wanted.Wanted.want_part.Goals as goal
 
-pub returns-in-Register-clause-ok : goal.returns-in-Register-clause-ok
+pub returns-in-Register-clause-value : goal.returns-in-Register-clause-value
 unfolding want_all
-returns-in-Register-clause-ok c = λ e. rw c.in-Register.is (c.want.ensures.ok e)
+returns-in-Register-clause-value c = rw c.in-Register.is c.want.ensures.value
 
-pub returns-in-Register-clause-full : goal.returns-in-Register-clause-full
+pub returns-in-Register-clause-all : goal.returns-in-Register-clause-all
 unfolding want_all
-returns-in-Register-clause-full c = λ e. rw c.in-Register.is ((c.want.ensures.full e).1)
+returns-in-Register-clause-all c = rw c.in-Register.is c.want.ensures.all
 
-pub returns-in-Word-clause-ok : goal.returns-in-Word-clause-ok
+pub returns-in-Word-clause-value : goal.returns-in-Word-clause-value
 unfolding want_all
-returns-in-Word-clause-ok c = λ e. rw c.in-Word.is (c.want-in-Word.ensures.ok e)
+returns-in-Word-clause-value c = rw c.in-Word.is c.want-in-Word.ensures.value
 
-pub returns-in-Word-clause-full : goal.returns-in-Word-clause-full
+pub returns-in-Word-clause-all : goal.returns-in-Word-clause-all
 unfolding want_all
-returns-in-Word-clause-full c = λ e. rw c.in-Word.is ((c.want-in-Word.ensures.full e).1)
+returns-in-Word-clause-all c = rw c.in-Word.is c.want-in-Word.ensures.all

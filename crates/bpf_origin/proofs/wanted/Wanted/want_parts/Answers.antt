@@ -1,16 +1,30 @@
-use Rattle.std.proofs.Common.{refl, arith}
-use Rattle.bpf_origin.proofs.Wanting.{parts_full, parts_step, parts_done}
+use Rattle.std.proofs.Common.{arith}
+use Rattle.bpf_origin.specs.Wanted.{most_places}
+use Rattle.bpf_origin.proofs.Wanting.{parts_cut, parts_step, parts_done}
 use Rattle.bpf_origin.proofs.wanted.Wanted.want_parts.Goals as goal
 
-pub returns-then-not-want_part-clause-full : goal.returns-then-not-want_part-clause-full
-returns-then-not-want_part-clause-full c = λ e.
-    parts_full _ _ c.args.parts.now c.loop-part.part-index _ c.loop-part.invariant c.loop-part-test.true (c.if-not-want_part.ensures.full refl)
+pub returns-then-not-want_part-clause-value : goal.returns-then-not-want_part-clause-value
+returns-then-not-want_part-clause-value c =
+    (parts_cut most_places _ _ _ c.args.parts.now c.loop-part.part-index _ c.loop-part.invariant c.loop-part-test.true (c.if-not-want_part.ensures.value, c.if-not-want_part.ensures.all)).0
+
+pub returns-then-not-want_part-clause-all : goal.returns-then-not-want_part-clause-all
+returns-then-not-want_part-clause-all c =
+    (parts_cut most_places _ _ _ c.args.parts.now c.loop-part.part-index _ c.loop-part.invariant c.loop-part-test.true (c.if-not-want_part.ensures.value, c.if-not-want_part.ensures.all)).1
 
 pub loop-part-preserved : goal.loop-part-preserved
-loop-part-preserved c = parts_step _ _ _ c.args.parts.now c.loop-part.part-index _ c.loop-part.invariant c.loop-part-test.true (c.if-not-want_part.ensures.ok refl)
+loop-part-preserved c =
+    parts_step most_places _ _ _ c.args.parts.now c.loop-part.part-index _ c.loop-part.invariant c.loop-part-test.true (c.if-not-want_part.ensures.value, c.if-not-want_part.ensures.all)
 
-pub returns-clause-ok : goal.returns-clause-ok
-returns-clause-ok c = λ e.
+pub returns-clause-value : goal.returns-clause-value
+returns-clause-value c =
     let fin = c.loop-part-test.false in
     let within = c.loop-part.auto.part-index-end in
-    parts_done _ _ c.args.parts.now c.loop-part.part-index c.loop-part.invariant (omega arith)
+    let fits = rw c.as_slice-places.ensures.value at c.as_slice-places.ensures.fits in
+    (parts_done most_places _ _ c.args.parts.now c.loop-part.part-index c.loop-part.invariant (omega arith) fits).0
+
+pub returns-clause-all : goal.returns-clause-all
+returns-clause-all c =
+    let fin = c.loop-part-test.false in
+    let within = c.loop-part.auto.part-index-end in
+    let fits = rw c.as_slice-places.ensures.value at c.as_slice-places.ensures.fits in
+    (parts_done most_places _ _ c.args.parts.now c.loop-part.part-index c.loop-part.invariant (omega arith) fits).1
