@@ -6,7 +6,7 @@ use Rattle.std.proofs.lemmas.Bool.{cases_lt}
 use Rattle.std.proofs.lemmas.Bool.Decides.{nat_tests}
 use Rattle.std.proofs.lemmas.List.{drop_all}
 use Rattle.bpf_entries.specs.Keeping.{Kept}
-use Rattle.bpf_entries.specs.Past.{is_of_step, past, replaced}
+use Rattle.bpf_entries.specs.Past.{is_of_step, past}
 use Rattle.bpf_journal.proofs.Histories.{of_move}
 use Rattle.bpf_journal.proofs.Telling.{kept_bytes, level_by, tells_before}
 use Rattle.bpf_journal.specs.GoingBack.{GoesBackBy}
@@ -28,7 +28,7 @@ use Rattle.bpf_ring.specs.declared.backward.Stays.TheVariants.{Nothing, Depth, M
 use Rattle.bpf_session.specs.Backward.{back_by, before_last, passes}
 use Rattle.bpf_session.specs.Points.{Point}
 use Rattle.bpf_session.specs.Searches.{GoAtOnce, GoesOver, is_each}
-use Rattle.bpf_session.specs.Sessions.{HasPast, SessionValue, StandsAt, point_of, track_at}
+use Rattle.bpf_session.specs.Sessions.{HasPast, SessionValue, point_of, track_at}
 use Rattle.bpf_session.specs.SlotTables.{IsTableOf}
 use Rattle.bpf_session.specs.Stops.{has, some_differs}
 use Rattle.bpf_session.specs.Watched.{bytes_at}

@@ -1,5 +1,5 @@
 //! Watches: the addresses of bytes at whose change forward commands stop.
-ghost use Rattle.std.specs.Prelude.{◌≡◌, ◌<◌, ◌≤◌, ℕ, if◌then◌else◌, ◌++◌, ◌∷◌, [], true, false, length, filter, not, nat_le, ◌==◌};
+ghost use Rattle.std.specs.Prelude.{◌≡◌, ◌<◌, ◌≤◌, ◌↔◌, ℕ, if◌then◌else◌, ◌++◌, ◌∷◌, [], IsTrue, false, length, filter, not, nat_le, ◌==◌};
 ghost use Rattle.std.specs.Str.{bytes_eq};
 ghost use Rattle.bpf_machine.specs.ByAddress.{byte};
 ghost use Rattle.bpf_machine.specs.State.{State};
@@ -59,7 +59,7 @@ impl Watches {
 
     /// Whether there are none.
     pub fn is_empty(&self) -> bool
-        ensures { result ≡ true → self.now ≡ [] }
+        ensures { IsTrue result ↔ (self.now ≡ []) }
     {
         self.addresses.is_empty()
     }
@@ -115,9 +115,9 @@ impl Watches {
     /// Whether nothing is watched, and nothing was seen.
     #[inline(always)]
     pub fn sees_nothing(&self, seen: &Seen) -> bool
-        ensures { result ≡ true → (self.now ≡ []) × (seen.now ≡ []) }
+        ensures { IsTrue result ↔ ((self.now ≡ []) × (seen.now ≡ [])) }
     {
-        self.addresses.is_empty() && seen.bytes.is_empty()
+        self.is_empty() && seen.bytes.is_empty()
     }
 
     /// Whether a byte at one of the addresses differs now from what was seen before a move that
