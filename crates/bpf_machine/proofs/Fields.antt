@@ -1,6 +1,6 @@
 -- The laws of how large the parts of entries are.
 use Rattle.std.proofs.Common.{◌≡◌, ◌≤◌, ◌<◌, ◌+◌, ◌-◌, ℕ, List, [], length, drop, Option, Some, None, refl, sym, ap, subst, inl, inr, arith}
-use Rattle.std.specs.Prelude.{IsSome, slice_get, option_map, unwrap_or}
+use Rattle.std.specs.Prelude.{All, IsSome, slice_get, option_map, unwrap_or}
 use Rattle.std.proofs.lemmas.Bool.{cases_lt}
 use Rattle.std.proofs.lemmas.Option.{slice_get_past}
 use Rattle.std.proofs.lemmas.List.Elements.{All-take, All-drop}
@@ -14,6 +14,7 @@ use Rattle.bpf_machine.specs.declared.edit.Edit.{Edit}
 use Rattle.bpf_machine.specs.declared.edit.Edit.TheVariants as edit
 use Rattle.bpf_machine.specs.declared.moves.Move.{Move}
 use Rattle.bpf_machine.specs.declared.moves.Move.TheVariants as move
+use Rattle.bpf_entries.specs.declared.entry.Entry.{Entry}
 use Rattle.bpf_machine.specs.Calls.{entered}
 use Rattle.bpf_machine.specs.Platform.{cell_address, frame_base, frame_len}
 use Rattle.bpf_machine.specs.Regions.{index_of, run, run_at}
@@ -22,11 +23,12 @@ use Rattle.bpf_machine.specs.Fetched.{Fits}
 use Rattle.bpf_machine.specs.Next.{change}
 use Rattle.bpf_machine.specs.Entries.{entry_of}
 use Rattle.bpf_machine.specs.Edits.{IsEditable, edit_entry}
-use Rattle.bpf_machine.specs.Moves.{IsMovable, overwritten}
+use Rattle.bpf_machine.specs.Moves.{HasCome, IsMovable, overwritten}
+use Rattle.bpf_machine.specs.Undoing.{IsTyped}
 use Rattle.bpf_entries.specs.Fields.{FitsSlot, FitsBytes, FitsFrame, FitsFields}
 use Rattle.bpf_machine.specs.Fields.{FitsEdit, FitsMove, EntriesFit}
 use Rattle.bpf_entries.specs.Status.{FitsNumber, FitsStatus}
-use Rattle.bpf_machine.proofs.Editable.{able_bytes, able_cell}
+use Rattle.bpf_machine.proofs.Editable.{able_bytes, able_cell, able_register}
 use Rattle.bpf_machine.proofs.ByAddress.{fits_within, length-run}
 use Rattle.bpf_machine.proofs.Cells.{cell_present, cell_address_fits}
 use Rattle.bpf_machine.proofs.Fitting.{number_fits, four_fit, change_fits}
@@ -115,3 +117,28 @@ move_fits x (move.Edit e) is able status fits = edit_fits x e is able status fit
 
 pub law_entries : EntriesFit
 law_entries x y m leads fits = move_fits x m leads.before leads.movable leads.before.ends fits
+
+-- The entry of an edit that was made, whose old bytes are as many as their type says.
+are_bytes : (x : State) (a n : ℕ) (other : List ℕ) (found : Option ℕ) → IsState x → index_of x.memory a n ≡ found → IsSome found → All (λ byte. byte < 256) (unwrap_or (run_at x.memory a n) other)
+are_bytes x a n other None is e some = cc
+are_bytes x a n other (Some at) is e some =
+    let was : unwrap_or (run_at x.memory a n) other ≡ run x.memory at n = ap (λ o. unwrap_or (option_map (λ at. run x.memory at n) o) other) e in
+    subst (All (λ byte. byte < 256)) (sym was) (All-take (λ byte. byte < 256) (at + n - at) (drop at x.memory.bytes) (All-drop (λ byte. byte < 256) at x.memory.bytes is.bytes))
+
+made_fits : (x : State) (e : Edit) → IsState x → IsEditable x e → IsTyped (edit_entry x e) → FitsFields (edit_entry x e)
+unfolding edit_entry
+made_fits x (edit.Register r value) is able typed = (omega (arith, able_register x r value able), number_fits x r is)
+made_fits x (edit.Bytes a bytes) is able typed =
+    (typed.0, (typed.1, typed.2, are_bytes x a (length bytes) bytes (index_of x.memory a (length bytes)) is refl (able_bytes x a bytes able)))
+made_fits x (edit.Cell map index bytes) is able typed =
+    let n = length bytes in
+    let a = cell_address map index n in
+    (typed.0, (typed.1, typed.2, are_bytes x a n bytes (index_of x.memory a n) is refl (cell_present x map index n is (able_cell x map index bytes able))))
+made_fits x (edit.Pc slot) is able typed = (slot_fits x is, is.ends)
+
+come_by : (x : State) (m : Move) → IsState x → IsMovable x m → IsTyped (overwritten x m) → FitsFields (overwritten x m)
+come_by x move.Step is able typed = step_fits x (change x) is (change_fits x is)
+come_by x (move.Edit e) is able typed = made_fits x e is able typed
+
+pub come_fits : (y : State) (e : Entry) → HasCome y e → IsTyped e → FitsFields e
+come_fits y e h typed = subst FitsFields h.held (come_by h.x h.m h.leads.before h.leads.movable (subst IsTyped (sym h.held) typed))

@@ -1,6 +1,6 @@
 -- An entry of a move can be put back: its slot starts an instruction of the program, its register is not r10, and there
 -- is room for its frame.
-use Rattle.std.proofs.Common.{◌≡◌, ◌<◌, ◌-◌, length, length-take, Option, Some, None, refl, sym, subst, ap, ◌∙◌, arith}
+use Rattle.std.proofs.Common.{◌≡◌, ◌<◌, ◌-◌, length, length-take, Option, Some, None, refl, sym, subst, arith}
 use Rattle.std.specs.Option.{option_map_or}
 use Rattle.bpf_machine.specs.declared.change.Change.{Change}
 use Rattle.bpf_machine.specs.declared.change.Change.TheVariants.{Set, Go, Store, Fetch, Call, Return, Cell, Trace, Stop}
@@ -17,11 +17,11 @@ use Rattle.bpf_machine.specs.Fetched.{Fits}
 use Rattle.bpf_machine.specs.Next.{change, changed, returned}
 use Rattle.bpf_machine.specs.Entries.{entry_of}
 use Rattle.bpf_machine.specs.Edits.{IsEditable, edited, edit_entry}
-use Rattle.bpf_machine.specs.Moves.{Leads, HasCome, IsMovable, moved, overwritten}
-use Rattle.bpf_machine.specs.Undoing.{undone, Restores}
+use Rattle.bpf_machine.specs.Moves.{HasCome, IsMovable, moved, overwritten}
+use Rattle.bpf_machine.specs.Undoing.{Restores}
 use Rattle.bpf_machine.proofs.Editable.{able_register}
 use Rattle.bpf_machine.proofs.Fitting.{change_fits}
-use Rattle.bpf_machine.proofs.Undoing.{undoing, innermost_there}
+use Rattle.bpf_machine.proofs.Undoing.{innermost_there}
 
 restores_return : (x : State) (found : Option Frame) → IsState x → 0 < depth x → innermost x ≡ found → Restores (option_map_or (returned x) found x) (entry.Return x.pc (saved x))
 restores_return x None is some e = absurd (innermost_there x.frames some e)
@@ -56,7 +56,3 @@ restores_move x (move.Edit e) is able = restores_edit x e is able
 pub restores : (y : State) (entry : Entry) → HasCome y entry → Restores y entry
 restores y entry h =
     subst (Restores y) h.held (subst (λ s. Restores s (overwritten h.x h.m)) (sym h.leads.after) (restores_move h.x h.m h.leads.before h.leads.movable))
-
--- What is put back is the state before the move.
-pub is_before : (y z : State) (entry : Entry) → z ≡ undone entry y → (x : State) (m : Move) → Leads x m y → overwritten x m ≡ entry → z ≡ x
-is_before y z entry e x m leads held = e ∙ ap (λ en. undone en y) (sym held) ∙ undoing x m y leads

@@ -1,12 +1,14 @@
--- Scaffolding: how an entry is put back into a state, as the code does it. The contract of `revert` speaks of moves alone.
-use Rattle.std.specs.Prelude.{◌≡◌, ◌<◌, ℕ, ◌+◌, ◌-◌, if◌then◌else◌, List, length, take, slice_set, unwrap_or, IfSome}
+-- Scaffolding: how an entry is put back into a state, as the code does it. The contracts of `revert` and `revert_text` speak of moves alone.
+use Rattle.std.specs.Prelude.{◌≡◌, ◌≤◌, ◌<◌, ℕ, ◌+◌, ◌-◌, if◌then◌else◌, List, length, take, slice_set, unwrap_or, IfSome}
 use Rattle.std.specs.Option.{option_map_or}
 use Rattle.bpf_isa.specs.Programs.{IsStart}
 use Rattle.bpf_entries.specs.Past.{Frames, Same, Fewer, More, past, replaced}
 use Rattle.bpf_entries.specs.Fields.{FitsFields}
+use Rattle.bpf_entries.specs.Status.{FitsNumber}
 use Rattle.bpf_entries.specs.Reading.{entry_of as entry_read}
 use Rattle.bpf_entries.specs.Weights.{weight}
 use Rattle.bpf_entries.specs.declared.entry.Entry.{Entry}
+use Rattle.bpf_entries.specs.declared.entry.Entry.TheVariants as entry
 use Rattle.bpf_machine.specs.declared.frame.Frame.{Frame}
 use Rattle.bpf_machine.specs.Calls.{with_saved, pushed, popped}
 use Rattle.bpf_machine.specs.Platform.{frame_count}
@@ -41,6 +43,11 @@ HasRoom _ y = Unit {0}
 
 abbrev pub Restores : State → Entry → Type 0
 Restores y e = IfSome (past (depth y) e).pc (IsStart y.program) × IfSome (past (depth y) e).register (λ (r : ℕ × ℕ). r.0 < 10) × HasRoom (past (depth y) e).frames y
+
+-- What the type of an entry says of the bytes that an edit replaced: there are 1 to 256, at an address.
+abbrev pub IsTyped : Entry → Type 0
+IsTyped (entry.EditBytes a old) = FitsNumber a × (1 ≤ length old) × (length old ≤ 256)
+IsTyped _ = Unit {0}
 
 -- The entry of a kind that bytes are read as: it fits its fields, it weighs as many bytes as there are, and it can be put back.
 abbrev pub read_as : ℕ → List ℕ → Entry

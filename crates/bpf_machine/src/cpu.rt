@@ -13,7 +13,6 @@ mod open;
 mod reads;
 mod record;
 mod revert;
-mod revert_text;
 mod run;
 mod step;
 

@@ -11,15 +11,15 @@ use Rattle.bpf_machine.proofs.Restoring.{restores}
 use Rattle.bpf_machine.proofs.Undoing.{undoing}
 use Rattle.bpf_machine.proofs.cpu.Cpu.revert_text.Goals as goal
 
-pub undo_text-requires-clause-kind : goal.undo_text-requires-clause-kind
-undo_text-requires-clause-kind c =
+pub undo-requires-clause-kind : goal.undo-requires-clause-kind
+undo-requires-clause-kind c =
     let e = c.requires.entry in
     let is : c.kind_of.result ≡ kind e = c.kind_of.ensures e c.requires.mark [] (c.requires.held ∙ sym (append-nil (text e c.requires.mark))) in
     let range = kind_high e in
     (omega (arith, is, range.0), omega (arith, is, range.1))
 
-pub undo_text-requires-clause-reads : goal.undo_text-requires-clause-reads
-undo_text-requires-clause-reads c =
+pub undo-requires-clause-reads : goal.undo-requires-clause-reads
+undo-requires-clause-reads c =
     let e = c.requires.entry in
     let mark = c.requires.mark in
     let fits = c.requires.fits in
@@ -37,4 +37,4 @@ returns c = λ x m mark leads fits h.
     let e = overwritten x m in
     let is : c.kind_of.result ≡ kind e = c.kind_of.ensures e mark [] (h ∙ sym (append-nil (text e mark))) in
     let whole : read_as c.kind_of.result c.args.bytes.now ≡ e = read_whole e mark c.kind_of.result c.args.bytes.now fits h is in
-    c.undo_text.ensures ∙ ap (λ (f : Entry). undone f c.args.self.now) whole ∙ undoing x m c.args.self.now leads
+    c.undo.ensures ∙ ap (λ (f : Entry). undone f c.args.self.now) whole ∙ undoing x m c.args.self.now leads
