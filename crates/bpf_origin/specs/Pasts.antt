@@ -53,7 +53,8 @@ abbrev pub refusals_left : ℕ → ℕ → ℕ
 refusals_left zero n = n
 refusals_left (suc left) n = one_more n
 
--- So many moves are left that are to be made again: none if the keeper refuses none, and none unless it refused one.
+-- So many moves are left that are to be made again: none if the keeper refuses none, and none unless it refused one. (A count of 2^64 - 1 stays,
+-- and tells neither.)
 pub record LeavesMoves {K : Type 0} (refusals : K → ℕ) (old new : K) (left : ℕ) : Type 0 where
   pub none : ((keeper : K) → refusals keeper ≡ 0) → left ≡ 0
   pub refused : refusals new ≡ refusals_left left (refusals old)
