@@ -1,22 +1,21 @@
 -- The rows of what is read of a listing's lines are those that the listing's definition says.
-use Rattle.std.proofs.Common.{ℕ, suc, ◌≡◌, ◌<◌, ◌+◌, List, [], ◌∷◌, ◌++◌, length, Some, None, Ok, Err, Result, Option, refl, ap, sym, ◌∙◌, subst, inl, inr, map, arith, append_assoc, codes, decimal}
+use Rattle.std.proofs.Common.{ℕ, ◌≡◌, ◌<◌, ◌+◌, List, [], ◌∷◌, ◌++◌, length, Some, None, Ok, Err, Result, Option, refl, ap, sym, ◌∙◌, subst, inl, inr, map, arith, append_assoc, codes, decimal}
 use Rattle.bpf_isa.specs.declared.instruction.Insn.{Insn}
 use Rattle.bpf_text.specs.declared.fault.AsmFault.{AsmFault}
-use Rattle.bpf_text.specs.declared.read.first_round.Placed.{Placed}
 use Rattle.bpf_text.specs.declared.read.line.Line.{Line}
 use Rattle.bpf_text.specs.declared.read.statement.Statement.{Statement}
 use Rattle.counted_io.specs.Lines.{lines}
 use Rattle.bpf_isa.specs.Programs.{slots_of}
 use Rattle.bpf_isa.proofs.Spelling.{wide_or_not}
 use Rattle.bpf_text.specs.Labels.{Labels, labels_with, no_label}
-use Rattle.bpf_text.specs.LineGrammar.{LineReading, IsLine}
+use Rattle.bpf_text.specs.LineGrammar.{LineReading}
 use Rattle.bpf_text.specs.LineTable.{AreRows, IsLineTable, labels_and, row}
 use Rattle.bpf_text.specs.Statements.{Takes}
 use Rattle.bpf_text.specs.Listing.{Outline, outline_with, IsOutline, IsAssembled, IsListing}
 use Rattle.bpf_text.specs.Scaffolding.Cuts.{before, after, trim}
 use Rattle.bpf_text.specs.Scaffolding.Lines.{read_line, read_statement}
 use Rattle.bpf_text.specs.Scaffolding.Rounds.{label_of, statement_of, statement_or_none}
-use Rattle.bpf_text.specs.Scaffolding.Rows.{by_slots, rows, slots_said}
+use Rattle.bpf_text.specs.Scaffolding.Rows.{rows, slots_said}
 use Rattle.bpf_text.proofs.Cutting.{lines-cut}
 use Rattle.bpf_text.proofs.ListingGrammar.{line-read, blank-read}
 use Rattle.bpf_text.proofs.StatementGrammar.{slots_in, read-takes}

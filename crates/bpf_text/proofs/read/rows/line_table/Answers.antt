@@ -1,6 +1,5 @@
 -- A listing that is assembled has no fault.
 use Rattle.std.proofs.Common.{subst, sym}
-use Rattle.std.proofs.lemmas.Result.{IfOk-weaker}
 use Rattle.bpf_text.specs.LineTable.{IsLineTable}
 use Rattle.bpf_text.proofs.LineTables.{is-line-table}
 use Rattle.bpf_text.proofs.read.rows.line_table.Goals as goal

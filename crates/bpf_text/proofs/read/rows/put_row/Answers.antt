@@ -1,5 +1,5 @@
 -- Part by part.
-use Rattle.std.proofs.Common.{codes, decimal, refl}
+use Rattle.std.proofs.Common.{refl}
 use Rattle.counted_io.proofs.Appending.{WritesAfter-WritesAfter}
 use Rattle.bpf_text.proofs.LineTables.{row-parts}
 use Rattle.bpf_text.proofs.read.rows.put_row.Goals as goal
