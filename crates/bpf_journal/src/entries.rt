@@ -2,7 +2,7 @@
 ghost use Rattle.std.specs.Prelude.{◌≡◌, ◌≤◌, ◌<◌, ◌^◌, ◌++◌, [], ◌∷◌, ℕ, List, Option, option_map, length, sum_by, MatchOption, IfSome, OnOk, OnErr};
 ghost use Rattle.bpf_entries.specs.Keeping.{Kept, kept_weight, fit};
 ghost use Rattle.bpf_journal.specs.Histories.{newest};
-ghost use Rattle.bpf_journal.specs.Items.{kept_item, marks, LosesOldest};
+ghost use Rattle.bpf_journal.specs.Items.{marks, LosesOldest};
 
 use crate::item::Item;
 use std::alloc::{AllocError, Global};
@@ -65,8 +65,8 @@ impl Entries {
     /// Adds the newest.
     pub fn push(&mut self, item: Item) -> Result<(), AllocError>
         requires few { sum_by kept_weight self.old < 2 ^ 32 }
-        requires light { kept_weight (kept_item item) < 2 ^ 32 }
-        ensures ok { OnOk result (self.new ≡ kept_item item ∷ self.old) }
+        requires light { kept_weight item < 2 ^ 32 }
+        ensures ok { OnOk result (self.new ≡ item ∷ self.old) }
         ensures err { OnErr result (self.new ≡ self.old) }
     {
         let weight = item.weight();
@@ -83,7 +83,7 @@ impl Entries {
     /// Takes the newest off.
     pub fn pop(&mut self) -> Option<Item>
         ensures { MatchOption result ((self.old ≡ [])
-            × (self.new ≡ [])) (λ item. self.old ≡ kept_item item ∷ self.new) }
+            × (self.new ≡ [])) (λ item. self.old ≡ item ∷ self.new) }
     {
         match self.items.pop_back() {
             Some(item) => {
@@ -98,7 +98,7 @@ impl Entries {
     /// Takes the oldest off.
     fn pop_oldest(&mut self) -> Option<Item>
         ensures { MatchOption result (self.old ≡ []) (λ item. self.old
-            ≡ self.new ++ kept_item item ∷ []) }
+            ≡ self.new ++ item ∷ []) }
     {
         match self.items.pop_front() {
             Some(item) => {
@@ -133,7 +133,7 @@ impl Entries {
 
     /// The newest.
     pub fn newest(&self) -> Option<&Item>
-        ensures { option_map (λ item. kept_item item.now) result ≡ newest self.now }
+        ensures { option_map (λ item. item.now) result ≡ newest self.now }
     {
         self.items.back()
     }
@@ -142,7 +142,7 @@ impl Entries {
     pub fn item(&self, older: usize) -> Option<&Item>
         ensures { (newer rest : List Kept) (k : Kept) → self.now ≡ newer ++ k ∷ rest →
             length rest ≡ older →
-            MatchOption result ⊥ (λ item. kept_item item.now ≡ k) }
+            MatchOption result ⊥ (λ item. item.now ≡ k) }
     {
         self.items.get(older)
     }

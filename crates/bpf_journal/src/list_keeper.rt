@@ -10,12 +10,13 @@ use crate::fault::JournalFault;
 use crate::item::Item;
 use crate::keeper::Keeper;
 use crate::size::is_size;
-use bpf_machine::Entry;
+use crate::taken::Taken;
+use bpf_machine::{Cpu, Entry};
 use std::alloc::{AllocError, Global};
 
-/// Keeps entries in a growing list. A push takes memory now and then, and moves no entry but the
-/// one that it keeps; each entry that it drops was pushed once, so that many pushes cost as much
-/// each whatever the journal's size is.
+/// Keeps the bytes of entries in a growing list. A push takes memory for those of its entry, and
+/// now and then for the list, and moves no other entry; each entry that it drops was pushed once,
+/// so that many pushes cost as much each whatever the journal's size is.
 #[derive(Drop)]
 pub struct ListKeeper {
     alloc: Global,
@@ -28,8 +29,6 @@ pub struct ListKeeper {
 }
 
 impl ListKeeper {
-    ghost use Rattle.bpf_journal.specs.Items.{kept_item};
-
     /// A keeper for a journal of this many bytes, 1,024 to 16,777,216, that holds nothing and has
     /// refused nothing. It takes no memory yet.
     pub fn open(alloc: Global, size: usize) -> Result<ListKeeper, JournalFault>
@@ -49,9 +48,9 @@ impl ListKeeper {
 
     /// Keeps one more item, and drops the oldest that don't fit.
     fn keep(&mut self, item: Item) -> Result<(), AllocError>
-        requires { kept_weight (kept_item item) < 2 ^ 32 }
+        requires { kept_weight item < 2 ^ 32 }
         ensures ok { OnOk result (self.new.entries
-            ≡ keep kept_weight self.old.size self.old.entries (kept_item item)) }
+            ≡ keep kept_weight self.old.size self.old.entries item) }
         ensures err { OnErr result (self.new.entries ≡ self.old.entries) }
         ensures counts { (self.new.refusals ≡ refusals_after result self.old.refusals)
             × (self.new.size ≡ self.old.size) }
@@ -110,14 +109,24 @@ impl Keeper for ListKeeper {
 
     fn last(&self) -> Option<(Entry, bool)> {
         match self.entries.newest() {
-            Some(item) => Some(item.copied()),
+            Some(item) => Some(item.kept()),
             None => None,
         }
     }
 
     fn pop(&mut self) -> Option<(Entry, bool)> {
         match self.entries.pop() {
-            Some(item) => Some(item.taken()),
+            Some(item) => Some(item.kept()),
+            None => None,
+        }
+    }
+
+    fn take_back(&mut self, cpu: &mut Cpu) -> Option<Taken> {
+        match self.entries.pop() {
+            Some(item) => {
+                cpu.revert_text(item.text());
+                Some(Taken::of_tag(item.tag()))
+            }
             None => None,
         }
     }
@@ -148,7 +157,7 @@ impl Keeper for ListKeeper {
         }
         match self.entries.item(at - 1) {
             Some(item) => {
-                let (entry, mark) = item.copied();
+                let (entry, mark) = item.kept();
                 Some((entry, mark, at - 1))
             }
             None => None,
