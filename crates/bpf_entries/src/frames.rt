@@ -61,11 +61,4 @@ impl FrameBytes {
     {
         &self.items
     }
-
-    /// A copy.
-    pub fn copied(&self) -> FrameBytes
-        ensures { result ≡ self.now }
-    {
-        FrameBytes { items: self.items }
-    }
 }

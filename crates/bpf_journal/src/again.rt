@@ -10,8 +10,8 @@ use bpf_machine::{ByteString, Cpu, Edit, Entry, Move, Status};
 
 /// What is kept of the move with this entry that led here: of a step the entry, of an edit the same
 /// form with the values that it wrote.
-pub(crate) fn entry_again(cpu: &Cpu, entry: &Entry) -> Entry
-    ensures value { result ≡ seen_again cpu.now entry.now }
+pub(crate) fn entry_again(cpu: &Cpu, entry: Entry) -> Entry
+    ensures value { result ≡ seen_again cpu.now entry }
     ensures fits { of_step result ≡ false → FitsFields result }
 {
     let again = seen_again(cpu, entry);
@@ -22,33 +22,33 @@ pub(crate) fn entry_again(cpu: &Cpu, entry: &Entry) -> Entry
 }
 
 /// The move of an edit, to be made again: the entry's form, with what the state shows in its place.
-fn seen_again(cpu: &Cpu, entry: &Entry) -> Entry
-    ensures { result ≡ seen_again cpu.now entry.now }
+fn seen_again(cpu: &Cpu, entry: Entry) -> Entry
+    ensures { result ≡ seen_again cpu.now entry }
 {
     match entry {
         Entry::EditRegister { register, value: _ } => Entry::EditRegister {
-            register: *register,
-            value: cpu.reg(*register),
+            register,
+            value: cpu.reg(register),
         },
         Entry::EditBytes { address, old } => Entry::EditBytes {
-            address: *address,
-            old: bytes_now(cpu, *address, old),
+            address,
+            old: bytes_now(cpu, address, old),
         },
         Entry::EditPc { pc: _, status: _ } => Entry::EditPc {
             pc: cpu.pc(),
             status: Status::Running,
         },
-        _ => entry.copied(),
+        step => step,
     }
 }
 
 /// The bytes that stand in a run that an edit replaced.
-fn bytes_now(cpu: &Cpu, address: u64, old: &ByteString) -> ByteString
-    ensures { result ≡ replaced_run cpu.now address old.now }
+fn bytes_now(cpu: &Cpu, address: u64, old: ByteString) -> ByteString
+    ensures { result ≡ replaced_run cpu.now address old }
 {
     match cpu.peek(address, old.len()) {
         Some(run) => ByteString::of(run),
-        None => old.copied(),
+        None => old,
     }
 }
 

@@ -236,7 +236,7 @@ impl<K: Keeper> Course<K> {
             Some((entry, mark)) => {
                 self.timeline.cpu().invariant();
                 entries_fit();
-                let again = entry_again(self.timeline.cpu(), &entry);
+                let again = entry_again(self.timeline.cpu(), entry);
                 self.redo.push(&again, mark);
                 self.timeline.back()
             }

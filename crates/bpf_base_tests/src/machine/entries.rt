@@ -36,15 +36,14 @@ fn replaced(rt: &impl Abort, n: u64) -> ByteString {
     ByteString::new(run).expect(rt, "no bytes")
 }
 
-/// What an entry of a kind that replaced so many bytes weighs, and what a copy of it weighs.
-fn weights_of(rt: &impl Abort, kind: &str, n: u64) -> (u64, u64) {
+/// What an entry of a kind that replaced so many bytes weighs.
+fn weight_of(rt: &impl Abort, kind: &str, n: u64) -> u64 {
     let found = if n == 0 {
         entry(kind)
     } else {
         entry_over(kind, replaced(rt, n))
     };
-    let entry = found.expect(rt, "unknown kind");
-    (entry.weight() as u64, entry.copied().weight() as u64)
+    found.expect(rt, "unknown kind").weight() as u64
 }
 
 /// An entry of a kind that replaced no bytes, or those of a frame.
@@ -108,7 +107,7 @@ fn entry_over(kind: &str, old: ByteString) -> Option<Entry> {
 fn weight_holds(rt: &impl Abort, row: &str) -> bool {
     let (kind, numbers) = parts(rt, row);
     let (n, weight) = two(rt, numbers);
-    weights_of(rt, kind, n) == (weight, weight)
+    weight_of(rt, kind, n) == weight
 }
 
 /// Stops at a row that doesn't hold.
