@@ -99,10 +99,7 @@ pub fn machine_of(alloc: Global, job: &Job<'_>) -> Result<Cpu, JobRefusal<'stati
 }
 
 /// A machine before its first step, with an empty journal.
-pub fn timeline_of(
-    alloc: Global,
-    job: &Job<'_>,
-) -> Result<Timeline<EntryRing>, JobRefusal<'static>>
+pub fn timeline_of(alloc: Global, job: &Job<'_>) -> Result<Timeline<EntryRing>, JobRefusal<'static>>
     ensures ok { IfOk result (IsStart job.now) }
     ensures runs { IfOk result (λ timeline. has_ended timeline.state.status ≡ false) }
     ensures err { IfErr result (Refuses job.now) }
