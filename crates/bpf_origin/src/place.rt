@@ -1,4 +1,5 @@
 //! Places: what holds a value in a machine.
+ghost use Rattle.std.specs.Prelude.{◌≡◌};
 
 /// A place of a machine that holds a value. r10 is none: it follows from the depth of calls.
 #[derive(Clone, Copy)]
@@ -22,6 +23,10 @@ pub enum Part {
 }
 
 impl Default for Place {
+    ghost use Rattle.bpf_origin.specs.declared.place.Place.{Place};
+
+    ghost is_default = { λ place. place ≡ Place.Register 0 0 };
+
     /// r0, which fills the unused room of an array.
     fn default() -> Place {
         Place::Register {
@@ -32,6 +37,10 @@ impl Default for Place {
 }
 
 impl Default for Part {
+    ghost use Rattle.bpf_origin.specs.declared.place.Part.{Part};
+
+    ghost is_default = { λ part. part ≡ Part.Register 0 0 };
+
     /// r0, which fills the unused room of an array.
     fn default() -> Part {
         Part::Register {
