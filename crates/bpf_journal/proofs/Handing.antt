@@ -13,7 +13,7 @@ use Rattle.bpf_machine.specs.Fields.{EntriesFit}
 use Rattle.bpf_machine.specs.Moves.{Leads, overwritten}
 use Rattle.bpf_machine.specs.State.{State}
 use Rattle.bpf_ring.specs.Heads.{head_of}
-use Rattle.bpf_ring.specs.declared.entries.Head.{Head}
+use Rattle.bpf_ring.specs.declared.keeper.Head.{Head}
 use Rattle.bpf_journal.specs.declared.taken.Taken.{Taken}
 use Rattle.bpf_journal.specs.Handing.{Hands}
 use Rattle.bpf_journal.specs.Histories.{HasHistory, IsRun, Record, StandsFor, kept_of, newest, older}

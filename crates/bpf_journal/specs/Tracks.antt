@@ -3,7 +3,7 @@ use Rattle.std.specs.Prelude.{◌≡◌, ◌≤◌, ◌+◌, ℕ, zero, suc, Lis
 use Rattle.bpf_entries.specs.Keeping.{Kept, keep}
 use Rattle.bpf_machine.specs.Moves.{Leads, moved}
 use Rattle.bpf_machine.specs.State.{State}
-use Rattle.bpf_ring.specs.declared.entries.EntryRing.{EntryRing}
+use Rattle.bpf_ring.specs.declared.keeper.RingKeeper.{RingKeeper}
 use Rattle.bpf_journal.specs.Again.{again_of}
 pub use Rattle.bpf_journal.specs.Handing.{RingHolds, ring_room}
 use Rattle.bpf_journal.specs.Histories.{HasHistory, Record, StandsFor, record_weight}
@@ -33,7 +33,7 @@ IsAhead x [] = Unit {0}
 IsAhead x (r ∷ f) = (r.before ≡ x) × Leads x r.move (moved x r.move) × IsAhead (moved x r.move) f
 
 -- What a course is opened with: a keeper that stands with the state for some history, and an empty ring of its size.
-pub record CanOpen {K : Type 0} (holds : K → List Kept → Type 0) (room : K → ℕ) (keeper : K) (x : State) (redo : EntryRing) : Type 0 where
+pub record CanOpen {K : Type 0} (holds : K → List Kept → Type 0) (room : K → ℕ) (keeper : K) (x : State) (redo : RingKeeper) : Type 0 where
   pub past : HasHistory holds keeper x
   pub empty : RingHolds redo []
   pub size : ring_room redo ≡ room keeper
@@ -42,7 +42,7 @@ pub record CanOpen {K : Type 0} (holds : K → List Kept → Type 0) (room : K �
 pub record CourseValue (K : Type 0) : Type 0 where
   pub state : State
   pub keeper : K
-  pub redo : EntryRing
+  pub redo : RingKeeper
 
 -- They stand for a track: the keeper for the history, the ring holds what was taken back, its newest the next one, which leads on from the
 -- state; and both lists together fit the room.

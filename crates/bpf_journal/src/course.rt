@@ -20,7 +20,7 @@ use crate::taken::Taken;
 use crate::timeline::{ByteChange, Timeline};
 use bpf_machine::laws::entries_fit;
 use bpf_machine::{Cpu, Edit};
-use bpf_ring::{EntryRing, Stays, StopTest};
+use bpf_ring::{RingKeeper, Stays, StopTest};
 use std::marker::Model;
 
 /// A machine and a keeper, and the moves that were taken back since the latest new one. What is
@@ -29,7 +29,7 @@ use std::marker::Model;
 #[derive(Drop)]
 pub struct Course<K: Keeper> {
     timeline: Timeline<K>,
-    redo: EntryRing,
+    redo: RingKeeper,
 }
 
 impl<K: Keeper> Model for Course<K> {
@@ -45,7 +45,7 @@ impl<K: Keeper> Model for Course<K> {
 impl<K: Keeper> Course<K> {
     /// A machine with a keeper that holds the entries of some history that leads to the machine's
     /// state, and an empty ring of the keeper's capacity.
-    pub fn open(cpu: Cpu, keeper: K, redo: EntryRing) -> Course<K>
+    pub fn open(cpu: Cpu, keeper: K, redo: RingKeeper) -> Course<K>
         requires { CanOpen K.holds K.room keeper cpu redo }
         ensures value { result ≡ record { state = cpu; keeper = keeper; redo = redo } }
         ensures stands { (h : List Record) → StandsFor K.holds keeper cpu h →

@@ -18,7 +18,7 @@ use crate::run::Run;
 use crate::taken::Taken;
 use bpf_machine::laws::entries_fit;
 use bpf_machine::{Change, Cpu, Ended, Entry};
-use bpf_ring::{EntryRing, Stays, StopTest, change_replaces_bytes};
+use bpf_ring::{RingKeeper, Stays, StopTest, change_replaces_bytes};
 use std::alloc::AllocError;
 
 /// Keeps the newest entries of moves, in a journal of some size. Its content is a list of entries
@@ -159,7 +159,7 @@ pub trait Keeper {
     /// step: a ring keeps it then, with its mark. Answers what move it was; None where nothing is
     /// held, or an edit is the newest, and then nothing changes. A keeper of bytes copies them as
     /// they lie; by itself it reads the entry whole.
-    fn hand_back(&mut self, cpu: &mut Cpu, ring: &mut EntryRing) -> Option<Taken>
+    fn hand_back(&mut self, cpu: &mut Cpu, ring: &mut RingKeeper) -> Option<Taken>
         requires way { HasHistory holds self.old cpu.old }
         ensures { HandsOver holds refused room
             result self.old self.new cpu.old cpu.new ring.old ring.new }
@@ -184,7 +184,7 @@ pub trait Keeper {
     fn hand_back_steps(
         &mut self,
         cpu: &mut Cpu,
-        ring: &mut EntryRing,
+        ring: &mut RingKeeper,
         most: u64,
         marks: &[bool; 8192],
         stays: Stays,

@@ -4,7 +4,6 @@
 mod again;
 mod course;
 mod entries;
-mod entry_ring;
 mod fault;
 mod fields;
 mod item;
@@ -13,16 +12,15 @@ pub mod laws;
 mod list_keeper;
 mod replaced;
 mod reversible;
+mod ring_keeper;
 mod run;
-mod size;
 mod taken;
 mod timeline;
 
 pub use bpf_machine::Move;
-pub use bpf_ring::{EntryRing, Stays, StopTest};
+pub use bpf_ring::{JournalFault, RingKeeper, Stays, StopTest};
 pub use course::Course;
-pub use entry_ring::open_ring;
-pub use fault::{JournalFault, MoveFault, TimelineFault};
+pub use fault::{MoveFault, TimelineFault};
 pub use keeper::Keeper;
 pub use list_keeper::ListKeeper;
 pub use reversible::Reversible;

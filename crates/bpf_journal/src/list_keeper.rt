@@ -6,12 +6,11 @@ ghost use Rattle.bpf_entries.specs.Keeping.{IsSize};
 ghost use Rattle.bpf_journal.specs.Opening.{Opens};
 
 use crate::entries::Entries;
-use crate::fault::JournalFault;
 use crate::item::Item;
 use crate::keeper::Keeper;
-use crate::size::is_size;
 use crate::taken::Taken;
 use bpf_machine::{Cpu, Entry};
+use bpf_ring::{JournalFault, is_size};
 use std::alloc::{AllocError, Global};
 
 /// Keeps the bytes of entries in a growing list. A push takes memory for those of its entry, and

@@ -21,7 +21,7 @@ use crate::keeper::Keeper;
 use crate::run::Run;
 use crate::taken::Taken;
 use bpf_machine::{Cpu, Edit, Ended, Entry, Move, Sort};
-use bpf_ring::{EntryRing, Stays, StopTest, change_replaces_bytes};
+use bpf_ring::{RingKeeper, Stays, StopTest, change_replaces_bytes};
 use std::marker::Model;
 
 /// A move that changed the value of a byte.
@@ -291,7 +291,7 @@ impl<K: Keeper> Timeline<K> {
     /// Takes the newest move back where it is a step, and moves its entry with its mark to this
     /// ring. None where no move is kept, or an edit is the newest, and then nothing changes.
     #[inline(always)]
-    pub(crate) fn hand_back(&mut self, ring: &mut EntryRing) -> Option<Taken>
+    pub(crate) fn hand_back(&mut self, ring: &mut RingKeeper) -> Option<Taken>
         ensures { HandsOver K.holds K.refused K.room
             result self.old.keeper self.new.keeper self.old.state self.new.state
             ring.old ring.new }
@@ -305,7 +305,7 @@ impl<K: Keeper> Timeline<K> {
     /// what `stays` names. Answers how many, maybe none.
     pub(crate) fn hand_back_steps(
         &mut self,
-        ring: &mut EntryRing,
+        ring: &mut RingKeeper,
         most: u64,
         marks: &[bool; 8192],
         stays: Stays,

@@ -5,7 +5,7 @@ use Rattle.bpf_entries.specs.Rings.{AllFit, ring}
 use Rattle.bpf_machine.specs.Moves.{HasCome}
 use Rattle.bpf_machine.specs.State.{State}
 use Rattle.bpf_ring.specs.declared.counts.Counts.{Counts}
-use Rattle.bpf_ring.specs.declared.entries.EntryRing.{EntryRing}
+use Rattle.bpf_ring.specs.declared.keeper.RingKeeper.{RingKeeper}
 use Rattle.bpf_ring.specs.Blocks.{Content}
 use Rattle.bpf_ring.specs.Counted.{Counted}
 
@@ -16,7 +16,7 @@ pub record IsHeld (content : Content) (counts : Counts) (ks : List Kept) : Type 
   pub counted : Counted counts ks
 
 -- A ring of entries holds the list by its bytes and its counts.
-abbrev pub RingHolds : EntryRing → List Kept → Type 0
+abbrev pub RingHolds : RingKeeper → List Kept → Type 0
 RingHolds ring ks = IsHeld ring.ring ring.counts ks
 
 -- The newest of a list led to a state; where there is none, nothing is said.

@@ -9,10 +9,10 @@ use Rattle.bpf_machine.specs.declared.moves.Move.{Move}
 use Rattle.bpf_machine.specs.Moves.{Leads, overwritten}
 use Rattle.bpf_machine.specs.State.{State}
 use Rattle.bpf_ring.specs.Held.{RingHolds}
-use Rattle.bpf_ring.specs.declared.entries.EntryRing.{EntryRing}
+use Rattle.bpf_ring.specs.declared.keeper.RingKeeper.{RingKeeper}
 
 -- It is let go, and y becomes the state before the move. The answer is its tag, and none where none is held.
-pub record TakesBack (y z : State) (old new : EntryRing) (taken : Option ℕ) : Type 0 where
+pub record TakesBack (y z : State) (old new : RingKeeper) (taken : Option ℕ) : Type 0 where
   pub size : new.ring.size ≡ old.ring.size
   pub none : RingHolds old [] → (taken ≡ None) × (z ≡ y) × RingHolds new []
   pub some : (ks : List Kept) (k : Kept) → RingHolds old (k ∷ ks) → (taken ≡ Some (tag (kind k.0) k.1)) × RingHolds new ks
@@ -20,7 +20,7 @@ pub record TakesBack (y z : State) (old new : EntryRing) (taken : Option ℕ) : 
 
 -- Where it is of a step, another ring keeps it, and y becomes the state before the step. The answer is its tag, and none where none is held or it
 -- is of an edit: then nothing changes.
-pub record HandsOver (y z : State) (old new other_old other_new : EntryRing) (taken : Option ℕ) : Type 0 where
+pub record HandsOver (y z : State) (old new other_old other_new : RingKeeper) (taken : Option ℕ) : Type 0 where
   pub size : (new.ring.size ≡ old.ring.size) × (other_new.ring.size ≡ other_old.ring.size)
   pub none : RingHolds old [] → taken ≡ None
   pub edit : (ks : List Kept) (k : Kept) → RingHolds old (k ∷ ks) → is_of_step k.0 ≡ false → taken ≡ None
@@ -37,7 +37,7 @@ pub record Reverts (bytes : List ℕ) (count : ℕ) (y z : State) (told : ℕ) :
 
 -- Scaffolding: the text of the entry goes over to a ring. Where it is of a step, the state y becomes that before the step, and the ring keeps the entry as well. The answer is its tag, and none where
 -- it is of an edit: then nothing changes.
-pub record TakesText (bytes : List ℕ) (taken : Option ℕ) (y z : State) (old new : EntryRing) : Type 0 where
+pub record TakesText (bytes : List ℕ) (taken : Option ℕ) (y z : State) (old new : RingKeeper) : Type 0 where
   pub size : new.ring.size ≡ old.ring.size
   pub edit : (e : Entry) (mark : Bool) → bytes ≡ text e mark → is_of_step e ≡ false → taken ≡ None
   pub stays : taken ≡ None → (z ≡ y) × (new ≡ old)

@@ -14,7 +14,7 @@ use Rattle.bpf_machine.specs.State.{State}
 use Rattle.bpf_ring.specs.declared.backward.Stays.{Stays}
 use Rattle.bpf_ring.specs.declared.backward.Stays.TheVariants.{Nothing, Depth, Memory}
 use Rattle.bpf_ring.specs.declared.counts.Counts.{Counts}
-use Rattle.bpf_ring.specs.declared.entries.EntryRing.{EntryRing}
+use Rattle.bpf_ring.specs.declared.keeper.RingKeeper.{RingKeeper}
 use Rattle.bpf_ring.specs.Blocks.{Content}
 use Rattle.bpf_ring.specs.Held.{IsHeld, RingHolds}
 
@@ -62,7 +62,7 @@ module _ (marks : List Bool) (stays : Stays) (z : State) (left other : List Kept
   HandsBack (suc n) (w ∷ ws) ls y = IsPlain marks stays (kept_by w) × HandsBack n ws (kept_by w ∷ ls) w.before
 
 -- So many moves, at most `most`, were taken back so, and their entries went over to another ring. The sizes stay.
-pub record HandsSteps (marks : List Bool) (stays : Stays) (most : ℕ) (y z : State) (old new other_old other_new : EntryRing) (n : ℕ) : Type 0 where
+pub record HandsSteps (marks : List Bool) (stays : Stays) (most : ℕ) (y z : State) (old new other_old other_new : RingKeeper) (n : ℕ) : Type 0 where
   pub within : n ≤ most
   pub size : (new.ring.size ≡ old.ring.size) × (other_new.ring.size ≡ other_old.ring.size)
   pub handed : (ws : List Made) (ls : List Kept) → RingHolds old (map kept_by ws) → IsWay ws y

@@ -11,7 +11,7 @@ ghost use Rattle.bpf_machine.specs.declared.moves.Move.{Move};
 ghost use Rattle.bpf_ring.specs.Ways.{EndsPlain, EndsWay, HandsBack, HandsSteps, HasLeft, HasText, HoldsWholeWay, IsPlain, IsWay, Made, kept_by};
 
 use crate::block::copy;
-use crate::entries::{EntryRing, text_len};
+use crate::keeper::{RingKeeper, text_len};
 use crate::ring::number;
 use bpf_entries::slot_in;
 use bpf_machine::Cpu;
@@ -36,7 +36,7 @@ pub(crate) struct Handed {
     pub(crate) len: usize,
 }
 
-impl EntryRing {
+impl RingKeeper {
     /// Takes the newest moves back, at most so many: as long as each is a step whose entry has no
     /// mark, lies in one piece and goes to another ring in one piece, where nothing is dropped for
     /// it. It stops in front of a move from a slot that `marks` has, by the slot's remainder, and
@@ -46,7 +46,7 @@ impl EntryRing {
     pub fn hand_back_steps(
         &mut self,
         cpu: &mut Cpu,
-        other: &mut EntryRing,
+        other: &mut RingKeeper,
         most: u64,
         marks: &[bool; 8192],
         stays: Stays,

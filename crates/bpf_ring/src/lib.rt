@@ -5,15 +5,19 @@
 mod backward;
 mod block;
 mod counts;
-mod entries;
+mod fault;
+mod keeper;
 mod pieces;
 mod quiet;
 mod ring;
 mod run;
+mod size;
 mod stretches;
 
 pub use backward::Stays;
-pub use entries::{EntryRing, Head};
+pub use fault::JournalFault;
+pub use keeper::{Head, RingKeeper};
 pub use ring::Ring;
 pub use run::{StopTest, change_replaces_bytes};
+pub use size::is_size;
 pub use stretches::Stretch;

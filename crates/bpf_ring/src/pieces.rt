@@ -12,7 +12,7 @@ ghost use Rattle.bpf_ring.specs.Left.{Left};
 ghost use Rattle.bpf_ring.specs.Pieces.{KeepsPiece, RunsByPieces, entries_of};
 ghost use Rattle.bpf_ring.specs.Runs.{GoesOn};
 
-use crate::entries::EntryRing;
+use crate::keeper::RingKeeper;
 use crate::run::StopTest;
 use bpf_machine::Cpu;
 use bpf_machine::laws::entries_fit;
@@ -34,7 +34,7 @@ pub(crate) struct Pieced {
     pub(crate) last: u64,
 }
 
-impl EntryRing {
+impl RingKeeper {
     /// Goes on with a run that has taken some steps, piece by piece: until it is over, or until a
     /// step comes that is none of the common ones.
     pub(crate) fn run_pieces<T: StopTest>(

@@ -9,11 +9,11 @@ ghost use Rattle.bpf_ring.specs.Held.{RingHolds};
 ghost use Rattle.bpf_ring.specs.Quiet.{EndsQuiet, IsQuiet, IsQuietStretch, PassesOver};
 ghost use Rattle.bpf_ring.specs.Ways.{HasText};
 
-use crate::entries::EntryRing;
+use crate::keeper::RingKeeper;
 use crate::ring::number;
 use crate::stretches::Stretch;
 
-impl EntryRing {
+impl RingKeeper {
     /// How many of the newest entries of the front at a place are of quiet moves that lie in one
     /// piece, maybe none; and the place of the front without them.
     #[inline(always)]

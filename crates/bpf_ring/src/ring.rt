@@ -21,7 +21,7 @@ ghost use Rattle.bpf_ring.specs.Ways.{EndsWay, HandsBack, HasText, IsWay, Made, 
 use crate::backward::{Handed, Stays, hand_texts};
 use crate::block::{fill, place, record_in_place, write_around, write_in_place};
 use crate::counts::Counts;
-use crate::entries::text_len;
+use crate::keeper::text_len;
 use crate::run::{Reached, Span, StopTest, drop_in_place, run_in_place};
 use bpf_entries::weights::GREATEST;
 use bpf_entries::{byte_before, depth_before};

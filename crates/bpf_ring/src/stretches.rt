@@ -9,7 +9,7 @@ ghost use Rattle.bpf_ring.specs.Held.{RingHolds};
 ghost use Rattle.bpf_ring.specs.Stretches.{EndsStep, IsStretch, IsUnmarked};
 ghost use Rattle.bpf_ring.specs.Ways.{HasText};
 
-use crate::entries::EntryRing;
+use crate::keeper::RingKeeper;
 use crate::ring::number;
 
 /// Some of the newest entries, each of a step and without a mark.
@@ -21,7 +21,7 @@ pub struct Stretch {
     pub len: usize,
 }
 
-impl EntryRing {
+impl RingKeeper {
     /// The newest entries that are of common steps, have no mark and lie in one piece: at most so
     /// many, and maybe none.
     pub fn newest_stretch(&self, most: u64) -> Stretch

@@ -12,7 +12,7 @@ use Rattle.bpf_journal.specs.Histories.{Record, StandsFor}
 use Rattle.bpf_journal.specs.Runs.{history_after}
 use Rattle.bpf_journal.specs.Timelines.{Moment}
 use Rattle.bpf_journal.specs.Tracks.{RingHolds, ring_room}
-use Rattle.bpf_ring.specs.declared.entries.EntryRing.{EntryRing}
+use Rattle.bpf_ring.specs.declared.keeper.RingKeeper.{RingKeeper}
 use Rattle.bpf_session.specs.Forward.{least}
 use Rattle.bpf_session.specs.declared.fault.RunFault.{RunFault}
 use Rattle.bpf_session.specs.declared.fault.RunFault.TheVariants.{Write}
@@ -49,7 +49,7 @@ pub record RunsPlain {T : Type 0} (contents : T → Option (List ℕ)) (limit : 
   pub written : Writes contents old new result (text_of_ending (ending_of y.status) y)
 
 -- A run that takes so many steps, and keeps each in a ring.
-pub record RunsKept (limit : ℕ) (old new : Moment EntryRing) (n : ℕ) : Type 0 where
+pub record RunsKept (limit : ℕ) (old new : Moment RingKeeper) (n : ℕ) : Type 0 where
   pub steps : n ≡ plain_steps limit old.state
   pub state : new.state ≡ plain_end limit old.state
   pub kept : (h : List Record) → StandsFor RingHolds old.keeper old.state h → StandsFor RingHolds new.keeper new.state (history_after (ring_room old.keeper) n old.state h)

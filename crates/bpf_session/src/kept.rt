@@ -6,12 +6,12 @@ ghost use Rattle.bpf_session.specs.Plain.{RunsKept};
 use crate::breakpoints::Breakpoints;
 use crate::halting::Halting;
 use crate::watches::Watches;
-use bpf_journal::{EntryRing, Timeline};
+use bpf_journal::{RingKeeper, Timeline};
 
 /// Takes the steps that `run_plain` takes, the least number, at least one, after which the machine
 /// has ended or the limit is reached, and keeps each, the first one with a mark. Answers how many.
 /// It takes no memory, and no step is refused.
-pub fn run_kept(timeline: &mut Timeline<EntryRing>, limit: u64) -> u64
+pub fn run_kept(timeline: &mut Timeline<RingKeeper>, limit: u64) -> u64
     requires runs { has_ended timeline.old.state.status ≡ false }
     requires some { 1 ≤ limit }
     ensures { RunsKept limit timeline.old timeline.new result }

@@ -21,7 +21,7 @@ mod stops;
 use crate::breakpoints::Breakpoints;
 use crate::reply::Reply;
 use crate::watches::Watches;
-use bpf_journal::{Course, EntryRing, Keeper};
+use bpf_journal::{Course, Keeper, RingKeeper};
 use bpf_machine::Cpu;
 use bpfdb_commands::{Command, Refusal};
 use std::marker::Model;
@@ -51,7 +51,7 @@ impl<K: Keeper> Session<K> {
     /// machine's state, with an empty ring of the keeper's capacity for the moves that will be
     /// taken back. `limit` is the most steps of a command, 1 to 1,000,000,000. There are no
     /// breakpoints and no watches.
-    pub fn open(cpu: Cpu, keeper: K, redo: EntryRing, limit: u64) -> Session<K>
+    pub fn open(cpu: Cpu, keeper: K, redo: RingKeeper, limit: u64) -> Session<K>
         requires course { CanOpen K.holds K.room keeper cpu redo }
         requires limit { (1 ≤ limit) × (limit ≤ greatest_count) }
         ensures value { result ≡ record {

@@ -3,7 +3,7 @@ ghost use Rattle.std.specs.Prelude.{◌≡◌, ◌<◌, ◌^◌, [], OnOk};
 ghost use Rattle.bpf_journal.specs.Keepers.{refusals_after};
 ghost use Rattle.bpf_journal.specs.Tracks.{RingHolds, ring_room};
 
-use bpf_journal::{EntryRing, Keeper, ListKeeper, open_ring};
+use bpf_journal::{Keeper, ListKeeper, RingKeeper};
 use bpf_machine::Entry;
 use std::alloc::{AllocError, Global};
 use std::process::Abort;
@@ -19,18 +19,18 @@ pub fn list(rt: &impl Abort, alloc: Global, size: usize) -> ListKeeper
 }
 
 /// An empty ring of so many bytes.
-pub fn ring(rt: &impl Abort, alloc: Global, size: usize) -> EntryRing
+pub fn ring(rt: &impl Abort, alloc: Global, size: usize) -> RingKeeper
     ensures empty { RingHolds result [] }
     ensures size { ring_room result ≡ size }
 {
-    match open_ring(alloc, size) {
+    match RingKeeper::open(alloc, size) {
         Ok(keeper) => keeper,
         Err(_) => panic!(rt; "no ring"),
     }
 }
 
 /// An empty ring for the moves that will be taken back from a keeper.
-pub fn ring_for<K: Keeper>(rt: &impl Abort, alloc: Global, keeper: &K) -> EntryRing
+pub fn ring_for<K: Keeper>(rt: &impl Abort, alloc: Global, keeper: &K) -> RingKeeper
     ensures empty { RingHolds result [] }
     ensures size { ring_room result ≡ K.room keeper.now }
 {
@@ -38,7 +38,7 @@ pub fn ring_for<K: Keeper>(rt: &impl Abort, alloc: Global, keeper: &K) -> EntryR
 }
 
 /// The oldest bytes of a ring, at most so many.
-pub fn oldest(rt: &impl Abort, alloc: Global, keeper: &EntryRing, most: usize) -> Vec<u8> {
+pub fn oldest(rt: &impl Abort, alloc: Global, keeper: &RingKeeper, most: usize) -> Vec<u8> {
     let mut bytes = Vec::new(alloc);
     for index in 0..most {
         match keeper.byte(index) {

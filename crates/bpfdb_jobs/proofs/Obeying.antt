@@ -1,7 +1,7 @@
 -- A script, line by line: what is known of the session before each line, and what each line leaves.
 use Rattle.std.proofs.Common.{ℕ, ◌≡◌, ◌∷◌, [], List, None, Some, Result, Ok, Err, ap, refl, sym, ◌∙◌}
 use Rattle.bpf_journal.specs.Tracks.{RingHolds, Track, ring_room}
-use Rattle.bpf_ring.specs.declared.entries.EntryRing.{EntryRing}
+use Rattle.bpf_ring.specs.declared.keeper.RingKeeper.{RingKeeper}
 use Rattle.bpf_session.specs.Points.{Bounds, Point}
 use Rattle.bpf_session.specs.Sessions.{HasPast, SessionValue, StandsAt, bounds_of, point_of, track_at}
 use Rattle.bpfdb_commands.specs.Commands.{command_of}
@@ -11,26 +11,26 @@ use Rattle.bpfdb_jobs.specs.Origins.{Arrival, obeyed, obeyed_line}
 use Rattle.counted_io.specs.Lines.{lines}
 
 -- what the lines come to, from where a session began
-abbrev meaning : SessionValue EntryRing → Track → List ℕ → Result Arrival Refusal
+abbrev meaning : SessionValue RingKeeper → Track → List ℕ → Result Arrival Refusal
 meaning from t script = obeyed (bounds_of ring_room from) (lines script) (arrived from t 0)
 
 -- the lines that are left come from here to what all of them do
-pub record Reaches (from to : SessionValue EntryRing) (t : Track) (script rest : List ℕ) (moves : ℕ) : Type 0 where
+pub record Reaches (from to : SessionValue RingKeeper) (t : Track) (script rest : List ℕ) (moves : ℕ) : Type 0 where
   pub point : Point
   pub stands : StandsAt RingHolds to point
   pub same : obeyed (bounds_of ring_room from) (lines rest) (record { point = point; moves = moves }) ≡ meaning from t script
 
-pub record Going (from to : SessionValue EntryRing) (script rest : List ℕ) (moves : ℕ) : Type 0 where
+pub record Going (from to : SessionValue RingKeeper) (script rest : List ℕ) (moves : ℕ) : Type 0 where
   pub bounds : bounds_of ring_room to ≡ bounds_of ring_room from
   pub reaches : (t : Track) → HasPast RingHolds from t → Reaches from to t script rest moves
 
-pub going-start : (s : SessionValue EntryRing) (script : List ℕ) → Going s s script script 0
+pub going-start : (s : SessionValue RingKeeper) (script : List ℕ) → Going s s script script 0
 going-start s script = record {
   bounds = refl;
   reaches = λ t past. record { point = point_of s t; stands = (refl, past); same = refl };
 }
 
-module _ (from to new : SessionValue EntryRing) (script rest line left : List ℕ) (moves : ℕ) (g : Going from to script rest moves)
+module _ (from to new : SessionValue RingKeeper) (script rest line left : List ℕ) (moves : ℕ) (g : Going from to script rest moves)
     (cut : lines rest ≡ line ∷ lines left) where
   -- what the line means that is first of those left
   first-line : (t : Track) (past : HasPast RingHolds from t)
@@ -72,7 +72,7 @@ module _ (from to new : SessionValue EntryRing) (script rest line left : List �
       sym (first-line t past) ∙ obeys (track_at r.point) (obeyed (bounds_of ring_room from) (lines left)) r.stands.1
 
 -- no line is left
-pub going-end : (from to : SessionValue EntryRing) (script rest : List ℕ) (moves : ℕ) → Going from to script rest moves → rest ≡ []
+pub going-end : (from to : SessionValue RingKeeper) (script rest : List ℕ) (moves : ℕ) → Going from to script rest moves → rest ≡ []
     → (t : Track) → HasPast RingHolds from t → Comes to (meaning from t script) (Ok moves)
 going-end from to script rest moves g none t past =
     let r = g.reaches t past in (

@@ -5,7 +5,7 @@ use Rattle.bpf_journal.specs.Histories.{Record, StandsFor}
 use Rattle.bpf_journal.specs.Runs.{history_after}
 use Rattle.bpf_journal.specs.Timelines.{Moment}
 use Rattle.bpf_journal.specs.Tracks.{RingHolds, Track, ring_room}
-use Rattle.bpf_ring.specs.declared.entries.EntryRing.{EntryRing}
+use Rattle.bpf_ring.specs.declared.keeper.RingKeeper.{RingKeeper}
 use Rattle.bpf_machine.specs.State.{State, initial}
 use Rattle.bpf_origin.specs.Asked.{answer_about, parts_asked}
 use Rattle.bpf_origin.specs.declared.fault.WhatFault.{WhatFault}
@@ -27,7 +27,7 @@ use Rattle.bpfdb_options.specs.declared.subcommand.Subcommand.TheVariants.{Origi
 use Rattle.counted_io.specs.Lines.{lines}
 
 -- a machine that has run, from the opening of the job
-module _ (job : Job) (old new : Moment EntryRing) (n : ℕ) (start : IsStart job old) (steps : n ≡ plain_steps job.options.limit old.state)
+module _ (job : Job) (old new : Moment RingKeeper) (n : ℕ) (start : IsStart job old) (steps : n ≡ plain_steps job.options.limit old.state)
     (state : new.state ≡ plain_end job.options.limit old.state)
     (kept : (h : List Record) → StandsFor RingHolds old.keeper old.state h
     → StandsFor RingHolds new.keeper new.state (history_after (ring_room old.keeper) n old.state h)) where
@@ -53,7 +53,7 @@ module _ (job : Job) (old new : Moment EntryRing) (n : ℕ) (start : IsStart job
   }
 
 -- a session that has obeyed the job's script, from its opening
-module _ (job : Job) (script : Bor (List ℕ)) (given : job.script ≡ Some script) (old new : SessionValue EntryRing) (start : IsOpening job old) where
+module _ (job : Job) (script : Bor (List ℕ)) (given : job.script ≡ Some script) (old new : SessionValue RingKeeper) (start : IsOpening job old) where
   abbrev begins : Point
   begins = (start_of job start.code).point
 
@@ -67,7 +67,7 @@ module _ (job : Job) (script : Bor (List ℕ)) (given : job.script ≡ Some scri
       ∙ ap (λ (s : Option (Bor (List ℕ))). arrival s job.options (initial start.code job.context.now)) (sym given)
 
   -- it stands where it is asked
-  pub script-arrives : (moves : ℕ) (moment : Moment EntryRing) → (moment.state ≡ new.moment.state) → (moment.keeper ≡ new.moment.keeper)
+  pub script-arrives : (moves : ℕ) (moment : Moment RingKeeper) → (moment.state ≡ new.moment.state) → (moment.keeper ≡ new.moment.keeper)
       → ((t : Track) → ObeysScript old new t (lines script.now) 0 (Ok moves)) → HasArrived job moment moves
   script-arrives moves moment state keeper obeys =
       let o = obeys (track_at begins) past in
@@ -91,7 +91,7 @@ abbrev question : Job → List Record → ℕ → Question
 question job h n = record { addresses = job.options.addresses; lines = job.options.lines; opening = length h == n }
 
 -- a machine where it is asked
-module _ (job : Job) (moment : Moment EntryRing) (n : ℕ) (a : HasArrived job moment n) where
+module _ (job : Job) (moment : Moment RingKeeper) (n : ℕ) (a : HasArrived job moment n) where
   -- the answer about it is printed
   pub origin-prints : (q : Question) (what : Option What) (parts : List Part) → q ≡ question job a.at.point.history n
       → Asks job.options.what moment.state what → parts ≡ parts_asked moment.state what

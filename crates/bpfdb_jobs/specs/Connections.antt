@@ -2,7 +2,7 @@
 use Rattle.std.specs.Prelude.{ℕ, List, Option}
 use Rattle.bpf_isa.specs.Programs.{Checked}
 use Rattle.bpf_journal.specs.Tracks.{RingHolds, ring_room}
-use Rattle.bpf_ring.specs.declared.entries.EntryRing.{EntryRing}
+use Rattle.bpf_ring.specs.declared.keeper.RingKeeper.{RingKeeper}
 use Rattle.bpf_remote.specs.Serving.{Breaks, Ends, Serves}
 use Rattle.bpf_remote.specs.declared.layout.Layout.{Layout}
 use Rattle.bpf_remote.specs.declared.layout.Layout.TheVariants as layout
@@ -22,16 +22,16 @@ layout_of registers.X86 = layout.X86
 layout_of registers.Riscv = layout.Riscv
 
 -- A ring refuses no push.
-abbrev pub ring_refusals : EntryRing → ℕ
+abbrev pub ring_refusals : RingKeeper → ℕ
 ring_refusals ring = 0
 
 -- A session stands where one of the job begins.
-abbrev pub Begins : Job → Checked → SessionValue EntryRing → Type 0
+abbrev pub Begins : Job → Checked → SessionValue RingKeeper → Type 0
 Begins job code session = HasStanding RingHolds ring_refusals ring_room session (start_of job code)
 
 -- What was known of the streams and of the session before it was served and after it.
-abbrev pub ends : {R W : Type 0} → Job → SessionValue EntryRing → SessionValue EntryRing → Tally R → Tally R → Tally W → Tally W
-    → Ends EntryRing R W
+abbrev pub ends : {R W : Type 0} → Job → SessionValue RingKeeper → SessionValue RingKeeper → Tally R → Tally R → Tally W → Tally W
+    → Ends RingKeeper R W
 ends job from to reader reader' writer writer' = record {
   gdb = layout_of job.options.registers;
   from = from;
@@ -45,14 +45,14 @@ ends job from to reader reader' writer writer' = record {
 module _ {R W : Type 0} (remaining : R → Option (List ℕ)) (contents : W → Option (List ℕ)) (job : Job) (reader reader' : Tally R) (writer writer' : Tally W) where
   -- It was served to the connection's end.
   pub record ServesConnection (code : Checked) : Type 0 where
-    pub from : SessionValue EntryRing
-    pub to : SessionValue EntryRing
+    pub from : SessionValue RingKeeper
+    pub to : SessionValue RingKeeper
     pub begins : Begins job code from
     pub serves : Serves RingHolds ring_refusals ring_room remaining contents (ends job from to reader reader' writer writer')
 
   -- It was served until a read or a write failed.
   pub record BreaksConnection (code : Checked) (why : RunFault) : Type 0 where
-    pub from : SessionValue EntryRing
-    pub to : SessionValue EntryRing
+    pub from : SessionValue RingKeeper
+    pub to : SessionValue RingKeeper
     pub begins : Begins job code from
     pub breaks : Breaks RingHolds ring_refusals ring_room remaining contents why (ends job from to reader reader' writer writer')

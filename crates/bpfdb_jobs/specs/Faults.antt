@@ -12,7 +12,7 @@ use Rattle.bpf_link.specs.declared.sources.Source.{Source}
 use Rattle.bpf_suite.specs.Faults.{section_fault}
 use Rattle.bpf_text.specs.Faults.{asm_fault, fault_line}
 use Rattle.bpf_machine.specs.Opening.{open_fault}
-use Rattle.bpf_journal.specs.Opening.{journal_fault}
+use Rattle.bpf_ring.specs.Opening.{journal_fault}
 use Rattle.bpf_origin.specs.Asked.{what_fault}
 use Rattle.bpf_trace.specs.Traces.{limit_line}
 use Rattle.bpfdb_commands.specs.Refusals as commands

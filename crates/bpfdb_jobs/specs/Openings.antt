@@ -4,7 +4,7 @@ use Rattle.bpf_isa.specs.Programs.{Checked}
 use Rattle.bpf_journal.specs.Histories.{StandsFor}
 use Rattle.bpf_journal.specs.Timelines.{Moment}
 use Rattle.bpf_journal.specs.Tracks.{RingHolds, ring_room}
-use Rattle.bpf_ring.specs.declared.entries.EntryRing.{EntryRing}
+use Rattle.bpf_ring.specs.declared.keeper.RingKeeper.{RingKeeper}
 use Rattle.bpf_machine.specs.State.{initial}
 use Rattle.bpf_session.specs.Sessions.{SessionValue}
 use Rattle.bpfdb_jobs.specs.Connections.{Begins}
@@ -13,13 +13,13 @@ use Rattle.bpfdb_jobs.specs.Origins.{Arrival}
 use Rattle.bpfdb_jobs.specs.declared.job.Job.{Job}
 
 -- It has the job's program, and stands where one of the job begins.
-pub record IsOpening (job : Job) (session : SessionValue EntryRing) : Type 0 where
+pub record IsOpening (job : Job) (session : SessionValue RingKeeper) : Type 0 where
   pub code : Checked
   pub opens : OpensSession job code
   pub begins : Begins job code session
 
 -- It stands at the opening of the job's program, and its journal of the job's size is empty.
-pub record IsStart (job : Job) (moment : Moment EntryRing) : Type 0 where
+pub record IsStart (job : Job) (moment : Moment RingKeeper) : Type 0 where
   pub code : Checked
   pub opens : OpensSession job code
   pub state : moment.state ≡ initial code job.context.now
@@ -27,7 +27,7 @@ pub record IsStart (job : Job) (moment : Moment EntryRing) : Type 0 where
   pub room : ring_room moment.keeper ≡ job.options.journal
 
 -- It stands where `origin` asks of the job, behind so many moves.
-pub record HasArrived (job : Job) (moment : Moment EntryRing) (moves : ℕ) : Type 0 where
+pub record HasArrived (job : Job) (moment : Moment RingKeeper) (moves : ℕ) : Type 0 where
   pub code : Checked
   pub at : Arrival
   pub opens : OpensSession job code

@@ -16,7 +16,7 @@ use Rattle.bpf_suite.specs.Tests.{chosen}
 use Rattle.bpf_suite.specs.declared.section.Section.{Section}
 use Rattle.bpf_suite.specs.declared.fault.FileFault.TheVariants.{Line}
 use Rattle.bpf_machine.specs.Opening.{Refused}
-use Rattle.bpf_journal.specs.Opening.{RefusesSize}
+use Rattle.bpf_ring.specs.Opening.{RefusesSize}
 use Rattle.bpfdb_jobs.specs.Jobs.{HasMaps, HasWords, IsProgramOf, Opens, OpensSession, arrival_of, entry_of, section_of, stubs_of}
 use Rattle.bpfdb_jobs.specs.Origins.{Arrival, RefusesWhat}
 use Rattle.bpfdb_jobs.specs.declared.job.Job.{Job}

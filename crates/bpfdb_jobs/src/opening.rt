@@ -11,7 +11,7 @@ ghost use Rattle.bpfdb_limits.specs.Limits.{IsLimit};
 use crate::job::Job;
 use crate::refusal::JobRefusal;
 use bpf_isa::{MapTable, Program, check};
-use bpf_journal::{EntryRing, Timeline, open_ring};
+use bpf_journal::{RingKeeper, Timeline};
 use bpf_machine::Cpu;
 use bpf_session::Session;
 use bpf_text::assemble;
@@ -99,7 +99,10 @@ pub fn machine_of(alloc: Global, job: &Job<'_>) -> Result<Cpu, JobRefusal<'stati
 }
 
 /// A machine before its first step, with an empty journal.
-pub fn timeline_of(alloc: Global, job: &Job<'_>) -> Result<Timeline<EntryRing>, JobRefusal<'static>>
+pub fn timeline_of(
+    alloc: Global,
+    job: &Job<'_>,
+) -> Result<Timeline<RingKeeper>, JobRefusal<'static>>
     ensures ok { IfOk result (IsStart job.now) }
     ensures runs { IfOk result (λ timeline. has_ended timeline.state.status ≡ false) }
     ensures err { IfErr result (Refuses job.now) }
@@ -108,14 +111,14 @@ pub fn timeline_of(alloc: Global, job: &Job<'_>) -> Result<Timeline<EntryRing>, 
         Ok(cpu) => cpu,
         Err(refusal) => return Err(refusal),
     };
-    match open_ring(alloc, job.options.journal as usize) {
+    match RingKeeper::open(alloc, job.options.journal as usize) {
         Ok(keeper) => Ok(Timeline::start(cpu, keeper)),
         Err(fault) => Err(JobRefusal::Journal(fault)),
     }
 }
 
 /// A session before its first command.
-pub fn session_of(alloc: Global, job: &Job<'_>) -> Result<Session<EntryRing>, JobRefusal<'static>>
+pub fn session_of(alloc: Global, job: &Job<'_>) -> Result<Session<RingKeeper>, JobRefusal<'static>>
     requires limit { IsLimit job.now.options.limit }
     ensures ok { IfOk result (IsOpening job.now) }
     ensures err { IfErr result (Refuses job.now) }
@@ -125,11 +128,11 @@ pub fn session_of(alloc: Global, job: &Job<'_>) -> Result<Session<EntryRing>, Jo
         Err(refusal) => return Err(refusal),
     };
     let size = job.options.journal as usize;
-    let keeper = match open_ring(alloc, size) {
+    let keeper = match RingKeeper::open(alloc, size) {
         Ok(keeper) => keeper,
         Err(fault) => return Err(JobRefusal::Journal(fault)),
     };
-    let redo = match open_ring(alloc, size) {
+    let redo = match RingKeeper::open(alloc, size) {
         Ok(redo) => redo,
         Err(why) => return Err(JobRefusal::Journal(why)),
     };

@@ -17,7 +17,7 @@ use crate::opening::{session_of, timeline_of};
 use crate::refusal::JobRefusal;
 use crate::report::give_up;
 use crate::script::obey_script;
-use bpf_journal::{EntryRing, Keeper, Timeline};
+use bpf_journal::{Keeper, RingKeeper, Timeline};
 use bpf_machine::Cpu;
 use bpf_origin::{Extent, Part, Parts, Question, Told, What, WhatFault, parts_asked, put_answer};
 use bpf_session::run_kept;
@@ -29,7 +29,7 @@ use std::io::Write;
 /// A machine with its journal, where it is asked.
 #[derive(Drop)]
 struct Arrived {
-    timeline: Timeline<EntryRing>,
+    timeline: Timeline<RingKeeper>,
     /// How many moves lie before its state, kept or not.
     moves: u64,
 }

@@ -8,7 +8,7 @@ ghost use Rattle.bpfdb_jobs.specs.Obeying.{ObeysCommand, ObeysLine, ObeysScript}
 ghost use Rattle.bpfdb_jobs.specs.Origins.{Arrival};
 ghost use Rattle.counted_io.specs.Lines.{lines};
 
-use bpf_journal::EntryRing;
+use bpf_journal::RingKeeper;
 use bpf_remote::moves_after;
 use bpf_session::Session;
 use bpf_session::laws::no_answer_is_of_memory;
@@ -17,7 +17,7 @@ use bpfdb_commands::{Command, Refusal, parse_command};
 /// Obeys the lines of a script one after another, up to its end, the first `quit` or the first line
 /// that is refused. Answers how many moves then lie before the session's state, where none did
 /// before, or the refusal.
-pub fn obey_script(session: &mut Session<EntryRing>, script: &[u8]) -> Result<u64, Refusal>
+pub fn obey_script(session: &mut Session<RingKeeper>, script: &[u8]) -> Result<u64, Refusal>
     ensures { (t : Track) →
         ObeysScript session.old session.new t (lines script.now) 0 result }
 {
@@ -67,7 +67,7 @@ fn line_feed(text: &[u8]) -> Option<usize>
 /// Obeys a line behind so many moves. Answers how many there are then, None where it ends the
 /// script, or why it is refused.
 fn obey_line(
-    session: &mut Session<EntryRing>,
+    session: &mut Session<RingKeeper>,
     line: &[u8],
     moves: u64,
 ) -> Result<Option<u64>, Refusal>
@@ -84,7 +84,7 @@ fn obey_line(
 
 /// Obeys a command, as `obey_line` does its line.
 fn obey_command(
-    session: &mut Session<EntryRing>,
+    session: &mut Session<RingKeeper>,
     command: &Command,
     moves: u64,
 ) -> Result<Option<u64>, Refusal>
@@ -92,7 +92,7 @@ fn obey_command(
         ObeysCommand session.old session.new t command.now moves on result }
     ensures bounds { bounds_of ring_room session.new ≡ bounds_of ring_room session.old }
 {
-    no_answer_is_of_memory::<EntryRing>();
+    no_answer_is_of_memory::<RingKeeper>();
     if is_quit(command) {
         return Ok(None);
     }

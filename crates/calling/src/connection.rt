@@ -1,6 +1,6 @@
 //! A session is served to gdb over any reader and any writer.
 use bpf_isa::{MapTable, check};
-use bpf_journal::open_ring;
+use bpf_journal::RingKeeper;
 use bpf_machine::Cpu;
 use bpf_remote::{Layout, serve};
 use bpf_session::{Counted, Session};
@@ -16,11 +16,11 @@ fn a_step_is_served(rt: HostRuntime) {
     let program = check(alloc, &WORDS, &MapTable::empty());
     let program = program.expect(&rt, "no program");
     let cpu = Cpu::open(alloc, program, b"").expect(&rt, "no machine");
-    let ring = match open_ring(alloc, 65_536) {
+    let ring = match RingKeeper::open(alloc, 65_536) {
         Ok(ring) => ring,
         Err(fault) => panic!(&rt; "{fault}"),
     };
-    let redo = match open_ring(alloc, 65_536) {
+    let redo = match RingKeeper::open(alloc, 65_536) {
         Ok(redo) => redo,
         Err(fault) => panic!(&rt; "{fault}"),
     };

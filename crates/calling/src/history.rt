@@ -1,6 +1,6 @@
 //! A timeline is a machine with a journal of its moves.
 use bpf_isa::{MapTable, check};
-use bpf_journal::{Timeline, open_ring};
+use bpf_journal::{RingKeeper, Timeline};
 use bpf_machine::Cpu;
 
 /// mov r0, 40; stb [r10-8], 7; exit.
@@ -14,7 +14,7 @@ fn a_history_is_walked_back(rt: HostRuntime) {
     let program = check(alloc, &WORDS, &MapTable::empty());
     let program = program.expect(&rt, "no program");
     let cpu = Cpu::open(alloc, program, b"").expect(&rt, "no machine");
-    let mut timeline = match open_ring(alloc, 65_536) {
+    let mut timeline = match RingKeeper::open(alloc, 65_536) {
         Ok(ring) => Timeline::start(cpu, ring),
         Err(_) => panic!(&rt; "no memory"),
     };

@@ -1,6 +1,6 @@
 //! A session runs a script over any reader and any writer.
 use bpf_isa::{MapTable, check};
-use bpf_journal::open_ring;
+use bpf_journal::RingKeeper;
 use bpf_machine::Cpu;
 use bpf_session::{Counted, Session, run};
 
@@ -15,11 +15,11 @@ fn a_script_is_run(rt: HostRuntime) {
     let program = check(alloc, &WORDS, &MapTable::empty());
     let program = program.expect(&rt, "no program");
     let cpu = Cpu::open(alloc, program, b"").expect(&rt, "no machine");
-    let ring = match open_ring(alloc, 65_536) {
+    let ring = match RingKeeper::open(alloc, 65_536) {
         Ok(ring) => ring,
         Err(fault) => panic!(&rt; "{fault}"),
     };
-    let redo = match open_ring(alloc, 65_536) {
+    let redo = match RingKeeper::open(alloc, 65_536) {
         Ok(redo) => redo,
         Err(fault) => panic!(&rt; "{fault}"),
     };

@@ -3,7 +3,7 @@ use crate::NOT_REACHED;
 use crate::sessions::list_session;
 use crate::telling::{refuse, say_number, tell_failure};
 use bpf_isa::{MapTable, check};
-use bpf_journal::{Keeper, ListKeeper};
+use bpf_journal::{Keeper, ListKeeper, RingKeeper};
 use bpf_machine::Cpu;
 use bpf_session::{Count, Session, run};
 use counted_io::Counted;
@@ -74,13 +74,13 @@ pub fn open_list<W: Write, E: Write>(
     }
 }
 
-/// `bpf_journal::open_ring`: the size.
+/// `RingKeeper::open`: the size.
 pub fn open_ring<W: Write, E: Write>(
     alloc: Global,
     output: &mut Counted<W>,
     errors: &mut Counted<E>,
 ) -> u8 {
-    match bpf_journal::open_ring(alloc, SIZE) {
+    match RingKeeper::open(alloc, SIZE) {
         Ok(keeper) => say_number(output, keeper.capacity()),
         Err(fault) => refuse(errors, "J", fault.number(), fault.text()),
     }

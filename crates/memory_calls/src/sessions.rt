@@ -12,7 +12,7 @@ ghost use Rattle.bpf_journal.specs.Tracks.{RingHolds, ring_room};
 use crate::NOT_REACHED;
 use crate::telling::tell_failure;
 use bpf_isa::{MapTable, Program, check};
-use bpf_journal::{EntryRing, Keeper, ListKeeper, open_ring};
+use bpf_journal::{Keeper, ListKeeper, RingKeeper};
 use bpf_machine::Cpu;
 use bpf_session::{Count, RunFault, Session, run};
 use bpfdb_files::{FileKind, read_kind};
@@ -122,11 +122,11 @@ fn machine(rt: &HostRuntime, words: &[String]) -> Option<Cpu> {
 }
 
 /// An empty ring for the moves that will be taken back from a keeper.
-fn ring_for<K: Keeper>(alloc: Global, keeper: &K) -> Option<EntryRing>
+fn ring_for<K: Keeper>(alloc: Global, keeper: &K) -> Option<RingKeeper>
     ensures empty { IfSome result (λ ring. RingHolds ring []) }
     ensures size { IfSome result (λ ring. ring_room ring ≡ K.room keeper.now) }
 {
-    match open_ring(alloc, keeper.capacity()) {
+    match RingKeeper::open(alloc, keeper.capacity()) {
         Ok(ring) => Some(ring),
         Err(_) => None,
     }
@@ -154,8 +154,8 @@ pub fn list_session(
 }
 
 /// A session over a ring.
-fn ring_session(alloc: Global, cpu: Cpu, size: usize, limit: Count) -> Option<Session<EntryRing>> {
-    match open_ring(alloc, size) {
+fn ring_session(alloc: Global, cpu: Cpu, size: usize, limit: Count) -> Option<Session<RingKeeper>> {
+    match RingKeeper::open(alloc, size) {
         Ok(keeper) => opened(alloc, cpu, keeper, limit),
         Err(_) => None,
     }
@@ -183,21 +183,21 @@ fn again<K: Keeper + Drop>(alloc: Global, session: Session<K>, limit: Count) -> 
 }
 
 /// A keeper of the ring that another one gives up.
-fn put_back(cpu: &Cpu, keeper: EntryRing) -> EntryRing
-    requires { HasHistory ⟦<EntryRing as Keeper>⟧.holds keeper cpu.now }
-    ensures { HasHistory ⟦<EntryRing as Keeper>⟧.holds result cpu.now }
+fn put_back(cpu: &Cpu, keeper: RingKeeper) -> RingKeeper
+    requires { HasHistory ⟦<RingKeeper as Keeper>⟧.holds keeper cpu.now }
+    ensures { HasHistory ⟦<RingKeeper as Keeper>⟧.holds result cpu.now }
 {
     let _cpu = cpu;
-    let ring = keeper.into_buffer();
-    EntryRing::from_buffer(ring)
+    let ring = keeper.into_ring();
+    RingKeeper::from_ring(ring)
 }
 
 /// The session over the machine and the ring of another one.
 fn ring_again(
     alloc: Global,
-    session: Session<EntryRing>,
+    session: Session<RingKeeper>,
     limit: Count,
-) -> Option<Session<EntryRing>> {
+) -> Option<Session<RingKeeper>> {
     let (cpu, keeper) = session.close();
     let keeper = put_back(&cpu, keeper);
     opened(alloc, cpu, keeper, limit)
@@ -220,11 +220,11 @@ fn play_in_list<W: Write>(
 /// Plays a line over a ring: the session that follows, or the fault.
 fn play_in_ring<W: Write>(
     alloc: Global,
-    mut session: Session<EntryRing>,
+    mut session: Session<RingKeeper>,
     limit: Count,
     line: &str,
     output: &mut Counted<W>,
-) -> Option<Result<Session<EntryRing>, RunFault>> {
+) -> Option<Result<Session<RingKeeper>, RunFault>> {
     match run(&mut session, &mut Counted::new(line.as_bytes()), output) {
         Ok(()) => Some(Ok(ring_again(alloc, session, limit)?)),
         Err(fault) => Some(Err(fault)),
@@ -252,7 +252,7 @@ fn play_lists<W: Write>(
 /// Plays lines over a ring, each in a session of its own.
 fn play_rings<W: Write>(
     alloc: Global,
-    mut session: Session<EntryRing>,
+    mut session: Session<RingKeeper>,
     limit: Count,
     text: &str,
     output: &mut Counted<W>,

@@ -10,7 +10,7 @@ use crate::journal::walks::entries;
 use crate::keepers::{list, oldest, ring};
 use crate::machines::machine;
 use crate::stops::{check_text, cut, kept, stop_unless};
-use bpf_journal::{Course, EntryRing, Keeper, ListKeeper, Timeline};
+use bpf_journal::{Course, Keeper, ListKeeper, RingKeeper, Timeline};
 use bpf_machine::Cpu;
 use bpf_testing::Random;
 use std::alloc::Global;
@@ -20,7 +20,7 @@ use std::process::Abort;
 #[derive(Drop)]
 struct Pair {
     list: Course<ListKeeper>,
-    ring: Course<EntryRing>,
+    ring: Course<RingKeeper>,
 }
 
 /// Two machines with a program, a map of two values of 256 bytes, a context of 8 bytes, and empty
@@ -48,7 +48,7 @@ fn started(rt: &impl Abort, alloc: Global, program: &str) -> Cpu {
 }
 
 /// The bytes of a ring, the oldest first.
-fn ring_bytes(rt: &impl Abort, alloc: Global, keeper: &EntryRing) -> Vec<u8> {
+fn ring_bytes(rt: &impl Abort, alloc: Global, keeper: &RingKeeper) -> Vec<u8> {
     oldest(rt, alloc, keeper, keeper.capacity().saturating_add(1))
 }
 
@@ -158,7 +158,7 @@ fn goes_around(rt: &impl Abort, alloc: Global, line: &str, size: usize, gap: usi
 }
 
 /// The weight of the newest entry of a ring.
-fn newest_weight(keeper: &EntryRing) -> usize {
+fn newest_weight(keeper: &RingKeeper) -> usize {
     match keeper.last() {
         Some((entry, _)) => entry.weight(),
         None => 0,
@@ -213,13 +213,13 @@ fn each_step_of_a_run_goes_around_the_end(rt: HostRuntime) {
 }
 
 /// A keeper of the ring that another one gives up.
-fn put_back(cpu: &Cpu, keeper: EntryRing) -> EntryRing
-    requires { HasHistory ⟦<EntryRing as Keeper>⟧.holds keeper cpu.now }
-    ensures { HasHistory ⟦<EntryRing as Keeper>⟧.holds result cpu.now }
+fn put_back(cpu: &Cpu, keeper: RingKeeper) -> RingKeeper
+    requires { HasHistory ⟦<RingKeeper as Keeper>⟧.holds keeper cpu.now }
+    ensures { HasHistory ⟦<RingKeeper as Keeper>⟧.holds result cpu.now }
 {
     let _cpu = cpu;
-    let ring = keeper.into_buffer();
-    EntryRing::from_buffer(ring)
+    let ring = keeper.into_ring();
+    RingKeeper::from_ring(ring)
 }
 
 /// The course of a machine and a keeper whose newest move a timeline takes back. No move of it can

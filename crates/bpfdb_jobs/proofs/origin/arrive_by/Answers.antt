@@ -1,5 +1,5 @@
 use Rattle.std.proofs.Common.{◌∙◌, ap}
-use Rattle.bpf_ring.specs.declared.entries.EntryRing.{EntryRing}
+use Rattle.bpf_ring.specs.declared.keeper.RingKeeper.{RingKeeper}
 use Rattle.bpf_machine.specs.State.{State}
 use Rattle.bpfdb_jobs.proofs.Originating.{script-arrives, script-refuses}
 use Rattle.bpfdb_jobs.proofs.Refusing.{session-origin}
@@ -17,6 +17,6 @@ pub returns-clause-ok : goal.returns-clause-ok
 returns-clause-ok c =
     script-arrives c.args.job.now c.args.script c.requires.script c.in-Ok.session c.obey_script.new.session c.in-Ok.ensures.ok
     c.in-Ok-obey_script.moves c.open.result
-    (c.open.ensures.state ∙ ap (λ (pair : State × EntryRing). pair.0) c.close-cpu.ensures.same)
-    (c.open.ensures.keeper ∙ ap (λ (pair : State × EntryRing). pair.1) c.close-cpu.ensures.same)
+    (c.open.ensures.state ∙ ap (λ (pair : State × RingKeeper). pair.0) c.close-cpu.ensures.same)
+    (c.open.ensures.keeper ∙ ap (λ (pair : State × RingKeeper). pair.1) c.close-cpu.ensures.same)
     c.in-Ok-obey_script.ensures

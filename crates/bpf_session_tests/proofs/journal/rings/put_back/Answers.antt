@@ -8,5 +8,5 @@ returns c =
     let held = past.stands.0 in
     record {
       history = past.history;
-      stands = (c.from_buffer.ensures.held (map kept_of past.history) held.fit (c.into_buffer-ring.ensures.bytes ∙ held.bytes), past.stands.1);
+      stands = (c.from_ring.ensures.held (map kept_of past.history) held.fit (c.into_ring-ring.ensures.bytes ∙ held.bytes), past.stands.1);
     }
