@@ -2,7 +2,7 @@
 # The table of crates in docs/ARCHITECTURE.md and those of files in docs/FILES.md, made from crates.txt and from the first sentence of each file, and
 # the code in docs/CALLING.md with the crates that it uses, and the definitions in docs/HEADLINE.md; and the tables of commands in README.md, in the
 # help of `bpfdb debug` and in share/bpfdb-shell, made from docs/commands.txt. 'docs/tables.sh' writes them anew; 'docs/tables.sh --check' fails
-# where a page and the files differ.
+# where a page and the files differ. How many definitions the headline rests on is counted by docs/rests.py, where there is a python3.
 #
 # A table stands between the lines '<!-- docs/tables.sh: NAME -->' and '<!-- docs/tables.sh: end -->' of a page, a whole file of
 # code between such lines with 'code FILE' for NAME, and definitions of a file of specs/ with 'definitions FILE NAME..'. A file of
@@ -207,6 +207,11 @@ page() {
             while ((getline line < (work "/" $3)) > 0) print line
             close(work "/" $3)
         }
+        # (where nothing was counted the rows stay as they are)
+        /^<!-- docs\/tables\.sh: rests -->$/ {
+            while ((getline line < (work "/rests")) > 0) { inside = 1; print line }
+            close(work "/rests")
+        }
         # the definitions of these names in a file, each with the comment above it; between two of them is an empty line
         function define(file, names,    text, block, line, n, words, i) {
             n = split(names, words, " ")
@@ -258,6 +263,7 @@ list_crates > "$work/crates"
 list_commands > "$work/commands"
 help_commands > "$work/help"
 stands_apart
+! command -v python3 > /dev/null || python3 docs/rests.py bpfdb_jobs.Done.Debugs > "$work/rests" || fault 'docs/rests.py'
 for file in README.md docs/ARCHITECTURE.md docs/FILES.md docs/CALLING.md docs/HEADLINE.md; do
     page "$file" > "$work/page"
     hold "${1:-}" "$file"
