@@ -124,14 +124,14 @@ nothing-refused-nothing-missing (Some m ∷ gaps) n b (line ∷ lines) p low sam
 -- ---- going back
 
 -- records with marks, and those of steps
-abbrev marked : Test
+abbrev pub marked : Test
 marked r y = r.mark
 
 abbrev stepped : Test
 stepped r y = is_step r.move
 
 -- the history of k steps where none is dropped
-abbrev told : ℕ → Point → List Record
+abbrev pub told : ℕ → Point → List Record
 told zero p = p.history
 told (suc k) p = record_of (state_after k p.state) Step (k == 0) ∷ told k p
 
@@ -145,7 +145,7 @@ fit-at-most weigh room (r ∷ h) = at (nat_le (weigh r) room) (fit-at-most weigh
     at true rest = omega arith
     at false rest = omega arith
 
-fit-whole : (weigh : Record → ℕ) (room : ℕ) (h : List Record) → length (fit weigh room h) ≡ length h → fit weigh room h ≡ h
+pub fit-whole : (weigh : Record → ℕ) (room : ℕ) (h : List Record) → length (fit weigh room h) ≡ length h → fit weigh room h ≡ h
 unfolding fit
 fit-whole weigh room [] e = refl
 fit-whole weigh room (r ∷ h) e = at (nat_le (weigh r) room) e (fit-whole weigh (room - weigh r) h)
@@ -161,7 +161,7 @@ kept-at-most room (suc k) p =
     let i = kept-at-most room k p in
     omega arith
 
-kept-told : (room k : ℕ) (p : Point) → length (kept room k p) ≡ k + length p.history → kept room k p ≡ told k p
+pub kept-told : (room k : ℕ) (p : Point) → length (kept room k p) ≡ k + length p.history → kept room k p ≡ told k p
 kept-told room zero p e = refl
 kept-told room (suc k) p e =
     let r = record_of (state_after k p.state) Step (k == 0) in
@@ -169,16 +169,16 @@ kept-told room (suc k) p e =
     let i = kept-at-most room k p in
     fit-whole record_weight room (r ∷ kept room k p) (omega arith) ∙ ap (λ (xs : List Record). r ∷ xs) (kept-told room k p (omega arith))
 
-drop-told : (k : ℕ) (p : Point) → drop k (told k p) ≡ p.history
+pub drop-told : (k : ℕ) (p : Point) → drop k (told k p) ≡ p.history
 drop-told zero p = refl
 drop-told (suc k) p = drop-told k p
 
-oldest-told : (k : ℕ) (p : Point) (y : State) → state_before (suc k) (told (suc k) p) y ≡ p.state
+pub oldest-told : (k : ℕ) (p : Point) (y : State) → state_before (suc k) (told (suc k) p) y ≡ p.state
 oldest-told zero p y = refl
 oldest-told (suc k) p y = oldest-told k p (state_after (suc k) p.state)
 
 -- k steps from a point
-abbrev gone-told : ℕ → Point → Point
+abbrev pub gone-told : ℕ → Point → Point
 gone-told k p = record p { history = told k p; ahead = still_ahead k p.ahead; state = state_after k p.state }
 
 back-told : (k : ℕ) (p : Point) → 1 ≤ k → without_ahead (back_by k (gone-told k p)) ≡ without_ahead p
@@ -187,7 +187,7 @@ back-told (suc k) p some =
     ap (λ (h : List Record). record p { history = h; ahead = []; state = before_last (suc k) (gone-told (suc k) p) }) (drop-told k p)
     ∙ ap (λ (x : State). record p { ahead = []; state = x }) (oldest-told k p (state_after (suc k) p.state))
 
-marked-told : (k : ℕ) (p : Point) (y : State) → latest marked 1 (told (suc k) p) y ≡ Some (suc k)
+pub marked-told : (k : ℕ) (p : Point) (y : State) → latest marked 1 (told (suc k) p) y ≡ Some (suc k)
 marked-told zero p y = refl
 marked-told (suc k) p y = let e : (suc k == 0) ≡ false = grind (arith, nat_tests) in rw e (ap (option_map suc) (marked-told k p (state_after (suc k) p.state)))
 
@@ -232,7 +232,7 @@ reverse-told b later (suc k) p some =
     ∙ ap (λ (o : Option ℕ). without_ahead (back_by (unwrap_or o (length (told (suc k) p))) (gone-told (suc k) p))) (stepped-told k p (state_after (suc k) p.state)) ∙ back-told (suc k) p some)
 
 -- what a forward command leaves that says how many steps it took
-cut-point : (gap : Option ℕ) (room n k : ℕ) (because why : Why) (p : Point) → 1 ≤ n → (cut gap room n because p).answer ≡ Ok (Forward k why) → ((cut gap room n because p).point ≡ gone room k p) × (1 ≤ k)
+pub cut-point : (gap : Option ℕ) (room n k : ℕ) (because why : Why) (p : Point) → 1 ≤ n → (cut gap room n because p).answer ≡ Ok (Forward k why) → ((cut gap room n because p).point ≡ gone room k p) × (1 ≤ k)
 cut-point None room n k because why p some e = let s : n ≡ k = cc in (ap (λ j. gone room j p) s, omega arith)
 cut-point (Some m) room n k because why p some e = test (nat_lt m n) (m == 0) refl e
   where

@@ -13,6 +13,7 @@ pub mod Obeying
 pub mod RedoLaws
 pub mod Redoing
 pub mod Running
+mod Undone
 pub mod Watching
 pub mod WatchRuns
 mod WholeScripts

@@ -1,6 +1,6 @@
 -- The law that nothing is lost: going back and making again lose no move, new moves begin anew, and making all again gives all back.
 use Rattle.std.specs.Prelude.{if◌then◌else◌, nat_lt, ◌==◌, ◌⊎◌, ◌&&◌, ◌-◌, is_some, min, is_ok, nat_le}
-use Rattle.std.proofs.Common.{◌≡◌, ◌≤◌, inl, inr, ℕ, zero, suc, Bool, true, false, List, [], ◌∷◌, ◌++◌, Option, Some, None, length, take, drop, reverse, refl, sym, ap, subst, ◌∙◌, arith}
+use Rattle.std.proofs.Common.{◌≡◌, ◌≤◌, inl, inr, ℕ, zero, suc, Bool, true, false, List, [], ◌∷◌, ◌++◌, Option, Some, None, Ok, Err, length, take, drop, reverse, refl, sym, ap, subst, ◌∙◌, arith}
 use Rattle.std.proofs.lemmas.Bool.Decides.{nat_tests}
 use Rattle.std.proofs.lemmas.List.{reverse-append, append_assoc}
 use Rattle.bpf_entries.specs.Keeping.{Kept, fit}
@@ -15,7 +15,9 @@ use Rattle.bpf_journal.specs.Timelines.{record_of}
 use Rattle.bpf_journal.specs.Tracks.{IsAhead}
 use Rattle.bpf_session.specs.Backward.{back, back_by, found, to_stop}
 use Rattle.bpf_session.specs.Forward.{kept, steps, stop, reason, taken, cut, forward}
-use Rattle.bpf_session.specs.Laws.{all_moves, last_state, LeadsTo, LeadsOn, IsPlaced, Given, outcome_of, after, is_new, after_new, NothingIsLost, SessionsArePlaced}
+use Rattle.bpf_session.specs.Laws.{all_moves, last_state, LeadsTo, LeadsOn, IsPlaced, Given, LosesNothing, outcome_of, after, commands_of, given_by, is_new, after_new, NothingIsLost, ScriptsLoseNothing, SessionsArePlaced}
+use Rattle.bpf_session.specs.Output.{Walk, after_effect, effect, effect_of, first_gap, is_quit, later_gaps, walk}
+use Rattle.bpfdb_commands.specs.Commands.{Answer, command_of}
 use Rattle.bpf_session.specs.Meaning.{accepted, does}
 use Rattle.bpf_session.specs.Outcomes.{Outcome, refused, replied, unless_refused}
 use Rattle.bpf_session.specs.Points.{Point, Bounds}
@@ -247,10 +249,39 @@ nothing-is-lost b gs p placed =
       since = s.since;
       moves = s.moves;
       last = s.last;
+      placed = s.placed;
       redo = λ count enough. redo-all b count q enough
           ∙ ap (λ (h : List Record). record q { history = h; ahead = []; state = last_state q }) s.moves
           ∙ ap (λ (x : State). record q { history = all_moves n; ahead = []; state = x }) s.last;
     }
+
+-- ---- scripts
+
+-- a command's effect and the commands of the lines after it
+given-last : (gap : Option ℕ) (b : Bounds) (answer : Answer) (lines : List (List ℕ)) (p : Point) (rest : Point → Walk) (more : List Given)
+    → ((q : Point) → (rest q).final ≡ after b more q)
+    → (after_effect (effect gap b answer p) lines (rest (effect gap b answer p).point)).final ≡ after b (given_by gap answer more) p
+given-last gap b (Ok None) lines p rest more same = same p
+given-last gap b (Err refusal) lines p rest more same = same p
+given-last gap b (Ok (Some c)) lines p rest more same = at (is_quit c)
+  where
+    at : (v : Bool)
+        → (let e = if v then record { text = []; point = p; gap = None; goes_on = false } else effect_of b (does gap b c p) in
+        (after_effect e lines (rest e.point)).final) ≡ after b (if v then [] else record { command = c; gap = gap } ∷ more) p
+    at true = refl
+    at false = same (does gap b c p).point
+
+final-after : (gaps : List (Option ℕ)) (b : Bounds) (lines : List (List ℕ)) (p : Point) → (walk gaps b lines p).final ≡ after b (commands_of gaps lines) p
+final-after gaps b [] p = refl
+final-after gaps b (line ∷ lines) p =
+    given-last (first_gap gaps) b (command_of line) lines p (walk (later_gaps gaps) b lines) (commands_of (later_gaps gaps) lines)
+    (final-after (later_gaps gaps) b lines)
+
+pub scripts-lose-nothing : ScriptsLoseNothing
+scripts-lose-nothing gaps b lines p placed =
+    let same = final-after gaps b lines p in
+    let given = commands_of gaps lines in
+    (same, subst (LosesNothing b p (after_new b given p p)) (sym same) (nothing-is-lost b given p placed))
 
 -- ---- sessions
 

@@ -2,10 +2,12 @@
 use Rattle.std.proofs.Common.{◌≡◌, ◌≢◌, ℕ, List, Option, Some, None, Result, Ok, Err, refl, sym, ap, subst, ◌∙◌, arith}
 use Rattle.bpf_entries.specs.Keeping.{Kept}
 use Rattle.counted_io.specs.Lines.{lines}
-use Rattle.bpf_session.specs.Laws.{EachMoveIsKept, NoAnswerIsOfMemory, NothingRefusedAllPrinted}
+use Rattle.bpf_session.specs.Laws.{EachMoveIsKept, KeepersAnswerAlike, NoAnswerIsOfMemory, NothingRefusedAllPrinted}
 use Rattle.bpf_session.specs.Output.{Walk}
 use Rattle.bpf_session.specs.Runs.{Leaves, Wrote, come_to, whole_walk}
-use Rattle.bpf_session.specs.Sessions.{StandsAt, gap_of, point_of, refusals_with}
+use Rattle.bpf_session.specs.Sessions.{SessionValue, StandsAt, gap_of, point_of, refusals_with, track_at}
+use Rattle.bpf_session.specs.Outcomes.{Outcome}
+use Rattle.bpf_session.specs.Points.{Point}
 use Rattle.bpf_session.proofs.CommandLaws.{nothing-refused-nothing-missing}
 use Rattle.bpf_session.specs.declared.reply.Reply.{Reply}
 use Rattle.bpf_session.specs.declared.reply.Reply.TheVariants.{Forward, Redone}
@@ -44,3 +46,21 @@ module _ {K : Type 0} (holds : K → List Kept → Type 0) (refused room : K →
         o.answered h past ∙ ap (λ (gap : Option ℕ). (meaning gap (point_of old h)).answer) none,
         subst (λ (gap : Option ℕ). StandsAt holds new (meaning gap (point_of old h)).point) none (o.stands h past),
       )
+
+module _ {K L : Type 0} (holds : K → List Kept → Type 0) (refused room : K → ℕ)
+    (holds' : L → List Kept → Type 0) (refused' room' : L → ℕ) where
+  -- what is meant at the point at which a session stands
+  abbrev means-there : {S : Type 0} (hold : S → List Kept → Type 0) → SessionValue S → (Option ℕ → Point → Outcome) → Result Reply Refusal → Point → Type 0
+  means-there hold new meaning answer p = (answer ≡ (meaning None p).answer) × StandsAt hold new (meaning None p).point
+
+  pub keepers-answer-alike : KeepersAnswerAlike holds refused room holds' refused' room'
+  keepers-answer-alike old new old' new' meaning answer answer' p stands obeys none stands' obeys' none' =
+      let here : means-there holds new meaning answer p = (
+        obeys.answered (track_at p) stands.1 ∙ ap (λ (gap : Option ℕ). (meaning gap (point_of old (track_at p))).answer) none ∙ ap (λ (q : Point). (meaning None q).answer) stands.0,
+        subst (λ (q : Point). StandsAt holds new (meaning None q).point) stands.0 (subst (λ (gap : Option ℕ). StandsAt holds new (meaning gap (point_of old (track_at p))).point) none (obeys.stands (track_at p) stands.1)),
+      ) in
+      let there : means-there holds' new' meaning answer' p = (
+        obeys'.answered (track_at p) stands'.1 ∙ ap (λ (gap : Option ℕ). (meaning gap (point_of old' (track_at p))).answer) none' ∙ ap (λ (q : Point). (meaning None q).answer) stands'.0,
+        subst (λ (q : Point). StandsAt holds' new' (meaning None q).point) stands'.0 (subst (λ (gap : Option ℕ). StandsAt holds' new' (meaning gap (point_of old' (track_at p))).point) none' (obeys'.stands (track_at p) stands'.1)),
+      ) in
+      (here.0 ∙ sym there.0, ((meaning None p).point, here.1, there.1))

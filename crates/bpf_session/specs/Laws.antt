@@ -16,8 +16,9 @@ use Rattle.bpf_session.specs.Meaning.{does}
 use Rattle.bpf_entries.specs.Keeping.{Kept}
 use Rattle.bpf_session.specs.Outcomes.{Outcome}
 use Rattle.bpf_session.specs.Runs.{Exchange, Prints, PrintsWhole, Standing}
-use Rattle.bpf_session.specs.Sessions.{HasPast, Obeys, SessionValue, StandsAt, point_of, refusals_after_all}
-use Rattle.bpf_session.specs.Output.{walk}
+use Rattle.bpf_session.specs.Sessions.{HasPast, Obeys, SessionValue, StandsAt, gap_of, point_of, refusals_after_all}
+use Rattle.bpf_session.specs.Output.{first_gap, is_quit, later_gaps, walk}
+use Rattle.bpfdb_commands.specs.Commands.{Answer, command_of}
 use Rattle.bpfdb_commands.specs.declared.command.Command.{Command}
 use Rattle.bpfdb_commands.specs.declared.command.Command.TheVariants as command
 use Rattle.bpfdb_commands.specs.declared.command.Goal.{Goal}
@@ -193,6 +194,48 @@ ReplayIsTheSame = (gap later : Option ℕ) (b : Bounds) (c : Command) (p : Point
     → (does gap b c p).answer ≡ Ok (Forward k why) → length (does gap b c p).point.history ≡ k + length p.history
     → does gap b c (does later b (command.Back (target.Steps k)) (does gap b c p).point).point ≡ does gap b c p
 
+-- A command that was given, and the gap of its moves: None where the keeper kept each of them.
+pub record Given : Type 0 where
+  pub command : Command
+  pub gap : Option ℕ
+
+abbrev pub outcome_of : Bounds → Given → Point → Outcome
+outcome_of b given p = does given.gap b given.command p
+
+-- The point after commands.
+abbrev pub after : Bounds → List Given → Point → Point
+after b [] p = p
+after b (given ∷ more) p = after b more (outcome_of b given p).point
+
+-- Whether a command that isn't refused makes new moves.
+abbrev pub is_new : Command → Bool
+is_new (command.Forward goal) = true
+is_new (command.Edit e) = true
+is_new _ = false
+
+-- How many moves a new command made, by its reply: as many steps as it says, or one edit.
+abbrev pub made : Reply → ℕ
+made (Forward k why) = k
+made _ = 1
+
+-- A command that was accepted and made new moves, and all of these and of those from before it are kept.
+pub record IsKept (b : Bounds) (given : Given) (p : Point) : Type 0 where
+  pub new : IsTrue (is_new given.command)
+  pub reply : Reply
+  pub accepted : (outcome_of b given p).answer ≡ Ok reply
+  pub kept : length (outcome_of b given p).point.history ≡ made reply + length p.history
+
+-- The same of commands, one after another.
+abbrev pub AllKept : Bounds → List Given → Point → Type 0
+AllKept b [] p = Unit {0}
+AllKept b (given ∷ more) p = IsKept b given p × AllKept b more (outcome_of b given p).point
+
+-- `undo` of as many commands as were given, forward commands and edits of which none dropped a move, gives back the point in front of
+-- the first of them.
+abbrev pub CommandsAreUndone : Type 0
+CommandsAreUndone = (later : Option ℕ) (b : Bounds) (given : Given) (more : List Given) (p : Point) → AllKept b (given ∷ more) p
+    → without_ahead (does later b (command.Back (target.Commands (1 + length more))) (after b (given ∷ more) p)).point ≡ without_ahead p
+
 -- `undo` of n gives back the point in front of the n-th last marked record that is kept, whatever commands made the records behind it.
 pub record GoesToTheMark (n : ℕ) (p q : Point) : Type 0 where
   pub newer : ℕ
@@ -227,25 +270,6 @@ LeadsOn x (r ∷ f) = (r.before ≡ x) × LeadsOn (moved x r.move) f
 abbrev pub IsPlaced : Point → Type 0
 IsPlaced p = LeadsTo p.history p.state × LeadsOn p.state p.ahead
 
--- A command that was given, and the gap of its moves: None where the keeper kept each of them.
-pub record Given : Type 0 where
-  pub command : Command
-  pub gap : Option ℕ
-
-abbrev pub outcome_of : Bounds → Given → Point → Outcome
-outcome_of b given p = does given.gap b given.command p
-
--- The point after commands.
-abbrev pub after : Bounds → List Given → Point → Point
-after b [] p = p
-after b (given ∷ more) p = after b more (outcome_of b given p).point
-
--- Whether a command that isn't refused makes new moves.
-abbrev pub is_new : Command → Bool
-is_new (command.Forward goal) = true
-is_new (command.Edit e) = true
-is_new _ = false
-
 -- The point after the last of them that made new moves: a forward command or an edit that was accepted; n where there is none.
 abbrev pub after_new : Bounds → List Given → Point → Point → Point
 after_new b [] p n = n
@@ -254,12 +278,13 @@ after_new b (given ∷ more) p n =
     after_new b more o.point (if is_new given.command && is_ok o.answer then o.point else n)
 
 -- From the point n, which p is or at which nothing had been taken back, no move was lost on the way to q: all moves and the last state are
--- those of n. `redo` of everything gives them back: they are the history and the state, nothing is left to be made again, and breakpoints
--- and watches stay as they are at q.
+-- those of n, and lead to q's state and on from it. `redo` of everything gives them back: they are the history and the state, nothing is
+-- left to be made again, and breakpoints and watches stay as they are at q.
 pub record LosesNothing (b : Bounds) (p n q : Point) : Type 0 where
   pub since : (n ≡ p) ⊎ (n.ahead ≡ [])
   pub moves : all_moves q ≡ all_moves n
   pub last : last_state q ≡ last_state n
+  pub placed : IsPlaced q
   pub redo : (count : ℕ) → length q.ahead ≤ count
       → (does None b (command.Redo count) q).point ≡ record q { history = all_moves n; ahead = []; state = last_state n }
 
@@ -270,6 +295,21 @@ pub record LosesNothing (b : Bounds) (p n q : Point) : Type 0 where
 abbrev pub NothingIsLost : Type 0
 NothingIsLost = (b : Bounds) (commands : List Given) (p : Point)
     → IsPlaced p → LosesNothing b p (after_new b commands p p) (after b commands p)
+
+-- The commands that a script's lines say, up to the first `quit`, each with the gap of its line.
+abbrev pub given_by : Option ℕ → Answer → List Given → List Given
+given_by gap (Ok (Some command)) more = if is_quit command then [] else record { command = command; gap = gap } ∷ more
+given_by gap _ more = more
+
+abbrev pub commands_of : List (Option ℕ) → List (List ℕ) → List Given
+commands_of gaps [] = []
+commands_of gaps (line ∷ lines) = given_by (first_gap gaps) (command_of line) (commands_of (later_gaps gaps) lines)
+
+-- So a script loses nothing: it ends where its commands lead.
+abbrev pub ScriptsLoseNothing : Type 0
+ScriptsLoseNothing = (gaps : List (Option ℕ)) (b : Bounds) (lines : List (List ℕ)) (p : Point) → IsPlaced p
+    → ((walk gaps b lines p).final ≡ after b (commands_of gaps lines) p)
+    × LosesNothing b p (after_new b (commands_of gaps lines) p p) (walk gaps b lines p).final
 
 -- At the point of each session, of which the proofs of its commands speak, moves lead to its state and on from it.
 module _ {K : Type 0} (holds : K → List Kept → Type 0) where
@@ -305,3 +345,15 @@ module _ {K : Type 0} (holds : K → List Kept → Type 0) (refused room : K →
       → Obeys holds refused room old new meaning answer
       → (h : Track) → HasPast holds old h
       → (answer ≡ (meaning None (point_of old h)).answer) × StandsAt holds new (meaning None (point_of old h)).point
+
+-- Two sessions over two keepers, as a ring and a list, that stand at one point and obey one command, of whose moves neither keeper refused
+-- one: they answer alike, and stand at one point again.
+module _ {K L : Type 0} (holds : K → List Kept → Type 0) (refused room : K → ℕ)
+    (holds' : L → List Kept → Type 0) (refused' room' : L → ℕ) where
+  abbrev pub KeepersAnswerAlike : Type 0
+  KeepersAnswerAlike =
+      (old new : SessionValue K) (old' new' : SessionValue L) (meaning : Option ℕ → Point → Outcome)
+      (answer answer' : Result Reply Refusal) (p : Point)
+      → StandsAt holds old p → Obeys holds refused room old new meaning answer → gap_of answer ≡ None
+      → StandsAt holds' old' p → Obeys holds' refused' room' old' new' meaning answer' → gap_of answer' ≡ None
+      → (answer ≡ answer') × ((q : Point) × StandsAt holds new q × StandsAt holds' new' q)

@@ -1,6 +1,6 @@
 //! Laws of the meaning of commands and of scripts. Each stands on a function without code, since it
 //! speaks of the definitions alone.
-ghost use Rattle.bpf_session.specs.Laws.{BreakpointsStop, CallsRunAsOne, CountsAreGoneBack, EachMoveIsKept, GoingBackGivesBack, NoAnswerIsOfMemory, NothingIsLost, NothingRefusedAllPrinted, NothingRefusedNothingMissing, RefusalsAreInOrder, RefusedChangesNothing, ReplayIsTheSame, SessionsArePlaced, ShowsChangeNothing, TakesBackItsMoves, TheFirstReasonStops, TheLatestIsFound, UndoGoesToTheMark, WatchesStop};
+ghost use Rattle.bpf_session.specs.Laws.{BreakpointsStop, CallsRunAsOne, CommandsAreUndone, CountsAreGoneBack, EachMoveIsKept, GoingBackGivesBack, KeepersAnswerAlike, NoAnswerIsOfMemory, NothingIsLost, NothingRefusedAllPrinted, NothingRefusedNothingMissing, RefusalsAreInOrder, RefusedChangesNothing, ReplayIsTheSame, ScriptsLoseNothing, SessionsArePlaced, ShowsChangeNothing, TakesBackItsMoves, TheFirstReasonStops, TheLatestIsFound, UndoGoesToTheMark, WatchesStop};
 
 use bpf_journal::Keeper;
 
@@ -78,6 +78,13 @@ pub fn going_back_gives_back()
     ensures { GoingBackGivesBack }
 {}
 
+/// `undo` of as many commands as were given, forward commands and edits, gives back the history, the
+/// state, the breakpoints and the watches in front of them, where nothing was dropped for them.
+#[tactic(none)]
+pub fn commands_are_undone()
+    ensures { CommandsAreUndone }
+{}
+
 /// What was gone back over comes again, with the same reply.
 #[tactic(none)]
 pub fn replay_is_the_same()
@@ -90,6 +97,12 @@ pub fn replay_is_the_same()
 #[tactic(none)]
 pub fn nothing_is_lost()
     ensures { NothingIsLost }
+{}
+
+/// A script loses nothing, whatever its lines say: it ends where its commands lead.
+#[tactic(none)]
+pub fn scripts_lose_nothing()
+    ensures { ScriptsLoseNothing }
 {}
 
 /// The moves of each session lead to its state and on from it, as the law `nothing_is_lost` asks.
@@ -119,4 +132,11 @@ pub fn nothing_refused_nothing_missing()
 pub fn no_answer_is_of_memory<K: Keeper>()
     ensures answer { NoAnswerIsOfMemory K.holds K.refused K.room }
     ensures meaning { EachMoveIsKept K.holds K.refused K.room }
+{}
+
+/// Over two keepers, as a ring and a list, sessions that stand at one point answer a command alike
+/// and stand at one point again, where neither keeper refused a move.
+#[tactic(none)]
+pub fn keepers_answer_alike<K: Keeper, L: Keeper>()
+    ensures { KeepersAnswerAlike K.holds K.refused K.room L.holds L.refused L.room }
 {}
