@@ -8,7 +8,7 @@ BIN = $(PREFIX)/bin
 MAN = $(PREFIX)/share/man/man1
 SHARE = $(PREFIX)/share/bpfdb
 DOC = $(PREFIX)/share/doc/bpfdb
-PAGES = COMMANDS LISTING MACHINE JOURNAL GDB TESTS
+PAGES = COMMANDS LISTING MACHINE JOURNAL GDB TESTS HEADLINE PROMISES PERFORMANCE
 
 # A first look without proofs, in a minute or two: the session of tests/session/script, or with FILE=FILE (and JOB, OPTIONS) `bpfdb JOB OPTIONS FILE`.
 JOB = debug

@@ -49,5 +49,8 @@ sed -i 's|](docs/session.svg)|](session.svg)|' "$folder/README.md" || exit 1
 for page in "$@"; do
     sed -i "s|](docs/$page.md|]($page.md|g; s|\`docs/$page.md\`|\`$page.md\`|g; s|docs/$page.md|$page.md|g" "$folder"/*.md "$folder/examples"/*.md || exit 1
 done
-sed -i 's|\[\([^][]*\)\](docs/[^)]*)|\1|g' "$folder"/*.md || exit 1
+for page in docs/*.md; do
+    page=$(basename "$page")
+    [ -e "$folder/$page" ] || sed -i "s|\[\([^][]*\)\](\(docs/\)\{0,1\}$page[^)]*)|\1|g" "$folder"/*.md "$folder/examples"/*.md || exit 1
+done
 echo "installed $prefix/bin/bpfdb, bpfdb-shell, bpfdb-symbols, bpfdb-show and bpfdb-conformance beside it, the man page, completions of bash, zsh and fish, and pages and examples in $prefix/share/doc/bpfdb; in gdb: source $prefix/share/bpfdb/bpfdb-gdb.py"

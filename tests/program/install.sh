@@ -23,10 +23,13 @@ else
 644 share/doc/bpfdb/CHANGELOG.md
 644 share/doc/bpfdb/COMMANDS.md
 644 share/doc/bpfdb/GDB.md
+644 share/doc/bpfdb/HEADLINE.md
 644 share/doc/bpfdb/JOURNAL.md
 644 share/doc/bpfdb/LICENSE
 644 share/doc/bpfdb/LISTING.md
 644 share/doc/bpfdb/MACHINE.md
+644 share/doc/bpfdb/PERFORMANCE.md
+644 share/doc/bpfdb/PROMISES.md
 644 share/doc/bpfdb/README.md
 644 share/doc/bpfdb/TESTS.md
 644 share/doc/bpfdb/session.svg

@@ -2,7 +2,7 @@
 //! defaults; it doesn't wrap lines.
 
 /// The version, and the toolchain that proved it.
-pub const VERSION: &str = "0.10.0 (rattle-kit-13f logic dac8208d650f15bf)";
+pub const VERSION: &str = "0.11.0 (rattle-kit-13f logic dac8208d650f15bf)";
 
 /// What bpfdb is.
 pub const BPFDB: &str = "Runs BPF programs (RFC 9669) forwards and backwards";
@@ -32,7 +32,8 @@ Exit status: 0; 1 where `run` or `trace` ends in a fault or at the limit of step
 fails or an answer of `origin` is cut; 2 where the command line or the program is refused,
 input or output fails, or memory runs out.
 Results go to standard output, and so do the replies of a session, refusals among them.
-What ends bpfdb with status 1 or 2 is told on standard error.";
+Where it ends with 1 or 2 a line on standard error says why; but `trace`, `test` and
+`origin` say in their output why they end with 1.";
 
 pub const RUN: &str = "Runs a program to its end and prints r0";
 
