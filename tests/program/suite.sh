@@ -50,6 +50,11 @@ while IFS= read -r wanted; do
     row "bpfdb test: ${wanted#* | }" 2 '' '' "refused ${wanted%% | *}\n" test p
 done < rows
 
+# The most steps; one more is refused (suites/refusals.txt).
+printf -- '-- listing\nexit\n-- steps\n1000000000\n-- result\n0\n' > p
+printf '1..1\nok 1\n' > wanted/out
+tested 'bpfdb test of the most steps' 0 p
+
 # A cell of 256 bytes, the most, which the program reads and writes at their ends; one of 257 is refused.
 bytes=$(awk 'BEGIN { for (i = 0; i < 256; i++) printf "%02x", i }')
 {
@@ -146,6 +151,13 @@ typed 'bpfdb-show of a test that failed' 0 'cat parts/script - | bpfdb debug --s
 cp found/out lines
 typed 'the line of bpfdb debug' 0 '3 forward; end; exited at 2: r0 0x8\n3 back; done; at 0: ldxb r0, [r1+2]\n' '' "echo undo | $(sed -n 1p lines)"
 typed 'the line of bpfdb origin' 0 'exited at 2: r0 0x8\n-2 r0 = 0x8; 1: add r0, 1; from r0\n-3 r0 = 0x7; 0: ldxb r0, [r1+2]; from 0x100000002:1\nleft 0x100000002 = 0x7; byte 2 of the context; at the opening\n' '' "$(sed -n 2p lines)"
+# (a control byte of the file's name is told as `?`, so that the report stays a line a remark)
+for octal in 001 012 033 177; do
+    odd=$(printf "odd\\${octal}file")
+    printf -- '-- listing\nexit\n-- result\n1\n' > "$odd"
+    row "bpfdb test of a name with the byte $octal" 1 '' "1..1\nnot ok 1\n# the test in line 1\n# came: exited at 0: r0 0x0\n# wanted: result 1\n# debug: bpfdb-show '' 'odd?file'\n" '' \
+        test "$odd"
+done
 mkdir new
 typed 'bpfdb-show into a new folder' 0 'context options program script\ncat F/script - | bpfdb debug --maps=4x3,2x2 --steps=16 -m F/context F/program\n' '' \
     'TMPDIR=new; export TMPDIR; bpfdb-show a shown.test > shown; echo $(ls new/*); sed -n "1s:new/bpfdb-show\.......:F:gp" shown'
