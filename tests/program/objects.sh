@@ -90,6 +90,11 @@ done <<'ROWS'
 1810|\001|E40: no BTF in the section .BTF
 1528|\102|E40: no BTF in the section .BTF
 ROWS
+# (of sizes that are both out of range the value's is told, which is M1 of the list of maps)
+for octal in '\000\000' '\001\020'; do
+    { head -c 596 typed.o; printf "$octal"; tail -c +599 typed.o | head -c 22; printf '\001\001'; tail -c +623 typed.o; } > changed.o
+    refused 'refused E52: value size not 1 to 256: counts' link changed.o
+done
 # (a name with control bytes, in the table of names, from 1338 on)
 { head -c 1338 typed.o; printf '\033['; tail -c +1341 typed.o; } > changed.o
 refused 'refused E45: map has no description in BTF: \\x1b[tals' link changed.o
@@ -154,6 +159,12 @@ done <<'ROWS'
 \005\001\0\0|261
 \377\377\377\377|4294967295
 ROWS
+# A call by BTF id (src_reg 2) of the number 5 is no call of helper 5, and bpfdb doesn't have it: no stub answers it.
+{ head -c 121 programs.o; printf '\040'; tail -c +123 programs.o; } > changed.o
+for list in 5=7 4=0,5=0; do
+    refused 'refused E25 at slot 7: unknown instruction: prog, slot 7' link --entry first --stub "$list" changed.o
+done
+refused 'refused E25 at slot 7: unknown instruction: prog, slot 7' link --entry first changed.o
 # The symbol that isn't defined; a control byte of it is shown as such.
 refused 'refused E19 at slot 1: symbol is not defined in the object: elsewhere' link extern.o
 place=$(LC_ALL=C grep -obUa elsewhere extern.o | sed 's/:.*//')
@@ -470,6 +481,18 @@ C
     for entry in first second; do
         "$program" link --entry $entry entries.o > entries
         result "$([ $entry = first ] && echo 0x1 || echo 0x2)\n" run entries
+    done
+    # A program may have a name of 255 bytes; a longer one names none, though there is such a function.
+    for more in '' y; do
+        symbol=x$(printf '%0254d' 0)
+        printf '__attribute__((section("prog"))) int %s(void) { return 1; }\n__attribute__((section("prog"))) int z(void) { return 2; }\n' "$symbol$more" > long.c
+        clang -O1 -target bpf -c -o long.o long.c
+        case $more in
+            '') "$program" link --entry "$symbol" long.o > long 2> told; result '0x1\n' run long ;;
+            *) refused "refused E31: no such function in the code section: $symbol, z" link --entry "$symbol$more" long.o ;;
+        esac
+        "$program" link --entry z long.o > long
+        result '0x2\n' run long
     done
     # Relocations of fields (CO-RE): they are refused by how many there are and where the first is, in the section or in `.text`, unless fields are to stay.
     cat > core.c <<'C'

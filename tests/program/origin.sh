@@ -227,6 +227,17 @@ tells 0 'exited at 2: r0 0x6\nleft r1 = 0x0; at the opening\n' origin --script p
 script path 'stepi 2\nset mem 0x2000001f8 aabb\nstepi\n'
 tells 0 'at 3: exit\n-2 0x2000001f8:2 = 0xbbaa; edit\n-4 0x2000001f8:4 = 0x1234; 0: stw [r10-8], 4660\n' origin --script path --listing store.s 0x2000001f8:4
 tells 0 'at 3: exit\n-2 0x2000001f8:2 = 0xbbaa; edit\n' origin --script path --listing store.s 0x2000001f9
+# (one to eight bytes make a number, of which the first byte is the lowest; nine are told without it)
+digits=
+for count_of in 1 2 3 4 5 6 7 8 9; do
+    digits=${digits}0$count_of
+    number=" = 0x$(printf 0807060504030201 | tail -c $((2 * count_of)) | sed 's/^0//')"
+    [ $count_of -lt 9 ] || number=
+    script path "set mem 0x2000001f0 $digits\n"
+    tells 0 "at 0: mov r0, 1\n-1 0x2000001f0:$count_of$number; edit\n" origin --script path --listing one.s "0x2000001f0:$count_of"
+done
+script path 'set cell 0 1 010203040506\n'
+tells 0 'at 0: mov r0, 1\n-1 0x300000006:6 = 0x60504030201; edit\n' origin --maps 6x2 --script path --listing one.s 0x30000000b
 script path 'set cell 0 1 0000000000000042\ncontinue\n'
 tells 0 'exited at 3: r0 0x42\n-2 r0 = 0x42; 2: ldxb r0, [r1+7]; from 0x30000000f:1\n-4 0x300000008:8 = 0x4200000000000000; edit\n' \
     origin --maps 8x2 --script path --listing cell.s

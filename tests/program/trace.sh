@@ -146,6 +146,20 @@ LISTING
 traced 'helpers' 0 '9 9: call 2; r0 = 0xffffffffffffffef\n10 10: mov r4, 0; r4 = 0x0\n11 11: call 2; r0 = 0x0; 0x300000008:8 = 0x2a\n'\
 '12 12: call 1; r0 = 0x300000008\n13 13: exit\nexited at 13: r0 0x300000008\n' --maps 8x2 --from 9
 
+# Values of five, six and seven bytes are numbers, too.
+printf 'ldmap r1, 0\nmov r2, r10\nadd r2, -4\nlddw r3, 0x807060504030201\nstxdw [r10-16], r3\nmov r3, r10\nadd r3, -16\ncall 2\nexit\n' > p
+traced 'a value of five bytes' 0 '8 9: call 2; r0 = 0x0; 0x300000000:5 = 0x504030201\n9 10: exit\nexited at 10: r0 0x0\n' --maps 5x1 --from 8
+traced 'a value of six bytes' 0 '8 9: call 2; r0 = 0x0; 0x300000000:6 = 0x60504030201\n9 10: exit\nexited at 10: r0 0x0\n' --maps 6x1 --from 8
+traced 'a value of seven bytes' 0 '8 9: call 2; r0 = 0x0; 0x300000000:7 = 0x7060504030201\n9 10: exit\nexited at 10: r0 0x0\n' --maps 7x1 --from 8
+
+# The limit in a slot above 255.
+{ yes 'mov r0, 1' | head -n 599; echo exit; } > p
+traced 'the limit at a slot above 255' 1 '258 257: mov r0, 1; r0 = 0x1\nstep limit 258 reached at 258\n' --steps 258 --from 258
+traced 'the limit at a slot above 511' 1 'step limit 513 reached at 513\n' --steps 513 --from 514
+{ yes '1 %: mov r0, 1' | head -n 512; yes '0 %: mov r0, 1' | head -n 87; echo '0 %: exit'; } | awk '{ sub("%", NR - 1); print }' > some
+echo 'step limit 512 reached at 512' >> some
+traced 'a profile at the limit at a slot above 255' 1 "$(text some)" --steps 512 --profile
+
 # Without --listing the program is raw words.
 bytes words b7 00 00 00 2a 00 00 00 EXIT
 row 'bpfdb trace words' 0 "$script_unread" '1 0: mov r0, 42; r0 = 0x2a\n2 1: exit\nexited at 1: r0 0x2a\n' '' trace words
