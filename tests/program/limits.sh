@@ -1,4 +1,5 @@
-# As much as the limits allow: the longest programs, contexts, listings, scripts and journals, sixteen full maps, and little stack.
+# As much as the limits allow: the longest programs, contexts, listings, scripts and journals, sixteen full maps, and little stack and memory.
+. "$parts/packets.sh"
 
 sixteen=256x256,256x256,256x256,256x256,256x256,256x256,256x256,256x256
 sixteen=$sixteen,$sixteen
@@ -28,8 +29,25 @@ result 'ok 65535 instructions in 65535 slots\n' check --maps $sixteen --listing 
 output 'asm of the longest program' longest asm longest.s
 output 'disasm of the longest program' longest.s disasm --maps $sixteen longest
 output 'disasm of the longest listing' longest.s disasm --maps $sixteen --listing longest.s
-seq 0 65534 | awk '{ print $1, $1 + 1 }' > rows
-output 'lines of the longest listing' rows lines longest.s
+seq 0 65534 | awk '{ print $1, $1 + 1 }' > slots
+output 'lines of the longest listing' slots lines longest.s
+result '65535 65534: exit\nexited at 65534: r0 0xfffe\n' trace -m context --maps $sixteen --from 65535 longest
+awk 'BEGIN { for (i = 0; i < 65534; i++) print "1 " i ": add r0, 1"; print "1 65534: exit\nexited at 65534: r0 0xfffe" }' > profile
+output 'a profile of the longest program' profile trace -m context --maps $sixteen --profile longest
+awk 'BEGIN {
+    print "exited at 65534: r0 0xfffe"
+    for (i = 65534; i > 64534; i--) printf "-%d r0 = 0x%x; %d: add r0, 1; from r0\n", 65536 - i, i, i - 1
+    print "cut: there are more lines"
+}' > origin
+# whence NAME: where the result of the longest program came from: 1,000 lines, and there are more.
+whence() {
+    run origin -m context --maps $sixteen --journal 16777216 longest
+    cp origin wanted/out
+    : > wanted/err
+    echo 1 > wanted/status
+    compare "$1"
+}
+whence 'origin of the longest program'
 value=$(printf '%0512d' 1)
 # full NAME ARGUMENT..: a session in the largest machine: to its end, edits of its last bytes, and all of that taken back.
 full() {
@@ -126,47 +144,120 @@ session 'the smallest journal, full' 'stepi 100000\ninfo history\nreverse-stepi 
     "100000 forward; done; at 4: ja L4\n146 moves, 0 commands, 1022 of 1024 bytes\n146 back; done; at 4: ja L4\n\
 refused Q4: no kept step\n146 redone; all; at 4: ja L4\n146 moves, 0 commands, 1022 of 1024 bytes\n" debug --journal 1024 --listing five.s
 
+# Journals of many sizes: each is opened, and knows its size.
+for size in 1024 1025 1500 2047 2048 4095 4096 10000 32767 65536 65537 100000 262144 999999 1000000 1000001 1048576 1048577 3000000 4194304 8388607 10000000 \
+    16777215 16777216
+do
+    session "a journal of $size bytes" 'stepi 2\ninfo history\n' "2 forward; done; at 0: ja L0\n2 moves, 1 commands, 14 of $size bytes\n" debug --journal "$size" endless
+    result 'at 0: ja L0\nleft r0 = 0x0; at the opening\n' origin --steps 9 --journal "$size" endless
+    requests "gdb with a journal of $size bytes" gdb --registers bpf --journal "$size" endless <<ROWS
+> info history|0 moves, 0 commands, 0 of $size bytes
+ROWS
+done
+
 # Little stack: 256 kB are enough for all of this, and for help and a command line that is none.
+object typed
+"$program" link typed.o > typed 2> told
+bytes overrun.o $(sed 's/../& /g' "$top/examples/overrun/object.hex")
+cp "$parts/suites/cells.test" "$parts/suites/alone.test" .
 (
     ulimit -s 256
-    failures=0
     result '0xfffe\n' run -m context --maps $sixteen longest
     result '0xfffe\n' run -m context --maps $sixteen --listing two.s
     result 'ok 65535 instructions in 65535 slots\n' check --maps $sixteen --listing two.s
     result '0x7\n' run --listing line.s
     output 'asm with 256 kB of stack' jumps asm labels.s
     output 'disasm with 256 kB of stack' canonical.s disasm --maps $sixteen jumps
+    output 'lines with 256 kB of stack' slots lines two.s
     full 'the largest machine with 256 kB of stack'
+    output 'trace with 256 kB of stack' profile trace -m context --maps $sixteen --profile --listing two.s
+    output 'link with 256 kB of stack' "$top/examples/overrun/program.bin" link overrun.o
+    whence 'origin with 256 kB of stack'
+    echo continue > path
+    result 'at 0: ja L0\nleft r0 = 0x0; at the opening\n' origin --steps 9 --script path endless
+    : > script
+    run link typed.o
+    cp typed wanted/out
+    cp told wanted/err
+    echo 0 > wanted/status
+    compare 'link of maps with 256 kB of stack'
+    run test cells.test
+    cp "$parts/suites/cells.out" wanted/out
+    : > wanted/err
+    echo 1 > wanted/status
+    compare 'test with 256 kB of stack'
+    requests 'gdb with 256 kB of stack' gdb --registers bpf -m context --maps $sixteen --journal 16777216 longest <<'ROWS'
+c|T05replaylog:end;|exited at 65534: r0 0xfffe
+> origin r9|OK|left r9 = 0x0; at the opening
+bc|T05replaylog:begin;
+ROWS
     usage "unrecognized subcommand 'rum'" rum longest
     output 'help with 256 kB of stack' "$parts/help/bpfdb.txt" --help
-    exit "$failures"
+    echo "count=$count failures=$failures" > counted
 )
-failures=$((failures + $?))
-count=$((count + 9))
+. ./counted
 
-# Little memory of all kinds: the work is done, or one line says that memory ran out. 50,000 kB are enough for each of these.
-for room in 6000 8000 10000 12000 14000 16000 18000 20000 25000 30000 40000 50000; do
-    while read -r arguments; do
+# Little memory of all kinds: the work is done, or one line says that memory ran out.
+# squeezed ROOMS ARGUMENT..: so it is in each of these address spaces, in kB, with `script` as input. 50,000 are enough. (Where it is below 4,000 the system
+# may not be able to load the program, which then has status 127.)
+squeezed() {
+    rooms=$1
+    shift
+    "$program" "$@" < script > whole
+    wanted=$?
+    for room in $rooms; do
         count=$((count + 1))
-        # (the words of a row are without blanks)
         (
             ulimit -v "$room"
-            exec "$program" $arguments
-        ) < /dev/null > found/out 2> found/err
+            exec "$program" "$@"
+        ) < script > found/out 2> found/err
         found=$?
         line=$(cat found/err)
         case $found,$room,$line in
-            0,*,) continue ;;
+            "$wanted",*,) cmp -s whole found/out && continue ;;
+            127,3???,*) continue ;;
             2,50000,*) ;;
-            2,*,'out of memory' | 2,*,'refused '[ACOJ]*': out of memory') [ -s found/out ] || continue ;;
+            2,*,'out of memory' | 2,*,'refused '[ACEOJ]*': out of memory') [ -s found/out ] || continue ;;
         esac
-        complain "bpfdb $arguments in $room kB: status $found, $(wc -c < found/out) bytes of output, on standard error '$line'"
-    done <<ROWS
-run -m context --maps $sixteen longest
-debug -m context --maps $sixteen --journal 16777216 longest
-disasm --maps $sixteen longest
-check --listing two.s
-asm labels.s
-run --listing line.s
+        complain "bpfdb $* in $room kB: status $found, $(wc -c < found/out) bytes of output, on standard error '$line'"
+    done
+}
+
+# Each subcommand: where there is hardly room to load the program, a small thing, and the greatest where there is more.
+printf 'loop: add r0, 1\njlt r0, 3, loop\nexit\n' > count.s
+printf 'continue\n' > path
+little=$(seq 3000 25 4000)
+more='6000 8000 10000 12000 14000 16000 18000 20000 25000 30000 40000 50000'
+# (the words of a row are without blanks; gdb is asked to continue, for the line `origin r9`, and to detach)
+printf '$c#63$qRcmd,6f726967696e207239#45$D#44' > asked
+while IFS='|' read -r size input arguments; do
+    cp "$input" script
+    case $size in
+        little) squeezed "$little" $arguments ;;
+        more) squeezed "$more" $arguments ;;
+    esac
+done <<ROWS
+little|path|run --listing count.s
+little|path|debug --journal 1024 --listing count.s
+little|path|trace --listing count.s
+little|path|trace --profile --listing count.s
+little|path|lines count.s
+little|path|check --listing count.s
+little|path|asm count.s
+little|path|disasm --listing count.s
+little|path|test alone.test
+little|path|link overrun.o
+little|path|origin --journal 1024 --listing count.s
+little|path|origin --journal 1024 --script path --listing count.s
+little|asked|gdb --journal 1024 --listing count.s
+more|path|run -m context --maps $sixteen longest
+more|path|debug -m context --maps $sixteen --journal 16777216 longest
+more|path|trace -m context --maps $sixteen --from 65535 longest
+more|path|lines two.s
+more|path|disasm --maps $sixteen longest
+more|path|check --listing two.s
+more|path|asm labels.s
+more|path|run --listing line.s
+more|path|origin -m context --maps $sixteen --journal 16777216 longest
+more|asked|gdb -m context --maps $sixteen --journal 16777216 longest
 ROWS
-done
