@@ -11,6 +11,9 @@ work=$(mktemp -d) || exit 1
 trap 'rm -rf "$work"' EXIT
 trap 'exit 130' HUP INT TERM
 top=$PWD
+. tests/machine.sh
+LEFT_OUT=${LEFT_OUT:-$work/left-out}
+export LEFT_OUT
 count=0
 : > "$work/faults"
 
@@ -140,8 +143,8 @@ pages() {
     for name in overrun fault records; do
         origins examples/README.md "$name" "$name"
     done
-    if command -v xxd > /dev/null; then shown examples/README.md 'From words'; fi
-    if echo | clang -target bpf -x c -c -o /dev/null - 2> /dev/null; then shown examples/README.md 'From C'; fi
+    if has xxd 'the example from words'; then shown examples/README.md 'From words'; fi
+    if has_clang 'the example from C'; then shown examples/README.md 'From C'; fi
 }
 
 for folder in examples/*/; do
@@ -164,5 +167,6 @@ plain wrong-byte 0 0x0 ''
 plain xdp 0 0x1 ''
 suite
 pages
+tell_left_out "$work/left-out"
 [ ! -s "$work/faults" ] || exit 1
 echo "tests/examples.sh: $count examples passed"

@@ -1,13 +1,16 @@
 #!/bin/sh
 # The gate: each part in turn, with a line that says how it ended, how long it took and how much of the processors. The first part that fails
-# ends it. Its last line, where all passed, is that of rt ci. Of a tree that is a commit, out/passed then has the commit and that line.
+# ends it. Its last line, where all passed, is that of rt ci; before it stands what was left out for want of a tool. Of a tree that is a commit, out/passed
+# then has the commit and that line.
 set -u
 cd "$(dirname "$0")/.." || exit 1
 . tests/machine.sh
 exec < /dev/null
 mkdir -p out || exit 1
 log=out/ci.log
-rm -f out/passed
+LEFT_OUT=$PWD/out/left-out
+export LEFT_OUT
+rm -f out/passed "$LEFT_OUT"
 
 # processor: the processor seconds that what has ended took up to now. (The last line of `times` is that of the children: 12m3.45s 0m6.78s.)
 processor() {
@@ -62,4 +65,5 @@ part 'tests/examples.sh' sh tests/examples.sh
 if [ -z "$(git status --porcelain 2>&1)" ]; then
     { git rev-parse HEAD; tail -n 1 "$log"; } > out/passed
 fi
+tell_left_out "$LEFT_OUT"
 tail -n 1 "$log"

@@ -1,4 +1,4 @@
-# What this machine has room for, and which crates a program stands on: read by '.' in other scripts of this folder.
+# What this machine has room for, what it lacks, and which crates a program stands on: read by '.' in other scripts of this folder.
 
 # memory: the gigabytes that are free, and no more than this process may take.
 memory() {
@@ -50,4 +50,28 @@ below() {
             for (i = 1; i <= count; i++) if (wanted[order[i]]) print order[i]
         }
     '
+}
+
+# left_out WHAT WHY: this isn't tested here. It is kept in the file LEFT_OUT, of the script that was called first, which tells it at its end.
+left_out() {
+    echo "left out: $1: $2" >> "$LEFT_OUT"
+}
+
+# has COMMAND WHAT: whether there is this command; without it WHAT is left out.
+has() {
+    command -v "$1" > /dev/null && return
+    left_out "$2" "there is no $1"
+    return 1
+}
+
+# has_clang WHAT: whether there is a clang for BPF; without it WHAT is left out.
+has_clang() {
+    echo | clang -target bpf -x c -c -o /dev/null - 2> /dev/null && return
+    left_out "$1" 'there is no clang for BPF'
+    return 1
+}
+
+# tell_left_out FILE: what was left out, where it was kept in this file.
+tell_left_out() {
+    [ "$LEFT_OUT" != "$1" ] || [ ! -e "$1" ] || sort "$1"
 }

@@ -1,7 +1,8 @@
 #!/bin/sh
 # Tests of the built program (or of the one whose whole path is BPFDB) from outside: its output, its standard error and its exit
 # status, with input and output that fail, with each request for memory refused in turn, at its limits, and with programs that are
-# made to hurt or at random, and how it is built. A test that passes prints nothing; one that fails names itself and shows what differs. The tests stand in
+# made to hurt or at random, and how it is built. A test that passes prints nothing; one that fails names itself and shows what differs; what is left out, for
+# want of a tool, is told at the end (left_out in tests/machine.sh). The tests stand in
 # tests/program/, a file a part; with the names of parts (session, usage, ..) these alone are run, else all, one a processor. Expected texts are written out
 # there, by the manual, or stand in crates/bpfdb/stdout and tests/session/; the texts of help stand in tests/program/help/.
 set -u
@@ -11,6 +12,9 @@ top=$PWD
 parts=$top/tests/program
 program=${BPFDB:-$top/crates/bpfdb/out/bpfdb}
 work=$(mktemp -d) || exit 1
+. tests/machine.sh
+LEFT_OUT=${LEFT_OUT:-$work/left-out}
+export LEFT_OUT
 # leave: ends the processes that are still at work beside this one, and takes all files away.
 started=''
 leave() {
@@ -46,6 +50,7 @@ if [ $# -eq 0 ]; then
     all_parts | while read -r part; do
         grep -v -x 'tests of the program: [0-9]*, of which [0-9]* failed' "$work/$part"
     done
+    tell_left_out "$work/left-out"
     total
     exit
 fi
@@ -55,5 +60,6 @@ for part in "$@"; do
     begin "$part"
 done
 
+tell_left_out "$work/left-out"
 echo "tests of the program: $count, of which $failures failed"
 [ "$failures" -eq 0 ]

@@ -13,7 +13,7 @@ handed_on() {
     { echo "commit $commit"; echo 'gate: 7 passed, 0 failed'; cat found/out; } > wanted/build
     same 'make dist: what was built' wanted/build "$name/share/doc/bpfdb/BUILD"
     (cd made && sha256sum -c --quiet SHA256SUMS) > found/out 2>&1 || complain 'make dist: SHA256SUMS'
-    if command -v dpkg-deb > /dev/null; then
+    if has dpkg-deb 'the Debian package'; then
         dpkg-deb -x made/bpfdb_*_amd64.deb deb
         BPFDB=$PWD/deb/usr/bin/bpfdb sh deb/usr/share/doc/bpfdb/examples/suite/test.sh > found/out 2> found/err
         echo $? > found/status
@@ -29,9 +29,9 @@ dist() {
 }
 
 if [ -n "${BPFDB:-}" ] && [ "$BPFDB" != "$top/crates/bpfdb/out/bpfdb" ]; then
-    echo 'tests/program/dist.sh: BPFDB names the program, so make dist is not tested'
+    left_out 'make dist' 'BPFDB names the program'
 elif ! git -C "$top" rev-parse HEAD > /dev/null 2>&1; then
-    echo 'tests/program/dist.sh: this is no clone, so make dist is not tested'
+    left_out 'make dist' 'this is no clone'
 else
     mkdir copy
     git -C "$top" ls-files -z | (cd "$top" && xargs -0 tar -c -f - --ignore-failed-read 2> /dev/null) | tar -x -f - -C copy

@@ -11,7 +11,7 @@ completed() {
 }
 
 : > program.bin
-if command -v bash > /dev/null; then
+if has bash 'completion in bash'; then
     completed 'run\n' bpfdb ru
     completed 'debug\ndisasm\n' bpfdb d
     completed 'debug\n' bpfdb debug
@@ -34,14 +34,14 @@ if command -v bash > /dev/null; then
     completed '\n' bpfdb-shell --reg
     completed 'program.bin\n' bpfdb-shell prog
 fi
-if command -v fish > /dev/null; then
+if has fish 'completion in fish'; then
     for row in 'bpfdb ru|run' 'bpfdb run --ma|--maps' 'bpfdb run --jo|' 'bpfdb debug --jo|--journal' 'bpfdb gdb --registers ri|riscv' 'bpfdb-shell --jo|--journal'; do
         HOME=$PWD fish --no-config -c "source '$top/share/completion/bpfdb.fish'; complete -C '${row%|*}'" 2> found/err | sed 's/\t.*//' > found/out
         echo 0 > found/status
         check "fish: ${row%|*}" 0 "${row#*|}$([ -z "${row#*|}" ] || printf '%s' '\n')" ''
     done
 fi
-if command -v zsh > /dev/null; then
+if has zsh 'the completion file of zsh'; then
     zsh -f -n "$top/share/completion/_bpfdb" > found/out 2> found/err
     echo $? > found/status
     check 'zsh: the syntax of its file' 0 '' ''
@@ -53,7 +53,7 @@ sed -n 's/^syntax keyword bpfdbMnemonic //p' "$top/share/editors/bpfdb.vim" | tr
 same 'Vim: the mnemonics' wanted/words found/words
 sed -n 's/.*keyword.mnemonic.*b(\(add[^)]*\)).*/\1/p' "$top/share/editors/bpfdb.tmLanguage.json" | tr '|' '\n' | sort -u > found/words
 same 'TextMate: the mnemonics' wanted/words found/words
-if command -v python3 > /dev/null; then
+if has python3 'the JSON of editors'; then
     for name in bpfdb.tmLanguage.json package.json; do
         python3 -m json.tool "$top/share/editors/$name" > /dev/null 2> found/err
         echo $? > found/status
@@ -61,7 +61,7 @@ if command -v python3 > /dev/null; then
         check "VS Code: $name is JSON" 0 '' ''
     done
 fi
-if command -v vim > /dev/null; then
+if has vim 'colours in Vim'; then
     printf 'loop: add r0, -1 ; loop\n' > one.listing
     cat > show.vim <<'VIM'
 execute 'source' $SYNTAX

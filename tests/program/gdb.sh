@@ -1,5 +1,4 @@
-# A real gdb over `bpfdb gdb`: sessions, held against transcripts. Without a gdb of version 13 or later, or python3 for bpfdb-symbols, nothing
-# is tested, and a line says so.
+# A real gdb over `bpfdb gdb`: sessions, held against transcripts, where there is a gdb of version 13 or later, and python3 for bpfdb-symbols.
 #
 # A transcript is a session as a terminal shows it, without its empty lines: what is typed stands behind '(gdb) ', the answer in the lines
 # that follow. The transcripts stand in tests/program/gdb/, and docs/GDB.md has one. In those of the interface for editors, which ends each
@@ -48,14 +47,17 @@ hold() {
     diff -a wanted/lines found/lines
 }
 
-# serves GDB: whether there is such a gdb, and of version 13 or later.
+# serves GDB WHAT: whether there is such a gdb, and of version 13 or later; without it WHAT is left out.
 serves() {
-    command -v "$1" > /dev/null && "$1" -nx -batch -ex 'python import gdb.disassembler' > /dev/null 2>&1
+    "$1" -nx -batch -ex 'python import gdb.disassembler' > /dev/null 2>&1 && return
+    left_out "$2" "there is no $1 of version 13 or later"
+    return 1
 }
 
 # compiled NAME: makes the object of a file of C for sessions.
 compiled() {
-    cp "$sessions/$1.c" . && clang -g -O1 -fstack-size-section -target bpf -c "$1.c" 2> /dev/null
+    cp "$sessions/$1.c" .
+    clang -g -O1 -fstack-size-section -target bpf -c "$1.c"
 }
 
 # story NUMBER: the session of this number that docs/GDB.md shows in gdb, with an end.
@@ -67,9 +69,7 @@ story() {
     printf '(gdb) kill\n[Inferior 1 (Remote target) killed]\n'
 }
 
-if ! command -v python3 > /dev/null || ! serves gdb && ! serves gdb-multiarch; then
-    echo 'tests/program/gdb.sh: no gdb of version 13 or later, or no python3, so no session in gdb is tested'
-else
+if has python3 'sessions in gdb'; then
     mkdir bin
     ln -s "$program" bin/bpfdb
     printf 'loop: add r0, 1\njlt r0, 3, loop\nstxdw [r10-8], r0\nexit\n' > count.s
@@ -91,7 +91,7 @@ else
     done
 
     sessions=$parts/gdb
-    if serves gdb; then
+    if serves gdb 'sessions in gdb'; then
         for name in steps stops edits faults calls limits source sections traps bare load origin; do
             transcript gdb "$sessions/$name.txt"
         done
@@ -112,18 +112,13 @@ else
         for _ in 1 2 3 4 5 6 7 8 9 10; do [ -s ended ] || sleep 0.5; done
         echo 0 > wanted/ended
         same 'the end of commands at a fault' wanted/ended ended
-        if compiled flows && compiled sized && compiled data; then
+        if has_clang 'maps in gdb'; then
+            for name in flows sized data; do compiled $name; done
             transcript gdb "$sessions/maps.txt"
-        else
-            echo 'tests/program/gdb.sh: there is no clang for BPF here, so no map is shown in gdb'
         fi
         editor gdb "$sessions/editor.txt"
-    else
-        echo 'tests/program/gdb.sh: no gdb of version 13 or later, so only gdb-multiarch is tested'
     fi
-    if serves gdb-multiarch; then
+    if serves gdb-multiarch 'sessions in gdb for RISC-V'; then
         transcript gdb-multiarch "$sessions/riscv.txt"
-    else
-        echo 'tests/program/gdb.sh: no gdb-multiarch of version 13 or later, so --registers riscv is not tested'
     fi
 fi

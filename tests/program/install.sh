@@ -2,7 +2,7 @@
 # they aren't tested.
 
 if [ -n "${BPFDB:-}" ] && [ "$BPFDB" != "$top/crates/bpfdb/out/bpfdb" ]; then
-    echo 'tests/program/install.sh: BPFDB names the program, so make install is not tested'
+    left_out 'make install' 'BPFDB names the program'
 else
     # installed DESTDIR PREFIX: is installed there, works, and leaves nothing when it is taken away.
     installed() {

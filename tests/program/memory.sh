@@ -279,7 +279,7 @@ done
 # The calls of the libraries, in crates/memory_calls: each answers by its own number, or by `out of memory` where it has none.
 # `rt ci` builds that program too.
 if ! [ -x "$top/crates/memory_calls/out/memory_calls" ]; then
-    echo 'tests/program/memory.sh: crates/memory_calls is not built, so the calls of the libraries are not tested'
+    left_out 'memory that the calls of the libraries want' 'crates/memory_calls is not built'
     return
 fi
 tool=$program

@@ -424,7 +424,8 @@ __attribute__((noinline)) unsigned long sum(const unsigned char *bytes, unsigned
 }
 __attribute__((section("prog"))) unsigned long entry(const unsigned char *bytes, unsigned long count) { return sum(bytes, count); }
 C
-if clang -O1 -target bpf -c -o sum.o sum.c 2> /dev/null; then
+if has_clang 'link of files of C'; then
+    clang -O1 -target bpf -c -o sum.o sum.c
     "$program" link sum.o > sum
     printf '\001\002\375' > context
     result '0x100\n' run -m context sum
@@ -599,7 +600,7 @@ C
     result '0x88\n' run $(cat told) sections
     refused 'refused E15: more than 16 maps' link sections17.o
     # Programs of C, whose results are those of this machine, at each level and for each processor, by each clang that is installed, of one version once.
-    if command -v cc > /dev/null; then
+    if has cc 'results of files of C'; then
         printf 'abc 12 zz9!' > context
         compilers= versions=
         for compiler in clang $(seq -f 'clang-%g' 10 40); do
@@ -631,6 +632,4 @@ C
         echo "objects: of $tried compiles of C, clang$versions did $compiled; each was linked, and its result held against this machine's"
         [ "$compiled" -ge $((tried / 2)) ] || complain "clang compiled only $compiled of $tried"
     fi
-else
-    echo 'objects: there is no clang for BPF here, so no file of C is compiled'
 fi

@@ -51,7 +51,7 @@ habits() {
     done < rows
 }
 
-if command -v python3 > /dev/null; then
+if has python3 'bpfdb-shell'; then
     # (python3 itself, where the one on the PATH is a script that looks for it)
     PATH=$(dirname "$(python3 -c 'import sys; print(sys.executable)')"):$PATH
     habits shell.txt -m context sum.s
@@ -109,10 +109,11 @@ if command -v python3 > /dev/null; then
     # An object is linked, with its maps; one that is refused ends it.
     python3 -c 'import sys; sys.stdout.buffer.write(bytes.fromhex(sys.stdin.read()))' < "$top/examples/overrun/object.hex" > overrun.o
     cp "$top/examples/overrun/overrun.c" .
-    if command -v addr2line > /dev/null; then
+    if has addr2line 'lines of C in bpfdb-shell'; then
         habits shell-c.txt -m "$top/examples/overrun/context.bin" overrun.o
     fi
-    if command -v addr2line > /dev/null && clang -g -O2 -target bpf -I "$parts/c" -c "$parts/c/counter.c" 2> /dev/null; then
+    if has addr2line '`start` in bpfdb-shell' && has_clang '`start` in bpfdb-shell'; then
+        clang -g -O2 -target bpf -I "$parts/c" -c "$parts/c/counter.c"
         opened='-m context counter.o'
         habit start 'p $pc' '> info regs / $pc = 0x1 (1)'
         habit 'start; stepi 3; start' 'p $pc' '> info regs / $pc = 0x1 (1)'
@@ -150,7 +151,7 @@ SCRIPT
     done
 
     # README's picture is what a terminal shows.
-    if command -v addr2line > /dev/null; then
+    if has addr2line "README's picture"; then
         python3 "$top/docs/picture.py" --check > found/out 2> found/err
         echo $? > found/status
         check 'docs/session.svg' 0 '' ''

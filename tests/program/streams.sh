@@ -101,6 +101,7 @@ mkfifo pipe
 exec 5> pipe
 wait
 
+[ -c /dev/full ] || left_out 'devices that are full' 'there is no /dev/full'
 [ -c /dev/full ] && each to_full
 each to_closed
 each to_input

@@ -32,9 +32,7 @@ field() {
     od -An -tu8 -j "$2" -N 8 "$1" | tr -d ' '
 }
 
-if ! command -v python3 > /dev/null; then
-    echo 'tests/program/symbols.sh: no python3, so bpfdb-symbols is not tested'
-else
+if has python3 'bpfdb-symbols'; then
     for name in calls two text; do
         object $name
     done
@@ -102,7 +100,8 @@ else
     unset BPFDB
 
     # The object that the clang which is here makes of the same C, where it knows BPF, has the same fault.
-    if clang -g -O1 -fstack-size-section -target bpf -c -o compiled.o "$top/examples/overrun/overrun.c" 2> /dev/null; then
+    if has_clang 'bpfdb-symbols of objects that are compiled here'; then
+        clang -g -O1 -fstack-size-section -target bpf -c -o compiled.o "$top/examples/overrun/overrun.c"
         converted compiled.o compiled.sym
         "$program" link compiled.o > compiled.bin
         "$program" run -m "$top/examples/overrun/context.bin" compiled.bin 2>&1 | grep -q '^fault access 0x10077656d at ' ||
@@ -115,7 +114,5 @@ else
         printf '__attribute__((section("prog"))) int entry(int *p) { return *p + 3; }\n' > stackless.c
         clang -g -O1 -target bpf -c -o stackless.o stackless.c
         converted stackless.o stackless.sym
-    else
-        echo 'tests/program/symbols.sh: there is no clang for BPF here, so no file of C is compiled'
     fi
 fi
