@@ -223,7 +223,8 @@ squeezed() {
     done
 }
 
-# Each subcommand: where there is hardly room to load the program, a small thing, and the greatest where there is more.
+# Each subcommand: where there is hardly room to load the program, a small thing, and the greatest where there is more. (The steps are small there, since the stack
+# takes address space, too: what needs more of it than is left would be ended by a signal, between where the program can be loaded and where all fits.)
 printf 'loop: add r0, 1\njlt r0, 3, loop\nexit\n' > count.s
 printf 'continue\n' > path
 little=$(seq 3000 25 4000)
