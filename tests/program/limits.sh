@@ -144,6 +144,18 @@ session 'the smallest journal, full' 'stepi 100000\ninfo history\nreverse-stepi 
     "100000 forward; done; at 4: ja L4\n146 moves, 0 commands, 1022 of 1024 bytes\n146 back; done; at 4: ja L4\n\
 refused Q4: no kept step\n146 redone; all; at 4: ja L4\n146 moves, 0 commands, 1022 of 1024 bytes\n" debug --journal 1024 --listing five.s
 
+# Programs of many lengths, and contexts: there is memory for each.
+for slots in 1 2 3 15 16 17 255 256 257 511 512 513 1000 1001 1023 1024 1025 4095 4096 4097 8192 16384 32767 32768 65534; do
+    { yes 'add r0, 1' | head -n $((slots - 1)); echo exit; } > many.s
+    result "ok $slots instructions in $slots slots\n" check --listing many.s
+    result "$slots $((slots - 1)): exit\nexited at $((slots - 1)): r0 $(printf '0x%x' $((slots - 1)))\n" trace --from $slots --listing many.s
+done
+printf 'mov r0, r2\nexit\n' > length.s
+for size in 0 1 2 7 8 255 256 1023 1024 1025 4095 4096 4097 8191 8192 16384 32767 32768 65535 65536; do
+    head -c $size /dev/zero > part
+    result "$(printf '0x%x' $size)\n" run -m part --listing length.s
+done
+
 # Journals of many sizes: each is opened, and knows its size.
 for size in 1024 1025 1500 2047 2048 4095 4096 10000 32767 65536 65537 100000 262144 999999 1000000 1000001 1048576 1048577 3000000 4194304 8388607 10000000 \
     16777215 16777216
