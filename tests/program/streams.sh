@@ -235,3 +235,12 @@ yes exit | head -n 500 > many.s
     echo $? > found/status
 )
 check 'an output beyond the limit on the size of files' 2 '' "$unwritten"
+# (a shell tells of the signal itself)
+{
+    (
+        ulimit -f 1
+        exec "$program" asm many.s > cut 2> found/err
+    )
+    echo $? > found/status
+} 2> /dev/null
+check 'an output beyond the limit on the size of files, which ends by SIGXFSZ' $((128 + 25)) '' ''
