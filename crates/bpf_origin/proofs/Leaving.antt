@@ -1,42 +1,67 @@
--- An answer that is not cut ends with the places that are left.
-use Rattle.std.proofs.Common.{◌≡◌, ℕ, ◌+◌, ◌-◌, Bool, true, false, List, [], ◌∷◌, ◌++◌, length, refl, sym, ap, ◌∙◌, append_assoc}
+-- The lines of an answer that is not cut are those of its hits, and it ends with the places that are left.
+use Rattle.std.proofs.Common.{◌≡◌, ℕ, zero, suc, ◌+◌, ◌-◌, Bool, true, false, List, [], ◌∷◌, ◌++◌, length, flat_map, refl, sym, ap, ◌∙◌, append_assoc, arith}
+use Rattle.std.specs.List.{range_with_len}
 use Rattle.std.specs.Prelude.{◌==◌, nat_lt, if◌then◌else◌}
+use Rattle.bpf_journal.specs.Histories.{Record}
 use Rattle.bpf_machine.specs.Moves.{overwritten}
+use Rattle.bpf_machine.specs.State.{State}
 use Rattle.bpf_origin.specs.declared.place.Place.{Place}
 use Rattle.bpf_origin.specs.declared.question.Extent.TheVariants.{Whole, Lines, Places}
+use Rattle.bpf_origin.specs.declared.question.Question.{Question}
 use Rattle.bpf_origin.specs.Answers.{Answer, answer, with_line, wanted_before, line_of}
-use Rattle.bpf_origin.specs.Meaning.{oldest, left_of, AnswersTellWhatIsLeft}
+use Rattle.bpf_origin.specs.Meaning.{LinesAreHits, left_of, oldest, passed, told_at, told_by}
 use Rattle.bpf_origin.specs.Texts.{left_text, lines_text, places_text}
 use Rattle.bpf_origin.specs.Wanted.{most_places, are_hit, still_wanted}
 use Rattle.bpf_origin.specs.Writes.{written}
 
--- An answer ends with a text.
-abbrev EndsWith : List ℕ → Answer → Type 0
-EndsWith last a = a.extent ≡ Whole → (lines : List ℕ) × (a.text ≡ lines ++ last)
+-- a list of numbers that begins one later
+shifted : (f g : ℕ → List ℕ) (a n : ℕ) → ((i : ℕ) → f (suc i) ≡ g i) → flat_map f (range_with_len (suc a) n) ≡ flat_map g (range_with_len a n)
+shifted f g a zero same = refl
+shifted f g a (suc n) same =
+    let e : suc a + 1 ≡ suc (a + 1) = omega arith in
+    rw e (ap (λ (t : List ℕ). t ++ flat_map f (range_with_len (suc (a + 1)) n)) (same a) ∙ ap (λ (t : List ℕ). g a ++ t) (shifted f g (a + 1) n same))
 
-line_ends : (line last : List ℕ) (a : Answer) → EndsWith last a → EndsWith last (with_line line a)
-line_ends line last a ends whole =
-    let rest = ends whole in
-    (line ++ rest.0, ap (λ t. line ++ t) rest.1 ∙ sym (append_assoc line rest.0 last))
+-- what is told behind the newest move is told of the history before it
+told_behind : (q : Question) (k : ℕ) (wanted : List Place) (r : Record) (h : List Record) (y : State) (i : ℕ)
+    → told_at q k wanted (r ∷ h) y (suc i) ≡ told_at q (k + 1) (passed q.addresses r y wanted) h r.before i
+unfolding left_of
+told_behind q k wanted r h y i = let e : k + suc i + 1 ≡ k + 1 + i + 1 = omega arith in rw e refl
 
-hit_ends : (line last : List ℕ) (a : Answer) (none full : Bool) → EndsWith last a → EndsWith last (if none then record { text = lines_text; extent = Lines } else with_line line (if full then record { text = places_text; extent = Places } else a))
-hit_ends line last a true full ends = λ whole. cc
-hit_ends line last a false true ends = λ whole. cc
-hit_ends line last a false false ends = line_ends line last a ends
+-- the text of an answer is a text
+abbrev Reads : List ℕ → Answer → Type 0
+Reads text a = a.extent ≡ Whole → a.text ≡ text
 
-by_hit : (left : List Place → List ℕ) (a b : Answer) (v w : List Place) (hit : Bool) → EndsWith (left v) a → EndsWith (left w) b → EndsWith (left (if hit then v else w)) (if hit then a else b)
-by_hit left a b v w true first second = first
-by_hit left a b v w false first second = second
+hit_reads : (line text : List ℕ) (a : Answer) (none full : Bool) → Reads text a
+    → Reads (line ++ text) (if none then record { text = lines_text; extent = Lines } else with_line line (if full then record { text = places_text; extent = Places } else a))
+hit_reads line text a true full reads = λ whole. cc
+hit_reads line text a false true reads = λ whole. cc
+hit_reads line text a false false reads = λ whole. ap (λ (t : List ℕ). line ++ t) (reads whole)
 
-pub law_told : AnswersTellWhatIsLeft
+by_hit : (left : List Place → List ℕ) (line : List ℕ) (a b : Answer) (v w : List Place) (hit : Bool) → Reads (line ++ left v) a → Reads (left w) b
+    → Reads ((if hit then line else []) ++ left (if hit then v else w)) (if hit then a else b)
+by_hit left line a b v w true first second = first
+by_hit left line a b v w false first second = second
+
+-- the text of the moves before the newest one
+abbrev rest_text : Question → ℕ → List Record → State → List Place → List ℕ
+rest_text q k h y wanted = flat_map (told_at q k wanted h y) (range_with_len 0 (length h)) ++ left_text q.opening (oldest h y) (left_of q.addresses wanted h y)
+
+pub law_told : LinesAreHits
 unfolding answer left_of
-law_told q k n wanted [] y whole = ([], refl)
+law_told q k n wanted [] y whole = refl
 law_told q k n wanted (r ∷ h) y whole =
-    by_hit (λ ws. left_text q.opening (oldest h r.before) (left_of q.addresses ws h r.before)) _ _
-    (wanted_before q r y wanted) (still_wanted y (overwritten r.before r.move) wanted)
-    (are_hit (written y (overwritten r.before r.move)) wanted)
-    (hit_ends (line_of q (k + 1) r y) (left_text q.opening (oldest h r.before) (left_of q.addresses (wanted_before q r y wanted) h r.before))
-    (answer q (k + 1) (n - 1) (wanted_before q r y wanted) h r.before) (n == 0) (nat_lt most_places (length (wanted_before q r y wanted)))
+    let hit = are_hit (written y (overwritten r.before r.move)) wanted in
+    let line = line_of q (k + 1) r y in
+    let before = passed q.addresses r y wanted in
+    let read =
+    by_hit (rest_text q (k + 1) h r.before) line _ _ (wanted_before q r y wanted) (still_wanted y (overwritten r.before r.move) wanted) hit
+    (hit_reads line (rest_text q (k + 1) h r.before (wanted_before q r y wanted)) (answer q (k + 1) (n - 1) (wanted_before q r y wanted) h r.before) (n == 0) (nat_lt most_places (length (wanted_before q r y wanted)))
     (law_told q (k + 1) (n - 1) (wanted_before q r y wanted) h r.before))
     (law_told q (k + 1) n (still_wanted y (overwritten r.before r.move) wanted) h r.before)
-    whole
+    whole in
+    let first : k + 0 + 1 ≡ k + 1 = omega arith in
+    read
+    ∙ sym (append_assoc (if hit then line else []) (flat_map (told_at q (k + 1) before h r.before) (range_with_len 0 (length h))) _)
+    ∙ ap (λ (t : List ℕ). ((if hit then line else []) ++ t) ++ left_text q.opening (oldest h r.before) (left_of q.addresses before h r.before))
+    (sym (shifted (told_at q k wanted (r ∷ h) y) (told_at q (k + 1) before h r.before) 0 (length h) (told_behind q k wanted r h y)))
+    ∙ ap (λ j. ((told_by q j y wanted r) ++ flat_map (told_at q k wanted (r ∷ h) y) (range_with_len 1 (length h))) ++ left_text q.opening (oldest h r.before) (left_of q.addresses before h r.before)) (sym first)

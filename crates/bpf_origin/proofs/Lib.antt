@@ -9,3 +9,4 @@ pub mod Backs
 pub mod Turning
 pub mod Going
 pub mod Asking
+mod Paths

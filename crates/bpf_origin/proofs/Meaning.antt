@@ -88,7 +88,7 @@ same_is (Byte a) (Register e s) h = cc
 same_is (Byte a) (Word j) h = cc
 
 -- What is in a list of places.
-in_either : (p : Place) (xs ys : List Place) → is_in p (xs ++ ys) ≡ true → (is_in p xs ≡ true) ⊎ (is_in p ys ≡ true)
+pub in_either : (p : Place) (xs ys : List Place) → is_in p (xs ++ ys) ≡ true → (is_in p xs ≡ true) ⊎ (is_in p ys ≡ true)
 in_either p xs ys e = either (is_in p xs) (is_in p ys) (sym (list_any-append (same p) xs ys) ∙ e)
 
 in_one : (p : Place) → is_in p (p ∷ []) ≡ true

@@ -1,15 +1,19 @@
 -- What an answer means: run again along the same path from any state that agrees on the places that are left, and the value is the same.
-use Rattle.std.specs.Prelude.{◌≡◌, ℕ, Bool, true, false, if◌then◌else◌, List, [], ◌∷◌, ◌++◌}
+use Rattle.std.specs.Prelude.{◌≡◌, ℕ, ◌+◌, Bool, true, false, if◌then◌else◌, List, [], ◌∷◌, ◌++◌, flat_map, length, slice_get, take}
+use Rattle.std.specs.List.{range_with_len}
+use Rattle.std.specs.Option.{option_map_or}
 use Rattle.bpf_journal.specs.Histories.{Record, IsRun}
+use Rattle.bpf_journal.specs.Lookups.{state_before}
 use Rattle.bpf_machine.specs.Moves.{overwritten}
 use Rattle.bpf_machine.specs.State.{State}
+use Rattle.bpf_machine.specs.declared.moves.Move.TheVariants as move
 use Rattle.bpf_origin.specs.declared.place.Place.{Place}
 use Rattle.bpf_origin.specs.declared.question.Question.{Question}
 use Rattle.bpf_origin.specs.declared.question.Extent.TheVariants.{Whole}
-use Rattle.bpf_origin.specs.Answers.{answer}
+use Rattle.bpf_origin.specs.Answers.{answer, line_of}
 use Rattle.bpf_origin.specs.Laws.{StandAlike, Agree, AgreeOn}
 use Rattle.bpf_origin.specs.Places.{IsPlace}
-use Rattle.bpf_origin.specs.Reads.{bases, followed}
+use Rattle.bpf_origin.specs.Reads.{bases, conditions, followed, reads}
 use Rattle.bpf_origin.specs.Texts.{left_text}
 use Rattle.bpf_origin.specs.Wanted.{is_in, want_parts, are_hit, still_wanted}
 use Rattle.bpf_origin.specs.Writes.{written}
@@ -51,9 +55,35 @@ LeftIsAll =
     IsRun h y → IsRun g w → GoAlike addresses h y g w → ArePlaces y wanted →
     Agree (left_of addresses wanted h y) (oldest h y) (oldest g w) → Agree wanted y w
 
--- An answer that is not cut ends with a line for each of these places, with its value in the oldest state.
-abbrev pub AnswersTellWhatIsLeft : Type 0
-AnswersTellWhatIsLeft =
+-- What is told of the move with i newer ones, after k moves that were told before: its line, just if it wrote a place that the newer ones
+-- left wanted.
+abbrev pub told_by : Question → ℕ → State → List Place → Record → List ℕ
+told_by q k y wanted r = if are_hit (written y (overwritten r.before r.move)) wanted then line_of q k r y else []
+
+abbrev pub told_at : Question → ℕ → List Place → List Record → State → ℕ → List ℕ
+told_at q k wanted h y i =
+    option_map_or (told_by q (k + i + 1) (state_before i h y) (left_of q.addresses wanted (take i h) y)) (slice_get h i) []
+
+-- An answer that is not cut has these lines, from the newest move to the oldest, and then a line for each place that is left, with its value
+-- in the oldest state.
+abbrev pub LinesAreHits : Type 0
+LinesAreHits =
     (q : Question) (k n : ℕ) (wanted : List Place) (h : List Record) (y : State) → (answer q k n wanted h y).extent ≡ Whole →
-    (lines : List ℕ)
-    × ((answer q k n wanted h y).text ≡ lines ++ left_text q.opening (oldest h y) (left_of q.addresses wanted h y))
+    (answer q k n wanted h y).text
+    ≡ flat_map (told_at q k wanted h y) (range_with_len 0 (length h)) ++ left_text q.opening (oldest h y) (left_of q.addresses wanted h y)
+
+-- Two runs of steps, from states that stand alike, agree before each step on all that it reads, the registers of its addresses and of its
+-- condition among that.
+abbrev pub RunAlike : List Record → State → List Record → State → Type 0
+RunAlike [] y [] w = StandAlike y w
+RunAlike (r ∷ h) y (s ∷ g) w =
+    (r.move ≡ move.Step) × (s.move ≡ move.Step)
+    × AgreeOn (reads r.before move.Step ++ (bases r.before move.Step ++ conditions r.before move.Step)) r.before s.before
+    × RunAlike h r.before g s.before
+RunAlike h y g w = ⊥
+
+-- So they go alike: whoever sees that they do needs to look at nothing else.
+abbrev pub AgreeingRunsGoAlike : Type 0
+AgreeingRunsGoAlike =
+    (addresses : Bool) (h : List Record) (y : State) (g : List Record) (w : State) → IsRun h y → IsRun g w → RunAlike h y g w →
+    GoAlike addresses h y g w

@@ -1,6 +1,6 @@
 //! Laws of the definitions, each proved as the contract of a function that does nothing.
 ghost use Rattle.bpf_origin.specs.Laws.{MovesKeepOtherPlaces, MovesWriteWhatTheyRead, StepsGoByConditions};
-ghost use Rattle.bpf_origin.specs.Meaning.{AnswersTellWhatIsLeft, LeftIsAll};
+ghost use Rattle.bpf_origin.specs.Meaning.{AgreeingRunsGoAlike, LeftIsAll, LinesAreHits};
 
 /// A move changes no place but those that it writes.
 #[tactic(none)]
@@ -25,10 +25,17 @@ pub fn steps_go_by_conditions()
 
 /// What is left is all that an answer depends on: two histories along one path with the same
 /// addresses, from states that agree on the places that are left, lead to states that agree on the
-/// places asked for. An answer that is not cut ends with a line for each of the places that are
-/// left.
+/// places asked for. An answer that is not cut has a line of a move just if that wrote a place that
+/// the newer ones left wanted, and ends with a line for each of the places that are left.
 #[tactic(none)]
 pub fn what_is_left_is_all()
     ensures all { LeftIsAll }
-    ensures told { AnswersTellWhatIsLeft }
+    ensures told { LinesAreHits }
+{}
+
+/// Two runs of steps go along one path, from states at one point of a program, if they agree before
+/// each step on what it reads and on the registers of its addresses and of its condition.
+#[tactic(none)]
+pub fn agreeing_runs_go_alike()
+    ensures { AgreeingRunsGoAlike }
 {}
