@@ -29,6 +29,8 @@ FIRST_TOKEN, FIRST_MAP, MAP_STRIDE, MOST_MAPS = 0x400000000, 0x300000000, 0x1000
 # Kinds of watches that stop at reads; and how the header of an object for BPF tells its kind and machine.
 READ_WATCHES = (gdb.BP_READ_WATCHPOINT, gdb.BP_ACCESS_WATCHPOINT)
 OBJECT_FOR_BPF = b"\x01\x00\xf7\x00"
+# How many lines of a listing are asked for at once: the reply has at most 8,192 bytes.
+PART = 100
 NOT_CONNECTED = "bpfdb isn't connected: bpf-load FILE starts a program"
 # Where programs are looked for that belong to this file: in 'bin' of where it is installed, or beside it, and then as the shell does.
 HERE = os.path.dirname(os.path.abspath(__file__))
@@ -37,28 +39,37 @@ PLACES = os.pathsep.join([BIN, os.environ.get("PATH", "")])
 
 
 class Commands:
-    """How many moves lay before the state behind each command of gdb's user, in ascending order."""
+    """How many moves lay before the state behind each command of gdb's user, in ascending order: of those that stand, and of those that were taken
+    back and can be made again."""
 
-    def __init__(self, begin=0):
-        self.begin, self.ends = begin, []
+    def __init__(self, begin=0, entry=None):
+        self.begin, self.now, self.entry, self.ends = begin, begin, entry, []
 
     def stop(self, event):
         """Notes where a command stopped."""
         if is_connected():
-            self.note(int(gdb.newest_frame().read_register(MOVES)))
+            count = int(gdb.newest_frame().read_register(MOVES))
+            self.note(count, count > self.now)
+            if count < self.begin:
+                gdb.write("the data of the program are set up here: advance *0x%x goes on to the entry\n" % self.entry)
 
     def edit(self, event):
         """Notes an edit, of which gdb has no new count of moves."""
         if is_connected():
-            self.note(moves())
+            self.note(moves(), True)
 
-    def note(self, end):
-        """Notes where a command ended. One that went back ends before others, which then are no more."""
-        self.ends = [other for other in self.ends if other < end] + [end]
+    def note(self, end, is_new):
+        """Notes where a command ended. Behind new moves none can be made again."""
+        self.ends = sorted({end, *(other for other in self.ends if other <= self.now or not is_new)})
+        self.now = end
 
     def start(self, now):
         """How many moves lay before the last command."""
         return max((end for end in self.ends if end < now), default=min(self.begin, now))
+
+    def end(self, now):
+        """How many moves lay behind the command that was taken back last, one more where none is known."""
+        return min((end for end in self.ends if end > now), default=now + 1)
 
 
 class Returns:
@@ -203,6 +214,28 @@ class Unwinder(gdb.unwinder.Unwinder):
         return frame
 
 
+class Listing:
+    """The program's instructions, as bpfdb's listings have them, by their slots. They are read where a connection begins, and not while gdb shows
+    where a breakpoint stopped: behind what is asked then gdb would execute its commands."""
+
+    def __init__(self):
+        self.connection, self.texts = None, {}
+
+    def read(self, event=None):
+        """Reads the listing of a program that isn't known yet, a part at a time, and counts commands anew."""
+        if not is_connected() or self.connection is connection():
+            return
+        commands.__init__()
+        self.connection, self.texts, slot, count = connection(), {}, 0, 0
+        while count in (0, PART):
+            lines = [line.partition(": ") for line in ask("disas %d %d" % (slot, PART)).splitlines()]
+            self.texts.update((int(place), text.strip()) for place, _, text in lines)
+            slot, count = max(self.texts), len(lines)
+
+
+listing = Listing()
+
+
 class Disassembler(gdb.disassembler.Disassembler):
     """Instructions as bpfdb's listings have them."""
 
@@ -214,10 +247,10 @@ class Disassembler(gdb.disassembler.Disassembler):
             return None
         length = 2 * SLOT if bytes(info.read_memory(1)) == WIDE_LOAD else SLOT
         slot, rest = divmod(info.address, SLOT)
-        place, found, text = ask("disas %d 1" % slot).partition(": ")
-        if rest or place != str(slot) or not found:
+        listing.read()
+        if rest or slot not in listing.texts:
             return gdb.disassembler.DisassemblerResult(SLOT, "(no instruction)")
-        return gdb.disassembler.DisassemblerResult(length, text.strip())
+        return gdb.disassembler.DisassemblerResult(length, listing.texts[slot])
 
 
 class Asker(gdb.Command):
@@ -240,7 +273,7 @@ class Mover(Asker):
         """Shows what bpfdb replied, and where the machine stands then."""
         print(reply, end="")
         forget()
-        commands.note(moves())
+        commands.note(moves(), False)
         gdb.execute("frame")
 
 
@@ -268,10 +301,11 @@ class Undo(Mover):
 
 
 class Redo(Mover):
-    """bpf-redo [COUNT]: makes the next COUNT moves again that were taken back, edits too."""
+    """bpf-redo [COUNT]: makes the command again that was taken back last, as a whole next or continue, or the next COUNT moves; edits too."""
 
     def obey(self, argument):
-        self.tell(ask("redo " + argument))
+        now = moves()
+        self.tell(ask("redo %s" % (argument or commands.end(now) - now)))
 
 
 class LastWrite(Asker):
@@ -324,8 +358,37 @@ class Origin(Asker):
             return []
         value = gdb.parse_and_eval(text)
         if value.address is None:
-            raise gdb.GdbError("%s lies in a register: ask for that, as $r3, in the innermost frame" % text)
+            raise gdb.GdbError(self.why_not(text))
         return ["0x%x:%d" % (int(value.address) % 2**64, value.type.sizeof)]
+
+    def why_not(self, text):
+        """Why there is no answer of a value that isn't in memory."""
+        if text.startswith("$"):
+            return "bpf-origin tells of r0 to r9, in the innermost frame"
+        frame = gdb.selected_frame()
+        register = register_of(text, frame)
+        if not register:
+            return "%s has no place here: ask for a register, as $r3, or for ADDRESS:COUNT" % text
+        if frame != gdb.newest_frame():
+            return "%s lies in %s: that is told of in the innermost frame alone" % (text, register)
+        return "%s lies in %s: ask for $%s" % (text, register, register)
+
+
+def register_of(name, frame):
+    """The register in which a variable of a frame lies, None where it lies in none."""
+    try:
+        lines = gdb.execute("info address " + name, to_string=True).splitlines()
+    except (gdb.error, UnicodeDecodeError):
+        return None
+    # (of a caller the place is asked for at its call)
+    place = frame.pc() - (frame != gdb.newest_frame())
+    for line in lines:
+        begin, end = re.search(r"Range (0x\w+)-(0x\w+):|$", line).groups(default="")
+        found = re.search(r"a variable in \$(\w+)", line)
+        names = REGISTERS[frame.architecture().name()]
+        if found and found[1] in names and (not begin or int(begin, 16) <= place < int(end, 16)):
+            return "r%d" % names.index(found[1])
+    return None
 
 
 class Registers(Asker):
@@ -396,7 +459,7 @@ class Load(Asker):
         self.folder = None
 
     def obey(self, argument):
-        words = gdb.string_to_argv(argument) or self.words
+        words = [os.path.expanduser(word) for word in gdb.string_to_argv(argument)] or self.words
         if not words:
             raise gdb.GdbError("bpf-load FILE [OPTIONS]")
         inferior = gdb.selected_inferior()
@@ -408,18 +471,27 @@ class Load(Asker):
         base = os.path.join(tempfile.mkdtemp(dir=self.folder.name), os.path.splitext(os.path.basename(words[0]))[0])
         load = load_object if is_object(words[0]) else load_listing
         options = load(words[0], words[1:], base)
+        # (without a packet bpfdb ends at once, or says what it refuses)
+        called("bpfdb", ["gdb", *options])
         if inferior.pid:
             gdb.execute("with confirm off -- kill", to_string=True)
-        gdb.execute("with confirm off -- file %s" % base + ".sym", to_string=True)
-        command = shlex.join([found("bpfdb"), "gdb", *options])
+        gdb.execute("with confirm off -- file " + re.sub(r"([\\\s'\"])", r"\\\1", base + ".sym"), to_string=True)
         self.words = words
-        if gdb.execute("info symbol 0", to_string=True).startswith("No symbol"):
-            # (the program begins with a setup of its data, and the entry is behind its first slot)
-            gdb.execute("with suppress-cli-notifications on -- target remote | " + command, to_string=True)
-            gdb.execute("advance *%d" % SLOT)
-        else:
-            gdb.execute("target remote | " + command, to_string=True)
-        commands.__init__(moves())
+        quietly = "with suppress-cli-notifications on -- "
+        gdb.execute(quietly + "target remote | " + shlex.join([found("bpfdb"), "gdb", *options]), to_string=True)
+        if begins_with_setup():
+            # (the entry is behind its first slot)
+            gdb.execute(quietly + "advance *%d" % SLOT)
+        gdb.execute("frame")
+        commands.__init__(moves(), gdb.newest_frame().pc())
+
+
+def begins_with_setup():
+    """Whether the program begins with a setup of its data: then no function stands at its first slot."""
+    try:
+        return gdb.execute("info symbol 0", to_string=True).startswith("No symbol")
+    except UnicodeDecodeError:
+        return False
 
 
 def is_object(file):
@@ -485,24 +557,27 @@ def called(name, words):
 
 
 class Break(Asker):
-    """hbreak: sets a breakpoint, as break does: bpfdb has one kind."""
+    """hbreak, thbreak: set a breakpoint, as break and tbreak do: bpfdb has one kind."""
 
-    def __init__(self):
-        super().__init__("hbreak", gdb.COMMAND_BREAKPOINTS, gdb.COMPLETE_LOCATION)
+    def __init__(self, name, meant):
+        super().__init__(name, gdb.COMMAND_BREAKPOINTS, gdb.COMPLETE_LOCATION)
+        self.meant = meant
 
     def obey(self, argument):
-        gdb.execute("break " + argument)
+        gdb.execute(self.meant + " " + argument)
 
 
-class RefuseRun(Asker):
-    """Refuses run, before which it is called, where a program stands in bpfdb."""
+class Refuse(Asker):
+    """Refuses a command of gdb's, before which it is called, where a program stands in bpfdb."""
 
-    def __init__(self):
-        super().__init__("maintenance bpf-refuse-run", gdb.COMMAND_MAINTENANCE)
+    def __init__(self, name, why):
+        super().__init__("maintenance bpf-refuse-" + name, gdb.COMMAND_MAINTENANCE)
+        self.why = why
+        gdb.execute("define hook-%s\nmaintenance bpf-refuse-%s\nend" % (name, name))
 
     def obey(self, argument):
         if is_connected():
-            raise gdb.GdbError("the program runs in bpfdb: continue goes on, and bpf-load starts it anew")
+            raise gdb.GdbError(self.why)
 
 
 def refuse_reads(stop):
@@ -525,11 +600,13 @@ def look_at_file(event):
 
 
 gdb.events.cont.connect(returns.forget)
+gdb.events.stop.connect(listing.read)
 gdb.events.stop.connect(commands.stop)
 gdb.events.memory_changed.connect(commands.edit)
 gdb.events.register_changed.connect(commands.edit)
 gdb.events.breakpoint_created.connect(refuse_reads)
 gdb.events.new_objfile.connect(look_at_file)
+listing.read()
 gdb.unwinder.register_unwinder(None, Unwinder(), replace=True)
 gdb.disassembler.register_disassembler(Disassembler())
 Load()
@@ -539,9 +616,11 @@ LastWrite()
 Origin()
 Registers()
 Map()
-Break()
-RefuseRun()
-gdb.execute("define hook-run\nmaintenance bpf-refuse-run\nend")
+Break("hbreak", "break")
+Break("thbreak", "tbreak")
+for name in ("run", "start", "starti"):
+    Refuse(name, "the program runs in bpfdb: continue goes on, and bpf-load starts it anew")
+Refuse("return", "BPF has no way to leave a call early: finish goes on to its end, and bpf-undo goes back")
 gdb.execute("define hookpost-monitor\npython Origin.asks or forget()\nend")
 # bpfdb watches four bytes; gdb compares what is wider, and further watches, by itself, step by step.
 gdb.execute("set remote hardware-watchpoint-limit 1")

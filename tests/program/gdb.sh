@@ -31,11 +31,11 @@ installed() {
     sed "/^source /s|/usr/local/share/bpfdb/|$top/share/|"
 }
 
-# talk GDB OPTION..: gdb on what is typed. It finds the program as bpfdb.
+# talk GDB OPTION..: gdb on what is typed. It finds the program as bpfdb, and the folder for temporary files has a blank in its name.
 talk() {
     gdb=$1
     shift
-    PATH=$PWD/bin:$PATH LC_ALL=C DEBUGINFOD_URLS='' timeout 120 "$gdb" -nx -q "$@" < typed 2>&1 | sed 's/ *$//; /^$/d' > found/lines
+    HOME=$PWD TMPDIR="$PWD/a b" PATH=$PWD/bin:$PATH LC_ALL=C DEBUGINFOD_URLS='' timeout 120 "$gdb" -nx -q "$@" < typed 2>&1 | sed 's/ *$//; /^$/d' > found/lines
 }
 
 # hold NAME: holds the lines found against those that are wanted.
@@ -72,6 +72,7 @@ story() {
 if has python3 'sessions in gdb'; then
     mkdir bin
     ln -s "$program" bin/bpfdb
+    mkdir 'a b'
     printf 'loop: add r0, 1\njlt r0, 3, loop\nstxdw [r10-8], r0\nexit\n' > count.s
     printf 'mov r1, 1\nldxdw r0, [r1+0]\nexit\n' > access.s
     printf 'callf f\nexit\nf: callf f\nexit\n' > deep.s
@@ -90,9 +91,15 @@ if has python3 'sessions in gdb'; then
         [ "$(wc -l < story$number.txt)" -gt 2 ] || complain "docs/GDB.md shows no session $number"
     done
 
+    # Names that gdb takes apart at blanks and quotes.
+    cp overrun.o 'a b/over run.o'
+    cp overrun.o "it's one.o"
+    cp context.bin 'a b/con text.bin'
+    cp "$parts/gdb/sum.s" 'a b/my sum.s'
+
     sessions=$parts/gdb
     if serves gdb 'sessions in gdb'; then
-        for name in steps stops edits faults calls limits source sections traps bare load origin; do
+        for name in steps stops edits faults calls limits source sections traps bare load names habits origin; do
             transcript gdb "$sessions/$name.txt"
         done
         transcript gdb story1.txt
@@ -112,9 +119,10 @@ if has python3 'sessions in gdb'; then
         for _ in 1 2 3 4 5 6 7 8 9 10; do [ -s ended ] || sleep 0.5; done
         echo 0 > wanted/ended
         same 'the end of commands at a fault' wanted/ended ended
-        if has_clang 'maps in gdb'; then
-            for name in flows sized data; do compiled $name; done
+        if has_clang 'maps and odd names in gdb'; then
+            for name in flows sized data odd; do compiled $name; done
             transcript gdb "$sessions/maps.txt"
+            transcript gdb "$sessions/odd.txt"
         fi
         editor gdb "$sessions/editor.txt"
     fi
