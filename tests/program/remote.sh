@@ -17,26 +17,26 @@ answered() {
 printf 'mov r0, 42\nexit\n' > answer.s
 row 'a step, the way back, and the end' 0 '$s#73$bs#d5$bs#d5$D#44' '+$T05thread:0;0a:0002000002000000;0b:0800000000000000;40:0100000000000000;#c9+$T05thread:0;0a:0002000002000000;0b:0000000000000000;40:0000000000000000;#c0+$T05replaylog:begin;thread:0;0a:0002000002000000;0b:0000000000000000;40:0000000000000000;#09+$OK#9a' '' gdb --listing answer.s
 row 'nothing' 0 '' '' '' gdb --listing answer.s
-row 'a damaged packet, and one behind it' 0 '$s#00$?#3f' '-+$T05thread:0;0a:0002000002000000;0b:0000000000000000;40:0000000000000000;#c0' '' gdb --listing answer.s
-row 'sums that are none' 0 '$?#3g$?#g3$?##3f$?#3f' '---+$T05thread:0;0a:0002000002000000;0b:0000000000000000;40:0000000000000000;#c0' '' gdb --listing answer.s
+row 'a damaged packet, and one behind it' 0 '$s#00$?#3f' '-+$T00thread:0;0a:0002000002000000;0b:0000000000000000;40:0000000000000000;#bb' '' gdb --listing answer.s
+row 'sums that are none' 0 '$?#3g$?#g3$?##3f$?#3f' '---+$T00thread:0;0a:0002000002000000;0b:0000000000000000;40:0000000000000000;#bb' '' gdb --listing answer.s
 row 'the last answer again' 0 '$s#73-' '+$T05thread:0;0a:0002000002000000;0b:0800000000000000;40:0100000000000000;#c9$T05thread:0;0a:0002000002000000;0b:0800000000000000;40:0100000000000000;#c9' '' gdb --listing answer.s
-row 'noise' 0 'noise#3f+\003$?#3f++' '+$T05thread:0;0a:0002000002000000;0b:0000000000000000;40:0000000000000000;#c0' '' gdb --listing answer.s
+row 'noise' 0 'noise#3f+\003$?#3f++' '+$T00thread:0;0a:0002000002000000;0b:0000000000000000;40:0000000000000000;#bb' '' gdb --listing answer.s
 row 'nothing is answered behind the end of a connection' 0 '$D#44$?#3f' '+$OK#9a' '' gdb --listing answer.s
 row 'the end without an answer' 0 '$k#6b$?#3f' '+' '' gdb --listing answer.s
-row 'no more acknowledgements' 0 '$QStartNoAckMode#b0$?#3f$?#00' '+$OK#9a$T05thread:0;0a:0002000002000000;0b:0000000000000000;40:0000000000000000;#c0-' '' gdb --listing answer.s
+row 'no more acknowledgements' 0 '$QStartNoAckMode#b0$?#3f$?#00' '+$OK#9a$T00thread:0;0a:0002000002000000;0b:0000000000000000;40:0000000000000000;#bb-' '' gdb --listing answer.s
 row 'a limit of steps' 0 '$c#63' '+$O6c696d6974206f6620312073746570733a20636f6e74696e756520676f6573206f6e0a#ba$T02thread:0;0a:0002000002000000;0b:0800000000000000;40:0100000000000000;#c6' '' gdb --listing --steps 1 answer.s
 for cut in '$' '$?' '$?#' '$?#3'; do
     row "a packet that is cut: $cut" 0 "\$s#73$cut" '+$T05thread:0;0a:0002000002000000;0b:0800000000000000;40:0100000000000000;#c9' '' gdb --listing answer.s
 done
 { printf '$'; head -c 16385 /dev/zero | tr '\0' 'p'; printf '#70$?#3f'; } > script
 run gdb --listing answer.s
-check 'a packet that is too long' 0 '-+$T05thread:0;0a:0002000002000000;0b:0000000000000000;40:0000000000000000;#c0' ''
+check 'a packet that is too long' 0 '-+$T00thread:0;0a:0002000002000000;0b:0000000000000000;40:0000000000000000;#bb' ''
 printf 'frob\n' > wrong.s
 row 'a refused listing' 2 '$?#3f' '' 'refused A1 at line 1: unknown mnemonic\n' gdb --listing wrong.s
 row 'a refused journal' 2 '$?#3f' '' 'refused J1: journal size out of range\n' gdb --journal 1 --listing answer.s
 
 # The tables: sessions, streams of bytes, beginnings of a stream, and descriptions of machines.
-for name in requests refusals numbers statuses stops watches lengths machines origin; do
+for name in requests refusals numbers statuses stops ends watches frames lengths machines origin; do
     play_blocks "$parts/packets/$name.txt"
 done
 streams_of "$parts/packets/streams.txt"
@@ -144,7 +144,7 @@ vCont?|vCont;c;C;s;S
 Z2,2000001f8,2|OK
 vCont;c:1|T05watch:00000002000001f8;
 vCont;s:1|T0b|fault access 0x0 at 1
-S0b|T05replaylog:end;|fault access 0x0 at 1
+S0b|T00|fault access 0x0 at 1
 bs|T05
 bc|T05watch:00000002000001f8;
 pb|0000000000000000
@@ -152,7 +152,7 @@ z2,2000001f8,2|OK
 P0=f801000002000000|OK
 C05|T05replaylog:end;|exited at 2: r0 0x7
 c|T05replaylog:end;|exited at 2: r0 0x7
-?|T05replaylog:end;
+?|T00
 bc|T05replaylog:begin;
 vCont;t|E02
 ROWS
@@ -193,7 +193,7 @@ same 'help lists the commands' wanted/help found/help
 { yes 'stdw [r10-256], -2147483648' | head -n 256; echo exit; } > long.s
 requests 'a reply that is too long' gdb --listing long.s <<'ROWS'
 qRcmd,6469736173203020323536|E10
-?|T05
+?|T00
 ROWS
 packet qRcmd,6469736173203020323531 > script
 run gdb --listing long.s

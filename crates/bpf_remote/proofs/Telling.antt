@@ -59,13 +59,13 @@ registers-more text x n value e =
     ∙ ap (λ (k : ℕ). text ++ registers_below x k) (sym (add-one n))
 
 -- the bytes from an address on, by the first of them
-abbrev first-of : State → ℕ → ℕ → Option (List ℕ) → List ℕ
+abbrev first-of : State → ℕ → ℕ → Option ℕ → List ℕ
 first-of m a n None = []
-first-of m a n (Some bytes) = bytes ++ present m (a + 1) n
+first-of m a n (Some byte) = byte ∷ present m (a + 1) n
 
-present-first : (m : State) (a n : ℕ) (bytes : List ℕ) → byte_at m a ≡ Some bytes → present m a (suc n) ≡ bytes ++ present m (a + 1) n
+present-first : (m : State) (a n byte : ℕ) → byte_at m a ≡ Some byte → present m a (suc n) ≡ byte ∷ present m (a + 1) n
 unfolding present
-present-first m a n bytes e = ap (first-of m a n) e
+present-first m a n byte e = ap (first-of m a n) e
 
 present-absent : (m : State) (a n : ℕ) → byte_at m a ≡ None → present m a (suc n) ≡ []
 unfolding present
@@ -79,13 +79,13 @@ present-zero m a = refl
 one-of : (k n : ℕ) → k < n → n - k ≡ suc (n - (k + 1))
 one-of k n h = omega arith
 
-pub memory-more : (m : State) (a n k : ℕ) (front bytes : List ℕ) → k < n → byte_at m (a + k) ≡ Some bytes → hex_text (present m a n) ≡ front ++ hex_text (present m (a + k) (n - k))
-    → hex_text (present m a n) ≡ (front ++ hex_text bytes) ++ hex_text (present m (a + (k + 1)) (n - (k + 1)))
-memory-more m a n k front bytes inside e so =
-    let here : present m (a + k) (n - k) ≡ bytes ++ present m (a + (k + 1)) (n - (k + 1)) =
-    ap (present m (a + k)) (one-of k n inside) ∙ present-first m (a + k) (n - (k + 1)) bytes e ∙ ap (λ (v : ℕ). bytes ++ present m v (n - (k + 1))) (omega arith) in
-    so ∙ ap (λ (v : List ℕ). front ++ v) (ap hex_text here ∙ hex_text-append bytes (present m (a + (k + 1)) (n - (k + 1))))
-    ∙ sym (append_assoc front (hex_text bytes) (hex_text (present m (a + (k + 1)) (n - (k + 1)))))
+pub memory-more : (m : State) (a n k : ℕ) (front : List ℕ) (byte : ℕ) → k < n → byte_at m (a + k) ≡ Some byte → hex_text (present m a n) ≡ front ++ hex_text (present m (a + k) (n - k))
+    → hex_text (present m a n) ≡ (front ++ hex_text (byte ∷ [])) ++ hex_text (present m (a + (k + 1)) (n - (k + 1)))
+memory-more m a n k front byte inside e so =
+    let here : present m (a + k) (n - k) ≡ byte ∷ present m (a + (k + 1)) (n - (k + 1)) =
+    ap (present m (a + k)) (one-of k n inside) ∙ present-first m (a + k) (n - (k + 1)) byte e ∙ ap (λ (v : ℕ). byte ∷ present m v (n - (k + 1))) (omega arith) in
+    so ∙ ap (λ (v : List ℕ). front ++ v) (ap hex_text here ∙ hex_text-append (byte ∷ []) (present m (a + (k + 1)) (n - (k + 1))))
+    ∙ sym (append_assoc front (hex_text (byte ∷ [])) (hex_text (present m (a + (k + 1)) (n - (k + 1)))))
 
 pub memory-end : (m : State) (a n k : ℕ) (front : List ℕ) → k < n → byte_at m (a + k) ≡ None → hex_text (present m a n) ≡ front ++ hex_text (present m (a + k) (n - k))
     → hex_text (present m a n) ≡ front

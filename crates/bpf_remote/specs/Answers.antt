@@ -1,5 +1,5 @@
 -- What the bodies of answers tell.
-use Rattle.std.specs.Prelude.{ℕ, zero, suc, ◌+◌, ◌-◌, ◌*◌, ◌^◌, ◌∷◌, slice_index, take, drop, ◌==◌, ◌&&◌, is_some, min, if◌then◌else◌, nat_lt, nat_le, Bool, List, [], ◌++◌, Some, None, Result, Ok, Err, length, Option}
+use Rattle.std.specs.Prelude.{ℕ, zero, suc, ◌+◌, ◌-◌, ◌*◌, ◌^◌, ◌∷◌, slice_index, take, drop, ◌==◌, ◌&&◌, is_some, option_map, min, if◌then◌else◌, nat_lt, nat_le, Bool, List, [], ◌++◌, Some, None, Result, Ok, Err, length, Option}
 use lib.Chars.{codes}
 use Rattle.bpf_entries.specs.declared.status.Fault.TheVariants.{Access}
 use Rattle.bpf_entries.specs.declared.status.Status.{Status}
@@ -13,6 +13,7 @@ use Rattle.bpfdb_replies.specs.declared.why.Why.{Why}
 use Rattle.bpfdb_replies.specs.declared.why.Why.TheVariants as why
 use Rattle.bpf_session.specs.declared.reply.Reply.{Reply}
 use Rattle.bpf_session.specs.declared.reply.Reply.TheVariants as reply
+use Rattle.bpf_remote.specs.Frames.{frame_byte, frames_base}
 use Rattle.bpf_remote.specs.Layouts.{described, described_again, has_moves}
 use Rattle.bpf_remote.specs.Numbers.{address_text, hex_text, word_text}
 use Rattle.bpf_remote.specs.Packets.{longest_body, two_digits}
@@ -24,48 +25,54 @@ use Rattle.bpf_remote.specs.declared.layout.Layout.{Layout}
 use Rattle.bpf_remote.specs.declared.layout.Layout.TheVariants as layout
 use Rattle.bpf_remote.specs.declared.manners.Manners.{Manners}
 
--- How a machine stands still in this status, and behind a command that ended for this reason.
-abbrev pub halt_of_status : Status → Halt
-halt_of_status Running = halt.Step
-halt_of_status Exited = halt.End
-halt_of_status (Faulted (Access address)) = halt.Access
-halt_of_status (Faulted _) = halt.Fault
+-- How a machine stands still that has ended: gdb is told of the end of what is kept only where the machine was to go on until something stops it;
+-- behind a step gdb doesn't expect that, and waits for ever.
+abbrev pub halt_of_end : Bool → Halt
+halt_of_end runs = if runs then halt.End else halt.Still
 
-abbrev pub halt_of : Why → Status → Halt
-halt_of why.End status = halt_of_status status
-halt_of why.Break status = halt.Break
-halt_of why.Watch status = halt.Step
-halt_of why.Done status = halt.Step
-halt_of why.All status = halt.Step
-halt_of why.Limit status = halt.Limit
-halt_of why.Memory status = halt.Memory
-halt_of why.Start status = halt.Begin
+-- How one stands still in this status, and behind a command that ended for this reason.
+abbrev pub halt_of_status : Bool → Status → Halt
+halt_of_status runs Running = halt.Still
+halt_of_status runs Exited = halt_of_end runs
+halt_of_status runs (Faulted (Access address)) = halt.Access
+halt_of_status runs (Faulted _) = halt.Fault
+
+abbrev pub halt_of : Bool → Why → Status → Halt
+halt_of runs why.End status = halt_of_status runs status
+halt_of runs why.Break status = halt.Break
+halt_of runs why.Watch status = halt.Step
+halt_of runs why.Done status = halt.Step
+halt_of runs why.All status = halt.Step
+halt_of runs why.Limit status = halt.Limit
+halt_of runs why.Memory status = halt.Memory
+halt_of runs why.Start status = halt.Begin
 
 -- The same with the first watched byte that has changed since before the command. (There may be none behind a way back over edits.)
-abbrev pub answer_of_why : Why → Status → Option ℕ → Answer
-answer_of_why why.Watch status (Some address) = answer.Watched address
-answer_of_why why status changed = answer.Halted (halt_of why status)
+abbrev pub answer_of_why : Bool → Why → Status → Option ℕ → Answer
+answer_of_why runs why.Watch status (Some address) = answer.Watched address
+answer_of_why runs why status changed = answer.Halted (halt_of runs why status)
 
 -- The answer to a request that moves: where a machine has ended, or nothing is kept, the way there is at its end.
-abbrev pub answer_of_move : Result Reply Refusal → Status → Option ℕ → Answer
-answer_of_move (Ok (reply.Forward steps why)) status changed = answer_of_why why status changed
-answer_of_move (Ok (reply.Back moves why)) status changed = answer_of_why why status changed
-answer_of_move (Ok _) status changed = answer.Done
-answer_of_move (Err MachineEnded) status changed = answer.Halted halt.End
-answer_of_move (Err NoKeptStep) status changed = answer.Halted halt.Begin
-answer_of_move (Err refusal) status changed = answer.Error (number_of refusal)
+abbrev pub answer_of_move : Result Reply Refusal → Bool → Status → Option ℕ → Answer
+answer_of_move (Ok (reply.Forward steps why)) runs status changed = answer_of_why runs why status changed
+answer_of_move (Ok (reply.Back moves why)) runs status changed = answer_of_why runs why status changed
+answer_of_move (Ok _) runs status changed = answer.Done
+answer_of_move (Err MachineEnded) runs status changed = answer.Halted (halt_of_end runs)
+answer_of_move (Err NoKeptStep) runs status changed = answer.Halted halt.Begin
+answer_of_move (Err refusal) runs status changed = answer.Error (number_of refusal)
 
 -- The answer to a request that sets something.
 abbrev pub answer_of_set : {A : Type 0} → Result A Refusal → Answer
 answer_of_set (Ok _) = answer.Done
 answer_of_set (Err refusal) = answer.Error (number_of refusal)
 
--- gdb's signals, and what it asks to be told beside them.
+-- gdb's signals, 0 for none, and what it asks to be told beside them.
 abbrev pub text_of_halt : Bool → Halt → List ℕ
 text_of_halt swbreak halt.Step = codes "T05"
 text_of_halt swbreak halt.Break = if swbreak then codes "T05swbreak:;" else codes "T05"
 text_of_halt swbreak halt.Begin = codes "T05replaylog:begin;"
 text_of_halt swbreak halt.End = codes "T05replaylog:end;"
+text_of_halt swbreak halt.Still = codes "T00"
 text_of_halt swbreak halt.Limit = codes "T02"
 text_of_halt swbreak halt.Memory = codes "T02"
 text_of_halt swbreak halt.Access = codes "T0b"
@@ -106,14 +113,18 @@ registers_below x (suc n) = registers_below x n ++ word_text (value_of x n)
 abbrev pub registers_text : Layout → State → List ℕ
 registers_text gdb x = registers_below x (12 + described_again gdb)
 
--- The byte at an address: those of the program stand at address 0, eight a slot, and else there is what is present in memory.
-abbrev pub byte_at : State → ℕ → Option (List ℕ)
-byte_at x address = if nat_lt address (length x.program.bytes) then Some (slice_index x.program.bytes address ∷ []) else run_at x.memory address 1
+-- The byte at an address: those of the program stand at address 0, eight a slot, those of frames at an address of their own, and else there is
+-- what is present in memory.
+abbrev pub byte_at : State → ℕ → Option ℕ
+byte_at x address =
+    if nat_lt address (length x.program.bytes) then Some (slice_index x.program.bytes address)
+    else if nat_le frames_base address then frame_byte x (address - frames_base)
+    else option_map (λ run. slice_index run 0) (run_at x.memory address 1)
 
 -- The bytes at an address and after it, so many at most, up to the first that isn't there.
 unfoldable pub present : State → ℕ → ℕ → List ℕ
 present x address zero = []
-present x address (suc count) = elim (byte_at x address) [ None ↦ [] | Some byte ↦ byte ++ present x (address + 1) count ]
+present x address (suc count) = elim (byte_at x address) [ None ↦ [] | Some byte ↦ byte ∷ present x (address + 1) count ]
 
 -- At most 8,192 bytes are shown at once, and none past the last address.
 abbrev pub most_bytes : ℕ

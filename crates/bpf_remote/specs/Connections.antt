@@ -9,6 +9,8 @@ use Rattle.bpf_journal.specs.Tracks.{Track}
 use Rattle.bpfdb_commands.specs.Commands.{command_of}
 use Rattle.bpfdb_commands.specs.Refusals.{refusal_text}
 use Rattle.bpfdb_commands.specs.declared.command.Command.{Command}
+use Rattle.bpfdb_commands.specs.declared.command.Command.TheVariants as command
+use Rattle.bpfdb_commands.specs.declared.command.Goal.TheVariants as goal
 use Rattle.bpfdb_commands.specs.declared.refusal.Refusal.{Refusal}
 use Rattle.bpf_session.specs.declared.reply.Reply.{Reply}
 use Rattle.bpf_session.specs.Meaning.{does}
@@ -41,9 +43,14 @@ pub record Place (K : Type 0) : Type 0 where
   pub manners : Manners
   pub last : List ℕ
 
+-- Whether a command goes on until something stops the machine.
+abbrev pub runs : Command → Bool
+runs (command.Forward goal.Continue) = true
+runs _ = false
+
 -- The answer to a request that asks and changes nothing.
 abbrev pub answer_to : {K : Type 0} → Request → SessionValue K → Answer
-answer_to request.Stop s = answer.Halted (halt_of_status s.moment.state.status)
+answer_to request.Stop s = answer.Halted (halt_of_status false s.moment.state.status)
 answer_to request.Registers s = answer.Registers
 answer_to (request.Register n) s = answer.Register n
 answer_to (request.Memory address count) s = answer.Memory address count
@@ -101,7 +108,7 @@ module _ {K : Type 0} (holds : K → List Kept → Type 0) (refusals room : K �
   -- for none changes nothing.
   abbrev pub Answers : SessionValue K → SessionValue K → Request → Answer → ℕ → ℕ → Type 0
   Answers old new (request.Move command) told moves now = (said : Result Reply Refusal) × Obeyed old new command said
-      × (told ≡ answer_of_move said new.moment.state.status (first_changed (seen_at old.watches old.moment.state) new.moment.state))
+      × (told ≡ answer_of_move said (runs command) new.moment.state.status (first_changed (seen_at old.watches old.moment.state) new.moment.state))
       × (now ≡ moves_after said command moves)
   Answers old new (request.Set command) told moves now = (said : Result Reply Refusal) × Obeyed old new command said
       × (told ≡ answer_of_set said) × (now ≡ moves_after said command moves)

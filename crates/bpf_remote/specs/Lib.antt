@@ -4,6 +4,7 @@ pub mod Cuts
 pub mod Numbers
 pub mod Layouts
 pub mod Requests
+pub mod Frames
 pub mod Answers
 pub mod Moves
 pub mod Remarks

@@ -1,10 +1,11 @@
 //! Answers: what the bodies of packets tell gdb.
-ghost use Rattle.std.specs.Prelude.{◌≡◌, ◌==◌, ◌≤◌, ◌<◌, ◌+◌, ◌-◌, ◌^◌, ◌++◌, if◌then◌else◌, nat_le, option_map, List, drop, true, ℕ};
-ghost use Rattle.bpf_remote.specs.Answers.{answer_of_move, answer_of_set, answer_of_why, byte_at, description_text, error_text, halt_of, halt_of_status, has_memory, memory_text, moves_text, other_text, part_of, present, register_text, registers_text, stop_text, supported_text, text_of, text_of_halt, value_of, watched_text};
+ghost use Rattle.std.specs.Prelude.{◌≡◌, ◌==◌, ◌≤◌, ◌<◌, ◌+◌, ◌-◌, ◌^◌, ◌++◌, if◌then◌else◌, nat_le, List, drop, true, ℕ};
+ghost use Rattle.bpf_remote.specs.Answers.{answer_of_move, answer_of_set, answer_of_why, byte_at, description_text, error_text, halt_of, halt_of_end, halt_of_status, has_memory, memory_text, moves_text, other_text, part_of, present, register_text, registers_text, stop_text, supported_text, text_of, text_of_halt, value_of, watched_text};
 ghost use Rattle.bpf_remote.specs.Numbers.{hex_text};
 ghost use Rattle.bpf_remote.specs.Packets.{Holds};
 
 use crate::body::Body;
+use crate::frames::{FRAMES_BASE, frame_byte};
 use crate::layout::{Layout, described, described_again, has_moves};
 use crate::manners::Manners;
 use bpf_isa::Reg;
@@ -20,8 +21,10 @@ pub enum Halt {
     Break,
     /// At the beginning of what is kept.
     Begin,
-    /// The program has returned.
+    /// The machine has ended, and was to go on until something stops it.
     End,
+    /// It runs and was asked where it stands; or it has ended, and was to step.
+    Still,
     /// The limit of steps is reached.
     Limit,
     /// There was no memory for a further step.
@@ -68,24 +71,32 @@ pub const TOO_LONG: u8 = 16;
 /// The most bytes of memory that are shown at once.
 const MOST_BYTES: u64 = 8192;
 
+/// How a machine stands still that has ended. `runs` says whether it was to go on until something
+/// stops it: gdb doesn't expect the end of what is kept behind a step, and would wait for ever.
+fn halt_of_end(runs: bool) -> Halt
+    ensures { result ≡ halt_of_end runs }
+{
+    if runs { Halt::End } else { Halt::Still }
+}
+
 /// How a machine stands still that is in this status.
-pub(crate) fn halt_of_status(status: Status) -> Halt
-    ensures { result ≡ halt_of_status status }
+pub(crate) fn halt_of_status(runs: bool, status: Status) -> Halt
+    ensures { result ≡ halt_of_status runs status }
 {
     match status {
-        Status::Running => Halt::Step,
-        Status::Exited => Halt::End,
+        Status::Running => Halt::Still,
+        Status::Exited => halt_of_end(runs),
         Status::Faulted(Fault::Access { .. }) => Halt::Access,
         Status::Faulted(_) => Halt::Fault,
     }
 }
 
 /// How a machine stands still behind a command that moved it.
-fn halt_of(why: Why, status: Status) -> Halt
-    ensures { result ≡ halt_of why status }
+fn halt_of(runs: bool, why: Why, status: Status) -> Halt
+    ensures { result ≡ halt_of runs why status }
 {
     match why {
-        Why::End => halt_of_status(status),
+        Why::End => halt_of_status(runs, status),
         Why::Break => Halt::Break,
         Why::Watch | Why::Done | Why::All => Halt::Step,
         Why::Limit => Halt::Limit,
@@ -96,28 +107,29 @@ fn halt_of(why: Why, status: Status) -> Halt
 
 /// How a machine stands still behind a command that moved it, with the watched byte that has
 /// changed since before it.
-fn answer_of_why(why: Why, status: Status, changed: Option<u64>) -> Answer
-    ensures { result ≡ answer_of_why why status changed }
+fn answer_of_why(runs: bool, why: Why, status: Status, changed: Option<u64>) -> Answer
+    ensures { result ≡ answer_of_why runs why status changed }
 {
     match (why, changed) {
         (Why::Watch, Some(address)) => Answer::Watched(address),
-        _ => Answer::Halted(halt_of(why, status)),
+        _ => Answer::Halted(halt_of(runs, why, status)),
     }
 }
 
 /// The answer to a request that moves, with the watched byte that has changed since before it.
 pub(crate) fn answer_of_move(
     answer: &Result<Reply, Refusal>,
+    runs: bool,
     status: Status,
     changed: Option<u64>,
 ) -> Answer
-    ensures { result ≡ answer_of_move answer.now status changed }
+    ensures { result ≡ answer_of_move answer.now runs status changed }
 {
     match answer {
-        Ok(Reply::Forward { why, .. }) => answer_of_why(*why, status, changed),
-        Ok(Reply::Back { why, .. }) => answer_of_why(*why, status, changed),
+        Ok(Reply::Forward { why, .. }) => answer_of_why(runs, *why, status, changed),
+        Ok(Reply::Back { why, .. }) => answer_of_why(runs, *why, status, changed),
         Ok(_) => Answer::Done,
-        Err(Refusal::MachineEnded) => Answer::Halted(Halt::End),
+        Err(Refusal::MachineEnded) => Answer::Halted(halt_of_end(runs)),
         Err(Refusal::NoKeptStep) => Answer::Halted(Halt::Begin),
         Err(refusal) => Answer::Error(refusal.number()),
     }
@@ -171,6 +183,7 @@ fn text_of_halt(halt: Halt, swbreak: bool) -> &'static str
         Halt::Break => { if swbreak { "T05swbreak:;" } else { "T05" } }
         Halt::Begin => "T05replaylog:begin;",
         Halt::End => "T05replaylog:end;",
+        Halt::Still => "T00",
         Halt::Limit | Halt::Memory => "T02",
         Halt::Access => "T0b",
         Halt::Fault => "T04",
@@ -359,16 +372,22 @@ fn has_memory(cpu: &Cpu, address: u64, n: u64) -> bool
     }
 }
 
-/// The byte at an address: one of the program's, from address 0 on, or what is present in memory.
-fn byte_at(cpu: &Cpu, address: u64) -> Option<&[u8]>
-    ensures { option_map (λ byte. byte.now) result ≡ byte_at cpu.now address }
+/// The byte at an address: one of the program's, from address 0 on, one of the frames of calls, or
+/// what is present in memory.
+fn byte_at(cpu: &Cpu, address: u64) -> Option<u8>
+    ensures { result ≡ byte_at cpu.now address }
 {
     let code = cpu.program().bytes();
     if address < code.len() as u64 {
-        let at = address as usize;
-        return Some(&code[at..at + 1]);
+        return Some(code[address as usize]);
     }
-    cpu.peek(address, 1)
+    if address >= FRAMES_BASE {
+        return frame_byte(cpu, address - FRAMES_BASE);
+    }
+    match cpu.peek(address, 1) {
+        Some(run) => Some(run[0]),
+        None => None,
+    }
 }
 
 /// Writes the bytes that are there behind a body.
@@ -379,7 +398,7 @@ fn append_present(cpu: &Cpu, address: u64, count: u64, body: &mut Body)
 {
     for k in 0..count {
         match byte_at(cpu, address + k) {
-            Some(byte) => body.append_hex(byte),
+            Some(byte) => body.append_hex(&[byte]),
             None => return,
         }
     }

@@ -115,7 +115,7 @@ fn address_bytes(address: u64) -> [u8; 8]
 }
 
 /// The eight bytes of a number, the lowest first.
-fn word_bytes(value: u64) -> [u8; 8]
+pub(crate) fn word_bytes(value: u64) -> [u8; 8]
     ensures { result ≡ little_bytes 8 value }
 {
     let mut bytes = [0; 8];

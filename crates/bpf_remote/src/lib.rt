@@ -5,6 +5,7 @@ mod answer;
 mod body;
 mod description;
 mod digits;
+mod frames;
 mod help;
 mod layout;
 mod manners;

@@ -9,7 +9,7 @@ ghost use Rattle.bpf_remote.specs.Answers.{error_text};
 ghost use Rattle.bpf_remote.specs.Help.{asks_help, help_text};
 ghost use Rattle.bpf_remote.specs.Remarks.{console_text, remark_text};
 ghost use Rattle.bpf_remote.specs.Numbers.{hex_text};
-ghost use Rattle.bpf_remote.specs.Connections.{Answers, Heeds, ObeysCommand, ObeysLine, Tells, goes_on, is_answered, answer_to, line_of, manners_after};
+ghost use Rattle.bpf_remote.specs.Connections.{Answers, Heeds, ObeysCommand, ObeysLine, Tells, goes_on, is_answered, answer_to, line_of, manners_after, runs};
 ghost use Rattle.bpf_remote.specs.Packets.{Holds, longest_body};
 
 use crate::answer::{
@@ -25,7 +25,7 @@ use crate::request::Request;
 use arrayvec::ArrayVec;
 use bpf_journal::Keeper;
 use bpf_machine::Cpu;
-use bpf_session::{Command, Refusal, Reply, Session, parse_command};
+use bpf_session::{Command, Goal, Refusal, Reply, Session, parse_command};
 use bpfdb_replies::put_refusal;
 use counted_io::{Counted, WriteFault, put};
 
@@ -48,7 +48,7 @@ pub(crate) fn obey<K: Keeper>(
             let sight = session.sight();
             let said = session.apply(command);
             let changed = sight.first_changed(session.cpu());
-            let told = answer_of_move(&said, session.cpu().status(), changed);
+            let told = answer_of_move(&said, runs(command), session.cpu().status(), changed);
             (told, moves_after(&said, command, moves))
         }
         Request::Set(command) => {
@@ -61,12 +61,22 @@ pub(crate) fn obey<K: Keeper>(
     }
 }
 
+/// Whether a command goes on until something stops the machine.
+fn runs(command: &Command) -> bool
+    ensures { result ≡ runs command.now }
+{
+    match command {
+        Command::Forward(Goal::Continue) => true,
+        _ => false,
+    }
+}
+
 /// The answer to a request that asks, and changes nothing.
 fn answer_to<K: Keeper>(session: &Session<K>, request: &Request) -> Answer
     ensures { result ≡ answer_to request.now session.now }
 {
     match request {
-        Request::Stop => Answer::Halted(halt_of_status(session.cpu().status())),
+        Request::Stop => Answer::Halted(halt_of_status(false, session.cpu().status())),
         Request::Registers => Answer::Registers,
         Request::Register(n) => Answer::Register(*n),
         Request::Memory { address, count } => Answer::Memory {
