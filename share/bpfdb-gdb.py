@@ -9,6 +9,7 @@ import os
 import re
 import shlex
 import shutil
+import struct
 import subprocess
 import tempfile
 
@@ -22,6 +23,8 @@ REGISTERS = {
 MOVES, MOVES_NUMBER = "moves", 64
 # r10 at depth 0, and what a call adds to it.
 FIRST_POINTER, POINTER_STRIDE = 0x200000200, 0x400
+# Where bpfdb lets calls' frames be read, the outermost first: where each returns to, and its r6 to r9.
+FRAMES, FRAME = 0x500000000, "<5Q"
 SLOT = 8
 WIDE_LOAD = b"\x18"
 # The token of the first map, the address of its values, and how far apart maps lie.
@@ -72,40 +75,7 @@ class Commands:
         return min((end for end in self.ends if end > now), default=now + 1)
 
 
-class Returns:
-    """What comes back where calls return, as bpfdb told it behind so many moves: for each depth registers with their values."""
-
-    def __init__(self):
-        self.forget()
-
-    def forget(self, event=None):
-        self.moves, self.deepest, self.saved = None, None, {}
-
-    def of(self, depth, moves, architecture):
-        """Of the call that made this depth. Of a new state that of the innermost frame is wanted first: where one move led there that left the
-        depth as it was, no call and no return, all is as before."""
-        if self.moves != moves:
-            if self.moves is None or abs(self.moves - moves) != 1 or self.deepest != depth:
-                self.read(ask("info frames").splitlines(), architecture)
-            self.moves = moves
-        return self.saved[depth]
-
-    def read(self, lines, architecture):
-        """Reads the answer to 'info frames'."""
-        name = architecture.name()
-        word, known = architecture.integer_type(64), architecture.registers()
-        self.deepest = int(lines[0].split()[1])
-        for count, line in enumerate(lines[1:]):
-            words = line.split()
-            # (r6 to r9 under the name that BPF has for each, too, where that is a register of its own)
-            pairs = [word.split("=") for word in words[3:]]
-            values = [(names, int(value, 16)) for register, value in pairs for names in {REGISTERS[name][int(register[1:])], register}]
-            saved = [(register, gdb.Value(value).cast(word)) for register, value in values if known.find(register)]
-            self.saved[self.deepest - count] = [(COUNTERS[name], gdb.Value(SLOT * int(words[2])).cast(word)), *saved]
-
-
 commands = Commands()
-returns = Returns()
 # What was asked of machines and of the debug information: whether a machine is bpfdb's, and where the functions of instructions begin.
 known_machines, known_functions = {}, {}
 
@@ -151,7 +121,6 @@ def moves():
 
 def forget():
     """Lets gdb forget what it has read of the machine: registers, memory, and the old values of watches."""
-    returns.forget()
     gdb.execute("maintenance flush register-cache", to_string=True)
     gdb.execute("maintenance flush dcache", to_string=True)
     for stop in gdb.breakpoints():
@@ -179,9 +148,20 @@ def function_start(counter):
     return gdb.Value(known_functions[place]).cast(counter.type)
 
 
+def saved_by(depth, architecture):
+    """What comes back where the call that made this depth returns: registers with their values."""
+    size = struct.calcsize(FRAME)
+    counter, *saved = struct.unpack(FRAME, gdb.selected_inferior().read_memory(FRAMES + size * (depth - 1), size))
+    name = architecture.name()
+    # (r6 to r9 under the name that BPF has for each, too, where that is a register of its own)
+    pairs = [(COUNTERS[name], counter), *zip(REGISTERS[name][6:10], saved), *zip(("r6", "r7", "r8", "r9"), saved)]
+    word, known = architecture.integer_type(64), architecture.registers()
+    return [(register, gdb.Value(value).cast(word)) for register, value in pairs if known.find(register)]
+
+
 class Unwinder(gdb.unwinder.Unwinder):
-    """Frames of local calls: r10 says how deep one is, and bpfdb where each returns to, and its r6 to r9. It reads r10, pc and the count of
-    moves alone, which come with each stop, and asks once a stop."""
+    """Frames of local calls: r10 says how deep one is, and bpfdb where each returns to, and its r6 to r9. It reads r10, pc, the count of moves
+    and memory alone: what gdb executes here, it would execute the commands of a breakpoint behind."""
 
     def __init__(self):
         super().__init__("bpfdb")
@@ -203,7 +183,7 @@ class Unwinder(gdb.unwinder.Unwinder):
         if depth > 0:
             count = pending.read_register(MOVES)
             frame.add_saved_register(MOVES, count)
-            for register, value in returns.of(depth, int(count), architecture):
+            for register, value in saved_by(depth, architecture):
                 frame.add_saved_register(register, value)
         else:
             frame.add_saved_register(COUNTERS[name], counter)
@@ -599,7 +579,6 @@ def look_at_file(event):
         gdb.write("this is an object for BPF: load what bpfdb-symbols makes of it\n", gdb.STDERR)
 
 
-gdb.events.cont.connect(returns.forget)
 gdb.events.stop.connect(listing.read)
 gdb.events.stop.connect(commands.stop)
 gdb.events.memory_changed.connect(commands.edit)
