@@ -35,7 +35,8 @@ chmod 000 secret
 # (who is root may read it)
 [ -r secret ] || unreadable secret
 
-# Control bytes in a name are shown as `\xNN`, so that it ends no line and steers no terminal; all others as they are.
+# What would end a line, steer a terminal or turn its direction in a name is shown as `\xNN`, byte by byte: control characters (those of
+# two bytes, too), marks of direction, and the character that stands for bytes that are none; all others as they are.
 while IFS='|' read -r shown name; do
     name=$(printf '%b' "$name")
     for subcommand in run trace debug gdb origin asm disasm lines check link; do
@@ -53,6 +54,10 @@ a\x01b\x1fc\x7fd|a\001b\037c\0177d
 \x09\x0d.|\t\r.
 \\x0a|\\\\x0a
 é~ \x0b|é~ \v
+\xc2\x9b1m\xc2\x85|\0302\02331m\0302\0205
+a\xe2\x80\xaeb\xe2\x81\xa6\xe2\x81\xa9|a\0342\0200\0256b\0342\0201\0246\0342\0201\0251
+\xe2\x80\x8e\xe2\x80\x8f\xd8\x9c\xe2\x80\xaa.|\0342\0200\0216\0342\0200\0217\0330\0234\0342\0200\0252.
+À–“𝄞” \xef\xbf\xbd|\0303\0200–“\0360\0235\0204\0236” \0357\0277\0275
 ROWS
 
 # Names that are odd, and can be read.

@@ -98,6 +98,11 @@ done
 # (a name with control bytes, in the table of names, from 1338 on)
 { head -c 1338 typed.o; printf '\033['; tail -c +1341 typed.o; } > changed.o
 refused 'refused E45: map has no description in BTF: \\x1b[tals' link changed.o
+# (so have bytes that are no character of UTF-8)
+{ head -c 1338 typed.o; printf '\233m'; tail -c +1341 typed.o; } > changed.o
+refused 'refused E45: map has no description in BTF: \\x9bmtals' link changed.o
+{ head -c 1338 typed.o; printf '\342\200'; tail -c +1341 typed.o; } > changed.o
+refused 'refused E45: map has no description in BTF: \\xe2\\x80tals' link changed.o
 
 text=$text_of_arrays
 

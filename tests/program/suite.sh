@@ -151,11 +151,11 @@ typed 'bpfdb-show of a test that failed' 0 'cat parts/script - | bpfdb debug --s
 cp found/out lines
 typed 'the line of bpfdb debug' 0 '3 forward; end; exited at 2: r0 0x8\n3 back; done; at 0: ldxb r0, [r1+2]\n' '' "echo undo | $(sed -n 1p lines)"
 typed 'the line of bpfdb origin' 0 'exited at 2: r0 0x8\n-2 r0 = 0x8; 1: add r0, 1; from r0\n-3 r0 = 0x7; 0: ldxb r0, [r1+2]; from 0x100000002:1\nleft 0x100000002 = 0x7; byte 2 of the context; at the opening\n' '' "$(sed -n 2p lines)"
-# (a control byte of the file's name is told as `?`, so that the report stays a line a remark)
-for octal in 001 012 033 177; do
-    odd=$(printf "odd\\${octal}file")
+# (a character of the file's name that steers a terminal is told as `?`, so that the report stays a line a remark)
+for octal in '\001' '\012' '\033' '\177' '\302\233' '\342\200\256'; do
+    odd=$(printf "odd${octal}file")
     printf -- '-- listing\nexit\n-- result\n1\n' > "$odd"
-    row "bpfdb test of a name with the byte $octal" 1 '' "1..1\nnot ok 1\n# the test in line 1\n# came: exited at 0: r0 0x0\n# wanted: result 1\n# debug: bpfdb-show '' 'odd?file'\n" '' \
+    row "bpfdb test of a name with the bytes $octal" 1 '' "1..1\nnot ok 1\n# the test in line 1\n# came: exited at 0: r0 0x0\n# wanted: result 1\n# debug: bpfdb-show '' 'odd?file'\n" '' \
         test "$odd"
 done
 mkdir new

@@ -1,13 +1,15 @@
 -- What stands in a section: a text, bytes, or a number. bpfdb's own choice.
 use Rattle.std.specs.Prelude.{ℕ, ◌/◌, ◌%◌, Bool, true, false, ◌==◌, ◌&&◌, ◌||◌, not, nat_le, nat_lt, if◌then◌else◌, List, [], ◌∷◌, length, drop, filter, Option, Some, None}
 use Rattle.std.specs.Char.{digit_value, is_digit}
-use Rattle.std.specs.List.{list_all, position_or_len, slice_split}
+use Rattle.std.specs.List.{list_all, list_any, position_or_len, slice_split}
 use Rattle.std.specs.Option.{option_and_then}
 use Rattle.std.specs.Result.{result_ok}
+use Rattle.bstr.specs.Utf8.{lossy_chars}
 use Rattle.hex.specs.Hex.{decode_of}
 use Rattle.bpfdb_limits.specs.Limits.{greatest_count}
 use Rattle.counted_io.specs.Lines.{is_blank, trim_start}
 use Rattle.counted_io.specs.Numerals.{natural, as_u64}
+use Rattle.shown_text.specs.Shown.{steers}
 
 -- A blank or a line feed.
 abbrev pub is_space : ℕ → Bool
@@ -25,12 +27,9 @@ trim_end (b ∷ s) = onto_trimmed b (trim_end s)
 abbrev pub trimmed : List ℕ → List ℕ
 trimmed s = trim_end (drop (position_or_len (λ b. not (is_space b)) s) s)
 
--- A line that can be printed: no control byte stands in it.
-abbrev pub is_shown : ℕ → Bool
-is_shown b = nat_le 32 b && not (b == 127)
-
+-- A line that can be printed: it is UTF-8, and no character of it steers a terminal.
 abbrev pub is_line : List ℕ → Bool
-is_line s = list_all is_shown s
+is_line s = list_all (λ c. not (steers c)) (lossy_chars s)
 
 -- Such a line that isn't empty.
 abbrev pub is_phrase : List ℕ → Bool
@@ -38,7 +37,7 @@ is_phrase s = nat_lt 0 (length s) && is_line s
 
 -- A name: such a phrase, without a number sign (35), which would begin a remark.
 abbrev pub is_title : List ℕ → Bool
-is_title s = nat_lt 0 (length s) && list_all (λ b. is_shown b && not (b == 35)) s
+is_title s = is_phrase s && not (list_any (λ b. b == 35) s)
 
 -- A line that says nothing: blank, or a remark, which begins with a number sign.
 abbrev pub is_remark : List ℕ → Bool

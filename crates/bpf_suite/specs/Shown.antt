@@ -1,8 +1,9 @@
 -- The parts of a test as files, for the debugger and for tools of others; and words as a shell takes them. bpfdb's own choice.
-use Rattle.std.specs.Prelude.{ℕ, ◌≡◌, ⊤, true, ◌==◌, if◌then◌else◌, List, [], ◌∷◌, ◌++◌, codes, decimal, flat_map, Option, Some, None}
+use Rattle.std.specs.Prelude.{ℕ, ◌≡◌, slice_range, ⊤, true, ◌==◌, if◌then◌else◌, List, [], ◌∷◌, ◌++◌, codes, decimal, flat_map, Option, Some, None}
+use Rattle.bstr.specs.Utf8.{pieces, spans_from}
 use Rattle.hex.specs.Hex.{encode_lower}
+use Rattle.shown_text.specs.Shown.{steers}
 use Rattle.bpf_text.specs.Listing.{IsFaultOf}
-use Rattle.bpf_suite.specs.Bodies.{is_shown}
 use Rattle.bpf_suite.specs.Tests.{cells, has_listing, limit, maps, program}
 use Rattle.bpf_suite.specs.declared.cells.Cell.{Cell}
 use Rattle.bpf_suite.specs.declared.section.Section.{Section}
@@ -29,9 +30,13 @@ cell_command cell = codes "set cell " ++ decimal cell.map ++ codes " " ++ decima
 abbrev pub script_text : List Section → List ℕ
 script_text test = flat_map cell_command (cells test) ++ codes "continue\n"
 
--- A word between single quotes (39), as a shell takes it. One in it is spelled '\'', and a byte that can't be printed is a question mark (63).
-abbrev pub quoted_byte : ℕ → List ℕ
-quoted_byte b = if b == 39 then 39 ∷ 92 ∷ 39 ∷ 39 ∷ [] else if is_shown b then b ∷ [] else 63 ∷ []
+-- A word between single quotes (39), as a shell takes it. One in it is spelled '\'', and a character that steers a terminal is a question
+-- mark (63).
+abbrev pub quoted_as : ℕ → List ℕ → List ℕ
+quoted_as c bytes = if c == 39 then 39 ∷ 92 ∷ 39 ∷ 39 ∷ [] else if steers c then 63 ∷ [] else bytes
+
+abbrev pub quoted_char : List ℕ → ℕ × ℕ × ℕ → List ℕ
+quoted_char word s = quoted_as s.2 (slice_range word s.0 s.1)
 
 unfoldable pub quoted : List ℕ → List ℕ
-quoted word = codes "'" ++ flat_map quoted_byte word ++ codes "'"
+quoted word = codes "'" ++ flat_map (quoted_char word) (spans_from 0 (pieces word)) ++ codes "'"

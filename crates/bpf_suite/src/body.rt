@@ -1,13 +1,17 @@
 //! What stands in a section: a text, bytes, or a number.
 ghost use Rattle.std.specs.Prelude.{◌≡◌, ◌≤◌, ◌==◌, ◌&&◌, ◌||◌, IfOk, IsTrue, length, not, position};
 ghost use Rattle.std.specs.Char.{digit_value, is_digit};
-ghost use Rattle.std.specs.List.{list_all, position_or_len};
+ghost use Rattle.std.specs.List.{list_all, list_any, position_or_len};
 ghost use Rattle.std.specs.Option.{option_map};
-ghost use Rattle.bpf_suite.specs.Bodies.{are_remarks, bytes_of, fits, fits_byte, fits_digit, is_line, is_pattern, is_phrase, is_remark, is_shown, is_space, is_title, limit_of, number_of, solid, trim_end, trimmed};
+ghost use Rattle.bstr.specs.Utf8.{lossy_chars};
+ghost use Rattle.shown_text.specs.Shown.{steers as steers_by};
+ghost use Rattle.bpf_suite.specs.Bodies.{are_remarks, bytes_of, fits, fits_byte, fits_digit, is_line, is_pattern, is_phrase, is_remark, is_space, is_title, limit_of, number_of, solid, trim_end, trimmed};
 
 use bpfdb_limits::is_limit;
+use bstr::ByteSlice;
 use counted_io::{is_blank, natural, trim_start};
 use hex::{FromHexError, decode};
+use shown_text::steers;
 use std::alloc::{AllocError, Global};
 
 /// Whether a byte is a blank or a line feed.
@@ -52,18 +56,17 @@ pub fn trimmed(text: &[u8]) -> &[u8]
     trim_end(&text[start..])
 }
 
-/// Whether a byte can be printed in a line.
-pub fn is_shown(byte: u8) -> bool
-    ensures { result ≡ is_shown byte }
-{
-    32 <= byte && byte != 127
-}
-
 /// Whether a text is a line that can be printed.
 pub fn is_line(text: &[u8]) -> bool
     ensures { result ≡ is_line text.now }
 {
-    text.iter().all(|byte| is_shown(*byte))
+    let mut chars = text.chars();
+    'chars: while let Some(char) = chars.next() {
+        if steers(char) {
+            return false;
+        }
+    }
+    true
 }
 
 /// Whether a text is such a line, and isn't empty.
@@ -77,19 +80,13 @@ pub fn is_phrase(text: &[u8]) -> bool
 pub fn is_title(text: &[u8]) -> bool
     ensures { result ≡ is_title text.now }
 {
-    !text.is_empty() && are_title_bytes(text)
+    is_phrase(text) && !has_number_sign(text)
 }
 
-fn are_title_bytes(text: &[u8]) -> bool
-    ensures { result ≡ list_all (λ b. is_shown b && not (b == 35)) text.now }
+fn has_number_sign(text: &[u8]) -> bool
+    ensures { result ≡ list_any (λ b. b == 35) text.now }
 {
-    text.iter().all(|byte| is_title_byte(*byte))
-}
-
-fn is_title_byte(byte: u8) -> bool
-    ensures { result ≡ (is_shown byte && not (byte == 35)) }
-{
-    is_shown(byte) && byte != b'#'
+    text.iter().any(|byte| *byte == b'#')
 }
 
 /// Whether a line without the blanks in front says nothing.

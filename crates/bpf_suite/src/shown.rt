@@ -1,19 +1,20 @@
 //! The parts of a test as files, for the debugger and for tools of others.
 ghost use Rattle.std.specs.Prelude.{◌≡◌, ◌*◌, ◌++◌, ◌≤◌, IfErr, IfOk, codes, flat_map, length};
+ghost use Rattle.bstr.specs.Utf8.{pieces, spans_from};
 ghost use Rattle.hex.specs.Hex.{encode_lower};
 ghost use Rattle.counted_io.specs.Writing.{Writes, WritesAfter};
-ghost use Rattle.bpf_suite.specs.Bodies.{is_shown};
 ghost use Rattle.bpf_suite.specs.Outcomes.{HasWords};
-ghost use Rattle.bpf_suite.specs.Shown.{IsWordsFault, cell_command, maps_option, options_text, quoted, quoted_byte, script_text};
+ghost use Rattle.bpf_suite.specs.Shown.{IsWordsFault, cell_command, maps_option, options_text, quoted, quoted_as, quoted_char, script_text};
 ghost use Rattle.bpf_suite.specs.Tests.{has_listing, program};
 
-use crate::body::is_shown;
 use crate::cells::Cell;
 use crate::section::Text;
 use crate::test::Test;
 use bpf_text::{AsmFault, assemble};
+use bstr::ByteSlice;
 use counted_io::{Counted, WriteFault, put, put_decimal};
 use hex::encode_to_slice;
+use shown_text::steers;
 use std::alloc::{AllocError, Global};
 use std::io::Write;
 
@@ -201,39 +202,36 @@ pub fn put_quoted<W: Write>(
     ensures { WritesAfter W.contents writer.old so_far writer.new result (quoted word.now) }
 {
     let begun = put(writer, so_far, b"'");
-    let told = put_quoted_bytes(writer, begun, word);
+    let told = put_quoted_chars(writer, begun, word);
     put(writer, told, b"'")
 }
 
 /// Writes what stands between the quotes of a word.
-fn put_quoted_bytes<W: Write>(
+fn put_quoted_chars<W: Write>(
     writer: &mut Counted<W>,
     so_far: Result<(), WriteFault>,
     word: &[u8],
 ) -> Result<(), WriteFault>
     ensures { WritesAfter W.contents writer.old so_far writer.new result
-        (flat_map quoted_byte word.now) }
+        (flat_map (quoted_char word.now) (spans_from 0 (pieces word.now))) }
 {
     let mut told = so_far;
-    for byte in word {
-        told = put_quoted_byte(writer, told, *byte);
+    let mut chars = word.char_indices();
+    'chars: while let Some((start, end, char)) = chars.next() {
+        told = put(writer, told, quoted_as(char, &word[start..end]));
     }
     told
 }
 
-/// Writes a byte of a quoted word.
-fn put_quoted_byte<W: Write>(
-    writer: &mut Counted<W>,
-    so_far: Result<(), WriteFault>,
-    byte: u8,
-) -> Result<(), WriteFault>
-    ensures { WritesAfter W.contents writer.old so_far writer.new result (quoted_byte byte) }
+/// What stands for a character between quotes, of its bytes in a word.
+fn quoted_as(char: char, bytes: &[u8]) -> &[u8]
+    ensures { result.now ≡ quoted_as char bytes.now }
 {
-    if byte == b'\'' {
-        put(writer, so_far, &[b'\'', b'\\', b'\'', b'\''])
-    } else if is_shown(byte) {
-        put(writer, so_far, &[byte])
+    if char == '\'' {
+        b"'\\''"
+    } else if steers(char) {
+        b"?"
     } else {
-        put(writer, so_far, b"?")
+        bytes
     }
 }

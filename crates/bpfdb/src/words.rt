@@ -1,8 +1,9 @@
 //! The words of the command line.
 ghost use Rattle.std.specs.Prelude.{◌≡◌, IfSome, map, string_bytes};
-ghost use Rattle.bpfdb_jobs.specs.Faults.{shown};
+ghost use Rattle.shown_text.specs.Shown.{shown};
 
-use bpfdb_jobs::{JobFault, shown_name};
+use bpfdb_jobs::JobFault;
+use shown_text::shown_name;
 use std::alloc::Global;
 use std::env;
 use std::io::ErrorKind;

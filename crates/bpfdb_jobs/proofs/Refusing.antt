@@ -1,4 +1,6 @@
 -- Which refusals of a program, of a machine and of a session are the same.
+use Rattle.std.proofs.Common.{◌≡◌, refl}
+use Rattle.bpfdb_jobs.specs.Faults.{refusal_line, session_line}
 use Rattle.bpfdb_jobs.specs.Refusals.{Refuses, RefusesMachine, RefusesOrigin, RefusesProgram}
 use Rattle.bpfdb_jobs.specs.declared.job.Job.{Job}
 use Rattle.bpfdb_jobs.specs.declared.refusal.JobRefusal.{JobRefusal}
@@ -44,3 +46,17 @@ session-origin job (Object fault name) p = p
 session-origin job (Tests fault line) p = p
 session-origin job (NoTest name) p = p
 session-origin job ManyTests p = p
+
+-- what a session refuses has a line of the session's
+pub session-refused : (job : Job) (refusal : JobRefusal) → Refuses job refusal → refusal_line refusal ≡ session_line refusal
+session-refused job (Maps fault) p = refl
+session-refused job (Listing fault) p = refl
+session-refused job (Load fault) p = refl
+session-refused job (Open fault) p = refl
+session-refused job (Journal fault) p = refl
+session-refused job (Script refusal) p = absurd p
+session-refused job (What fault) p = absurd p
+session-refused job (Object fault name) p = absurd p
+session-refused job (Tests fault line) p = absurd p
+session-refused job (NoTest name) p = absurd p
+session-refused job ManyTests p = absurd p

@@ -1,5 +1,5 @@
 -- How a run that is told ends.
-use Rattle.std.proofs.Common.{ℕ, ◌≡◌, List, [], ◌++◌, Option, Some, None, Result, Ok, Err, refl, ap, ◌∙◌}
+use Rattle.std.proofs.Common.{ℕ, ◌≡◌, List, [], ◌++◌, Option, Result, Ok, Err, refl, ap, ◌∙◌}
 use Rattle.std.specs.Prelude.{IfErr, OnOk, OnErr}
 use Rattle.bpf_isa.specs.Programs.{Checked}
 use Rattle.bpf_machine.specs.State.{State, initial}

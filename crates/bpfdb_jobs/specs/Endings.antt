@@ -7,10 +7,9 @@ use Rattle.bpf_session.specs.declared.fault.RunFault.{RunFault}
 use Rattle.bpf_session.specs.declared.fault.RunFault.TheVariants as run
 use Rattle.counted_io.specs.Counted.{Tally, one_more}
 use Rattle.counted_io.specs.Writing.{AppendsBeginning}
-use Rattle.bpfdb_jobs.specs.Faults.{line_of}
+use Rattle.bpfdb_jobs.specs.Faults.{input_line, line_of, output_line, session_line}
 use Rattle.bpfdb_jobs.specs.Jobs.{OpensSession, Print, Prints}
 use Rattle.bpfdb_jobs.specs.Refusals.{Refuses, RefusesAs}
-use Rattle.bpfdb_jobs.specs.declared.fault.JobFault.{JobFault}
 use Rattle.bpfdb_jobs.specs.declared.fault.JobFault.TheVariants as fault
 use Rattle.bpfdb_jobs.specs.declared.job.Job.{Job}
 use Rattle.bpfdb_jobs.specs.declared.refusal.JobRefusal.{JobRefusal}
@@ -61,10 +60,10 @@ pub data EndsPrinted {W E : Type 0} (contents : W → Option (List ℕ)) (lines 
   ErrLost : (a : Print) → Prints subcommand job a → Gets contents writer writer' a.out → Loses lines errors errors' a.err → status ≡ 2
       → EndsPrinted contents lines subcommand job writer writer' errors errors' status
 
--- Why a session is broken off.
-abbrev pub fault_of : RunFault → JobFault
-fault_of run.Read = fault.Input
-fault_of run.Write = fault.Output
+-- The line of a session that is broken off.
+abbrev pub broken_line : RunFault → List ℕ
+broken_line run.Read = input_line
+broken_line run.Write = output_line
 
 -- How a job ends that opens a session: it was served to its end; or it was refused, and nothing was read and written; or it was served until
 -- a read or a write failed.
@@ -74,8 +73,8 @@ pub data EndsSession {R W E : Type 0} (lines : E → Option (List ℕ)) (job : J
   Served : (code : Checked) → OpensSession job code → Serves code → Spared reader reader' → Spared writer writer' → errors' ≡ errors
       → status ≡ 0 → EndsSession lines job Serves Breaks reader reader' writer writer' errors errors' status
   Refused : (refusal : JobRefusal) → Refuses job refusal → reader' ≡ reader → writer' ≡ writer
-      → Told lines errors errors' (line_of (fault.Refused refusal)) → status ≡ 2
+      → Told lines errors errors' (session_line refusal) → status ≡ 2
       → EndsSession lines job Serves Breaks reader reader' writer writer' errors errors' status
   Broken : (code : Checked) → (why : RunFault) → OpensSession job code → Breaks code why → FailsBy why reader reader' writer writer'
-      → Told lines errors errors' (line_of (fault_of why)) → status ≡ 2
+      → Told lines errors errors' (broken_line why) → status ≡ 2
       → EndsSession lines job Serves Breaks reader reader' writer writer' errors errors' status

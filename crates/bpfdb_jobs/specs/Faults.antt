@@ -1,6 +1,5 @@
 -- Why a job isn't done, as a line on standard error. bpfdb's own choice.
-use Rattle.std.specs.Prelude.{ℕ, ◌/◌, ◌%◌, ◌==◌, ◌||◌, nat_lt, if◌then◌else◌, false, List, [], ◌∷◌, ◌++◌, Option, Some, None, flat_map, codes, decimal}
-use Rattle.std.specs.Fmt.{digit_glyph}
+use Rattle.std.specs.Prelude.{ℕ, List, [], ◌∷◌, ◌++◌, Option, Some, None, codes, decimal}
 use Rattle.bpf_isa.specs.Faults.{load_fault, map_fault}
 use Rattle.bpf_isa.specs.declared.fault.LoadFault.{LoadFault}
 use Rattle.bpf_isa.specs.declared.fault.LoadFault.TheVariants as load
@@ -16,26 +15,11 @@ use Rattle.bpf_ring.specs.Opening.{journal_fault}
 use Rattle.bpf_origin.specs.Asked.{what_fault}
 use Rattle.bpf_trace.specs.Traces.{limit_line}
 use Rattle.bpfdb_commands.specs.Refusals as commands
+use Rattle.shown_text.specs.Shown.{shown}
 use Rattle.bpfdb_jobs.specs.declared.fault.JobFault.{JobFault}
 use Rattle.bpfdb_jobs.specs.declared.fault.JobFault.TheVariants.{Unreadable, NotText, Refused, Input, Output, Memory, StepLimit}
 use Rattle.bpfdb_jobs.specs.declared.refusal.JobRefusal.{JobRefusal}
 use Rattle.bpfdb_jobs.specs.declared.refusal.JobRefusal.TheVariants.{Maps, Listing, Load, Open, Journal, What, Object, Tests, NoTest, ManyTests, Script}
-
--- A name as it is shown: each control byte as `\x` and two hexadecimal digits.
-abbrev pub shown_byte : ℕ → List ℕ
-shown_byte b = if nat_lt b 32 || b == 127
-    then 92 ∷ 120 ∷ digit_glyph false (b / 16) ∷ digit_glyph false (b % 16) ∷ []
-    else b ∷ []
-
-abbrev pub shown : List ℕ → List ℕ
-shown name = flat_map shown_byte name
-
--- A text of several lines as it is shown: its line feeds as they are.
-abbrev pub shown_text_byte : ℕ → List ℕ
-shown_text_byte b = if b == 10 then b ∷ [] else shown_byte b
-
-abbrev pub shown_text : List ℕ → List ℕ
-shown_text text = flat_map shown_text_byte text
 
 -- A refusal: a letter and a number, where it is if that is known, and a text.
 abbrev pub placed : List ℕ → Option ℕ → List ℕ
@@ -110,12 +94,17 @@ object_line fault name =
 abbrev pub no_test_line : List ℕ → List ℕ
 no_test_line name = codes "refused T7: no test of this name" ++ name_text name ++ codes "\n"
 
+-- The line of a refusal that a session looks at.
+abbrev pub session_line : JobRefusal → List ℕ
+session_line (Maps fault) = refusal_text (codes "refused M") (map_fault fault).0 [] (map_fault fault).1
+session_line (Listing fault) = refusal_text (codes "refused A") (asm_fault fault).0 (placed (codes " at line ") (fault_line fault)) (asm_fault fault).1
+session_line (Load fault) = refusal_text (codes "refused C") (load_fault fault).0 (placed (codes " at slot ") (slot_of fault)) (load_fault fault).1
+session_line (Open fault) = refusal_text (codes "refused O") (open_fault fault).0 [] (open_fault fault).1
+session_line (Journal fault) = refusal_text (codes "refused J") (journal_fault fault).0 [] (journal_fault fault).1
+session_line refusal = []
+
+-- The line of each refusal.
 abbrev pub refusal_line : JobRefusal → List ℕ
-refusal_line (Maps fault) = refusal_text (codes "refused M") (map_fault fault).0 [] (map_fault fault).1
-refusal_line (Listing fault) = refusal_text (codes "refused A") (asm_fault fault).0 (placed (codes " at line ") (fault_line fault)) (asm_fault fault).1
-refusal_line (Load fault) = refusal_text (codes "refused C") (load_fault fault).0 (placed (codes " at slot ") (slot_of fault)) (load_fault fault).1
-refusal_line (Open fault) = refusal_text (codes "refused O") (open_fault fault).0 [] (open_fault fault).1
-refusal_line (Journal fault) = refusal_text (codes "refused J") (journal_fault fault).0 [] (journal_fault fault).1
 refusal_line (Script refusal) = commands.refusal_text refusal
 refusal_line (What fault) = refusal_text (codes "refused V") (what_fault fault).0 [] (what_fault fault).1
 refusal_line (Object fault name) = object_line fault name.now
@@ -123,17 +112,25 @@ refusal_line (Tests fault line) =
     refusal_text (codes "refused T") (section_fault fault).0 (placed (codes " at line ") (Some line)) (section_fault fault).1
 refusal_line (NoTest name) = no_test_line name.now
 refusal_line ManyTests = codes "refused T8: more than one test is asked for\n"
+refusal_line refusal = session_line refusal
 
 -- A file that can't be read.
 abbrev pub unreadable_line : List ℕ → List ℕ
 unreadable_line name = codes "cannot read " ++ shown name ++ codes "\n"
+
+-- A read of standard input that failed, and a write of standard output.
+abbrev pub input_line : List ℕ
+input_line = codes "cannot read input\n"
+
+abbrev pub output_line : List ℕ
+output_line = codes "cannot write output\n"
 
 -- The line of each fault.
 abbrev pub line_of : JobFault → List ℕ
 line_of (Unreadable name) = unreadable_line name.now
 line_of NotText = codes "the command line is not UTF-8 text\n"
 line_of (Refused refusal) = refusal_line refusal
-line_of Input = codes "cannot read input\n"
-line_of Output = codes "cannot write output\n"
+line_of Input = input_line
+line_of Output = output_line
 line_of Memory = codes "out of memory\n"
 line_of (StepLimit limit slot) = limit_line limit slot

@@ -15,7 +15,7 @@ use Rattle.counted_io.specs.Counted.{Tally}
 use Rattle.counted_io.specs.Lines.{lines}
 use Rattle.counted_io.specs.Numerals.{as_u64, natural}
 use Rattle.bpfdb_jobs.specs.Endings.{Told}
-use Rattle.bpfdb_jobs.specs.Faults.{shown}
+use Rattle.shown_text.specs.Shown.{shown}
 use Rattle.bpfdb_jobs.specs.Jobs.{IsProgramOf}
 use Rattle.bpfdb_jobs.specs.Looks.{is_object, is_text}
 use Rattle.bpfdb_jobs.specs.Refusals.{RefusesProgram}

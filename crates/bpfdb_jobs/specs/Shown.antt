@@ -1,5 +1,5 @@
 -- What `test` comes to where it shows a part of a test, and where it runs tests.
-use Rattle.std.specs.Prelude.{ℕ, ◌≡◌, ◌<◌, ⊤, true, List, [], ◌∷◌, Option, Some, None, length}
+use Rattle.std.specs.Prelude.{ℕ, ◌≡◌, ◌<◌, ⊤, List, [], ◌∷◌, Option, Some, None, length}
 use Rattle.bpf_suite.specs.Outcomes.{HasWords}
 use Rattle.bpf_suite.specs.Shown.{IsWordsFault, options_text, script_text}
 use Rattle.bpf_suite.specs.Tests.{context, has_listing, program}

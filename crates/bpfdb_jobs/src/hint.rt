@@ -4,14 +4,13 @@ ghost use Rattle.std.specs.Prelude.{◌≡◌, ◌++◌, option_map, true};
 ghost use Rattle.counted_io.specs.Lines.{lines};
 ghost use Rattle.counted_io.specs.Writing.{Writes, WritesAfter};
 ghost use Rattle.bpfdb_jobs.specs.Endings.{Told};
-ghost use Rattle.bpfdb_jobs.specs.Faults.{shown};
+ghost use Rattle.shown_text.specs.Shown.{shown};
 ghost use Rattle.bpfdb_jobs.specs.Hints.{AddsHint, AddsLine, IsHintOf, hint_line, is_check, is_of_file, line_at, look_after, look_of, place_after, place_line};
 ghost use Rattle.bpfdb_jobs.specs.Refusals.{RefusesProgram};
 ghost use Rattle.bpfdb_jobs.specs.declared.hint.Hint.TheVariants as hint;
 
 use crate::job::Job;
 use crate::look::{is_object, is_text};
-use crate::name::put_name;
 use crate::opening::program_of;
 use crate::refusal::JobRefusal;
 use crate::row::line_at;
@@ -19,6 +18,7 @@ use bpf_isa::{LoadFault, PieceFault, WordFault};
 use bpf_text::line_table;
 use bpfdb_options::Subcommand;
 use counted_io::{Counted, WriteFault, put, put_decimal};
+use shown_text::put_shown;
 use std::alloc::Global;
 use std::io::Write;
 
@@ -207,7 +207,7 @@ fn write_hint<E: Write>(errors: &mut Counted<E>, name: &str, hint: &Hint) -> Res
 fn write_look<E: Write>(errors: &mut Counted<E>, name: &str, look: &[u8]) -> Result<(), WriteFault>
     ensures { Writes E.contents errors.old errors.new result (shown name.now ++ look.now) }
 {
-    let named = put_name(errors, Ok(()), name.as_bytes());
+    let named = put_shown(errors, Ok(()), name.as_bytes());
     put(errors, named, look)
 }
 
@@ -227,6 +227,6 @@ fn put_place<E: Write>(
     let parted = put(errors, placed, b" is line ");
     let lined = put_decimal(errors, parted, line);
     let joined = put(errors, lined, b" of ");
-    let named = put_name(errors, joined, name.as_bytes());
+    let named = put_shown(errors, joined, name.as_bytes());
     put(errors, named, b"\n")
 }

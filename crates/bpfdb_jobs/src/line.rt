@@ -1,10 +1,10 @@
 //! The line of a fault.
 ghost use Rattle.std.specs.Prelude.{◌≡◌, ◌++◌, [], codes, decimal};
 ghost use Rattle.counted_io.specs.Writing.{Writes, WritesAfter};
-ghost use Rattle.bpfdb_jobs.specs.Faults.{choice_text, fields_text, helper_text, kernel_name, line_of, more_of, name_text, no_test_line, object_line, origin_text, placed, refusal_line, refusal_text, shown, slot_of, slot_of_words, source_text, unreadable_line};
+ghost use Rattle.bpfdb_jobs.specs.Faults.{choice_text, fields_text, helper_text, kernel_name, line_of, more_of, name_text, no_test_line, object_line, origin_text, placed, refusal_line, refusal_text, slot_of, slot_of_words, source_text, unreadable_line};
+ghost use Rattle.shown_text.specs.Shown.{shown};
 
 use crate::fault::JobFault;
-use crate::name::put_name;
 use crate::refusal::JobRefusal;
 use bpf_isa::LoadFault;
 use bpf_link::{LinkFault, Source, helper_name};
@@ -12,6 +12,7 @@ use bpf_suite::SectionFault;
 use bpf_text::AsmFault;
 use bpf_trace::put_limit;
 use counted_io::{Counted, WriteFault, put, put_decimal};
+use shown_text::put_shown;
 use std::io::Write;
 
 /// Writes the line of a fault.
@@ -50,7 +51,7 @@ fn put_unreadable<E: Write>(
         (unreadable_line name.now) }
 {
     let begun = put(errors, so_far, b"cannot read ");
-    let named = put_name(errors, begun, name.as_bytes());
+    let named = put_shown(errors, begun, name.as_bytes());
     put(errors, named, b"\n")
 }
 
@@ -213,7 +214,7 @@ fn put_parted<E: Write>(
         (codes ": " ++ shown name.now) }
 {
     let begun = put(errors, so_far, b": ");
-    put_name(errors, begun, name)
+    put_shown(errors, begun, name)
 }
 
 /// Writes what stands behind the text of an object's fault.

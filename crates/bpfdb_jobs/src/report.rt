@@ -3,15 +3,16 @@ ghost use Rattle.std.specs.Prelude.{◌≡◌, ◌≤◌, ◌++◌, OnErr, OnOk,
 ghost use Rattle.counted_io.specs.Writing.{Writes};
 ghost use Rattle.bpfdb_replies.specs.Texts.{place};
 ghost use Rattle.bpfdb_jobs.specs.Endings.{Told};
-ghost use Rattle.bpfdb_jobs.specs.Faults.{line_of, shown_text};
+ghost use Rattle.bpfdb_jobs.specs.Faults.{line_of};
+ghost use Rattle.shown_text.specs.Shown.{shown_lines};
 ghost use Rattle.bpfdb_jobs.specs.declared.fault.JobFault.TheVariants.{Output};
 
 use crate::fault::JobFault;
 use crate::line::write_line;
-use crate::name::put_text;
 use bpf_machine::Cpu;
 use bpfdb_replies::write_place;
 use counted_io::{Counted, WriteFault, put, write_text};
+use shown_text::put_shown_lines;
 use std::io::Write;
 
 /// Writes a whole output, and flushes.
@@ -81,7 +82,7 @@ pub fn give_up<E: Write>(errors: &mut Counted<E>, fault: &JobFault<'_>) -> u8
 /// 2, whether the text could be written or not.
 pub fn tell_usage<E: Write>(errors: &mut Counted<E>, text: &str) -> u8
     ensures value { result ≡ 2 }
-    ensures told { Told E.contents errors.old errors.new (shown_text text.now) }
+    ensures told { Told E.contents errors.old errors.new (shown_lines text.now) }
 {
     match tell_text(errors, text) {
         Ok(()) => 2,
@@ -91,7 +92,7 @@ pub fn tell_usage<E: Write>(errors: &mut Counted<E>, text: &str) -> u8
 
 /// Writes a text of several lines to standard error, and flushes.
 fn tell_text<E: Write>(errors: &mut Counted<E>, text: &str) -> Result<(), WriteFault>
-    ensures { Writes E.contents errors.old errors.new result (shown_text text.now) }
+    ensures { Writes E.contents errors.old errors.new result (shown_lines text.now) }
 {
     match write_shown(errors, text) {
         Ok(()) => {}
@@ -105,9 +106,9 @@ fn tell_text<E: Write>(errors: &mut Counted<E>, text: &str) -> Result<(), WriteF
 
 /// Writes a text of several lines.
 fn write_shown<E: Write>(errors: &mut Counted<E>, text: &str) -> Result<(), WriteFault>
-    ensures { Writes E.contents errors.old errors.new result (shown_text text.now) }
+    ensures { Writes E.contents errors.old errors.new result (shown_lines text.now) }
 {
-    put_text(errors, Ok(()), text.as_bytes())
+    put_shown_lines(errors, Ok(()), text.as_bytes())
 }
 
 /// The exit status after an output that was written, or not.

@@ -6,5 +6,5 @@ pub returns : goal.returns
 unfolding quoted
 returns g c = λ first front known.
     let begun = c.put-begun.ensures first front known in
-    let told = c.put_quoted_bytes-told.ensures first _ begun in
+    let told = c.put_quoted_chars-told.ensures first _ begun in
     simp append_assoc (simp append_assoc at (c.put.ensures first _ told))

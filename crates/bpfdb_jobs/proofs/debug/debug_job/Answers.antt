@@ -3,6 +3,7 @@ use Rattle.bpf_session.specs.Runs.{Exchange}
 use Rattle.bpf_session.specs.declared.fault.RunFault.TheVariants.{Read, Write}
 use Rattle.bpfdb_jobs.specs.Endings.{Broken, Refused, Served}
 use Rattle.bpfdb_jobs.specs.Jobs.{start_of}
+use Rattle.bpfdb_jobs.proofs.Refusing.{session-refused}
 use Rattle.bpfdb_jobs.proofs.debug.debug_job.Goals as goal
 
 pub returns-in-Ok-run-clause-does : goal.returns-in-Ok-run-clause-does
@@ -23,7 +24,7 @@ returns-in-Ok-run-clause-does g c =
     c.in-Ok-run.ensures.ok.0 c.in-Ok-run.ensures.ok.1 refl refl
 
 pub returns-in-Err-clause-does : goal.returns-in-Err-clause-does
-returns-in-Err-clause-does g c = Refused c.in-Err.refusal c.in-Err.ensures.err refl refl c.give_up.ensures.told c.give_up.ensures.value
+returns-in-Err-clause-does g c = Refused c.in-Err.refusal c.in-Err.ensures.err refl refl (rw (session-refused c.args.job.now c.in-Err.refusal c.in-Err.ensures.err) at c.give_up.ensures.told) c.give_up.ensures.value
 
 pub returns-in-Err-Read-clause-does : goal.returns-in-Err-Read-clause-does
 returns-in-Err-Read-clause-does g c =

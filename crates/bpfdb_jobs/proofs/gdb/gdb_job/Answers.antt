@@ -1,6 +1,7 @@
 use Rattle.std.proofs.Common.{refl, ⊎_elim}
 use Rattle.bpf_session.specs.declared.fault.RunFault.TheVariants.{Read, Write}
 use Rattle.bpfdb_jobs.specs.Endings.{Broken, Refused, Served}
+use Rattle.bpfdb_jobs.proofs.Refusing.{session-refused}
 use Rattle.bpfdb_jobs.proofs.gdb.gdb_job.Goals as goal
 
 pub returns-in-Ok-serve-clause-does : goal.returns-in-Ok-serve-clause-does
@@ -12,7 +13,7 @@ returns-in-Ok-serve-clause-does g c =
     (⊎_elim (λ left. left.1.same) (λ ended. ended.3.same) s.4) s.3.1 refl refl
 
 pub returns-in-Err-clause-does : goal.returns-in-Err-clause-does
-returns-in-Err-clause-does g c = Refused c.in-Err.refusal c.in-Err.ensures.err refl refl c.give_up.ensures.told c.give_up.ensures.value
+returns-in-Err-clause-does g c = Refused c.in-Err.refusal c.in-Err.ensures.err refl refl (rw (session-refused c.args.job.now c.in-Err.refusal c.in-Err.ensures.err) at c.give_up.ensures.told) c.give_up.ensures.value
 
 pub returns-in-Err-Read-clause-does : goal.returns-in-Err-Read-clause-does
 returns-in-Err-Read-clause-does g c =

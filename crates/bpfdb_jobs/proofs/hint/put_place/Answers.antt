@@ -8,5 +8,5 @@ returns g c = λ first front known.
     let parted = c.put-parted.ensures first _ placed in
     let lined = c.put_decimal-lined.ensures first _ parted in
     let joined = c.put-joined.ensures first _ lined in
-    let named = rw c.as_bytes.ensures.value at (c.put_name-named.ensures first _ joined) in
+    let named = rw c.as_bytes.ensures.value at (c.put_shown-named.ensures first _ joined) in
     simp append_assoc (simp append_assoc at (c.put.ensures first _ named))

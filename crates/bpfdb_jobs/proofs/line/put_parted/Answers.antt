@@ -3,4 +3,4 @@ use Rattle.bpfdb_jobs.proofs.line.put_parted.Goals as goal
 
 pub returns : goal.returns
 returns g c = λ first front known.
-    simp append_assoc at (c.put_name.ensures first _ (c.put-begun.ensures first front known))
+    simp append_assoc at (c.put_shown.ensures first _ (c.put-begun.ensures first front known))

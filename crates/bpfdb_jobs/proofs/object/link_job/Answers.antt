@@ -1,4 +1,4 @@
-use Rattle.std.proofs.Common.{◌≡◌, ℕ, Ok, List, inl, inr, ap, refl, sym, ◌∙◌}
+use Rattle.std.proofs.Common.{◌≡◌, Ok, List, inl, inr, ap, refl, sym, ◌∙◌}
 use Rattle.bpf_link.specs.declared.linker.Linked.{Linked}
 use Rattle.bpf_link.specs.declared.stubs.Stub.{Stub}
 use Rattle.bpf_link.specs.Programs.{IsLinkedAs, linked_of}

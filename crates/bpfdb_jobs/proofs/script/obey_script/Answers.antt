@@ -1,8 +1,8 @@
 -- Each turn obeys one line more.
-use Rattle.std.proofs.Common.{◌≡◌, ◌<◌, ◌∙◌, ◌∷◌, Ok, ap, arith, length, sym}
+use Rattle.std.proofs.Common.{◌≡◌, ◌<◌, ◌∙◌, ◌∷◌, Ok, ap, arith, length}
 use Rattle.std.proofs.lemmas.Grind.{common_steps}
-use Rattle.bpf_text.proofs.Cutting.{length-after, lines-cut}
-use Rattle.bpfdb_jobs.proofs.Obeying.{going-end, going-quit, going-refused, going-start, going-step}
+use Rattle.bpf_text.proofs.Cutting.{lines-cut}
+use Rattle.bpfdb_jobs.proofs.Obeying.{going-quit, going-refused, going-start, going-step}
 use Rattle.bpfdb_jobs.proofs.script.obey_script.Goals as goal
 use Rattle.counted_io.specs.Lines.{lines}
 

@@ -1,4 +1,4 @@
-use Rattle.std.proofs.Common.{◌≡◌, ℕ, List, [], ◌∷◌, length, get_or, sym, ap, arith}
+use Rattle.std.proofs.Common.{◌≡◌, List, [], ◌∷◌, length, get_or, sym, ap, arith}
 use Rattle.bpf_suite.specs.declared.section.Section.{Section}
 use Rattle.bpfdb_jobs.proofs.show.only_of.Goals as goal
 

@@ -11,7 +11,7 @@ use Rattle.bpfdb_jobs.specs.Endings.{Told}
 use Rattle.bpfdb_jobs.specs.Faults.{line_of}
 use Rattle.bpfdb_jobs.specs.Refusals.{LacksName}
 use Rattle.bpfdb_jobs.specs.Shown.{EndsShown, Exhausted, Refused}
-use Rattle.bpfdb_jobs.specs.Suites.{AreAsked, AreTestsOf, fault_of_file}
+use Rattle.bpfdb_jobs.specs.Suites.{AreAsked, fault_of_file}
 use Rattle.bpfdb_jobs.specs.declared.fault.JobFault.TheVariants as fault
 use Rattle.bpfdb_jobs.specs.declared.job.Job.{Job}
 use Rattle.bpfdb_jobs.specs.declared.refusal.JobRefusal.{JobRefusal}

@@ -1,4 +1,3 @@
-use Rattle.std.proofs.Common.{◌≡◌, ap, sym, ◌∙◌}
 use Rattle.counted_io.proofs.Appending.{Writes-none}
 use Rattle.bpfdb_jobs.proofs.Telling.{profile-is, told-ok, told-lost}
 use Rattle.bpfdb_jobs.proofs.trace.write_profile.Goals as goal
