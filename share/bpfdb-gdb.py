@@ -223,7 +223,8 @@ class Disassembler(gdb.disassembler.Disassembler):
         super().__init__("bpfdb")
 
     def __call__(self, info):
-        if not is_bpf(info.architecture):
+        # (the windows of gdb's text interface ask with the machine of the file)
+        if not is_bpf(info.architecture) and not is_connected():
             return None
         length = 2 * SLOT if bytes(info.read_memory(1)) == WIDE_LOAD else SLOT
         slot, rest = divmod(info.address, SLOT)

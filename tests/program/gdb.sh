@@ -60,6 +60,15 @@ compiled() {
     clang -g -O1 -fstack-size-section -target bpf -c "$1.c"
 }
 
+# window LAYOUT: gdb's window of instructions, at a terminal, has those of BPF before the first step.
+window() {
+    count=$((count + 1))
+    printf 'source %s\nbpf-load overrun.o -m context.bin\nlayout %s\nkill\nquit\n' "$top/share/bpfdb-gdb.py" "$1" > typed
+    PATH=$PWD/bin:$PATH LC_ALL=C TERM=xterm DEBUGINFOD_URLS='' timeout 60 python3 -c 'import pty, sys; pty.spawn(sys.argv[1:])' \
+        gdb -nx -q -ex 'set confirm off' -ex 'set style enabled off' < typed > found/window 2>&1
+    grep -aq 'ldxdw r1, \[r1+8\]' found/window || complain "layout $1 shows other instructions"
+}
+
 # story NUMBER: the session of this number that docs/GDB.md shows in gdb, with an end.
 story() {
     awk -v wanted="$1" '
@@ -99,10 +108,12 @@ if has python3 'sessions in gdb'; then
 
     sessions=$parts/gdb
     if serves gdb 'sessions in gdb'; then
-        for name in steps stops ends edits faults calls commands limits source sections traps bare load names habits origin; do
+        for name in steps stops ends edits faults calls commands limits source sections traps bare load names habits origin windows; do
             transcript gdb "$sessions/$name.txt"
         done
         transcript gdb story1.txt
+        window asm
+        window split
 
         # Listings: the program's functions are what it calls.
         cp "$sessions/sum.s" .
