@@ -26,6 +26,8 @@ FIRST_POINTER, POINTER_STRIDE = 0x200000200, 0x400
 # Where bpfdb lets calls' frames be read, the outermost first: where each returns to, and its r6 to r9.
 FRAMES, FRAME = 0x500000000, "<5Q"
 SLOT = 8
+# How gdb shows an address before the entry, by what bpfdb-symbols names there.
+BEFORE_ENTRY = re.compile(r"<_(start|setup)[+>]")
 WIDE_LOAD = b"\x18"
 # The token of the first map, the address of its values, and how far apart maps lie.
 FIRST_TOKEN, FIRST_MAP, MAP_STRIDE, MOST_MAPS = 0x400000000, 0x300000000, 0x100000, 16
@@ -159,6 +161,14 @@ def saved_by(depth, architecture):
     return [(register, gdb.Value(value).cast(word)) for register, value in pairs if known.find(register)]
 
 
+def is_before_entry(counter):
+    """Whether an instruction lies before the entry, where no function of the object has it."""
+    try:
+        return BEFORE_ENTRY.search(counter.format_string(symbols=True)) is not None
+    except UnicodeDecodeError:
+        return False
+
+
 class Unwinder(gdb.unwinder.Unwinder):
     """Frames of local calls: r10 says how deep one is, and bpfdb where each returns to, and its r6 to r9. It reads r10, pc, the count of moves
     and memory alone: what gdb executes here, it would execute the commands of a breakpoint behind."""
@@ -188,8 +198,9 @@ class Unwinder(gdb.unwinder.Unwinder):
         else:
             frame.add_saved_register(COUNTERS[name], counter)
         # The outermost frame has no caller. Where a file of symbols is loaded gdb knows by its entry, and asks only for a frame that differs.
-        # Elsewhere it stops at one that doesn't.
-        steps = 1 if depth > 0 or depth == 0 and gdb.current_progspace().filename else 0
+        # Elsewhere, and before the entry, it stops at one that doesn't.
+        is_known = gdb.current_progspace().filename and not is_before_entry(counter)
+        steps = 1 if depth > 0 or depth == 0 and is_known else 0
         frame.add_saved_register(registers[10], gdb.Value(int(pointer) - steps * POINTER_STRIDE).cast(pointer.type))
         return frame
 
@@ -460,19 +471,12 @@ class Load(Asker):
         self.words = words
         quietly = "with suppress-cli-notifications on -- "
         gdb.execute(quietly + "target remote | " + shlex.join([found("bpfdb"), "gdb", *options]), to_string=True)
-        if begins_with_setup():
-            # (the entry is behind its first slot)
-            gdb.execute(quietly + "advance *%d" % SLOT)
+        entry = entry_of(base + ".sym")
+        if entry:
+            # (before it lie a jump and, it may be, a setup of data)
+            gdb.execute(quietly + "advance *%d" % entry)
         gdb.execute("frame")
-        commands.__init__(moves(), gdb.newest_frame().pc())
-
-
-def begins_with_setup():
-    """Whether the program begins with a setup of its data: then no function stands at its first slot."""
-    try:
-        return gdb.execute("info symbol 0", to_string=True).startswith("No symbol")
-    except UnicodeDecodeError:
-        return False
+        commands.__init__(moves(), entry)
 
 
 def is_object(file):
@@ -482,6 +486,12 @@ def is_object(file):
             return opened.read(4) == b"\x7fELF"
     except OSError:
         return True
+
+
+def entry_of(file):
+    """The address of the entry, as the header of a file of symbols tells it."""
+    with open(file, "rb") as opened:
+        return int.from_bytes(opened.read(32)[24:], "little")
 
 
 def load_object(file, options, base):

@@ -54,10 +54,20 @@ serves() {
     return 1
 }
 
-# compiled NAME: makes the object of a file of C for sessions.
+# compiled NAME [OPTION..]: makes the object of a file of C for sessions.
 compiled() {
-    cp "$sessions/$1.c" .
-    clang -g -O1 -fstack-size-section -target bpf -c "$1.c"
+    name=$1
+    shift
+    cp "$sessions/$name.c" .
+    clang -g "$@" -O1 -fstack-size-section -target bpf -c "$name.c"
+}
+
+# of_parts OPTION: a session over an object with more sections and functions than a program has, compiled with this option.
+of_parts() {
+    compiled parts "$1"
+    "$program" link --section taken --entry second parts.o > parts.bin 2> found/err
+    "$top/share/bpfdb-symbols" --section taken --entry second parts.o parts.sym
+    transcript gdb "$sessions/parts.txt"
 }
 
 # window LAYOUT: gdb's window of instructions, at a terminal, has those of BPF before the first step.
@@ -134,6 +144,8 @@ if has python3 'sessions in gdb'; then
             for name in flows sized data odd; do compiled $name; done
             transcript gdb "$sessions/maps.txt"
             transcript gdb "$sessions/odd.txt"
+            of_parts -gdwarf-4
+            of_parts -gdwarf-5
         fi
         editor gdb "$sessions/editor.txt"
     fi

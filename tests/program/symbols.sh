@@ -1,5 +1,5 @@
 # bpfdb-symbols: which objects it takes, and which it refuses by name. The objects stand in crates/bpf_link_tests and examples/overrun.
-# What gdb makes of its files is for `gdb`.
+# What gdb makes of its files is for `gdb`. Large and damaged objects are those of tests/trials/objects.py.
 
 # convert ARGUMENT..: runs bpfdb-symbols. What is found: its status, output and standard error.
 convert() {
@@ -32,8 +32,29 @@ field() {
     od -An -tu8 -j "$2" -N 8 "$1" | tr -d ' '
 }
 
+# holds FILE SECTION..: the file of symbols has these sections, each with its address, and the tables of names behind them.
+holds() {
+    file=$1
+    shift
+    printf '%s\n' '0 ' "$@" '0 .symtab' '0 .strtab' '0 .shstrtab' > wanted/sections
+    python3 "$objects" sections "$file" > found/sections
+    same "the sections of $file" wanted/sections found/sections
+}
+
+# large KIND COUNT: the object that grows with a count is taken in 200 MB and 3 seconds of the processor.
+large() {
+    python3 "$objects" "$1" "$2" large.o
+    (
+        ulimit -v 200000
+        ulimit -t 3
+        convert large.o large.sym
+    )
+    check "bpfdb-symbols: an object with many $1" 0 '' ''
+}
+
+objects=$top/tests/trials/objects.py
 if has python3 'bpfdb-symbols'; then
-    for name in calls two text; do
+    for name in calls two text data programs; do
         object $name
     done
     bytes overrun.o $(sed 's/../& /g' "$top/examples/overrun/object.hex")
@@ -66,7 +87,18 @@ if has python3 'bpfdb-symbols'; then
     convert --registers bpf overrun.o none.sym
     grep -q "invalid choice: 'bpf'" found/err || complain 'bpfdb-symbols --registers bpf'
 
-    # A program (2) for x86-64 (62), or for RISC-V of 64 bits (243). It has as many bytes where it tells no sizes of stacks.
+    # What is damaged is refused by a line.
+    python3 "$objects" damaged "$top/share/bpfdb-symbols" overrun.o > found/damaged
+    : > wanted/damaged
+    same 'what bpfdb-symbols says of damaged objects' wanted/damaged found/damaged
+
+    # Memory and time grow as an object does: with names, which `link` takes in any length, with maps, and with data.
+    large maps 16000
+    large data 8000
+    large names 5000
+    "$program" link large.o > large.bin 2> found/err || complain 'bpfdb link: an object with many names'
+
+    # A program (2) for x86-64 (62), or for RISC-V of 64 bits (243).
     cp overrun.o before
     converted overrun.o overrun.sym
     same 'bpfdb-symbols leaves the object' before overrun.o
@@ -76,7 +108,21 @@ if has python3 'bpfdb-symbols'; then
     converted --section b two.o two.sym
     converted --section .text calls.o calls.sym
     converted calls.o calls.sym
-    [ "$(wc -c < calls.sym)" = "$(wc -c < calls.o)" ] || complain 'bpfdb-symbols: the size of its file'
+
+    # The file has what is in the program of that entry, what `link` puts before and behind its code, and the entry's address. (Slot 5 of data.o's
+    # program is where its slot 0 leads, and slot 8 of that of programs.o is the first of the second function.)
+    holds calls.sym '20 .text' '0 prog'
+    holds two.sym '0 b'
+    converted data.o data.sym
+    holds data.sym '8 prog' '300000000 .data' '0 _start' '28 _setup'
+    [ "$(field data.sym 24)" = 8 ] || complain 'bpfdb-symbols data.o: the entry'
+    converted --entry second programs.o programs.sym
+    holds programs.sym '8 prog' '0 _start'
+    [ "$(field programs.sym 24)" = 64 ] || complain 'bpfdb-symbols --entry second programs.o: the entry'
+    [ "$(field calls.sym 24)" = 0 ] || complain 'bpfdb-symbols calls.o: the entry'
+    converted overrun.o overrun.sym
+    holds overrun.sym '68 .text' '0 filter' '0 .debug_loclists' '0 .debug_abbrev' '0 .debug_info' '0 .debug_rnglists' \
+        '0 .debug_str_offsets' '0 .debug_str' '0 .debug_addr' '0 .debug_line' '0 .debug_line_str'
 
     # Of a listing: what bpfdb refuses is refused, and the file begins with its header of 64 bytes and the program's words. Without the program
     # nothing is known of a listing.
@@ -114,5 +160,36 @@ if has python3 'bpfdb-symbols'; then
         printf '__attribute__((section("prog"))) int entry(int *p) { return *p + 3; }\n' > stackless.c
         clang -g -O1 -target bpf -c -o stackless.o stackless.c
         converted stackless.o stackless.sym
+
+        # Of a place in a list that is said, too.
+        printf 'static void *(*f)(void *) = (void *)1; __attribute__((section("prog"))) void *entry(void) { int n = 3; return f(&n); }\n' > listed.c
+        clang -g -O1 -target bpf -c -o listed.o listed.c
+        convert listed.o listed.sym
+        check 'bpfdb-symbols listed.o' 0 '' 'bpfdb-symbols: listed.o: variables in the stack will be shown wrong: compile with -fstack-size-section\n'
+        clang -g -gz -O1 -target bpf -c -o packed.o stackless.c
+        refused_object 'compressed debug information: compile with -gz=none' packed.o
+
+        # Two names of one map are two maps: the map behind them has the number 2, and the first map of data 3.
+        cat > aliases.c <<'C'
+struct map { unsigned type, key_size, value_size, max_entries, flags; };
+struct map first __attribute__((section("maps"))) = { 2, 4, 8, 3 }, last __attribute__((section("maps"))) = { 2, 4, 8, 3 };
+extern struct map again __attribute__((alias("first")));
+static long data = 5;
+__attribute__((section("prog"))) long entry(void) { data++; return (long)&last + (long)&first; }
+C
+        clang -O1 -target bpf -c -o aliases.o aliases.c
+        converted aliases.o aliases.sym
+        holds aliases.sym '8 prog' '400000000 maps' '300300000 .data' '0 _start' '60 _setup'
+
+        # gdb obeys scripts and looks for files that sections of some names tell of. So they are left out, and data of such a name have another.
+        cat > scripts.c <<'C'
+asm(".pushsection .debug_gdb_scripts, \"MS\", @progbits, 1\n.byte 4\n.asciz \"x.py\\nprint(1)\"\n.popsection");
+asm(".pushsection .gnu_debuglink\n.asciz \"x.debug\"\n.popsection");
+static volatile int data __attribute__((section(".gdb_index"))) = 3;
+__attribute__((section("prog"))) int entry(void) { return data; }
+C
+        clang -O1 -target bpf -c -o scripts.o scripts.c
+        converted scripts.o scripts.sym
+        holds scripts.sym '8 prog' '300000000 .data' '0 _start' '28 _setup'
     fi
 fi
