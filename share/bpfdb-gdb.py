@@ -56,7 +56,7 @@ class Commands:
             count = int(gdb.newest_frame().read_register(MOVES))
             self.note(count, count > self.now)
             if count < self.begin:
-                gdb.write("the data of the program are set up here: advance *0x%x goes on to the entry\n" % self.entry)
+                gdb.write("this is before the entry: advance *0x%x goes on to it\n" % self.entry)
 
     def edit(self, event):
         """Notes an edit, of which gdb has no new count of moves."""
