@@ -26,8 +26,12 @@ page() {
         function line(text) {
             print (text ~ /^[.\047]/ ? "\\&" : "") text
         }
-        # A text with its words between backquotes in bold, and those between stars in italics.
+        # A text with its words between backquotes in bold, and those between stars in italics; a link is its text.
         function inline(text,    parts, n, i, out) {
+            while (match(text, /\[[^][]*\]\([^)]*\)/)) {
+                n = index(substr(text, RSTART), "](")
+                text = substr(text, 1, RSTART - 1) substr(text, RSTART + 1, n - 2) substr(text, RSTART + RLENGTH)
+            }
             n = split(text, parts, "`")
             for (i = 1; i <= n; i++) {
                 if (i % 2) {

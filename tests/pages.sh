@@ -339,6 +339,7 @@ libraries
 refusals
 edits
 sh docs/man.sh --check || fault 'the man page'
+! grep -n '](' docs/bpfdb.1 || fault 'the man page has links of Markdown'
 sh docs/editors.sh --check || fault 'what shells and editors know'
 toolchain
 [ ! -s "$work/faults" ]

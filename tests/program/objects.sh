@@ -264,6 +264,15 @@ calls answered by --stub: 2'
 printf '\002\000\000\000' > context
 result '0x1\n' run --maps 8x2,16x256 -m context arrays
 
+# The line of the page on programs from C takes the maps alone.
+mkdir bin
+ln -s "$program" bin/bpfdb
+cp arrays.o filter.o
+recipe=$(sed -n 's/^ *`\(bpfdb run .*\)`$/\1/p' "$top/examples/README.md")
+(PATH=$PWD/bin:$PATH && sh -c "$(echo "$recipe" | sed 's/link/link --stub 2=7,1=0/; s/filter.bin$/-m context filter.bin/')") > found/out 2> found/err
+echo $? > found/status
+check "$recipe" 0 '0x1\n' ''
+
 # Data that aren't zeros at the start: the program stores them before its entry, which is slot 1, and needs no option but `--maps`. (In point.o the second
 # variable is the address of the last of three numbers, which is 3.)
 "$program" link data.o > data 2> told
