@@ -34,3 +34,16 @@ plugin 2 'exit\n' '' "bpfdb-conformance: program isn't hexadecimal digits\n"
 plugin 2 "$answer\n" '' "bpfdb-conformance: memory has half a byte\n" 012
 plugin 2 '' '' 'bpfdb-conformance: there is no program\n'
 plugin 2 '' '' 'bpfdb-conformance: --program needs the words of a program\n' --program
+
+# What can't be written is no answer.
+if [ -c /dev/full ]; then
+    BPFDB=$program "$top/share/bpfdb-conformance" --program "$answer" > /dev/full 2> found/err
+    echo $? > found/status
+    : > found/out
+    check 'bpfdb-conformance: a full output' 2 '' 'bpfdb-conformance: cannot write output\n'
+fi
+memory=$(awk 'BEGIN { for (i = 0; i < 20000; i++) printf "00" }')
+(trap '' XFSZ && ulimit -f 8 && BPFDB=$program "$top/share/bpfdb-conformance" "$memory" --program "$length") > found/out 2> found/err
+echo $? > found/status
+check 'bpfdb-conformance: a file that is cut' 2 '' 'bpfdb-conformance: cannot write memory\n'
+plugin 0 "$length\n" '4e20\n' '' "$memory"
