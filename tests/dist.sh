@@ -2,8 +2,9 @@
 # `make dist`: what is handed on of a built program, in the folder out/dist (or the one that is named): an archive, a Debian package where there is
 # dpkg-deb, and their SHA256SUMS. In it are the program, its shell, the tools for gdb, the man page, the pages for users, the examples, the
 # license, the changelog, and a file BUILD with the commit and the last line of the gate, which `make test` leaves in out/passed. A tree
-# that differs from its commit, or whose commit the gate hasn't passed, gives none. The same commit gives the same bytes.
+# that differs from its commit, or whose commit the gate hasn't passed, gives none. The same commit gives the same bytes, under any umask.
 set -u
+umask 022
 cd "$(dirname "$0")/.." || exit 1
 to=${1:-out/dist}
 work=$(mktemp -d) || exit 1

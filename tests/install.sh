@@ -1,7 +1,8 @@
 #!/bin/sh
 # Installs the built program for `make install`: install.sh DESTDIR PREFIX PAGE.. What it says names the places without DESTDIR, as they are where
-# the files will be used.
+# the files will be used. Folders and programs have mode 755 and other files 644, whatever the caller's umask is.
 set -u
+umask 022
 cd "$(dirname "$0")/.." || exit 1
 destination=$1 prefix=$2
 shift 2

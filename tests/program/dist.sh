@@ -21,9 +21,9 @@ handed_on() {
     fi
 }
 
-# dist FOLDER: make dist into a folder; what it says last is found.
+# dist FOLDER [UMASK]: make dist into a folder; what it says last is found.
 dist() {
-    (cd copy && sh tests/dist.sh "$1") > told 2> found/err
+    (cd copy && umask "${2:-022}" && sh tests/dist.sh "$1") > told 2> found/err
     echo $? > found/status
     tail -n 1 told > found/out
 }
@@ -47,8 +47,10 @@ else
     dist "$PWD/made"
     [ "$(cat found/status)" = 0 ] || { complain 'make dist'; cat told found/err; }
     handed_on
-    dist "$PWD/again"
-    same 'make dist, twice' made/SHA256SUMS again/SHA256SUMS
+    for mask in 077 002; do
+        dist "$PWD/again" "$mask"
+        same "make dist under umask $mask" made/SHA256SUMS again/SHA256SUMS
+    done
     echo >> copy/README.md
     dist "$PWD/made"
     check 'make dist of a tree that differs' 1 'FAILED: the tree differs from its commit:  M README.md\n' ''

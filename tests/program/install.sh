@@ -4,13 +4,16 @@
 if [ -n "${BPFDB:-}" ] && [ "$BPFDB" != "$top/crates/bpfdb/out/bpfdb" ]; then
     left_out 'make install' 'BPFDB names the program'
 else
-    # installed DESTDIR PREFIX: is installed there, works, and leaves nothing when it is taken away.
+    # installed DESTDIR PREFIX UMASK: is installed there under this umask, works, and leaves nothing when it is taken away.
     installed() {
         installed=$1$2
-        env -u MAKEFLAGS make -s -C "$top" install DESTDIR="$1" PREFIX="$2" > found/out 2> found/err
+        (umask "$3" && env -u MAKEFLAGS make -s -C "$top" install DESTDIR="$1" PREFIX="$2") > found/out 2> found/err
         echo $? > found/status
         check "make install PREFIX=$2" 0 "installed $2/bin/bpfdb, bpfdb-shell, bpfdb-symbols, bpfdb-show and bpfdb-conformance beside it, the man page, completions of bash, zsh and fish, and pages and examples in $2/share/doc/bpfdb; in gdb: source $2/share/bpfdb/bpfdb-gdb.py\n" ''
         (cd "$installed" && find . -type f -printf '%m %P\n' | sort) > found/files
+        (cd "${1:-$2}" && find . -type d ! -perm 755) > found/folders
+        : > wanted/folders
+        same "make install PREFIX=$2: modes of folders" wanted/folders found/folders
         {
             cat <<'FILES'
 644 share/bash-completion/completions/bpfdb
@@ -71,6 +74,6 @@ FILES
         same 'make uninstall leaves no file' wanted/files found/files
         [ ! -e "$installed/share/bpfdb" ] && [ ! -e "$installed/share/doc/bpfdb" ] || complain 'make uninstall leaves a folder'
     }
-    installed "$PWD/root" /usr/local
-    installed '' "$PWD/opt/bpfdb"
+    installed "$PWD/root" /usr/local 077
+    installed '' "$PWD/opt/bpfdb" 002
 fi
