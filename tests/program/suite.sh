@@ -163,6 +163,25 @@ typed 'bpfdb-show into a new folder' 0 'context options program script\ncat F/sc
     'TMPDIR=new; export TMPDIR; bpfdb-show a shown.test > shown; echo $(ls new/*); sed -n "1s:new/bpfdb-show\.......:F:gp" shown'
 typed 'bpfdb-show of no test' 2 '' 'refused T7: no test of this name: b\n' 'TMPDIR=new bpfdb-show b shown.test'
 typed 'what bpfdb-show leaves of no test' 0 '1\n' '' 'ls new | wc -l'
+# Names of folders are words of the shell, whatever is in them; what a test file holds is none of its lines.
+for dir in 'a\tb\041\c' "it's \"c\"" '-m' 'a
+b
+' '$(touch pwned)`touch pwned`;#'; do
+    (PATH=$PWD/bin:$PATH && unset BPFDB && bpfdb-show a shown.test "$dir" > lines && sed 's/^bpfdb origin/echo; &/' lines | sh) > found/out 2> found/err < script
+    echo $? > found/status
+    check "bpfdb-show into '$dir'" 0 'ok\nok\n2 forward; end; exited at 1: r0 0xff\n\nexited at 1: r0 0xff\n-2 r0 = 0xff; 0: ldxb r0, [r1+1]; from 0x100000001:1\nleft 0x100000001 = 0xff; byte 1 of the context; at the opening\n' ''
+done
+printf -- '-- listing\nexit\n-- maps\n8x2\\047; touch pwned; \\047\n-- result\n0\n' > maps.test
+typed 'bpfdb-show of a list of maps that is none' 2 '' 'refused M5: malformed map list\n' "bpfdb-show '' maps.test maps > shown; status=\$?; sh shown; exit \$status"
+typed 'what a test file lets do' 0 '' '' '! [ -e pwned ] && ! [ -e maps ]'
+# A folder that is there stays as it is, and of what fails none is left.
+mkdir there
+echo precious > there/program
+typed 'bpfdb-show into a folder that is there' 0 '2\nprogram\nprecious\n' '' 'bpfdb-show a shown.test there 2> err; echo $?; ls there; cat there/program'
+typed 'bpfdb-show of no test, into a folder' 0 '2\n' 'refused T7: no test of this name: b\n' 'bpfdb-show b shown.test none; echo $?; ! [ -e none ]'
+if [ -c /dev/full ]; then
+    typed 'bpfdb-show: a full output' 0 '2\n' 'cannot write output\n' 'bpfdb-show a shown.test full > /dev/full; echo $?; ! [ -e full ]'
+fi
 typed 'bpfdb-show of nothing' 2 '' 'usage: bpfdb-show NAME FILE [DIR]\n' 'bpfdb-show a'
 
 fi
