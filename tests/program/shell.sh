@@ -11,9 +11,9 @@ sed -i '2s/.*/i h/' commands
 echo 'source itself' > itself
 compile terminal
 
-# shown FILE: what a terminal shows of a session, without prompts and empty lines.
+# shown FILE: what a terminal shows of a session, without prompts and empty lines, and without the number of the file of linked words.
 shown() {
-    sed 's/(bpfdb) //g' "$1" | grep -v '^$'
+    sed 's/(bpfdb) //g; s|/dev/fd/[0-9]*|LINKED|' "$1" | grep -v '^$'
 }
 
 # habit BEFORE TYPED LINES: what is typed after other lines, in a session of the words $opened, prints these lines, a slash between two.
@@ -55,6 +55,10 @@ if has python3 'bpfdb-shell'; then
     # (python3 itself, where the one on the PATH is a script that looks for it)
     PATH=$(dirname "$(python3 -c 'import sys; print(sys.executable)')"):$PATH
     habits shell.txt -m context sum.s
+    printf 'mov r0, 1\nexit\n' > plain.s
+    printf 'mov r0, 1 \r \nexit\n' > blank.s
+    printf 'exit\n\013\n' > control.s
+    ln -s /proc/self/mem unread.s
 
     # Without a terminal there are the replies alone, as bpfdb has them; refusals are those of bpfdb; an empty line repeats.
     plainly 'short names, comments and empty lines' 0 'si # a step\n\n# nothing\n   \nrs\nfrob\nset reg r10 1\nx 0x100000000 2' \
@@ -63,6 +67,20 @@ if has python3 'bpfdb-shell'; then
     plainly 'lines that end in a carriage return' 0 'c\r\n\r\nq now\r\nrs 2' \
         '18 forward; end; exited at 2: r0 0x3\nrefused Q3: the machine has ended\nrefused Q2: wrong argument\n2 back; done; at 1: stxb [r10-8], r0\n' '' -m context --listing sum.s
     plainly 'nothing behind quit is obeyed' 0 'si\nq\nsi\n' '1 forward; done; at 1: exit\n' ''
+    digits=$(awk 'BEGIN { for (i = 0; i < 5000; i++) printf 1 }')
+    plainly 'numbers that are too large' 0 "p $digits\nb x.s:$digits\nx/${digits}xb 0\nb 18446744073709551616\np 18446744073709551616\np 18446744073709551615\n" \
+        'refused Q12: line too long\nrefused Q12: line too long\nrefused Q12: line too long\nrefused Q2: wrong argument\n18446744073709551615 = 0xffffffffffffffff (-1)\n' \
+        'bpfdb-shell: no value: 18446744073709551616 (a register as $r0, a number, a label, or a sum of them)\n'
+    plainly 'a byte zero' 0 'si\norigin r0\0000\n' '1 forward; done; at 1: exit\nrefused Q1: unknown command\n' '' plain.s
+    plainly 'bytes that a terminal obeys' 0 'p \0033]0;T\0007\0302\0233\0342\0200\0256\0233\n' '' \
+        'bpfdb-shell: no value: \\x1b]0;T\\x07\\xc2\\x9b\\xe2\\x80\\xae\\x9b (a register as $r0, a number, a label, or a sum of them)\n'
+    plainly 'a listing with a control byte' 2 's\n' '' 'refused A6 at line 2: byte outside ASCII text\n' control.s
+    plainly "a listing that can't be read" 2 's\n' '' 'cannot read unread.s\n' unread.s
+    "$shell" --help > wanted/help
+    "$shell" -m context --help < /dev/null > found/help 2>&1
+    same 'bpfdb-shell: help behind other words' wanted/help found/help
+    opened=blank.s
+    habit '' 'info line 1' '1: blank.s:2: exit'
     plainly 'no program' 2 'si\n' '' 'cannot read missing\n' missing
     plainly 'a refused program' 2 'si\n' '' 'refused C3: length is no multiple of 8\n' context
     plainly 'a command line that is none' 2 'si\n' '' "$("$program" debug --frob 2>&1 | sed 's/\\/\\\\/g')\n" --frob
@@ -98,9 +116,13 @@ if has python3 'bpfdb-shell'; then
     # At a terminal a refusal of the program has the line of its slot, or says that FILE looks like a listing.
     printf 'mov r0, 0\nja end ; too far\nexit\nend:\n' > far.s
     printf 'mov r0, 0\nexit\n' > plain.txt
+    printf 'int f(void) { return 0; }\n' > f.c
+    printf 'ldmap r1, 0\nexit\n' > map.s
     : > script
     for row in 'far.s|refused C8 at slot 1: target is no instruction|far.s:2: ja end' \
-        'plain.txt|refused C3: length is no multiple of 8|plain.txt looks like a listing: --listing' 'context|refused C3: length is no multiple of 8'; do
+        'plain.txt|refused C3: length is no multiple of 8|plain.txt looks like a listing: --listing' 'context|refused C3: length is no multiple of 8' \
+        'f.c|refused C3: length is no multiple of 8|f.c looks like C: clang -target bpf -O2 -g -c f.c' \
+        'map.s|refused C12 at slot 0: no such map or offset|map.s:1: ldmap r1, 0|the program has maps: --maps VxN,VxN (bytes of a value, entries); of an object clang -g tells them'; do
         HOME=$PWD ./terminal script "$shell" "${row%%|*}" > found/out 2> found/err
         echo $? > found/status
         check "bpfdb-shell ${row%%|*} at a terminal" 2 '' "$(echo "${row#*|}" | sed 's/|/\\n/g')\n"
@@ -109,18 +131,87 @@ if has python3 'bpfdb-shell'; then
     # An object is linked, with its maps; one that is refused ends it.
     python3 -c 'import sys; sys.stdout.buffer.write(bytes.fromhex(sys.stdin.read()))' < "$top/examples/overrun/object.hex" > overrun.o
     cp "$top/examples/overrun/overrun.c" .
+    cp "$top/examples/overrun/context.bin" .
+    # (patched OBJECT SECTION OLD NEW: that object with other bytes in a section)
+    cat > patched.py <<'PYTHON'
+import struct, sys
+data = bytearray(open('overrun.o', 'rb').read())
+start, = struct.unpack_from('<Q', data, 40)
+count, names = struct.unpack_from('<HH', data, 60)
+headers = [struct.unpack_from('<IIQQQQ', data, start + 64 * at) for at in range(count)]
+name, old, new = (word.encode('latin-1').decode('unicode_escape').encode('latin-1') for word in sys.argv[2:])
+for header in headers:
+    at = headers[names][4] + header[0]
+    if data[at:at + len(name) + 1] == name + b'\0':
+        found = data.index(old, header[4], header[4] + header[5])
+        data[found:found + len(new)] = new
+open(sys.argv[1], 'wb').write(data)
+PYTHON
+    patched() {
+        python3 patched.py "$@" || complain "tests/program/shell.sh: $1 isn't made"
+    }
     if has addr2line 'lines of C in bpfdb-shell'; then
-        habits shell-c.txt -m "$top/examples/overrun/context.bin" overrun.o
+        habits shell-c.txt -m context.bin overrun.o
+        for words in '--stub 6=0 --as-compiled' '--stub=6=0'; do
+            opened="$words -m context.bin overrun.o"
+            habit '' 'b overrun.c:26' '> break 24 / ok'
+        done
+        # What the debug information names may be anything, and so may names of functions.
+        patched named.o .strtab '\0copy' '\0c\33\n\233'
+        opened=named.o
+        habit '' 'info functions' '0: entry / 13: c\\x1b\\x0a\\x9b / 24: size_of'
+        patched lined.o .debug_line_str 'overrun.c' 'over\nun.c'
+        opened=lined.o
+        habit '' 'info line 1' 'bpfdb-shell: no line is known of 1'
+        mkdir sources
+        opened=sources/overrun.o
+        cp overrun.o sources
+        sed '21s/.*/to\t[i] = \o33[8m\o302\o233\o342\o200\o256\o233;/' overrun.c > sources/overrun.c
+        habit '' 'info line copy+2' '15: overrun.c:21 <copy+2>: to [i] = \\x1b[8m\\xc2\\x9b\\xe2\\x80\\xae\\x9b;'
+        ln -s -f /proc/self/mem sources/overrun.c
+        habit '' 'info line copy+2' '15: overrun.c:21 <copy+2>'
+        rm sources/overrun.c
+        python3 -c 'open("sources/overrun.c", "w").truncate(400 << 20)'
+        count=$((count + 1))
+        (failures=0; ulimit -v 400000; habit '' 'info line copy+2' '15: overrun.c:21 <copy+2>'; exit "$failures") || failures=$((failures + 1))
+        rm -r sources
     fi
+    patched nameless.o .symtab '\7\0\0\0\2\0\2\0' '\377\377\377\177\2\0\2\0'
+    opened=nameless.o
+    habit '' 'info functions' '0: entry / 24: size_of'
+    patched unknown.o .debug_abbrev '\1\21\1\45\45' '\1\21\1\45\177'
+    opened=unknown.o
+    habit '' 'b copy' 'bpfdb-shell: there is no label copy: labels are those of a listing or an object'
+    grep -a -o 'bpfdb-symbols: .*' found/all > found/out
+    echo 'bpfdb-symbols: unknown.o: debug information in an unknown form' > wanted/out
+    same 'bpfdb-shell: what bpfdb-symbols refuses' wanted/out found/out
+    # (a name is read, and not all of the file behind it)
+    cat > functions.py <<'PYTHON'
+import importlib.machinery, importlib.util, struct, sys
+loader = importlib.machinery.SourceFileLoader('shell', sys.argv[1])
+shell = importlib.util.module_from_spec(importlib.util.spec_from_loader('shell', loader))
+loader.exec_module(shell)
+count = 200000
+strings = b'\0' + b''.join(b'f%06d\0' % at for at in range(count))
+symbols = b''.join(struct.pack('<IBBHQQ', 1 + 8 * at, 2, 0, 1, 8 * at, 8) for at in range(count))
+tables = (3, 0, 0, 64 + 128, len(strings), 0, 0, 1, 0), (2, 0, 0, 64 + 128 + len(strings), len(symbols), 0, 0, 8, 24)
+file = bytearray(64) + b''.join(struct.pack('<IIQQQQIIQQ', 0, *table) for table in tables) + strings + symbols
+struct.pack_into('<Q', file, 40, 64)
+struct.pack_into('<HHH', file, 58, 64, 2, 1)
+print(len(dict(shell.functions(bytes(file)))))
+PYTHON
+    timeout 20 python3 functions.py "$shell" > found/out 2> found/err
+    echo $? > found/status
+    check 'bpfdb-shell: 200,000 functions' 0 '200000\n' ''
     if has addr2line '`start` in bpfdb-shell' && has_clang '`start` in bpfdb-shell'; then
         clang -g -O2 -target bpf -I "$parts/c" -c "$parts/c/counter.c"
         opened='-m context counter.o'
         habit start 'p $pc' '> info regs / $pc = 0x1 (1)'
         habit 'start; stepi 3; start' 'p $pc' '> info regs / $pc = 0x1 (1)'
     fi
-    plainly 'an object' 0 'c\n' '105 forward; end; fault access 0x10077656d at 25\n' '' -m "$top/examples/overrun/context.bin" overrun.o
+    plainly 'an object' 0 'c\n' '105 forward; end; fault access 0x10077656d at 25\n' '' -m context.bin overrun.o
     plainly 'an object, and a section that it has' 0 'c\n' '105 forward; end; fault access 0x10077656d at 25\n' '' \
-        --section filter -m "$top/examples/overrun/context.bin" overrun.o
+        --section filter -m context.bin overrun.o
     plainly 'an object, and a section that it lacks' 2 'c\n' '' 'refused E8: no such code section: .text, filter\n' --section nothing overrun.o
 
     # Its words go where they belong, to link or to debug, and link's maps to debug.
@@ -139,8 +230,8 @@ SCRIPT
         '--as-compiled overrun.o --steps 9|link --as-compiled -- overrun.o|debug --steps 9 --maps 8x2 -- LINKED' \
         '--entry=entry --section xdp --maps=1x1 overrun.o|link --entry=entry --section xdp -- overrun.o|debug --maps=1x1 -- LINKED' \
         '--stub 5=0,14=-1 overrun.o|link --stub 5=0,14=-1 -- overrun.o|debug --maps 8x2 -- LINKED' \
-        '--journal=1024 sum.s|debug --journal=1024 --listing -- sum.s' \
-        '--listing -m context -- sum.s|debug --listing -m context -- sum.s' \
+        '--journal=1024 sum.s|lines -- sum.s|debug --journal=1024 --listing -- sum.s' \
+        '--listing -m context -- sum.s|lines -- sum.s|debug --listing -m context -- sum.s' \
         '--entry entry context|debug --entry entry -- context'; do
         : > called
         # (the words have no blanks)
@@ -194,6 +285,45 @@ PYTHON
     echo $? > found/status
     grep -a -o -e '.\[[0-9][0-9]*m' -e 'r0 0x0 -> 0x7' found/all > found/out
     check 'bpfdb-shell: no colours where NO_COLOR is set' 0 'r0 0x0 -> 0x7\n' ''
+
+    # An interrupt ends neither a command of bpfdb nor the session, but what would come after the command.
+    cat > interrupted.py <<'PYTHON'
+import os, pty, select, signal, sys
+signal.alarm(60)
+child, side = pty.fork()
+if child == 0:
+    os.execv(sys.argv[1], sys.argv[1:])
+found = b''
+def until(text, again=b''):
+    global found
+    while text not in found:
+        # (readline doesn't see an interrupt that comes between two looks at what is typed)
+        if select.select([side], [], [], 1)[0]:
+            found += os.read(side, 4096)
+        else:
+            os.write(side, again)
+    sys.stdout.write(found.decode().replace('\r', ''))
+    found = b''
+until(b'(bpfdb) ')
+os.write(side, b'typed')
+until(b'typed')
+os.write(side, b'\3')
+until(b'(bpfdb) ', b'\3')
+os.write(side, b'continue 3\n')
+until(b'> continue\r\n')
+os.write(side, b'\3')
+until(b'(bpfdb) ')
+os.write(side, b'info history\n')
+until(b'(bpfdb) ')
+os.write(side, b'q\n')
+print('\nstatus', os.waitstatus_to_exitcode(os.waitpid(child, 0)[1]))
+PYTHON
+    printf 'mov r1, 0x40000000\nloop: add r1, -1\njne r1, 0, loop\nexit\n' > long.s
+    HOME=$PWD TERM=xterm NO_COLOR=1 python3 interrupted.py "$shell" --steps 100000000 long.s > found/all 2> found/err
+    grep -a -o -e "waiting for bpfdb's command to end" -e '[0-9]* forward; .*;' -e '.* of 65536 bytes' -e '^status .*' found/all > found/out
+    echo $? > found/status
+    # (an addition takes 16 bytes of the journal, a jump 7)
+    check 'bpfdb-shell: an interrupt' 0 "waiting for bpfdb's command to end\n100000000 forward; limit;\n5698 moves, 0 commands, 65527 of 65536 bytes\nstatus 0\n" ''
 
     # It ends with its terminal, and bpfdb with it.
     cat > hangup.py <<'PYTHON'
