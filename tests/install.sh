@@ -44,7 +44,7 @@ find examples -type f | while read -r file; do
 done
 # (The pages lie beside README and the examples there. What leads to a page for those who work on bpfdb, which isn't installed, is no link.)
 folder=$destination$prefix/share/doc/bpfdb
-sed -i 's|](\.\./examples/|](examples/|g' "$folder"/*.md || exit 1
+sed -i 's|](\.\./examples/|](examples/|g; s|](\.\./README.md|](README.md|g' "$folder"/*.md || exit 1
 sed -i 's|](\.\./docs/|](../|g' "$folder/examples"/*.md || exit 1
 sed -i 's|](docs/session.svg)|](session.svg)|' "$folder/README.md" || exit 1
 for page in "$@"; do
@@ -52,6 +52,6 @@ for page in "$@"; do
 done
 for page in docs/*.md; do
     page=$(basename "$page")
-    [ -e "$folder/$page" ] || sed -i "s|\[\([^][]*\)\](\(docs/\)\{0,1\}$page[^)]*)|\1|g" "$folder"/*.md "$folder/examples"/*.md || exit 1
+    [ -e "$folder/$page" ] || sed -i "s|\[\([^][]*\)\](\(docs/\)\{0,1\}${page}[^)]*)|\1|g" "$folder"/*.md "$folder/examples"/*.md || exit 1
 done
 echo "installed $prefix/bin/bpfdb, bpfdb-shell, bpfdb-symbols, bpfdb-show and bpfdb-conformance beside it, the man page, completions of bash, zsh and fish, and pages and examples in $prefix/share/doc/bpfdb; in gdb: source $prefix/share/bpfdb/bpfdb-gdb.py"
