@@ -1,32 +1,100 @@
 -- Cells get their values one after another, up to the first that isn't there.
-use Rattle.std.proofs.Common.{ℕ, ◌≡◌, ◌<◌, ◌+◌, true, false, not, List, drop, length, get_or, Some, refl, sym, ap}
+use Rattle.std.proofs.Common.{ℕ, ◌≡◌, ◌≤◌, ◌<◌, ◌+◌, List, [], ◌∷◌, ◌++◌, drop, length, get_or, Option, Some, None, Ok, Err, refl, sym, ap, subst, ◌∙◌}
+use Rattle.std.specs.List.{filter_map}
 use Rattle.std.proofs.lemmas.List.{drop_more}
+use Rattle.std.proofs.lemmas.List.Elements.{filter_map-append}
+use Rattle.bpf_isa.specs.Programs.{Checked}
 use Rattle.bpf_isa.specs.declared.maps.MapShape.{MapShape}
 use Rattle.bpf_machine.specs.Edits.{edited}
-use Rattle.bpf_machine.specs.State.{State}
+use Rattle.bpf_machine.specs.Platform.{context_limit}
+use Rattle.bpf_machine.specs.State.{State, initial}
 use Rattle.bpf_machine.specs.declared.edit.Edit.TheVariants as edit
-use Rattle.bpf_suite.specs.Outcomes.{edit_of, is_there, missing, with_cells}
+use Rattle.bpf_machine.specs.declared.fault.OpenFault.TheVariants as unopened
+use Rattle.bpf_session.specs.Plain.{plain_end}
+use Rattle.bpf_suite.specs.Cells.{cell_of}
+use Rattle.bpf_suite.specs.Images.{IsImageOf, Makes, with_runs}
+use Rattle.bpf_suite.specs.Outcomes.{Ends, GivesCells, IsProgramOf, Refuses, RefusesCells, edit_of, is_there, missing, with_cells}
 use Rattle.bpf_suite.specs.declared.cells.Cell.{Cell}
-use Rattle.bpf_suite.proofs.Lists.{find-no, find-yes}
+use Rattle.bpf_suite.specs.declared.cells.CellLine.{CellLine}
+use Rattle.bpf_suite.specs.declared.image.Image.{Image}
+use Rattle.bpf_suite.specs.declared.image.Run.{Run}
+use Rattle.bpf_suite.specs.declared.refusal.Refusal.{Refusal}
+use Rattle.bpf_suite.specs.declared.refusal.Refusal.TheVariants.{Maps, Listing, Load, Open, NoCell}
+use Rattle.bpf_suite.specs.declared.setting.Setting.{Setting}
+use Rattle.bpf_suite.proofs.Lists.{find-append, or_else}
 
 -- the program stays
-pub edited-program : (x : State) (cell : Cell) → (edited x (edit_of cell)).program ≡ x.program
-unfolding edited
-edited-program x cell = refl
-
 pub edited-cell : (x : State) (map index : ℕ) (bytes : List ℕ) → (edited x (edit.Cell map index bytes)).program ≡ x.program
 unfolding edited
 edited-cell x map index bytes = refl
 
--- a cell that is there, and one that isn't
-pub with_cells-next : (cells : List Cell) (i : ℕ) (d : Cell) (x : State) → i < length cells
-    → with_cells (drop (i + 1) cells) (edited x (edit_of (get_or cells i d))) ≡ with_cells (drop i cells) x
-with_cells-next cells i d x low = sym (ap (λ cs. with_cells cs x) (drop_more cells i d low))
+pub runs-program : (runs : List Run) (x : State) → (with_runs runs x).program ≡ x.program
+unfolding edited
+runs-program [] x = refl
+runs-program (run ∷ runs) x = runs-program runs (edited x (edit.Bytes run.address run.bytes))
 
-pub missing-next : (maps : List MapShape) (cells : List Cell) (i : ℕ) (d : Cell) → i < length cells → is_there maps (get_or cells i d) ≡ true
-    → missing maps (drop (i + 1) cells) ≡ missing maps (drop i cells)
-missing-next maps cells i d low e = find-no (λ cell. not (is_there maps cell)) cells i d low (ap not e)
+-- the cells of lines from a place on
+pub cells-next : (lines : List CellLine) (i : ℕ) (line : CellLine) → i < length lines → line ≡ get_or lines i line
+    → filter_map cell_of (drop i lines) ≡ filter_map cell_of (line ∷ []) ++ filter_map cell_of (drop (i + 1) lines)
+cells-next lines i line low is =
+    ap (filter_map cell_of) (drop_more lines i line low ∙ ap (λ l. l ∷ drop (i + 1) lines) (sym is))
+    ∙ filter_map-append cell_of (line ∷ []) (drop (i + 1) lines)
 
-pub missing-here : (maps : List MapShape) (cells : List Cell) (i : ℕ) (d : Cell) → i < length cells → is_there maps (get_or cells i d) ≡ false
-    → missing maps (drop i cells) ≡ Some (get_or cells i d)
-missing-here maps cells i d low e = find-yes (λ cell. not (is_there maps cell)) cells i d low (ap not e)
+with_cells-append : (cells more : List Cell) (x : State) → with_cells (cells ++ more) x ≡ with_cells more (with_cells cells x)
+with_cells-append [] more x = refl
+with_cells-append (cell ∷ cells) more x = with_cells-append cells more (edited x (edit_of cell))
+
+pub with_cells-next : (all cells more : List Cell) (x y : State) → all ≡ cells ++ more → y ≡ with_cells cells x → with_cells more y ≡ with_cells all x
+with_cells-next all cells more x y e is = ap (with_cells more) is ∙ sym (with_cells-append cells more x) ∙ ap (λ cs. with_cells cs x) (sym e)
+
+-- what is missing of cells, and of those behind them
+pub missing-next : (maps : List MapShape) (all cells more : List Cell) → all ≡ cells ++ more → missing maps cells ≡ None → missing maps more ≡ missing maps all
+missing-next maps all cells more e none =
+    sym (ap (missing maps) e ∙ find-append (λ cell. Rattle.std.specs.Prelude.not (is_there maps cell)) cells more ∙ ap (λ found. or_else found (missing maps more)) none)
+
+pub missing-here : (maps : List MapShape) (all cells more : List Cell) (cell : Cell) → all ≡ cells ++ more → missing maps cells ≡ Some cell → missing maps all ≡ Some cell
+missing-here maps all cells more cell e found =
+    ap (missing maps) e ∙ find-append (λ c. Rattle.std.specs.Prelude.not (is_there maps c)) cells more ∙ ap (λ f. or_else f (missing maps more)) found
+
+-- why cells don't get their values is why others don't, of which the same one is missing
+pub refuses-cells : (maps : List MapShape) (cells others : List Cell) (refusal : Refusal)
+    → ((cell : Cell) → missing maps cells ≡ Some cell → missing maps others ≡ Some cell) → RefusesCells maps cells refusal → RefusesCells maps others refusal
+refuses-cells maps cells others (Maps fault) same r = r
+refuses-cells maps cells others (Listing fault) same r = r
+refuses-cells maps cells others (Load fault) same r = r
+refuses-cells maps cells others (Open unopened.ContextTooLong) same r = r
+refuses-cells maps cells others (Open unopened.OutOfMemory) same r = r
+refuses-cells maps cells others (NoCell map index) same r = (r.0, same r.0 r.1, r.2, r.3)
+
+-- a program is refused for its cells, behind its opening
+pub refuses-opened : (t : Setting) (code : Checked) (refusal : Refusal) → IsProgramOf t code → length t.context ≤ context_limit → RefusesCells code.maps t.cells refusal
+    → Refuses t refusal
+refuses-opened t code (Maps fault) is short r = absurd r
+refuses-opened t code (Listing fault) is short r = absurd r
+refuses-opened t code (Load fault) is short r = absurd r
+refuses-opened t code (Open unopened.ContextTooLong) is short r = absurd r
+refuses-opened t code (Open unopened.OutOfMemory) is short r = (code, is, short)
+refuses-opened t code (NoCell map index) is short r = (code, record { program = is; short = short }, r.0, r.1, r.2, r.3)
+
+-- or it ends
+pub ends-opened : (t : Setting) (code : Checked) (x y z : State) → IsProgramOf t code → length t.context ≤ context_limit → x ≡ initial code t.context
+    → missing code.maps t.cells ≡ None → y ≡ with_cells t.cells x → z ≡ plain_end t.limit y → Ends t z
+ends-opened t code x y z is short opened none given ran =
+    (code, record { program = is; short = short }, none, ran ∙ ap (plain_end t.limit) (given ∙ ap (with_cells t.cells) opened))
+
+-- the same by an image
+module _ (t : Setting) (code : Checked) (image : Image) (is : IsProgramOf t code) (short : length t.context ≤ context_limit) (of : IsImageOf t.cells image)
+    (maps : image.maps ≡ t.maps) where
+  makes : Makes t.cells code.maps image.runs
+  makes = of code.maps (subst (λ (m : Option (List ℕ)). Rattle.bpf_suite.specs.Outcomes.HasMaps m code.maps) (sym maps) is.maps)
+
+  pub ends-by-image : (x y z : State) (runs : List Run) → image.runs ≡ Ok runs → x ≡ initial code t.context → y ≡ with_runs runs x → z ≡ plain_end t.limit y → Ends t z
+  ends-by-image x y z runs here opened given ran =
+      let made = subst (Makes t.cells code.maps) here makes in
+      ends-opened t code x y z is short opened made.0
+      (given ∙ ap (with_runs runs) opened ∙ made.1 code t.context refl short ∙ ap (with_cells t.cells) (sym opened)) ran
+
+  pub refuses-by-image : (refusal : Refusal) → image.runs ≡ Err refusal → Refuses t refusal
+  refuses-by-image refusal here =
+      let made = subst (Makes t.cells code.maps) here makes in
+      subst (Refuses t) (sym made.2) (code, record { program = is; short = short }, made.0, made.1, refl, refl)

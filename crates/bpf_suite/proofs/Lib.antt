@@ -1,5 +1,6 @@
 pub mod CellValues
 pub mod Cuts
+pub mod Images
 pub mod Lists
 pub mod Patterns
 pub mod Programs
@@ -7,4 +8,5 @@ pub mod Reporting
 pub mod Shares
 pub mod Tests
 pub mod Texts
+pub mod Told
 pub mod Trimming

@@ -1,7 +1,8 @@
 -- Bytes held against a pattern.
-use Rattle.std.proofs.Common.{ℕ, ◌≡◌, ◌<◌, ◌≤◌, ◌+◌, ◌/◌, ◌%◌, true, false, ◌&&◌, List, [], ◌∷◌, drop, length, get_or, refl, ap, ◌∙◌, arith}
+use Rattle.std.proofs.Common.{ℕ, ◌≡◌, ◌<◌, ◌≤◌, ◌+◌, ◌/◌, ◌%◌, Bool, true, false, not, ◌&&◌, List, [], ◌∷◌, drop, length, get_or, refl, ap, ◌∙◌, arith}
 use Rattle.std.proofs.lemmas.List.{drop_more}
-use Rattle.bpf_suite.specs.Bodies.{fits, fits_byte, fits_digit}
+use Rattle.std.specs.List.{list_all}
+use Rattle.bpf_suite.specs.Bodies.{fits, fits_byte, fits_digit, is_space, solid}
 
 -- a byte that doesn't fit
 pub fits-no : (digits bytes : List ℕ) (i : ℕ) → i < length bytes → fits_byte digits (get_or bytes i 0) ≡ false → fits digits (drop i bytes) ≡ false
@@ -13,6 +14,15 @@ pub fits-yes : (digits bytes : List ℕ) (i : ℕ) → i < length bytes → fits
     → fits digits (drop i bytes) ≡ fits (drop 2 digits) (drop (i + 1) bytes)
 fits-yes digits bytes i h e =
     ap (fits digits) (drop_more bytes i 0 h) ∙ ap (λ b. b && fits (drop 2 digits) (drop (i + 1) bytes)) e
+
+-- a pattern without spaces
+pub solid-same : (body : List ℕ) → list_all (λ b. not (is_space b)) body ≡ true → solid body ≡ body
+solid-same [] e = refl
+solid-same (b ∷ body) e = go (not (is_space b)) refl e (solid-same body) where
+  go : (t : Bool) → not (is_space b) ≡ t → (t && list_all (λ c. not (is_space c)) body) ≡ true → (list_all (λ c. not (is_space c)) body ≡ true → solid body ≡ body)
+      → solid (b ∷ body) ≡ b ∷ body
+  go true here all rest = rw here (ap (λ s. b ∷ s) (rest all))
+  go false here all rest = cc
 
 -- too few digits, and enough
 pub fits_byte-short : (digits : List ℕ) (b : ℕ) → length digits < 2 → fits_byte digits b ≡ false

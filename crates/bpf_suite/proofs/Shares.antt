@@ -5,10 +5,15 @@ use Rattle.std.specs.Option.{option_map, option_map_or, option_or}
 use Rattle.bpf_text.specs.declared.fault.AsmFault.{AsmFault}
 use Rattle.bpf_suite.specs.Benches.{IsBench, Loads, shares_program, with_maps}
 use Rattle.bpf_suite.specs.Bodies.{trimmed}
+use Rattle.bpf_suite.specs.Cells.{cell_lines, cells_of}
 use Rattle.bpf_suite.specs.Faults.{has_part}
+use Rattle.bpf_suite.specs.Images.{HasImage}
 use Rattle.bpf_suite.specs.Kinds.{is_part}
 use Rattle.bpf_suite.specs.Outcomes.{Outcome, Reads}
-use Rattle.bpf_suite.specs.Tests.{has_listing, is_listing, maps, program, section_for, setting, text_or_bytes}
+use Rattle.bpf_suite.specs.Tests.{body_for, cells, has_listing, is_listing, maps, program, section_for, setting, text_or_bytes}
+use Rattle.bpf_suite.specs.Verdicts.{wrong_cells, wrong_lines}
+use Rattle.bpf_suite.specs.declared.cells.CellLine.{CellLine}
+use Rattle.bpf_suite.specs.declared.image.Image.{Image}
 use Rattle.bpf_suite.specs.declared.kind.Part.{Part}
 use Rattle.bpf_suite.specs.declared.kind.Part.TheVariants as part
 use Rattle.bpf_suite.specs.declared.section.Section.{Section}
@@ -75,26 +80,75 @@ pub loads-shared : (own shared : List Section) (machine : Outcome) → shares_pr
 loads-shared own shared machine e loads =
     Loads-same (setting (own ++ shared)) (with_maps (maps own) (setting shared)) machine (same-program own shared e) loads
 
+-- the lines of a test about cells: its own, or else the shared ones
+find-in-front : {X : Type 0} (p : X → Bool) (xs ys : List X) → list_any p xs ≡ true → find p (xs ++ ys) ≡ find p xs
+find-in-front p [] ys e = cc
+find-in-front p (x ∷ xs) ys e = go (p x) refl e (find-in-front p xs ys) where
+  go : (b : Bool) → p x ≡ b → (b || list_any p xs) ≡ true → (list_any p xs ≡ true → find p (xs ++ ys) ≡ find p xs) → find p (x ∷ xs ++ ys) ≡ find p (x ∷ xs)
+  go true here any rest = rw here refl
+  go false here any rest = rw here (rest any)
+
+body_for-own : (p : Part) (own shared : List Section) → has_part p own ≡ true → body_for p (own ++ shared) ≡ body_for p own
+body_for-own p own shared e = ap (λ found. option_map_or (λ section. section.body) found []) (find-in-front (λ section. is_part p section.kind) own shared e)
+
+body_for-shared : (p : Part) (own shared : List Section) → has_part p own ≡ false → body_for p (own ++ shared) ≡ body_for p shared
+body_for-shared p own shared e = ap (λ found. option_map_or (λ section. section.body) found []) (section_for-behind p own shared e)
+
+pub lines-chosen : (p : Part) (own shared : List Section) (has : Bool) (mine theirs lines : List CellLine) → has ≡ has_part p own → mine ≡ cell_lines (body_for p own)
+    → theirs ≡ cell_lines (body_for p shared) → lines ≡ cond has mine theirs → lines ≡ cell_lines (body_for p (own ++ shared))
+lines-chosen p own shared true mine theirs lines e is other here = here ∙ is ∙ ap cell_lines (sym (body_for-own p own shared (sym e)))
+lines-chosen p own shared false mine theirs lines e is other here = here ∙ other ∙ ap cell_lines (sym (body_for-shared p own shared (sym e)))
+
+pub wrong-chosen : (own shared : List Section) (has : Bool) (mine theirs lines : List CellLine) (outcome : Outcome) → has ≡ has_part part.CellsAfter own
+    → mine ≡ cell_lines (body_for part.CellsAfter own) → theirs ≡ cell_lines (body_for part.CellsAfter shared) → lines ≡ cond has mine theirs
+    → wrong_lines lines outcome ≡ wrong_cells (own ++ shared) outcome
+wrong-chosen own shared has mine theirs lines outcome e is other here =
+    ap (λ ls. wrong_lines ls outcome) (lines-chosen part.CellsAfter own shared has mine theirs lines e is other here)
+
+-- the image of the cells that tests share is that of a test's cells, where it has none of its own
+pub cells-shared : (own shared : List Section) (has : Bool) (t : Setting) → has ≡ has_part part.Cells own → has ≡ false → t ≡ setting (own ++ shared) → cells shared ≡ t.cells
+cells-shared own shared has t is none same =
+    ap cells_of (sym (body_for-shared part.Cells own shared (sym is ∙ none))) ∙ ap (λ (u : Setting). u.cells) (sym same)
+
 -- a bench behind a test that was run on it
-pub bench-after : (own shared : List Section) (read : List ℕ) (words : Result (List ℕ) AsmFault) (before mine : Option (List ℕ)) (old new : Outcome) (t : Setting)
-    → shares_program own ≡ true → IsBench shared read words before old → mine ≡ maps own → t ≡ setting (own ++ shared) → Loads t new
-    → IsBench shared read words mine new
-bench-after own shared read words before mine old new t e bench is same loads = record {
+pub bench-after : (own shared : List Section) (read : List ℕ) (words : Result (List ℕ) AsmFault) (given after : List CellLine) (kept kept' : Option Image)
+    (before mine : Option (List ℕ)) (old new : Outcome) (t : Setting)
+    → shares_program own ≡ true → IsBench shared read words given after kept before old → HasImage (cells shared) kept' → mine ≡ maps own → t ≡ setting (own ++ shared)
+    → Loads t new → IsBench shared read words given after kept' mine new
+bench-after own shared read words given after kept kept' before mine old new t e bench image is same loads = record {
   text = bench.text;
   reads = bench.reads;
+  values = bench.values;
+  wanted = bench.wanted;
+  image = image;
   loads = subst (λ (m : Option (List ℕ)). Loads (with_maps m (setting shared)) new) (sym is)
       (loads-shared own shared new e (subst (λ (u : Setting). Loads u new) same loads));
 }
 
+-- or behind one with a program of its own
+pub bench-alone : (shared : List Section) (read : List ℕ) (words : Result (List ℕ) AsmFault) (given after : List CellLine) (kept kept' : Option Image)
+    (before : Option (List ℕ)) (machine : Outcome) → IsBench shared read words given after kept before machine → HasImage (cells shared) kept'
+    → IsBench shared read words given after kept' before machine
+bench-alone shared read words given after kept kept' before machine bench image = record {
+  text = bench.text;
+  reads = bench.reads;
+  values = bench.values;
+  wanted = bench.wanted;
+  image = image;
+  loads = bench.loads;
+}
+
 -- the machine of the test before is that of a test, where both have the same maps of their own
-pub loads-again : (own shared : List Section) (read : List ℕ) (words : Result (List ℕ) AsmFault) (before mine : Option (List ℕ)) (machine : Outcome) (t : Setting)
-    → shares_program own ≡ true → IsBench shared read words before machine → before ≡ mine → mine ≡ maps own → t ≡ setting (own ++ shared) → Loads t machine
-loads-again own shared read words before mine machine t e bench alike is same =
+pub loads-again : (own shared : List Section) (read : List ℕ) (words : Result (List ℕ) AsmFault) (given after : List CellLine) (kept : Option Image)
+    (before mine : Option (List ℕ)) (machine : Outcome) (t : Setting)
+    → shares_program own ≡ true → IsBench shared read words given after kept before machine → before ≡ mine → mine ≡ maps own → t ≡ setting (own ++ shared) → Loads t machine
+loads-again own shared read words given after kept before mine machine t e bench alike is same =
     subst (λ (u : Setting). Loads u machine) (sym same)
     (loads-own own shared machine e (subst (λ (m : Option (List ℕ)). Loads (with_maps m (setting shared)) machine) (alike ∙ is) bench.loads))
 
 -- the words of its program
-pub words-again : (own shared : List Section) (read : List ℕ) (words : Result (List ℕ) AsmFault) (before : Option (List ℕ)) (machine : Outcome) (t : Setting)
-    → shares_program own ≡ true → IsBench shared read words before machine → t ≡ setting (own ++ shared) → Reads t.is_listing t.program words
-words-again own shared read words before machine t e bench same =
+pub words-again : (own shared : List Section) (read : List ℕ) (words : Result (List ℕ) AsmFault) (given after : List CellLine) (kept : Option Image)
+    (before : Option (List ℕ)) (machine : Outcome) (t : Setting)
+    → shares_program own ≡ true → IsBench shared read words given after kept before machine → t ≡ setting (own ++ shared) → Reads t.is_listing t.program words
+words-again own shared read words given after kept before machine t e bench same =
     subst (λ (u : Setting). Reads u.is_listing u.program words) (sym same) (reads-own own shared words e bench.reads)

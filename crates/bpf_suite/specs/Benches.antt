@@ -2,9 +2,13 @@
 use Rattle.std.specs.Prelude.{ℕ, ◌≡◌, Bool, false, not, List, Option, Some, None, Result, Ok, Err}
 use Rattle.std.specs.Option.{option_or}
 use Rattle.bpf_text.specs.declared.fault.AsmFault.{AsmFault}
+use Rattle.bpf_suite.specs.Cells.{cell_lines}
 use Rattle.bpf_suite.specs.Faults.{has_part}
+use Rattle.bpf_suite.specs.Images.{HasImage}
 use Rattle.bpf_suite.specs.Outcomes.{IsProgramOf, Outcome, Reads, Refuses, is_memory}
-use Rattle.bpf_suite.specs.Tests.{has_listing, program, setting}
+use Rattle.bpf_suite.specs.Tests.{body_for, cells, has_listing, program, setting}
+use Rattle.bpf_suite.specs.declared.cells.CellLine.{CellLine}
+use Rattle.bpf_suite.specs.declared.image.Image.{Image}
 use Rattle.bpf_suite.specs.declared.kind.Part.TheVariants as part
 use Rattle.bpf_suite.specs.declared.refusal.Refusal.{Refusal}
 use Rattle.bpf_suite.specs.declared.refusal.Refusal.TheVariants.{Maps, Listing, Load, Open, NoCell}
@@ -38,10 +42,19 @@ pub record Shared : Type 0 where
   pub machine : Outcome
 
 -- The machine is that of a test with the shared program and these maps of its own, if it has some.
-pub record IsBench (sections : List Section) (read : List ℕ) (words : Result (List ℕ) AsmFault) (own : Option (List ℕ)) (machine : Outcome) : Type 0 where
+pub record IsBench (sections : List Section) (read : List ℕ) (words : Result (List ℕ) AsmFault) (given after : List CellLine) (kept : Option Image)
+    (own : Option (List ℕ)) (machine : Outcome) : Type 0 where
   pub text : read ≡ program sections
   pub reads : Reads (has_listing sections) (program sections) words
+  pub values : given ≡ cell_lines (body_for part.Cells sections)
+  pub wanted : after ≡ cell_lines (body_for part.CellsAfter sections)
+  pub image : HasImage (cells sections) kept
   pub loads : Loads (with_maps own (setting sections)) machine
+
+-- Why a program is refused, if it is. Want of memory is no reason.
+abbrev pub ReasonOf : Result (Unit {0}) Refusal → Option Refusal → Type 0
+ReasonOf (Ok done) reason = reason ≡ None
+ReasonOf (Err refusal) reason = (reason ≡ Some refusal) × (is_memory refusal ≡ false)
 
 -- What a test comes to: that machine, or a refusal of its own.
 abbrev pub outcome_by : Outcome → Option Refusal → Outcome

@@ -3,6 +3,7 @@ pub mod Bodies
 pub mod Cells
 pub mod Faults
 pub mod Files
+pub mod Images
 pub mod Kinds
 pub mod Outcomes
 pub mod Reports

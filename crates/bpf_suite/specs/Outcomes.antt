@@ -1,5 +1,5 @@
 -- What comes of a test's program: it is refused, or it runs to its end or to the limit.
-use Rattle.std.specs.Prelude.{ℕ, ◌≡◌, ◌≤◌, true, false, Bool, not, List, [], ◌∷◌, ◌++◌, codes, decimal, find, length, map, Option, Some, None, Result, Ok, Err, IfErr, OnErr, OnOk, slice_get}
+use Rattle.std.specs.Prelude.{ℕ, ◌≡◌, ◌≤◌, ⊤, true, false, Bool, not, List, [], ◌∷◌, ◌++◌, codes, decimal, find, length, map, Option, Some, None, Result, Ok, Err, IfErr, OnErr, OnOk, slice_get}
 use Rattle.bpf_isa.specs.Checker.{IsRefused}
 use Rattle.bpf_isa.specs.Faults.{load_fault, map_fault}
 use Rattle.bpf_isa.specs.Maps.{IsListFault, IsMapList, items_of, shape_of}
@@ -70,6 +70,20 @@ pub record GivesCell (cell : Cell) (old new : State) (result : Result (Unit {0})
   pub next : OnOk result (new ≡ edited old (edit_of cell))
   pub err : OnErr result (is_there old.program.maps cell ≡ false)
   pub told : IfErr result (λ refusal. refusal ≡ NoCell cell.map cell.index)
+  pub program : new.program ≡ old.program
+
+-- Why cells don't get their values: one isn't there, or memory ran out.
+abbrev pub RefusesCells : List MapShape → List Cell → Refusal → Type 0
+RefusesCells maps cells (NoCell map index) =
+    (cell : Cell) × (missing maps cells ≡ Some cell) × (map ≡ cell.map) × (index ≡ cell.index)
+RefusesCells maps cells (Open unopened.OutOfMemory) = ⊤
+RefusesCells maps cells _ = ⊥
+
+-- Cells get their values, one after another, unless one isn't there.
+pub record GivesCells (cells : List Cell) (old new : State) (result : Result (Unit {0}) Refusal) : Type 0 where
+  pub there : OnOk result (missing old.program.maps cells ≡ None)
+  pub next : OnOk result (new ≡ with_cells cells old)
+  pub why : IfErr result (RefusesCells old.program.maps cells)
   pub program : new.program ≡ old.program
 
 -- The machine is opened on the program and the context.

@@ -1,5 +1,5 @@
 -- The report on tests, in the Test Anything Protocol.
-use Rattle.std.specs.Prelude.{ℕ, ◌≡◌, Bool, true, false, ◌&&◌, List, [], ◌∷◌, ◌++◌, codes, decimal, flat_map, Option, Ok, Err}
+use Rattle.std.specs.Prelude.{ℕ, ◌≡◌, ◌-◌, ◌==◌, Bool, true, false, ◌&&◌, if◌then◌else◌, List, [], ◌∷◌, ◌++◌, codes, decimal, flat_map, length, take, Option, Ok, Err}
 use Rattle.std.specs.Option.{option_map_or}
 use Rattle.bpf_machine.specs.Platform.{cell_address}
 use Rattle.bpf_machine.specs.State.{State}
@@ -17,6 +17,7 @@ use Rattle.bpf_suite.specs.declared.kind.Part.TheVariants as part
 use Rattle.bpf_suite.specs.declared.report.SuiteFault.{SuiteFault}
 use Rattle.bpf_suite.specs.declared.report.SuiteFault.TheVariants.{Memory, Write}
 use Rattle.bpf_suite.specs.declared.section.Section.{Section}
+use Rattle.bpf_suite.specs.declared.values.WrongCells.{WrongCells}
 
 -- How many tests there are.
 abbrev pub plan : ℕ → List ℕ
@@ -50,9 +51,21 @@ unfoldable pub cell_text : State → CellLine → List ℕ
 cell_text x line =
     cell_head line (codes " came: ") ++ value_text x line.map line.index ++ cell_head line (codes " wanted: ") ++ trimmed line.digits ++ codes "\n"
 
+-- A report tells of so many cells at most, and then how many more are wrong.
+abbrev pub most_told : ℕ
+most_told = 16
+
+abbrev pub more_text : ℕ → List ℕ
+more_text n = if n == 0 then [] else codes "# more wrong cells: " ++ decimal n ++ codes "\n"
+
 abbrev pub cells_text : List CellLine → Outcome → List ℕ
-cells_text wrong (Ok x) = flat_map (cell_text x) wrong
+cells_text wrong (Ok x) = flat_map (cell_text x) (take most_told wrong) ++ more_text (length wrong - most_told)
 cells_text wrong (Err refusal) = []
+
+-- The cells that it tells of, and how many more there are.
+pub record AreTold (wrong : List CellLine) (told : WrongCells) : Type 0 where
+  pub first : told.told.items ≡ take most_told wrong
+  pub more : told.more ≡ length wrong - most_told
 
 -- The line to be typed that makes files of a test's parts and says how it is debugged: by the name of its file, and its own.
 unfoldable pub show_line : List ℕ → List ℕ → List ℕ

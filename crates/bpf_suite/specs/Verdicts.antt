@@ -85,10 +85,13 @@ cell_value x map index = option_and_then (λ n. run_at x.memory (cell_address ma
 abbrev pub holds : State → CellLine → Bool
 holds x line = option_map_or (λ value. fits (solid line.digits) value) (cell_value x line.map line.index) false
 
--- What the lines of a test say of cells that they don't hold where the program has ended.
+-- The lines that don't hold where the program has ended, and those of a test.
+abbrev pub wrong_lines : List CellLine → Outcome → List CellLine
+wrong_lines lines (Ok x) = filter (λ line. not (holds x line)) lines
+wrong_lines lines (Err refusal) = []
+
 abbrev pub wrong_cells : List Section → Outcome → List CellLine
-wrong_cells test (Ok x) = filter (λ line. not (holds x line)) (cell_lines (body_for part.CellsAfter test))
-wrong_cells test (Err refusal) = []
+wrong_cells test outcome = wrong_lines (cell_lines (body_for part.CellsAfter test)) outcome
 
 -- None is wrong, and where the program is refused nothing is said of cells.
 abbrev pub cells_left : List Section → Outcome → Bool

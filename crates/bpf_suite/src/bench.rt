@@ -1,30 +1,43 @@
 //! The program that tests of a file share, and the machine that they run on, one after another.
-ghost use Rattle.std.specs.Prelude.{◌≡◌, ◌++◌, Decides, IfNone, IfOk, IfSome, OnErr, OnOk, true};
-ghost use Rattle.bpf_suite.specs.Benches.{Loads, outcome_by, shares_program};
-ghost use Rattle.bpf_suite.specs.Outcomes.{Comes, Reads, Refuses};
-ghost use Rattle.bpf_suite.specs.Tests.{has_listing, program as program_of, setting};
+ghost use Rattle.std.specs.Prelude.{◌≡◌, ◌++◌, IfErr, IfOk, List, OnErr, OnOk, filter_map, false, if◌then◌else◌, true};
+ghost use Rattle.bpf_suite.specs.Benches.{Loads, ReasonOf, outcome_by, shares_program};
+ghost use Rattle.bpf_suite.specs.Cells.{cell_of};
+ghost use Rattle.bpf_suite.specs.Images.{HasImage};
+ghost use Rattle.bpf_suite.specs.Outcomes.{Comes, Ends, IsProgramOf, Reads, Refuses};
+ghost use Rattle.bpf_suite.specs.Reports.{AreTold};
+ghost use Rattle.bpf_suite.specs.Tests.{cells as cells_of, has_listing, program as program_of, setting};
+ghost use Rattle.bpf_suite.specs.Verdicts.{wrong_cells};
+ghost use Rattle.bpf_suite.specs.declared.cells.Cell.{Cell};
 
+use crate::cells::{CellLine, Cells};
+use crate::image::{Image, image_for};
 use crate::kind::Part;
 use crate::list::Own;
-use crate::outcome::{loaded, outcome_on};
+use crate::outcome::{loaded, outcome_by_image, outcome_on};
 use crate::refusal::Refusal;
-use crate::section::{Section, Text};
+use crate::section::{Section, Text, are_same};
 use crate::setting::{Setting, setting_of};
-use crate::test::{Test, has_part, maps_in};
+use crate::test::{Test, has_part, lines_in, maps_in};
+use crate::values::{WrongCells, wrong_cells};
 use crate::words::{Words, words_of};
 use bpf_machine::Cpu;
 use bpf_text::AsmFault;
 use std::alloc::{AllocError, Global};
 use std::marker::Model;
 
-/// The sections that tests share, their program, and a machine that stands on it, or why there is
-/// none. Contracts see the sections and the machine.
+/// The sections that tests share, what is made of them, and a machine that stands on their program,
+/// or why there is none. Contracts see the sections and the machine.
 #[derive(Drop)]
 pub struct Bench<'b, 'a> {
     shared: &'b [Section<'a>],
     /// A listing, or the bytes of words.
     program: Vec<u8>,
     words: Result<Words, AsmFault>,
+    /// The cells that get values, and what is wanted of cells.
+    cells: Vec<CellLine<'a>>,
+    wanted: Vec<CellLine<'a>>,
+    /// What these cells made of the maps of the last test without cells of its own.
+    image: Option<Image<'a>>,
     /// The maps of the test that was run last, where it has some of its own: those of the machine.
     maps: Option<Text<'a>>,
     machine: Result<Cpu, Refusal>,
@@ -37,7 +50,8 @@ impl<'b, 'a> Model for Bench<'b, 'a> {
 
     ghost view = { λ b. record { sections = b.shared.now; machine = b.machine } };
 
-    ghost invariant = { λ b. IsBench b.shared.now b.program.items b.words b.maps b.machine };
+    ghost invariant = { λ b. IsBench b.shared.now b.program.items b.words b.cells.items
+        b.wanted.items b.image b.maps b.machine };
 }
 
 impl<'b, 'a> Bench<'b, 'a> {
@@ -48,11 +62,16 @@ impl<'b, 'a> Bench<'b, 'a> {
         let test = Test { own: &[], shared };
         let program = test.program(alloc)?;
         let words = words_of(alloc, test.has_listing(), program.as_slice())?;
-        let machine = machine_of(alloc, &test, program.as_slice(), &words)?;
+        let cells = lines_in(alloc, shared, Part::Cells)?;
+        let wanted = lines_in(alloc, shared, Part::CellsAfter)?;
+        let machine = machine_of(alloc, &test, program.as_slice(), cells.as_slice(), &words)?;
         Ok(Bench {
             shared,
             program,
             words,
+            cells,
+            wanted,
+            image: None,
             maps: None,
             machine,
         })
@@ -75,6 +94,21 @@ impl<'b, 'a> Bench<'b, 'a> {
         &self.machine
     }
 
+    /// What the lines of a test say of cells that they don't hold where its program has ended.
+    pub fn wrong_cells(
+        &self,
+        alloc: Global,
+        own: &Own<'b, 'a>,
+        outcome: &Result<Cpu, Refusal>,
+    ) -> Result<WrongCells<'a>, AllocError>
+        ensures { IfOk result (AreTold (wrong_cells (own.now ++ self.now.sections) outcome.now)) }
+    {
+        let has_own = has_part(own.sections, Part::CellsAfter);
+        let own_lines = lines_in(alloc, own.sections, Part::CellsAfter)?;
+        let lines = chosen(has_own, own_lines.as_slice(), self.wanted.as_slice());
+        wrong_cells(alloc, lines, outcome)
+    }
+
     /// Runs a test of the shared program on the machine, which is made anew where it has other maps
     /// than the test before. Answers why the test is refused, if it is and others aren't; else the
     /// machine is what it came to.
@@ -86,22 +120,39 @@ impl<'b, 'a> Bench<'b, 'a> {
     {
         let test = self.test(own);
         let context = test.context(alloc)?;
-        let cells = test.cells(alloc)?;
+        let has_own = has_part(own.sections, Part::Cells);
+        let own_cells = lines_in(alloc, own.sections, Part::Cells)?;
+        let lines = chosen(has_own, own_cells.as_slice(), self.cells.as_slice());
+        let cells = Cells { lines };
         let setting = setting_of(&test, self.program.as_slice(), context.as_slice(), cells);
         let maps = maps_in(own.sections);
-        let stands = same_maps(&self.maps, &maps);
+        let stands = are_same(&self.maps, &maps);
         bring(alloc, &mut self.machine, stands, &setting, &self.words)?;
         self.maps = maps;
-        match run_on(alloc, &mut self.machine, &setting) {
-            Some(refusal) => {
-                if refusal.is_memory() {
-                    Err(AllocError)
-                } else {
-                    Ok(Some(refusal))
-                }
-            }
-            None => Ok(None),
-        }
+        let shares = gets_shared(has_own, self.cells.as_slice());
+        run_on(alloc, &mut self.machine, &setting, shares, &mut self.image)
+    }
+
+    /// What a test with a program of its own comes to.
+    pub fn run_alone(
+        &mut self,
+        alloc: Global,
+        own: &Own<'b, 'a>,
+    ) -> Result<Result<Cpu, Refusal>, AllocError>
+        ensures comes { IfOk result (Comes (setting (own.now ++ self.old.sections))) }
+        ensures sections { self.new.sections ≡ self.old.sections }
+    {
+        let test = self.test(own);
+        let program = test.program(alloc)?;
+        let words = words_of(alloc, test.has_listing(), program.as_slice())?;
+        let context = test.context(alloc)?;
+        let has_own = has_part(own.sections, Part::Cells);
+        let own_cells = lines_in(alloc, own.sections, Part::Cells)?;
+        let lines = chosen(has_own, own_cells.as_slice(), self.cells.as_slice());
+        let cells = Cells { lines };
+        let setting = setting_of(&test, program.as_slice(), context.as_slice(), cells);
+        let shares = gets_shared(has_own, self.cells.as_slice());
+        outcome_of(alloc, &setting, &words, shares, &mut self.image)
     }
 }
 
@@ -112,15 +163,22 @@ pub fn shares_program(own: &[Section<'_>]) -> bool
     !has_part(own, Part::Program)
 }
 
-/// Whether two tests have the same text of maps of their own, or both none.
-fn same_maps(one: &Option<Text<'_>>, other: &Option<Text<'_>>) -> bool
-    ensures { Decides result (one.now ≡ other.now) }
+/// Whether a test gets cells that tests share, since it has none of its own.
+fn gets_shared(has_own: bool, shared: &[CellLine<'_>]) -> bool
+    ensures { result ≡ true → has_own ≡ false }
 {
-    match (one, other) {
-        (Some(one), Some(other)) => one.bytes == other.bytes,
-        (None, None) => true,
-        _ => false,
-    }
+    !has_own && !shared.is_empty()
+}
+
+/// The lines of a test about cells: its own, if it has some, else the shared ones.
+fn chosen<'x, 'a>(
+    has_own: bool,
+    own: &'x [CellLine<'a>],
+    shared: &'x [CellLine<'a>],
+) -> &'x [CellLine<'a>]
+    ensures { result.now ≡ (if has_own then own.now else shared.now) }
+{
+    if has_own { own } else { shared }
 }
 
 /// A machine that stands on the program of a test, or why there is none.
@@ -128,15 +186,16 @@ fn machine_of(
     alloc: Global,
     test: &Test<'_, '_>,
     program: &[u8],
+    lines: &[CellLine<'_>],
     words: &Result<Words, AsmFault>,
 ) -> Result<Result<Cpu, Refusal>, AllocError>
     requires program { program.now ≡ program_of test.now }
+    requires cells { filter_map cell_of lines.now ≡ cells_of test.now }
     requires words { Reads (has_listing test.now) program.now words.now }
     ensures { IfOk result (Loads (setting test.now)) }
 {
     let context = test.context(alloc)?;
-    let cells = test.cells(alloc)?;
-    let setting = setting_of(test, program, context.as_slice(), cells);
+    let setting = setting_of(test, program, context.as_slice(), Cells { lines });
     loaded(alloc, &setting, words)
 }
 
@@ -159,23 +218,88 @@ fn bring(
     Ok(())
 }
 
-/// Runs a program on its machine, if it has one. Answers why it is refused, if it is here and
-/// not on every context.
-fn run_on(
+/// What a program comes to on a machine of its own.
+fn outcome_of<'a>(
+    alloc: Global,
+    setting: &Setting<'a, '_>,
+    words: &Result<Words, AsmFault>,
+    shares: bool,
+    image: &mut Option<Image<'a>>,
+) -> Result<Result<Cpu, Refusal>, AllocError>
+    requires words { Reads setting.now.is_listing setting.now.program words.now }
+    requires image { shares ≡ true → HasImage setting.now.cells image.old }
+    ensures comes { IfOk result (Comes setting.now) }
+    ensures image { (cells : List Cell) → (shares ≡ true → cells ≡ setting.now.cells)
+        → HasImage cells image.old → HasImage cells image.new }
+{
+    let mut machine = loaded(alloc, setting, words)?;
+    match run_on(alloc, &mut machine, setting, shares, image)? {
+        Some(refusal) => Ok(Err(refusal)),
+        None => Ok(machine),
+    }
+}
+
+/// Runs a program on its machine, if it has one: with cells that tests share, by their image.
+/// Answers why it is refused, if it is here and not on every context.
+fn run_on<'a>(
     alloc: Global,
     machine: &mut Result<Cpu, Refusal>,
-    setting: &Setting<'_, '_>,
-) -> Option<Refusal>
-    requires { Loads setting.now machine.old }
+    setting: &Setting<'a, '_>,
+    shares: bool,
+    image: &mut Option<Image<'a>>,
+) -> Result<Option<Refusal>, AllocError>
+    requires loads { Loads setting.now machine.old }
+    requires image { shares ≡ true → HasImage setting.now.cells image.old }
     ensures loads { Loads setting.now machine.new }
-    ensures none { IfNone result (Comes setting.now machine.new) }
-    ensures some { IfSome result (Refuses setting.now) }
+    ensures comes { IfOk result (λ refusal.
+        Comes setting.now (outcome_by machine.new refusal)) }
+    ensures image { (cells : List Cell) → (shares ≡ true → cells ≡ setting.now.cells)
+        → HasImage cells image.old → HasImage cells image.new }
 {
     match machine {
-        Ok(cpu) => match outcome_on(alloc, cpu, setting) {
-            Ok(()) => None,
-            Err(refusal) => Some(refusal),
-        },
-        Err(_) => None,
+        Ok(cpu) => {
+            if shares {
+                refusal_of(run_by(alloc, cpu, setting, image)?)
+            } else {
+                refusal_of(outcome_on(alloc, cpu, setting))
+            }
+        }
+        Err(_) => Ok(None),
+    }
+}
+
+/// Runs a program on its machine by the image of its cells, which is kept.
+fn run_by<'a>(
+    alloc: Global,
+    cpu: &mut Cpu,
+    setting: &Setting<'a, '_>,
+    kept: &mut Option<Image<'a>>,
+) -> Result<Result<(), Refusal>, AllocError>
+    requires program { IsProgramOf setting.now cpu.old.program }
+    requires image { HasImage setting.now.cells kept.old }
+    ensures ok { IfOk result (λ done. OnOk done (Ends setting.now cpu.new)) }
+    ensures err { IfOk result (λ done. IfErr done (Refuses setting.now)) }
+    ensures program { cpu.new.program ≡ cpu.old.program }
+    ensures image { HasImage setting.now.cells kept.new }
+{
+    let image = image_for(alloc, cpu, setting, kept.take())?;
+    let done = outcome_by_image(alloc, cpu, setting, &image);
+    *kept = Some(image);
+    Ok(done)
+}
+
+/// Why a program is refused, if it is, unless memory ran out.
+fn refusal_of(done: Result<(), Refusal>) -> Result<Option<Refusal>, AllocError>
+    ensures { IfOk result (ReasonOf done) }
+{
+    match done {
+        Ok(()) => Ok(None),
+        Err(refusal) => {
+            if refusal.is_memory() {
+                Err(AllocError)
+            } else {
+                Ok(Some(refusal))
+            }
+        }
     }
 }

@@ -188,6 +188,24 @@ pub fn fits(digits: &[u8], bytes: &[u8]) -> bool
     rest.is_empty()
 }
 
+/// Whether bytes fit the pattern that a body is. Memory is taken only where spaces stand in it.
+pub fn fits_body(alloc: Global, body: &[u8], bytes: &[u8]) -> Result<bool, AllocError>
+    ensures { IfOk result (λ is. is ≡ fits (solid body.now) bytes.now) }
+{
+    if is_solid(body) {
+        return Ok(fits(body, bytes));
+    }
+    let digits = solid(alloc, body)?;
+    Ok(fits(digits.as_slice(), bytes))
+}
+
+/// Whether no spaces stand in a body.
+fn is_solid(body: &[u8]) -> bool
+    ensures { result ≡ list_all (λ b. not (is_space b)) body.now }
+{
+    body.iter().all(|byte| !is_space(*byte))
+}
+
 /// The number that a body is, None where it is none below 2^64.
 pub fn number_of(body: &[u8]) -> Option<u64>
     ensures { result ≡ number_of body.now }

@@ -1,7 +1,7 @@
 //! Cells of maps, as sections name them: a line each.
-ghost use Rattle.std.specs.Prelude.{◌≡◌, ◌∷◌, ◌++◌, IfOk, OnOk, [], filter_map, is_some};
+ghost use Rattle.std.specs.Prelude.{◌≡◌, IfOk, is_some};
 ghost use Rattle.std.specs.List.{list_all};
-ghost use Rattle.bpf_suite.specs.Cells.{are_cells, are_patterns, behind_word, cell_line, cell_lines, cell_of, cells_of, has_pattern, is_cell_line, is_value_len, line_of, lines, sized, value_of, word};
+ghost use Rattle.bpf_suite.specs.Cells.{are_cells, are_patterns, behind_word, cell_line, cell_lines, cell_of, has_pattern, is_cell_line, is_value_len, line_of, lines, sized, value_of, word};
 
 use crate::body::{bytes_of, is_pattern, number_of, solid};
 use crate::section::Text;
@@ -51,68 +51,33 @@ pub struct Cell {
     pub value: ByteString,
 }
 
-/// Cells with their values. Contracts see them as a list.
+/// Cells with their values, by the lines that give them. Contracts see them as a list.
 #[derive(Drop)]
-pub struct Cells {
-    items: Vec<Cell>,
+pub struct Cells<'x, 'a> {
+    pub lines: &'x [CellLine<'a>],
 }
 
-impl Model for Cells {
-    ghost use Rattle.std.specs.Prelude.{List};
+impl<'x, 'a> Model for Cells<'x, 'a> {
+    ghost use Rattle.std.specs.Prelude.{List, filter_map};
+    ghost use Rattle.bpf_suite.specs.Cells.{cell_of};
     ghost use Rattle.bpf_suite.specs.declared.cells.Cell.{Cell};
 
     ghost Value = { List Cell };
 
-    ghost view = { λ c. c.items.items };
+    ghost view = { λ c. filter_map cell_of c.lines.now };
 }
 
-impl Cells {
-    /// The cells that a section gives values to.
-    pub fn of(alloc: Global, body: &[u8]) -> Result<Cells, AllocError>
-        ensures { IfOk result (λ cells. cells ≡ cells_of body.now) }
-    {
-        let lines = cell_lines(alloc, body)?;
-        let items = cells_in(alloc, lines.as_slice())?;
-        Ok(Cells { items })
-    }
-
-    /// Each of them.
-    pub fn as_slice(&self) -> &[Cell]
-        ensures { result.now ≡ self.now }
-    {
-        self.items.as_slice()
-    }
-}
-
-/// The cells that lines give values to.
-fn cells_in(alloc: Global, lines: &[CellLine<'_>]) -> Result<Vec<Cell>, AllocError>
-    ensures { IfOk result (λ cells. cells.items ≡ filter_map cell_of lines.now) }
-{
-    let mut cells = Vec::new(alloc);
-    for line in lines {
-        push_cell(alloc, &mut cells, line)?;
-    }
-    Ok(cells)
-}
-
-/// Adds the cell that a line gives a value to, if it does.
-fn push_cell(alloc: Global, cells: &mut Vec<Cell>, line: &CellLine<'_>) -> Result<(), AllocError>
-    ensures { OnOk result (cells.new.items
-        ≡ cells.old.items ++ filter_map cell_of (line.now ∷ [])) }
+/// The cell that a line gives a value to, if it does.
+pub fn cell_of(alloc: Global, line: &CellLine<'_>) -> Result<Option<Cell>, AllocError>
+    ensures { IfOk result (λ cell. cell ≡ cell_of line.now) }
 {
     match value_of(alloc, line)? {
-        Some(value) => {
-            let cell = Cell {
-                map: line.map,
-                index: line.index,
-                value,
-            };
-            match cells.push(cell) {
-                Ok(()) => Ok(()),
-                Err(_) => Err(AllocError),
-            }
-        }
-        None => Ok(()),
+        Some(value) => Ok(Some(Cell {
+            map: line.map,
+            index: line.index,
+            value,
+        })),
+        None => Ok(None),
     }
 }
 

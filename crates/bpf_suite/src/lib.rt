@@ -5,6 +5,7 @@ mod bench;
 mod body;
 mod cells;
 mod fault;
+mod image;
 mod kind;
 mod list;
 mod outcome;

@@ -1,20 +1,21 @@
 //! What comes of a test's program.
-ghost use Rattle.std.specs.Prelude.{◌≡◌, ◌++◌, IfErr, IfOk, OnErr, OnOk, None, Some, [], false, true};
-ghost use Rattle.bpf_isa.specs.Programs.{Checked};
-ghost use Rattle.bpf_machine.specs.Edits.{edited};
-ghost use Rattle.bpf_machine.specs.State.{initial};
+ghost use Rattle.std.specs.Prelude.{◌≡◌, ◌∷◌, ◌++◌, IfErr, IfOk, OnOk, None, [], filter_map};
+ghost use Rattle.bpf_machine.specs.Opening.{Opened};
 ghost use Rattle.bpf_session.specs.Plain.{plain_end};
 ghost use Rattle.bpfdb_replies.specs.Texts.{place};
 ghost use Rattle.counted_io.specs.Writing.{WritesAfter};
 ghost use Rattle.bpf_suite.specs.Benches.{Loads, RefusesProgram};
-ghost use Rattle.bpf_suite.specs.Outcomes.{Ends, GivesCell, HasMaps, HasWords, IsOpened, IsProgramOf, Reads, Refuses, cell_name, cell_place, limit_word, missing, outcome_text, placed, refusal_text, slot_of, text_of_refusal, with_cells};
+ghost use Rattle.bpf_suite.specs.Cells.{cell_of};
+ghost use Rattle.bpf_suite.specs.Images.{IsImageOf};
+ghost use Rattle.bpf_suite.specs.Outcomes.{Ends, GivesCell, GivesCells, HasMaps, HasWords, IsProgramOf, Reads, Refuses, RefusesCells, cell_name, cell_place, limit_word, missing, outcome_text, placed, refusal_text, slot_of, text_of_refusal, with_cells};
 
-use crate::cells::Cell;
+use crate::cells::{Cell, CellLine, cell_of};
+use crate::image::{Image, put_runs};
 use crate::refusal::Refusal;
 use crate::setting::Setting;
 use crate::words::Words;
 use bpf_isa::{LoadFault, MapTable, Program, check};
-use bpf_machine::{Cpu, Edit, Status};
+use bpf_machine::{Cpu, Edit, OpenFault, Status};
 use bpf_session::run_plain;
 use bpf_text::AsmFault;
 use bpfdb_replies::write_place;
@@ -106,27 +107,6 @@ pub fn loaded(
     }
 }
 
-/// A machine that is opened on the program and the context.
-fn machine_of(
-    alloc: Global,
-    setting: &Setting<'_, '_>,
-    words: &Result<Words, AsmFault>,
-) -> Result<Cpu, Refusal>
-    requires { Reads setting.now.is_listing setting.now.program words.now }
-    ensures ok { IfOk result (λ cpu. (code : Checked) × IsOpened setting.now code
-        × (cpu ≡ initial code setting.now.context)) }
-    ensures err { IfErr result (Refuses setting.now) }
-{
-    let program = match program_of(alloc, setting, words) {
-        Ok(program) => program,
-        Err(refusal) => return Err(refusal),
-    };
-    match Cpu::open(alloc, program, setting.context.bytes) {
-        Ok(cpu) => Ok(cpu),
-        Err(fault) => Err(Refusal::Open(fault)),
-    }
-}
-
 /// Gives a cell its value.
 fn set_cell(cpu: &mut Cpu, cell: &Cell) -> Result<(), Refusal>
     ensures { GivesCell cell.now cpu.old cpu.new result }
@@ -142,17 +122,23 @@ fn set_cell(cpu: &mut Cpu, cell: &Cell) -> Result<(), Refusal>
     }
 }
 
-/// Gives cells their values, one after another, up to the first that isn't there.
-fn set_cells(cpu: &mut Cpu, cells: &[Cell]) -> Result<(), Refusal>
-    ensures ok { OnOk result (missing cpu.old.program.maps cells.now ≡ None) }
-    ensures next { OnOk result (cpu.new ≡ with_cells cells.now cpu.old) }
-    ensures err { IfErr result (λ refusal. (cell : Cell)
-        × (missing cpu.old.program.maps cells.now ≡ Some cell)
-        × (refusal ≡ Refusal.NoCell cell.map cell.index)) }
-    ensures program { cpu.new.program ≡ cpu.old.program }
+/// Gives the cell of a line its value, if the line has one.
+fn set_line(alloc: Global, cpu: &mut Cpu, line: &CellLine<'_>) -> Result<(), Refusal>
+    ensures { GivesCells (filter_map cell_of (line.now ∷ [])) cpu.old cpu.new result }
 {
-    for cell in cells {
-        match set_cell(cpu, cell) {
+    match cell_of(alloc, line) {
+        Ok(Some(cell)) => set_cell(cpu, &cell),
+        Ok(None) => Ok(()),
+        Err(_) => Err(Refusal::Open(OpenFault::OutOfMemory)),
+    }
+}
+
+/// Gives cells their values, one after another, up to the first that isn't there.
+pub fn set_cells(alloc: Global, cpu: &mut Cpu, lines: &[CellLine<'_>]) -> Result<(), Refusal>
+    ensures { GivesCells (filter_map cell_of lines.now) cpu.old cpu.new result }
+{
+    for line in lines {
+        match set_line(alloc, cpu, line) {
             Ok(()) => {}
             Err(refusal) => return Err(refusal),
         }
@@ -160,57 +146,71 @@ fn set_cells(cpu: &mut Cpu, cells: &[Cell]) -> Result<(), Refusal>
     Ok(())
 }
 
-/// What comes of a program on a machine that was opened on it and the context: cells get their
-/// values, and it runs to its end, or takes as many steps as it may.
-fn finish(cpu: &mut Cpu, setting: &Setting<'_, '_>) -> Result<(), Refusal>
-    ensures ok { OnOk result (missing cpu.old.program.maps setting.now.cells ≡ None) }
-    ensures next { OnOk result (cpu.new
-        ≡ plain_end setting.now.limit (with_cells setting.now.cells cpu.old)) }
-    ensures err { IfErr result (λ refusal. (cell : Cell)
-        × (missing cpu.old.program.maps setting.now.cells ≡ Some cell)
-        × (refusal ≡ Refusal.NoCell cell.map cell.index)) }
+/// Opens a machine again with the context of a test.
+fn open_again(alloc: Global, cpu: &mut Cpu, setting: &Setting<'_, '_>) -> Result<(), Refusal>
+    requires { IsProgramOf setting.now cpu.old.program }
+    ensures ok { OnOk result (Opened cpu.old.program setting.now.context cpu.new) }
+    ensures err { IfErr result (Refuses setting.now) }
     ensures program { cpu.new.program ≡ cpu.old.program }
 {
-    match set_cells(cpu, setting.cells.as_slice()) {
-        Ok(()) => {}
-        Err(refusal) => return Err(refusal),
+    match cpu.reopen(alloc, setting.context.bytes) {
+        Ok(()) => Ok(()),
+        Err(fault) => Err(Refusal::Open(fault)),
     }
-    let _ending = run_plain(cpu, setting.limit, &mut Counted::new(sink()));
-    Ok(())
 }
 
-/// What comes of a program: it is refused, or the machine in which it ended, or had taken as many
-/// steps as it may.
-pub fn outcome_of(
-    alloc: Global,
-    setting: &Setting<'_, '_>,
-    words: &Result<Words, AsmFault>,
-) -> Result<Cpu, Refusal>
-    requires { Reads setting.now.is_listing setting.now.program words.now }
-    ensures ok { IfOk result (Ends setting.now) }
-    ensures err { IfErr result (Refuses setting.now) }
+/// Runs a program to its end, or as many steps as it may take.
+fn run(cpu: &mut Cpu, limit: u64)
+    ensures next { cpu.new ≡ plain_end limit cpu.old }
+    ensures program { cpu.new.program ≡ cpu.old.program }
 {
-    let mut cpu = match machine_of(alloc, setting, words) {
-        Ok(cpu) => cpu,
-        Err(refusal) => return Err(refusal),
-    };
-    match finish(&mut cpu, setting) {
-        Ok(()) => Ok(cpu),
-        Err(refusal) => Err(refusal),
-    }
+    let _ending = run_plain(cpu, limit, &mut Counted::new(sink()));
 }
 
-/// What comes of a program on a machine that stands on it, whatever that did before.
+/// What comes of a program on a machine that stands on it, whatever that did before: cells get
+/// their values one by one.
 pub fn outcome_on(alloc: Global, cpu: &mut Cpu, setting: &Setting<'_, '_>) -> Result<(), Refusal>
     requires { IsProgramOf setting.now cpu.old.program }
     ensures ok { OnOk result (Ends setting.now cpu.new) }
     ensures err { IfErr result (Refuses setting.now) }
     ensures program { cpu.new.program ≡ cpu.old.program }
 {
-    match cpu.reopen(alloc, setting.context.bytes) {
-        Ok(()) => finish(cpu, setting),
-        Err(fault) => Err(Refusal::Open(fault)),
+    match open_again(alloc, cpu, setting) {
+        Ok(()) => {}
+        Err(refusal) => return Err(refusal),
     }
+    match set_cells(alloc, cpu, setting.cells.lines) {
+        Ok(()) => {}
+        Err(refusal) => return Err(refusal),
+    }
+    run(cpu, setting.limit);
+    Ok(())
+}
+
+/// The same, where it is known what its cells make of its maps.
+pub fn outcome_by_image(
+    alloc: Global,
+    cpu: &mut Cpu,
+    setting: &Setting<'_, '_>,
+    image: &Image<'_>,
+) -> Result<(), Refusal>
+    requires program { IsProgramOf setting.now cpu.old.program }
+    requires image { IsImageOf setting.now.cells image.now }
+    requires maps { image.now.maps ≡ setting.now.maps }
+    ensures ok { OnOk result (Ends setting.now cpu.new) }
+    ensures err { IfErr result (Refuses setting.now) }
+    ensures program { cpu.new.program ≡ cpu.old.program }
+{
+    match open_again(alloc, cpu, setting) {
+        Ok(()) => {}
+        Err(refusal) => return Err(refusal),
+    }
+    match &image.runs {
+        Ok(runs) => put_runs(cpu, runs),
+        Err(refusal) => return Err(*refusal),
+    }
+    run(cpu, setting.limit);
+    Ok(())
 }
 
 /// Writes an outcome.

@@ -3,25 +3,22 @@ ghost use Rattle.std.specs.Prelude.{◌≡◌, ◌&&◌, ◌++◌, List, [], IfE
 ghost use Rattle.counted_io.specs.Writing.{Writes, WritesAfter};
 ghost use Rattle.bpf_suite.specs.Files.{with_shared};
 ghost use Rattle.bpf_suite.specs.Outcomes.{Comes, Outcome};
-ghost use Rattle.bpf_suite.specs.Reports.{AreOutcomes, BreaksAt, BreaksOff, after_word, all_pass, diagnosis, named_text, plan, report_text, show_line, test_text, tests_text, verdict_text, verdict_word, wanted, wanted_outcome};
+ghost use Rattle.bpf_suite.specs.Reports.{AreOutcomes, AreTold, BreaksAt, BreaksOff, after_word, all_pass, diagnosis, named_text, plan, report_text, show_line, test_text, tests_text, verdict_text, verdict_word, wanted, wanted_outcome};
 ghost use Rattle.bpf_suite.specs.Tests.{setting};
 ghost use Rattle.bpf_suite.specs.Verdicts.{passes, wrong_cells};
 
 use crate::bench::{Bench, shares_program};
-use crate::cells::CellLine;
 use crate::kind::Part;
 use crate::list::{Own, TestList};
-use crate::outcome::{outcome_of, put_outcome};
+use crate::outcome::put_outcome;
 use crate::refusal::Refusal;
-use crate::setting::setting_of;
 use crate::shown::put_quoted;
 use crate::test::Test;
-use crate::values::{put_cells, wrong_cells};
+use crate::values::{WrongCells, put_cells};
 use crate::verdict::{passes, put_expected};
-use crate::words::words_of;
 use bpf_machine::Cpu;
 use counted_io::{Counted, WriteFault, put, put_decimal};
-use std::alloc::{AllocError, Global};
+use std::alloc::Global;
 use std::io::Write;
 
 /// Why tests aren't run to their end.
@@ -122,76 +119,49 @@ fn report<'b, 'a, W: Write>(
         (own.now ++ bench.old.sections)) }
     ensures sections { bench.new.sections ≡ bench.old.sections }
 {
-    let test = bench.test(own);
     if !shares_program(own.sections) {
-        return match test_outcome(alloc, &test) {
-            Ok(outcome) => tell(alloc, file, &test, &outcome, number, writer),
+        return match bench.run_alone(alloc, own) {
+            Ok(outcome) => tell(alloc, file, bench, own, &outcome, number, writer),
             Err(_) => Err(SuiteFault::Memory),
         };
     }
     match bench.run(alloc, own) {
-        Ok(None) => tell(alloc, file, &test, bench.machine(), number, writer),
-        Ok(Some(refusal)) => tell(alloc, file, &test, &Err(refusal), number, writer),
+        Ok(None) => tell(alloc, file, bench, own, bench.machine(), number, writer),
+        Ok(Some(refusal)) => tell(alloc, file, bench, own, &Err(refusal), number, writer),
         Err(_) => Err(SuiteFault::Memory),
     }
 }
 
 /// Reports on a test that came to this. Answers whether it passed.
-fn tell<W: Write>(
+fn tell<'b, 'a, W: Write>(
     alloc: Global,
     file: &[u8],
-    test: &Test<'_, '_>,
+    bench: &Bench<'b, 'a>,
+    own: &Own<'b, 'a>,
     outcome: &Result<Cpu, Refusal>,
     number: u64,
     writer: &mut Counted<W>,
 ) -> Result<bool, SuiteFault>
-    requires { Comes (setting test.now) outcome.now }
-    ensures ok { IfOk result (λ passed. (passed ≡ passes test.now outcome.now)
+    requires { Comes (setting (own.now ++ bench.now.sections)) outcome.now }
+    ensures ok { IfOk result (λ passed. let test = own.now ++ bench.now.sections in
+        (passed ≡ passes test outcome.now)
         × Writes W.contents writer.old writer.new result
-        (test_text file.now number test.now outcome.now)) }
-    ensures err { IfErr result (λ why.
-        BreaksAt W.contents why writer.old writer.new file.now number test.now) }
+        (test_text file.now number test outcome.now)) }
+    ensures err { IfErr result (λ why. BreaksAt W.contents why writer.old writer.new file.now number
+        (own.now ++ bench.now.sections)) }
 {
-    let wrong = match wrong_cells(alloc, test, outcome) {
+    let test = bench.test(own);
+    let wrong = match bench.wrong_cells(alloc, own, outcome) {
         Ok(wrong) => wrong,
         Err(_) => return Err(SuiteFault::Memory),
     };
-    let passed = match passes(alloc, test, outcome, wrong.as_slice()) {
+    let passed = match passes(alloc, &test, outcome, &wrong) {
         Ok(passed) => passed,
         Err(_) => return Err(SuiteFault::Memory),
     };
-    match write_test(
-        writer,
-        file,
-        passed,
-        number,
-        test,
-        outcome,
-        wrong.as_slice(),
-    ) {
+    match write_test(writer, file, passed, number, &test, outcome, &wrong) {
         Ok(()) => Ok(passed),
         Err(WriteFault) => Err(SuiteFault::Write),
-    }
-}
-
-/// What a test's program comes to. Want of memory is no outcome.
-fn test_outcome(alloc: Global, test: &Test<'_, '_>) -> Result<Result<Cpu, Refusal>, AllocError>
-    ensures { IfOk result (Comes (setting test.now)) }
-{
-    let program = test.program(alloc)?;
-    let words = words_of(alloc, test.has_listing(), program.as_slice())?;
-    let context = test.context(alloc)?;
-    let cells = test.cells(alloc)?;
-    let setting = setting_of(test, program.as_slice(), context.as_slice(), cells);
-    match outcome_of(alloc, &setting, &words) {
-        Ok(cpu) => Ok(Ok(cpu)),
-        Err(refusal) => {
-            if refusal.is_memory() {
-                Err(AllocError)
-            } else {
-                Ok(Err(refusal))
-            }
-        }
     }
 }
 
@@ -203,9 +173,9 @@ fn write_test<W: Write>(
     number: u64,
     test: &Test<'_, '_>,
     outcome: &Result<Cpu, Refusal>,
-    wrong: &[CellLine<'_>],
+    wrong: &WrongCells<'_>,
 ) -> Result<(), WriteFault>
-    requires { wrong.now ≡ wrong_cells test.now outcome.now }
+    requires { AreTold (wrong_cells test.now outcome.now) wrong.now }
     ensures { Writes W.contents writer.old writer.new result
         (report_text file.now passed number test.now outcome.now) }
 {
@@ -274,9 +244,9 @@ fn put_diagnosis<W: Write>(
     file: &[u8],
     test: &Test<'_, '_>,
     outcome: &Result<Cpu, Refusal>,
-    wrong: &[CellLine<'_>],
+    wrong: &WrongCells<'_>,
 ) -> Result<(), WriteFault>
-    requires { wrong.now ≡ wrong_cells test.now outcome.now }
+    requires { AreTold (wrong_cells test.now outcome.now) wrong.now }
     ensures { WritesAfter W.contents writer.old so_far writer.new result
         (diagnosis file.now test.now outcome.now) }
 {

@@ -1,5 +1,5 @@
 //! The sections of a test file.
-ghost use Rattle.std.specs.Prelude.{◌≡◌, ◌≤◌, ◌<◌, ◌+◌, ◌-◌, ◌^◌, ◌==◌, ◌++◌, drop, true, IfOk, OnOk, length, position};
+ghost use Rattle.std.specs.Prelude.{◌≡◌, ◌≤◌, ◌<◌, ◌+◌, ◌-◌, ◌^◌, ◌==◌, ◌++◌, drop, true, Decides, IfOk, OnOk, length, position};
 ghost use Rattle.std.specs.List.{position_or_len};
 ghost use Rattle.bpf_suite.specs.Bodies.{trimmed};
 ghost use Rattle.bpf_suite.specs.Files.{front, is_cut, is_head, section_at, section_of, sections, sections_behind, until_head, until_name};
@@ -22,6 +22,27 @@ impl<'a> Model for Text<'a> {
     ghost Value = { List ℕ };
 
     ghost view = { λ t. t.bytes.now };
+}
+
+/// Whether two texts are the same, or there is neither.
+pub fn are_same(one: &Option<Text<'_>>, other: &Option<Text<'_>>) -> bool
+    ensures { Decides result (one.now ≡ other.now) }
+{
+    match (one, other) {
+        (Some(one), Some(other)) => one.bytes == other.bytes,
+        (None, None) => true,
+        _ => false,
+    }
+}
+
+/// The same text, if there is one.
+pub fn copied<'a>(text: &Option<Text<'a>>) -> Option<Text<'a>>
+    ensures { result ≡ text.now }
+{
+    match text {
+        Some(text) => Some(Text { bytes: text.bytes }),
+        None => None,
+    }
 }
 
 /// A section of a test file.

@@ -16,7 +16,7 @@ pub struct Setting<'a, 'x> {
     pub program: Text<'x>,
     pub context: Text<'x>,
     /// The cells of maps that have a value before the first step.
-    pub cells: Cells,
+    pub cells: Cells<'x, 'a>,
     /// The most steps.
     pub limit: u64,
 }
@@ -26,7 +26,7 @@ pub fn setting_of<'a, 'x>(
     test: &Test<'_, 'a>,
     program: &'x [u8],
     context: &'x [u8],
-    cells: Cells,
+    cells: Cells<'x, 'a>,
 ) -> Setting<'a, 'x>
     requires program { program.now ≡ program_of test.now }
     requires context { context.now ≡ context_of test.now }

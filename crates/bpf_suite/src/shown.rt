@@ -1,13 +1,15 @@
 //! The parts of a test as files, for the debugger and for tools of others.
-ghost use Rattle.std.specs.Prelude.{◌≡◌, ◌*◌, ◌++◌, ◌≤◌, IfErr, IfOk, codes, flat_map, length};
+ghost use Rattle.std.specs.Prelude.{◌≡◌, ◌*◌, ◌∷◌, ◌++◌, ◌≤◌, IfErr, IfOk, [], codes, filter_map, flat_map, length};
 ghost use Rattle.bstr.specs.Utf8.{pieces, spans_from};
 ghost use Rattle.hex.specs.Hex.{encode_lower};
 ghost use Rattle.counted_io.specs.Writing.{Writes, WritesAfter};
+ghost use Rattle.bpf_suite.specs.Cells.{cell_of};
 ghost use Rattle.bpf_suite.specs.Outcomes.{HasWords};
 ghost use Rattle.bpf_suite.specs.Shown.{IsWordsFault, cell_command, maps_option, options_text, quoted, quoted_as, quoted_char, script_text};
 ghost use Rattle.bpf_suite.specs.Tests.{has_listing, program};
 
-use crate::cells::Cell;
+use crate::cells::{Cell, CellLine, cell_lines, cell_of};
+use crate::kind::Part;
 use crate::section::Text;
 use crate::test::Test;
 use bpf_text::{AsmFault, assemble};
@@ -67,9 +69,9 @@ impl<'b, 'a> Test<'b, 'a> {
     pub fn script_text(&self, alloc: Global) -> Result<Vec<u8>, AllocError>
         ensures { IfOk result (λ text. text.items ≡ script_text self.now) }
     {
-        let cells = self.cells(alloc)?;
+        let lines = cell_lines(alloc, self.text(Part::Cells))?;
         let mut writer = Counted::new(Vec::new(alloc));
-        match write_script(&mut writer, cells.as_slice()) {
+        match write_script(alloc, &mut writer, lines.as_slice())? {
             Ok(()) => Ok(writer.into_inner()),
             Err(WriteFault) => Err(AllocError),
         }
@@ -122,29 +124,50 @@ fn bytes_in<'a>(text: &Text<'a>) -> &'a [u8]
     text.bytes
 }
 
-/// Writes the script of a test with these cells.
-fn write_script<W: Write>(writer: &mut Counted<W>, cells: &[Cell]) -> Result<(), WriteFault>
-    ensures { Writes W.contents writer.old writer.new result
-        (flat_map cell_command cells.now ++ codes "continue\n") }
+/// Writes the script of a test whose lines give these cells their values.
+fn write_script<W: Write>(
+    alloc: Global,
+    writer: &mut Counted<W>,
+    lines: &[CellLine<'_>],
+) -> Result<Result<(), WriteFault>, AllocError>
+    ensures { IfOk result (λ told. Writes W.contents writer.old writer.new told
+        (flat_map cell_command (filter_map cell_of lines.now) ++ codes "continue\n")) }
 {
-    let told = put_cell_commands(writer, Ok(()), cells);
-    put(writer, told, b"continue\n")
+    let told = put_cell_commands(alloc, writer, Ok(()), lines)?;
+    Ok(put(writer, told, b"continue\n"))
 }
 
 /// Writes the commands that give cells their values.
 fn put_cell_commands<W: Write>(
+    alloc: Global,
     writer: &mut Counted<W>,
     so_far: Result<(), WriteFault>,
-    cells: &[Cell],
-) -> Result<(), WriteFault>
-    ensures { WritesAfter W.contents writer.old so_far writer.new result
-        (flat_map cell_command cells.now) }
+    lines: &[CellLine<'_>],
+) -> Result<Result<(), WriteFault>, AllocError>
+    ensures { IfOk result (λ told. WritesAfter W.contents writer.old so_far writer.new told
+        (flat_map cell_command (filter_map cell_of lines.now))) }
 {
     let mut told = so_far;
-    for cell in cells {
-        told = put_cell_command(writer, told, cell);
+    for line in lines {
+        told = put_line(alloc, writer, told, line)?;
     }
-    told
+    Ok(told)
+}
+
+/// Writes the command that gives the cell of a line its value, if the line has one.
+fn put_line<W: Write>(
+    alloc: Global,
+    writer: &mut Counted<W>,
+    so_far: Result<(), WriteFault>,
+    line: &CellLine<'_>,
+) -> Result<Result<(), WriteFault>, AllocError>
+    ensures { IfOk result (λ told. WritesAfter W.contents writer.old so_far writer.new told
+        (flat_map cell_command (filter_map cell_of (line.now ∷ [])))) }
+{
+    match cell_of(alloc, line)? {
+        Some(cell) => Ok(put_cell_command(writer, so_far, &cell)),
+        None => Ok(put(writer, so_far, b"")),
+    }
 }
 
 /// Writes the command that gives a cell its value.

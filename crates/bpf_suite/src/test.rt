@@ -2,11 +2,12 @@
 ghost use Rattle.std.specs.Prelude.{◌≡◌, ◌++◌, IfOk, [], unwrap_or};
 ghost use Rattle.std.specs.Option.{option_map};
 ghost use Rattle.bpf_suite.specs.Bodies.{bytes_of, trimmed};
-ghost use Rattle.bpf_suite.specs.Tests.{body_for, cells, context, first_line, has_listing, is_listing, is_named, limit, maps, program, section_for, text_or_bytes, title};
+ghost use Rattle.bpf_suite.specs.Cells.{cell_lines as cell_lines_of};
+ghost use Rattle.bpf_suite.specs.Tests.{body_for, context, first_line, has_listing, is_listing, is_named, limit, maps, program, section_for, text_or_bytes, title};
 ghost use Rattle.bpf_suite.specs.Faults.{has_part, lack};
 
 use crate::body::{bytes_of, limit_of, trimmed};
-use crate::cells::Cells;
+use crate::cells::{CellLine, cell_lines};
 use crate::fault::SectionFault;
 use crate::kind::{Kind, Part};
 use crate::section::{Section, Text};
@@ -55,6 +56,20 @@ pub fn maps_in<'a>(sections: &[Section<'a>]) -> Option<Text<'a>>
     ensures { result ≡ maps sections.now }
 {
     trimmed_body(section_in(sections, Part::Maps))
+}
+
+/// The lines about cells that these sections have as a part; none where they don't have it.
+pub fn lines_in<'a>(
+    alloc: Global,
+    sections: &[Section<'a>],
+    part: Part,
+) -> Result<Vec<CellLine<'a>>, AllocError>
+    ensures { IfOk result (λ lines. lines.items ≡ cell_lines_of (body_for part sections.now)) }
+{
+    match section_in(sections, part) {
+        Some(section) => cell_lines(alloc, section.body.bytes),
+        None => cell_lines(alloc, &[]),
+    }
 }
 
 /// The body of a section, without spaces around it.
@@ -174,13 +189,6 @@ impl<'b, 'a> Test<'b, 'a> {
         ensures { result ≡ maps self.now }
     {
         trimmed_body(self.section(Part::Maps))
-    }
-
-    /// The cells that it gives values to.
-    pub fn cells(&self, alloc: Global) -> Result<Cells, AllocError>
-        ensures { IfOk result (λ found. found ≡ cells self.now) }
-    {
-        Cells::of(alloc, self.body(Part::Cells).bytes)
     }
 
     /// The most steps that it takes.

@@ -1,29 +1,34 @@
 //! Values of cells where a program has ended.
-ghost use Rattle.std.specs.Prelude.{◌≡◌, ◌≤◌, ◌<◌, ◌∷◌, ◌++◌, IfOk, IfSome, IsSome, OnOk, [], filter, flat_map, not};
+ghost use Rattle.std.specs.Prelude.{◌≡◌, ◌≤◌, ◌<◌, ◌-◌, ◌^◌, ◌∷◌, ◌++◌, IfOk, IfSome, IsSome, List, OnOk, [], filter, flat_map, not};
 ghost use Rattle.std.specs.Option.{option_map};
 ghost use Rattle.bpf_machine.specs.Platform.{cell_address as cell_address_of};
 ghost use Rattle.bpf_machine.specs.Regions.{index_of};
 ghost use Rattle.counted_io.specs.Writing.{WritesAfter};
-ghost use Rattle.bpf_suite.specs.Reports.{cell_head, cell_text, cells_text, value_text};
-ghost use Rattle.bpf_suite.specs.Verdicts.{cell_size, cell_value, holds, wrong_cells};
+ghost use Rattle.bpf_suite.specs.Reports.{AreTold, cell_head, cell_text, cells_text, more_text, value_text};
+ghost use Rattle.bpf_suite.specs.Verdicts.{cell_size, cell_value, holds, wrong_lines};
+ghost use Rattle.bpf_suite.specs.declared.cells.CellLine.{CellLine};
 
-use crate::body::{fits, solid, trimmed};
-use crate::cells::{CellLine, cell_lines};
-use crate::kind::Part;
+use crate::body::{fits_body, trimmed};
+use crate::cells::CellLine;
+use crate::image::{MAP_BASE, MAP_STRIDE};
 use crate::outcome::put_cell_name;
 use crate::refusal::Refusal;
-use crate::test::Test;
 use bpf_machine::Cpu;
 use bpfdb_commands::Span;
 use bpfdb_replies::put_bytes;
-use counted_io::{Counted, WriteFault, put};
+use counted_io::{Counted, WriteFault, put, put_decimal};
 use std::alloc::{AllocError, Global};
 use std::io::Write;
 
-/// The address of map 0's first byte, and how far the first bytes of two maps in a row are apart.
-const MAP_BASE: u64 = 0x3_0000_0000;
+/// The most wrong cells that a report tells of.
+const MOST_TOLD: usize = 16;
 
-const MAP_STRIDE: u64 = 0x10_0000;
+/// Lines about cells that don't hold: the first ones, and how many more there are.
+#[derive(Drop)]
+pub struct WrongCells<'a> {
+    pub told: Vec<CellLine<'a>>,
+    pub more: usize,
+}
 
 /// The address of a cell of a map, whose values have n bytes.
 fn cell_address(map: u64, index: u64, n: u64) -> u64
@@ -79,64 +84,78 @@ fn holds(alloc: Global, cpu: &Cpu, line: &CellLine<'_>) -> Result<bool, AllocErr
     ensures { IfOk result (λ is. is ≡ holds cpu.now line.now) }
 {
     match cell_value(cpu, line.map, line.index) {
-        Some(value) => {
-            let digits = solid(alloc, line.digits.bytes)?;
-            Ok(fits(digits.as_slice(), value))
-        }
+        Some(value) => fits_body(alloc, line.digits.bytes, value),
         None => Ok(false),
     }
 }
 
-/// What the lines of a test say of cells that they don't hold where the program has ended.
+/// The lines that don't hold where a program has ended.
 pub fn wrong_cells<'a>(
     alloc: Global,
-    test: &Test<'_, 'a>,
-    outcome: &Result<Cpu, Refusal>,
-) -> Result<Vec<CellLine<'a>>, AllocError>
-    ensures { IfOk result (λ wrong. wrong.items ≡ wrong_cells test.now outcome.now) }
-{
-    match outcome {
-        Ok(cpu) => {
-            let lines = cell_lines(alloc, test.text(Part::CellsAfter))?;
-            wrong_in(alloc, cpu, lines.as_slice())
-        }
-        Err(_) => Ok(Vec::new(alloc)),
-    }
-}
-
-/// The lines that don't hold.
-fn wrong_in<'a>(
-    alloc: Global,
-    cpu: &Cpu,
     lines: &[CellLine<'a>],
-) -> Result<Vec<CellLine<'a>>, AllocError>
-    ensures { IfOk result (λ wrong.
-        wrong.items ≡ filter (λ line. not (holds cpu.now line)) lines.now) }
+    outcome: &Result<Cpu, Refusal>,
+) -> Result<WrongCells<'a>, AllocError>
+    ensures { IfOk result (AreTold (wrong_lines lines.now outcome.now)) }
 {
-    let mut wrong = Vec::new(alloc);
-    for line in lines {
-        push_wrong(alloc, &mut wrong, cpu, line)?;
+    let mut wrong = WrongCells {
+        told: Vec::new(alloc),
+        more: 0,
+    };
+    match outcome {
+        Ok(cpu) => note_each(alloc, &mut wrong, cpu, lines)?,
+        Err(_) => {}
     }
     Ok(wrong)
 }
 
-/// Adds a line, unless it holds.
-fn push_wrong<'a>(
+/// Notes the lines that don't hold.
+fn note_each<'a>(
     alloc: Global,
-    wrong: &mut Vec<CellLine<'a>>,
+    wrong: &mut WrongCells<'a>,
+    cpu: &Cpu,
+    lines: &[CellLine<'a>],
+) -> Result<(), AllocError>
+    requires { AreTold [] wrong.old }
+    ensures { OnOk result (AreTold (filter (λ line. not (holds cpu.now line)) lines.now)
+        wrong.new) }
+{
+    for line in lines {
+        note_wrong(alloc, wrong, cpu, line)?;
+    }
+    Ok(())
+}
+
+/// Notes a line, unless it holds.
+fn note_wrong<'a>(
+    alloc: Global,
+    wrong: &mut WrongCells<'a>,
     cpu: &Cpu,
     line: &CellLine<'a>,
 ) -> Result<(), AllocError>
-    ensures { OnOk result (wrong.new.items
-        ≡ wrong.old.items ++ filter (λ l. not (holds cpu.now l)) (line.now ∷ [])) }
+    requires { wrong.old.more < 2 ^ 64 - 1 }
+    ensures { OnOk result ((all : List CellLine) → AreTold all wrong.old
+        → AreTold (all ++ filter (λ l. not (holds cpu.now l)) (line.now ∷ [])) wrong.new) }
 {
     if holds(alloc, cpu, line)? {
         Ok(())
     } else {
-        match wrong.push(line.copied()) {
-            Ok(()) => Ok(()),
-            Err(_) => Err(AllocError),
-        }
+        note(wrong, line)
+    }
+}
+
+/// Notes a line.
+fn note<'a>(wrong: &mut WrongCells<'a>, line: &CellLine<'a>) -> Result<(), AllocError>
+    requires { wrong.old.more < 2 ^ 64 - 1 }
+    ensures { OnOk result ((all : List CellLine) → AreTold all wrong.old
+        → AreTold (all ++ line.now ∷ []) wrong.new) }
+{
+    if wrong.told.len() == MOST_TOLD {
+        wrong.more += 1;
+        return Ok(());
+    }
+    match wrong.told.push(line.copied()) {
+        Ok(()) => Ok(()),
+        Err(_) => Err(AllocError),
     }
 }
 
@@ -145,15 +164,34 @@ pub fn put_cells<W: Write>(
     writer: &mut Counted<W>,
     so_far: Result<(), WriteFault>,
     outcome: &Result<Cpu, Refusal>,
-    wrong: &[CellLine<'_>],
+    wrong: &WrongCells<'_>,
 ) -> Result<(), WriteFault>
-    ensures { WritesAfter W.contents writer.old so_far writer.new result
-        (cells_text wrong.now outcome.now) }
+    ensures { (all : List CellLine) → AreTold all wrong.now
+        → WritesAfter W.contents writer.old so_far writer.new result (cells_text all outcome.now) }
 {
     match outcome {
-        Ok(cpu) => put_each_cell(writer, so_far, cpu, wrong),
+        Ok(cpu) => {
+            let told = put_each_cell(writer, so_far, cpu, wrong.told.as_slice());
+            put_more(writer, told, wrong.more)
+        }
         Err(_) => put(writer, so_far, b""),
     }
+}
+
+/// Writes how many wrong cells there are besides, if there are some.
+fn put_more<W: Write>(
+    writer: &mut Counted<W>,
+    so_far: Result<(), WriteFault>,
+    more: usize,
+) -> Result<(), WriteFault>
+    ensures { WritesAfter W.contents writer.old so_far writer.new result (more_text more) }
+{
+    if more == 0 {
+        return put(writer, so_far, b"");
+    }
+    let begun = put(writer, so_far, b"# more wrong cells: ");
+    let counted = put_decimal(writer, begun, more as u64);
+    put(writer, counted, b"\n")
 }
 
 /// Writes each of these cells.

@@ -4,14 +4,15 @@ ghost use Rattle.std.specs.Option.{option_map_or};
 ghost use Rattle.counted_io.specs.Writing.{Writes, WritesAfter};
 ghost use Rattle.bpf_suite.specs.Bodies.{number_of};
 ghost use Rattle.bpf_suite.specs.Outcomes.{outcome_text};
+ghost use Rattle.bpf_suite.specs.Reports.{AreTold};
 ghost use Rattle.bpf_suite.specs.Verdicts.{apart, cells_left, context_after, expected_text, has_exited, is_left, is_met, is_stop, leaves, meets, passes, results, tells, wrong_cells};
 
 use crate::body::{fits, number_of, solid, trimmed};
-use crate::cells::CellLine;
 use crate::kind::{Kind, Part};
 use crate::outcome::put_outcome;
 use crate::refusal::Refusal;
 use crate::test::Test;
+use crate::values::WrongCells;
 use bpf_machine::{Cpu, Status};
 use bpfdb_replies::number_in;
 use counted_io::{Counted, WriteFault, put};
@@ -26,9 +27,9 @@ pub fn passes(
     alloc: Global,
     test: &Test<'_, '_>,
     outcome: &Result<Cpu, Refusal>,
-    wrong: &[CellLine<'_>],
+    wrong: &WrongCells<'_>,
 ) -> Result<bool, AllocError>
-    requires { wrong.now ≡ wrong_cells test.now outcome.now }
+    requires { AreTold (wrong_cells test.now outcome.now) wrong.now }
     ensures { IfOk result (λ passed. passed ≡ passes test.now outcome.now) }
 {
     let met = is_met(alloc, test, outcome)?;
@@ -37,12 +38,12 @@ pub fn passes(
 }
 
 /// Whether no cell is wrong, of these.
-fn cells_left(test: &Test<'_, '_>, outcome: &Result<Cpu, Refusal>, wrong: &[CellLine<'_>]) -> bool
-    requires { wrong.now ≡ wrong_cells test.now outcome.now }
+fn cells_left(test: &Test<'_, '_>, outcome: &Result<Cpu, Refusal>, wrong: &WrongCells<'_>) -> bool
+    requires { AreTold (wrong_cells test.now outcome.now) wrong.now }
     ensures { result ≡ cells_left test.now outcome.now }
 {
     match outcome {
-        Ok(_) => wrong.is_empty(),
+        Ok(_) => wrong.told.is_empty(),
         Err(_) => !test.has(Part::CellsAfter),
     }
 }

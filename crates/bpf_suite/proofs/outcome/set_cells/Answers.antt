@@ -1,26 +1,22 @@
-use Rattle.std.proofs.Common.{◌≡◌, ◌+◌, true, drop, get_or, sym, ap, ◌∙◌}
+use Rattle.std.proofs.Common.{◌≡◌, ◌+◌, [], ◌∷◌, drop, None, subst, ◌∙◌}
+use Rattle.std.specs.List.{filter_map}
 use Rattle.bpf_isa.specs.Programs.{Checked}
-use Rattle.bpf_machine.specs.Edits.{edited}
-use Rattle.bpf_machine.specs.State.{State}
-use Rattle.bpf_suite.specs.Outcomes.{edit_of, is_there, with_cells}
-use Rattle.bpf_suite.specs.declared.cells.Cell.{Cell}
-use Rattle.bpf_suite.proofs.CellValues.{edited-program, missing-next, with_cells-next}
+use Rattle.bpf_suite.specs.Cells.{cell_of}
+use Rattle.bpf_suite.specs.Outcomes.{missing}
+use Rattle.bpf_suite.proofs.CellValues.{cells-next, missing-next, with_cells-next}
 use Rattle.bpf_suite.proofs.outcome.set_cells.Goals as goal
 
-pub loop-cell-preserved : goal.loop-cell-preserved
-loop-cell-preserved c =
-    let x = c.loop-cell.cpu in
-    let i = c.loop-cell.cell-index in
-    let cells = c.args.cells.now in
-    let cell = c.cell-item.result in
-    let maps = c.args.cpu.now.program.maps in
-    let low = c.loop-cell-test.true in
-    let here : cell ≡ get_or cells i cell = c.cell-item.is in
-    let there : is_there maps (get_or cells i cell) ≡ true =
-    ap (is_there maps) (sym here) ∙ ap (λ (p : Checked). is_there p.maps cell) (sym c.loop-cell.invariant.program) ∙ c.in-Ok.ensures.ok in
+pub loop-line-preserved : goal.loop-line-preserved
+loop-line-preserved c =
+    let i = c.loop-line.line-index in
+    let lines = c.args.lines.now in
+    let line = c.line-item.result in
+    let x0 = c.args.cpu.now in
+    let next = cells-next lines i line c.loop-line-test.true c.line-item.is in
+    let none : missing x0.program.maps (filter_map cell_of (line ∷ [])) ≡ None =
+    subst (λ (p : Checked). missing p.maps (filter_map cell_of (line ∷ [])) ≡ None) c.loop-line.invariant.program c.in-Ok.ensures.there in
     record {
-      program = ap (λ (y : State). y.program) c.in-Ok.ensures.next ∙ edited-program x cell ∙ c.loop-cell.invariant.program;
-      state = ap (with_cells (drop (i + 1) cells)) (c.in-Ok.ensures.next ∙ ap (λ (y : Cell). edited x (edit_of y)) here)
-          ∙ with_cells-next cells i cell x low ∙ c.loop-cell.invariant.state;
-      there = missing-next maps cells i cell low there ∙ c.loop-cell.invariant.there;
+      program = c.in-Ok.ensures.program ∙ c.loop-line.invariant.program;
+      state = with_cells-next (filter_map cell_of (drop i lines)) (filter_map cell_of (line ∷ [])) (filter_map cell_of (drop (i + 1) lines)) c.loop-line.cpu _ next c.in-Ok.ensures.next ∙ c.loop-line.invariant.state;
+      there = missing-next x0.program.maps (filter_map cell_of (drop i lines)) (filter_map cell_of (line ∷ [])) (filter_map cell_of (drop (i + 1) lines)) next none ∙ c.loop-line.invariant.there;
     }

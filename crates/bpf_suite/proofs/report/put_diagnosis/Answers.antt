@@ -12,5 +12,5 @@ returns g c = λ first front known.
     let followed = c.put-followed.ensures first _ told in
     let said = c.put_wanted-said.ensures first _ followed in
     let ended = c.put-ended.ensures first _ said in
-    let celled = rw c.requires at (c.put_cells-celled.ensures first _ ended) in
+    let celled = c.put_cells-celled.ensures _ c.requires first _ ended in
     simp append_assoc (simp append_assoc at (rw c.title.ensures at (c.put_show_line.ensures first _ celled)))

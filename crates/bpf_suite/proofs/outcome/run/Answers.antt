@@ -1,0 +1,7 @@
+use Rattle.std.proofs.Common.{ap, ◌∙◌}
+use Rattle.bpf_machine.specs.State.{State}
+use Rattle.bpf_suite.proofs.Programs.{plain_end-program}
+use Rattle.bpf_suite.proofs.outcome.run.Goals as goal
+
+pub returns-clause-program : goal.returns-clause-program
+returns-clause-program c = ap (λ (y : State). y.program) c.run_plain-ending.ensures.next ∙ plain_end-program c.args.limit c.args.cpu.now
