@@ -82,6 +82,29 @@ awk 'BEGIN {
 awk 'BEGIN { print "1..10000"; for (i = 1; i <= 10000; i++) printf "ok %d - test %d\n", i, i }' > wanted/out
 tested 'bpfdb test of 10,000 tests' 0 many
 
+# Cells that tests share get their values once, so many lines and as many tests are done at once; and a line takes little memory.
+head='-- maps\n1x1\n-- listing\nexit\n-- result\n0\n-- cells\n'
+{
+    printf -- "$head"
+    yes '0 0 00' | head -n 20000
+    awk 'BEGIN { for (i = 1; i <= 20000; i++) print "-- name\nx" }'
+} > many
+awk 'BEGIN { print "1..20000"; for (i = 1; i <= 20000; i++) print "ok " i " - x" }' > wanted/out
+tested 'bpfdb test of 20,000 tests that share 20,000 cells' 0 many
+{
+    printf -- "$head"
+    yes '0 0 00' | head -n 300000
+} > cells
+printf '1..1\nok 1\n' > wanted/out
+(
+    ulimit -v 40000
+    failures=0
+    tested 'bpfdb test of 300,000 cells in 40 MB of memory' 0 cells
+    exit "$failures"
+)
+failures=$((failures + $?))
+count=$((count + 1))
+
 # What is shown of a test: the words of its program, its context, and the options and the script with which the debugger shows it.
 # showing PART NAME TEXT: the part of a test of the file `shown.test` is this text.
 showing() {
