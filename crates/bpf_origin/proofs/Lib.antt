@@ -4,6 +4,7 @@ pub mod Writing
 pub mod Alike
 pub mod Meaning
 pub mod Leaving
+pub mod Marking
 pub mod Wanting
 pub mod Backs
 pub mod Turning

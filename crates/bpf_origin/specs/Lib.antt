@@ -1,6 +1,7 @@
 pub mod Places
 pub mod Writes
 pub mod Reads
+pub mod Marks
 pub mod Wanted
 pub mod Pasts
 pub mod Laws

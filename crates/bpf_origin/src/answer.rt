@@ -11,9 +11,11 @@ use crate::wanted::Wanted;
 use counted_io::{Counted, WriteFault, put};
 use std::io::Write;
 
-/// Writes where the values of these parts came from, as `put_origin` does of wanted places.
+/// Writes where the values of these parts came from, as `put_origin` does of wanted places. What was
+/// wanted before doesn't count.
 pub fn put_answer<P: Past, W: Write>(
     history: &mut P,
+    wanted: &mut Wanted,
     parts: &[Part],
     question: Question,
     writer: &mut Counted<W>,
@@ -23,7 +25,7 @@ pub fn put_answer<P: Past, W: Write>(
         (λ (t : Track). answer_about question parts.now t.history (P.state history.old))
         history.old history.new writer.old so_far writer.new result }
 {
-    let mut wanted = Wanted::new();
+    wanted.clear();
     if !wanted.want_parts(parts) {
         return Told {
             written: put(writer, so_far, b"cut: more than 4096 places are wanted\n"),
@@ -31,5 +33,5 @@ pub fn put_answer<P: Past, W: Write>(
             moves: 0,
         };
     }
-    put_origin(history, &mut wanted, question, writer, so_far)
+    put_origin(history, wanted, question, writer, so_far)
 }

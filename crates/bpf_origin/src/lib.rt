@@ -8,6 +8,7 @@ pub mod laws;
 mod left;
 mod line;
 mod look;
+mod marks;
 mod origin;
 mod past;
 mod place;

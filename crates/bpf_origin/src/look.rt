@@ -10,6 +10,7 @@ ghost use Rattle.counted_io.specs.Writing.{WritesAfter};
 use crate::answer::put_answer;
 use crate::place::Part;
 use crate::question::Question;
+use crate::wanted::Wanted;
 use bpf_journal::{Course, Keeper};
 use counted_io::{Counted, WriteFault};
 use std::io::Write;
@@ -29,6 +30,7 @@ pub struct Looked {
 /// refuses one of them for want of memory.
 pub fn look_back<K: Keeper, W: Write>(
     course: &mut Course<K>,
+    wanted: &mut Wanted,
     parts: &[Part],
     question: Question,
     writer: &mut Counted<W>,
@@ -42,7 +44,7 @@ pub fn look_back<K: Keeper, W: Write>(
     ensures left { LeavesMoves K.refused course.old.keeper course.new.keeper result.left }
     ensures room { K.room course.new.keeper ≡ K.room course.old.keeper }
 {
-    let told = put_answer(course, parts, question, writer, so_far);
+    let told = put_answer(course, wanted, parts, question, writer, so_far);
     Looked {
         written: told.written,
         left: go_on(course, told.moves),

@@ -22,20 +22,6 @@ pub enum Part {
     Bytes { address: u64, len: usize },
 }
 
-impl Default for Place {
-    ghost use Rattle.bpf_origin.specs.declared.place.Place.{Place};
-
-    ghost is_default = { λ place. place ≡ Place.Register 0 0 };
-
-    /// r0, which fills the unused room of an array.
-    fn default() -> Place {
-        Place::Register {
-            depth: 0,
-            number: 0,
-        }
-    }
-}
-
 impl Default for Part {
     ghost use Rattle.bpf_origin.specs.declared.place.Part.{Part};
 

@@ -91,7 +91,7 @@ pub fn is_among(parts: &[Part], place: Place) -> bool
 }
 
 /// Whether a place is one of a part's.
-fn has(part: Part, place: Place) -> bool
+pub fn has(part: Part, place: Place) -> bool
     ensures { result ≡ has_place part place }
 {
     match part {

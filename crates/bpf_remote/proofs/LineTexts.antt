@@ -24,6 +24,11 @@ matched-ok {A = A} {E = E} r a P Q e p = subst (λ (v : Result A E). MatchResult
 pub matched-err : {A E : Type 0} (r : Result A E) (fault : E) (P : A → Type 0) (Q : E → Type 0) → r ≡ Err fault → Q fault → MatchResult r P Q
 matched-err {A = A} {E = E} r fault P Q e p = subst (λ (v : Result A E). MatchResult v P Q) (sym e) p
 
+-- what follows where it is Ok
+pub if-ok : {A E : Type 0} (r : Result A E) (P : A → Type 0) → ((x : A) → r ≡ Ok x → P x) → IfOk r P
+if-ok (Ok x) P h = h x refl
+if-ok (Err fault) P h = tt
+
 -- what a writer holds that held nothing
 pub written-all : {W A E : Type 0} (contents : W → Option (List ℕ)) (a b : Tally W) (r : Result A E) (x : A) (text items : List ℕ)
     → Writes contents a b r text → r ≡ Ok x → contents a.inner ≡ Some [] → contents b.inner ≡ Some items → items ≡ text

@@ -15,16 +15,15 @@ use Rattle.counted_io.proofs.Appending.{WritesAfter-WritesAfter}
 use Rattle.bpf_entries.specs.Keeping.{Kept}
 use Rattle.bpf_journal.specs.Tracks.{Track}
 use Rattle.bpf_origin.specs.Asked.{answer_about, parts_asked}
-use Rattle.bpf_origin.specs.declared.fault.WhatFault.{WhatFault}
 use Rattle.bpf_origin.specs.declared.what.What.{What}
 use Rattle.bpf_session.specs.Sessions.{HasPast, SessionValue}
 use Rattle.bpf_remote.specs.Numbers.{behind, hex_text}
-use Rattle.bpf_remote.specs.Origins.{ComesBack, asked_in, named_in, Fits, Shows, TellsOrigin, longest_part, question_of, too_long, what_refusal}
+use Rattle.bpf_remote.specs.Origins.{ComesBack, asked_in, named_in, Fits, Shows, TellsOrigin, longest_part, question_of, too_long}
 use Rattle.bpf_remote.specs.Packets.{framed, longest_body}
 use Rattle.bpf_remote.proofs.Consoles.{no-text}
 
 -- A text that fits, and one that doesn't.
-fitting : {A E : Type 0} (items : A → List ℕ) (r : Result A E) (shown answer : List ℕ)
+pub fitting : {A E : Type 0} (items : A → List ℕ) (r : Result A E) (shown answer : List ℕ)
     → MatchResult r (λ a. shown ≡ items a) (λ _. shown ≡ too_long) → IfOk r (λ a. items a ≡ answer) → Fits answer shown
 fitting items (Ok a) shown answer is e = inl (is ∙ e)
 fitting items (Err fault) shown answer is e = inr is
@@ -35,19 +34,12 @@ fitting-all items (Ok a) shown P answer is e t p = inl (is ∙ e t p)
 fitting-all items (Err fault) shown P answer is e t p = inr is
 
 module _ {K : Type 0} (holds : K → List Kept → Type 0) (refusals room : K → ℕ) where
-  pub tells-answer : {A E : Type 0} (items : A → List ℕ) (r : Result A E) (asked : Result (Option What) WhatFault) (what : Option What) (old new : SessionValue K) (moves left : ℕ) (shown : List ℕ)
-      → asked ≡ Ok what → ComesBack holds refusals room old new left
+  pub tells-answer : {A E : Type 0} (items : A → List ℕ) (r : Result A E) (what : Option What) (old new : SessionValue K) (moves left : ℕ) (shown : List ℕ)
+      → ComesBack holds refusals room old new left
       → IfOk r (λ a. (t : Track) → HasPast holds old t → items a ≡ (answer_about (question_of moves t) (parts_asked old.moment.state what) t.history old.moment.state).text)
-      → MatchResult r (λ a. shown ≡ items a) (λ _. shown ≡ too_long) → TellsOrigin holds refusals room asked old new moves left shown
-  tells-answer items r asked what old new moves left shown e back texts is =
-      subst (λ (v : Result (Option What) WhatFault). TellsOrigin holds refusals room v old new moves left shown) (sym e)
+      → MatchResult r (λ a. shown ≡ items a) (λ _. shown ≡ too_long) → TellsOrigin holds refusals room (Ok what) old new moves left shown
+  tells-answer items r what old new moves left shown back texts is =
       (back, fitting-all items r shown (HasPast holds old) (λ t. (answer_about (question_of moves t) (parts_asked old.moment.state what) t.history old.moment.state).text) is texts)
-
-  pub tells-refusal : {A E : Type 0} (items : A → List ℕ) (r : Result A E) (asked : Result (Option What) WhatFault) (fault : WhatFault) (s : SessionValue K) (moves : ℕ) (shown : List ℕ)
-      → asked ≡ Err fault → IfOk r (λ a. items a ≡ what_refusal fault)
-      → MatchResult r (λ a. shown ≡ items a) (λ _. shown ≡ too_long) → TellsOrigin holds refusals room asked s s moves 0 shown
-  tells-refusal items r asked fault s moves shown e texts is =
-      subst (λ (v : Result (Option What) WhatFault). TellsOrigin holds refusals room v s s moves 0 shown) (sym e) (refl, refl, fitting items r shown (what_refusal fault) is texts)
 
 -- No part is left, and one more was shown.
 shows-none : Shows [] []

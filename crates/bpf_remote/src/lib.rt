@@ -22,6 +22,7 @@ mod stream;
 
 pub use answer::{Answer, Halt, TOO_LONG};
 pub use body::Body;
+pub use bpf_origin::Wanted;
 pub use layout::Layout;
 pub use manners::Manners;
 pub use moves::moves_after;

@@ -1,11 +1,11 @@
 //! `monitor origin`: where a value came from, asked of the session as it stands.
-ghost use Rattle.std.specs.Prelude.{◌≡◌, ◌≤◌, ◌∷◌, ℕ, IfOk, List, MatchResult, Some, length};
+ghost use Rattle.std.specs.Prelude.{◌≡◌, ◌≤◌, ◌∷◌, ℕ, IfOk, List, MatchResult, Ok, Some, length};
 ghost use Rattle.std.specs.Option.{option_map};
 ghost use Rattle.std.specs.Result.{result_ok};
 ghost use Rattle.bpf_journal.specs.Tracks.{Track};
 ghost use Rattle.bpf_origin.specs.Asked.{answer_about, parts_asked};
 ghost use Rattle.bpf_remote.specs.Numbers.{hex_text};
-ghost use Rattle.bpf_remote.specs.Origins.{ComesBack, Shows, TellsOrigin, asked_in, longest_part, named_in, question_of, too_long, what_refusal};
+ghost use Rattle.bpf_remote.specs.Origins.{ComesBack, Fits, Shows, TellsOrigin, asked_in, longest_part, named_in, question_of, too_long, what_refusal};
 ghost use Rattle.bpf_remote.specs.Packets.{framed, longest_body};
 ghost use Rattle.bpf_session.specs.Sessions.{HasPast};
 ghost use Rattle.counted_io.specs.Writing.{WritesAfter};
@@ -18,7 +18,7 @@ use crate::parser::is;
 use arrayvec::ArrayVec;
 use bpf_journal::Keeper;
 use bpf_machine::Cpu;
-use bpf_origin::{Question, What, WhatFault, look_back, parts_asked};
+use bpf_origin::{Question, Wanted, What, WhatFault, look_back, parts_asked};
 use bpf_session::Session;
 use counted_io::{Counted, WriteFault, put, put_decimal};
 use std::io::Write;
@@ -32,8 +32,21 @@ const LONGEST_ANSWER: usize = 32768;
 /// The longest part of a text that a packet shows, in bytes: two digits for each, behind an `O`.
 const LONGEST_PART: usize = 8191;
 
-/// An answer.
+/// The text of an answer.
 type Text = ArrayVec<u8, LONGEST_ANSWER>;
+
+/// The line of a refusal.
+type Line = ArrayVec<u8, 64>;
+
+/// An answer. It takes much of the stack, so it isn't moved.
+#[derive(Drop)]
+struct Answered {
+    text: Text,
+    /// Whether the whole text had room.
+    written: Result<(), WriteFault>,
+    /// How many moves the session's keeper refused to keep again.
+    left: u64,
+}
 
 /// What a line asks about a machine, which hexadecimal digits spell, or why that is refused. None
 /// where the line doesn't ask where a value came from.
@@ -74,17 +87,18 @@ fn named_in(cpu: &Cpu, text: &[u8]) -> Result<Option<What>, WhatFault>
     }
 }
 
-/// The answer about what is asked, before whose state so many moves lie, and how many moves the
-/// session's keeper refused to keep again: but for these the session stands where it stood.
+/// Writes the answer about what is asked, before whose state so many moves lie, into a text. The
+/// session stands then where it stood, but for the moves that its keeper refused to keep again.
 #[inline(never)]
 fn answer_text<K: Keeper>(
     session: &mut Session<K>,
+    wanted: &mut Wanted,
     what: Option<What>,
     moves: u64,
-) -> (Result<Text, WriteFault>, u64)
-    ensures back { ComesBack K.holds K.refused K.room session.old session.new result.1 }
-    ensures text { IfOk result.0 (λ text. (t : Track) → HasPast K.holds session.old t →
-        text.items ≡ (answer_about (question_of moves t)
+) -> Answered
+    ensures back { ComesBack K.holds K.refused K.room session.old session.new result.left }
+    ensures text { IfOk result.written (λ _. (t : Track) → HasPast K.holds session.old t →
+        result.text.items ≡ (answer_about (question_of moves t)
         (parts_asked session.old.moment.state what) t.history session.old.moment.state).text) }
 {
     let question = Question {
@@ -96,36 +110,39 @@ fn answer_text<K: Keeper>(
     let mut writer = Counted::new(ArrayVec::new());
     let looked = look_back(
         session.course_mut(),
+        wanted,
         parts.as_slice(),
         question,
         &mut writer,
         Ok(()),
     );
-    match looked.written {
-        Ok(()) => (Ok(writer.into_inner()), looked.left),
-        Err(fault) => (Err(fault), looked.left),
+    Answered {
+        text: writer.into_inner(),
+        written: looked.written,
+        left: looked.left,
     }
 }
 
-/// The line of a refusal.
-fn refusal_text(fault: WhatFault) -> Result<Text, WriteFault>
-    ensures { IfOk result (λ text. text.items ≡ what_refusal fault) }
+/// Writes the line of a refusal.
+fn put_refusal<W: Write>(
+    writer: &mut Counted<W>,
+    so_far: Result<(), WriteFault>,
+    fault: WhatFault,
+) -> Result<(), WriteFault>
+    ensures { WritesAfter W.contents writer.old so_far writer.new result (what_refusal fault) }
 {
-    let mut writer = Counted::new(ArrayVec::new());
-    let begun = put(&mut writer, Ok(()), b"refused V");
-    let numbered = put_decimal(&mut writer, begun, u64::from(fault.number()));
-    let parted = put(&mut writer, numbered, b": ");
-    let told = put(&mut writer, parted, fault.text().as_bytes());
-    match put(&mut writer, told, b"\n") {
-        Ok(()) => Ok(writer.into_inner()),
-        Err(fault) => Err(fault),
-    }
+    let begun = put(writer, so_far, b"refused V");
+    let numbered = put_decimal(writer, begun, u64::from(fault.number()));
+    let parted = put(writer, numbered, b": ");
+    let told = put(writer, parted, fault.text().as_bytes());
+    put(writer, told, b"\n")
 }
 
 /// Shows gdb's user what is asked, before whose state so many moves lie. The session stands then
 /// where it stood, but for the moves that its keeper refused to keep again: it answers how many.
 pub(crate) fn show_origin<K: Keeper, W: Write>(
     session: &mut Session<K>,
+    wanted: &mut Wanted,
     asked: Result<Option<What>, WhatFault>,
     moves: u64,
     body: &mut Body,
@@ -137,27 +154,67 @@ pub(crate) fn show_origin<K: Keeper, W: Write>(
         × WritesAfter W.contents writer.old so_far writer.new result.0 told }
 {
     match asked {
-        Ok(what) => {
-            let (text, left) = answer_text(session, what, moves);
-            (show_text(&text, body, writer, so_far), left)
-        }
-        Err(fault) => (show_text(&refusal_text(fault), body, writer, so_far), 0),
+        Ok(what) => show_answer(session, wanted, what, moves, body, writer, so_far),
+        Err(fault) => (show_refusal(fault, body, writer, so_far), 0),
     }
 }
 
-/// Shows gdb's user a text, or that it is too long.
+/// Shows the answer about what is asked, as `show_origin` does.
+#[inline(never)]
+fn show_answer<K: Keeper, W: Write>(
+    session: &mut Session<K>,
+    wanted: &mut Wanted,
+    what: Option<What>,
+    moves: u64,
+    body: &mut Body,
+    writer: &mut Counted<W>,
+    so_far: Result<(), WriteFault>,
+) -> (Result<(), WriteFault>, u64)
+    ensures { (text told : List ℕ) × Shows text told
+        × TellsOrigin K.holds K.refused K.room (Ok what) session.old session.new moves result.1 text
+        × WritesAfter W.contents writer.old so_far writer.new result.0 told }
+{
+    let answered = answer_text(session, wanted, what, moves);
+    let told = show_text(
+        answered.text.as_slice(),
+        &answered.written,
+        body,
+        writer,
+        so_far,
+    );
+    (told, answered.left)
+}
+
+/// Shows why what is asked is refused.
+fn show_refusal<W: Write>(
+    fault: WhatFault,
+    body: &mut Body,
+    writer: &mut Counted<W>,
+    so_far: Result<(), WriteFault>,
+) -> Result<(), WriteFault>
+    ensures { (text told : List ℕ) × Shows text told × Fits (what_refusal fault) text
+        × WritesAfter W.contents writer.old so_far writer.new result told }
+{
+    let mut line = Counted::new(Line::new());
+    let written = put_refusal(&mut line, Ok(()), fault);
+    let text = line.into_inner();
+    show_text(text.as_slice(), &written, body, writer, so_far)
+}
+
+/// Shows gdb's user a text, if it was written whole, or that it is too long.
 fn show_text<W: Write>(
-    text: &Result<Text, WriteFault>,
+    text: &[u8],
+    written: &Result<(), WriteFault>,
     body: &mut Body,
     writer: &mut Counted<W>,
     so_far: Result<(), WriteFault>,
 ) -> Result<(), WriteFault>
     ensures { (shown told : List ℕ) × Shows shown told
-        × MatchResult text.now (λ text. shown ≡ text.items) (λ _. shown ≡ too_long)
+        × MatchResult written.now (λ _. shown ≡ text.now) (λ _. shown ≡ too_long)
         × WritesAfter W.contents writer.old so_far writer.new result told }
 {
-    match text {
-        Ok(text) => show(text.as_slice(), body, writer, so_far),
+    match written {
+        Ok(()) => show(text, body, writer, so_far),
         Err(_) => show(
             b"cut: the answer has more than 32768 bytes\n",
             body,

@@ -24,17 +24,18 @@ use crate::remark::{Remark, remark_of};
 use crate::stream::{Item, next_item};
 use bpf_journal::Keeper;
 use bpf_machine::Cpu;
-use bpf_origin::{What, WhatFault};
+use bpf_origin::{Wanted, What, WhatFault};
 use bpf_session::{RunFault, Session};
 use counted_io::{Counted, WriteFault, write_text};
 use std::io::{Read, Write};
 
 /// Serves a connection: answers each packet of a stream, up to its end or until gdb leaves. The
-/// writer is flushed after each answer. It takes no memory. `gdb` is the machine that gdb is told
-/// of.
+/// writer is flushed after each answer. It takes no memory: `wanted` has it for answers where a value
+/// came from. `gdb` is the machine that gdb is told of.
 pub fn serve<K: Keeper, R: Read, W: Write>(
     gdb: Layout,
     session: &mut Session<K>,
+    wanted: &mut Wanted,
     reader: &mut Counted<R>,
     writer: &mut Counted<W>,
 ) -> Result<(), RunFault>
@@ -75,7 +76,15 @@ pub fn serve<K: Keeper, R: Read, W: Write>(
         if item.is_end() {
             return Ok(());
         }
-        let on = match take_turn(session, &mut manners, item, &request, &mut answer, writer) {
+        let on = match take_turn(
+            session,
+            wanted,
+            &mut manners,
+            item,
+            &request,
+            &mut answer,
+            writer,
+        ) {
             Err(_) => return Err(RunFault::Write),
             Ok(on) => on,
         };
@@ -88,6 +97,7 @@ pub fn serve<K: Keeper, R: Read, W: Write>(
 /// Answers an item, and flushes the writer. Answers whether the connection goes on.
 fn take_turn<K: Keeper, W: Write>(
     session: &mut Session<K>,
+    wanted: &mut Wanted,
     manners: &mut Manners,
     item: Item,
     request: &Body,
@@ -109,7 +119,7 @@ fn take_turn<K: Keeper, W: Write>(
           writer = writer.new;
         }) result on item request.now }
 {
-    let (told, on) = answer_item(session, manners, item, request, answer, writer);
+    let (told, on) = answer_item(session, wanted, manners, item, request, answer, writer);
     flush(writer, told, on)
 }
 
@@ -137,6 +147,7 @@ fn flush<W: Write>(
 /// Answers an item.
 fn answer_item<K: Keeper, W: Write>(
     session: &mut Session<K>,
+    wanted: &mut Wanted,
     manners: &mut Manners,
     item: Item,
     request: &Body,
@@ -159,7 +170,7 @@ fn answer_item<K: Keeper, W: Write>(
 {
     match item {
         Item::Packet => match request.bytes() {
-            Some(body) => answer_body(session, manners, body, answer, writer),
+            Some(body) => answer_body(session, wanted, manners, body, answer, writer),
             None => (Ok(()), true),
         },
         Item::Damaged => (write_text(writer, b"-"), true),
@@ -171,6 +182,7 @@ fn answer_item<K: Keeper, W: Write>(
 /// Answers a packet with this body.
 fn answer_body<K: Keeper, W: Write>(
     session: &mut Session<K>,
+    wanted: &mut Wanted,
     manners: &mut Manners,
     body: &[u8],
     answer: &mut Body,
@@ -192,7 +204,10 @@ fn answer_body<K: Keeper, W: Write>(
         }) result.0 result.1 body.now }
 {
     match behind("qRcmd,", body) {
-        Some(digits) => (answer_line(session, manners, digits, answer, writer), true),
+        Some(digits) => (
+            answer_line(session, wanted, manners, digits, answer, writer),
+            true,
+        ),
         None => answer_request(session, manners, body, answer, writer),
     }
 }
@@ -200,6 +215,7 @@ fn answer_body<K: Keeper, W: Write>(
 /// Answers a line, which hexadecimal digits spell.
 fn answer_line<K: Keeper, W: Write>(
     session: &mut Session<K>,
+    wanted: &mut Wanted,
     manners: &mut Manners,
     digits: &[u8],
     answer: &mut Body,
@@ -221,7 +237,7 @@ fn answer_line<K: Keeper, W: Write>(
         }) result digits.now }
 {
     match asked_in(session.cpu(), digits) {
-        Some(asked) => answer_asked(session, manners, asked, answer, writer),
+        Some(asked) => answer_asked(session, wanted, manners, asked, answer, writer),
         None => answer_script(session, manners, digits, answer, writer),
     }
 }
@@ -229,6 +245,7 @@ fn answer_line<K: Keeper, W: Write>(
 /// Answers where a value came from.
 fn answer_asked<K: Keeper, W: Write>(
     session: &mut Session<K>,
+    wanted: &mut Wanted,
     manners: &mut Manners,
     asked: Result<Option<What>, WhatFault>,
     answer: &mut Body,
@@ -250,7 +267,7 @@ fn answer_asked<K: Keeper, W: Write>(
         }) result (Some asked) digits }
 {
     let begun = acknowledge(*manners, writer);
-    let (told, left) = show_origin(session, asked, manners.moves, answer, writer, begun);
+    let (told, left) = show_origin(session, wanted, asked, manners.moves, answer, writer, begun);
     *manners = with_moves(manners.moves.saturating_sub(left), *manners);
     answer.clear();
     answer.append(b"OK");

@@ -243,7 +243,7 @@ fn told(
     register: Option<u8>,
 ) -> Vec<u8> {
     let mut printed = Vec::new(alloc);
-    let mut wanted = Wanted::new();
+    let mut wanted = Wanted::new(alloc).expect(rt, "no memory");
     let is_asked = want(rt, timeline.cpu(), register, &mut wanted);
     stop_unless(rt, is_asked, "not asked");
     let mut writer = Counted::new(&mut printed);

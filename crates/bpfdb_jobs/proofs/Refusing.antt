@@ -1,6 +1,9 @@
--- Which refusals of a program, of a machine and of a session are the same.
-use Rattle.std.proofs.Common.{◌≡◌, refl}
+-- Which refusals of a program, of a machine and of a session are the same, and the last one of a session.
+use Rattle.std.proofs.Common.{◌≡◌, refl, subst, sym}
+use Rattle.bpf_isa.specs.Programs.{Checked}
+use Rattle.bpf_ring.specs.declared.fault.JournalFault.TheVariants.{OutOfMemory}
 use Rattle.bpfdb_jobs.specs.Faults.{refusal_line, session_line}
+use Rattle.bpfdb_jobs.specs.Jobs.{OpensSession}
 use Rattle.bpfdb_jobs.specs.Refusals.{Refuses, RefusesMachine, RefusesOrigin, RefusesProgram}
 use Rattle.bpfdb_jobs.specs.declared.job.Job.{Job}
 use Rattle.bpfdb_jobs.specs.declared.refusal.JobRefusal.{JobRefusal}
@@ -60,3 +63,7 @@ session-refused job (Object fault name) p = absurd p
 session-refused job (Tests fault line) p = absurd p
 session-refused job (NoTest name) p = absurd p
 session-refused job ManyTests p = absurd p
+
+-- Where a session was opened, memory for answers may be missing still.
+pub no-places : (job : Job) (code : Checked) (refusal : JobRefusal) → OpensSession job code → refusal ≡ Journal OutOfMemory → Refuses job refusal
+no-places job code refusal opens is = subst (Refuses job) (sym is) (code, opens.opens, opens.sized)

@@ -6,7 +6,7 @@ ghost use Rattle.bpfdb_limits.specs.Limits.{IsLimit};
 
 use crate::fault::JobFault;
 use crate::job::Job;
-use crate::opening::session_of;
+use crate::opening::{session_of, wanted_of};
 use crate::report::give_up;
 use bpf_remote::{Layout, serve};
 use bpf_session::RunFault;
@@ -16,8 +16,8 @@ use std::alloc::Global;
 use std::io::{Read, Write};
 
 /// Opens a session as `debug` does, and serves gdb's remote protocol over the reader and the
-/// writer, up to the end of what is read or until gdb leaves. The journal takes its memory before
-/// the first packet is read.
+/// writer, up to the end of what is read or until gdb leaves. All memory is taken before the first
+/// packet is read.
 #[inline(never)]
 pub fn gdb_job<R: Read, W: Write, E: Write>(
     alloc: Global,
@@ -35,9 +35,14 @@ pub fn gdb_job<R: Read, W: Write, E: Write>(
         Ok(session) => session,
         Err(refusal) => return give_up(errors, &JobFault::Refused(refusal)),
     };
+    let mut wanted = match wanted_of(alloc) {
+        Ok(wanted) => wanted,
+        Err(refusal) => return give_up(errors, &JobFault::Refused(refusal)),
+    };
     match serve(
         layout_of(job.options.registers),
         &mut session,
+        &mut wanted,
         reader,
         writer,
     ) {

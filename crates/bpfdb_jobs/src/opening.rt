@@ -6,13 +6,16 @@ ghost use Rattle.bpf_machine.specs.State.{initial};
 ghost use Rattle.bpfdb_jobs.specs.Jobs.{HasMaps, HasWords, IsProgramOf, Opens};
 ghost use Rattle.bpfdb_jobs.specs.Openings.{IsOpening, IsStart};
 ghost use Rattle.bpfdb_jobs.specs.Refusals.{Refuses, RefusesMachine, RefusesProgram};
+ghost use Rattle.bpfdb_jobs.specs.declared.refusal.JobRefusal.TheVariants.{Journal};
+ghost use Rattle.bpf_ring.specs.declared.fault.JournalFault.TheVariants.{OutOfMemory};
 ghost use Rattle.bpfdb_limits.specs.Limits.{IsLimit};
 
 use crate::job::Job;
 use crate::refusal::JobRefusal;
 use bpf_isa::{MapTable, Program, check};
-use bpf_journal::{RingKeeper, Timeline};
+use bpf_journal::{JournalFault, RingKeeper, Timeline};
 use bpf_machine::Cpu;
+use bpf_origin::Wanted;
 use bpf_session::Session;
 use bpf_text::assemble;
 use std::alloc::Global;
@@ -137,4 +140,15 @@ pub fn session_of(alloc: Global, job: &Job<'_>) -> Result<Session<RingKeeper>, J
         Err(why) => return Err(JobRefusal::Journal(why)),
     };
     Ok(Session::open(cpu, keeper, redo, job.options.limit))
+}
+
+/// The memory in which it is told where a value came from. It is refused as a journal's is, on whose
+/// moves that is told.
+pub fn wanted_of(alloc: Global) -> Result<Wanted, JobRefusal<'static>>
+    ensures { IfErr result (λ refusal. refusal ≡ Journal OutOfMemory) }
+{
+    match Wanted::new(alloc) {
+        Ok(wanted) => Ok(wanted),
+        Err(_) => Err(JobRefusal::Journal(JournalFault::OutOfMemory)),
+    }
 }

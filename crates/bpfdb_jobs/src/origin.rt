@@ -13,13 +13,15 @@ ghost use Rattle.bpfdb_options.specs.declared.subcommand.Subcommand.TheVariants.
 
 use crate::fault::JobFault;
 use crate::job::Job;
-use crate::opening::{session_of, timeline_of};
+use crate::opening::{session_of, timeline_of, wanted_of};
 use crate::refusal::JobRefusal;
 use crate::report::give_up;
 use crate::script::obey_script;
 use bpf_journal::{Keeper, RingKeeper, Timeline};
 use bpf_machine::Cpu;
-use bpf_origin::{Extent, Part, Parts, Question, Told, What, WhatFault, parts_asked, put_answer};
+use bpf_origin::{
+    Extent, Part, Parts, Question, Told, Wanted, What, WhatFault, parts_asked, put_answer,
+};
 use bpf_session::run_kept;
 use bpfdb_replies::write_place;
 use counted_io::{Counted, WriteFault, put};
@@ -32,6 +34,8 @@ struct Arrived {
     timeline: Timeline<RingKeeper>,
     /// How many moves lie before its state, kept or not.
     moves: u64,
+    /// The memory for the answer.
+    wanted: Wanted,
 }
 
 /// Runs the program to its end or to the limit, or obeys the script where there is one, and writes
@@ -76,6 +80,10 @@ fn arrive_by(alloc: Global, job: &Job<'_>, script: &[u8]) -> Result<Arrived, Job
         Ok(session) => session,
         Err(refusal) => return Err(refusal),
     };
+    let wanted = match wanted_of(alloc) {
+        Ok(wanted) => wanted,
+        Err(refusal) => return Err(refusal),
+    };
     let moves = match obey_script(&mut session, script) {
         Ok(moves) => moves,
         Err(refusal) => return Err(JobRefusal::Script(refusal)),
@@ -84,6 +92,7 @@ fn arrive_by(alloc: Global, job: &Job<'_>, script: &[u8]) -> Result<Arrived, Job
     Ok(Arrived {
         timeline: Timeline::open(cpu, keeper),
         moves,
+        wanted,
     })
 }
 
@@ -98,8 +107,16 @@ fn arrive_at_end(alloc: Global, job: &Job<'_>) -> Result<Arrived, JobRefusal<'st
         Ok(timeline) => timeline,
         Err(refusal) => return Err(refusal),
     };
+    let wanted = match wanted_of(alloc) {
+        Ok(wanted) => wanted,
+        Err(refusal) => return Err(refusal),
+    };
     let moves = run_kept(&mut timeline, job.options.limit);
-    Ok(Arrived { timeline, moves })
+    Ok(Arrived {
+        timeline,
+        moves,
+        wanted,
+    })
 }
 
 /// Writes where the machine stands, and where the values came from that are asked about.
@@ -123,7 +140,13 @@ fn ask<W: Write, E: Write>(
         lines: job.options.lines,
         opening: arrived.timeline.len() as u64 == arrived.moves,
     };
-    let told = put_found(&mut arrived.timeline, parts.as_slice(), question, writer);
+    let told = put_found(
+        &mut arrived.timeline,
+        &mut arrived.wanted,
+        parts.as_slice(),
+        question,
+        writer,
+    );
     match told.written {
         Ok(()) => status_of(told.extent),
         Err(WriteFault) => give_up(errors, &JobFault::Output),
@@ -149,6 +172,7 @@ fn parts_of(job: &Job<'_>, cpu: &Cpu) -> Result<Parts, WhatFault>
 /// Writes where a machine stands, and where the values of these parts came from, and flushes.
 fn put_found<K: Keeper, W: Write>(
     timeline: &mut Timeline<K>,
+    wanted: &mut Wanted,
     parts: &[Part],
     question: Question,
     writer: &mut Counted<W>,
@@ -163,7 +187,7 @@ fn put_found<K: Keeper, W: Write>(
 {
     let placed = write_place(timeline.cpu(), writer);
     let ended = put(writer, placed, b"\n");
-    let told = put_answer(timeline, parts, question, writer, ended);
+    let told = put_answer(timeline, wanted, parts, question, writer, ended);
     Told {
         written: flush_after(writer, told.written),
         extent: told.extent,

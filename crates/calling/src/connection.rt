@@ -2,7 +2,7 @@
 use bpf_isa::{MapTable, check};
 use bpf_journal::RingKeeper;
 use bpf_machine::Cpu;
-use bpf_remote::{Layout, serve};
+use bpf_remote::{Layout, Wanted, serve};
 use bpf_session::{Counted, Session};
 
 /// mov r0, 40; add r0, 2; exit.
@@ -25,11 +25,13 @@ fn a_step_is_served(rt: HostRuntime) {
         Err(fault) => panic!(&rt; "{fault}"),
     };
     let mut session = Session::open(cpu, ring, redo, 1_000_000);
+    let mut wanted = Wanted::new(alloc).expect(&rt, "no memory");
     let mut answers = Vec::new(alloc);
     let packets: &[u8] = b"$s#73";
     let ended = serve(
         Layout::X86,
         &mut session,
+        &mut wanted,
         &mut Counted::new(packets),
         &mut Counted::new(&mut answers),
     );

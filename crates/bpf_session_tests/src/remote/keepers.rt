@@ -3,7 +3,7 @@ use crate::machines::ENDLESS;
 use crate::sessions::narrow_session;
 use crate::stops::{check_printed, cut, stop_unless};
 use bpf_journal::Keeper;
-use bpf_remote::{Layout, serve};
+use bpf_remote::{Layout, Wanted, serve};
 use bpf_session::{Counted, Session};
 use std::alloc::Global;
 use std::process::Abort;
@@ -46,8 +46,9 @@ fn told<K: Keeper>(
     let mut told = Vec::new(alloc);
     let mut reader = Counted::new(stream.as_bytes());
     let mut writer = Counted::new(&mut told);
-    let is_told = serve(Layout::Bpf, session, &mut reader, &mut writer).is_ok();
-    stop_unless(rt, is_told, stream);
+    let mut wanted = Wanted::new(alloc).expect(rt, "no memory");
+    let served = serve(Layout::Bpf, session, &mut wanted, &mut reader, &mut writer);
+    stop_unless(rt, served.is_ok(), stream);
     told
 }
 

@@ -4,7 +4,7 @@ use crate::machines::ANSWER;
 use crate::sessions::narrow_session;
 use crate::stops::stop_unless;
 use bpf_journal::Keeper;
-use bpf_remote::{Layout, serve};
+use bpf_remote::{Layout, Wanted, serve};
 use bpf_session::{Counted, RunFault, Session};
 use paced_io::Paced;
 use std::alloc::Global;
@@ -17,13 +17,15 @@ const CUT: &[u8] = b"$s#73$qSupported:swbreak+#8b$c#63$bs#d5";
 
 /// Whether a connection ends as a read fails.
 fn breaks_off<K: Keeper, R: Read>(
+    rt: &impl Abort,
     alloc: Global,
     session: &mut Session<K>,
     reader: &mut Counted<R>,
 ) -> bool {
     let mut told = Vec::new(alloc);
     let mut writer = Counted::new(&mut told);
-    let served = serve(Layout::Bpf, session, reader, &mut writer);
+    let mut wanted = Wanted::new(alloc).expect(rt, "no memory");
+    let served = serve(Layout::Bpf, session, &mut wanted, reader, &mut writer);
     matches!(served, Err(RunFault::Read))
 }
 
@@ -32,7 +34,7 @@ fn breaks_off<K: Keeper, R: Read>(
 fn pc_after(rt: &impl Abort, alloc: Global, stream: &[u8], count: u64) -> Option<u16> {
     let mut session = narrow_session(rt, alloc, ANSWER, 1000, 1000);
     let mut reader = Counted::new(Paced::failing(stream, 1, count.saturating_add(1)));
-    if breaks_off(alloc, &mut session, &mut reader) {
+    if breaks_off(rt, alloc, &mut session, &mut reader) {
         Some(session.cpu().pc())
     } else {
         None

@@ -8,7 +8,7 @@ use Rattle.bpf_origin.proofs.answer.put_answer.Goals as goal
 
 pub returns-then-not-want_parts : goal.returns-then-not-want_parts
 returns-then-not-want_parts g c =
-    let full = some_left most_places (want_parts [] c.args.parts.now) (rw c.new-wanted.ensures at c.if-not-want_parts.ensures.all) in
+    let full = some_left most_places (want_parts [] c.args.parts.now) (rw c.clear.ensures at c.if-not-want_parts.ensures.all) in
     record {
       text = λ t stands.
           subst (λ (a : Answer). WritesAfter g.W.Write.contents c.args.writer.now c.args.so_far c.put.new.writer c.put.result a.text)
@@ -21,8 +21,8 @@ returns-then-not-want_parts g c =
 
 pub returns : goal.returns
 returns g c =
-    let fits = rw c.new-wanted.ensures at (c.if-not-want_parts.ensures.all.0 refl) in
-    let is = all_fit most_places (want_parts [] c.args.parts.now) c.want_parts.new.self (rw c.new-wanted.ensures at c.if-not-want_parts.ensures.value) fits in
+    let fits = rw c.clear.ensures at (c.if-not-want_parts.ensures.all.0 refl) in
+    let is = all_fit most_places (want_parts [] c.args.parts.now) c.want_parts.new.self (rw c.clear.ensures at c.if-not-want_parts.ensures.value) fits in
     record {
       text = λ t stands.
           subst (λ (a : Answer). WritesAfter g.W.Write.contents c.args.writer.now c.args.so_far c.put_origin.new.writer c.put_origin.result.written a.text)

@@ -1,7 +1,7 @@
 use Rattle.std.proofs.Common.{refl, ⊎_elim}
 use Rattle.bpf_session.specs.declared.fault.RunFault.TheVariants.{Read, Write}
 use Rattle.bpfdb_jobs.specs.Endings.{Broken, Refused, Served}
-use Rattle.bpfdb_jobs.proofs.Refusing.{session-refused}
+use Rattle.bpfdb_jobs.proofs.Refusing.{no-places, session-refused}
 use Rattle.bpfdb_jobs.proofs.gdb.gdb_job.Goals as goal
 
 pub returns-in-Ok-serve-clause-does : goal.returns-in-Ok-serve-clause-does
@@ -30,3 +30,11 @@ returns-clause-does g c =
     Broken o.code Write o.opens
     (record { from = c.in-Ok.session; to = c.serve.new.session; begins = o.begins; breaks = b })
     (b.4.same, b.9) c.give_up-in-Err-Write.ensures.told c.give_up-in-Err-Write.ensures.value
+
+pub returns-in-Err-wanted_of-clause-does : goal.returns-in-Err-wanted_of-clause-does
+returns-in-Err-wanted_of-clause-does g c =
+    let o = c.in-Ok.ensures.ok in
+    let refused = no-places c.args.job.now o.code c.in-Err-wanted_of.refusal o.opens c.in-Err-wanted_of.ensures in
+    Refused c.in-Err-wanted_of.refusal refused refl refl
+    (rw (session-refused c.args.job.now c.in-Err-wanted_of.refusal refused) at c.give_up-in-Err-wanted_of.ensures.told)
+    c.give_up-in-Err-wanted_of.ensures.value
