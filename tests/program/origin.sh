@@ -144,6 +144,55 @@ tells_loads 1 513 2000 --lines 2000
 tells_loads 1 513 1024 --lines 1024
 tells_loads 1 513 1023 --lines 1023
 
+# A part of more places than are wanted, and of fewer: a call that clears 512 bytes, of which one is wanted, with no other place and with 600 bytes
+# of the context.
+listing few.s 'callf f;exit;f: ldxb r0, [r10-1];exit'
+tells 0 'exited at 1: r0 0x0\n-3 r0 = 0x0; 2: ldxb r0, [r10-1]; from 0x2000005ff:1\n-4 0x200000400:512; 0: callf L2\n' origin --listing few.s
+awk 'BEGIN {
+    printf "callf f\nexit\nf: ldxb r0, [r10-1]\n"
+    for (i = 0; i < 75; i++) printf "ldxdw r2, [r1+%d]\nadd r0, r2\n", 8 * i
+    print "exit"
+}' > many.s
+awk 'BEGIN {
+    print "exited at 1: r0 0x0"
+    for (i = 74; i >= 0; i--) {
+        printf "-%d r0 = 0x0; %d: add r0, r2; from r0 r2\n", 151 - 2 * i, 2 * i + 4
+        printf "-%d r2 = 0x0; %d: ldxdw r2, [r1+%d]; from 0x1%08x:8\n", 152 - 2 * i, 2 * i + 3, 8 * i, 8 * i
+    }
+    print "-153 r0 = 0x0; 2: ldxb r0, [r10-1]; from 0x2000005ff:1"
+    print "-154 0x200000400:512; 0: callf L2"
+    for (i = 74; i >= 0; i--) for (k = 8 * i; k < 8 * i + 8; k++) printf "left 0x1%08x = 0x0; byte %d of the context; at the opening\n", k, k
+}' > told
+run origin -m page --listing many.s
+echo 0 > wanted/status
+cp told wanted/out
+: > wanted/err
+compare 'a cleared frame with 600 wanted bytes'
+
+# However much is wanted, a move that writes nothing of it is passed at once: 750,000 of them, with 3,904 bytes of the context wanted. What they write is
+# a register, and bytes of the frame and of a map that lie as far behind the beginning of their regions as wanted ones do.
+{
+    printf 'ldmapval r8, 0, 0\nmov r6, 150000\nloop: mov r3, r6\nstxdw [r10-8], r6\nstxdw [r8+8], r6\nsub r6, 1\njne r6, 0, loop\n'
+    awk 'BEGIN { for (i = 0; i < 488; i++) printf "ldxdw r4, [r1+%d]\nadd r0, r4\n", 8 * i; print "exit" }'
+} > idle.s
+awk 'BEGIN {
+    print "exited at 984: r0 0x0"
+    for (i = 487; i >= 0; i--) {
+        printf "-%d r0 = 0x0; %d: add r0, r4; from r0 r4\n", 976 - 2 * i, 2 * i + 9
+        printf "-%d r4 = 0x0; %d: ldxdw r4, [r1+%d]; from 0x1%08x:8\n", 977 - 2 * i, 2 * i + 8, 8 * i, 8 * i
+    }
+    for (i = 487; i >= 0; i--) {
+        if (i == 0) print "left r0 = 0x0; at the opening"
+        for (k = 8 * i; k < 8 * i + 8; k++) printf "left 0x1%08x = 0x0; byte %d of the context; at the opening\n", k, k
+    }
+}' > told
+(
+    ulimit -t 4
+    run origin -m page --maps 16x1 --journal 16777216 --lines 2000 --listing idle.s
+)
+cp told wanted/out
+compare '750,000 moves that write nothing that is wanted'
+
 # What the journal has dropped. The end weighs 5 bytes, a jump 7, an addition 16: so 1,024 bytes hold the end and 44 rounds with 7 to spare, and of 45
 # all but the first addition.
 for rounds in 44 45; do
@@ -175,6 +224,22 @@ tells 0 'exited at 3: r0 0x5\n-3 r0 = 0x5; 6: add r0, r2; from r0 r2\n-4 r2 = 0x
 tells 0 'exited at 3: r0 0x5\n-11 r6 = 0x5; 0: mov r6, 5\n' origin --listing calls.s r6
 tells 0 'at 9: stdw [r10-8], 3\n-1 r6 at depth 1 = 0x7; 8: mov r6, 7\n' origin --listing --steps 3 calls.s r6
 tells 0 'at 8: mov r6, 7\n-2 r6 = 0x5; 0: mov r6, 5\n' origin --listing --steps 2 calls.s r6
+
+# Registers of one number at three depths.
+listing nested.s 'mov r6, 1;mov r7, 2;callf f;mov r0, r6;add r0, r7;exit;f: mov r6, 3;callf g;mov r7, r6;exit;g: mov r6, 4;mov r7, 5;exit'
+tells 0 'exited at 5: r0 0x3\n-2 r0 = 0x3; 4: add r0, r7; from r0 r7\n-3 r0 = 0x1; 3: mov r0, r6; from r6\n-12 r7 = 0x2; 1: mov r7, 2\n-13 r6 = 0x1; 0: mov r6, 1\n' \
+    origin --listing nested.s
+tells 0 'at 10: mov r6, 4\n-2 r6 at depth 1 = 0x3; 6: mov r6, 3\n' origin --listing --steps 5 nested.s r6
+tells 0 'at 10: mov r6, 4\n-4 r7 = 0x2; 1: mov r7, 2\n' origin --listing --steps 5 nested.s r7
+tells 0 'at 12: exit\n-2 r6 at depth 2 = 0x4; 10: mov r6, 4\n' origin --listing --steps 7 nested.s r6
+tells 0 'at 8: mov r7, r6\n-5 r6 at depth 1 = 0x3; 6: mov r6, 3\n' origin --listing --steps 8 nested.s r6
+tells 0 'at 8: mov r7, r6\n-7 r7 = 0x2; 1: mov r7, 2\n' origin --listing --steps 8 nested.s r7
+
+# Bytes of the last frame, and cells of two maps.
+listing last.s 'mov r3, 0;callf f;exit;f: add r3, 1;jlt r3, 7, on;stb [r10-1], 9;ldxb r0, [r10-1];exit;on: callf f;exit'
+tells 0 'exited at 2: r0 0x9\n-9 r0 = 0x9; 6: ldxb r0, [r10-1]; from 0x200001dff:1\n-10 0x200001dff:1 = 0x9; 5: stb [r10-1], 9\n' origin --listing last.s
+listing cells.s 'ldmapval r1, 0, 8;ldmapval r2, 1, 8;stb [r1+0], 1;stb [r2+0], 2;ldxb r0, [r1+0];exit'
+tells 0 'exited at 7: r0 0x1\n-2 r0 = 0x1; 6: ldxb r0, [r1+0]; from 0x300000008:1\n-4 0x300000008:1 = 0x1; 4: stb [r1+0], 1\n' origin --maps 8x2,8x2 --listing cells.s
 
 # A jump is not followed, and a move of two parts is one line.
 listing jump.s 'mov r1, 1;jne r1, 0, far;mov r0, 2;far: mov r0, 3;exit'
@@ -245,6 +310,23 @@ script path 'stepi\nset pc 2\nstepi\n'
 tells 0 'exited at 2: r0 0x1\n-3 r0 = 0x1; 0: add r0, 1; from r0\nleft r0 = 0x0; at the opening\n' origin --script path count.bin
 script path 'stepi\nset reg r3 9\ncontinue\n'
 tells 0 'fault access 0x9 at 1\n-2 r3 = 0x9; edit\n' origin --script path --listing far.s
+
+# Edits of the bytes at the edges of regions: of the longest context, of the first and the last frame, of the first and the last of sixteen full maps.
+head -c 65536 /dev/zero > largest
+sixteen=256x256,256x256,256x256,256x256,256x256,256x256,256x256,256x256
+sixteen=$sixteen,$sixteen
+edges='0x100000000 0x10000ffff 0x200000000 0x2000001ff 0x200001c00 0x200001dff 0x300000000 0x30000ffff 0x300f00000 0x300f0ffff'
+for edge in $edges; do
+    echo "set mem $edge 77"
+done > path
+echo stepi >> path
+back=11
+for edge in $edges; do
+    tells 0 "at 1: exit\n-$back $edge:1 = 0x77; edit\n" origin -m largest --maps $sixteen --script path --listing one.s $edge
+    back=$((back - 1))
+done
+tells 0 'at 1: exit\n-10 0x10000ffff:1 = 0x77; edit\nleft 0x10000fffe = 0x0; byte 65534 of the context; at the opening\n' \
+    origin -m largest --maps $sixteen --script path --listing one.s 0x10000fffe:2
 script path 'stepi 2\nset reg r6 1\ncontinue\n'
 tells 0 'exited at 3: r0 0x5\n-12 r6 = 0x5; 0: mov r6, 5\n' origin --script path --listing calls.s r6
 
