@@ -5,5 +5,6 @@ pub mod Runs
 pub mod PieceLaws
 pub mod StretchLaws
 pub mod Spans
+pub mod Touching
 pub mod Walks
 pub mod Ways

@@ -12,4 +12,5 @@ pub mod Recorded
 pub mod Spans
 pub mod Stretches
 pub mod Taking
+pub mod Touched
 pub mod Ways

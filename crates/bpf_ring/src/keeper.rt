@@ -23,7 +23,7 @@ ghost use Rattle.bpf_ring.specs.Taking.{HandsOver, TakesBack, TakesText};
 use crate::counts::{Counts, within};
 use crate::fault::JournalFault;
 use crate::pieces::{BYTES, Pieced};
-use crate::ring::Ring;
+use crate::ring::{Ring, revert};
 use crate::run::{StopTest, change_replaces_bytes};
 use crate::size::is_size;
 use bpf_entries::weights::GREATEST;
@@ -299,6 +299,24 @@ impl RingKeeper {
     /// is held.
     #[inline(always)]
     pub fn take_back(&mut self, cpu: &mut Cpu) -> Option<u8>
+        requires { HoldsWay self.old.ring self.old.counts cpu.old }
+        ensures { TakesBack cpu.old cpu.new self.old self.new result }
+    {
+        match self.ring.newest_text() {
+            Some(text) => {
+                let count = text.len();
+                let tag = revert(cpu, text);
+                self.ring.drop_newest(count);
+                self.counts.subtract(tag);
+                Some(tag)
+            }
+            None => self.take_back_apart(cpu),
+        }
+    }
+
+    /// Does the same where the entry's bytes go around the block's end, or where none is held.
+    #[inline(never)]
+    fn take_back_apart(&mut self, cpu: &mut Cpu) -> Option<u8>
         requires { HoldsWay self.old.ring self.old.counts cpu.old }
         ensures { TakesBack cpu.old cpu.new self.old self.new result }
     {

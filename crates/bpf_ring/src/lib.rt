@@ -13,6 +13,7 @@ mod ring;
 mod run;
 mod size;
 mod stretches;
+mod touched;
 
 pub use backward::Stays;
 pub use fault::JournalFault;
@@ -21,3 +22,4 @@ pub use ring::Ring;
 pub use run::{StopTest, change_replaces_bytes};
 pub use size::is_size;
 pub use stretches::Stretch;
+pub use touched::Touched;

@@ -239,25 +239,9 @@ impl Ring {
         self.push_apart(&scratch[..weight]);
     }
 
-    /// Takes back the move whose entry's text the newest bytes are, so many: they are read where
-    /// they lie, or from a copy where they go around the block's end. They stay. Answers the
-    /// entry's tag.
-    #[inline(always)]
+    /// Takes back the move whose entry's text the newest bytes are, so many, by way of a copy of
+    /// them. They stay. Answers the entry's tag.
     pub fn revert_newest(&self, cpu: &mut Cpu, count: usize) -> u8
-        requires held { count ≤ length self.now.bytes }
-        requires light { count ≤ greatest_weight }
-        requires come { HasComeBy cpu.old (drop (length self.now.bytes - count) self.now.bytes) }
-        ensures { Reverts self.now.bytes count cpu.old cpu.new result }
-    {
-        match self.newest_piece(count) {
-            Some(piece) => revert(cpu, piece),
-            None => self.revert_apart(cpu, count),
-        }
-    }
-
-    /// Takes the move back whose entry is the newest so many bytes, by way of a copy of them.
-    #[inline(never)]
-    fn revert_apart(&self, cpu: &mut Cpu, count: usize) -> u8
         requires held { count ≤ length self.now.bytes }
         requires light { count ≤ greatest_weight }
         requires come { HasComeBy cpu.old (drop (length self.now.bytes - count) self.now.bytes) }
@@ -598,7 +582,7 @@ impl Ring {
 
 /// Takes back the move whose entry has this text. Answers the entry's tag.
 #[inline(always)]
-fn revert(cpu: &mut Cpu, bytes: &[u8]) -> u8
+pub(crate) fn revert(cpu: &mut Cpu, bytes: &[u8]) -> u8
     requires { HasComeBy cpu.old bytes.now }
     ensures back { (x : State) (m : Move) (mark : Bool) → Leads x m cpu.old →
         FitsFields (overwritten x m) → bytes.now ≡ text (overwritten x m) mark → cpu.new ≡ x }
