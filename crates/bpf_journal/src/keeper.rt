@@ -6,6 +6,7 @@ ghost use Rattle.bpf_entries.specs.Status.{has_ended};
 ghost use Rattle.bpf_machine.specs.Entries.{step_entry};
 ghost use Rattle.bpf_machine.specs.Next.{change as change_of};
 ghost use Rattle.bpf_ring.specs.Runs.{kept_after, kept_on};
+ghost use Rattle.bpf_ring.specs.Touched.{newest_touched};
 ghost use Rattle.bpf_journal.specs.EditEntries.{HoldsSome, is_of_step};
 ghost use Rattle.bpf_journal.specs.Handing.{HandsOver, HandsOverSteps};
 ghost use Rattle.bpf_journal.specs.Histories.{HasHistory, Record, StandsFor, newest};
@@ -18,7 +19,7 @@ use crate::run::Run;
 use crate::taken::Taken;
 use bpf_machine::laws::entries_fit;
 use bpf_machine::{Change, Cpu, Ended, Entry};
-use bpf_ring::{RingKeeper, Stays, StopTest, change_replaces_bytes};
+use bpf_ring::{RingKeeper, Stays, StopTest, Touched, change_replaces_bytes};
 use std::alloc::AllocError;
 
 /// Keeps the newest entries of moves, in a journal of some size. Its content is a list of entries
@@ -129,6 +130,18 @@ pub trait Keeper {
     /// The newest entry and its mark, None where none is held. It stays.
     fn last(&self) -> Option<(Entry, bool)>
         ensures { (es : List Kept) → holds self.now es → result ≡ newest es };
+
+    /// What the newest entry's move touched, by the depth of calls after it; None where none is held.
+    /// A keeper that reads an entry where it is kept writes this anew; by itself it reads the entry
+    /// whole.
+    fn newest_touched(&self, depth: u32) -> Option<Touched>
+        ensures { (es : List Kept) → holds self.now es → result ≡ newest_touched depth es }
+    {
+        match self.last() {
+            Some((entry, _)) => Some(Touched::of(&entry, depth)),
+            None => None,
+        }
+    }
 
     /// Takes the newest entry off, None where none is held.
     fn pop(&mut self) -> Option<(Entry, bool)>

@@ -18,7 +18,7 @@ mod taken;
 mod timeline;
 
 pub use bpf_machine::Move;
-pub use bpf_ring::{JournalFault, RingKeeper, Stays, StopTest};
+pub use bpf_ring::{JournalFault, RingKeeper, Stays, StopTest, Touched};
 pub use course::Course;
 pub use fault::{MoveFault, TimelineFault};
 pub use keeper::Keeper;

@@ -10,7 +10,7 @@ use crate::item::Item;
 use crate::keeper::Keeper;
 use crate::taken::Taken;
 use bpf_machine::{Cpu, Entry};
-use bpf_ring::{JournalFault, is_size};
+use bpf_ring::{JournalFault, Touched, is_size};
 use std::alloc::{AllocError, Global};
 
 /// Keeps the bytes of entries in a growing list. A push takes memory for those of its entry, and
@@ -109,6 +109,13 @@ impl Keeper for ListKeeper {
     fn last(&self) -> Option<(Entry, bool)> {
         match self.entries.newest() {
             Some(item) => Some(item.kept()),
+            None => None,
+        }
+    }
+
+    fn newest_touched(&self, depth: u32) -> Option<Touched> {
+        match self.entries.newest() {
+            Some(item) => Some(Touched::in_text(item.text(), depth)),
             None => None,
         }
     }

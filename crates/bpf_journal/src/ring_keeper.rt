@@ -7,7 +7,7 @@ use crate::keeper::Keeper;
 use crate::run::Run;
 use crate::taken::Taken;
 use bpf_machine::{Change, Cpu, Entry};
-use bpf_ring::{RingKeeper, Stays, StopTest};
+use bpf_ring::{RingKeeper, Stays, StopTest, Touched};
 use std::alloc::AllocError;
 
 impl Keeper for RingKeeper {
@@ -86,6 +86,11 @@ impl Keeper for RingKeeper {
 
     fn last(&self) -> Option<(Entry, bool)> {
         self.last()
+    }
+
+    #[inline(always)]
+    fn newest_touched(&self, depth: u32) -> Option<Touched> {
+        self.newest_touched(depth)
     }
 
     fn pop(&mut self) -> Option<(Entry, bool)> {

@@ -279,6 +279,7 @@ impl<K: Keeper> Timeline<K> {
 
     /// Goes back by one move, to the state before it. Answers what move it was, None where none is
     /// kept.
+    #[inline(always)]
     pub fn back(&mut self) -> Option<Taken>
         ensures back { (h : List Record) → StandsFor K.holds self.old.keeper self.old.state h →
             GoesBack K.holds result h self.old self.new }
