@@ -6,6 +6,7 @@ use Rattle.counted_io.specs.Writing.{WritesAfter}
 use Rattle.bpf_journal.specs.Histories.{Record}
 use Rattle.bpf_journal.specs.Tracks.{Track}
 use Rattle.bpfdb_replies.proofs.Telling.{Telling, Telling-start, Telling-step, Telling-end}
+use Rattle.bpf_machine.specs.Moves.{overwritten}
 use Rattle.bpf_machine.specs.State.{State}
 use Rattle.bpf_origin.specs.declared.place.Place.{Place}
 use Rattle.bpf_origin.specs.declared.question.Question.{Question}
@@ -15,8 +16,10 @@ use Rattle.bpf_origin.specs.declared.origin.Turn.{Turn}
 use Rattle.bpf_origin.specs.Texts.{left_text}
 use Rattle.bpf_origin.specs.Answers.{Answer, answer}
 use Rattle.bpf_origin.specs.Pasts.{Stand, StandsThere, gone_from, stand}
-use Rattle.bpf_origin.specs.Turns.{Written, TakesTurn}
+use Rattle.bpf_origin.specs.Turns.{PassesOver, Written, TakesTurn}
+use Rattle.bpf_origin.specs.Writes.{written}
 use Rattle.bpf_origin.proofs.Backs.{back_more, back_on}
+use Rattle.bpf_origin.proofs.Turning.{turn_unhit}
 
 module _ {P W : Type 0} (state : P → State) (follows : P → Track → Type 0) (contents : W → Option (List ℕ)) (q : Question) (old : Tally W) (before : Written) (whole : Answer) (start : Track) (y : State) (all : ℕ) where
   -- After k moves, with room for n lines.
@@ -72,6 +75,24 @@ module _ {P W : Type 0} (state : P → State) (follows : P → Track → Type 0)
       → Going k n wanted p now told → k < all → Turns k n wanted p now told left new after turn → turn.cut ≡ None → Going (k + 1) turn.lines left new after turn.written
   going_step k n wanted left p new now after told turn g low turns on =
       step_in k n wanted left p new now after told turn g.history g.ahead g.stands g.way g.count g.telling g.extent low turns on
+
+  -- A move that is passed over writes nothing.
+  pub going_past : (k n : ℕ) (wanted left : List Place) (p new : P) (now : Tally W) (told : Written)
+      → Going k n wanted p now told → k < all
+      → ((r : Record) (h f : List Record) → follows p (record { history = r ∷ h; ahead = f }) → PassesOver state follows wanted left r h f (state p) new)
+      → Going (k + 1) n left new now told
+  going_past k n wanted left p new now told g low passes =
+      going_step k n wanted left p new now now told (record { written = told; lines = n; cut = None; taken = 1 }) g low
+      (λ r h f stands.
+      let over = passes r h f stands in
+      turn_unhit state follows contents q r h f k n wanted left (state p) new now told _ (overwritten r.before r.move) (written (state p) (overwritten r.before r.move)) refl refl over.missed over.still over.back refl)
+      refl
+
+  -- It has come as far where nothing changed.
+  pub going_stays : (k n : ℕ) (wanted left : List Place) (p new : P) (now : Tally W) (told : Written)
+      → Going k n wanted p now told → new ≡ p → left ≡ wanted → Going k n left new now told
+  going_stays k n wanted left p new now told g same also =
+      subst (λ (ws : List Place). Going k n ws new now told) (sym also) (subst (λ (s : P). Going k n wanted s now told) (sym same) g)
 
   -- What is known where the answer ends, after so many moves.
   pub record Ends (new : P) (after : Tally W) (last : Written) (e : Extent) (moves : ℕ) : Type 0 where

@@ -11,3 +11,4 @@ pub mod Turning
 pub mod Going
 pub mod Asking
 mod Paths
+pub mod Passing

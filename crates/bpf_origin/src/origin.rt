@@ -1,16 +1,20 @@
 //! Where values came from: one pass over a history, each move taken back once.
-ghost use Rattle.std.specs.Prelude.{◌≡◌, ◌<◌, ◌≤◌, ◌∷◌, ◌+◌, ◌^◌, ℕ, List, Some, None, true, false, if◌then◌else◌};
+ghost use Rattle.std.specs.Prelude.{◌≡◌, ◌<◌, ◌≤◌, ◌∷◌, [], ◌+◌, ◌-◌, length, ◌^◌, ℕ, List, Some, None, true, false, if◌then◌else◌};
+ghost use Rattle.bpf_entries.specs.declared.entry.Entry.{Entry as the_entry};
 ghost use Rattle.bpf_entries.specs.Past.{Fewer, past};
 ghost use Rattle.bpf_entries.specs.Status.{has_ended};
 ghost use Rattle.bpf_journal.specs.Histories.{Record, is_step};
 ghost use Rattle.bpf_journal.specs.Tracks.{Track};
+ghost use Rattle.bpf_machine.specs.State.{depth};
 ghost use Rattle.bpf_machine.specs.declared.moves.Move.{Move};
+ghost use Rattle.bpf_origin.specs.declared.place.Part.TheVariants as the_part;
 ghost use Rattle.bpf_origin.specs.declared.place.Place.{Place};
 ghost use Rattle.bpf_origin.specs.Answers.{TellsOrigin, answer};
 ghost use Rattle.bpf_origin.specs.Pasts.{IsSameKeeper};
 ghost use Rattle.bpf_origin.specs.Reads as reads;
-ghost use Rattle.bpf_origin.specs.Turns.{TakesOne, TakesTurn, TellsRest, WentBack};
+ghost use Rattle.bpf_origin.specs.Turns.{PassesOver, TakesOne, TakesTurn, TellsRest, WentBack, parts_of};
 ghost use Rattle.bpf_origin.specs.Wanted as spec;
+ghost use Rattle.bpf_ring.specs.Touched.{touched_by};
 ghost use Rattle.bpf_origin.specs.Writes as writes;
 
 use crate::left::put_left;
@@ -18,9 +22,10 @@ use crate::line::{put_head, put_tail};
 use crate::past::Past;
 use crate::place::Part;
 use crate::question::{Extent, Question, Told};
-use crate::reads::{Parts, followed};
+use crate::reads::{Parts, followed, numbered_part};
 use crate::wanted::Wanted;
 use crate::writes::written;
+use bpf_journal::Touched;
 use bpf_machine::{Cpu, Entry};
 use counted_io::{Counted, WriteFault, put};
 use std::io::Write;
@@ -56,6 +61,9 @@ pub fn put_origin<P: Past, W: Write>(
     let mut lines = question.lines;
     let kept = history.moves();
     for k in 0..kept {
+        if pass_over(history, wanted) {
+            continue;
+        }
         let turn = take_turn(history, wanted, question, k as u64, lines, writer, told);
         match turn.cut {
             Some(extent) => {
@@ -82,6 +90,88 @@ pub fn put_origin<P: Past, W: Write>(
         written: last,
         extent: Extent::Whole,
         moves: kept as u64,
+    }
+}
+
+/// Takes the newest move back where it wrote no wanted place, and answers whether it did. What it
+/// wrote is read off its entry where that lies. Else nothing changes.
+#[inline(always)]
+fn pass_over<P: Past>(history: &mut P, wanted: &mut Wanted) -> bool
+    ensures passed { result ≡ true → (r : Record) (h f : List Record) →
+        P.follows history.old (record { history = r ∷ h; ahead = f }) →
+        PassesOver P.state P.follows wanted.old wanted.new r h f
+        (P.state history.old) history.new }
+    ensures stays { result ≡ false →
+        (history.new ≡ history.old) × (wanted.new ≡ wanted.old) }
+    ensures keeper { IsSameKeeper P.room P.refused history.old history.new }
+{
+    let Some(touched) = history.touched() else {
+        return false;
+    };
+    let deep = history.machine().depth();
+    if is_hit(wanted, history.machine(), touched) {
+        return false;
+    }
+    let _taken = history.take_back();
+    carry_over(wanted, touched, deep);
+    true
+}
+
+/// Whether a move wrote a wanted place that led to a machine's state and touched this.
+#[inline(always)]
+fn is_hit(wanted: &Wanted, cpu: &Cpu, touched: Touched) -> bool
+    ensures { result
+        ≡ spec.are_hit (parts_of (depth cpu.now) (length cpu.now.trace) touched) wanted.now }
+{
+    match touched {
+        Touched::Nothing => false,
+        Touched::Register { number } => is_wanted(wanted, numbered_part(cpu.depth(), number)),
+        Touched::Bytes { address, len } | Touched::Frame { address, len } => {
+            is_wanted(wanted, Part::Bytes { address, len })
+        }
+        Touched::Both {
+            number,
+            address,
+            len,
+        } => {
+            is_wanted(wanted, numbered_part(cpu.depth(), number))
+                || is_wanted(wanted, Part::Bytes { address, len })
+        }
+        Touched::Word => {
+            is_wanted(wanted, numbered_part(cpu.depth(), 0))
+                || is_wanted(wanted, word_part(cpu.trace().len()))
+        }
+    }
+}
+
+/// Whether a place of a part is wanted.
+#[inline(always)]
+fn is_wanted(wanted: &Wanted, part: Part) -> bool
+    ensures { result ≡ spec.are_hit (part ∷ []) wanted.now }
+{
+    wanted.are_hit(&[part])
+}
+
+/// The newest one of so many traced words.
+#[inline(always)]
+fn word_part(words: usize) -> Part
+    ensures { result ≡ the_part.Word (words - 1) }
+{
+    Part::Word {
+        index: words.saturating_sub(1),
+    }
+}
+
+/// What is wanted before a move that touched this and left a depth of calls, where it wrote none of
+/// that.
+#[inline(always)]
+fn carry_over(wanted: &mut Wanted, touched: Touched, deep: usize)
+    ensures { (e : the_entry) → touched ≡ touched_by deep e →
+        wanted.new ≡ spec.carried (past deep e).frames deep wanted.old }
+{
+    match touched {
+        Touched::Frame { .. } => wanted.carry(deep),
+        _ => {}
     }
 }
 

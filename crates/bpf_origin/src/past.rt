@@ -3,10 +3,11 @@ ghost use Rattle.std.specs.Prelude.{◌≡◌, ℕ, IfSome, length, map, true, f
 ghost use Rattle.bpf_entries.specs.Status.{has_ended};
 ghost use Rattle.bpf_journal.specs.Histories.{StandsFor, kept_of, newest};
 ghost use Rattle.bpf_journal.specs.Tracks.{Follows, Track};
-ghost use Rattle.bpf_machine.specs.State.{State};
+ghost use Rattle.bpf_machine.specs.State.{State, depth};
+ghost use Rattle.bpf_ring.specs.Touched.{newest_touched};
 ghost use Rattle.bpf_origin.specs.Pasts.{GoesBack, IsSameKeeper};
 
-use bpf_journal::{Course, Keeper, Taken, Timeline};
+use bpf_journal::{Course, Keeper, Taken, Timeline, Touched};
 use bpf_machine::{Cpu, Entry};
 
 /// A machine with the moves that led to its state, over which it can go back: a timeline, which
@@ -36,6 +37,11 @@ pub trait Past {
     /// The entry of the newest move that is kept, and its mark; None where none is kept. It stays.
     fn newest(&self) -> Option<(Entry, bool)>
         ensures { (t : Track) → follows self.now t → result ≡ newest (map kept_of t.history) };
+
+    /// What the newest move that is kept touched; None where none is kept.
+    fn touched(&self) -> Option<Touched>
+        ensures { (t : Track) → follows self.now t →
+            result ≡ newest_touched (depth (state self.now)) (map kept_of t.history) };
 
     /// Goes back by one move, to the state before it. Answers what move it was, None where none is
     /// kept. The machine runs before a step.
@@ -68,6 +74,14 @@ impl<K: Keeper> Past for Timeline<K> {
         self.last()
     }
 
+    #[inline(always)]
+    fn touched(&self) -> Option<Touched> {
+        let cpu = self.cpu();
+        cpu.invariant();
+        self.keeper().newest_touched(cpu.depth() as u32)
+    }
+
+    #[inline(always)]
     fn take_back(&mut self) -> Option<Taken> {
         self.invariant();
         self.back()
@@ -95,6 +109,14 @@ impl<K: Keeper> Past for Course<K> {
         self.keeper().last()
     }
 
+    #[inline(always)]
+    fn touched(&self) -> Option<Touched> {
+        let cpu = self.cpu();
+        cpu.invariant();
+        self.keeper().newest_touched(cpu.depth() as u32)
+    }
+
+    #[inline(always)]
     fn take_back(&mut self) -> Option<Taken> {
         self.invariant();
         self.back()

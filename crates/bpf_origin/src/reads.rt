@@ -145,7 +145,14 @@ fn add_register(cpu: &Cpu, register: Reg, parts: &mut Parts)
 pub fn register_part(depth: usize, register: Reg) -> Part
     ensures { result ≡ Part.Register (depth_for depth register) register }
 {
-    let number = register.number();
+    numbered_part(depth, register.number())
+}
+
+/// The register of this number of the function at a depth.
+#[inline(always)]
+pub(crate) fn numbered_part(depth: usize, number: u8) -> Part
+    ensures { result ≡ Part.Register (depth_for depth number) number }
+{
     if number < 6 {
         Part::Register { depth: 0, number }
     } else {
