@@ -248,6 +248,40 @@ listing fetch.s 'stdw [r10-8], 1;mov r1, 2;stb [r10-7], 3;atomic_fetch_add64 [r1
 tells 0 'exited at 5: r0 0x0\n-2 r0 = 0x0; 4: ldxb r0, [r10-6]; from 0x2000001fa:1\n-3 r1 = 0x301; 0x2000001f8:8 = 0x303; 3: atomic_fetch_add64 [r10-8], r1; from r1 0x2000001f8:8\n-4 0x2000001f9:1 = 0x3; 2: stb [r10-7], 3\n-5 r1 = 0x2; 1: mov r1, 2\n-6 0x2000001f8:8 = 0x1; 0: stdw [r10-8], 1\n' \
     origin --listing fetch.s
 
+# A move that writes a register and bytes, or one and a word, is found by either; where it wrote only other ones it is passed over. So is a call that
+# entered another frame than the one whose byte is asked about.
+added='-3 r1 = 0x301; 0x2000001f8:8 = 0x303; 3: atomic_fetch_add64 [r10-8], r1; from r1 0x2000001f8:8\n-4 0x2000001f9:1 = 0x3; 2: stb [r10-7], 3\n-5 r1 = 0x2; 1: mov r1, 2\n-6 0x2000001f8:8 = 0x1; 0: stdw [r10-8], 1\n'
+for what in r1 0x2000001ff; do
+    tells 0 "exited at 5: r0 0x0\n$added" origin --listing fetch.s $what
+done
+for what in r2 0x2000001f7; do
+    tells 0 "exited at 5: r0 0x0\nleft $what = 0x0; at the opening\n" origin --listing fetch.s $what
+done
+listing match.s 'mov r0, 1;stdw [r10-8], 1;mov r3, 7;atomic_cmpxchg64 [r10-8], r3;exit'
+matched='-2 r0 = 0x1; 0x2000001f8:8 = 0x7; 3: atomic_cmpxchg64 [r10-8], r3; from r0 r3 0x2000001f8:8\n-3 r3 = 0x7; 2: mov r3, 7\n-4 0x2000001f8:8 = 0x1; 1: stdw [r10-8], 1\n-5 r0 = 0x1; 0: mov r0, 1\n'
+for what in r0 0x2000001f8; do
+    tells 0 "exited at 4: r0 0x1\n$matched" origin --listing match.s $what
+done
+tells 0 'exited at 4: r0 0x1\n-3 r3 = 0x7; 2: mov r3, 7\n' origin --listing match.s r3
+listing update.s 'stw [r10-4], 1;stdw [r10-16], 42;ldmap r1, 0;mov r2, r10;add r2, -4;mov r3, r10;add r3, -16;mov r4, 0;call 2;exit'
+updated='-2 r0 = 0x0; 0x300000008:8 = 0x2a; 9: call 2; from r1 0x2000001fc:4 r4 0x2000001f0:8\n-3 r4 = 0x0; 8: mov r4, 0\n-8 r1 = 0x400000000; 2: ldmap r1, 0\n-9 0x2000001f0:8 = 0x2a; 1: stdw [r10-16], 42\n-10 0x2000001fc:4 = 0x1; 0: stw [r10-4], 1\n'
+for what in r0 0x300000008 0x30000000f; do
+    tells 0 "exited at 10: r0 0x0\n$updated" origin --maps 8x3 --listing update.s $what
+done
+for what in r5 0x300000007 0x300000010; do
+    tells 0 "exited at 10: r0 0x0\nleft $what = 0x0; at the opening\n" origin --maps 8x3 --listing update.s $what
+done
+listing word.s 'mov r1, 9;call 64;exit'
+tells 0 'exited at 2: r0 0x0\n-2 r0 = 0x0; word 0 = 0x9; 1: call 64; from r1\n-3 r1 = 0x9; 0: mov r1, 9\n' origin --listing word.s r0
+tells 0 'exited at 2: r0 0x0\n-3 r1 = 0x9; 0: mov r1, 9\n' origin --listing word.s r1
+for what in 0x200000400:1 0x2000005f8 0x2000005ff; do
+    tells 0 'exited at 3: r0 0x5\n-6 0x200000400:512; 2: callf L4\n' origin --listing calls.s $what
+done
+for what in 0x200000000 0x2000001ff 0x200000800 0x2000009f8; do
+    tells 0 "exited at 3: r0 0x5\nleft $what = 0x0; at the opening\n" origin --listing calls.s $what
+done
+tells 0 'at 10: exit\n-1 0x2000005f8:8 = 0x3; 9: stdw [r10-8], 3\n' origin --listing --steps 4 calls.s 0x2000005ff
+
 # script NAME TEXT: writes a script; the text is as printf's %b reads it.
 script() {
     printf '%b' "$2" > "$1"
