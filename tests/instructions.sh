@@ -1,7 +1,8 @@
 #!/bin/sh
 # How many instructions of the processor a move takes in the built program (or the one that BPFDB names): callgrind's count of 60,000 moves less that
 # of 20,000, so the load of the machine doesn't matter. It needs valgrind. A line a program: a plain step, one that is kept in each size of a journal, and at the
-# largest a move back, one that is made again, and an entry that last-write looks at. No promise depends on it, and the gate doesn't run it.
+# largest a move back, one that is made again, an entry that last-write looks at, and a move that origin passes. No promise depends on it, and the gate
+# doesn't run it.
 set -u
 cd "$(dirname "$0")/.." || exit 1
 [ -n "${BPFDB:-}" ] || sh tests/build.sh || exit 1
@@ -18,12 +19,12 @@ counted() {
     valgrind --tool=callgrind --callgrind-out-file=/dev/null "$bpfdb" "$@" < "$work/script" 2>&1 > /dev/null | sed -n 's/.*Collected : //p'
 }
 
-# each SCRIPT ARGUMENT..: the instructions a move, in tenths: N stands for the number of moves.
+# each SCRIPT ARGUMENT..: the instructions a move, in tenths: MOVES stands for how many they are.
 each() {
     script=$1
     shift
-    many=$(counted "$(echo "$script" | sed 's/N/60000/g')" $(echo "$@" | sed 's/N/60000/g'))
-    few=$(counted "$(echo "$script" | sed 's/N/20000/g')" $(echo "$@" | sed 's/N/20000/g'))
+    many=$(counted "$(echo "$script" | sed 's/MOVES/60000/g')" $(echo "$@" | sed 's/MOVES/60000/g'))
+    few=$(counted "$(echo "$script" | sed 's/MOVES/20000/g')" $(echo "$@" | sed 's/MOVES/20000/g'))
     echo $(((many - few) / 4000))
 }
 
@@ -35,16 +36,17 @@ tenths() {
 # measure NAME: the line of a program.
 measure() {
     program=$work/$1.s
-    line="$1: plain $(tenths "$(each '' run --listing --steps N "$program")")"
+    line="$1: plain $(tenths "$(each '' run --listing --steps MOVES "$program")")"
     for size in 1024 65536 16777216; do
-        kept=$(each 'stepi N\n' debug --listing --journal "$size" "$program")
+        kept=$(each 'stepi MOVES\n' debug --listing --journal "$size" "$program")
         line="$line, kept in $size $(tenths "$kept")"
     done
-    for command in reverse-stepi\ N undo reverse-continue 'last-write 0x2000000ff'; do
-        line="$line, ${command% *} $(tenths $(($(each "stepi N\\n$command\\n" debug --listing --journal "$size" "$program") - kept)))"
+    for command in reverse-stepi\ MOVES undo reverse-continue 'last-write 0x2000000ff'; do
+        line="$line, ${command% *} $(tenths $(($(each "stepi MOVES\\n$command\\n" debug --listing --journal "$size" "$program") - kept)))"
     done
-    back=$(each 'stepi N\nreverse-stepi N\n' debug --listing --journal "$size" "$program")
-    echo "$line, redo $(tenths $(($(each 'stepi N\nreverse-stepi N\nredo N\n' debug --listing --journal "$size" "$program") - back)))"
+    line="$line, origin $(tenths $(($(each '' origin --listing --journal "$size" --steps MOVES "$program" r9) - kept)))"
+    back=$(each 'stepi MOVES\nreverse-stepi MOVES\n' debug --listing --journal "$size" "$program")
+    echo "$line, redo $(tenths $(($(each 'stepi MOVES\nreverse-stepi MOVES\nredo MOVES\n' debug --listing --journal "$size" "$program") - back)))"
 }
 
 printf '%s\n' 'lddw r1, 10000000' 'loop: add r0, 1' 'jlt r0, r1, loop' exit > "$work/counting.s"
