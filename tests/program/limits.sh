@@ -240,6 +240,8 @@ squeezed() {
 printf 'loop: add r0, 1\njlt r0, 3, loop\nexit\n' > count.s
 printf 'continue\n' > path
 little=$(seq 3000 25 4000)
+# (the stack of gdb grows by more than the others', and what is left of 3,700 kB or so hasn't room for that)
+grown=$(seq 3775 25 4000)
 more='6000 8000 10000 12000 14000 16000 18000 20000 25000 30000 40000 50000'
 # (the words of a row are without blanks; gdb is asked to continue, for the line `origin r9`, and to detach)
 printf '$c#63$qRcmd,6f726967696e207239#45$D#44' > asked
@@ -247,6 +249,7 @@ while IFS='|' read -r size input arguments; do
     cp "$input" script
     case $size in
         little) squeezed "$little" $arguments ;;
+        grown) squeezed "$grown" $arguments ;;
         more) squeezed "$more" $arguments ;;
     esac
 done <<ROWS
@@ -262,7 +265,7 @@ little|path|test alone.test
 little|path|link overrun.o
 little|path|origin --journal 1024 --listing count.s
 little|path|origin --journal 1024 --script path --listing count.s
-little|asked|gdb --journal 1024 --listing count.s
+grown|asked|gdb --journal 1024 --listing count.s
 more|path|run -m context --maps $sixteen longest
 more|path|debug -m context --maps $sixteen --journal 16777216 longest
 more|path|trace -m context --maps $sixteen --from 65535 longest
