@@ -48,9 +48,9 @@ pub const RUN_EXAMPLE: &str = "Example:
   $ bpfdb run --steps 5000 --listing count.s
   0x3";
 
-pub const TRACE: &str = "Runs a program to its end and tells each step";
+pub const TRACE: &str = "Runs a program to its end and shows each step";
 
-pub const TRACE_LONG: &str = "Runs a program to its end and tells each step.
+pub const TRACE_LONG: &str = "Runs a program to its end and shows each step.
 
 Reads FILE, and the context from the file that -m names. Writes a line a step to standard
 output: its number, its slot and instruction, and each place that it wrote, with the value
@@ -96,9 +96,9 @@ pub const DEBUG_EXAMPLE: &str = "Example:
   1 forward; break; at 1: jlt r0, 3, L0
   1 back; done; at 0: add r0, 1";
 
-pub const ORIGIN: &str = "Runs a program to its end and tells where a value came from";
+pub const ORIGIN: &str = "Runs a program to its end and shows where a value came from";
 
-pub const ORIGIN_LONG: &str = "Runs a program to its end and tells where a value came from.
+pub const ORIGIN_LONG: &str = "Runs a program to its end and shows where a value came from.
 
 Reads FILE and the context, and runs the program to its end or to the limit of steps; with
 --script it obeys commands instead, edits and steps back among them, and asks where they
@@ -145,9 +145,9 @@ pub const DISASM_EXAMPLE: &str = "Example:
   jlt r0, 3, L0
   exit";
 
-pub const LINES: &str = "Tells in which line of a listing each instruction stands";
+pub const LINES: &str = "Shows the line of each instruction of a listing";
 
-pub const LINES_LONG: &str = "Tells in which line of a listing each instruction stands.
+pub const LINES_LONG: &str = "Shows the line of each instruction of a listing.
 
 Reads the listing FILE. Writes one line an instruction to standard output, with blanks
 between: its slot, the line of FILE in which it stands, counted from 1, and the labels
@@ -165,8 +165,8 @@ pub const CHECK: &str = "Checks a program";
 pub const CHECK_LONG: &str = "Checks a program.
 
 Reads FILE. Writes to standard output how many instructions it has, and in how many slots
-of 8 bytes. If something is wrong with it, the first fault is told in one line on standard
-error, with its number and, where it has one, its slot or line. Then the exit status is 2.";
+of 8 bytes. The first fault is one line on standard error, with its number and, where it
+has one, its slot or line. Then the exit status is 2.";
 
 pub const CHECK_EXAMPLE: &str = "Example:
   $ bpfdb check --listing count.s
@@ -179,9 +179,9 @@ pub const LINK_LONG: &str = "Makes the words of a program from an ELF object.
 Reads the relocatable object FILE, as `clang -target bpf -c` writes it. Writes the words
 of one code section to standard output, 8 bytes a slot, and after them those of .text
 where the section calls it: calls have their distances, and loads of maps the maps'
-numbers, 0 for the one that stands first in its section. Where debug information (-g) or
-the section maps tells their sizes, standard error has them, as --maps takes them. The
-first thing that is wrong is one line on standard error, with its number; then the exit
+numbers, 0 for the one that stands first in its section. If debug information (-g) or the
+section maps has the maps' sizes, they are printed on standard error as an option --maps.
+The first thing that is wrong is one line on standard error, with its number; then the exit
 status is 2.";
 
 pub const LINK_EXAMPLE: &str = "Example:
@@ -192,7 +192,7 @@ pub const TEST: &str = "Runs the tests of a file";
 
 pub const TEST_LONG: &str = "Runs the tests of a file.
 
-Reads the test file FILE: programs, each with what it is expected to come to
+Reads the test file FILE: programs and the results that are expected of them
 (docs/TESTS.md describes it). Writes a report in the Test Anything Protocol to standard
 output: `ok 1 - NAME` for a test that passes, and what came and what was wanted for one
 that doesn't. If a test fails, the exit status is 1. If something is wrong with FILE, or if
@@ -314,10 +314,10 @@ pub const SCRIPT: &str = "Script that is obeyed in place of a run, as `debug` ob
 pub const SCRIPT_LONG: &str =
     "Script that is obeyed in place of a run, as `debug` obeys it: its replies are not shown,
 and WHAT is asked about the state where it leaves the session. --steps is then the limit
-of each of its commands. If a line is refused, nothing is told. Example: --script steps";
+of each of its commands. If a line is refused, only its refusal is printed. Example: --script steps";
 
 /// `--as-compiled`.
-pub const AS_COMPILED: &str = "Leaves fields where they were compiled; no relocation of fields";
+pub const AS_COMPILED: &str = "Leaves the fields of CO-RE programs at the offsets they were compiled with";
 
 /// `--lines`.
 pub const LINES_MOST: &str = "Most lines of moves in an answer, 1 to 1000000000";
