@@ -317,7 +317,8 @@ and WHAT is asked about the state where it leaves the session. --steps is then t
 of each of its commands. If a line is refused, only its refusal is printed. Example: --script steps";
 
 /// `--as-compiled`.
-pub const AS_COMPILED: &str = "Leaves the fields of CO-RE programs at the offsets they were compiled with";
+pub const AS_COMPILED: &str =
+    "Leaves the fields of CO-RE programs at the offsets they were compiled with";
 
 /// `--lines`.
 pub const LINES_MOST: &str = "Most lines of moves in an answer, 1 to 1000000000";
