@@ -43,7 +43,8 @@ fn write_digits(value: u64, buffer: &mut [u8; MOST_DIGITS]) -> usize
     start
 }
 
-fn hex_digit(value: u8) -> u8
+/// The lower-case digit of a value below 16.
+pub fn hex_digit(value: u8) -> u8
     requires { value < 16 }
     ensures { result ≡ digit_glyph false value }
 {

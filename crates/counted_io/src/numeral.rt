@@ -58,12 +58,14 @@ pub fn natural(text: &[u8]) -> Option<Numeral<'_>>
     ensures grammar { ReadsNaturals text.now }
 {
     match text.strip_prefix(b"0x") {
-        Some(digits) => read_digits(digits, 16),
-        None => read_digits(text, 10),
+        Some(digits) => natural_in(digits, 16),
+        None => natural_in(text, 10),
     }
 }
 
-fn read_digits(digits: &[u8], radix: u32) -> Option<Numeral<'_>>
+/// The number that digits of a radix are, one at least and as many as there are. None where it is
+/// none.
+pub fn natural_in(digits: &[u8], radix: u32) -> Option<Numeral<'_>>
     requires { 1 ≤ radix }
     ensures { result ≡ numeral radix digits.now }
 {
@@ -81,7 +83,7 @@ fn are_digits(text: &[u8], radix: u32) -> bool
 }
 
 /// The value of a digit or a letter, and 36 for any other byte.
-fn digit_value(byte: u8) -> u32
+pub fn digit_value(byte: u8) -> u32
     ensures { result ≡ digit_value byte }
 {
     char::from(byte).to_digit(36).unwrap_or(36)
