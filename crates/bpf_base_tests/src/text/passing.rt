@@ -1,7 +1,7 @@
 //! What a counted reader or writer passes on: no contract says that it does.
 use crate::stops::{check_bytes, check_number, stop_unless};
+use bpf_testing::Paced;
 use counted_io::{Counted, read_byte, write_text};
-use paced_io::Paced;
 use std::alloc::Global;
 use std::io;
 use std::io::{Error, ErrorKind, Read, Write};

@@ -6,7 +6,7 @@ use crate::stops::stop_unless;
 use bpf_journal::Keeper;
 use bpf_remote::{Layout, Wanted, serve};
 use bpf_session::{Counted, RunFault, Session};
-use paced_io::Paced;
+use bpf_testing::Paced;
 use std::alloc::Global;
 use std::io::Read;
 use std::process::Abort;

@@ -7,8 +7,8 @@ use crate::stops::{check_bytes, check_text, kept, stop_unless};
 use bpf_journal::{JournalFault, ListKeeper, MoveFault, TimelineFault};
 use bpf_machine::{Cpu, EditFault};
 use bpf_session::{Refusal, RunFault, Session, run};
+use bpf_testing::Paced;
 use counted_io::Counted;
-use paced_io::Paced;
 use std::alloc::{AllocError, Global};
 use std::process::Abort;
 

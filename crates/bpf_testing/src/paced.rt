@@ -2,7 +2,7 @@
 ghost use Rattle.std.specs.Prelude.{◌≡◌, true, false};
 ghost use Rattle.std.specs.Io.{ReadsAtMost, WritesAtMost};
 ghost use Rattle.std.specs.Io.KnownBytes.{Keeps, ReadConsumes, WriteAppends};
-ghost use Rattle.paced_io.specs.Paced.{FailsAt, Pace, Passes, TakesNothingAt};
+ghost use Rattle.bpf_testing.specs.Paced.{FailsAt, Pace, Passes, TakesNothingAt};
 
 use std::io;
 use std::io::{Error, ErrorKind, Read, Write};
@@ -20,7 +20,7 @@ pub struct Paced<T> {
 }
 
 impl<T> Model for Paced<T> {
-    ghost use Rattle.paced_io.specs.Paced.{Pace};
+    ghost use Rattle.bpf_testing.specs.Paced.{Pace};
 
     ghost Value = { Pace T };
 
