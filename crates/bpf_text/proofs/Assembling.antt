@@ -7,7 +7,7 @@ use Rattle.bpf_text.specs.declared.fault.AsmFault.TheVariants.{Line, Memory}
 use Rattle.counted_io.specs.Lines.{lines}
 use Rattle.bpf_text.specs.Laws.{HasOneSize, HaveOneInsn, HaveOneAssembly}
 use Rattle.bpf_text.specs.Listing.{AreWords, IsAssembled, IsListing, IsFaultOf}
-use Rattle.bpf_text.specs.Scaffolding.Cuts.{trim}
+use Rattle.counted_io.specs.Cuts.{trim}
 use Rattle.bpf_text.specs.Scaffolding.Lines.{read_line, read_statement, MemoryOr}
 use Rattle.bpf_text.specs.Scaffolding.Rounds.{Collected, after_first_round, second_round, rounds}
 use Rattle.bpf_text.proofs.ListingGrammar.{assembled-read, read-assembled}

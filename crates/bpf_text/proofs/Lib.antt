@@ -2,7 +2,6 @@ pub mod CanonicalLaw
 pub mod CanonicalLines
 pub mod CanonicalRounds
 pub mod CanonicalTexts
-pub mod Cutting
 pub mod Grammar
 pub mod LineGrammar
 pub mod LineTables

@@ -11,7 +11,8 @@ use Rattle.bpf_text.specs.declared.read.statement.Statement.{Statement}
 use Rattle.bpf_text.specs.declared.read.term.Terms.{Terms}
 use Rattle.counted_io.specs.Lines.{is_blank, trim_start}
 use Rattle.bpf_text.specs.Characters.{is_name, is_text}
-use Rattle.bpf_text.specs.Scaffolding.Cuts.{is_labelled, before, after, without_comment, trim, trim_end, mnemonic_part}
+use Rattle.counted_io.specs.Cuts.{before, after, trim, trim_end}
+use Rattle.bpf_text.specs.Scaffolding.Cuts.{is_labelled, without_comment, mnemonic_part}
 use Rattle.bpf_text.specs.Scaffolding.Cuts as cuts
 use Rattle.bpf_text.proofs.Grammar.{AreOperands}
 use Rattle.bpf_text.specs.LineGrammar.{IsComment, IsLabelled, IsLabel, IsApart, IsInstruction}

@@ -1,5 +1,5 @@
 -- The rows of what is read of a listing's lines are those that the listing's definition says.
-use Rattle.std.proofs.Common.{ℕ, ◌≡◌, ◌<◌, ◌+◌, List, [], ◌∷◌, ◌++◌, length, Some, None, Ok, Err, Result, Option, refl, ap, sym, ◌∙◌, subst, inl, inr, map, arith, append_assoc, codes, decimal}
+use Rattle.std.proofs.Common.{ℕ, ◌≡◌, ◌<◌, ◌+◌, List, [], ◌∷◌, ◌++◌, length, Some, None, Ok, Err, Result, Option, refl, ap, sym, ◌∙◌, subst, inl, inr, map, arith}
 use Rattle.bpf_isa.specs.declared.instruction.Insn.{Insn}
 use Rattle.bpf_text.specs.declared.fault.AsmFault.{AsmFault}
 use Rattle.bpf_text.specs.declared.read.line.Line.{Line}
@@ -12,11 +12,11 @@ use Rattle.bpf_text.specs.LineGrammar.{LineReading}
 use Rattle.bpf_text.specs.LineTable.{AreRows, IsLineTable, labels_and, row}
 use Rattle.bpf_text.specs.Statements.{Takes}
 use Rattle.bpf_text.specs.Listing.{Outline, outline_with, IsOutline, IsAssembled, IsListing}
-use Rattle.bpf_text.specs.Scaffolding.Cuts.{before, after, trim}
+use Rattle.counted_io.specs.Cuts.{before, after, trim}
 use Rattle.bpf_text.specs.Scaffolding.Lines.{read_line, read_statement}
 use Rattle.bpf_text.specs.Scaffolding.Rounds.{label_of, statement_of, statement_or_none}
 use Rattle.bpf_text.specs.Scaffolding.Rows.{rows, slots_said}
-use Rattle.bpf_text.proofs.Cutting.{lines-cut}
+use Rattle.counted_io.proofs.Cutting.{lines-cut}
 use Rattle.bpf_text.proofs.ListingGrammar.{line-read, blank-read}
 use Rattle.bpf_text.proofs.StatementGrammar.{slots_in, read-takes}
 
@@ -40,13 +40,6 @@ rows-some p k n labels labels' rest line left reading h first others read some w
     let with : slots_said (statement_of (read_line (before 10 rest))) ≡ Some n = ap (λ r. slots_said (statement_of r)) (sym here) ∙ some in
     let named : labels' ≡ labels_and labels (label_of (read_line (before 10 rest))) = waits ∙ ap (λ r. labels_and labels (label_of r)) here in
     rw (lines-cut rest h, with, others, named) refl
-
--- a row, part by part
-pub row-parts : (p k : ℕ) (labels : List ℕ) → ((((decimal p ++ codes " ") ++ decimal k) ++ labels) ++ codes "\n") ≡ row p k labels
-row-parts p k labels =
-    append_assoc ((decimal p ++ codes " ") ++ decimal k) labels (codes "\n")
-    ∙ append_assoc (decimal p ++ codes " ") (decimal k) (labels ++ codes "\n")
-    ∙ append_assoc (decimal p) (codes " ") (decimal k ++ (labels ++ codes "\n"))
 
 -- the rows of lines whose outline has no fault
 said-slots : (insn : Insn) (said : LineReading (Option Statement)) → slots_in said ≡ Ok (slots_of insn)

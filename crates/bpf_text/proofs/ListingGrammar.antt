@@ -20,7 +20,8 @@ use Rattle.bpf_text.specs.Laws.{IsCut, HasOneCut}
 use Rattle.bpf_text.specs.LineGrammar.{LineReading, IsLabel, IsLine, HasStranger}
 use Rattle.bpf_text.specs.Statements.{Takes, Means}
 use Rattle.bpf_text.specs.Listing.{IsNew, HasFault, Place, Outline, outline_with, IsOutline, insns_with, AreInsns, IsAssembled}
-use Rattle.bpf_text.specs.Scaffolding.Cuts.{trim, without_comment}
+use Rattle.counted_io.specs.Cuts.{trim}
+use Rattle.bpf_text.specs.Scaffolding.Cuts.{without_comment}
 use Rattle.bpf_text.specs.Scaffolding.Lines.{read_line, read_statement}
 use Rattle.bpf_text.proofs.Readings.{IsReading, IsStatement}
 use Rattle.bpf_text.specs.Scaffolding.Rounds.{Collected, statement_or_none, slot_after, unless_defined, line_end, placed_with, first_round, second_round, with_target, after_first_round, rounds}

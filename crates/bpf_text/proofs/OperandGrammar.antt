@@ -18,7 +18,7 @@ use Rattle.bpf_text.specs.declared.read.term.Term.{Term}
 use Rattle.bpf_text.specs.declared.read.term.Term.TheVariants as term
 use Rattle.counted_io.specs.Lines.{is_blank, trim_start}
 use Rattle.bpf_text.specs.Characters.{is_name}
-use Rattle.bpf_text.specs.Scaffolding.Cuts.{trim, trim_end, onto_trimmed, before}
+use Rattle.counted_io.specs.Cuts.{trim, trim_end, onto_trimmed, before}
 use Rattle.counted_io.specs.Numerals.{IsNatural, natural}
 use Rattle.bpf_text.proofs.Grammar.{IsRegister, IsSigned, Padded, ReadsDisplaced, ReadsInside, IsOperand}
 use Rattle.bpf_text.specs.Scaffolding.Terms.{signed_number, is_sign, is_bracketed}

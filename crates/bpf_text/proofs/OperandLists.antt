@@ -13,12 +13,13 @@ use Rattle.bpf_text.specs.declared.read.term.Term.TheVariants as term
 use Rattle.bpf_text.specs.declared.read.term.Terms.{Terms}
 use Rattle.counted_io.specs.Lines.{is_blank}
 use Rattle.bpf_text.specs.Characters.{is_letter, is_name, is_name_byte}
-use Rattle.bpf_text.specs.Scaffolding.Cuts.{trim, trim_end, first_operand, other_operands, before, after}
+use Rattle.counted_io.specs.Cuts.{trim, trim_end, before, after}
+use Rattle.bpf_text.specs.Scaffolding.Cuts.{first_operand, other_operands}
 use Rattle.counted_io.specs.Numerals.{IsNatural}
 use Rattle.bpf_text.proofs.Grammar.{IsRegister, IsSigned, ReadsInside, ReadsDisplaced, IsOperand, AreOperands, Padded}
 use Rattle.bpf_text.proofs.Grammar.{two, three, one}
 use Rattle.bpf_text.specs.Scaffolding.Terms.{terms_of, term_of}
-use Rattle.bpf_text.proofs.Cutting.{trim_end-blank}
+use Rattle.counted_io.proofs.Cutting.{trim_end-blank}
 use Rattle.bpf_text.proofs.PlainTexts.{is_plain, are_plain, and-join, list_all-append, list_all-weaken, before_first-at, after_first-at, Snug, Snug-plain, Snug-append}
 use Rattle.bpf_text.proofs.OperandGrammar.{is_mark, register-marks, natural-marks, padded-all, trim_start-blanks, says-operand, map-some, padded-trim, split-first, operand-says}
 use Rattle.std.proofs.Math.ListN.{drop_of_length-le}

@@ -9,7 +9,7 @@ use Rattle.std.proofs.lemmas.Bool.Decides.{nat_tests}
 use Rattle.std.proofs.Math.Seq.{take-append_seam, drop-append-add, take-length}
 use Rattle.counted_io.proofs.Naturals.{and-both}
 use Rattle.counted_io.specs.Lines.{is_blank, trim_start}
-use Rattle.bpf_text.specs.Scaffolding.Cuts.{trim, trim_end, onto_trimmed}
+use Rattle.counted_io.specs.Cuts.{trim, trim_end, onto_trimmed}
 
 -- a byte that is printed, and is no blank, comma, colon or semicolon
 abbrev pub is_plain : ℕ → Bool

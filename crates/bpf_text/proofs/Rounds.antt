@@ -10,11 +10,11 @@ use Rattle.bpf_text.specs.declared.fault.AsmFault.TheVariants.{Line}
 use Rattle.bpf_text.specs.declared.read.first_round.Placed.{Placed}
 use Rattle.bpf_text.specs.declared.read.line.Line.{Line as LineSaid}
 use Rattle.counted_io.specs.Lines.{lines}
-use Rattle.bpf_text.specs.Scaffolding.Cuts.{before, after}
+use Rattle.counted_io.specs.Cuts.{before, after}
 use Rattle.bpf_text.specs.Scaffolding.Lines.{read_line}
 use Rattle.bpf_text.specs.LineGrammar.{LineReading}
 use Rattle.bpf_text.specs.Scaffolding.Rounds.{Labels, Collected, labels_with, label_of, placed_with, statement_of, line_end, first_round, second_round, insn_at, insns_with, AreWords}
-use Rattle.bpf_text.proofs.Cutting.{lines-cut}
+use Rattle.counted_io.proofs.Cutting.{lines-cut}
 
 -- the first round at a line that has a fault
 pub first_round-Err : (outline : Collected) (slot line_number : ℕ) (rest line : List ℕ) (reading : LineReading LineSaid) (fault : LineFault)

@@ -16,7 +16,7 @@ use Rattle.bpf_text.specs.Mnemonics.{name_of}
 use Rattle.bpf_text.specs.Operands.{operands_of}
 use Rattle.bpf_text.specs.Statements.{Spells, SaysInsn, Takes, Means, short_offset}
 use Rattle.bpf_text.specs.Written.{IsWritten, IsShaped, IsWithin}
-use Rattle.bpf_text.specs.Scaffolding.Cuts.{trim}
+use Rattle.counted_io.specs.Cuts.{trim}
 use Rattle.bpf_text.proofs.Grammar.{AreOperands}
 use Rattle.bpf_text.specs.Scaffolding.Instructions.{forms_of, insn_with, target_in}
 use Rattle.bpf_text.specs.Scaffolding.Lines.{read_statement, of_forms, in_ranges}

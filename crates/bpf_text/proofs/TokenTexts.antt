@@ -10,7 +10,7 @@ use Rattle.std.proofs.lemmas.Fmt.{decimal_by_steps, decimal_digit, decimal_step}
 use Rattle.std.proofs.lemmas.Bool.Decides.{nat_tests, leb_tells}
 use Rattle.bpf_text.specs.declared.read.term.Term.{Term}
 use Rattle.bpf_text.specs.Characters.{is_name, is_name_byte}
-use Rattle.bpf_text.specs.Scaffolding.Cuts.{trim}
+use Rattle.counted_io.specs.Cuts.{trim}
 use Rattle.counted_io.specs.Numerals.{natural}
 use Rattle.bpf_text.specs.Scaffolding.Terms.{is_sign}
 use Rattle.bpf_text.specs.Scaffolding.Tokens.{number_with, unsigned}

@@ -16,7 +16,7 @@ labels_and labels (Some name) = labels ++ 32 ∷ name
 
 -- The row of an instruction in slot p and line k, at which these labels stand.
 abbrev pub row : ℕ → ℕ → List ℕ → List ℕ
-row p k labels = decimal p ++ 32 ∷ (decimal k ++ (labels ++ codes "\n"))
+row p k labels = decimal p ++ codes " " ++ decimal k ++ labels ++ codes "\n"
 
 -- The rows of lines, from slot p and line k on, where these labels wait for their instruction: none of a blank line, and one of an instruction.
 abbrev pub AreRows : ℕ → ℕ → List ℕ → List (List ℕ) → List ℕ → Type 0

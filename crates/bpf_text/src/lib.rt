@@ -10,4 +10,4 @@ mod write;
 pub use counted_io::{Counted, WriteFault};
 pub use fault::{AsmFault, LineFault};
 pub use read::{assemble, line_table};
-pub use write::{disassemble, put_insn, put_label, write_insn};
+pub use write::{disassemble, put_insn, write_insn};

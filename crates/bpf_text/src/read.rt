@@ -1,6 +1,6 @@
 //! How a listing is read.
 mod assembler;
-mod cut;
+mod characters;
 mod first_round;
 mod labels;
 mod line;

@@ -4,4 +4,4 @@ mod insn;
 mod operand;
 
 pub use disassembler::disassemble;
-pub use insn::{put_insn, put_label, write_insn};
+pub use insn::{put_insn, write_insn};

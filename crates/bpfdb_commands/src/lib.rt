@@ -13,5 +13,5 @@ mod tokens;
 pub use command::{Command, Goal, Stop, Target, View};
 pub use count::{Count, GREATEST_SPAN, Span};
 pub use line::{LineBuffer, NextLine, next_line};
-pub use parser::{LONGEST_LINE, parse_command};
+pub use parser::{LONGEST_LINE, parse_bytes, parse_command};
 pub use refusal::Refusal;

@@ -344,7 +344,7 @@ fn parse_span(token: &[u8]) -> Option<Span>
 
 /// Bytes as hexadecimal digits of either case, two a byte: 1 to 256 bytes.
 #[tactic(auto, using(crate::proofs::Bytes::too_many_bytes))]
-fn parse_bytes(digits: &[u8]) -> Option<ByteString>
+pub fn parse_bytes(digits: &[u8]) -> Option<ByteString>
     ensures value { result ≡ bytes_of digits.now }
 {
     let len = digits.len() / 2;

@@ -64,16 +64,12 @@ text_of_registers x = codes "r0=" ++ hexadecimal (register x 0) ++ registers_fro
 abbrev pub text_of_state : State → List ℕ
 text_of_state x = text_of_registers x ++ codes "\n" ++ place x ++ codes "\n"
 
--- A number that a frame saved, with its register's name.
-abbrev pub saved_text : List ℕ → ℕ → List ℕ
-saved_text name n = codes " " ++ name ++ codes "=" ++ hexadecimal n
-
 -- The slot to which a local call returns, and the numbers of r6 to r9 that come back.
 unfoldable pub text_of_frame : Frame → List ℕ
 text_of_frame f =
     codes "returns to " ++ decimal f.return_pc
-    ++ saved_text (codes "r6") (slice_index f.saved 0) ++ saved_text (codes "r7") (slice_index f.saved 1)
-    ++ saved_text (codes "r8") (slice_index f.saved 2) ++ saved_text (codes "r9") (slice_index f.saved 3) ++ codes "\n"
+    ++ codes " r6=" ++ hexadecimal (slice_index f.saved 0) ++ codes " r7=" ++ hexadecimal (slice_index f.saved 1)
+    ++ codes " r8=" ++ hexadecimal (slice_index f.saved 2) ++ codes " r9=" ++ hexadecimal (slice_index f.saved 3) ++ codes "\n"
 
 -- The depth, and a line for each pushed frame, the innermost first.
 unfoldable pub text_of_frames : State → List ℕ

@@ -1,13 +1,13 @@
 //! The text of bytes of memory.
-ghost use Rattle.std.specs.Prelude.{◌≡◌, ◌≤◌, ◌*◌, IsSome, length};
+ghost use Rattle.std.specs.Prelude.{◌≡◌, ◌*◌, ◌++◌, IsSome, codes, length};
 ghost use Rattle.hex.specs.Hex.{encode_lower};
 ghost use Rattle.bpf_machine.specs.Regions.{index_of};
-ghost use Rattle.counted_io.specs.Writing.{WritesAfter};
+ghost use Rattle.counted_io.specs.Writing.{WritesAfter, hexadecimal};
 ghost use Rattle.bpfdb_replies.specs.Texts.{text_of_bytes};
 
 use bpf_machine::Cpu;
 use bpfdb_commands::Span;
-use counted_io::{Counted, WriteFault, put, put_hexadecimal};
+use counted_io::{Counted, Piece, WriteFault, put_all};
 use hex::encode_to_slice;
 use std::io::Write;
 
@@ -28,40 +28,35 @@ pub fn put_bytes<W: Write>(
 {
     match cpu.peek(address, span.get() as usize) {
         Some(run) => {
-            let begun = put_hexadecimal(writer, so_far, address);
-            let parted = put(writer, begun, b": ");
-            let told = put_run(writer, parted, run);
-            put(writer, told, b"\n")
+            let mut digits = [0; MOST_DIGITS];
+            put_run(writer, so_far, address, run, &mut digits[..2 * run.len()])
         }
         None => unreachable!(),
     }
 }
 
-/// Writes the digits of at most 256 bytes.
+/// Writes an address and the bytes of a run, by a buffer of as many digits.
 fn put_run<W: Write>(
     writer: &mut Counted<W>,
     so_far: Result<(), WriteFault>,
-    run: &[u8],
-) -> Result<(), WriteFault>
-    requires { length run.now ≤ 256 }
-    ensures { WritesAfter W.contents writer.old so_far writer.new result (encode_lower run.now) }
-{
-    let mut buffer = [0; MOST_DIGITS];
-    put_digits(writer, so_far, run, &mut buffer[..2 * run.len()])
-}
-
-/// Writes the digits of bytes, by a buffer of as many.
-fn put_digits<W: Write>(
-    writer: &mut Counted<W>,
-    so_far: Result<(), WriteFault>,
+    address: u64,
     run: &[u8],
     digits: &mut [u8],
 ) -> Result<(), WriteFault>
     requires { length digits.old ≡ 2 * length run.now }
-    ensures { WritesAfter W.contents writer.old so_far writer.new result (encode_lower run.now) }
+    ensures { WritesAfter W.contents writer.old so_far writer.new result
+        (hexadecimal address ++ codes ": " ++ encode_lower run.now ++ codes "\n") }
 {
     match encode_to_slice(run, digits) {
-        Ok(()) => put(writer, so_far, digits),
+        Ok(()) => {
+            let line = [
+                Piece::Hexadecimal(address),
+                Piece::Text(b": "),
+                Piece::Text(digits),
+                Piece::Text(b"\n"),
+            ];
+            put_all(writer, so_far, &line)
+        }
         Err(_) => unreachable!(),
     }
 }

@@ -2,11 +2,12 @@
 ghost use Rattle.counted_io.specs.Writing.{WritesAfter};
 ghost use Rattle.bpfdb_replies.specs.Texts.{text_of_change, text_of_history, text_of_unchanged};
 
-use counted_io::{Counted, WriteFault, put, put_decimal, put_hexadecimal};
+use counted_io::{Counted, Piece, WriteFault, put_all};
 use std::io::Write;
 
 /// Writes how many moves and commands that moved are kept, and how many bytes of the journal's size
 /// they take.
+#[tactic(auto, unfolding(crate::specs::Texts::text_of_history))]
 pub fn put_history<W: Write>(
     writer: &mut Counted<W>,
     so_far: Result<(), WriteFault>,
@@ -18,14 +19,17 @@ pub fn put_history<W: Write>(
     ensures { WritesAfter W.contents writer.old so_far writer.new result
         (text_of_history moves commands weight size) }
 {
-    let counted = put_decimal(writer, so_far, moves as u64);
-    let named = put(writer, counted, b" moves, ");
-    let marked = put_decimal(writer, named, commands as u64);
-    let parted = put(writer, marked, b" commands, ");
-    let weighed = put_decimal(writer, parted, weight as u64);
-    let within = put(writer, weighed, b" of ");
-    let sized = put_decimal(writer, within, size as u64);
-    put(writer, sized, b" bytes\n")
+    let line = [
+        Piece::Decimal(moves as u64),
+        Piece::Text(b" moves, "),
+        Piece::Decimal(commands as u64),
+        Piece::Text(b" commands, "),
+        Piece::Decimal(weight as u64),
+        Piece::Text(b" of "),
+        Piece::Decimal(size as u64),
+        Piece::Text(b" bytes\n"),
+    ];
+    put_all(writer, so_far, &line)
 }
 
 /// Writes how many moves back a byte was changed, and its values before and after.
@@ -39,16 +43,22 @@ pub fn put_change<W: Write>(
     ensures { WritesAfter W.contents writer.old so_far writer.new result
         (text_of_change moves old new) }
 {
-    let begun = put(writer, so_far, b"changed ");
-    let counted = put_decimal(writer, begun, moves);
-    let named = put(writer, counted, b" moves back: ");
-    let before = put_hexadecimal(writer, named, u64::from(old));
-    let parted = put(writer, before, b" to ");
-    let after = put_hexadecimal(writer, parted, u64::from(new));
-    put(writer, after, b"\n")
+    let before = u64::from(old);
+    let after = u64::from(new);
+    let line = [
+        Piece::Text(b"changed "),
+        Piece::Decimal(moves),
+        Piece::Text(b" moves back: "),
+        Piece::Hexadecimal(before),
+        Piece::Text(b" to "),
+        Piece::Hexadecimal(after),
+        Piece::Text(b"\n"),
+    ];
+    put_all(writer, so_far, &line)
 }
 
 /// Writes how many moves are kept, none of which changed a byte.
+#[tactic(auto, unfolding(crate::specs::Texts::text_of_unchanged))]
 pub fn put_unchanged<W: Write>(
     writer: &mut Counted<W>,
     so_far: Result<(), WriteFault>,
@@ -56,7 +66,10 @@ pub fn put_unchanged<W: Write>(
 ) -> Result<(), WriteFault>
     ensures { WritesAfter W.contents writer.old so_far writer.new result (text_of_unchanged moves) }
 {
-    let begun = put(writer, so_far, b"not changed in ");
-    let counted = put_decimal(writer, begun, moves as u64);
-    put(writer, counted, b" kept moves\n")
+    let line = [
+        Piece::Text(b"not changed in "),
+        Piece::Decimal(moves as u64),
+        Piece::Text(b" kept moves\n"),
+    ];
+    put_all(writer, so_far, &line)
 }

@@ -6,7 +6,7 @@ ghost use Rattle.bpfdb_replies.specs.Texts.{text_of_move, text_of_why};
 use super::place::put_place;
 use crate::why::Why;
 use bpf_machine::Cpu;
-use counted_io::{Counted, WriteFault, put, put_decimal};
+use counted_io::{Counted, Piece, WriteFault, put, put_all};
 use std::io::Write;
 
 impl Why {
@@ -39,10 +39,14 @@ pub fn put_move<W: Write>(
     ensures { WritesAfter W.contents writer.old so_far writer.new result
         (text_of_move moves way.now why cpu.now) }
 {
-    let counted = put_decimal(writer, so_far, moves);
-    let moved = put(writer, counted, way);
-    let stopped = put(writer, moved, why.text().as_bytes());
-    let parted = put(writer, stopped, b"; ");
-    let placed = put_place(writer, parted, cpu);
+    let why = why.text().as_bytes();
+    let told = [
+        Piece::Decimal(moves),
+        Piece::Text(way),
+        Piece::Text(why),
+        Piece::Text(b"; "),
+    ];
+    let stopped = put_all(writer, so_far, &told);
+    let placed = put_place(writer, stopped, cpu);
     put(writer, placed, b"\n")
 }

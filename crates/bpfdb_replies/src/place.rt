@@ -1,11 +1,11 @@
 //! The text of where a machine stands.
 ghost use Rattle.counted_io.specs.Writing.{Writes, WritesAfter};
-ghost use Rattle.bpfdb_replies.specs.Texts.{place, text_of_fault};
+ghost use Rattle.bpfdb_replies.specs.Texts.{place};
 
 use super::instructions::put_at;
 use super::registers::number_in;
 use bpf_machine::{Cpu, Fault, Status};
-use counted_io::{Counted, WriteFault, put, put_decimal, put_hexadecimal};
+use counted_io::{Counted, Piece, WriteFault, put, put_all};
 use std::io::Write;
 
 /// Writes where a machine stands, without a line feed: the slot and the instruction to run, or how
@@ -17,6 +17,7 @@ pub fn write_place<W: Write>(cpu: &Cpu, writer: &mut Counted<W>) -> Result<(), W
 }
 
 /// Writes where a machine stands.
+#[tactic(auto, unfolding(crate::specs::Texts::place))]
 pub fn put_place<W: Write>(
     writer: &mut Counted<W>,
     so_far: Result<(), WriteFault>,
@@ -24,44 +25,45 @@ pub fn put_place<W: Write>(
 ) -> Result<(), WriteFault>
     ensures { WritesAfter W.contents writer.old so_far writer.new result (place cpu.now) }
 {
+    let pc = cpu.pc();
+    let slot = u64::from(pc);
     match cpu.status() {
         Status::Running => {
             cpu.invariant();
             let begun = put(writer, so_far, b"at ");
-            put_at(writer, begun, cpu.program(), usize::from(cpu.pc()))
+            put_at(writer, begun, cpu.program(), usize::from(pc))
         }
         Status::Exited => {
-            let begun = put(writer, so_far, b"exited at ");
-            let slot = put_decimal(writer, begun, u64::from(cpu.pc()));
-            let parted = put(writer, slot, b": r0 ");
-            put_hexadecimal(writer, parted, number_in(cpu, 0))
+            let answer = number_in(cpu, 0);
+            let place = [
+                Piece::Text(b"exited at "),
+                Piece::Decimal(slot),
+                Piece::Text(b": r0 "),
+                Piece::Hexadecimal(answer),
+            ];
+            put_all(writer, so_far, &place)
         }
-        Status::Faulted(fault) => {
-            let begun = put(writer, so_far, b"fault ");
-            let said = put_fault(writer, begun, fault);
-            let parted = put(writer, said, b" at ");
-            put_decimal(writer, parted, u64::from(cpu.pc()))
+        Status::Faulted(Fault::Access { address }) => {
+            let place = [
+                Piece::Text(b"fault access "),
+                Piece::Hexadecimal(address),
+                Piece::Text(b" at "),
+                Piece::Decimal(slot),
+            ];
+            put_all(writer, so_far, &place)
         }
-    }
-}
-
-/// Writes why a machine faulted.
-pub fn put_fault<W: Write>(
-    writer: &mut Counted<W>,
-    so_far: Result<(), WriteFault>,
-    fault: Fault,
-) -> Result<(), WriteFault>
-    ensures { WritesAfter W.contents writer.old so_far writer.new result (text_of_fault fault) }
-{
-    match fault {
-        Fault::Access { address } => {
-            let named = put(writer, so_far, b"access ");
-            put_hexadecimal(writer, named, address)
+        Status::Faulted(Fault::Token { token }) => {
+            let place = [
+                Piece::Text(b"fault token "),
+                Piece::Hexadecimal(token),
+                Piece::Text(b" at "),
+                Piece::Decimal(slot),
+            ];
+            put_all(writer, so_far, &place)
         }
-        Fault::Token { token } => {
-            let named = put(writer, so_far, b"token ");
-            put_hexadecimal(writer, named, token)
+        Status::Faulted(Fault::Depth) => {
+            let place = [Piece::Text(b"fault depth at "), Piece::Decimal(slot)];
+            put_all(writer, so_far, &place)
         }
-        Fault::Depth => put(writer, so_far, b"depth"),
     }
 }

@@ -3,7 +3,7 @@ ghost use Rattle.counted_io.specs.Writing.{WritesAfter};
 ghost use Rattle.bpfdb_commands.specs.Refusals.{refusal_text};
 
 use bpfdb_commands::Refusal;
-use counted_io::{Counted, WriteFault, put, put_decimal};
+use counted_io::{Counted, Piece, WriteFault, put_all};
 use std::io::Write;
 
 /// Writes the line of a refusal.
@@ -14,9 +14,14 @@ pub fn put_refusal<W: Write>(
 ) -> Result<(), WriteFault>
     ensures { WritesAfter W.contents writer.old so_far writer.new result (refusal_text refusal) }
 {
-    let begun = put(writer, so_far, b"refused Q");
-    let numbered = put_decimal(writer, begun, u64::from(refusal.number()));
-    let parted = put(writer, numbered, b": ");
-    let said = put(writer, parted, refusal.text().as_bytes());
-    put(writer, said, b"\n")
+    let number = u64::from(refusal.number());
+    let text = refusal.text().as_bytes();
+    let line = [
+        Piece::Text(b"refused Q"),
+        Piece::Decimal(number),
+        Piece::Text(b": "),
+        Piece::Text(text),
+        Piece::Text(b"\n"),
+    ];
+    put_all(writer, so_far, &line)
 }

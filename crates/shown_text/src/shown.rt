@@ -1,12 +1,11 @@
 //! Names and texts of several lines, written as they are shown.
-ghost use Rattle.std.specs.Prelude.{◌≡◌, ◌<◌, ◌&&◌, ◌||◌, ◌==◌, not, false, flat_map, IfSome, string_bytes};
-ghost use Rattle.std.specs.Fmt.{digit_glyph};
+ghost use Rattle.std.specs.Prelude.{◌≡◌, ◌&&◌, ◌||◌, ◌==◌, not, flat_map, IfSome, string_bytes};
 ghost use Rattle.bstr.specs.Utf8.{pieces, spans_from};
 ghost use Rattle.counted_io.specs.Writing.{Writes, WritesAfter};
-ghost use Rattle.shown_text.specs.Shown.{shown, shown_char, shown_lines, shown_span, spelled, steers as steers_by};
+ghost use Rattle.shown_text.specs.Shown.{shown, shown_char, shown_lines, shown_span, steers as steers_by};
 
 use bstr::ByteSlice;
-use counted_io::{Counted, WriteFault, put};
+use counted_io::{Counted, WriteFault, hex_digit, put};
 use std::alloc::Global;
 use std::io::Write;
 
@@ -110,7 +109,7 @@ pub fn steers(char: char) -> bool
     )
 }
 
-/// Writes a character's bytes, as they are or each spelled out.
+/// Writes a character's bytes, as they are or each as `\x` and two hexadecimal digits.
 fn put_char<W: Write>(
     writer: &mut Counted<W>,
     so_far: Result<(), WriteFault>,
@@ -121,51 +120,12 @@ fn put_char<W: Write>(
         (shown_char as_is bytes.now) }
 {
     if as_is {
-        put(writer, so_far, bytes)
-    } else {
-        put_spelled(writer, so_far, bytes)
+        return put(writer, so_far, bytes);
     }
-}
-
-/// Writes each byte as `\x` and two hexadecimal digits.
-fn put_spelled<W: Write>(
-    writer: &mut Counted<W>,
-    so_far: Result<(), WriteFault>,
-    bytes: &[u8],
-) -> Result<(), WriteFault>
-    ensures { WritesAfter W.contents writer.old so_far writer.new result
-        (flat_map spelled bytes.now) }
-{
     let mut told = so_far;
     for byte in bytes {
-        told = put_byte(writer, told, *byte);
+        let spelled = [b'\\', b'x', hex_digit(*byte / 16), hex_digit(*byte % 16)];
+        told = put(writer, told, &spelled);
     }
     told
-}
-
-/// Writes a byte as `\x` and two hexadecimal digits.
-fn put_byte<W: Write>(
-    writer: &mut Counted<W>,
-    so_far: Result<(), WriteFault>,
-    byte: u8,
-) -> Result<(), WriteFault>
-    ensures { WritesAfter W.contents writer.old so_far writer.new result (spelled byte) }
-{
-    put(
-        writer,
-        so_far,
-        &[b'\\', b'x', hex_digit(byte / 16), hex_digit(byte % 16)],
-    )
-}
-
-/// A hexadecimal digit, of a number below 16.
-fn hex_digit(value: u8) -> u8
-    requires { value < 16 }
-    ensures { result ≡ digit_glyph false value }
-{
-    if value < 10 {
-        b'0' + value
-    } else {
-        b'a' + (value - 10)
-    }
 }

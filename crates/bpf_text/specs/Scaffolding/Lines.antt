@@ -13,7 +13,8 @@ use Rattle.counted_io.specs.Lines.{trim_start}
 use Rattle.bpf_text.specs.Characters.{is_text}
 use Rattle.bpf_text.specs.Scaffolding.Instructions.{forms_of, insn_with, target_in}
 use Rattle.bpf_text.specs.LineGrammar.{LineReading}
-use Rattle.bpf_text.specs.Scaffolding.Cuts.{before, after, trim, without_comment, is_labelled, mnemonic_part, operands_part}
+use Rattle.counted_io.specs.Cuts.{before, after, trim}
+use Rattle.bpf_text.specs.Scaffolding.Cuts.{without_comment, is_labelled, mnemonic_part, operands_part}
 use Rattle.bpf_text.specs.Scaffolding.Named.{named}
 use Rattle.bpf_text.specs.Scaffolding.Terms.{terms_of}
 

@@ -12,7 +12,8 @@ use Rattle.bpf_text.specs.declared.read.term.Term.TheVariants.{Register, Number 
 use Rattle.bpf_text.specs.declared.read.term.Terms.{Terms}
 use Rattle.counted_io.specs.Numerals.{natural}
 use Rattle.bpf_text.specs.Characters.{is_name}
-use Rattle.bpf_text.specs.Scaffolding.Cuts.{trim, before, first_operand, other_operands}
+use Rattle.counted_io.specs.Cuts.{trim, before}
+use Rattle.bpf_text.specs.Scaffolding.Cuts.{first_operand, other_operands}
 use Rattle.bpf_text.specs.Scaffolding.Tokens.{number_with}
 
 -- Whether a text begins with a minus.

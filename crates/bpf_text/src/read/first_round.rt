@@ -8,12 +8,12 @@ ghost use Rattle.bpf_text.specs.Scaffolding.Rounds.{first_round, nothing, line_e
 ghost use Rattle.bpf_text.specs.Scaffolding.Labels.{labels_in, labels_of, placed_of};
 
 use crate::fault::{AsmFault, LineFault};
-use crate::read::cut::sides;
 use crate::read::labels::{Definition, LabelMap, definition_of, put_label};
 use crate::read::line::{Line, read_line};
 use crate::read::statement::Statement;
 use crate::read::text_key::TextKey;
 use bpf_isa::MOST_SLOTS;
+use counted_io::sides;
 use indexmap::IndexMap;
 use std::alloc::{AllocError, Global};
 

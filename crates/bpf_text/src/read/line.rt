@@ -5,10 +5,10 @@ ghost use Rattle.bpf_text.specs.Characters.{is_text};
 ghost use Rattle.bpf_text.specs.Scaffolding.Lines.{read_line, line_of};
 
 use crate::fault::LineFault;
-use crate::read::cut::{cut, is_name, is_text, sides, trim};
+use crate::read::characters::{is_name, is_text};
 use crate::read::statement::{Statement, read_statement};
 use crate::read::term::Name;
-use counted_io::trim_start;
+use counted_io::{find, sides, trim, trim_start};
 
 /// What a line says.
 #[derive(Drop)]
@@ -41,14 +41,18 @@ fn are_text(text: &[u8]) -> bool
 fn line_of(code: &[u8]) -> Line<'_>
     ensures { result ≡ line_of code.now }
 {
-    match cut(code, b':') {
-        (name, Some(rest)) if is_name(name) => Line {
-            label: Some(Name { bytes: name }),
-            statement: read_statement(trim(rest)),
-        },
-        _ => Line {
+    let colon = find(code, b':');
+    if colon < code.len() && is_name(&code[..colon]) {
+        Line {
+            label: Some(Name {
+                bytes: &code[..colon],
+            }),
+            statement: read_statement(trim(&code[colon + 1..])),
+        }
+    } else {
+        Line {
             label: None,
             statement: read_statement(trim(code)),
-        },
+        }
     }
 }

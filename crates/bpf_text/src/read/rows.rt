@@ -11,9 +11,8 @@ ghost use Rattle.bpf_text.specs.Scaffolding.Rows.{rows, slots_said};
 
 use crate::fault::{AsmFault, LineFault};
 use crate::read::assembler::assemble;
-use crate::read::cut::sides;
 use crate::read::line::{Line, read_line};
-use counted_io::{Counted, WriteFault, put, put_decimal};
+use counted_io::{Counted, Piece, WriteFault, put_all, sides};
 use std::alloc::{AllocError, Global};
 use std::io::Write;
 
@@ -107,9 +106,12 @@ fn put_row<W: Write>(
     ensures { WritesAfter W.contents writer.old so_far writer.new result
         (row slot line labels.now) }
 {
-    let begun = put_decimal(writer, so_far, slot);
-    let parted = put(writer, begun, b" ");
-    let placed = put_decimal(writer, parted, line);
-    let labelled = put(writer, placed, labels);
-    put(writer, labelled, b"\n")
+    let row = [
+        Piece::Decimal(slot),
+        Piece::Text(b" "),
+        Piece::Decimal(line),
+        Piece::Text(labels),
+        Piece::Text(b"\n"),
+    ];
+    put_all(writer, so_far, &row)
 }

@@ -6,13 +6,12 @@ ghost use Rattle.bpf_text.specs.Scaffolding.Lines.{read_statement, of_mnemonic};
 
 use crate::fault::LineFault;
 use crate::names::named;
-use crate::read::cut::trim;
 use crate::read::term::{Name, OperandForm, OperandForms, Terms, read_terms};
 use bpf_isa::{
     BinaryOp, Condition, Extension, Insn, Mnemonic, Size, Source, SourceKind, WideKind, WideValue,
     Width,
 };
-use counted_io::find_blank;
+use counted_io::{find_blank, trim};
 
 /// An instruction of a listing, and the name of its target, if it has one.
 #[derive(Drop)]

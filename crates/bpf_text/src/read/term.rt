@@ -6,10 +6,10 @@ ghost use Rattle.bpf_text.specs.Scaffolding.Instructions.{register_in, unsigned_
 ghost use Rattle.bpf_text.specs.Scaffolding.Terms.{term_of, memory, displacement, base_and_displacement, three, terms_of};
 ghost use Rattle.bpf_text.specs.Scaffolding.Cuts.{first_operand, other_operands};
 
-use crate::read::cut::{find, is_name, sides, trim};
+use crate::read::characters::is_name;
 use crate::read::number::{Number, signed_number};
 use bpf_isa::{Address, Reg, Source};
-use counted_io::{Numeral, natural};
+use counted_io::{Numeral, find, natural, sides, trim};
 use std::marker::Model;
 
 /// How an operand is written.

@@ -6,10 +6,10 @@ ghost use Rattle.bpf_text.specs.Scaffolding.Slots.{IsSlot};
 ghost use Rattle.bpf_text.specs.Canonical.{canon, is_target, slot_lines, label_line};
 ghost use Rattle.counted_io.specs.Writing.{WritesAfter};
 
-use crate::write::insn::{put_insn, put_label};
+use crate::write::insn::put_insn;
 use crate::write::operand::target_of;
 use bpf_isa::{Insn, Program};
-use counted_io::{Counted, WriteFault, put};
+use counted_io::{Counted, Piece, WriteFault, put, put_all};
 use std::alloc::{AllocError, Global};
 use std::io::Write;
 
@@ -59,8 +59,12 @@ fn put_label_line<W: Write>(
         (label_line labelled slot) }
 {
     if labelled {
-        let named = put_label(writer, so_far, slot as u64);
-        put(writer, named, b":\n")
+        let line = [
+            Piece::Text(b"L"),
+            Piece::Decimal(slot as u64),
+            Piece::Text(b":\n"),
+        ];
+        put_all(writer, so_far, &line)
     } else {
         so_far
     }

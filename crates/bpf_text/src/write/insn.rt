@@ -1,15 +1,15 @@
 //! The canonical text of an instruction.
-ghost use Rattle.std.specs.Prelude.{◌≤◌, ◌++◌};
+ghost use Rattle.std.specs.Prelude.{◌≤◌};
 ghost use Rattle.bpf_isa.specs.Checker.{most_slots};
-ghost use Rattle.bpf_isa.specs.Registers.{register_text};
-ghost use Rattle.bpf_text.specs.Mnemonics.{name_of};
-ghost use Rattle.bpf_text.specs.Operands.{offset_text, operand_text, operands_text, text_of_insn, label_text};
+ghost use Rattle.bpf_text.specs.Operands.{operand_text, operands_text, text_of_insn};
 ghost use Rattle.counted_io.specs.Writing.{Writes, WritesAfter};
 
 use crate::names::{stem_of, suffix_of};
 use crate::write::operand::{Operand, Operands, operands_of};
 use bpf_isa::{Insn, Mnemonic, Reg};
-use counted_io::{Counted, WriteFault, put, put_decimal, put_hexadecimal, put_signed};
+use counted_io::{
+    Counted, Piece, WriteFault, put, put_all, put_decimal, put_hexadecimal, put_signed,
+};
 use std::io::Write;
 
 /// Writes the canonical text of the instruction in this slot, 0 to 65,535, without a line feed.
@@ -35,20 +35,12 @@ pub fn put_insn<W: Write>(
     requires { slot ≤ most_slots }
     ensures { WritesAfter W.contents writer.old so_far writer.new result (text_of_insn slot insn) }
 {
-    let named = put_name(writer, so_far, &Mnemonic::of(&insn));
+    let mnemonic = Mnemonic::of(&insn);
+    let stem = stem_of(&mnemonic).as_bytes();
+    let suffix = suffix_of(&mnemonic).as_bytes();
+    let name = [Piece::Text(stem), Piece::Text(suffix)];
+    let named = put_all(writer, so_far, &name);
     put_operands(writer, named, &operands_of(slot, &insn))
-}
-
-/// The name of a mnemonic.
-fn put_name<W: Write>(
-    writer: &mut Counted<W>,
-    so_far: Result<(), WriteFault>,
-    mnemonic: &Mnemonic,
-) -> Result<(), WriteFault>
-    ensures { WritesAfter W.contents writer.old so_far writer.new result (name_of mnemonic.now) }
-{
-    let stem = put(writer, so_far, stem_of(mnemonic).as_bytes());
-    put(writer, stem, suffix_of(mnemonic).as_bytes())
 }
 
 /// Each operand after what stands before it: a blank, or a comma and a blank.
@@ -62,30 +54,25 @@ fn put_operands<W: Write>(
 {
     match operands {
         Operands::Nothing => so_far,
-        Operands::One(first) => put_next(writer, so_far, b" ", first),
+        Operands::One(first) => {
+            let begun = put(writer, so_far, b" ");
+            put_operand(writer, begun, first)
+        }
         Operands::Two(first, second) => {
-            let one = put_next(writer, so_far, b" ", first);
-            put_next(writer, one, b", ", second)
+            let begun = put(writer, so_far, b" ");
+            let one = put_operand(writer, begun, first);
+            let parted = put(writer, one, b", ");
+            put_operand(writer, parted, second)
         }
         Operands::Three(first, second, third) => {
-            let one = put_next(writer, so_far, b" ", first);
-            let two = put_next(writer, one, b", ", second);
-            put_next(writer, two, b", ", third)
+            let begun = put(writer, so_far, b" ");
+            let one = put_operand(writer, begun, first);
+            let parted = put(writer, one, b", ");
+            let two = put_operand(writer, parted, second);
+            let parted_again = put(writer, two, b", ");
+            put_operand(writer, parted_again, third)
         }
     }
-}
-
-fn put_next<W: Write>(
-    writer: &mut Counted<W>,
-    so_far: Result<(), WriteFault>,
-    before: &[u8],
-    operand: &Operand,
-) -> Result<(), WriteFault>
-    ensures { WritesAfter W.contents writer.old so_far writer.new result
-        (before.now ++ operand_text operand.now) }
-{
-    let separated = put(writer, so_far, before);
-    put_operand(writer, separated, operand)
 }
 
 fn put_operand<W: Write>(
@@ -97,24 +84,20 @@ fn put_operand<W: Write>(
         (operand_text operand.now) }
 {
     match *operand {
-        Operand::Register(reg) => put_register(writer, so_far, reg),
+        Operand::Register(reg) => {
+            let number = u64::from(reg.number());
+            let name = [Piece::Text(b"r"), Piece::Decimal(number)];
+            put_all(writer, so_far, &name)
+        }
         Operand::Signed(value) => put_signed(writer, so_far, i64::from(value)),
         Operand::Unsigned(value) => put_decimal(writer, so_far, u64::from(value)),
         Operand::Hexadecimal(value) => put_hexadecimal(writer, so_far, value),
         Operand::Memory(address) => put_memory(writer, so_far, address.base, address.offset),
-        Operand::Target(slot) => put_target(writer, so_far, slot),
+        Operand::Target(slot) => {
+            let name = [Piece::Text(b"L"), Piece::Signed(slot)];
+            put_all(writer, so_far, &name)
+        }
     }
-}
-
-fn put_register<W: Write>(
-    writer: &mut Counted<W>,
-    so_far: Result<(), WriteFault>,
-    reg: Reg,
-) -> Result<(), WriteFault>
-    ensures { WritesAfter W.contents writer.old so_far writer.new result (register_text reg) }
-{
-    let letter = put(writer, so_far, b"r");
-    put_decimal(writer, letter, u64::from(reg.number()))
 }
 
 fn put_memory<W: Write>(
@@ -126,47 +109,24 @@ fn put_memory<W: Write>(
     ensures { WritesAfter W.contents writer.old so_far writer.new result
         (operand_text (Operand.Memory (record { base = base; offset = offset }))) }
 {
-    let opened = put(writer, so_far, b"[");
-    let based = put_register(writer, opened, base);
-    let moved = put_offset(writer, based, offset);
-    put(writer, moved, b"]")
-}
-
-fn put_offset<W: Write>(
-    writer: &mut Counted<W>,
-    so_far: Result<(), WriteFault>,
-    offset: i16,
-) -> Result<(), WriteFault>
-    ensures { WritesAfter W.contents writer.old so_far writer.new result (offset_text offset) }
-{
+    let number = u64::from(base.number());
+    let distance = i64::from(offset);
     if offset < 0 {
-        put_signed(writer, so_far, i64::from(offset))
+        let address = [
+            Piece::Text(b"[r"),
+            Piece::Decimal(number),
+            Piece::Signed(distance),
+            Piece::Text(b"]"),
+        ];
+        put_all(writer, so_far, &address)
     } else {
-        let sign = put(writer, so_far, b"+");
-        put_signed(writer, sign, i64::from(offset))
+        let address = [
+            Piece::Text(b"[r"),
+            Piece::Decimal(number),
+            Piece::Text(b"+"),
+            Piece::Signed(distance),
+            Piece::Text(b"]"),
+        ];
+        put_all(writer, so_far, &address)
     }
-}
-
-fn put_target<W: Write>(
-    writer: &mut Counted<W>,
-    so_far: Result<(), WriteFault>,
-    slot: i64,
-) -> Result<(), WriteFault>
-    ensures { WritesAfter W.contents writer.old so_far writer.new result
-        (operand_text (Operand.Target slot)) }
-{
-    let begun = put(writer, so_far, b"L");
-    put_signed(writer, begun, slot)
-}
-
-/// Writes the name of the label of a slot after what was written so far, unless that failed.
-pub fn put_label<W: Write>(
-    writer: &mut Counted<W>,
-    so_far: Result<(), WriteFault>,
-    slot: u64,
-) -> Result<(), WriteFault>
-    ensures { WritesAfter W.contents writer.old so_far writer.new result (label_text slot) }
-{
-    let letter = put(writer, so_far, b"L");
-    put_decimal(writer, letter, slot)
 }

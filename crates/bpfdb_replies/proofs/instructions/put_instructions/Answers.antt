@@ -1,6 +1,7 @@
 use Rattle.std.proofs.Common.{◌≡◌, ◌+◌, ◌-◌, ◌++◌, codes, ℕ, zero, suc, [], Some, None, refl, sym, ap, ◌∙◌, arith}
 use Rattle.bpf_isa.specs.Programs.{Checked, insn_at, slots_of}
 use Rattle.bpf_isa.specs.declared.instruction.Insn.{Insn}
+use Rattle.counted_io.proofs.Appending.{WritesAfter-WritesAfter}
 use Rattle.bpfdb_replies.specs.Texts.{instructions_from, text_at}
 use Rattle.bpfdb_replies.proofs.Telling.{Telling-start, Telling-step, Telling-end}
 use Rattle.bpfdb_replies.proofs.instructions.put_instructions.Goals as goal
@@ -30,7 +31,8 @@ loop-preserved g c =
     let k = c.loop.counter in
     let left : c.get-end.result - k ≡ suc (c.get-end.result - (k + 1)) = omega (arith, c.loop-test.true) in
     rw c.slots-at.ensures.value
-    (Telling-step _ _ _ _ _ _ _ _ _ _ _ c.loop.invariant c.put_line-told.ensures
+    (Telling-step _ _ _ _ _ _ _ _ _ _ _ c.loop.invariant
+    (WritesAfter-WritesAfter g.W.Write.contents _ _ _ _ _ _ _ _ _ c.put_at-shown.ensures c.put-told.ensures refl)
     (ap (instructions_from p c.loop.at) left ∙ more p c.loop.at _ c.in-Some.insn (sym c.in-Some.ensures)))
 
 pub returns-in-None : goal.returns-in-None

@@ -1,7 +1,7 @@
 -- Each turn is a step of the round.
 use Rattle.std.proofs.Common.{◌<◌, ◌∙◌, length, ap, sym, arith}
 use Rattle.std.proofs.lemmas.Grind.{common_steps}
-use Rattle.bpf_text.proofs.Cutting.{length-after}
+use Rattle.counted_io.proofs.Cutting.{length-after}
 use Rattle.bpf_text.proofs.Rounds.{first_round-Err, first_round-Ok}
 use Rattle.bpf_text.specs.Scaffolding.Labels.{labels_of, placed_of}
 use Rattle.bpf_text.proofs.read.first_round.first_round.Goals as goal

@@ -2,7 +2,7 @@
 use Rattle.std.proofs.Common.{◌<◌, ◌+◌, ◌≤◌, ◌∙◌, ◌++◌, [], length, ap, sym, arith, append_assoc, map}
 use Rattle.std.proofs.lemmas.Grind.{common_steps}
 use Rattle.counted_io.specs.Lines.{lines}
-use Rattle.bpf_text.proofs.Cutting.{length-after}
+use Rattle.counted_io.proofs.Cutting.{length-after}
 use Rattle.bpf_text.proofs.LineTables.{rows-none, rows-some}
 use Rattle.bpf_text.specs.LineTable.{row}
 use Rattle.bpf_text.specs.Scaffolding.Lines.{read_line}

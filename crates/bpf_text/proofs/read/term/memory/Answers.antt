@@ -1,6 +1,6 @@
 -- What stands between the brackets.
 use Rattle.std.proofs.Common.{◌≡◌, ◌∙◌, ap, sym, refl, drop, true}
-use Rattle.bpf_text.specs.Scaffolding.Cuts.{before}
+use Rattle.counted_io.specs.Cuts.{before}
 use Rattle.bpf_text.specs.Scaffolding.Terms.{base_and_displacement, is_bracketed, memory}
 use Rattle.bpf_text.proofs.OperandGrammar.{bracketed-inside}
 use Rattle.bpf_text.proofs.read.term.memory.Goals as goal

@@ -1,16 +1,16 @@
--- A bracket, the register, the offset and a bracket.
-use Rattle.std.proofs.Common.{codes, refl, ap, ◌++◌, w16}
+-- A plus stands before a number that isn't below zero.
+use Rattle.std.proofs.Common.{codes, ap, ◌∙◌, ◌++◌, decimal, append_assoc, w16}
 use Rattle.std.proofs.lemmas.Int.{to_z-of_z}
-use Rattle.bpf_isa.specs.Registers.{register_text}
 use Rattle.bpf_text.specs.Operands.{offset_text}
-use Rattle.counted_io.proofs.Appending.{WritesAfter-WritesAfter}
+use Rattle.bpf_text.proofs.Offsets.{offset_text-pos}
+use Rattle.counted_io.proofs.Appending.{WritesAfter-text}
 use Rattle.bpf_text.proofs.write.insn.put_memory.Goals as goal
 
-pub returns : goal.returns
-returns g c =
-    let after = WritesAfter-WritesAfter g.W.Write.contents in
-    let based = after _ _ _ _ _ _ (codes "[") (register_text c.args.base) _ c.put-opened.ensures c.put_register-based.ensures refl in
-    let offset = ap (λ z. codes "[" ++ register_text c.args.base ++ offset_text z)
-    (to_z-of_z w16 c.args.offset c.ranges.offset) in
-    let moved = after _ _ _ _ _ _ _ _ _ based c.put_offset-moved.ensures offset in
-    after _ _ _ _ _ _ _ (codes "]") _ moved c.put.ensures refl
+pub returns-else-offset-lt0 : goal.returns-else-offset-lt0
+returns-else-offset-lt0 g c =
+    let offset = c.args.offset in
+    let begun = codes "[r" ++ decimal c.from-number.result in
+    let moved = offset_text-pos offset c.from-distance.result c.if-offset-lt0.false c.ranges.offset (c.from-distance.ensures ∙ to_z-of_z w16 offset c.ranges.offset) in
+    WritesAfter-text g.W.Write.contents _ _ _ _ _ _ c.put_all-else-offset-lt0.ensures
+    (ap (λ s. s ++ codes "]") (append_assoc begun (codes "+") _ ∙ ap (λ s. begun ++ s) moved)
+    ∙ ap (λ n. (codes "[r" ++ decimal n) ++ offset_text offset ++ codes "]") (c.from-number.ensures ∙ c.number.ensures.value))

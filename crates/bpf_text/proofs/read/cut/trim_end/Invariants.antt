@@ -1,9 +1,0 @@
-use Rattle.std.proofs.Common.{◌≡◌, ◌≤◌, take, length}
-use Rattle.bpf_text.specs.Scaffolding.Cuts.{trim_end}
-use Rattle.bpf_text.proofs.read.cut.trim_end.Given as goal
-
-abbrev pub invariant-loop-end : goal.invariant-loop-end
-invariant-loop-end l = (l.end ≤ length l.text) × (trim_end (take l.end l.text) ≡ trim_end l.text)
-
-abbrev pub decreases-loop-end : goal.decreases-loop-end
-decreases-loop-end l = l.end

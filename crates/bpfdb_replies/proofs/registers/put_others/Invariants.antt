@@ -1,7 +1,0 @@
-use Rattle.std.proofs.Common.{◌-◌}
-use Rattle.bpfdb_replies.proofs.Telling.{Telling}
-use Rattle.bpfdb_replies.specs.Texts.{registers_from}
-use Rattle.bpfdb_replies.proofs.registers.put_others.Given as goal
-
-abbrev pub invariant-loop-number : goal.invariant-loop-number
-invariant-loop-number g l = Telling g.W.Write.contents l.fn.writer l.fn.so_far l.writer l.told (registers_from l.cpu l.number (11 - l.number)) (registers_from l.cpu 1 10)
