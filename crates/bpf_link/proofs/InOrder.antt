@@ -8,7 +8,6 @@ use Rattle.std.proofs.lemmas.Grind.{common_steps}
 use Rattle.std.proofs.lemmas.Option.{slice_get-map, slice_get-get_or, get_or_from_slice_get}
 use Rattle.std.proofs.lemmas.List.Sorted.{length_permutation, Contains-permutation, IsNonDecreasingBy-from_sort, sum_by-IsPermutation}
 use Rattle.bpf_isa.specs.declared.maps.MapShape.{MapShape}
-use Rattle.bpf_link.specs.declared.plan.Entries.{Entries}
 use Rattle.bpf_link.specs.Patches.{map_number}
 use Rattle.bpf_link.specs.Shapes.{is_array, shape_at, shapes_at, IsInOrder, AreNumbered}
 
@@ -63,28 +62,28 @@ told : (b : Bool) (shapes all : List MapShape) → shapes ≡ (if b then all els
 told true shapes all e some = e
 told false shapes all e some = absurd (some e)
 
-pub numbered : (object : List ℕ) (definitions : Entries) (maps ordered : List ℕ) (shapes : List MapShape) → IsInOrder maps ordered → shapes ≡ shapes_at object definitions ordered
-    → AreNumbered object definitions maps shapes
-numbered object definitions maps ordered shapes order e = λ place one some.
+pub numbered : (definitions maps ordered : List ℕ) (shapes : List MapShape) → IsInOrder maps ordered → shapes ≡ shapes_at definitions ordered
+    → AreNumbered definitions maps shapes
+numbered definitions maps ordered shapes order e = λ place one some.
     let other = Contains-permutation maps ordered place order.same one in
     let found : get_or ordered other.0 0 ≡ place = get_or_from_slice_get ordered other.0 (get_or ordered other.0 place) 0 (slice_get-get_or ordered other.0 place other.1) ∙ other.2 in
     let up = IsNonDecreasingBy-from_sort (λ (x : ℕ). x) ordered order.ascending in
     let at = stands_at place ordered other.0 (λ i j low high. up i j 0 low high) other.1 found in
     let same : map_number maps place ≡ count_by (λ x. nat_lt x place) ordered = sym (sum_by-IsPermutation _ maps ordered order.same) in
-    let all : shapes ≡ map (shape_at object definitions) ordered = told (list_all (is_array object definitions) ordered) shapes _ e some in
+    let all : shapes ≡ map (shape_at definitions) ordered = told (list_all (is_array definitions) ordered) shapes _ e some in
     let read : slice_get ordered (count_by (λ x. nat_lt x place) ordered) ≡ Some place = slice_get-get_or ordered _ 0 at.inside ∙ ap Some at.found in
     ap (λ (xs : List MapShape). slice_get xs (map_number maps place)) all
-    ∙ ap (slice_get (map (shape_at object definitions) ordered)) same
-    ∙ slice_get-map (shape_at object definitions) ordered (count_by (λ x. nat_lt x place) ordered)
-    ∙ ap (option_map (shape_at object definitions)) read
+    ∙ ap (slice_get (map (shape_at definitions) ordered)) same
+    ∙ slice_get-map (shape_at definitions) ordered (count_by (λ x. nat_lt x place) ordered)
+    ∙ ap (option_map (shape_at definitions)) read
 
 -- there are no more shapes than maps
-pub few : (object : List ℕ) (definitions : Entries) (maps ordered : List ℕ) → IsInOrder maps ordered → length (shapes_at object definitions ordered) ≤ length maps
-few object definitions maps ordered o = by (list_all (is_array object definitions) ordered)
+pub few : (definitions maps ordered : List ℕ) → IsInOrder maps ordered → length (shapes_at definitions ordered) ≤ length maps
+few definitions maps ordered o = by (list_all (is_array definitions) ordered)
   where
     size : length ordered ≡ length maps
     size = length_permutation maps ordered o.same
 
-    by : (b : Bool) → length (if b then map (shape_at object definitions) ordered else []) ≤ length maps
-    by true = let same : length (map (shape_at object definitions) ordered) ≡ length ordered = grind (arith, common_steps) in let whole = size in omega arith
+    by : (b : Bool) → length (if b then map (shape_at definitions) ordered else []) ≤ length maps
+    by true = let same : length (map (shape_at definitions) ordered) ≡ length ordered = grind (arith, common_steps) in let whole = size in omega arith
     by false = omega arith

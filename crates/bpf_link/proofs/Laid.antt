@@ -1,12 +1,13 @@
 -- How the words of a program are laid out.
-use Rattle.std.proofs.Common.{◌≡◌, ◌<◌, ◌+◌, ◌*◌, nat_le, ℕ, List, Result, Ok, length, get_or, ap, sym, ◌∙◌, subst, arith}
+use Rattle.std.proofs.Common.{◌≡◌, ◌<◌, ◌+◌, ◌*◌, nat_le, ℕ, List, Result, Ok, length, get_or, refl, ap, sym, ◌∙◌, subst, arith}
 use Rattle.std.specs.Prelude.{is_some, if◌then◌else◌}
-use Rattle.bpf_link.specs.declared.plan.Plan.{Plan}
+use Rattle.bpf_link.specs.declared.parts.Side.TheVariants.{Code, Text}
 use Rattle.bpf_isa.specs.Checker.{most_slots}
 use Rattle.bpf_link.specs.declared.fault.LinkFault.TheVariants.{TooLong}
-use Rattle.bpf_link.specs.Header.{provided}
-use Rattle.bpf_link.specs.Plans.{after, LiesPlan}
-use Rattle.bpf_link.specs.Data.{data_of}
+use Rattle.bpf_link.specs.Objects.{provided}
+use Rattle.bpf_link.specs.Parts.{AreParts}
+use Rattle.bpf_link.specs.Plans.{after}
+use Rattle.bpf_link.specs.Data.{Numbered, data_of}
 use Rattle.bpf_link.specs.Entries.{entry_of}
 use Rattle.bpf_link.specs.Setup.{stores_of, with_setup}
 use Rattle.bpf_link.specs.Stubs.{answered, answers}
@@ -14,85 +15,72 @@ use Rattle.bpf_link.specs.declared.stubs.Stub.{Stub}
 use Rattle.bpf_link.specs.declared.fault.LinkFault.{LinkFault}
 use Rattle.bpf_link.specs.Links.{patch_width, maps_of, Answered, words_of, program_words}
 use Rattle.bpf_link.specs.Laid.{IsDone, IsLaid, IsLaidOut}
-use Rattle.bpf_link.proofs.Inversions.{after_ok, ok_same, provided_ok, names_slot}
+use Rattle.bpf_link.proofs.Inversions.{count, from, after_ok, ok_same, provided_ok, names_slot}
 use Rattle.bpf_link.proofs.LaidOut.{Apart, Done, raw, raw_length, raw_code, raw_text, done, both_kept, byte_kept, plain_apart, behind, text_behind}
 use Rattle.bpf_link.proofs.Relocated.{IsFresh, all_done}
 
-fresh_code : (object : List ℕ) (plan : Plan) (maps taken words : List ℕ) → LiesPlan object plan → Done object plan maps taken words → IsFresh object plan.code (raw object plan)
-fresh_code object plan maps taken words lies d = record {
-  fits = d.code_fits;
-  all = λ j within. ap (λ n. get_or (raw object plan) n 0) (omega (arith, lies.begins)) ∙ raw_code object plan j lies within;
-}
+fresh_code : (placed : Numbered) (words : List ℕ) → AreParts placed.plan.parts → Done placed words → IsFresh placed Code (raw placed)
+fresh_code placed words whole d = record { fits = d.code_fits; all = λ j within. ap (λ n. get_or (raw placed) n 0) (omega arith) ∙ raw_code placed j whole within }
 
-fresh_text : (object : List ℕ) (plan : Plan) (maps taken words : List ℕ) → LiesPlan object plan → (d : Done object plan maps taken words) → IsFresh object plan.text d.between
-fresh_text object plan maps taken words lies d = record {
+fresh_text : (placed : Numbered) (words : List ℕ) → AreParts placed.plan.parts → (d : Done placed words) → IsFresh placed Text d.between
+fresh_text placed words whole d = record {
   fits = d.text_fits;
   all = λ j within.
-      let joins : plan.text.first ≡ plan.code.slots.count = lies.joins (omega arith) in
-      byte_kept object plan maps taken plan.code (raw object plan) plan.code.relocations.count d.between (8 * plan.text.first + j) d.code d.code_fits (omega arith)
-      (behind object plan.code (8 * plan.text.first + j) (omega (arith, lies.begins, joins)))
-      ∙ raw_text object plan j (8 * plan.text.first + j) lies (omega (arith, joins)) within;
+      byte_kept placed Code (raw placed) (length placed.plan.parts.code.relocations) d.between (8 * from placed Text + j) d.code d.code_fits (omega arith)
+      (behind placed Code (8 * from placed Text + j) (omega arith))
+      ∙ raw_text placed j (8 * from placed Text + j) whole refl;
 }
 
-code_done : (object : List ℕ) (plan : Plan) (maps taken words : List ℕ) (i : ℕ) → LiesPlan object plan → Done object plan maps taken words → i < plan.code.relocations.count
-    → IsDone object plan maps taken plan.code words i
-code_done object plan maps taken words i lies d inside =
-    let x = all_done object plan maps taken plan.code (raw object plan) d.between plan.code.relocations.count i d.code (fresh_code object plan maps taken words lies d) inside in
-    let slot = names_slot object plan maps taken plan.code i x.patch x.told in
+code_done : (placed : Numbered) (words : List ℕ) (i : ℕ) → AreParts placed.plan.parts → Done placed words → i < length placed.plan.parts.code.relocations → IsDone placed Code words i
+code_done placed words i whole d inside =
+    let x = all_done placed Code (raw placed) d.between (length placed.plan.parts.code.relocations) i d.code (fresh_code placed words whole d) inside in
+    let slot = names_slot placed Code i x.patch x.told in
     record {
       patch = x.patch;
       told = x.told;
       bytes = λ k small.
-          byte_kept object plan maps taken plan.text d.between plan.text.relocations.count words (x.patch.at + k) d.text d.text_fits (omega arith)
-          (text_behind object plan (x.patch.at + k) lies (omega (arith, slot.at, slot.inside, lies.begins)))
+          byte_kept placed Text d.between (length placed.plan.parts.text.relocations) words (x.patch.at + k) d.text d.text_fits (omega arith)
+          (text_behind placed (x.patch.at + k) (omega (arith, slot.at, slot.inside)))
           ∙ x.bytes k small;
       next = λ next k wide small.
           let two : patch_width x.patch ≡ 16 = ap (λ n. if is_some n then 16 else 8) wide in
-          byte_kept object plan maps taken plan.text d.between plan.text.relocations.count words (x.patch.at + 8 + k) d.text d.text_fits (omega arith)
-          (text_behind object plan (x.patch.at + 8 + k) lies (omega (arith, slot.fits, lies.begins)))
+          byte_kept placed Text d.between (length placed.plan.parts.text.relocations) words (x.patch.at + 8 + k) d.text d.text_fits (omega arith)
+          (text_behind placed (x.patch.at + 8 + k) (omega (arith, slot.fits)))
           ∙ x.next next k wide small;
     }
 
-pub laid : (object : List ℕ) (plan : Plan) (maps taken words : List ℕ) → LiesPlan object plan → maps_of object plan ≡ Ok maps → data_of object plan ≡ Ok taken → words_of object plan maps taken ≡ Ok words → IsLaid object plan words
-laid object plan maps taken words lies numbered referred e =
-    let d = done object plan maps taken words lies e in
+pub laid : (placed : Numbered) (words : List ℕ) → AreParts placed.plan.parts → words_of placed ≡ Ok words → IsLaid placed words
+laid placed words whole e =
+    let d = done placed words whole e in
     record {
-      maps = maps;
-      taken = taken;
-      numbered = numbered;
-      referred = referred;
-      size = d.size ∙ raw_length object plan lies;
+      size = d.size ∙ raw_length placed whole;
       code = λ p k within small plain.
-          let same : 8 * (plan.code.first + p) + k ≡ 8 * p + k = omega (arith, lies.begins) in
-          both_kept object plan maps taken words (8 * p + k) d (subst (Apart object plan.code) same (plain_apart object plan.code p k small plain)) (text_behind object plan (8 * p + k) lies (omega arith))
-          ∙ raw_code object plan (8 * p + k) lies (omega arith);
+          let same : 8 * (from placed Code + p) + k ≡ 8 * p + k = omega arith in
+          both_kept placed words (8 * p + k) d (subst (Apart placed Code) same (plain_apart placed Code p k small plain)) (text_behind placed (8 * p + k) (omega arith)) ∙ raw_code placed (8 * p + k) whole (omega arith);
       text = λ p k within small plain.
-          let joins : plan.text.first ≡ plan.code.slots.count = lies.joins (omega arith) in
-          let same : 8 * (plan.text.first + p) + k ≡ 8 * (plan.code.slots.count + p) + k = omega (arith, joins) in
-          both_kept object plan maps taken words (8 * (plan.code.slots.count + p) + k) d (behind object plan.code (8 * (plan.code.slots.count + p) + k) (omega (arith, lies.begins)))
-          (subst (Apart object plan.text) same (plain_apart object plan.text p k small plain))
-          ∙ raw_text object plan (8 * p + k) (8 * (plan.code.slots.count + p) + k) lies (omega arith) (omega arith);
-      code_done = λ i inside. code_done object plan maps taken words i lies d inside;
-      text_done = λ i inside. all_done object plan maps taken plan.text d.between words plan.text.relocations.count i d.text (fresh_text object plan maps taken words lies d) inside;
+          both_kept placed words (8 * (count placed Code + p) + k) d (behind placed Code (8 * (count placed Code + p) + k) (omega arith)) (plain_apart placed Text p k small plain)
+          ∙ raw_text placed (8 * p + k) (8 * (count placed Code + p) + k) whole (omega arith);
+      code_done = λ i inside. code_done placed words i whole d inside;
+      text_done = λ i inside. all_done placed Text d.between words (length placed.plan.parts.text.relocations) i d.text (fresh_text placed words whole d) inside;
     }
 
 abbrev finished : ℕ → List Stub → List ℕ → List ℕ → Result Answered LinkFault
 finished entry stubs code stores =
     provided (nat_le (length code + length stores) (8 * most_slots)) TooLong (Ok (record { words = with_setup (answered stubs code) stores entry; count = answers stubs code }))
 
-pub laid_out : (object : List ℕ) (plan : Plan) (maps taken entry : List ℕ) (slot : ℕ) (stubs : List Stub) (made : Answered) → LiesPlan object plan → maps_of object plan ≡ Ok maps
-    → data_of object plan ≡ Ok taken → entry_of object plan entry ≡ Ok slot → program_words object plan maps taken slot stubs ≡ Ok made → IsLaidOut object plan entry stubs made.words
-laid_out object plan maps taken entry slot stubs made lies numbered referred begins e =
-    let a = after_ok (words_of object plan maps taken) (λ code. after (stores_of object plan maps taken) (λ stores. finished slot stubs code stores)) made e in
-    let b = after_ok (stores_of object plan maps taken) (λ stores. finished slot stubs a.0 stores) made a.2 in
+pub laid_out : (placed : Numbered) (entry : List ℕ) (slot : ℕ) (stubs : List Stub) (made : Answered) → AreParts placed.plan.parts → maps_of placed.plan ≡ Ok placed.maps
+    → data_of placed.plan ≡ Ok placed.taken → entry_of placed.plan entry ≡ Ok slot → program_words placed slot stubs ≡ Ok made → IsLaidOut placed.plan entry stubs made.words
+laid_out placed entry slot stubs made whole numbered referred begins e =
+    let a = after_ok (words_of placed) (λ code. after (stores_of placed) (λ stores. finished slot stubs code stores)) made e in
+    let b = after_ok (stores_of placed) (λ stores. finished slot stubs a.0 stores) made a.2 in
     let c = provided_ok (nat_le (length a.0 + length b.0) (8 * most_slots)) TooLong (Ok (record { words = with_setup (answered stubs a.0) b.0 slot; count = answers stubs a.0 })) made b.2 in
     record {
-      maps = maps;
-      taken = taken;
-      numbered = numbered;
+      maps = placed.maps;
+      taken = placed.taken;
+      counted = numbered;
       referred = referred;
       code = a.0;
-      laid = laid object plan maps taken a.0 lies numbered referred a.1;
+      laid = laid placed a.0 whole a.1;
       stores = b.0;
       stored = b.1;
       slot = slot;

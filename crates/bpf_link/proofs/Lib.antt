@@ -1,3 +1,4 @@
+pub mod Lists
 pub mod Searches
 pub mod Steps
 pub mod PlainMaps
@@ -9,3 +10,5 @@ pub mod LaidOut
 pub mod Relocated
 pub mod Laid
 pub mod InOrder
+pub mod Answered
+pub mod Untouched

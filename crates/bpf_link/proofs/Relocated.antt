@@ -7,16 +7,16 @@ use Rattle.byteorder.specs.Endian.{little_bytes}
 use Rattle.byteorder.specs.Numbers.{length-bytes_low_first}
 use Rattle.bpf_link.specs.declared.fault.LinkFault.TheVariants.{Place}
 use Rattle.bpf_link.specs.declared.layout.RelocationEntry.{RelocationEntry}
-use Rattle.bpf_link.specs.declared.plan.Part.{Part}
-use Rattle.bpf_link.specs.declared.plan.Plan.{Plan}
+use Rattle.bpf_link.specs.declared.parts.Side.{Side}
 use Rattle.bpf_link.specs.declared.patch.Patch.{Patch}
-use Rattle.bpf_link.specs.Plans.{relocation_at}
+use Rattle.bpf_link.specs.Data.{Numbered}
+use Rattle.bpf_link.specs.Tables.{relocation_at}
 use Rattle.bpf_link.specs.Patches.{width_of, is_next, patch_of}
 use Rattle.bpf_link.specs.Patches.{with_u32}
 use Rattle.bpf_link.specs.Links.{with_slot, with_next, with_patch, patch_width, with_relocation, relocated}
 use Rattle.bpf_link.specs.Laid.{patched_slot, next_slot, IsDone}
 use Rattle.bpf_link.proofs.Slots.{set_length, slot_length, slot_apart, at_least, head_kept, patched_apart, u32_low}
-use Rattle.bpf_link.proofs.Inversions.{ok_same, after_ok, provided_ok, two_sizes, names_slot}
+use Rattle.bpf_link.proofs.Inversions.{count, from, here, ok_same, after_ok, provided_ok, two_sizes, names_slot}
 use Rattle.bpf_link.proofs.LaidOut.{size_kept, beside}
 
 -- a number in its four bytes
@@ -53,8 +53,8 @@ patched_imm bytes patch k fits small =
 first_or_after : (i x y : ℕ) (b : Bool) → nat_lt x y ≡ b → ((i == 0) || b) ≡ true → 0 < i → x < y
 first_or_after i x y b e h above = grind (arith, common_steps)
 
-abbrev width_at : List ℕ → Part → ℕ → ℕ
-width_at object part i = width_of (relocation_at object part.relocations i)
+abbrev width_at : Numbered → Side → ℕ → ℕ
+width_at placed side i = width_of (relocation_at (here placed side).relocations i)
 
 cases : (i n : ℕ) → i < suc n → (i < n) ⊎ (i ≡ n)
 cases i n h = grind arith
@@ -62,15 +62,15 @@ cases i n h = grind arith
 before_last : (i n : ℕ) → i < n → (i < n - 1) ⊎ (i ≡ n - 1)
 before_last i n h = grind arith
 
-abbrev offset_at : List ℕ → Part → ℕ → ℕ
-offset_at object part i = (relocation_at object part.relocations i).offset
+abbrev offset_at : Numbered → Side → ℕ → ℕ
+offset_at placed side i = (relocation_at (here placed side).relocations i).offset
 
-next_above : (object : List ℕ) (plan : Plan) (maps taken : List ℕ) (part : Part) (n : ℕ) (patch : Patch) → patch_of object plan maps taken part n ≡ Ok patch → 0 < n
-    → offset_at object part (n - 1) + width_at object part (n - 1) - 8 < offset_at object part n
-next_above object plan maps taken part n patch e above =
-    let end : ℕ = offset_at object part (n - 1) + width_at object part (n - 1) - 8 in
-    first_or_after n end (offset_at object part n) (nat_lt end (offset_at object part n)) refl
-    (provided_ok (is_next object part.relocations n) Place _ _ e).0 above
+next_above : (placed : Numbered) (side : Side) (n : ℕ) (patch : Patch) → patch_of placed side n ≡ Ok patch → 0 < n
+    → offset_at placed side (n - 1) + width_at placed side (n - 1) - 8 < offset_at placed side n
+next_above placed side n patch e above =
+    let end : ℕ = offset_at placed side (n - 1) + width_at placed side (n - 1) - 8 in
+    first_or_after n end (offset_at placed side n) (nat_lt end (offset_at placed side n)) refl
+    (provided_ok (is_next (here placed side).relocations n) Place _ _ e).0 above
 
 eight_or : (b : Bool) → 8 ≤ (if b then 16 else 8)
 eight_or true = omega arith
@@ -79,53 +79,53 @@ eight_or false = omega arith
 eight : (relocation : RelocationEntry) → 8 ≤ width_of relocation
 eight relocation = eight_or (relocation.kind == 1)
 
-ascends : (object : List ℕ) (plan : Plan) (maps taken : List ℕ) (part : Part) (words : List ℕ) (n : ℕ) (new : List ℕ) → relocated object plan maps taken part words n ≡ Ok new
-    → (i m : ℕ) → i < m → m < n → offset_at object part i + width_at object part i - 8 < offset_at object part m
-ascends object plan maps taken part words zero new e i m low high = absurd (omega arith)
-ascends object plan maps taken part words (suc n) new e i m low high =
-    let a = after_ok (relocated object plan maps taken part words n) (with_relocation object plan maps taken part n) new e in
-    let b = after_ok (patch_of object plan maps taken part n) (λ patch. Ok (with_patch a.0 patch)) new a.2 in
-    let rest : (i m : ℕ) → i < m → m < n → offset_at object part i + width_at object part i - 8 < offset_at object part m = ascends object plan maps taken part words n a.0 a.1 in
-    by_case (cases m n high) rest (next_above object plan maps taken part n b.0 b.1)
+ascends : (placed : Numbered) (side : Side) (words : List ℕ) (n : ℕ) (new : List ℕ) → relocated placed side words n ≡ Ok new
+    → (i m : ℕ) → i < m → m < n → offset_at placed side i + width_at placed side i - 8 < offset_at placed side m
+ascends placed side words zero new e i m low high = absurd (omega arith)
+ascends placed side words (suc n) new e i m low high =
+    let a = after_ok (relocated placed side words n) (with_relocation placed side n) new e in
+    let b = after_ok (patch_of placed side n) (λ patch. Ok (with_patch a.0 patch)) new a.2 in
+    let rest : (i m : ℕ) → i < m → m < n → offset_at placed side i + width_at placed side i - 8 < offset_at placed side m = ascends placed side words n a.0 a.1 in
+    by_case (cases m n high) rest (next_above placed side n b.0 b.1)
   where
-    to_last : (i < n - 1) ⊎ (i ≡ n - 1) → i < n → ((i m : ℕ) → i < m → m < n → offset_at object part i + width_at object part i - 8 < offset_at object part m)
-        → (0 < n → offset_at object part (n - 1) + width_at object part (n - 1) - 8 < offset_at object part n) → offset_at object part i + width_at object part i - 8 < offset_at object part n
-    to_last (inl lower) inside rest next = let last = next (omega arith) in let first = rest i (n - 1) lower (omega arith) in let wide = eight (relocation_at object part.relocations (n - 1)) in omega (arith, first, last, wide)
-    to_last (inr same) inside rest next = let last = next (omega arith) in subst (λ k. offset_at object part k + width_at object part k - 8 < offset_at object part n) (sym same) last
+    to_last : (i < n - 1) ⊎ (i ≡ n - 1) → i < n → ((i m : ℕ) → i < m → m < n → offset_at placed side i + width_at placed side i - 8 < offset_at placed side m)
+        → (0 < n → offset_at placed side (n - 1) + width_at placed side (n - 1) - 8 < offset_at placed side n) → offset_at placed side i + width_at placed side i - 8 < offset_at placed side n
+    to_last (inl lower) inside rest next = let last = next (omega arith) in let first = rest i (n - 1) lower (omega arith) in let wide = eight (relocation_at (here placed side).relocations (n - 1)) in omega (arith, first, last, wide)
+    to_last (inr same) inside rest next = let last = next (omega arith) in subst (λ k. offset_at placed side k + width_at placed side k - 8 < offset_at placed side n) (sym same) last
 
-    by_case : (m < n) ⊎ (m ≡ n) → ((i m : ℕ) → i < m → m < n → offset_at object part i + width_at object part i - 8 < offset_at object part m)
-        → (0 < n → offset_at object part (n - 1) + width_at object part (n - 1) - 8 < offset_at object part n) → offset_at object part i + width_at object part i - 8 < offset_at object part m
+    by_case : (m < n) ⊎ (m ≡ n) → ((i m : ℕ) → i < m → m < n → offset_at placed side i + width_at placed side i - 8 < offset_at placed side m)
+        → (0 < n → offset_at placed side (n - 1) + width_at placed side (n - 1) - 8 < offset_at placed side n) → offset_at placed side i + width_at placed side i - 8 < offset_at placed side m
     by_case (inl h) rest next = rest i m low h
-    by_case (inr same) rest next = subst (λ k. offset_at object part i + width_at object part i - 8 < offset_at object part k) (sym same) (to_last (before_last i n (omega arith)) (omega arith) rest next)
+    by_case (inr same) rest next = subst (λ k. offset_at placed side i + width_at placed side i - 8 < offset_at placed side k) (sym same) (to_last (before_last i n (omega arith)) (omega arith) rest next)
 
-kept_later : (object : List ℕ) (plan : Plan) (maps taken : List ℕ) (part : Part) (words : List ℕ) (m d : ℕ) (a b : List ℕ) (j : ℕ)
-    → relocated object plan maps taken part words m ≡ Ok a → relocated object plan maps taken part words (m + d) ≡ Ok b → 8 * (part.first + part.slots.count) ≤ length words
-    → ((i q : ℕ) → m ≤ i → i < m + d → q < part.slots.count → offset_at object part i ≡ 8 * q → (j < 8 * (part.first + q)) ⊎ (8 * (part.first + q) + width_at object part i ≤ j))
+kept_later : (placed : Numbered) (side : Side) (words : List ℕ) (m d : ℕ) (a b : List ℕ) (j : ℕ)
+    → relocated placed side words m ≡ Ok a → relocated placed side words (m + d) ≡ Ok b → 8 * (from placed side + count placed side) ≤ length words
+    → ((i q : ℕ) → m ≤ i → i < m + d → q < count placed side → offset_at placed side i ≡ 8 * q → (j < 8 * (from placed side + q)) ⊎ (8 * (from placed side + q) + width_at placed side i ≤ j))
     → get_or b j 0 ≡ get_or a j 0
-kept_later object plan maps taken part words m zero a b j ra rb fits apart =
-    ap (λ w. get_or w j 0) (sym (ok_same a b (sym ra ∙ sym (ap (relocated object plan maps taken part words) (add-zero m)) ∙ rb)))
-kept_later object plan maps taken part words m (suc d) a b j ra rb fits apart =
-    let e : relocated object plan maps taken part words (suc (m + d)) ≡ Ok b = sym (ap (relocated object plan maps taken part words) (add-suc m d)) ∙ rb in
-    let f = after_ok (relocated object plan maps taken part words (m + d)) (with_relocation object plan maps taken part (m + d)) b e in
-    let g = after_ok (patch_of object plan maps taken part (m + d)) (λ patch. Ok (with_patch f.0 patch)) b f.2 in
-    let rest : get_or f.0 j 0 ≡ get_or a j 0 = kept_later object plan maps taken part words m d a f.0 j ra f.1 fits (λ i q low high. apart i q low (omega arith)) in
-    let size : length f.0 ≡ length words = size_kept object plan maps taken part words (m + d) f.0 f.1 fits in
-    let slot = names_slot object plan maps taken part (m + d) g.0 g.1 in
+kept_later placed side words m zero a b j ra rb fits apart =
+    ap (λ w. get_or w j 0) (sym (ok_same a b (sym ra ∙ sym (ap (relocated placed side words) (add-zero m)) ∙ rb)))
+kept_later placed side words m (suc d) a b j ra rb fits apart =
+    let e : relocated placed side words (suc (m + d)) ≡ Ok b = sym (ap (relocated placed side words) (add-suc m d)) ∙ rb in
+    let f = after_ok (relocated placed side words (m + d)) (with_relocation placed side (m + d)) b e in
+    let g = after_ok (patch_of placed side (m + d)) (λ patch. Ok (with_patch f.0 patch)) b f.2 in
+    let rest : get_or f.0 j 0 ≡ get_or a j 0 = kept_later placed side words m d a f.0 j ra f.1 fits (λ i q low high. apart i q low (omega arith)) in
+    let size : length f.0 ≡ length words = size_kept placed side words (m + d) f.0 f.1 fits in
+    let slot = names_slot placed side (m + d) g.0 g.1 in
     let inside : g.0.at + patch_width g.0 ≤ length f.0 = omega (arith, slot.fits) in
-    let q : ℕ = offset_at object part (m + d) / 8 in
-    let whole : offset_at object part (m + d) ≡ 8 * q = omega (arith, slot.whole) in
-    let side : (j < 8 * (part.first + q)) ⊎ (8 * (part.first + q) + width_at object part (m + d) ≤ j) = apart (m + d) q (omega arith) (omega arith) slot.inside whole in
+    let q : ℕ = offset_at placed side (m + d) / 8 in
+    let whole : offset_at placed side (m + d) ≡ 8 * q = omega (arith, slot.whole) in
+    let apart_is : (j < 8 * (from placed side + q)) ⊎ (8 * (from placed side + q) + width_at placed side (m + d) ≤ j) = apart (m + d) q (omega arith) (omega arith) slot.inside whole in
     ap (λ w. get_or w j 0) (sym (ok_same (with_patch f.0 g.0) b g.2))
-    ∙ patched_apart f.0 g.0 j inside (beside (8 * (part.first + q)) g.0.at (width_at object part (m + d)) (patch_width g.0) j slot.at slot.width side)
+    ∙ patched_apart f.0 g.0 j inside (beside (8 * (from placed side + q)) g.0.at (width_at placed side (m + d)) (patch_width g.0) j slot.at slot.width apart_is)
     ∙ rest
 
-state_at : (object : List ℕ) (plan : Plan) (maps taken : List ℕ) (part : Part) (words : List ℕ) (m d : ℕ) (new : List ℕ) → relocated object plan maps taken part words (m + d) ≡ Ok new
-    → (w : List ℕ) × (relocated object plan maps taken part words m ≡ Ok w)
-state_at object plan maps taken part words m zero new e = (new, sym (ap (relocated object plan maps taken part words) (add-zero m)) ∙ e)
-state_at object plan maps taken part words m (suc d) new e =
-    let step : relocated object plan maps taken part words (suc (m + d)) ≡ Ok new = sym (ap (relocated object plan maps taken part words) (add-suc m d)) ∙ e in
-    let f = after_ok (relocated object plan maps taken part words (m + d)) (with_relocation object plan maps taken part (m + d)) new step in
-    state_at object plan maps taken part words m d f.0 f.1
+state_at : (placed : Numbered) (side : Side) (words : List ℕ) (m d : ℕ) (new : List ℕ) → relocated placed side words (m + d) ≡ Ok new
+    → (w : List ℕ) × (relocated placed side words m ≡ Ok w)
+state_at placed side words m zero new e = (new, sym (ap (relocated placed side words) (add-zero m)) ∙ e)
+state_at placed side words m (suc d) new e =
+    let step : relocated placed side words (suc (m + d)) ≡ Ok new = sym (ap (relocated placed side words) (add-suc m d)) ∙ e in
+    let f = after_ok (relocated placed side words (m + d)) (with_relocation placed side (m + d)) new step in
+    state_at placed side words m d f.0 f.1
 
 slot_byte : (object w : List ℕ) (patch : Patch) (at k : ℕ) → patch.at + 8 ≤ length w → ((k : ℕ) → k < 8 → get_or w (patch.at + k) 0 ≡ get_or object (at + k) 0) → k < 8
     → get_or (with_slot w patch) (patch.at + k) 0 ≡ get_or (patched_slot object at patch) k 0
@@ -157,9 +157,9 @@ next_byte object w patch next place k e fits same small =
     (λ k low. slot_apart w patch (patch.at + 8 + k) (omega arith) (inr (omega arith)) ∙ same k low) small
 
 -- what a part's slots hold before its relocations
-pub record IsFresh (object : List ℕ) (part : Part) (words : List ℕ) : Type 0 where
-  pub fits : 8 * (part.first + part.slots.count) ≤ length words
-  pub all : (j : ℕ) → j < 8 * part.slots.count → get_or words (8 * part.first + j) 0 ≡ get_or object (part.slots.at + j) 0
+pub record IsFresh (placed : Numbered) (side : Side) (words : List ℕ) : Type 0 where
+  pub fits : 8 * (from placed side + count placed side) ≤ length words
+  pub all : (j : ℕ) → j < 8 * count placed side → get_or words (8 * from placed side + j) 0 ≡ get_or (here placed side).slots j 0
 
 widths : (relocation : RelocationEntry) → (width_of relocation ≡ 16) ⊎ (width_of relocation ≡ 8)
 widths relocation = two_sizes (relocation.kind == 1)
@@ -172,51 +172,51 @@ later : (x w y r q first at k : ℕ) → y + w - 8 < x → x ≡ 8 * r → y ≡
 later x w y r q first at k rising same whole place (inl short) small = omega arith
 later x w y r q first at k rising same whole place (inr long) small = omega arith
 
-done_at : (object : List ℕ) (plan : Plan) (maps taken : List ℕ) (part : Part) (words : List ℕ) (i d : ℕ) (new : List ℕ) → relocated object plan maps taken part words (suc i + d) ≡ Ok new
-    → IsFresh object part words → IsDone object plan maps taken part new i
-done_at object plan maps taken part words i d new e fresh =
-    let s = state_at object plan maps taken part words (suc i) d new e in
-    let a = after_ok (relocated object plan maps taken part words i) (with_relocation object plan maps taken part i) s.0 s.1 in
-    let b = after_ok (patch_of object plan maps taken part i) (λ patch. Ok (with_patch a.0 patch)) s.0 a.2 in
-    let slot = names_slot object plan maps taken part i b.0 b.1 in
-    let size : length a.0 ≡ length words = size_kept object plan maps taken part words i a.0 a.1 fresh.fits in
+done_at : (placed : Numbered) (side : Side) (words : List ℕ) (i d : ℕ) (new : List ℕ) → relocated placed side words (suc i + d) ≡ Ok new
+    → IsFresh placed side words → IsDone placed side new i
+done_at placed side words i d new e fresh =
+    let s = state_at placed side words (suc i) d new e in
+    let a = after_ok (relocated placed side words i) (with_relocation placed side i) s.0 s.1 in
+    let b = after_ok (patch_of placed side i) (λ patch. Ok (with_patch a.0 patch)) s.0 a.2 in
+    let slot = names_slot placed side i b.0 b.1 in
+    let size : length a.0 ≡ length words = size_kept placed side words i a.0 a.1 fresh.fits in
     let inside : b.0.at + patch_width b.0 ≤ length a.0 = omega (arith, slot.fits, fresh.fits) in
     let least : 8 ≤ patch_width b.0 = at_least b.0.next in
-    let q : ℕ = offset_at object part i / 8 in
-    let whole : offset_at object part i ≡ 8 * q = omega (arith, slot.whole) in
-    let up = ascends object plan maps taken part words (suc i + d) new e in
-    let start : relocated object plan maps taken part words (0 + i) ≡ Ok a.0 = ap (relocated object plan maps taken part words) (zero-add i) ∙ a.1 in
+    let q : ℕ = offset_at placed side i / 8 in
+    let whole : offset_at placed side i ≡ 8 * q = omega (arith, slot.whole) in
+    let up = ascends placed side words (suc i + d) new e in
+    let start : relocated placed side words (0 + i) ≡ Ok a.0 = ap (relocated placed side words) (zero-add i) ∙ a.1 in
     -- what stood there before
-    let before : (k : ℕ) → k < patch_width b.0 → get_or a.0 (b.0.at + k) 0 ≡ get_or object (part.slots.at + offset_at object part i + k) 0 = λ k small.
-    kept_later object plan maps taken part words 0 i words a.0 (b.0.at + k) refl start fresh.fits
+    let before : (k : ℕ) → k < patch_width b.0 → get_or a.0 (b.0.at + k) 0 ≡ get_or (here placed side).slots (offset_at placed side i + k) 0 = λ k small.
+    kept_later placed side words 0 i words a.0 (b.0.at + k) refl start fresh.fits
     (λ m r low high inside at.
-    let rising : offset_at object part m + width_at object part m - 8 < offset_at object part i = up m i (omega arith) (omega arith) in
-    inr (earlier (offset_at object part m) (width_at object part m) (offset_at object part i) r q part.first b.0.at k rising at whole slot.at (widths (relocation_at object part.relocations m))))
+    let rising : offset_at placed side m + width_at placed side m - 8 < offset_at placed side i = up m i (omega arith) (omega arith) in
+    inr (earlier (offset_at placed side m) (width_at placed side m) (offset_at placed side i) r q (from placed side) b.0.at k rising at whole slot.at (widths (relocation_at (here placed side).relocations m))))
     ∙ ap (λ n. get_or words n 0) (omega (arith, slot.at))
     ∙ fresh.all (8 * q + k) (omega (arith, slot.fits, slot.at))
-    ∙ ap (λ n. get_or object n 0) (omega (arith, whole)) in
+    ∙ ap (λ n. get_or (here placed side).slots n 0) (omega (arith, whole)) in
     -- nothing later changes it
     let after : (k : ℕ) → k < patch_width b.0 → get_or new (b.0.at + k) 0 ≡ get_or (with_patch a.0 b.0) (b.0.at + k) 0 = λ k small.
-    kept_later object plan maps taken part words (suc i) d s.0 new (b.0.at + k) s.1 e fresh.fits
+    kept_later placed side words (suc i) d s.0 new (b.0.at + k) s.1 e fresh.fits
     (λ m r low high inside at.
-    let rising : offset_at object part i + width_at object part i - 8 < offset_at object part m = up i m (omega arith) (omega arith) in
-    inl (later (offset_at object part m) (width_at object part i) (offset_at object part i) r q part.first b.0.at k rising at whole slot.at (widths (relocation_at object part.relocations i)) (omega (arith, slot.width))))
+    let rising : offset_at placed side i + width_at placed side i - 8 < offset_at placed side m = up i m (omega arith) (omega arith) in
+    inl (later (offset_at placed side m) (width_at placed side i) (offset_at placed side i) r q (from placed side) b.0.at k rising at whole slot.at (widths (relocation_at (here placed side).relocations i)) (omega (arith, slot.width))))
     ∙ ap (λ w. get_or w (b.0.at + k) 0) (sym (ok_same (with_patch a.0 b.0) s.0 b.2)) in
     record {
       patch = b.0;
       told = b.1;
       bytes = λ k small.
           after k (omega arith) ∙ head_kept a.0 b.0 (b.0.at + k) inside (omega arith)
-          ∙ slot_byte object a.0 b.0 (part.slots.at + offset_at object part i) k (omega arith) (λ k small. before k (omega arith)) small;
+          ∙ slot_byte (here placed side).slots a.0 b.0 (offset_at placed side i) k (omega arith) (λ k small. before k (omega arith)) small;
       next = λ next k wide small.
           let two : patch_width b.0 ≡ 16 = ap (λ n. if is_some n then 16 else 8) wide in
           ap (λ n. get_or new n 0) (omega arith) ∙ after (8 + k) (omega arith) ∙ ap (λ n. get_or (with_patch a.0 b.0) n 0) (omega arith)
-          ∙ next_byte object a.0 b.0 next (part.slots.at + offset_at object part i + 8) k wide inside
-          (λ k low. ap (λ n. get_or a.0 n 0) (omega arith) ∙ before (8 + k) (omega arith) ∙ ap (λ n. get_or object n 0) (omega arith)) small;
+          ∙ next_byte (here placed side).slots a.0 b.0 next (offset_at placed side i + 8) k wide inside
+          (λ k low. ap (λ n. get_or a.0 n 0) (omega arith) ∙ before (8 + k) (omega arith) ∙ ap (λ n. get_or (here placed side).slots n 0) (omega arith)) small;
     }
 
-pub all_done : (object : List ℕ) (plan : Plan) (maps taken : List ℕ) (part : Part) (words new : List ℕ) (n i : ℕ) → relocated object plan maps taken part words n ≡ Ok new
-    → IsFresh object part words → i < n → IsDone object plan maps taken part new i
-all_done object plan maps taken part words new n i e fresh inside =
+pub all_done : (placed : Numbered) (side : Side) (words new : List ℕ) (n i : ℕ) → relocated placed side words n ≡ Ok new
+    → IsFresh placed side words → i < n → IsDone placed side new i
+all_done placed side words new n i e fresh inside =
     let rest : n ≡ suc i + (n - suc i) = omega arith in
-    done_at object plan maps taken part words i (n - suc i) new (subst (λ m. relocated object plan maps taken part words m ≡ Ok new) rest e) fresh
+    done_at placed side words i (n - suc i) new (subst (λ m. relocated placed side words m ≡ Ok new) rest e) fresh

@@ -4,10 +4,10 @@ use Rattle.std.specs.Prelude.{if◌then◌else◌}
 use Rattle.bpf_link.specs.declared.fault.LinkFault.{LinkFault}
 use Rattle.bpf_link.specs.declared.fault.LinkFault.TheVariants.{TooManyMaps}
 use Rattle.bpf_link.specs.declared.layout.SymbolEntry.{SymbolEntry}
-use Rattle.bpf_link.specs.declared.plan.Part.{Part}
-use Rattle.bpf_link.specs.declared.plan.Plan.{Plan}
+use Rattle.bpf_link.specs.declared.parts.Side.{Side}
 use Rattle.bpf_link.specs.declared.patch.Patch.{Patch}
-use Rattle.bpf_link.specs.Header.{provided}
+use Rattle.bpf_link.specs.Objects.{provided}
+use Rattle.bpf_link.specs.Data.{Numbered}
 use Rattle.bpf_link.specs.Plans.{after, steps}
 use Rattle.bpf_link.specs.Patches.{is_map, patch_of}
 use Rattle.bpf_link.specs.Links.{MemoryOr, with_patch, with_relocation, with_symbol}
@@ -28,11 +28,11 @@ pub fails_or : {A : Type 0} (step : ℕ → A → Result A LinkFault) (start : A
 fails_or step start n m a fault inside e (inl memory) = inl memory
 fails_or step start n m a fault inside e (inr h) = inr (fails step start n m a fault inside e h)
 
-pub patched : (object : List ℕ) (plan : Plan) (maps taken : List ℕ) (part : Part) (i : ℕ) (words : List ℕ) (patch : Patch) → patch_of object plan maps taken part i ≡ Ok patch → with_relocation object plan maps taken part i words ≡ Ok (with_patch words patch)
-patched object plan maps taken part i words patch e = ap (λ r. after r (λ p. Ok (with_patch words p))) e
+pub patched : (placed : Numbered) (side : Side) (i : ℕ) (words : List ℕ) (patch : Patch) → patch_of placed side i ≡ Ok patch → with_relocation placed side i words ≡ Ok (with_patch words patch)
+patched placed side i words patch e = ap (λ r. after r (λ p. Ok (with_patch words p))) e
 
-pub not_patched : (object : List ℕ) (plan : Plan) (maps taken : List ℕ) (part : Part) (i : ℕ) (words : List ℕ) (fault : LinkFault) → patch_of object plan maps taken part i ≡ Err fault → with_relocation object plan maps taken part i words ≡ Err fault
-not_patched object plan maps taken part i words fault e = ap (λ r. after r (λ p. Ok (with_patch words p))) e
+pub not_patched : (placed : Numbered) (side : Side) (i : ℕ) (words : List ℕ) (fault : LinkFault) → patch_of placed side i ≡ Err fault → with_relocation placed side i words ≡ Err fault
+not_patched placed side i words fault e = ap (λ r. after r (λ p. Ok (with_patch words p))) e
 
 pub full_symbol : (maps : ℕ) (symbol : SymbolEntry) (values : List ℕ) → is_map maps symbol ≡ true → length values ≡ 16 → with_symbol maps symbol values ≡ Err TooManyMaps
 full_symbol maps symbol values m full =

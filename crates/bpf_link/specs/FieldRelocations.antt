@@ -8,49 +8,48 @@ use Rattle.bpf_btf.specs.declared.fault.BtfFault.{BtfFault}
 use Rattle.bpf_link.specs.declared.fault.LinkFault.{LinkFault}
 use Rattle.bpf_link.specs.declared.fault.LinkFault.TheVariants as link
 use Rattle.bpf_link.specs.declared.field_relocations.FieldRelocations.{FieldRelocations}
-use Rattle.bpf_link.specs.declared.plan.Part.{Part}
+use Rattle.bpf_link.specs.declared.parts.Part.{Part}
+use Rattle.bpf_link.specs.declared.parts.Side.{Side}
+use Rattle.bpf_link.specs.declared.parts.Side.TheVariants.{Code, Text}
 use Rattle.bpf_link.specs.declared.plan.Plan.{Plan}
 use Rattle.bpf_link.specs.declared.sections.Found.{Found}
 use Rattle.bpf_link.specs.Links.{planned}
 use Rattle.bpf_link.specs.MapTypes.{found_named, is_something, name_from, types_bytes, types_found}
-use Rattle.bpf_link.specs.Plans.{part_place, LiesPlan}
+use Rattle.bpf_link.specs.Parts.{first_of, part_of, slots_in}
+use Rattle.bpf_link.specs.Plans.{part_place}
 use Rattle.bpf_link.specs.Refusals.{HasReadFault}
 
 -- The section that lists them, and its bytes.
-abbrev pub ext_found : List ℕ → Plan → Found
-ext_found object plan = found_named object plan.sections (codes ".BTF.ext")
+abbrev pub ext_found : Plan → Found
+ext_found plan = found_named plan.object (codes ".BTF.ext")
 
-abbrev pub ext_bytes : List ℕ → Plan → List ℕ
-ext_bytes object plan = types_bytes object plan.sections (ext_found object plan)
-
-pub record HasExt (object : List ℕ) (plan : Plan) (ext : List ℕ) : Type 0 where
-  pub lies : LiesPlan object plan
-  pub bytes : ext ≡ ext_bytes object plan
+abbrev pub ext_bytes : Plan → List ℕ
+ext_bytes plan = types_bytes plan.object (ext_found plan)
 
 -- Where a name stands in the file, if it has at most 255 bytes; else the file's end, where there is none.
 abbrev pub short_name : List ℕ → ℕ → ℕ
-short_name object at = if nat_lt 255 (length (name_from object at)) then length object else at
+short_name bytes at = if nat_lt 255 (length (name_from bytes at)) then length bytes else at
 
-abbrev pub part_name : List ℕ → Plan → Part → ℕ
-part_name object plan part = short_name object (part_place object plan part)
+abbrev pub part_name : Plan → Part → ℕ
+part_name plan part = short_name plan.object.bytes (part_place plan part)
 
 -- No relocation.
 abbrev pub no_fields : FieldRelocations
 no_fields = record { count = 0; slot = 0; at = 0 }
 
 -- Those of a part: the slot counts in the program, whose slots of 8 bytes begin where the part does.
-abbrev pub fields_at : Part → ℕ → CoreRelocations → FieldRelocations
-fields_at part at sum = record { count = sum.count; slot = part.first + sum.first / 8; at = at }
+abbrev pub fields_at : ℕ → ℕ → CoreRelocations → FieldRelocations
+fields_at first at sum = record { count = sum.count; slot = first + sum.first / 8; at = at }
 
-abbrev pub ListedFields : List ℕ → Plan → List ℕ → List ℕ → Part → FieldRelocations → Type 0
-ListedFields object plan strings ext part fields = (sum : CoreRelocations)
-    × AreRelocations strings ext (name_from object (part_name object plan part)) sum
-    × (fields ≡ fields_at part (part_name object plan part) sum)
+abbrev pub ListedFields : Plan → List ℕ → Side → FieldRelocations → Type 0
+ListedFields plan strings side fields = (sum : CoreRelocations)
+    × AreRelocations strings (ext_bytes plan) (name_from plan.object.bytes (part_name plan (part_of plan.parts side))) sum
+    × (fields ≡ fields_at (first_of plan.parts side) (part_name plan (part_of plan.parts side)) sum)
 
 -- A part without slots, which isn't called, has none.
-abbrev pub PartFields : Bool → List ℕ → Plan → List ℕ → List ℕ → Part → FieldRelocations → Type 0
-PartFields true object plan strings ext part fields = fields ≡ no_fields
-PartFields false object plan strings ext part fields = ListedFields object plan strings ext part fields
+abbrev pub PartFields : Bool → Plan → List ℕ → Side → FieldRelocations → Type 0
+PartFields true plan strings side fields = fields ≡ no_fields
+PartFields false plan strings side fields = ListedFields plan strings side fields
 
 -- Those of both parts: how many, at most 2^32 - 1, and the first.
 abbrev pub both_fields : FieldRelocations → FieldRelocations → FieldRelocations
@@ -58,38 +57,38 @@ both_fields code text =
     if code.count == 0 then text else record { count = min (code.count + text.count) 4294967295; slot = code.slot; at = code.at }
 
 -- What BTF lists of the code that comes out.
-pub record CountedFields (object : List ℕ) (plan : Plan) (fields : FieldRelocations) : Type 0 where
+pub record CountedFields (plan : Plan) (fields : FieldRelocations) : Type 0 where
   pub types : Types
-  pub read : IsRead (types_bytes object plan.sections (types_found object plan.sections)) types
+  pub read : IsRead (types_bytes plan.object (types_found plan.object)) types
   pub code : FieldRelocations
-  pub of_code : PartFields (plan.code.slots.count == 0) object plan types.strings (ext_bytes object plan) plan.code code
+  pub of_code : PartFields (slots_in plan.parts.code == 0) plan types.strings Code code
   pub text : FieldRelocations
-  pub of_text : PartFields (plan.text.slots.count == 0) object plan types.strings (ext_bytes object plan) plan.text text
+  pub of_text : PartFields (slots_in plan.parts.text == 0) plan types.strings Text text
   pub all : fields ≡ both_fields code text
 
 -- An object without such a section has none.
-abbrev pub PlanFields : Bool → List ℕ → Plan → FieldRelocations → Type 0
-PlanFields false object plan fields = fields ≡ no_fields
-PlanFields true object plan fields = CountedFields object plan fields
+abbrev pub PlanFields : Bool → Plan → FieldRelocations → Type 0
+PlanFields false plan fields = fields ≡ no_fields
+PlanFields true plan fields = CountedFields plan fields
 
 abbrev pub HasFields : List ℕ → List ℕ → FieldRelocations → Type 0
 HasFields object name fields = (plan : Plan) × (planned object name ≡ Ok plan)
-    × PlanFields (is_something (ext_found object plan)) object plan fields
+    × PlanFields (is_something (ext_found plan)) plan fields
 
 -- They aren't counted: `.BTF` isn't read, or `.BTF.ext` isn't.
-pub record HasExtFault (object : List ℕ) (plan : Plan) (fault : LinkFault) : Type 0 where
+pub record HasExtFault (plan : Plan) (fault : LinkFault) : Type 0 where
   pub why : BtfFault
   pub told : fault ≡ link.Types why
-  pub unread : IsExtFault (ext_bytes object plan) why
+  pub unread : IsExtFault (ext_bytes plan) why
 
-abbrev pub IsCountFault : List ℕ → Plan → LinkFault → Type 0
-IsCountFault object plan fault = (fault ≡ link.Memory) ⊎ (HasReadFault object plan fault ⊎ HasExtFault object plan fault)
+abbrev pub IsCountFault : Plan → LinkFault → Type 0
+IsCountFault plan fault = (fault ≡ link.Memory) ⊎ (HasReadFault plan fault ⊎ HasExtFault plan fault)
 
 pub record HasCountFault (object name : List ℕ) (fault : LinkFault) : Type 0 where
   pub plan : Plan
   pub plans : planned object name ≡ Ok plan
-  pub listed : is_something (ext_found object plan) ≡ true
-  pub why : IsCountFault object plan fault
+  pub listed : is_something (ext_found plan) ≡ true
+  pub why : IsCountFault plan fault
 
 -- There are some, and they aren't to be left as compiled.
 pub record HasFieldsLeft (object name : List ℕ) (as_compiled : Bool) (fault : LinkFault) : Type 0 where

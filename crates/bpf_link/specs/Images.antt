@@ -6,13 +6,12 @@ use Rattle.bpf_link.specs.declared.fault.LinkFault.TheVariants.{LongData, DataSe
 use Rattle.bpf_link.specs.declared.layout.RelocationEntry.{RelocationEntry}
 use Rattle.bpf_link.specs.declared.layout.SectionHeader.{SectionHeader}
 use Rattle.bpf_link.specs.declared.layout.SymbolEntry.{SymbolEntry}
-use Rattle.bpf_link.specs.declared.plan.Entries.{Entries}
 use Rattle.bpf_link.specs.declared.plan.Plan.{Plan}
 use Rattle.bpf_link.specs.Layout.{u64_at}
-use Rattle.bpf_link.specs.Header.{provided}
-use Rattle.bpf_link.specs.Sections.{section_at}
-use Rattle.bpf_link.specs.Plans.{after, steps, relocation_at, symbol_at, symbol_place}
-use Rattle.bpf_link.specs.Data.{is_among, data_number, pointers_of}
+use Rattle.bpf_link.specs.Objects.{Elf, provided, section_at}
+use Rattle.bpf_link.specs.Plans.{after, steps, symbol_place}
+use Rattle.bpf_link.specs.Data.{Numbered, is_among, data_number, pointers_of}
+use Rattle.bpf_link.specs.Tables.{relocation_at, symbol_at}
 use Rattle.bpf_isa.specs.Maps.{most_map_bytes}
 
 -- Bytes, and zeros after them up to a whole number of eight.
@@ -23,12 +22,12 @@ abbrev pub whole_size : ℕ → ℕ
 whole_size size = (size + 7) / 8 * 8
 
 -- The bytes of a section of data, SHT_NOBITS of zeros.
-abbrev pub bytes_of : List ℕ → SectionHeader → Result (List ℕ) LinkFault
+abbrev pub bytes_of : Elf → SectionHeader → Result (List ℕ) LinkFault
 bytes_of object section =
     provided (nat_le section.size most_map_bytes) LongData
     (if section.kind == 8 then Ok (filled (whole_size section.size) [])
-    else provided (nat_le (section.offset + section.size) (length object)) DataSection
-    (Ok (filled (whole_size section.size) (slice_range object section.offset (section.offset + section.size)))))
+    else provided (nat_le (section.offset + section.size) (length object.bytes)) DataSection
+    (Ok (filled (whole_size section.size) (slice_range object.bytes section.offset (section.offset + section.size)))))
 
 -- Where the bytes of a map begin in memory.
 abbrev pub map_address : ℕ → ℕ
@@ -39,37 +38,37 @@ abbrev pub with_u64 : List ℕ → ℕ → ℕ → List ℕ
 with_u64 bytes at n = take at bytes ++ (little_bytes 8 n ++ drop (at + 8) bytes)
 
 -- The address of a symbol of data, and a number more.
-abbrev pub address_of : List ℕ → List ℕ → SymbolEntry → ℕ → ℕ
-address_of maps taken symbol more = (map_address (data_number maps taken symbol.section) + symbol.value + more) % 18446744073709551616
+abbrev pub address_of : Numbered → SymbolEntry → ℕ → ℕ
+address_of placed symbol more = (map_address (data_number placed symbol.section) + symbol.value + more) % 18446744073709551616
 
 -- An address in data, R_BPF_64_ABS64: that of the symbol, and what stood there.
-abbrev pub with_address : List ℕ → List ℕ → RelocationEntry → SymbolEntry → LinkFault → List ℕ → Result (List ℕ) LinkFault
-with_address maps taken relocation symbol fault image =
-    provided (is_among taken symbol.section) fault
-    (Ok (with_u64 image relocation.offset (address_of maps taken symbol (u64_at image relocation.offset))))
+abbrev pub with_address : Numbered → RelocationEntry → SymbolEntry → LinkFault → List ℕ → Result (List ℕ) LinkFault
+with_address placed relocation symbol fault image =
+    provided (is_among placed.taken symbol.section) fault
+    (Ok (with_u64 image relocation.offset (address_of placed symbol (u64_at image relocation.offset))))
 
 -- Where the name of a relocation's symbol stands in the file, or the file's end.
-abbrev pub pointed_place : List ℕ → Plan → RelocationEntry → ℕ
-pointed_place object plan relocation =
-    if nat_lt relocation.symbol plan.symbols.count then symbol_place object plan (symbol_at object plan.symbols relocation.symbol) else length object
+abbrev pub pointed_place : Plan → RelocationEntry → ℕ
+pointed_place plan relocation =
+    if nat_lt relocation.symbol (length plan.symbols) then symbol_place plan (symbol_at plan.symbols relocation.symbol) else length plan.object.bytes
 
-abbrev pub with_relocated : List ℕ → Plan → List ℕ → List ℕ → RelocationEntry → List ℕ → Result (List ℕ) LinkFault
-with_relocated object plan maps taken relocation image =
-    let fault = Pointer (pointed_place object plan relocation) in
+abbrev pub with_relocated : Numbered → RelocationEntry → List ℕ → Result (List ℕ) LinkFault
+with_relocated placed relocation image =
+    let fault = Pointer (pointed_place placed.plan relocation) in
     provided (relocation.kind == 2) fault
     (provided (nat_le (relocation.offset + 8) (length image)) fault
-    (provided (nat_lt relocation.symbol plan.symbols.count) fault
-    (with_address maps taken relocation (symbol_at object plan.symbols relocation.symbol) fault image)))
+    (provided (nat_lt relocation.symbol (length placed.plan.symbols)) fault
+    (with_address placed relocation (symbol_at placed.plan.symbols relocation.symbol) fault image)))
 
-abbrev pub with_pointer : List ℕ → Plan → List ℕ → List ℕ → Entries → ℕ → List ℕ → Result (List ℕ) LinkFault
-with_pointer object plan maps taken relocations i image = with_relocated object plan maps taken (relocation_at object relocations i) image
+abbrev pub with_pointer : Numbered → List RelocationEntry → ℕ → List ℕ → Result (List ℕ) LinkFault
+with_pointer placed relocations i image = with_relocated placed (relocation_at relocations i) image
 
-abbrev pub with_pointers : List ℕ → Plan → List ℕ → List ℕ → Entries → List ℕ → Result (List ℕ) LinkFault
-with_pointers object plan maps taken relocations image = steps (with_pointer object plan maps taken relocations) image relocations.count
+abbrev pub with_pointers : Numbered → List RelocationEntry → List ℕ → Result (List ℕ) LinkFault
+with_pointers placed relocations image = steps (with_pointer placed relocations) image (length relocations)
 
 -- The bytes of a section's map at the start.
-abbrev pub image_of : List ℕ → Plan → List ℕ → List ℕ → ℕ → Result (List ℕ) LinkFault
-image_of object plan maps taken section =
-    after (bytes_of object (section_at object plan.sections section)) (λ bytes.
-    after (pointers_of object plan section) (λ relocations.
-    with_pointers object plan maps taken relocations bytes))
+abbrev pub image_of : Numbered → ℕ → Result (List ℕ) LinkFault
+image_of placed section =
+    after (bytes_of placed.plan.object (section_at placed.plan.object section)) (λ bytes.
+    after (pointers_of placed.plan section) (λ relocations.
+    with_pointers placed relocations bytes))

@@ -1,6 +1,8 @@
 pub mod Layout
 pub mod Faults
-pub mod Header
+pub mod Objects
+pub mod Tables
+pub mod Parts
 pub mod Sections
 pub mod Plans
 pub mod Entries
@@ -20,3 +22,4 @@ pub mod Names
 pub mod Helpers
 pub mod FieldRelocations
 pub mod Programs
+pub mod Untouched

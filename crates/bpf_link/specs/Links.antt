@@ -1,5 +1,5 @@
 -- The program that an object holds: the words of its code, with the relocations of these done.
-use Rattle.std.specs.Prelude.{◌≡◌, ◌⊎◌, ◌≤◌, All, ℕ, zero, suc, ◌+◌, ◌*◌, ◌/◌, ◌==◌, nat_le, nat_lt, min, Option, Some, None, is_some, List, [], ◌∷◌, ◌++◌, Result, Ok, Err, length, map, slice_range, slice_set, if◌then◌else◌}
+use Rattle.std.specs.Prelude.{◌≡◌, ◌⊎◌, ◌≤◌, All, ℕ, zero, suc, ◌+◌, ◌*◌, ◌/◌, ◌==◌, nat_le, nat_lt, min, Option, Some, None, is_some, List, [], ◌∷◌, ◌++◌, Result, Ok, Err, length, map, slice_set, if◌then◌else◌}
 use Rattle.bpf_isa.specs.Checker.{IsAccepted, IsRefused, most_slots}
 use Rattle.bpf_isa.specs.Maps.{IsShape, most_maps, most_entries}
 use Rattle.bpf_isa.specs.declared.maps.MapShape.{MapShape}
@@ -10,13 +10,16 @@ use Rattle.bpf_isa.specs.Words.{u32_at}
 use Rattle.bpf_link.specs.declared.fault.LinkFault.{LinkFault}
 use Rattle.bpf_link.specs.declared.fault.LinkFault.TheVariants.{LongName, TooLong, TooManyMaps, Program, Helper, Memory}
 use Rattle.bpf_link.specs.declared.layout.SymbolEntry.{SymbolEntry}
-use Rattle.bpf_link.specs.declared.plan.Part.{Part}
+use Rattle.bpf_link.specs.declared.parts.Side.{Side}
+use Rattle.bpf_link.specs.declared.parts.Side.TheVariants.{Code, Text}
 use Rattle.bpf_link.specs.declared.plan.Plan.{Plan}
 use Rattle.bpf_link.specs.declared.patch.Patch.{Patch}
-use Rattle.bpf_link.specs.Header.{provided, opened}
-use Rattle.bpf_link.specs.Sections.{section_at, roles_below}
-use Rattle.bpf_link.specs.Plans.{after, steps, symbol_at, plan_of, FitsPart}
-use Rattle.bpf_link.specs.Data.{data_of}
+use Rattle.bpf_link.specs.Objects.{provided, opened, section_at}
+use Rattle.bpf_link.specs.Parts.{Sides, first_of, part_of, slots_in}
+use Rattle.bpf_link.specs.Tables.{symbol_at}
+use Rattle.bpf_link.specs.Sections.{roles_in}
+use Rattle.bpf_link.specs.Plans.{after, steps, plan_of}
+use Rattle.bpf_link.specs.Data.{Numbered, data_of, numbered}
 use Rattle.bpf_link.specs.Entries.{entry_of}
 use Rattle.bpf_link.specs.Patches.{is_map, patch_of, with_u32}
 use Rattle.bpf_link.specs.Setup.{stores_of, with_setup}
@@ -30,8 +33,8 @@ with_symbol maps symbol values =
     if is_map maps symbol then provided (nat_lt (length values) most_maps) TooManyMaps (Ok (values ++ symbol.value ∷ [])) else Ok values
 
 -- Where the maps stand in their section.
-abbrev pub maps_of : List ℕ → Plan → Result (List ℕ) LinkFault
-maps_of object plan = steps (λ i values. with_symbol plan.maps (symbol_at object plan.symbols i) values) [] plan.symbols.count
+abbrev pub maps_of : Plan → Result (List ℕ) LinkFault
+maps_of plan = steps (λ i values. with_symbol plan.maps (symbol_at plan.symbols i) values) [] (length plan.symbols)
 
 -- A slot with its registers and imm replaced, and the imm of the slot after it, of a wide load.
 abbrev pub with_slot : List ℕ → Patch → List ℕ
@@ -49,26 +52,26 @@ abbrev pub patch_width : Patch → ℕ
 patch_width patch = if is_some patch.next then 16 else 8
 
 -- The words with one relocation of a part done, and with those below n.
-abbrev pub with_relocation : List ℕ → Plan → List ℕ → List ℕ → Part → ℕ → List ℕ → Result (List ℕ) LinkFault
-with_relocation object plan maps taken part i words = after (patch_of object plan maps taken part i) (λ patch. Ok (with_patch words patch))
+abbrev pub with_relocation : Numbered → Side → ℕ → List ℕ → Result (List ℕ) LinkFault
+with_relocation placed side i words = after (patch_of placed side i) (λ patch. Ok (with_patch words patch))
 
-abbrev pub relocated : List ℕ → Plan → List ℕ → List ℕ → Part → List ℕ → ℕ → Result (List ℕ) LinkFault
-relocated object plan maps taken part words n = steps (with_relocation object plan maps taken part) words n
+abbrev pub relocated : Numbered → Side → List ℕ → ℕ → Result (List ℕ) LinkFault
+relocated placed side words n = steps (with_relocation placed side) words n
 
--- A part has room in the words.
-pub record HasRoom (object : List ℕ) (part : Part) (words : List ℕ) : Type 0 where
-  pub fits : FitsPart object part
-  pub room : 8 * (part.first + part.slots.count) ≤ length words
+-- The slots of a part lie in the words.
+pub record HasRoom (parts : Sides) (side : Side) (words : List ℕ) : Type 0 where
+  pub room : 8 * (first_of parts side + slots_in (part_of parts side)) ≤ length words
 
--- The slots of a part as they stand in the object.
-abbrev pub slots_of : List ℕ → Part → List ℕ
-slots_of object part = slice_range object part.slots.at (part.slots.at + 8 * part.slots.count)
+-- The slots of a program as they stand in the object.
+abbrev pub unlinked : Sides → List ℕ
+unlinked parts = parts.code.slots ++ parts.text.slots
 
 -- The words of a plan: those of its section, then those of `.text`, relocations done.
-abbrev pub words_of : List ℕ → Plan → List ℕ → List ℕ → Result (List ℕ) LinkFault
-words_of object plan maps taken =
-    after (relocated object plan maps taken plan.code (slots_of object plan.code ++ slots_of object plan.text) plan.code.relocations.count) (λ words.
-    relocated object plan maps taken plan.text words plan.text.relocations.count)
+abbrev pub words_of : Numbered → Result (List ℕ) LinkFault
+words_of placed =
+    let parts = placed.plan.parts in
+    after (relocated placed Code (unlinked parts) (length parts.code.relocations)) (λ words.
+    relocated placed Text words (length parts.text.relocations))
 
 -- Want of memory may be answered instead of a fault; else it is that of the answer.
 abbrev pub MemoryOr : {A : Type 0} → Result A LinkFault → LinkFault → Type 0
@@ -76,9 +79,9 @@ MemoryOr answer fault = (fault ≡ Memory) ⊎ (answer ≡ Err fault)
 
 -- What the program of a section is put together from; an empty name asks for the only code section.
 abbrev pub planned : List ℕ → List ℕ → Result Plan LinkFault
-planned object name =
+planned bytes name =
     provided (nat_le (length name) 255) LongName
-    (after (opened object) (λ sections. plan_of object sections (roles_below object sections name sections.count) (length name == 0)))
+    (after (opened bytes) (λ object. plan_of object (roles_in object name object.sections) (length name == 0)))
 
 -- The shape of the map that holds so many bytes of data, at most 65,536: values of 8 bytes, or of 16 where 4,096 of these are too few. It has a byte more,
 -- so that the address behind the data is one of the map, unless there is no room for it.
@@ -87,11 +90,11 @@ data_shape size =
     if nat_lt size 32768 then record { value_size = 8; entries = size / 8 + 1 } else record { value_size = 16; entries = min (size / 16 + 1) most_entries }
 
 -- The shapes of the maps that sections of data become.
-abbrev pub shape_of_data : List ℕ → Plan → ℕ → MapShape
-shape_of_data object plan section = data_shape (section_at object plan.sections section).size
+abbrev pub shape_of_data : Plan → ℕ → MapShape
+shape_of_data plan section = data_shape (section_at plan.object section).size
 
-abbrev pub data_shapes : List ℕ → Plan → List ℕ → List MapShape
-data_shapes object plan taken = map (shape_of_data object plan) taken
+abbrev pub data_shapes : Plan → List ℕ → List MapShape
+data_shapes plan taken = map (shape_of_data plan) taken
 
 -- Each is the shape of a map that there may be.
 abbrev pub AllShapes : List MapShape → Type 0
@@ -111,26 +114,26 @@ pub record Answered : Type 0 where
   pub count : ℕ
 
 -- The words of a plan with calls answered, and with the setup. They are at most as many as a program may have.
-abbrev pub program_words : List ℕ → Plan → List ℕ → List ℕ → ℕ → List Stub → Result Answered LinkFault
-program_words object plan maps taken entry stubs =
-    after (words_of object plan maps taken) (λ code.
-    after (stores_of object plan maps taken) (λ stores.
+abbrev pub program_words : Numbered → ℕ → List Stub → Result Answered LinkFault
+program_words placed entry stubs =
+    after (words_of placed) (λ code.
+    after (stores_of placed) (λ stores.
     provided (nat_le (length code + length stores) (8 * most_slots)) TooLong
     (Ok (record { words = with_setup (answered stubs code) stores entry; count = answers stubs code }))))
 
 -- The program of a plan: its words with relocations done and, where its data aren't zeros at the start, the setup.
-abbrev pub program_of : List ℕ → List ℕ → List Stub → Plan → Result Made LinkFault
-program_of object entry stubs plan =
-    after (entry_of object plan entry) (λ slot.
-    after (maps_of object plan) (λ maps.
-    after (data_of object plan) (λ taken.
+abbrev pub program_of : List ℕ → List Stub → Plan → Result Made LinkFault
+program_of entry stubs plan =
+    after (entry_of plan entry) (λ slot.
+    after (maps_of plan) (λ maps.
+    after (data_of plan) (λ taken.
     provided (nat_le (length maps + length taken) most_maps) TooManyMaps
-    (after (program_words object plan maps taken slot stubs) (λ done.
-    Ok (record { words = done.words; maps = length maps; data_maps = data_shapes object plan taken; answered = done.count }))))))
+    (after (program_words (numbered plan maps taken) slot stubs) (λ done.
+    Ok (record { words = done.words; maps = length maps; data_maps = data_shapes plan taken; answered = done.count }))))))
 
 -- The program of a section from a function of that name on, with the calls of some helpers answered, or the first fault.
 abbrev pub linked : List ℕ → List ℕ → List ℕ → List Stub → Result Made LinkFault
-linked object name entry stubs = after (planned object name) (program_of object entry stubs)
+linked object name entry stubs = after (planned object name) (program_of entry stubs)
 
 -- Maps of one byte each: the object's own shapes are its loader's matter.
 abbrev pub plain_maps : ℕ → List MapShape
@@ -149,10 +152,10 @@ pub record AreWordsOf (object name entry : List ℕ) (stubs : List Stub) (code :
   pub accepted : IsAccepted code (least_maps program.maps program.data_maps)
 
 -- What is told of words that the checker refuses: from where their slot comes; of a call of a helper that there isn't the helper's number, too.
-abbrev pub told_of : List ℕ → Plan → List ℕ → LoadFault → LinkFault
-told_of object plan words (At slot UnknownHelper) = Helper slot (u32_at words (8 * slot + 4)) (source_of object plan words slot)
-told_of object plan words (At slot fault) = Program (At slot fault) (source_of object plan words slot)
-told_of object plan words refusal = Program refusal None
+abbrev pub told_of : Plan → List ℕ → LoadFault → LinkFault
+told_of plan words (At slot UnknownHelper) = Helper slot (u32_at words (8 * slot + 4)) (source_of plan words slot)
+told_of plan words (At slot fault) = Program (At slot fault) (source_of plan words slot)
+told_of plan words refusal = Program refusal None
 
 -- The words are no program.
 pub record IsRejected (object name entry : List ℕ) (stubs : List Stub) (fault : LinkFault) : Type 0 where
@@ -160,6 +163,6 @@ pub record IsRejected (object name entry : List ℕ) (stubs : List Stub) (fault 
   pub plans : planned object name ≡ Ok plan
   pub program : Made
   pub refusal : LoadFault
-  pub told : fault ≡ told_of object plan program.words refusal
+  pub told : fault ≡ told_of plan program.words refusal
   pub linked : linked object name entry stubs ≡ Ok program
   pub refused : IsRefused program.words (least_maps program.maps program.data_maps) refusal

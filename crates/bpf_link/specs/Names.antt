@@ -2,16 +2,16 @@
 use Rattle.std.specs.Prelude.{ℕ, zero, suc, nat_lt, min, Bool, true, false, if◌then◌else◌, List, [], ◌∷◌, ◌++◌, Option, Some, None, Result, Ok, Err, length, codes, slice_index, slice_range}
 use Rattle.bpf_link.specs.declared.fault.LinkFault.{LinkFault}
 use Rattle.bpf_link.specs.declared.fault.LinkFault.TheVariants as link
-use Rattle.bpf_link.specs.declared.header.Sections.{Sections}
 use Rattle.bpf_link.specs.declared.layout.SymbolEntry.{SymbolEntry}
 use Rattle.bpf_link.specs.declared.plan.Plan.{Plan}
 use Rattle.bpf_link.specs.declared.sources.Source.{Source}
 use Rattle.bpf_link.specs.Entries.{is_function, is_program}
-use Rattle.bpf_link.specs.Header.{opened}
+use Rattle.bpf_link.specs.Objects.{Elf, opened, section_at}
 use Rattle.bpf_link.specs.Links.{planned}
 use Rattle.bpf_link.specs.MapTypes.{name_from}
-use Rattle.bpf_link.specs.Plans.{symbol_at, symbol_place}
-use Rattle.bpf_link.specs.Sections.{section_at, section_place, is_code}
+use Rattle.bpf_link.specs.Plans.{symbol_place}
+use Rattle.bpf_link.specs.Sections.{section_place, is_code}
+use Rattle.bpf_link.specs.Tables.{symbol_at}
 
 -- At most 255 bytes of the name at a place in the file.
 abbrev pub cut : List ℕ → List ℕ
@@ -30,27 +30,27 @@ built step zero = []
 built step (suc n) = step n (built step n)
 
 -- Where the names of the sections stand that hold code.
-abbrev pub with_code : List ℕ → Sections → ℕ → List ℕ → List ℕ
-with_code object sections i places =
-    let section = section_at object sections i in if is_code section then with_place (section_place object sections section) places else places
+abbrev pub with_code : Elf → ℕ → List ℕ → List ℕ
+with_code object i places =
+    let section = section_at object i in if is_code section then with_place (section_place object section) places else places
 
-abbrev pub code_places : List ℕ → Result Sections LinkFault → List ℕ
-code_places object (Ok sections) = built (with_code object sections) sections.count
-code_places object (Err fault) = []
+abbrev pub code_places : Result Elf LinkFault → List ℕ
+code_places (Ok object) = built (with_code object) (length object.sections)
+code_places (Err fault) = []
 
 -- Where the names of the functions of a plan's section stand: of all, or of those that are known outside the object.
 abbrev pub is_listed : Bool → ℕ → SymbolEntry → Bool
 is_listed true section symbol = is_program section symbol
 is_listed false section symbol = is_function section symbol
 
-abbrev pub with_function : List ℕ → Plan → Bool → ℕ → List ℕ → List ℕ
-with_function object plan known i places =
-    let symbol = symbol_at object plan.symbols i in
-    if is_listed known plan.code.section symbol then with_place (symbol_place object plan symbol) places else places
+abbrev pub with_function : Plan → Bool → ℕ → List ℕ → List ℕ
+with_function plan known i places =
+    let symbol = symbol_at plan.symbols i in
+    if is_listed known plan.parts.code.section symbol then with_place (symbol_place plan symbol) places else places
 
-abbrev pub function_places : List ℕ → Bool → Result Plan LinkFault → List ℕ
-function_places object known (Ok plan) = built (with_function object plan known) plan.symbols.count
-function_places object known (Err fault) = []
+abbrev pub function_places : Bool → Result Plan LinkFault → List ℕ
+function_places known (Ok plan) = built (with_function plan known) (length plan.symbols)
+function_places known (Err fault) = []
 
 -- Where the name of the section stands from which a slot comes.
 abbrev pub source_places : Option Source → List ℕ
@@ -65,10 +65,10 @@ fault_places object section (link.Relocation fault slot at) = at ∷ []
 fault_places object section (link.Pointer at) = at ∷ []
 fault_places object section (link.Program fault source) = source_places source
 fault_places object section (link.Helper slot helper source) = source_places source
-fault_places object section link.NoSection = code_places object (opened object)
-fault_places object section link.ManySections = code_places object (opened object)
-fault_places object section link.ManyPrograms = function_places object true (planned object section)
-fault_places object section link.NoEntry = function_places object false (planned object section)
+fault_places object section link.NoSection = code_places (opened object)
+fault_places object section link.ManySections = code_places (opened object)
+fault_places object section link.ManyPrograms = function_places true (planned object section)
+fault_places object section link.NoEntry = function_places false (planned object section)
 fault_places object section fault = []
 
 -- How many names a text has; what stands for the others is two dots.

@@ -9,7 +9,6 @@ use Rattle.bpf_link.specs.declared.stubs.Stub.{Stub}
 use Rattle.bpf_link.specs.FieldRelocations.{AreLeft, IsFieldsFault}
 use Rattle.bpf_link.specs.Laid.{IsLaidOut}
 use Rattle.bpf_link.specs.Links.{AllShapes, Made, least_maps, linked, maps_of, planned, program_of}
-use Rattle.bpf_link.specs.Plans.{LiesPlan}
 use Rattle.bpf_link.specs.Refusals.{IsLinkFault}
 use Rattle.bpf_link.specs.Shapes.{AreDataShapes, HasShapes}
 use Rattle.bpf_isa.specs.Maps.{most_maps}
@@ -32,17 +31,16 @@ linked_of program = record {
 }
 
 -- The maps of a program are those of its plan.
-pub record HasOwnMaps (object : List ℕ) (plan : Plan) (program : Program) : Type 0 where
-  pub lies : LiesPlan object plan
+pub record HasOwnMaps (plan : Plan) (program : Program) : Type 0 where
   pub few : length program.maps.items + length program.data_maps.items ≤ most_maps
-  pub maps : maps_of object plan ≡ Ok program.maps.items
-  pub of_data : AreDataShapes object plan program.data_maps.items
+  pub maps : maps_of plan ≡ Ok program.maps.items
+  pub of_data : AreDataShapes plan program.data_maps.items
 
 -- A program is that of a plan, and lies as the plan says.
-pub record IsProgram (object : List ℕ) (plan : Plan) (entry : List ℕ) (stubs : List Stub) (program : Program) : Type 0 where
-  pub ok : program_of object entry stubs plan ≡ Ok (made_of program)
-  pub laid : IsLaidOut object plan entry stubs program.words.items
-  pub own : HasOwnMaps object plan program
+pub record IsProgram (plan : Plan) (entry : List ℕ) (stubs : List Stub) (program : Program) : Type 0 where
+  pub ok : program_of entry stubs plan ≡ Ok (made_of program)
+  pub laid : IsLaidOut plan entry stubs program.words.items
+  pub own : HasOwnMaps plan program
   pub possible : AllShapes program.data_maps.items
 
 -- A program that is made of an object. The checker accepts its words, for maps that have at least one byte.
@@ -50,8 +48,8 @@ pub record IsLinked (object name entry : List ℕ) (stubs : List Stub) (program 
   pub ok : linked object name entry stubs ≡ Ok (linked_of program)
   pub plan : Plan
   pub plans : planned object name ≡ Ok plan
-  pub laid : IsLaidOut object plan entry stubs program.words.items
-  pub shapes : HasShapes object plan program.shapes.items
+  pub laid : IsLaidOut plan entry stubs program.words.items
+  pub shapes : HasShapes plan program.shapes.items
   pub accepted : IsAccepted program.words.items (least_maps program.maps program.data_maps.items)
 
 -- So many relocations of its fields are left undone: none unless that is asked for.

@@ -12,33 +12,33 @@ use Rattle.bpf_link.specs.MapTypes.{types_found, types_bytes, is_typed, typed_sh
 use Rattle.bpf_link.specs.Shapes.{IsInOrder}
 
 -- The BTF isn't read.
-pub record HasReadFault (object : List ℕ) (plan : Plan) (fault : LinkFault) : Type 0 where
+pub record HasReadFault (plan : Plan) (fault : LinkFault) : Type 0 where
   pub why : BtfFault
   pub told : fault ≡ link.Types why
-  pub unread : IsReadFault (types_bytes object plan.sections (types_found object plan.sections)) why
+  pub unread : IsReadFault (types_bytes plan.object (types_found plan.object)) why
 
 -- It doesn't say of each map what the machine may have.
-pub record HasOtherMap (object : List ℕ) (plan : Plan) (maps : List ℕ) (fault : LinkFault) : Type 0 where
+pub record HasOtherMap (plan : Plan) (maps : List ℕ) (fault : LinkFault) : Type 0 where
   pub types : Types
-  pub read : IsRead (types_bytes object plan.sections (types_found object plan.sections)) types
+  pub read : IsRead (types_bytes plan.object (types_found plan.object)) types
   pub ordered : List ℕ
   pub in_order : IsInOrder maps ordered
-  pub told : typed_shapes object plan types ordered ≡ Err fault
+  pub told : typed_shapes plan types ordered ≡ Err fault
 
 -- Why BTF gives no shapes.
-abbrev pub IsTypeFault : List ℕ → Plan → List ℕ → LinkFault → Type 0
-IsTypeFault object plan maps fault = (fault ≡ link.Memory) ⊎ (HasReadFault object plan fault ⊎ HasOtherMap object plan maps fault)
+abbrev pub IsTypeFault : Plan → List ℕ → LinkFault → Type 0
+IsTypeFault plan maps fault = (fault ≡ link.Memory) ⊎ (HasReadFault plan fault ⊎ HasOtherMap plan maps fault)
 
 -- BTF is to give them.
-pub record HasTypeFault (object : List ℕ) (plan : Plan) (maps : List ℕ) (fault : LinkFault) : Type 0 where
-  pub typed : is_typed object plan maps ≡ true
-  pub err : IsTypeFault object plan maps fault
+pub record HasTypeFault (plan : Plan) (maps : List ℕ) (fault : LinkFault) : Type 0 where
+  pub typed : is_typed plan maps ≡ true
+  pub err : IsTypeFault plan maps fault
 
 -- Why the maps of a plan have no shapes.
-pub record IsShapeFault (object : List ℕ) (plan : Plan) (fault : LinkFault) : Type 0 where
+pub record IsShapeFault (plan : Plan) (fault : LinkFault) : Type 0 where
   pub maps : List ℕ
-  pub found : maps_of object plan ≡ Ok maps
-  pub why : HasTypeFault object plan maps fault
+  pub found : maps_of plan ≡ Ok maps
+  pub why : HasTypeFault plan maps fault
 
 -- The words are a program, and its maps have no shapes.
 pub record LacksShapes (object name entry : List ℕ) (stubs : List Stub) (fault : LinkFault) : Type 0 where
@@ -46,7 +46,7 @@ pub record LacksShapes (object name entry : List ℕ) (stubs : List Stub) (fault
   pub made : AreWordsOf object name entry stubs words
   pub plan : Plan
   pub plans : planned object name ≡ Ok plan
-  pub why : IsShapeFault object plan fault
+  pub why : IsShapeFault plan fault
 
 -- Why no program is made of an object.
 abbrev pub IsLinkFault : List ℕ → List ℕ → List ℕ → List Stub → LinkFault → Type 0

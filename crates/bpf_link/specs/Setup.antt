@@ -3,7 +3,7 @@ use Rattle.std.specs.Prelude.{ℕ, zero, suc, ◌+◌, ◌-◌, ◌*◌, ◌/◌
 use Rattle.std.specs.List.{list_all}
 use Rattle.byteorder.specs.Endian.{little_bytes}
 use Rattle.bpf_link.specs.declared.fault.LinkFault.{LinkFault}
-use Rattle.bpf_link.specs.declared.plan.Plan.{Plan}
+use Rattle.bpf_link.specs.Data.{Numbered}
 use Rattle.bpf_link.specs.Layout.{u64_at}
 use Rattle.bpf_link.specs.Plans.{after, steps}
 use Rattle.bpf_link.specs.Images.{image_of}
@@ -42,12 +42,12 @@ abbrev pub with_image : ℕ → List ℕ → List ℕ → List ℕ
 with_image map image setup = if is_zero image then setup else with_stores map image setup (length image / 8)
 
 -- The stores of all maps that are data.
-abbrev pub with_section_image : List ℕ → Plan → List ℕ → List ℕ → ℕ → List ℕ → Result (List ℕ) LinkFault
-with_section_image object plan maps taken k setup =
-    after (image_of object plan maps taken (slice_index taken k)) (λ image. Ok (with_image (length maps + k) image setup))
+abbrev pub with_section_image : Numbered → ℕ → List ℕ → Result (List ℕ) LinkFault
+with_section_image placed k setup =
+    after (image_of placed (slice_index placed.taken k)) (λ image. Ok (with_image (length placed.maps + k) image setup))
 
-abbrev pub stores_of : List ℕ → Plan → List ℕ → List ℕ → Result (List ℕ) LinkFault
-stores_of object plan maps taken = steps (with_section_image object plan maps taken) [] (length taken)
+abbrev pub stores_of : Numbered → Result (List ℕ) LinkFault
+stores_of placed = steps (with_section_image placed) [] (length placed.taken)
 
 -- `ja32 +DISTANCE`, in 32 bits of two's complement.
 abbrev pub jump_words : ℕ → List ℕ

@@ -6,7 +6,6 @@ use Rattle.bpf_isa.specs.declared.maps.MapShape.{MapShape}
 use Rattle.bpf_btf.specs.Sections.{IsRead}
 use Rattle.bpf_btf.specs.Types.{Types}
 use Rattle.bpf_link.specs.declared.layout.MapDefinition.{MapDefinition}
-use Rattle.bpf_link.specs.declared.plan.Entries.{Entries}
 use Rattle.bpf_link.specs.declared.plan.Plan.{Plan}
 use Rattle.bpf_link.specs.Layout.{map_definition}
 use Rattle.bpf_link.specs.Data.{data_of}
@@ -15,23 +14,23 @@ use Rattle.bpf_link.specs.Patches.{map_number}
 use Rattle.bpf_link.specs.MapTypes.{types_found, types_bytes, is_typed, typed_shapes}
 
 -- The definition at a place of the section.
-abbrev pub definition_at : List ℕ → Entries → ℕ → MapDefinition
-definition_at object definitions place = map_definition object (definitions.at + place)
+abbrev pub definition_at : List ℕ → ℕ → MapDefinition
+definition_at definitions place = map_definition definitions place
 
 -- It lies in the section, and is that of an array: BPF_MAP_TYPE_ARRAY, 2, whose keys have 4 bytes.
-abbrev pub is_array : List ℕ → Entries → ℕ → Bool
-is_array object definitions place =
-    nat_le (place + 16) definitions.count && (((definition_at object definitions place).kind == 2) && ((definition_at object definitions place).key_size == 4))
+abbrev pub is_array : List ℕ → ℕ → Bool
+is_array definitions place =
+    nat_le (place + 16) (length definitions) && (((definition_at definitions place).kind == 2) && ((definition_at definitions place).key_size == 4))
 
 -- The shape that it gives the map.
-abbrev pub shape_at : List ℕ → Entries → ℕ → MapShape
-shape_at object definitions place =
-    record { value_size = (definition_at object definitions place).value_size; entries = (definition_at object definitions place).entries }
+abbrev pub shape_at : List ℕ → ℕ → MapShape
+shape_at definitions place =
+    record { value_size = (definition_at definitions place).value_size; entries = (definition_at definitions place).entries }
 
 -- The shapes of the maps at places of the section. There are none unless each is an array.
-abbrev pub shapes_at : List ℕ → Entries → List ℕ → List MapShape
-shapes_at object definitions places =
-    if list_all (is_array object definitions) places then map (shape_at object definitions) places else []
+abbrev pub shapes_at : List ℕ → List ℕ → List MapShape
+shapes_at definitions places =
+    if list_all (is_array definitions) places then map (shape_at definitions) places else []
 
 -- Places in ascending order.
 pub record IsInOrder (places ordered : List ℕ) : Type 0 where
@@ -39,13 +38,13 @@ pub record IsInOrder (places ordered : List ℕ) : Type 0 where
   pub ascending : IsSorted nat_cmp ordered
 
 -- The shapes of maps, in the order in which they stand in their section, which is that of their numbers.
-abbrev pub AreShapes : List ℕ → Entries → List ℕ → List MapShape → Type 0
-AreShapes object definitions maps shapes = (ordered : List ℕ) × IsInOrder maps ordered × (shapes ≡ shapes_at object definitions ordered)
+abbrev pub AreShapes : List ℕ → List ℕ → List MapShape → Type 0
+AreShapes definitions maps shapes = (ordered : List ℕ) × IsInOrder maps ordered × (shapes ≡ shapes_at definitions ordered)
 
 -- So where there are shapes, that of a map stands where its number says.
-abbrev pub AreNumbered : List ℕ → Entries → List ℕ → List MapShape → Type 0
-AreNumbered object definitions maps shapes = (place : ℕ) → Contains maps place → shapes ≢ []
-    → slice_get shapes (map_number maps place) ≡ Some (shape_at object definitions place)
+abbrev pub AreNumbered : List ℕ → List ℕ → List MapShape → Type 0
+AreNumbered definitions maps shapes = (place : ℕ) → Contains maps place → shapes ≢ []
+    → slice_get shapes (map_number maps place) ≡ Some (shape_at definitions place)
 
 -- The object has maps of its own and their shapes aren't known.
 abbrev pub is_unknown : List ℕ → List MapShape → Bool
@@ -56,32 +55,32 @@ abbrev pub all_shapes : List ℕ → List MapShape → List MapShape → List Ma
 all_shapes maps own others = if is_unknown maps own then [] else own ++ others
 
 -- The definitions in the section `maps` give the shapes.
-pub record AreDefined (object : List ℕ) (definitions : Entries) (maps : List ℕ) (shapes : List MapShape) : Type 0 where
-  pub ordered : AreShapes object definitions maps shapes
-  pub numbered : AreNumbered object definitions maps shapes
+pub record AreDefined (definitions maps : List ℕ) (shapes : List MapShape) : Type 0 where
+  pub ordered : AreShapes definitions maps shapes
+  pub numbered : AreNumbered definitions maps shapes
 
 -- BTF gives those of maps in `.maps`, in the order in which they stand there.
-pub record AreTyped (object : List ℕ) (plan : Plan) (maps : List ℕ) (shapes : List MapShape) : Type 0 where
+pub record AreTyped (plan : Plan) (maps : List ℕ) (shapes : List MapShape) : Type 0 where
   pub types : Types
-  pub read : IsRead (types_bytes object plan.sections (types_found object plan.sections)) types
+  pub read : IsRead (types_bytes plan.object (types_found plan.object)) types
   pub ordered : List ℕ
   pub in_order : IsInOrder maps ordered
-  pub told : typed_shapes object plan types ordered ≡ Ok shapes
+  pub told : typed_shapes plan types ordered ≡ Ok shapes
 
-abbrev pub AreOwn : Bool → List ℕ → Plan → List ℕ → List MapShape → Type 0
-AreOwn true object plan maps shapes = AreTyped object plan maps shapes
-AreOwn false object plan maps shapes = AreDefined object plan.definitions maps shapes
+abbrev pub AreOwn : Bool → Plan → List ℕ → List MapShape → Type 0
+AreOwn true plan maps shapes = AreTyped plan maps shapes
+AreOwn false plan maps shapes = AreDefined plan.definitions maps shapes
 
 -- The shapes of the maps that data become.
-abbrev pub AreDataShapes : List ℕ → Plan → List MapShape → Type 0
-AreDataShapes object plan shapes = (taken : List ℕ) × (data_of object plan ≡ Ok taken) × (shapes ≡ data_shapes object plan taken)
+abbrev pub AreDataShapes : Plan → List MapShape → Type 0
+AreDataShapes plan shapes = (taken : List ℕ) × (data_of plan ≡ Ok taken) × (shapes ≡ data_shapes plan taken)
 
 -- The shapes of the maps of a plan.
-pub record HasShapes (object : List ℕ) (plan : Plan) (shapes : List MapShape) : Type 0 where
+pub record HasShapes (plan : Plan) (shapes : List MapShape) : Type 0 where
   pub maps : List ℕ
   pub taken : List ℕ
-  pub found : maps_of object plan ≡ Ok maps
-  pub referred : data_of object plan ≡ Ok taken
+  pub found : maps_of plan ≡ Ok maps
+  pub referred : data_of plan ≡ Ok taken
   pub own : List MapShape
-  pub shaped : AreOwn (is_typed object plan maps) object plan maps own
-  pub all : shapes ≡ all_shapes maps own (data_shapes object plan taken)
+  pub shaped : AreOwn (is_typed plan maps) plan maps own
+  pub all : shapes ≡ all_shapes maps own (data_shapes plan taken)

@@ -7,7 +7,7 @@ use Rattle.bpf_isa.specs.Maps.{items_of}
 use Rattle.bpf_link.specs.declared.fault.LinkFault.{LinkFault}
 use Rattle.bpf_link.specs.declared.fault.LinkFault.TheVariants.{StubList, StubRange, StubTwice, ManyStubs}
 use Rattle.bpf_link.specs.declared.stubs.Stub.{Stub}
-use Rattle.bpf_link.specs.Header.{provided}
+use Rattle.bpf_link.specs.Objects.{provided}
 use Rattle.bpf_link.specs.Plans.{after, steps}
 use Rattle.bpf_link.specs.Stubs.{answer_of}
 

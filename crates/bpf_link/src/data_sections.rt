@@ -1,13 +1,15 @@
 //! The data that a program refers to: sections, each of which becomes a map.
 ghost use Rattle.std.specs.Prelude.{◌≡◌, ◌≤◌, ◌<◌, ◌+◌, length, IfOk, IfErr, Ok, Err, ℕ};
 ghost use Rattle.bpf_link.specs.Data.{is_among, refers_to_data, with_section, with_reference, with_references, pointers_of, with_pointed, with_all_pointed, referred, with_taken, in_order, data_of, data_number, AllBelow};
-ghost use Rattle.bpf_link.specs.Plans.{Lies, HasEntry, LiesPlan};
 ghost use Rattle.bpf_isa.specs.Maps.{most_maps};
 
 use crate::fault::LinkFault;
 use crate::layout::RelocationEntry;
-use crate::plan::{Entries, Plan, relocation_at, relocations_in, symbol_at};
-use crate::sections::{is_data, relocations_of, section_at};
+use crate::parts::Side;
+use crate::placed::Placed;
+use crate::plan::{Plan, relocations_in};
+use crate::sections::{is_data, relocations_of};
+use crate::tables::Relocations;
 use arrayvec::ArrayVec;
 use bpf_isa::MOST_MAPS;
 
@@ -19,26 +21,21 @@ pub fn is_among(sections: &[usize], section: usize) -> bool
 }
 
 /// Whether a relocation is of a kind, and against a symbol of a section of data.
-fn refers_to_data(object: &[u8], plan: &Plan, kind: u32, relocation: &RelocationEntry) -> bool
-    requires { LiesPlan object.now plan.now }
-    ensures { result ≡ refers_to_data object.now plan.now kind relocation.now }
+fn refers_to_data(plan: &Plan<'_>, kind: u32, relocation: &RelocationEntry) -> bool
+    ensures { result ≡ refers_to_data plan.now kind relocation.now }
 {
     if relocation.kind != kind {
         return false;
     }
     let symbol = relocation.symbol as usize;
-    if symbol >= plan.symbols.count {
+    if symbol >= plan.symbols.len() {
         return false;
     }
-    let section = usize::from(symbol_at(object, &plan.symbols, symbol).section);
-    if section >= plan.sections.count {
+    let section = usize::from(plan.symbols.at(symbol).section);
+    if section >= plan.object.len() {
         return false;
     }
-    is_data(
-        object,
-        &plan.sections,
-        &section_at(object, &plan.sections, section),
-    )
+    is_data(&plan.object, &plan.object.section(section))
 }
 
 /// One more section, unless it is among them.
@@ -61,46 +58,41 @@ fn with_section(
 
 /// Sections of data with the one that a relocation of a kind refers to.
 fn with_reference(
-    object: &[u8],
-    plan: &Plan,
+    plan: &Plan<'_>,
     kind: u32,
-    relocations: &Entries,
+    relocations: &Relocations<'_>,
     i: usize,
     found: ArrayVec<usize, MOST_MAPS>,
 ) -> Result<ArrayVec<usize, MOST_MAPS>, LinkFault>
-    requires plan { LiesPlan object.now plan.now }
-    requires entry { HasEntry object.now 16 relocations.now i }
+    requires { i < length relocations.now }
     ensures ok { IfOk result (λ new.
-        with_reference object.now plan.now kind relocations.now i found.items ≡ Ok new.items) }
+        with_reference plan.now kind relocations.now i found.items ≡ Ok new.items) }
     ensures err { IfErr result (λ fault.
-        with_reference object.now plan.now kind relocations.now i found.items ≡ Err fault) }
+        with_reference plan.now kind relocations.now i found.items ≡ Err fault) }
 {
-    let relocation = relocation_at(object, relocations, i);
-    if !refers_to_data(object, plan, kind, &relocation) {
+    let relocation = relocations.at(i);
+    if !refers_to_data(plan, kind, &relocation) {
         return Ok(found);
     }
-    let symbol = symbol_at(object, &plan.symbols, relocation.symbol as usize);
+    let symbol = plan.symbols.at(relocation.symbol as usize);
     with_section(usize::from(symbol.section), found)
 }
 
 /// Sections of data with those that the relocations of a kind refer to.
 fn with_references(
-    object: &[u8],
-    plan: &Plan,
+    plan: &Plan<'_>,
     kind: u32,
-    relocations: &Entries,
+    relocations: &Relocations<'_>,
     found: ArrayVec<usize, MOST_MAPS>,
 ) -> Result<ArrayVec<usize, MOST_MAPS>, LinkFault>
-    requires plan { LiesPlan object.now plan.now }
-    requires relocations { Lies object.now 16 relocations.now }
     ensures ok { IfOk result (λ new.
-        with_references object.now plan.now kind relocations.now found.items ≡ Ok new.items) }
+        with_references plan.now kind relocations.now found.items ≡ Ok new.items) }
     ensures err { IfErr result (λ fault.
-        with_references object.now plan.now kind relocations.now found.items ≡ Err fault) }
+        with_references plan.now kind relocations.now found.items ≡ Err fault) }
 {
     let mut all = found;
-    for i in 0..relocations.count {
-        match with_reference(object, plan, kind, relocations, i, all) {
+    for i in 0..relocations.len() {
+        match with_reference(plan, kind, relocations, i, all) {
             Ok(new) => all = new,
             Err(fault) => return Err(fault),
         }
@@ -109,53 +101,47 @@ fn with_references(
 }
 
 /// The relocations of a section of data.
-pub fn pointers_of(object: &[u8], plan: &Plan, section: usize) -> Result<Entries, LinkFault>
-    requires { LiesPlan object.now plan.now }
-    ensures value { result ≡ pointers_of object.now plan.now section }
-    ensures fits { IfOk result (Lies object.now 16) }
+pub fn pointers_of<'a>(plan: &Plan<'a>, section: usize) -> Result<Relocations<'a>, LinkFault>
+    ensures { result ≡ pointers_of plan.now section }
 {
-    let found = relocations_of(object, &plan.sections, section);
-    relocations_in(object, &plan.sections, plan.table, found)
+    let found = relocations_of(&plan.object, section);
+    relocations_in(&plan.object, plan.table, found)
 }
 
 /// Sections of data with those that the k-th of them refers to.
 fn with_pointed(
-    object: &[u8],
-    plan: &Plan,
+    plan: &Plan<'_>,
     k: usize,
     found: ArrayVec<usize, MOST_MAPS>,
 ) -> Result<ArrayVec<usize, MOST_MAPS>, LinkFault>
-    requires { LiesPlan object.now plan.now }
     ensures ok { IfOk result (λ new.
-        with_pointed object.now plan.now k found.items ≡ Ok new.items) }
+        with_pointed plan.now k found.items ≡ Ok new.items) }
     ensures err { IfErr result (λ fault.
-        with_pointed object.now plan.now k found.items ≡ Err fault) }
+        with_pointed plan.now k found.items ≡ Err fault) }
 {
     if k >= found.len() {
         return Ok(found);
     }
     let section = found.as_slice()[k];
-    match pointers_of(object, plan, section) {
-        Ok(relocations) => with_references(object, plan, 2, &relocations, found),
+    match pointers_of(plan, section) {
+        Ok(relocations) => with_references(plan, 2, &relocations, found),
         Err(fault) => Err(fault),
     }
 }
 
 /// Sections of data with those that they refer to, from the first one on.
 fn with_all_pointed(
-    object: &[u8],
-    plan: &Plan,
+    plan: &Plan<'_>,
     found: ArrayVec<usize, MOST_MAPS>,
 ) -> Result<ArrayVec<usize, MOST_MAPS>, LinkFault>
-    requires { LiesPlan object.now plan.now }
     ensures ok { IfOk result (λ new.
-        with_all_pointed object.now plan.now found.items ≡ Ok new.items) }
+        with_all_pointed plan.now found.items ≡ Ok new.items) }
     ensures err { IfErr result (λ fault.
-        with_all_pointed object.now plan.now found.items ≡ Err fault) }
+        with_all_pointed plan.now found.items ≡ Err fault) }
 {
     let mut all = found;
     for k in 0..MOST_MAPS {
-        match with_pointed(object, plan, k, all) {
+        match with_pointed(plan, k, all) {
             Ok(new) => all = new,
             Err(fault) => return Err(fault),
         }
@@ -164,17 +150,21 @@ fn with_all_pointed(
 }
 
 /// The sections of data that the program refers to, by its wide loads or by way of data.
-fn referred(object: &[u8], plan: &Plan) -> Result<ArrayVec<usize, MOST_MAPS>, LinkFault>
-    requires { LiesPlan object.now plan.now }
-    ensures ok { IfOk result (λ found. referred object.now plan.now ≡ Ok found.items) }
-    ensures err { IfErr result (λ fault. referred object.now plan.now ≡ Err fault) }
+fn referred(plan: &Plan<'_>) -> Result<ArrayVec<usize, MOST_MAPS>, LinkFault>
+    ensures ok { IfOk result (λ found. referred plan.now ≡ Ok found.items) }
+    ensures err { IfErr result (λ fault. referred plan.now ≡ Err fault) }
 {
-    let code = match with_references(object, plan, 1, &plan.code.relocations, ArrayVec::new()) {
+    let code = match with_references(
+        plan,
+        1,
+        &plan.parts.part(Side::Code).relocations,
+        ArrayVec::new(),
+    ) {
         Ok(found) => found,
         Err(fault) => return Err(fault),
     };
-    match with_references(object, plan, 1, &plan.text.relocations, code) {
-        Ok(found) => with_all_pointed(object, plan, found),
+    match with_references(plan, 1, &plan.parts.part(Side::Text).relocations, code) {
+        Ok(found) => with_all_pointed(plan, found),
         Err(fault) => Err(fault),
     }
 }
@@ -218,29 +208,28 @@ fn in_order(found: &[usize], count: usize) -> Result<ArrayVec<usize, MOST_MAPS>,
 }
 
 /// The sections of data that the program refers to, in the order of their numbers.
-pub fn data_of(object: &[u8], plan: &Plan) -> Result<ArrayVec<usize, MOST_MAPS>, LinkFault>
-    requires { LiesPlan object.now plan.now }
-    ensures ok { IfOk result (λ taken. data_of object.now plan.now ≡ Ok taken.items) }
-    ensures err { IfErr result (λ fault. data_of object.now plan.now ≡ Err fault) }
-    ensures below { IfOk result (λ taken. AllBelow plan.now.sections.count taken.items) }
+pub fn data_of(plan: &Plan<'_>) -> Result<ArrayVec<usize, MOST_MAPS>, LinkFault>
+    ensures ok { IfOk result (λ taken. data_of plan.now ≡ Ok taken.items) }
+    ensures err { IfErr result (λ fault. data_of plan.now ≡ Err fault) }
+    ensures below { IfOk result (λ taken. AllBelow (length plan.now.object.sections) taken.items) }
 {
-    match referred(object, plan) {
-        Ok(found) => in_order(found.as_slice(), plan.sections.count),
+    match referred(plan) {
+        Ok(found) => in_order(found.as_slice(), plan.object.len()),
         Err(fault) => Err(fault),
     }
 }
 
 /// The number of the map that a section becomes.
-pub fn data_number(maps: &[u64], taken: &[usize], section: usize) -> usize
-    requires { length maps.now + length taken.now ≤ most_maps }
-    ensures value { result ≡ data_number maps.now taken.now section }
+pub fn data_number(placed: &Placed<'_, '_>, section: usize) -> usize
+    ensures value { result ≡ data_number placed.now section }
     ensures small { result ≤ most_maps }
 {
     let mut number = 0;
+    let taken = placed.taken();
     for other in taken {
         if *other < section {
             number += 1;
         }
     }
-    maps.len() + number
+    placed.maps().len() + number
 }

@@ -1,9 +1,9 @@
 //! The relocations of fields (CO-RE) of the code that comes out.
 ghost use Rattle.std.specs.Prelude.{◌≡◌, ◌≤◌, ◌<◌, ◌+◌, ◌/◌, ◌==◌, ◌⊎◌, true, IfOk, IfErr, Ok, length};
-ghost use Rattle.bpf_link.specs.FieldRelocations.{AreLeft, CountedFields, HasExt, HasFields, HasCountFault, HasExtFault, IsCountFault, IsFieldsFault, ListedFields, PartFields, PlanFields, both_fields, ext_bytes, ext_found, fields_at, part_name, short_name};
+ghost use Rattle.bpf_link.specs.FieldRelocations.{AreLeft, CountedFields, HasFields, HasCountFault, HasExtFault, IsCountFault, IsFieldsFault, ListedFields, PartFields, PlanFields, both_fields, ext_bytes, ext_found, fields_at, part_name, short_name};
 ghost use Rattle.bpf_link.specs.Links.{planned};
 ghost use Rattle.bpf_link.specs.MapTypes.{is_something};
-ghost use Rattle.bpf_link.specs.Plans.{LiesPlan};
+ghost use Rattle.bpf_link.specs.Parts.{part_of, slots_in};
 ghost use Rattle.bpf_link.specs.Sections.{FoundBelow};
 ghost use Rattle.bpf_isa.specs.Checker.{most_slots};
 
@@ -12,7 +12,8 @@ use crate::linker::planned;
 use crate::map_types::{
     found_named, is_something, name_from, told_of_types, types_bytes, types_in,
 };
-use crate::plan::{Part, Plan, part_place};
+use crate::parts::{Part, Side};
+use crate::plan::{Plan, part_place};
 use crate::sections::Found;
 use bpf_btf::{Btf, CoreRelocations};
 use std::alloc::Global;
@@ -35,87 +36,80 @@ const NO_FIELDS: FieldRelocations = FieldRelocations {
 };
 
 /// The section that lists relocations of fields.
-fn ext_found(object: &[u8], plan: &Plan) -> Found
-    requires { LiesPlan object.now plan.now }
-    ensures value { result ≡ ext_found object.now plan.now }
-    ensures within { FoundBelow plan.now.sections.count result }
+fn ext_found(plan: &Plan<'_>) -> Found
+    ensures value { result ≡ ext_found plan.now }
+    ensures within { FoundBelow (length plan.now.object.sections) result }
 {
-    found_named(object, &plan.sections, b".BTF.ext")
+    found_named(&plan.object, b".BTF.ext")
 }
 
 /// A place at which at most 255 bytes of a name stand, as it is; in place of another the file's end,
 /// where no name stands. So a name is compared with each block of a list in a moment.
-fn short_name(object: &[u8], at: usize) -> usize
-    requires { at ≤ length object.now }
-    ensures value { result ≡ short_name object.now at }
-    ensures inside { result ≤ length object.now }
+fn short_name(bytes: &[u8], at: usize) -> usize
+    requires { at ≤ length bytes.now }
+    ensures value { result ≡ short_name bytes.now at }
+    ensures inside { result ≤ length bytes.now }
 {
-    if name_from(object, at).len() > 255 {
-        return object.len();
+    if name_from(bytes, at).len() > 255 {
+        return bytes.len();
     }
     at
 }
 
 /// Where the name of a part's section stands in the file.
-fn part_name(object: &[u8], plan: &Plan, part: &Part) -> usize
-    requires { LiesPlan object.now plan.now }
-    ensures value { result ≡ part_name object.now plan.now part.now }
-    ensures inside { result ≤ length object.now }
+fn part_name(plan: &Plan<'_>, part: &Part<'_>) -> usize
+    ensures value { result ≡ part_name plan.now part.now }
+    ensures inside { result ≤ length plan.now.object.bytes }
 {
-    short_name(object, part_place(object, plan, part))
+    short_name(plan.object.bytes(), part_place(plan, part))
 }
 
 /// Relocations of a part, by those of its section.
-fn fields_at(part: &Part, at: usize, sum: CoreRelocations) -> FieldRelocations
-    requires { part.now.first ≤ most_slots }
-    ensures { result ≡ fields_at part.now at sum }
+fn fields_at(first: usize, at: usize, sum: CoreRelocations) -> FieldRelocations
+    requires { first ≤ most_slots }
+    ensures { result ≡ fields_at first at sum }
 {
     FieldRelocations {
         count: sum.count,
-        slot: part.first + sum.first as usize / 8,
+        slot: first + sum.first as usize / 8,
         at,
     }
 }
 
 /// The relocations that are listed for a part.
 fn listed_fields(
-    object: &[u8],
-    plan: &Plan,
+    plan: &Plan<'_>,
     types: &Btf<'_>,
     ext: &[u8],
-    part: &Part,
+    side: Side,
 ) -> Result<FieldRelocations, LinkFault>
-    requires ext { HasExt object.now plan.now ext.now }
-    requires first { part.now.first ≤ most_slots }
-    ensures ok { IfOk result (ListedFields object.now plan.now types.now.strings
-        (ext_bytes object.now plan.now) part.now) }
-    ensures err { IfErr result (HasExtFault object.now plan.now) }
+    requires { ext.now ≡ ext_bytes plan.now }
+    ensures ok { IfOk result (ListedFields plan.now types.now.strings side) }
+    ensures err { IfErr result (HasExtFault plan.now) }
 {
-    let at = part_name(object, plan, part);
-    match types.core_relocations(ext, name_from(object, at)) {
-        Ok(sum) => Ok(fields_at(part, at, sum)),
+    let at = part_name(plan, plan.parts.part(side));
+    match types.core_relocations(ext, name_from(plan.object.bytes(), at)) {
+        Ok(sum) => Ok(fields_at(plan.parts.first(side), at, sum)),
         Err(fault) => Err(LinkFault::Types(fault)),
     }
 }
 
 /// The relocations of a part.
 fn part_fields(
-    object: &[u8],
-    plan: &Plan,
+    plan: &Plan<'_>,
     types: &Btf<'_>,
     ext: &[u8],
-    part: &Part,
+    side: Side,
 ) -> Result<FieldRelocations, LinkFault>
-    requires ext { HasExt object.now plan.now ext.now }
-    requires first { part.now.first ≤ most_slots }
-    ensures ok { IfOk result (PartFields (part.now.slots.count == 0)
-        object.now plan.now types.now.strings (ext_bytes object.now plan.now) part.now) }
-    ensures err { IfErr result (HasExtFault object.now plan.now) }
+    requires { ext.now ≡ ext_bytes plan.now }
+    ensures ok { IfOk result (PartFields (slots_in (part_of plan.now.parts side) == 0)
+        plan.now types.now.strings side) }
+    ensures err { IfErr result (HasExtFault plan.now) }
 {
-    if part.slots.count == 0 {
+    if plan.parts.part(side).len() == 0 {
         return Ok(NO_FIELDS);
     }
-    listed_fields(object, plan, types, ext, part)
+    listed_fields(plan, types, ext, side)
 }
 
 /// The relocations of both parts.
@@ -133,48 +127,37 @@ fn both_fields(code: FieldRelocations, text: FieldRelocations) -> FieldRelocatio
 }
 
 /// The relocations that BTF lists of the code that comes out.
-fn counted_fields(
-    alloc: Global,
-    object: &[u8],
-    plan: &Plan,
-    ext: &[u8],
-) -> Result<FieldRelocations, LinkFault>
-    requires { HasExt object.now plan.now ext.now }
-    ensures ok { IfOk result (CountedFields object.now plan.now) }
-    ensures err { IfErr result (IsCountFault object.now plan.now) }
+fn counted_fields(alloc: Global, plan: &Plan<'_>, ext: &[u8]) -> Result<FieldRelocations, LinkFault>
+    requires { ext.now ≡ ext_bytes plan.now }
+    ensures ok { IfOk result (CountedFields plan.now) }
+    ensures err { IfErr result (IsCountFault plan.now) }
 {
-    let types = match Btf::read(alloc, types_in(object, &plan.sections)) {
+    let types = match Btf::read(alloc, types_in(&plan.object)) {
         Ok(types) => types,
         Err(fault) => return Err(told_of_types(fault)),
     };
-    let code = match part_fields(object, plan, &types, ext, &plan.code) {
+    let code = match part_fields(plan, &types, ext, Side::Code) {
         Ok(code) => code,
         Err(fault) => return Err(fault),
     };
-    match part_fields(object, plan, &types, ext, &plan.text) {
+    match part_fields(plan, &types, ext, Side::Text) {
         Ok(text) => Ok(both_fields(code, text)),
         Err(fault) => Err(fault),
     }
 }
 
 /// The relocations of fields of a plan.
-fn plan_fields(alloc: Global, object: &[u8], plan: &Plan) -> Result<FieldRelocations, LinkFault>
-    requires { LiesPlan object.now plan.now }
+fn plan_fields(alloc: Global, plan: &Plan<'_>) -> Result<FieldRelocations, LinkFault>
     ensures ok { IfOk result
-        (PlanFields (is_something (ext_found object.now plan.now)) object.now plan.now) }
-    ensures listed { IfErr result (λ fault. is_something (ext_found object.now plan.now) ≡ true) }
-    ensures err { IfErr result (IsCountFault object.now plan.now) }
+        (PlanFields (is_something (ext_found plan.now)) plan.now) }
+    ensures listed { IfErr result (λ fault. is_something (ext_found plan.now) ≡ true) }
+    ensures err { IfErr result (IsCountFault plan.now) }
 {
-    let found = ext_found(object, plan);
+    let found = ext_found(plan);
     if !is_something(found) {
         return Ok(NO_FIELDS);
     }
-    counted_fields(
-        alloc,
-        object,
-        plan,
-        types_bytes(object, &plan.sections, found),
-    )
+    counted_fields(alloc, plan, types_bytes(&plan.object, found))
 }
 
 /// The relocations of fields of the code that comes out for a section.
@@ -187,7 +170,7 @@ fn fields_of(alloc: Global, object: &[u8], name: &[u8]) -> Result<FieldRelocatio
         Ok(plan) => plan,
         Err(fault) => return Err(fault),
     };
-    match plan_fields(alloc, object, &plan) {
+    match plan_fields(alloc, &plan) {
         Ok(fields) => Ok(fields),
         Err(fault) => Err(fault),
     }

@@ -1,18 +1,17 @@
 //! What the data of a program are at its start.
 ghost use Rattle.std.specs.Prelude.{◌≡◌, ◌≤◌, ◌<◌, ◌+◌, ◌⊎◌, length, IfOk, IfErr, Ok, Err};
-ghost use Rattle.bpf_link.specs.Data.{HasMaps};
 ghost use Rattle.bpf_link.specs.Images.{filled, whole_size, bytes_of, with_u64, address_of, pointed_place, with_address, with_relocated, with_pointer, with_pointers, image_of};
 ghost use Rattle.bpf_link.specs.Links.{MemoryOr};
-ghost use Rattle.bpf_link.specs.Plans.{Lies, HasEntry, LiesPlan};
 ghost use Rattle.bpf_link.specs.declared.fault.LinkFault.TheVariants.{Memory};
-ghost use Rattle.bpf_isa.specs.Maps.{most_maps};
 
 use crate::data_sections::{data_number, is_among, pointers_of};
 use crate::fault::LinkFault;
 use crate::fields::{lies, u64_at};
 use crate::layout::{RelocationEntry, SectionHeader, SymbolEntry};
-use crate::plan::{Entries, Plan, relocation_at, symbol_at, symbol_place};
-use crate::sections::section_at;
+use crate::object::Object;
+use crate::placed::Placed;
+use crate::plan::{Plan, symbol_place};
+use crate::tables::Relocations;
 use bpf_isa::MOST_MAP_BYTES;
 use byteorder::{ByteOrder, LittleEndian};
 use std::alloc::Global;
@@ -33,7 +32,11 @@ fn filled(alloc: Global, size: usize, bytes: &[u8]) -> Result<Vec<u8>, LinkFault
 }
 
 /// The bytes of a section of data.
-fn bytes_of(alloc: Global, object: &[u8], section: &SectionHeader) -> Result<Vec<u8>, LinkFault>
+fn bytes_of(
+    alloc: Global,
+    object: &Object<'_>,
+    section: &SectionHeader,
+) -> Result<Vec<u8>, LinkFault>
     ensures ok { IfOk result (λ image. bytes_of object.now section.now ≡ Ok image.items) }
     ensures err { IfErr result (MemoryOr (bytes_of object.now section.now)) }
 {
@@ -42,13 +45,14 @@ fn bytes_of(alloc: Global, object: &[u8], section: &SectionHeader) -> Result<Vec
     }
     let size = (section.size as usize + 7) / 8 * 8;
     if section.kind == 8 {
-        return filled(alloc, size, &object[..0]);
+        return filled(alloc, size, &[]);
     }
-    if !lies(object, section.offset, section.size) {
+    let bytes = object.bytes();
+    if !lies(bytes, section.offset, section.size) {
         return Err(LinkFault::DataSection);
     }
     let at = section.offset as usize;
-    filled(alloc, size, &object[at..at + section.size as usize])
+    filled(alloc, size, &bytes[at..at + section.size as usize])
 }
 
 /// Data with a number in the eight bytes at a place.
@@ -62,11 +66,10 @@ fn with_u64(mut image: Vec<u8>, at: usize, n: u64) -> Vec<u8>
 
 /// The address of a symbol of data, and a number more.
 #[tactic(auto, using(crate::proofs::Images::two_wraps))]
-fn address_of(maps: &[u64], taken: &[usize], symbol: &SymbolEntry, more: u64) -> u64
-    requires { length maps.now + length taken.now ≤ most_maps }
-    ensures { result ≡ address_of maps.now taken.now symbol.now more }
+fn address_of(placed: &Placed<'_, '_>, symbol: &SymbolEntry, more: u64) -> u64
+    ensures { result ≡ address_of placed.now symbol.now more }
 {
-    let map = data_number(maps, taken, usize::from(symbol.section)) as u64;
+    let map = data_number(placed, usize::from(symbol.section)) as u64;
     (0x3_0000_0000 + map * 0x10_0000)
         .wrapping_add(symbol.value)
         .wrapping_add(more)
@@ -74,78 +77,68 @@ fn address_of(maps: &[u64], taken: &[usize], symbol: &SymbolEntry, more: u64) ->
 
 /// Data with an address: that of a symbol, and what stood there; or a fault.
 fn with_address(
-    maps: &[u64],
-    taken: &[usize],
+    placed: &Placed<'_, '_>,
     relocation: &RelocationEntry,
     symbol: &SymbolEntry,
     fault: LinkFault,
     image: Vec<u8>,
 ) -> Result<Vec<u8>, LinkFault>
-    requires few { length maps.now + length taken.now ≤ most_maps }
-    requires inside { relocation.now.offset + 8 ≤ length image.items }
-    ensures ok { IfOk result (λ new. with_address maps.now taken.now relocation.now symbol.now fault
+    requires { relocation.now.offset + 8 ≤ length image.items }
+    ensures ok { IfOk result (λ new. with_address placed.now relocation.now symbol.now fault
         image.items ≡ Ok new.items) }
-    ensures err { IfErr result (λ told. with_address maps.now taken.now relocation.now symbol.now
+    ensures err { IfErr result (λ told. with_address placed.now relocation.now symbol.now
         fault image.items ≡ Err told) }
 {
-    if !is_among(taken, usize::from(symbol.section)) {
+    if !is_among(placed.taken(), usize::from(symbol.section)) {
         return Err(fault);
     }
     let at = relocation.offset as usize;
-    let address = address_of(maps, taken, symbol, u64_at(&image, at));
+    let address = address_of(placed, symbol, u64_at(&image, at));
     Ok(with_u64(image, at, address))
 }
 
 /// Data with a relocation done.
 fn with_pointer(
-    object: &[u8],
-    plan: &Plan,
-    maps: &[u64],
-    taken: &[usize],
-    relocations: &Entries,
+    placed: &Placed<'_, '_>,
+    relocations: &Relocations<'_>,
     i: usize,
     image: Vec<u8>,
 ) -> Result<Vec<u8>, LinkFault>
-    requires maps { HasMaps object.now plan.now maps.now taken.now }
-    requires entry { HasEntry object.now 16 relocations.now i }
-    ensures ok { IfOk result (λ new. with_pointer object.now plan.now maps.now taken.now
+    requires { i < length relocations.now }
+    ensures ok { IfOk result (λ new. with_pointer placed.now
         relocations.now i image.items ≡ Ok new.items) }
-    ensures err { IfErr result (λ fault. with_pointer object.now plan.now maps.now taken.now
+    ensures err { IfErr result (λ fault. with_pointer placed.now
         relocations.now i image.items ≡ Err fault) }
 {
-    let relocation = relocation_at(object, relocations, i);
-    with_relocated(object, plan, maps, taken, &relocation, image)
+    let relocation = relocations.at(i);
+    with_relocated(placed, &relocation, image)
 }
 
 /// Where the name of a relocation's symbol stands in the file, or the file's end.
-fn pointed_place(object: &[u8], plan: &Plan, relocation: &RelocationEntry) -> usize
-    requires { LiesPlan object.now plan.now }
-    ensures { result ≡ pointed_place object.now plan.now relocation.now }
+fn pointed_place(plan: &Plan<'_>, relocation: &RelocationEntry) -> usize
+    ensures { result ≡ pointed_place plan.now relocation.now }
 {
     let index = relocation.symbol as usize;
-    if index >= plan.symbols.count {
-        return object.len();
+    if index >= plan.symbols.len() {
+        return plan.object.bytes().len();
     }
-    symbol_place(object, plan, &symbol_at(object, &plan.symbols, index))
+    symbol_place(plan, &plan.symbols.at(index))
 }
 
 /// Data with a relocation done, if it is one of an address of data.
 fn with_relocated(
-    object: &[u8],
-    plan: &Plan,
-    maps: &[u64],
-    taken: &[usize],
+    placed: &Placed<'_, '_>,
     relocation: &RelocationEntry,
     image: Vec<u8>,
 ) -> Result<Vec<u8>, LinkFault>
-    requires { HasMaps object.now plan.now maps.now taken.now }
-    ensures ok { IfOk result (λ new. with_relocated object.now plan.now maps.now taken.now
+    ensures ok { IfOk result (λ new. with_relocated placed.now
         relocation.now image.items ≡ Ok new.items) }
-    ensures err { IfErr result (λ fault. with_relocated object.now plan.now maps.now taken.now
+    ensures err { IfErr result (λ fault. with_relocated placed.now
         relocation.now image.items ≡ Err fault) }
 {
+    let plan = placed.plan();
     let fault = LinkFault::Pointer {
-        at: pointed_place(object, plan, relocation),
+        at: pointed_place(plan, relocation),
     };
     if relocation.kind != 2 {
         return Err(fault);
@@ -154,32 +147,27 @@ fn with_relocated(
         return Err(fault);
     }
     let index = relocation.symbol as usize;
-    if index >= plan.symbols.count {
+    if index >= plan.symbols.len() {
         return Err(fault);
     }
-    let symbol = symbol_at(object, &plan.symbols, index);
-    with_address(maps, taken, relocation, &symbol, fault, image)
+    let symbol = plan.symbols.at(index);
+    with_address(placed, relocation, &symbol, fault, image)
 }
 
 /// Data with their relocations done.
 fn with_pointers(
-    object: &[u8],
-    plan: &Plan,
-    maps: &[u64],
-    taken: &[usize],
-    relocations: &Entries,
+    placed: &Placed<'_, '_>,
+    relocations: &Relocations<'_>,
     image: Vec<u8>,
 ) -> Result<Vec<u8>, LinkFault>
-    requires maps { HasMaps object.now plan.now maps.now taken.now }
-    requires relocations { Lies object.now 16 relocations.now }
-    ensures ok { IfOk result (λ new. with_pointers object.now plan.now maps.now taken.now
+    ensures ok { IfOk result (λ new. with_pointers placed.now
         relocations.now image.items ≡ Ok new.items) }
-    ensures err { IfErr result (λ fault. with_pointers object.now plan.now maps.now taken.now
+    ensures err { IfErr result (λ fault. with_pointers placed.now
         relocations.now image.items ≡ Err fault) }
 {
     let mut all = image;
-    for i in 0..relocations.count {
-        match with_pointer(object, plan, maps, taken, relocations, i, all) {
+    for i in 0..relocations.len() {
+        match with_pointer(placed, relocations, i, all) {
             Ok(new) => all = new,
             Err(fault) => return Err(fault),
         }
@@ -190,25 +178,22 @@ fn with_pointers(
 /// The bytes of a section's map at the start.
 pub fn image_of(
     alloc: Global,
-    object: &[u8],
-    plan: &Plan,
-    maps: &[u64],
-    taken: &[usize],
+    placed: &Placed<'_, '_>,
     section: usize,
 ) -> Result<Vec<u8>, LinkFault>
-    requires maps { HasMaps object.now plan.now maps.now taken.now }
-    requires section { section < plan.now.sections.count }
+    requires { section < length placed.now.plan.object.sections }
     ensures ok { IfOk result (λ image.
-        image_of object.now plan.now maps.now taken.now section ≡ Ok image.items) }
+        image_of placed.now section ≡ Ok image.items) }
     ensures err { IfErr result (MemoryOr
-        (image_of object.now plan.now maps.now taken.now section)) }
+        (image_of placed.now section)) }
 {
-    let image = match bytes_of(alloc, object, &section_at(object, &plan.sections, section)) {
+    let plan = placed.plan();
+    let image = match bytes_of(alloc, &plan.object, &plan.object.section(section)) {
         Ok(image) => image,
         Err(fault) => return Err(fault),
     };
-    match pointers_of(object, plan, section) {
-        Ok(relocations) => with_pointers(object, plan, maps, taken, &relocations, image),
+    match pointers_of(plan, section) {
+        Ok(relocations) => with_pointers(placed, &relocations, image),
         Err(fault) => Err(fault),
     }
 }

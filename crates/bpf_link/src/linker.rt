@@ -3,9 +3,8 @@ ghost use Rattle.std.specs.Prelude.{◌≡◌, ◌≤◌, ◌<◌, ◌+◌, List
 ghost use Rattle.bpf_isa.specs.Checker.{IsRefused, most_slots};
 ghost use Rattle.bpf_isa.specs.declared.maps.MapShape.{MapShape};
 ghost use Rattle.bpf_isa.specs.Maps.{IsShape, most_maps};
-ghost use Rattle.bpf_link.specs.Data.{AreTaken, HasData};
+ghost use Rattle.bpf_link.specs.Data.{AllBelow, HasMaps, numbered};
 ghost use Rattle.bpf_link.specs.Links.{AllShapes, MemoryOr, planned, program_of, program_words, plain_maps, least_maps, data_shape, data_shapes, told_of};
-ghost use Rattle.bpf_link.specs.Plans.{LiesPlan};
 ghost use Rattle.bpf_link.specs.Programs.{HasOwnMaps, IsLinked, IsLinkRefusal, IsLinkedAs, IsProgram, linked_of, made_of};
 ghost use Rattle.bpf_link.specs.Refusals.{IsLinkFault, IsShapeFault};
 ghost use Rattle.bpf_link.specs.Shapes.{HasShapes};
@@ -15,9 +14,10 @@ use crate::entry::entry_of;
 use crate::fault::LinkFault;
 use crate::field_relocations::fields_as_compiled;
 use crate::fields::u32_at;
-use crate::header::open;
+use crate::object::open;
+use crate::placed::Placed;
 use crate::plan::{Plan, plan_of};
-use crate::sections::{roles_of, section_at};
+use crate::sections::roles_of;
 use crate::setup::{stores_of, with_setup};
 use crate::shapes::all_shapes;
 use crate::sources::source_of;
@@ -104,16 +104,15 @@ fn plain_maps(count: usize) -> MapTable
 }
 
 /// What the program of a section is put together from.
-pub fn planned(object: &[u8], name: &[u8]) -> Result<Plan, LinkFault>
-    ensures value { result ≡ planned object.now name.now }
-    ensures fits { IfOk result (LiesPlan object.now) }
+pub fn planned<'a>(bytes: &'a [u8], name: &[u8]) -> Result<Plan<'a>, LinkFault>
+    ensures { result ≡ planned bytes.now name.now }
 {
     if name.len() > LONGEST_NAME {
         return Err(LinkFault::LongName);
     }
-    let sections = open(object)?;
-    let roles = roles_of(object, &sections, name);
-    plan_of(object, &sections, &roles, name.is_empty())
+    let object = open(bytes)?;
+    let roles = roles_of(&object, name);
+    plan_of(object, &roles, name.is_empty())
 }
 
 /// A table of so many maps of one byte each, and after them those of data.
@@ -150,15 +149,15 @@ fn data_shape(size: u64) -> MapShape
 }
 
 /// The shapes of the maps that sections of data become.
-fn data_shapes(object: &[u8], plan: &Plan, taken: &[usize]) -> ArrayVec<MapShape, MOST_MAPS>
-    requires plan { LiesPlan object.now plan.now }
-    requires taken { AreTaken plan.now taken.now }
-    ensures value { result.items ≡ data_shapes object.now plan.now taken.now }
+fn data_shapes(plan: &Plan<'_>, taken: &[usize]) -> ArrayVec<MapShape, MOST_MAPS>
+    requires few { length taken.now ≤ most_maps }
+    requires below { AllBelow (length plan.now.object.sections) taken.now }
+    ensures value { result.items ≡ data_shapes plan.now taken.now }
     ensures possible { AllShapes result.items }
 {
     let mut shapes = ArrayVec::new();
     for section in taken {
-        let header = section_at(object, &plan.sections, *section);
+        let header = plan.object.section(*section);
         shapes.push(data_shape(header.size));
     }
     shapes
@@ -167,26 +166,22 @@ fn data_shapes(object: &[u8], plan: &Plan, taken: &[usize]) -> ArrayVec<MapShape
 /// The words of a plan with calls answered, and with the setup.
 fn program_words(
     alloc: Global,
-    object: &[u8],
-    plan: &Plan,
-    maps: &[u64],
-    taken: &[usize],
+    placed: &Placed<'_, '_>,
     entry: usize,
     stubs: &[Stub],
 ) -> Result<Answered, LinkFault>
-    requires data { HasData object.now plan.now maps.now taken.now }
-    requires begins { entry < most_slots }
+    requires { entry < most_slots }
     ensures ok { IfOk result (λ done.
-        program_words object.now plan.now maps.now taken.now entry stubs.now
+        program_words placed.now entry stubs.now
         ≡ Ok (record { words = done.words.items; count = done.count })) }
     ensures err { IfErr result (MemoryOr
-        (program_words object.now plan.now maps.now taken.now entry stubs.now)) }
+        (program_words placed.now entry stubs.now)) }
 {
-    let code = match words_of(alloc, object, plan, maps, taken) {
+    let code = match words_of(alloc, placed) {
         Ok(code) => code,
         Err(fault) => return Err(fault),
     };
-    let stores = match stores_of(alloc, object, plan, maps, taken) {
+    let stores = match stores_of(alloc, placed) {
         Ok(stores) => stores,
         Err(fault) => return Err(fault),
     };
@@ -200,28 +195,48 @@ fn program_words(
     }
 }
 
+/// The words of a plan whose maps have numbers.
+fn numbered_words(
+    alloc: Global,
+    plan: &Plan<'_>,
+    maps: &[u64],
+    taken: &[usize],
+    entry: usize,
+    stubs: &[Stub],
+) -> Result<Answered, LinkFault>
+    requires maps { HasMaps (numbered plan.now maps.now taken.now) }
+    requires begins { entry < most_slots }
+    ensures ok { IfOk result (λ done.
+        program_words (numbered plan.now maps.now taken.now) entry stubs.now
+        ≡ Ok (record { words = done.words.items; count = done.count })) }
+    ensures err { IfErr result (MemoryOr
+        (program_words (numbered plan.now maps.now taken.now) entry
+        stubs.now)) }
+{
+    program_words(alloc, &Placed { plan, maps, taken }, entry, stubs)
+}
+
 /// The words of a plan, and its maps.
 fn program_of(
     alloc: Global,
     object: &[u8],
     entry: &[u8],
     stubs: &[Stub],
-    plan: &Plan,
+    plan: &Plan<'_>,
 ) -> Result<Program, LinkFault>
-    requires { LiesPlan object.now plan.now }
-    ensures ok { IfOk result (IsProgram object.now plan.now entry.now stubs.now) }
-    ensures err { IfErr result (MemoryOr (program_of object.now entry.now stubs.now plan.now)) }
+    ensures ok { IfOk result (IsProgram plan.now entry.now stubs.now) }
+    ensures err { IfErr result (MemoryOr (program_of entry.now stubs.now plan.now)) }
 {
-    let slot = match entry_of(object, plan, entry) {
+    let slot = match entry_of(plan, entry) {
         Ok(slot) => slot,
         Err(fault) => return Err(fault),
     };
-    let maps = match maps_of(object, plan) {
+    let maps = match maps_of(plan) {
         Ok(maps) => maps,
         Err(fault) => return Err(fault),
     };
     let own = maps.as_slice();
-    let sections = match data_of(object, plan) {
+    let sections = match data_of(plan) {
         Ok(sections) => sections,
         Err(fault) => return Err(fault),
     };
@@ -229,11 +244,12 @@ fn program_of(
     if own.len() + taken.len() > MOST_MAPS {
         return Err(LinkFault::TooManyMaps);
     }
-    let done = match program_words(alloc, object, plan, own, taken, slot, stubs) {
+    plan.parts.invariant();
+    let done = match numbered_words(alloc, plan, own, taken, slot, stubs) {
         Ok(done) => done,
         Err(fault) => return Err(fault),
     };
-    let data_maps = data_shapes(object, plan, taken);
+    let data_maps = data_shapes(plan, taken);
     Ok(Program {
         words: done.words,
         answered: done.count,
@@ -243,20 +259,15 @@ fn program_of(
 }
 
 /// A program with the shapes of its maps, and no relocations of fields yet.
-fn with_shapes(
-    alloc: Global,
-    object: &[u8],
-    plan: &Plan,
-    program: Program,
-) -> Result<Linked, LinkFault>
-    requires { HasOwnMaps object.now plan.now program }
+fn with_shapes(alloc: Global, plan: &Plan<'_>, program: Program) -> Result<Linked, LinkFault>
+    requires { HasOwnMaps plan.now program }
     ensures same { IfOk result (λ linked. linked_of linked ≡ made_of program) }
-    ensures shapes { IfOk result (λ linked. HasShapes object.now plan.now linked.shapes.items) }
-    ensures err { IfErr result (IsShapeFault object.now plan.now) }
+    ensures shapes { IfOk result (λ linked. HasShapes plan.now linked.shapes.items) }
+    ensures err { IfErr result (IsShapeFault plan.now) }
 {
     let own = program.maps.as_slice();
     let others = program.data_maps.as_slice();
-    match all_shapes(alloc, object, plan, own, others) {
+    match all_shapes(alloc, plan, own, others) {
         Ok(shapes) => Ok(Linked {
             words: program.words,
             maps: program.maps.len(),
@@ -328,20 +339,19 @@ fn link_words(alloc: Global, object: &[u8], options: &LinkOptions<'_>) -> Result
         &program.words,
         &least_maps(program.maps.len(), program.data_maps.as_slice()),
     ) {
-        Ok(_) => match with_shapes(alloc, object, &plan, program) {
+        Ok(_) => match with_shapes(alloc, &plan, program) {
             Ok(linked) => Ok(linked),
             Err(fault) => Err(fault),
         },
         Err(LoadFault::Memory) => Err(LinkFault::Memory),
-        Err(fault) => Err(told_of(object, &plan, &program.words, fault)),
+        Err(fault) => Err(told_of(&plan, &program.words, fault)),
     }
 }
 
 /// What is told of words that the checker refuses.
-fn told_of(object: &[u8], plan: &Plan, words: &[u8], fault: LoadFault) -> LinkFault
-    requires plan { LiesPlan object.now plan.now }
-    requires refused { (maps : List MapShape) × IsRefused words.now maps fault }
-    ensures { result ≡ told_of object.now plan.now words.now fault }
+fn told_of(plan: &Plan<'_>, words: &[u8], fault: LoadFault) -> LinkFault
+    requires { (maps : List MapShape) × IsRefused words.now maps fault }
+    ensures { result ≡ told_of plan.now words.now fault }
 {
     match fault {
         LoadFault::At {
@@ -350,11 +360,11 @@ fn told_of(object: &[u8], plan: &Plan, words: &[u8], fault: LoadFault) -> LinkFa
         } => LinkFault::Helper {
             slot,
             helper: u32_at(words, 8 * slot + 4),
-            source: source_of(object, plan, words, slot),
+            source: source_of(plan, words, slot),
         },
         LoadFault::At { slot, .. } => LinkFault::Program {
             fault,
-            source: source_of(object, plan, words, slot),
+            source: source_of(plan, words, slot),
         },
         _ => LinkFault::Program {
             fault,

@@ -1,18 +1,18 @@
 //! The names that a fault of an object tells.
 ghost use Rattle.std.specs.Prelude.{◌≡◌, ◌≤◌, ◌<◌, ◌+◌, ◌*◌, ◌++◌, [], length};
 ghost use Rattle.bpf_link.specs.Links.{planned};
-ghost use Rattle.bpf_link.specs.Header.{HasTable, opened};
+ghost use Rattle.bpf_link.specs.Objects.{opened};
 ghost use Rattle.bpf_link.specs.Names.{cut, short_at, with_place, built, with_code, code_places, is_listed, with_function, function_places, source_places, fault_places, parted, name_of, with_name, names_at, fault_names};
-ghost use Rattle.bpf_link.specs.Plans.{LiesPlan};
 
 use crate::entry::{is_function, is_program};
 use crate::fault::LinkFault;
-use crate::header::{Sections, open};
 use crate::layout::SymbolEntry;
 use crate::linker::planned;
 use crate::map_types::name_from;
-use crate::plan::{Plan, symbol_at, symbol_place};
-use crate::sections::{is_code, section_at, section_place};
+use crate::object::{Object, open};
+use crate::parts::Side;
+use crate::plan::{Plan, symbol_place};
+use crate::sections::{is_code, section_place};
 use crate::sources::Source;
 use arrayvec::ArrayVec;
 
@@ -46,41 +46,34 @@ fn with_place(at: usize, mut places: ArrayVec<usize, 17>) -> ArrayVec<usize, 17>
 }
 
 /// Places with that of the name of a section, if it holds code.
-fn with_code(
-    object: &[u8],
-    sections: &Sections,
-    i: usize,
-    places: ArrayVec<usize, 17>,
-) -> ArrayVec<usize, 17>
-    requires table { HasTable object.now sections.now }
-    requires index { i < sections.now.count }
-    ensures { result.items ≡ with_code object.now sections.now i places.items }
+fn with_code(object: &Object<'_>, i: usize, places: ArrayVec<usize, 17>) -> ArrayVec<usize, 17>
+    requires { i < length object.now.sections }
+    ensures { result.items ≡ with_code object.now i places.items }
 {
-    let section = section_at(object, sections, i);
+    let section = object.section(i);
     if !is_code(&section) {
         return places;
     }
-    with_place(section_place(object, sections, &section), places)
+    with_place(section_place(object, &section), places)
 }
 
 /// Where the names of the sections that hold code stand.
 fn code_places(object: &[u8]) -> ArrayVec<usize, 17>
-    ensures { result.items ≡ code_places object.now (opened object.now) }
+    ensures { result.items ≡ code_places (opened object.now) }
 {
     match open(object) {
-        Ok(sections) => code_places_in(object, &sections),
+        Ok(object) => code_places_in(&object),
         Err(_) => ArrayVec::new(),
     }
 }
 
 /// The places of the names of the sections of code that a table has, the first 17.
-fn code_places_in(object: &[u8], sections: &Sections) -> ArrayVec<usize, 17>
-    requires { HasTable object.now sections.now }
-    ensures { result.items ≡ built (with_code object.now sections.now) sections.now.count }
+fn code_places_in(object: &Object<'_>) -> ArrayVec<usize, 17>
+    ensures { result.items ≡ built (with_code object.now) (length object.now.sections) }
 {
     let mut places = ArrayVec::new();
-    for i in 0..sections.count {
-        places = with_code(object, sections, i, places);
+    for i in 0..object.len() {
+        places = with_code(object, i, places);
     }
     places
 }
@@ -99,42 +92,38 @@ fn is_listed(known: bool, section: usize, symbol: &SymbolEntry) -> bool
 
 /// Places with that of the name of a symbol, if it is such a function.
 fn with_function(
-    object: &[u8],
-    plan: &Plan,
+    plan: &Plan<'_>,
     known: bool,
     i: usize,
     places: ArrayVec<usize, 17>,
 ) -> ArrayVec<usize, 17>
-    requires plan { LiesPlan object.now plan.now }
-    requires index { i < plan.now.symbols.count }
-    ensures { result.items ≡ with_function object.now plan.now known i places.items }
+    requires { i < length plan.now.symbols }
+    ensures { result.items ≡ with_function plan.now known i places.items }
 {
-    let symbol = symbol_at(object, &plan.symbols, i);
-    if !is_listed(known, plan.code.section, &symbol) {
+    let symbol = plan.symbols.at(i);
+    if !is_listed(known, plan.parts.part(Side::Code).section, &symbol) {
         return places;
     }
-    with_place(symbol_place(object, plan, &symbol), places)
+    with_place(symbol_place(plan, &symbol), places)
 }
 
 /// Where the names of the functions of a section of code stand.
 fn function_places(object: &[u8], section: &[u8], known: bool) -> ArrayVec<usize, 17>
-    ensures { result.items ≡ function_places object.now known (planned object.now section.now) }
+    ensures { result.items ≡ function_places known (planned object.now section.now) }
 {
     match planned(object, section) {
-        Ok(plan) => function_places_in(object, &plan, known),
+        Ok(plan) => function_places_in(&plan, known),
         Err(_) => ArrayVec::new(),
     }
 }
 
 /// The places of the names of the functions that a plan has, the first 17.
-fn function_places_in(object: &[u8], plan: &Plan, known: bool) -> ArrayVec<usize, 17>
-    requires { LiesPlan object.now plan.now }
-    ensures { result.items ≡ built (with_function object.now plan.now known)
-        plan.now.symbols.count }
+fn function_places_in(plan: &Plan<'_>, known: bool) -> ArrayVec<usize, 17>
+    ensures { result.items ≡ built (with_function plan.now known) (length plan.now.symbols) }
 {
     let mut places = ArrayVec::new();
-    for i in 0..plan.symbols.count {
-        places = with_function(object, plan, known, i, places);
+    for i in 0..plan.symbols.len() {
+        places = with_function(plan, known, i, places);
     }
     places
 }

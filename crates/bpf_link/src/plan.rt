@@ -1,99 +1,73 @@
 //! What a program is put together from.
-ghost use Rattle.std.specs.Prelude.{◌≡◌, ◌≤◌, ◌<◌, ◌==◌, ◌⊎◌, length, IfOk, ℕ, Bool};
-ghost use Rattle.bpf_link.specs.Header.{HasTable};
-ghost use Rattle.bpf_link.specs.Plans.{entries_of, symbols_in, maps_in, chosen_in, is_only, relocations_in, part_of, relocation_at, symbol_at, symbol_place, part_place, is_reference, refers_below, text_in, is_closed, has_definitions, definitions_in, names_in, plan_with, plan_of, Lies, LiesPart, HasSection, HasFound, HasCode, IsBehind, HasRoles, LiesPlan};
+ghost use Rattle.std.specs.Prelude.{◌≡◌, ◌≤◌, ◌<◌, ◌+◌, ◌*◌, ◌/◌, ◌==◌, ◌⊎◌, length, IfOk, ℕ, Bool};
+ghost use Rattle.bpf_link.specs.Parts.{slots_in};
+ghost use Rattle.bpf_link.specs.Plans.{entries_of, symbols_of, maps_in, chosen_in, is_only, relocations_in, part_in, symbol_place, part_place, is_reference, refers_below, text_in, is_closed, has_definitions, definitions_in, names_in, no_part, parts_in, plan_of, HasRoles};
 ghost use Rattle.bpf_link.specs.Sections.{AreFound, FoundBelow};
 
 use crate::fault::LinkFault;
 use crate::fields::lies;
-use crate::header::Sections;
-use crate::layout::{RelocationEntry, SectionHeader, SymbolEntry, relocation_entry, symbol_entry};
-use crate::sections::{Found, Roles, is_named, relocations_of, section_at, section_place};
+use crate::layout::{RelocationEntry, SectionHeader, SymbolEntry};
+use crate::object::Object;
+use crate::parts::{Part, Parts};
+use crate::sections::{Found, Roles, is_named, relocations_of, section_place};
+use crate::tables::{Bytes, Relocations, Symbols};
 use bpf_isa::MOST_SLOTS;
 
-/// Entries of one size, one after the other, in the file.
-#[derive(Clone, Copy)]
-pub struct Entries {
-    /// Where the first one lies.
-    pub at: usize,
-    pub count: usize,
-}
-
-/// A section of a program.
-#[derive(Clone, Copy)]
-pub struct Part {
-    /// Its index, 0 of none.
-    pub section: usize,
-    /// The slot of the program that its first slot is.
-    pub first: usize,
-    pub slots: Entries,
-    pub relocations: Entries,
-}
-
 /// What a program is put together from.
-#[derive(Clone, Copy)]
-pub struct Plan {
-    pub sections: Sections,
+#[derive(Drop)]
+pub struct Plan<'a> {
+    pub object: Object<'a>,
     /// The section of symbols.
     pub table: Found,
-    pub symbols: Entries,
+    pub symbols: Symbols<'a>,
     /// Where the names of symbols begin in the file, or behind it.
     pub names: u64,
     /// The index of the section of maps, 0 of none.
     pub maps: usize,
     /// The bytes of that section, where they are definitions of maps.
-    pub definitions: Entries,
-    /// The section that is asked for.
-    pub code: Part,
-    /// `.text`, without slots where it isn't called.
-    pub text: Part,
+    pub definitions: Bytes<'a>,
+    pub parts: Parts<'a>,
 }
 
-const NO_ENTRIES: Entries = Entries { at: 0, count: 0 };
-
-const NO_PART: Part = Part {
-    section: 0,
-    first: 0,
-    slots: Entries { at: 0, count: 0 },
-    relocations: Entries { at: 0, count: 0 },
-};
-
-/// The entries of a section, of so many bytes each.
-fn entries_of(
-    object: &[u8],
+/// The bytes of a section, which hold a whole number of entries of a size.
+fn entries_of<'a>(
+    object: &Object<'a>,
     size: u64,
     fault: LinkFault,
     section: &SectionHeader,
-) -> Result<Entries, LinkFault>
+) -> Result<Bytes<'a>, LinkFault>
     requires { (size ≡ 8) ⊎ ((size ≡ 16) ⊎ (size ≡ 24)) }
     ensures value { result ≡ entries_of object.now size fault section.now }
-    ensures fits { IfOk result (Lies object.now size) }
+    ensures whole { IfOk result (λ entries. length entries ≡ size * (length entries / size)) }
 {
-    if !lies(object, section.offset, section.size) {
+    let bytes = object.bytes();
+    if !lies(bytes, section.offset, section.size) {
         return Err(fault);
     }
     if section.size % size != 0 {
         return Err(fault);
     }
-    Ok(Entries {
-        at: section.offset as usize,
-        count: (section.size / size) as usize,
+    let at = section.offset as usize;
+    Ok(Bytes {
+        bytes: &bytes[at..at + section.size as usize],
     })
 }
 
-fn symbols_in(object: &[u8], sections: &Sections, found: Found) -> Result<Entries, LinkFault>
-    requires { HasFound object.now sections.now found }
-    ensures value { result ≡ symbols_in object.now sections.now found }
-    ensures fits { IfOk result (Lies object.now 24) }
+fn symbols_of<'a>(object: &Object<'a>, found: Found) -> Result<Symbols<'a>, LinkFault>
+    requires { FoundBelow (length object.now.sections) found }
+    ensures { result ≡ symbols_of object.now found }
 {
     match found {
-        Found::Nothing => Ok(NO_ENTRIES),
-        Found::Only(i) => entries_of(
-            object,
-            24,
-            LinkFault::SymbolTable,
-            &section_at(object, sections, i),
-        ),
+        Found::Nothing => Ok(Symbols { bytes: &[] }),
+        Found::Only(i) => {
+            let fault = LinkFault::SymbolTable;
+            match entries_of(object, 24, fault, &object.section(i)) {
+                Ok(entries) => Ok(Symbols {
+                    bytes: entries.bytes,
+                }),
+                Err(fault) => Err(fault),
+            }
+        }
         Found::Several => Err(LinkFault::SymbolTable),
     }
 }
@@ -138,289 +112,258 @@ fn is_only(found: Found, index: u32) -> bool
     }
 }
 
-pub fn relocations_in(
-    object: &[u8],
-    sections: &Sections,
+/// The relocations of the section that holds some, against the symbols of a section.
+pub fn relocations_in<'a>(
+    object: &Object<'a>,
     symbols: Found,
     found: Found,
-) -> Result<Entries, LinkFault>
-    requires { HasFound object.now sections.now found }
-    ensures value { result ≡ relocations_in object.now sections.now symbols found }
-    ensures fits { IfOk result (Lies object.now 16) }
+) -> Result<Relocations<'a>, LinkFault>
+    requires { FoundBelow (length object.now.sections) found }
+    ensures { result ≡ relocations_in object.now symbols found }
 {
     match found {
-        Found::Nothing => Ok(NO_ENTRIES),
+        Found::Nothing => Ok(Relocations { bytes: &[] }),
         Found::Only(i) => {
-            let section = section_at(object, sections, i);
+            let section = object.section(i);
             if section.kind != 9 {
                 return Err(LinkFault::RelocationTable);
             }
             if !is_only(symbols, section.link) {
                 return Err(LinkFault::RelocationTable);
             }
-            entries_of(object, 16, LinkFault::RelocationTable, &section)
+            match entries_of(object, 16, LinkFault::RelocationTable, &section) {
+                Ok(entries) => Ok(Relocations {
+                    bytes: entries.bytes,
+                }),
+                Err(fault) => Err(fault),
+            }
         }
         Found::Several => Err(LinkFault::RelocationTable),
     }
 }
 
-/// A section as a part of a program, from a slot on.
-fn part_of(
-    object: &[u8],
-    sections: &Sections,
-    symbols: Found,
-    section: usize,
-    first: usize,
-) -> Result<Part, LinkFault>
-    requires { HasSection object.now sections.now section }
-    ensures value { result ≡ part_of object.now sections.now symbols section first }
-    ensures fits { IfOk result (LiesPart object.now) }
-    ensures first { IfOk result (λ part. part.first ≡ first) }
+/// A section as a part of a program.
+fn part_in<'a>(object: &Object<'a>, symbols: Found, section: usize) -> Result<Part<'a>, LinkFault>
+    requires { section < length object.now.sections }
+    ensures value { result ≡ part_in object.now symbols section }
+    ensures whole { IfOk result (λ part. length part.slots ≡ 8 * slots_in part) }
 {
-    let slots = entries_of(
-        object,
-        8,
-        LinkFault::Section,
-        &section_at(object, sections, section),
-    )?;
-    let found = relocations_of(object, sections, section);
-    let relocations = relocations_in(object, sections, symbols, found)?;
-    Ok(Part {
-        section,
-        first,
-        slots,
-        relocations,
-    })
+    let slots = match entries_of(object, 8, LinkFault::Section, &object.section(section)) {
+        Ok(slots) => slots,
+        Err(fault) => return Err(fault),
+    };
+    match relocations_in(object, symbols, relocations_of(object, section)) {
+        Ok(relocations) => Ok(Part {
+            section,
+            slots,
+            relocations,
+        }),
+        Err(fault) => Err(fault),
+    }
 }
 
-/// A relocation by its index.
-pub fn relocation_at(object: &[u8], relocations: &Entries, i: usize) -> RelocationEntry
-    requires lies { Lies object.now 16 relocations.now }
-    requires index { i < relocations.now.count }
-    ensures { result ≡ relocation_at object.now relocations.now i }
+/// A part without slots.
+fn no_part<'a>() -> Part<'a>
+    ensures { result ≡ no_part }
 {
-    relocation_entry(object, relocations.at + 16 * i)
-}
-
-/// A symbol by its index.
-pub fn symbol_at(object: &[u8], symbols: &Entries, i: usize) -> SymbolEntry
-    requires lies { Lies object.now 24 symbols.now }
-    requires index { i < symbols.now.count }
-    ensures { result ≡ symbol_at object.now symbols.now i }
-{
-    symbol_entry(object, symbols.at + 24 * i)
+    Part {
+        section: 0,
+        slots: Bytes { bytes: &[] },
+        relocations: Relocations { bytes: &[] },
+    }
 }
 
 /// Where the name of a symbol stands in the file, or the file's end.
-pub fn symbol_place(object: &[u8], plan: &Plan, symbol: &SymbolEntry) -> usize
-    ensures value { result ≡ symbol_place object.now plan.now symbol.now }
-    ensures inside { result ≤ length object.now }
+pub fn symbol_place(plan: &Plan<'_>, symbol: &SymbolEntry) -> usize
+    ensures value { result ≡ symbol_place plan.now symbol.now }
+    ensures inside { result ≤ length plan.now.object.bytes }
 {
-    let len = object.len() as u64;
-    if plan.names > len {
-        return object.len();
+    let len = plan.object.bytes().len();
+    if plan.names > len as u64 {
+        return len;
     }
     let at = plan.names + u64::from(symbol.name);
-    if at > len {
-        return object.len();
+    if at > len as u64 {
+        return len;
     }
     at as usize
 }
 
 /// Where the name of a part's section stands in the file, or the file's end.
-pub fn part_place(object: &[u8], plan: &Plan, part: &Part) -> usize
-    requires { LiesPlan object.now plan.now }
-    ensures value { result ≡ part_place object.now plan.now part.now }
-    ensures inside { result ≤ length object.now }
+pub fn part_place(plan: &Plan<'_>, part: &Part<'_>) -> usize
+    ensures value { result ≡ part_place plan.now part.now }
+    ensures inside { result ≤ length plan.now.object.bytes }
 {
-    if part.section >= plan.sections.count {
-        return object.len();
+    if part.section >= plan.object.len() {
+        return plan.object.bytes().len();
     }
-    let section = section_at(object, &plan.sections, part.section);
-    section_place(object, &plan.sections, &section)
+    section_place(&plan.object, &plan.object.section(part.section))
 }
 
 /// Whether a relocation is of a kind, and against a symbol of a section.
 fn is_reference(
-    object: &[u8],
-    symbols: &Entries,
+    symbols: &Symbols<'_>,
     kind: u32,
     section: usize,
     relocation: &RelocationEntry,
 ) -> bool
-    requires { Lies object.now 24 symbols.now }
-    ensures { result ≡ is_reference object.now symbols.now kind section relocation.now }
+    ensures { result ≡ is_reference symbols.now kind section relocation.now }
 {
     if relocation.kind != kind {
         return false;
     }
     let symbol = relocation.symbol as usize;
-    if symbol >= symbols.count {
+    if symbol >= symbols.len() {
         return false;
     }
-    usize::from(symbol_at(object, symbols, symbol).section) == section
+    usize::from(symbols.at(symbol).section) == section
 }
 
 /// Whether one of the relocations is.
-fn refers(
-    object: &[u8],
-    symbols: &Entries,
-    relocations: &Entries,
-    kind: u32,
-    section: usize,
-) -> bool
-    requires symbols { Lies object.now 24 symbols.now }
-    requires relocations { Lies object.now 16 relocations.now }
-    ensures { result ≡ refers_below object.now symbols.now relocations.now kind section
-        relocations.now.count }
+fn refers(symbols: &Symbols<'_>, relocations: &Relocations<'_>, kind: u32, section: usize) -> bool
+    ensures { result ≡ refers_below symbols.now relocations.now kind section
+        (length relocations.now) }
 {
     let mut refers = false;
-    for i in 0..relocations.count {
-        let relocation = relocation_at(object, relocations, i);
-        refers = is_reference(object, symbols, kind, section, &relocation) || refers;
+    for i in 0..relocations.len() {
+        let relocation = relocations.at(i);
+        refers = is_reference(symbols, kind, section, &relocation) || refers;
     }
     refers
 }
 
 /// `.text` as a part of a program that calls it.
-fn text_in(
-    object: &[u8],
-    sections: &Sections,
+fn text_in<'a>(
+    object: &Object<'a>,
     symbols_section: Found,
-    symbols: &Entries,
-    code: &Part,
+    symbols: &Symbols<'_>,
+    code: &Part<'_>,
     found: Found,
-) -> Result<Part, LinkFault>
-    requires found { HasFound object.now sections.now found }
-    requires code { HasCode object.now symbols.now code.now }
-    ensures value { result ≡ text_in object.now sections.now symbols_section symbols.now code.now
-        found }
-    ensures behind { IfOk result (IsBehind object.now code.now) }
+) -> Result<Part<'a>, LinkFault>
+    requires { FoundBelow (length object.now.sections) found }
+    ensures value { result ≡ text_in object.now symbols_section symbols.now code.now found }
+    ensures whole { IfOk result (λ part. length part.slots ≡ 8 * slots_in part) }
 {
     match found {
-        Found::Nothing => Ok(NO_PART),
+        Found::Nothing => Ok(no_part()),
         Found::Only(i) => {
             if i == code.section {
-                return Ok(NO_PART);
+                return Ok(no_part());
             }
-            if !refers(object, symbols, &code.relocations, 10, i) {
-                return Ok(NO_PART);
+            if !refers(symbols, &code.relocations, 10, i) {
+                return Ok(no_part());
             }
-            part_of(object, sections, symbols_section, i, code.slots.count)
+            part_in(object, symbols_section, i)
         }
         Found::Several => Err(LinkFault::ManySections),
     }
 }
 
 /// Whether the last slot begins as an exit or a jump that is always taken.
-fn is_closed(object: &[u8], slots: &Entries) -> bool
-    requires { Lies object.now 8 slots.now }
-    ensures { result ≡ is_closed object.now slots.now }
+fn is_closed(slots: &[u8]) -> bool
+    ensures { result ≡ is_closed slots.now }
 {
-    if slots.count == 0 {
+    if slots.len() < 8 {
         return false;
     }
-    let last = object[slots.at + 8 * (slots.count - 1)];
+    let last = slots[slots.len() - 8];
     last == 0x95 || (last == 0x05 || last == 0x06)
 }
 
 /// Whether definitions of maps stand in a section.
-fn has_definitions(object: &[u8], sections: &Sections, section: &SectionHeader) -> bool
-    requires { HasTable object.now sections.now }
-    ensures { result ≡ has_definitions object.now sections.now section.now }
+fn has_definitions(object: &Object<'_>, section: &SectionHeader) -> bool
+    ensures { result ≡ has_definitions object.now section.now }
 {
     section.kind == 1
-        && (is_named(object, sections, section, b"maps")
-            && lies(object, section.offset, section.size))
+        && (is_named(object, section, b"maps")
+            && lies(object.bytes(), section.offset, section.size))
 }
 
 /// The bytes of the definitions of maps.
-fn definitions_in(object: &[u8], sections: &Sections, found: Found) -> Entries
-    requires { HasFound object.now sections.now found }
-    ensures value { result ≡ definitions_in object.now sections.now found }
-    ensures fits { Lies object.now 1 result }
+fn definitions_in<'a>(object: &Object<'a>, found: Found) -> Bytes<'a>
+    requires { FoundBelow (length object.now.sections) found }
+    ensures { result ≡ definitions_in object.now found }
 {
     match found {
-        Found::Nothing => NO_ENTRIES,
+        Found::Nothing => Bytes { bytes: &[] },
         Found::Only(i) => {
-            let section = section_at(object, sections, i);
-            if !has_definitions(object, sections, &section) {
-                return NO_ENTRIES;
+            let section = object.section(i);
+            if !has_definitions(object, &section) {
+                return Bytes { bytes: &[] };
             }
-            Entries {
-                at: section.offset as usize,
-                count: section.size as usize,
+            let at = section.offset as usize;
+            Bytes {
+                bytes: &object.bytes()[at..at + section.size as usize],
             }
         }
-        Found::Several => NO_ENTRIES,
+        Found::Several => Bytes { bytes: &[] },
     }
 }
 
 /// Where the names of symbols begin: in the section to which the one of the symbols links.
-fn names_in(object: &[u8], sections: &Sections, found: Found) -> u64
-    requires { HasFound object.now sections.now found }
-    ensures { result ≡ names_in object.now sections.now found }
+fn names_in(object: &Object<'_>, found: Found) -> u64
+    requires { FoundBelow (length object.now.sections) found }
+    ensures { result ≡ names_in object.now found }
 {
     match found {
         Found::Nothing => 0,
         Found::Only(i) => {
-            let link = section_at(object, sections, i).link as usize;
-            if link >= sections.count {
+            let link = object.section(i).link as usize;
+            if link >= object.len() {
                 return 0;
             }
-            section_at(object, sections, link).offset
+            object.section(link).offset
         }
         Found::Several => 0,
     }
 }
 
-fn plan_with(
-    object: &[u8],
-    sections: &Sections,
+/// The parts of a program whose code is that of a section.
+fn parts_in<'a>(
+    object: &Object<'a>,
     roles: &Roles,
-    symbols: &Entries,
-    maps: usize,
+    symbols: &Symbols<'_>,
     chosen: usize,
-) -> Result<Plan, LinkFault>
-    requires { HasRoles object.now sections.now roles.now symbols.now chosen }
-    ensures value { result ≡ plan_with object.now sections.now roles.now symbols.now maps chosen }
-    ensures fits { IfOk result (LiesPlan object.now) }
+) -> Result<Parts<'a>, LinkFault>
+    requires { HasRoles object.now roles.now chosen }
+    ensures { result ≡ parts_in object.now roles.now symbols.now chosen }
 {
-    let code = part_of(object, sections, roles.symbols, chosen, 0)?;
-    if !is_closed(object, &code.slots) {
+    let code = match part_in(object, roles.symbols, chosen) {
+        Ok(code) => code,
+        Err(fault) => return Err(fault),
+    };
+    if !is_closed(code.slots.bytes) {
         return Err(LinkFault::RunsOff);
     }
-    let text = text_in(object, sections, roles.symbols, symbols, &code, roles.text)?;
-    if code.slots.count + text.slots.count > MOST_SLOTS {
+    let text = match text_in(object, roles.symbols, symbols, &code, roles.text) {
+        Ok(text) => text,
+        Err(fault) => return Err(fault),
+    };
+    if code.len() + text.len() > MOST_SLOTS {
         return Err(LinkFault::TooLong);
     }
-    Ok(Plan {
-        sections: *sections,
-        table: roles.symbols,
-        symbols: *symbols,
-        names: names_in(object, sections, roles.symbols),
-        maps,
-        definitions: definitions_in(object, sections, roles.maps),
-        code,
-        text,
-    })
+    Ok(Parts { code, text })
 }
 
-/// What the program of a section is put together from. `unnamed` says that no name was given for
-/// it.
-pub fn plan_of(
-    object: &[u8],
-    sections: &Sections,
-    roles: &Roles,
-    unnamed: bool,
-) -> Result<Plan, LinkFault>
-    requires table { HasTable object.now sections.now }
-    requires roles { AreFound sections.now.count roles.now }
-    ensures value { result ≡ plan_of object.now sections.now roles.now unnamed }
-    ensures fits { IfOk result (LiesPlan object.now) }
+/// What the program of a section of an object is put together from. `unnamed` says that no name was
+/// given for it.
+pub fn plan_of<'a>(object: Object<'a>, roles: &Roles, unnamed: bool) -> Result<Plan<'a>, LinkFault>
+    requires { AreFound (length object.sections) roles.now }
+    ensures { result ≡ plan_of object.entry roles.now unnamed }
 {
-    let symbols = symbols_in(object, sections, roles.symbols)?;
+    let symbols = symbols_of(&object, roles.symbols)?;
     let maps = maps_in(roles.maps)?;
     let chosen = chosen_in(roles.chosen, roles.text, unnamed)?;
-    plan_with(object, sections, roles, &symbols, maps, chosen)
+    let parts = parts_in(&object, roles, &symbols, chosen)?;
+    let names = names_in(&object, roles.symbols);
+    let definitions = definitions_in(&object, roles.maps);
+    Ok(Plan {
+        object,
+        table: roles.symbols,
+        symbols,
+        names,
+        maps,
+        definitions,
+        parts,
+    })
 }

@@ -1,6 +1,5 @@
 //! The setup: what a program with data runs before its entry.
 ghost use Rattle.std.specs.Prelude.{◌≡◌, ◌≤◌, ◌<◌, ◌+◌, ◌/◌, ◌++◌, length, IfOk, IfErr, Ok, Err};
-ghost use Rattle.bpf_link.specs.Data.{HasData};
 ghost use Rattle.bpf_link.specs.Links.{MemoryOr};
 ghost use Rattle.bpf_link.specs.Setup.{with_place, store_words, with_store, with_stores, is_zero, with_image, with_section_image, stores_of, jump_words, with_entry, with_setup};
 ghost use Rattle.bpf_link.specs.declared.fault.LinkFault.TheVariants.{Memory};
@@ -9,7 +8,7 @@ ghost use Rattle.bpf_isa.specs.Checker.{most_slots};
 use crate::fault::LinkFault;
 use crate::fields::u64_at;
 use crate::image::image_of;
-use crate::plan::Plan;
+use crate::placed::Placed;
 use byteorder::{ByteOrder, LittleEndian};
 use std::alloc::Global;
 
@@ -130,43 +129,32 @@ fn with_image(map: u8, image: &[u8], setup: Vec<u8>) -> Result<Vec<u8>, LinkFaul
 /// A setup with the stores of the k-th map that is data.
 fn with_section_image(
     alloc: Global,
-    object: &[u8],
-    plan: &Plan,
-    maps: &[u64],
-    taken: &[usize],
+    placed: &Placed<'_, '_>,
     k: usize,
     setup: Vec<u8>,
 ) -> Result<Vec<u8>, LinkFault>
-    requires data { HasData object.now plan.now maps.now taken.now }
-    requires index { k < length taken.now }
-    ensures ok { IfOk result (λ new. with_section_image object.now plan.now maps.now taken.now k
+    requires { k < length placed.now.taken }
+    ensures ok { IfOk result (λ new. with_section_image placed.now k
         setup.items ≡ Ok new.items) }
     ensures err { IfErr result (MemoryOr
-        (with_section_image object.now plan.now maps.now taken.now k setup.items)) }
+        (with_section_image placed.now k setup.items)) }
 {
-    let image = match image_of(alloc, object, plan, maps, taken, taken[k]) {
+    let image = match image_of(alloc, placed, placed.taken()[k]) {
         Ok(image) => image,
         Err(fault) => return Err(fault),
     };
-    with_image((maps.len() + k) as u8, &image, setup)
+    with_image((placed.maps().len() + k) as u8, &image, setup)
 }
 
 /// The stores of all maps that are data.
-pub fn stores_of(
-    alloc: Global,
-    object: &[u8],
-    plan: &Plan,
-    maps: &[u64],
-    taken: &[usize],
-) -> Result<Vec<u8>, LinkFault>
-    requires { HasData object.now plan.now maps.now taken.now }
+pub fn stores_of(alloc: Global, placed: &Placed<'_, '_>) -> Result<Vec<u8>, LinkFault>
     ensures ok { IfOk result (λ stores.
-        stores_of object.now plan.now maps.now taken.now ≡ Ok stores.items) }
-    ensures err { IfErr result (MemoryOr (stores_of object.now plan.now maps.now taken.now)) }
+        stores_of placed.now ≡ Ok stores.items) }
+    ensures err { IfErr result (MemoryOr (stores_of placed.now)) }
 {
     let mut setup = Vec::new(alloc);
-    for k in 0..taken.len() {
-        match with_section_image(alloc, object, plan, maps, taken, k, setup) {
+    for k in 0..placed.taken().len() {
+        match with_section_image(alloc, placed, k, setup) {
             Ok(new) => setup = new,
             Err(fault) => return Err(fault),
         }

@@ -1,7 +1,6 @@
 //! The shapes of the maps of an object.
 ghost use Rattle.std.specs.Prelude.{◌≡◌, ◌≤◌, ◌<◌, ◌+◌, ◌++◌, nat_le, length, true, IfOk, IfErr, IsTrue, List};
-ghost use Rattle.bpf_link.specs.Plans.{Lies, LiesPlan};
-ghost use Rattle.bpf_link.specs.MapTypes.{HasPlaces, is_typed};
+ghost use Rattle.bpf_link.specs.MapTypes.{is_typed};
 ghost use Rattle.bpf_link.specs.Refusals.{HasTypeFault};
 ghost use Rattle.bpf_link.specs.Shapes.{definition_at, is_array, shape_at, shapes_at, IsInOrder, AreDefined, AreOwn, is_unknown, all_shapes};
 ghost use Rattle.bpf_isa.specs.declared.maps.MapShape.{MapShape};
@@ -10,48 +9,45 @@ ghost use Rattle.bpf_isa.specs.Maps.{most_maps};
 use crate::fault::LinkFault;
 use crate::layout::{MapDefinition, map_definition};
 use crate::map_types::{is_typed, shapes_by_types};
-use crate::plan::{Entries, Plan};
+use crate::plan::Plan;
 use arrayvec::ArrayVec;
 use bpf_isa::{MOST_MAPS, MapShape};
 use std::alloc::Global;
 
 /// The definition at a place of the section.
-fn definition_at(object: &[u8], definitions: &Entries, place: u64) -> MapDefinition
-    requires lies { Lies object.now 1 definitions.now }
-    requires inside { place + 16 ≤ definitions.now.count }
-    ensures { result ≡ definition_at object.now definitions.now place }
+fn definition_at(definitions: &[u8], place: u64) -> MapDefinition
+    requires { place + 16 ≤ length definitions.now }
+    ensures { result ≡ definition_at definitions.now place }
 {
-    map_definition(object, definitions.at + place as usize)
+    map_definition(definitions, place as usize)
 }
 
 /// Whether a definition lies at a place of the section.
-fn is_inside(definitions: &Entries, place: u64) -> bool
-    ensures { result ≡ nat_le (place + 16) definitions.now.count }
+fn is_inside(definitions: &[u8], place: u64) -> bool
+    ensures { result ≡ nat_le (place + 16) (length definitions.now) }
 {
-    let count = definitions.count as u64;
+    let count = definitions.len() as u64;
     count >= 16 && place <= count - 16
 }
 
 /// Whether an array is defined at a place of the section.
-fn is_array(object: &[u8], definitions: &Entries, place: u64) -> bool
-    requires { Lies object.now 1 definitions.now }
-    ensures value { result ≡ is_array object.now definitions.now place }
-    ensures inside { IsTrue result → place + 16 ≤ definitions.now.count }
+fn is_array(definitions: &[u8], place: u64) -> bool
+    ensures value { result ≡ is_array definitions.now place }
+    ensures inside { IsTrue result → place + 16 ≤ length definitions.now }
 {
     if !is_inside(definitions, place) {
         return false;
     }
-    let definition = definition_at(object, definitions, place);
+    let definition = definition_at(definitions, place);
     definition.kind == 2 && definition.key_size == 4
 }
 
 /// The shape of the map that is defined at a place of the section.
-fn shape_at(object: &[u8], definitions: &Entries, place: u64) -> MapShape
-    requires lies { Lies object.now 1 definitions.now }
-    requires inside { place + 16 ≤ definitions.now.count }
-    ensures { result ≡ shape_at object.now definitions.now place }
+fn shape_at(definitions: &[u8], place: u64) -> MapShape
+    requires { place + 16 ≤ length definitions.now }
+    ensures { result ≡ shape_at definitions.now place }
 {
-    let definition = definition_at(object, definitions, place);
+    let definition = definition_at(definitions, place);
     MapShape {
         value_size: definition.value_size,
         entries: definition.entries,
@@ -59,17 +55,16 @@ fn shape_at(object: &[u8], definitions: &Entries, place: u64) -> MapShape
 }
 
 /// The shapes of the maps at places of the section, none unless each is an array.
-fn shapes_at(object: &[u8], definitions: &Entries, places: &[u64]) -> ArrayVec<MapShape, MOST_MAPS>
-    requires lies { Lies object.now 1 definitions.now }
-    requires few { length places.now ≤ most_maps }
-    ensures { result.items ≡ shapes_at object.now definitions.now places.now }
+fn shapes_at(definitions: &[u8], places: &[u64]) -> ArrayVec<MapShape, MOST_MAPS>
+    requires { length places.now ≤ most_maps }
+    ensures { result.items ≡ shapes_at definitions.now places.now }
 {
     let mut shapes = ArrayVec::new();
     for place in places {
-        if !is_array(object, definitions, *place) {
+        if !is_array(definitions, *place) {
             return ArrayVec::new();
         }
-        shapes.push(shape_at(object, definitions, *place));
+        shapes.push(shape_at(definitions, *place));
     }
     shapes
 }
@@ -88,33 +83,31 @@ pub fn in_order(places: &[u64]) -> ArrayVec<u64, MOST_MAPS>
 
 /// The shapes of maps that stand at places of the section, in the order of their numbers. None
 /// unless each is an array.
-fn shapes_of(object: &[u8], definitions: &Entries, maps: &[u64]) -> ArrayVec<MapShape, MOST_MAPS>
-    requires lies { Lies object.now 1 definitions.now }
-    requires few { length maps.now ≤ most_maps }
-    ensures defined { AreDefined object.now definitions.now maps.now result.items }
+fn shapes_of(definitions: &[u8], maps: &[u64]) -> ArrayVec<MapShape, MOST_MAPS>
+    requires { length maps.now ≤ most_maps }
+    ensures defined { AreDefined definitions.now maps.now result.items }
     ensures few { length result.items ≤ length maps.now }
 {
     let ordered = in_order(maps);
-    shapes_at(object, definitions, ordered.as_slice())
+    shapes_at(definitions, ordered.as_slice())
 }
 
 /// The shapes of the maps that stand at places of their section: by BTF, or by their definitions.
 fn own_shapes(
     alloc: Global,
-    object: &[u8],
-    plan: &Plan,
+    plan: &Plan<'_>,
     maps: &[u64],
 ) -> Result<ArrayVec<MapShape, MOST_MAPS>, LinkFault>
-    requires { HasPlaces object.now plan.now maps.now }
-    ensures ok { IfOk result (λ own. AreOwn (is_typed object.now plan.now maps.now)
-        object.now plan.now maps.now own.items) }
+    requires { length maps.now ≤ most_maps }
+    ensures ok { IfOk result (λ own. AreOwn (is_typed plan.now maps.now)
+        plan.now maps.now own.items) }
     ensures few { IfOk result (λ own. length own.items ≤ length maps.now) }
-    ensures err { IfErr result (HasTypeFault object.now plan.now maps.now) }
+    ensures err { IfErr result (HasTypeFault plan.now maps.now) }
 {
-    if is_typed(object, plan, maps) {
-        return shapes_by_types(alloc, object, plan, maps);
+    if is_typed(plan, maps) {
+        return shapes_by_types(alloc, plan, maps);
     }
-    Ok(shapes_of(object, &plan.definitions, maps))
+    Ok(shapes_of(plan.definitions.bytes, maps))
 }
 
 /// The shapes of all maps: those that stand at places of their section, and after them those of
@@ -122,19 +115,17 @@ fn own_shapes(
 /// array.
 pub fn all_shapes(
     alloc: Global,
-    object: &[u8],
-    plan: &Plan,
+    plan: &Plan<'_>,
     maps: &[u64],
     others: &[MapShape],
 ) -> Result<ArrayVec<MapShape, MOST_MAPS>, LinkFault>
-    requires plan { LiesPlan object.now plan.now }
-    requires few { length maps.now + length others.now ≤ most_maps }
+    requires { length maps.now + length others.now ≤ most_maps }
     ensures ok { IfOk result (λ shapes. (own : List MapShape)
-        × AreOwn (is_typed object.now plan.now maps.now) object.now plan.now maps.now own
+        × AreOwn (is_typed plan.now maps.now) plan.now maps.now own
         × (shapes.items ≡ all_shapes maps.now own others.now)) }
-    ensures err { IfErr result (HasTypeFault object.now plan.now maps.now) }
+    ensures err { IfErr result (HasTypeFault plan.now maps.now) }
 {
-    let own = match own_shapes(alloc, object, plan, maps) {
+    let own = match own_shapes(alloc, plan, maps) {
         Ok(own) => own,
         Err(fault) => return Err(fault),
     };

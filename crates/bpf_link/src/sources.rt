@@ -1,8 +1,8 @@
 //! Where the slots of a program come from.
 ghost use Rattle.std.specs.Prelude.{◌≡◌};
-ghost use Rattle.bpf_link.specs.Plans.{LiesPlan};
 ghost use Rattle.bpf_link.specs.Sources.{source_at, source_of};
 
+use crate::parts::Side;
 use crate::plan::{Plan, part_place};
 
 /// Where a slot of a program comes from.
@@ -15,34 +15,34 @@ pub struct Source {
 }
 
 /// Where a slot of the code comes from: one of the section, or of `.text` behind it.
-fn source_at(object: &[u8], plan: &Plan, slot: usize) -> Option<Source>
-    requires { LiesPlan object.now plan.now }
-    ensures { result ≡ source_at object.now plan.now slot }
+fn source_at(plan: &Plan<'_>, slot: usize) -> Option<Source>
+    ensures { result ≡ source_at plan.now slot }
 {
-    let count = plan.code.slots.count;
+    let code = plan.parts.part(Side::Code);
+    let count = code.len();
     if slot < count {
-        let at = part_place(object, plan, &plan.code);
+        let at = part_place(plan, code);
         return Some(Source { slot, at });
     }
-    if slot - count >= plan.text.slots.count {
+    let text = plan.parts.part(Side::Text);
+    if slot - count >= text.len() {
         return None;
     }
     Some(Source {
         slot: slot - count,
-        at: part_place(object, plan, &plan.text),
+        at: part_place(plan, text),
     })
 }
 
 /// Where a slot of the program comes from; None of the jump before the code, and of the setup.
-pub fn source_of(object: &[u8], plan: &Plan, words: &[u8], slot: usize) -> Option<Source>
-    requires { LiesPlan object.now plan.now }
-    ensures { result ≡ source_of object.now plan.now words.now slot }
+pub fn source_of(plan: &Plan<'_>, words: &[u8], slot: usize) -> Option<Source>
+    ensures { result ≡ source_of plan.now words.now slot }
 {
-    if words.len() == 8 * (plan.code.slots.count + plan.text.slots.count) {
-        return source_at(object, plan, slot);
+    if words.len() == 8 * plan.parts.len() {
+        return source_at(plan, slot);
     }
     if slot == 0 {
         return None;
     }
-    source_at(object, plan, slot - 1)
+    source_at(plan, slot - 1)
 }

@@ -1,27 +1,27 @@
 //! The words of a plan, with the relocations done.
 ghost use Rattle.std.specs.Prelude.{◌≡◌, ◌≤◌, ◌<◌, ◌+◌, ◌*◌, ◌⊎◌, length, IfOk, OnOk, IfErr, Ok, Err};
-ghost use Rattle.bpf_link.specs.Data.{HasMaps};
-ghost use Rattle.bpf_link.specs.Links.{HasRoom, MemoryOr, maps_of, with_patch, patch_width, relocated, slots_of, words_of};
-ghost use Rattle.bpf_link.specs.Plans.{Lies, LiesPart, LiesPlan};
+ghost use Rattle.bpf_link.specs.Links.{HasRoom, MemoryOr, maps_of, with_patch, patch_width, relocated, words_of};
+ghost use Rattle.bpf_link.specs.Parts.{part_of};
 ghost use Rattle.bpf_link.specs.declared.fault.LinkFault.TheVariants.{Memory};
 
 use crate::fault::LinkFault;
+use crate::parts::Side;
 use crate::patch::{Patch, is_map, patch_of};
-use crate::plan::{Part, Plan, symbol_at};
+use crate::placed::Placed;
+use crate::plan::Plan;
 use arrayvec::ArrayVec;
 use bpf_isa::MOST_MAPS;
 use byteorder::{ByteOrder, LittleEndian};
 use std::alloc::Global;
 
 /// Where the maps stand in their section.
-pub fn maps_of(object: &[u8], plan: &Plan) -> Result<ArrayVec<u64, MOST_MAPS>, LinkFault>
-    requires { LiesPlan object.now plan.now }
-    ensures ok { IfOk result (λ maps. maps_of object.now plan.now ≡ Ok maps.items) }
-    ensures err { IfErr result (λ fault. maps_of object.now plan.now ≡ Err fault) }
+pub fn maps_of(plan: &Plan<'_>) -> Result<ArrayVec<u64, MOST_MAPS>, LinkFault>
+    ensures ok { IfOk result (λ maps. maps_of plan.now ≡ Ok maps.items) }
+    ensures err { IfErr result (λ fault. maps_of plan.now ≡ Err fault) }
 {
     let mut values = ArrayVec::new();
-    for i in 0..plan.symbols.count {
-        let symbol = symbol_at(object, &plan.symbols, i);
+    for i in 0..plan.symbols.len() {
+        let symbol = plan.symbols.at(i);
         if is_map(plan.maps, &symbol) {
             if values.is_full() {
                 return Err(LinkFault::TooManyMaps);
@@ -45,23 +45,16 @@ fn put_patch(words: &mut [u8], patch: &Patch)
 }
 
 /// Does the relocations of a part.
-fn relocate(
-    object: &[u8],
-    plan: &Plan,
-    maps: &[u64],
-    taken: &[usize],
-    part: &Part,
-    words: &mut [u8],
-) -> Result<(), LinkFault>
-    requires maps { HasMaps object.now plan.now maps.now taken.now }
-    requires room { HasRoom object.now part.now words.old }
-    ensures ok { OnOk result (relocated object.now plan.now maps.now taken.now part.now words.old
-        part.now.relocations.count ≡ Ok words.new) }
-    ensures err { IfErr result (λ fault. relocated object.now plan.now maps.now taken.now part.now
-        words.old part.now.relocations.count ≡ Err fault) }
+fn relocate(placed: &Placed<'_, '_>, side: Side, words: &mut [u8]) -> Result<(), LinkFault>
+    requires { HasRoom placed.now.plan.parts side words.old }
+    ensures ok { OnOk result (relocated placed.now side words.old
+        (length (part_of placed.now.plan.parts side).relocations) ≡ Ok words.new) }
+    ensures err { IfErr result (λ fault. relocated placed.now side words.old
+        (length (part_of placed.now.plan.parts side).relocations) ≡ Err fault) }
 {
-    for i in 0..part.relocations.count {
-        match patch_of(object, plan, maps, taken, part, i) {
+    let count = placed.plan().parts.part(side).relocations.len();
+    for i in 0..count {
+        match patch_of(placed, side, i) {
             Ok(patch) => put_patch(words, &patch),
             Err(fault) => return Err(fault),
         }
@@ -69,44 +62,28 @@ fn relocate(
     Ok(())
 }
 
-/// The slots of a part as they stand in the object.
-fn slots_of<'a>(object: &'a [u8], part: &Part) -> &'a [u8]
-    requires { LiesPart object.now part.now }
-    ensures value { result.now ≡ slots_of object.now part.now }
-    ensures length { length result.now ≡ 8 * part.now.slots.count }
-{
-    let at = part.slots.at;
-    &object[at..at + 8 * part.slots.count]
-}
-
 /// The words of a plan: those of its section, then those of `.text`.
-pub fn words_of(
-    alloc: Global,
-    object: &[u8],
-    plan: &Plan,
-    maps: &[u64],
-    taken: &[usize],
-) -> Result<Vec<u8>, LinkFault>
-    requires { HasMaps object.now plan.now maps.now taken.now }
+pub fn words_of(alloc: Global, placed: &Placed<'_, '_>) -> Result<Vec<u8>, LinkFault>
     ensures ok { IfOk result (λ words.
-        words_of object.now plan.now maps.now taken.now ≡ Ok words.items) }
-    ensures err { IfErr result (MemoryOr (words_of object.now plan.now maps.now taken.now)) }
+        words_of placed.now ≡ Ok words.items) }
+    ensures err { IfErr result (MemoryOr (words_of placed.now)) }
 {
-    let mut words = match Vec::from_slice(alloc, slots_of(object, &plan.code)) {
+    let parts = &placed.plan().parts;
+    let mut words = match Vec::from_slice(alloc, parts.part(Side::Code).slots.bytes) {
         Ok(words) => words,
         Err(_) => return Err(LinkFault::Memory),
     };
     if words
-        .extend_from_slice(slots_of(object, &plan.text))
+        .extend_from_slice(parts.part(Side::Text).slots.bytes)
         .is_err()
     {
         return Err(LinkFault::Memory);
     }
-    match relocate(object, plan, maps, taken, &plan.code, &mut words) {
+    match relocate(placed, Side::Code, &mut words) {
         Ok(()) => {}
         Err(fault) => return Err(fault),
     }
-    match relocate(object, plan, maps, taken, &plan.text, &mut words) {
+    match relocate(placed, Side::Text, &mut words) {
         Ok(()) => Ok(words),
         Err(fault) => Err(fault),
     }

@@ -1,6 +1,6 @@
 -- The images of sections of data: they fit their maps, which are zero at the opening.
-use Rattle.std.proofs.Common.{◌≡◌, ◌≤◌, ◌<◌, ◌+◌, ◌*◌, ◌/◌, ◌%◌, ◌==◌, nat_le, nat_lt, ℕ, zero, suc, Bool, true, false, List, [], ◌∷◌, ◌++◌, Option, Some, None, Result, Ok, Err, length, refl, sym, ap, ◌∙◌, arith, length-append}
-use Rattle.std.specs.Prelude.{if◌then◌else◌, min, option_map, replicate, slice_get, slice_index, slice_range, slice_set}
+use Rattle.std.proofs.Common.{◌≡◌, ◌≤◌, ◌<◌, ◌+◌, ◌*◌, ◌/◌, ◌%◌, ◌==◌, nat_le, nat_lt, ℕ, zero, suc, Bool, true, false, List, [], ◌∷◌, ◌++◌, Some, Result, Ok, Err, length, refl, sym, ap, ◌∙◌, arith, length-append}
+use Rattle.std.specs.Prelude.{if◌then◌else◌, min, option_map, replicate, slice_get, slice_index, slice_range}
 use Rattle.std.proofs.lemmas.Bool.Decides.{nat_tests}
 use Rattle.std.proofs.lemmas.Grind.{common_steps}
 use Rattle.std.proofs.lemmas.List.{length-replicate}
@@ -14,23 +14,20 @@ use Rattle.bpf_link.specs.declared.fault.LinkFault.TheVariants.{LongData, DataSe
 use Rattle.bpf_link.specs.declared.layout.RelocationEntry.{RelocationEntry}
 use Rattle.bpf_link.specs.declared.layout.SectionHeader.{SectionHeader}
 use Rattle.bpf_link.specs.declared.layout.SymbolEntry.{SymbolEntry}
-use Rattle.bpf_link.specs.declared.plan.Entries.{Entries}
-use Rattle.bpf_link.specs.declared.plan.Part.{Part}
+use Rattle.bpf_link.specs.declared.parts.Part.{Part}
 use Rattle.bpf_link.specs.declared.plan.Plan.{Plan}
 use Rattle.bpf_link.specs.declared.sections.Found.{Found}
 use Rattle.bpf_link.specs.declared.sections.Found.TheVariants.{Nothing, Only, Several}
-use Rattle.bpf_link.specs.declared.stubs.Stub.{Stub}
-use Rattle.bpf_link.specs.Data.{is_among, pointers_of}
+use Rattle.bpf_link.specs.Data.{Numbered, is_among, pointers_of}
 use Rattle.bpf_link.specs.Entries.{entry_of, entry_at, entry_found, slot_in}
-use Rattle.bpf_link.specs.Header.{provided}
+use Rattle.bpf_link.specs.Objects.{Elf, provided, section_at}
+use Rattle.bpf_link.specs.Parts.{slots_in}
+use Rattle.bpf_link.specs.Tables.{relocation_at, symbol_at}
 use Rattle.bpf_link.specs.Images.{filled, whole_size, bytes_of, with_u64, address_of, with_relocated, with_pointer, with_pointers, image_of}
 use Rattle.bpf_link.specs.Layout.{u64_at}
 use Rattle.bpf_link.specs.Links.{data_shape, shape_of_data, data_shapes}
-use Rattle.bpf_link.specs.Plans.{after, steps, relocation_at, symbol_at}
-use Rattle.bpf_link.specs.Sections.{section_at}
-use Rattle.bpf_link.specs.Stubs.{with_move, answer_in, answered_below, answered}
+use Rattle.bpf_link.specs.Plans.{after, steps}
 use Rattle.bpf_link.proofs.Inversions.{ok_same, provided_ok, after_ok}
-use Rattle.bpf_link.proofs.Slots.{u32_length, set_length}
 use Rattle.bpf_machine.specs.ByAddress.{byte_at}
 use Rattle.bpf_machine.specs.Platform.{context_limit, frame_count, frame_len, map_address}
 use Rattle.bpf_machine.specs.Regions.{IsImage, map_len, maps_len, opened}
@@ -51,15 +48,15 @@ pub record Fits (size : ℕ) (image : List ℕ) : Type 0 where
   pub most : size ≤ 65536
   pub whole : length image ≡ whole_size size
 
-bytes_fit : (object : List ℕ) (section : SectionHeader) (bytes : List ℕ) (empty : Bool)
-    → (if empty then Ok (filled (whole_size section.size) []) else provided (nat_le (section.offset + section.size) (length object)) DataSection (Ok (filled (whole_size section.size) (slice_range object section.offset (section.offset + section.size))))) ≡ Ok bytes
+bytes_fit : (object : Elf) (section : SectionHeader) (bytes : List ℕ) (empty : Bool)
+    → (if empty then Ok (filled (whole_size section.size) []) else provided (nat_le (section.offset + section.size) (length object.bytes)) DataSection (Ok (filled (whole_size section.size) (slice_range object.bytes section.offset (section.offset + section.size))))) ≡ Ok bytes
     → length bytes ≡ whole_size section.size
 bytes_fit object section bytes true e = ap length (sym (ok_same _ bytes e)) ∙ filled_length (whole_size section.size) []
 bytes_fit object section bytes false e =
-    let a = provided_ok (nat_le (section.offset + section.size) (length object)) DataSection _ bytes e in
-    ap length (sym (ok_same _ bytes a.1)) ∙ filled_length (whole_size section.size) (slice_range object section.offset (section.offset + section.size))
+    let a = provided_ok (nat_le (section.offset + section.size) (length object.bytes)) DataSection _ bytes e in
+    ap length (sym (ok_same _ bytes a.1)) ∙ filled_length (whole_size section.size) (slice_range object.bytes section.offset (section.offset + section.size))
 
-of_section : (object : List ℕ) (section : SectionHeader) (bytes : List ℕ) → bytes_of object section ≡ Ok bytes → Fits section.size bytes
+of_section : (object : Elf) (section : SectionHeader) (bytes : List ℕ) → bytes_of object section ≡ Ok bytes → Fits section.size bytes
 of_section object section bytes e =
     let a = provided_ok (nat_le section.size most_map_bytes) LongData _ bytes e in
     record { most = is_most section.size most_map_bytes a.0; whole = bytes_fit object section bytes (section.kind == 8) a.1 }
@@ -68,27 +65,27 @@ of_section object section bytes e =
 u64_length : (bytes : List ℕ) (at n : ℕ) → at + 8 ≤ length bytes → length (with_u64 bytes at n) ≡ length bytes
 u64_length bytes at n fits = let eight : length (little_bytes 8 n) ≡ 8 = length-bytes_low_first 0 8 n in grind (arith, common_steps)
 
-pointer_length : (object : List ℕ) (plan : Plan) (maps taken : List ℕ) (relocation : RelocationEntry) (image new : List ℕ) → with_relocated object plan maps taken relocation image ≡ Ok new → length new ≡ length image
-pointer_length object plan maps taken relocation image new e =
-    let symbol = symbol_at object plan.symbols relocation.symbol in
+pointer_length : (placed : Numbered) (relocation : RelocationEntry) (image new : List ℕ) → with_relocated placed relocation image ≡ Ok new → length new ≡ length image
+pointer_length placed relocation image new e =
+    let symbol = symbol_at placed.plan.symbols relocation.symbol in
     let a = provided_ok (relocation.kind == 2) _ _ new e in
     let b = provided_ok (nat_le (relocation.offset + 8) (length image)) _ _ new a.1 in
-    let c = provided_ok (nat_lt relocation.symbol plan.symbols.count) _ _ new b.1 in
-    let d = provided_ok (is_among taken symbol.section) _ _ new c.1 in
-    ap length (sym (ok_same _ new d.1)) ∙ u64_length image relocation.offset (address_of maps taken symbol (u64_at image relocation.offset)) (is_most (relocation.offset + 8) (length image) b.0)
+    let c = provided_ok (nat_lt relocation.symbol (length placed.plan.symbols)) _ _ new b.1 in
+    let d = provided_ok (is_among placed.taken symbol.section) _ _ new c.1 in
+    ap length (sym (ok_same _ new d.1)) ∙ u64_length image relocation.offset (address_of placed symbol (u64_at image relocation.offset)) (is_most (relocation.offset + 8) (length image) b.0)
 
-pointers_length : (object : List ℕ) (plan : Plan) (maps taken : List ℕ) (relocations : Entries) (image : List ℕ) (n : ℕ) (new : List ℕ) → steps (with_pointer object plan maps taken relocations) image n ≡ Ok new → length new ≡ length image
-pointers_length object plan maps taken relocations image zero new e = ap length (sym (ok_same image new e))
-pointers_length object plan maps taken relocations image (suc n) new e =
-    let a = after_ok (steps (with_pointer object plan maps taken relocations) image n) (with_pointer object plan maps taken relocations n) new e in
-    pointer_length object plan maps taken (relocation_at object relocations n) a.0 new a.2 ∙ pointers_length object plan maps taken relocations image n a.0 a.1
+pointers_length : (placed : Numbered) (relocations : List RelocationEntry) (image : List ℕ) (n : ℕ) (new : List ℕ) → steps (with_pointer placed relocations) image n ≡ Ok new → length new ≡ length image
+pointers_length placed relocations image zero new e = ap length (sym (ok_same image new e))
+pointers_length placed relocations image (suc n) new e =
+    let a = after_ok (steps (with_pointer placed relocations) image n) (with_pointer placed relocations n) new e in
+    pointer_length placed (relocation_at relocations n) a.0 new a.2 ∙ pointers_length placed relocations image n a.0 a.1
 
-pub image_fits : (object : List ℕ) (plan : Plan) (maps taken : List ℕ) (section : ℕ) (image : List ℕ) → image_of object plan maps taken section ≡ Ok image → Fits (section_at object plan.sections section).size image
-image_fits object plan maps taken section image e =
-    let a = after_ok (bytes_of object (section_at object plan.sections section)) (λ bytes. after (pointers_of object plan section) (λ relocations. with_pointers object plan maps taken relocations bytes)) image e in
-    let b = after_ok (pointers_of object plan section) (λ relocations. with_pointers object plan maps taken relocations a.0) image a.2 in
-    let first = of_section object (section_at object plan.sections section) a.0 a.1 in
-    record { most = first.most; whole = pointers_length object plan maps taken b.0 a.0 b.0.count image b.2 ∙ first.whole }
+pub image_fits : (placed : Numbered) (section : ℕ) (image : List ℕ) → image_of placed section ≡ Ok image → Fits (section_at placed.plan.object section).size image
+image_fits placed section image e =
+    let a = after_ok (bytes_of placed.plan.object (section_at placed.plan.object section)) (λ bytes. after (pointers_of placed.plan section) (λ relocations. with_pointers placed relocations bytes)) image e in
+    let b = after_ok (pointers_of placed.plan section) (λ relocations. with_pointers placed relocations a.0) image a.2 in
+    let first = of_section placed.plan.object (section_at placed.plan.object section) a.0 a.1 in
+    record { most = first.most; whole = pointers_length placed b.0 a.0 (length b.0) image b.2 ∙ first.whole }
 
 -- So they are a whole number of eight, at most 65,536, and fit their map.
 pub image_whole : (size : ℕ) (image : List ℕ) → Fits size image → 8 * (length image / 8) ≡ length image
@@ -116,19 +113,19 @@ get_behind [] others k i e = let same : i ≡ k = omega arith in ap (slice_get o
 get_behind (shape ∷ own) others k zero e = absurd (omega arith)
 get_behind (shape ∷ own) others k (suc i) e = get_behind own others k i (omega arith)
 
-pub map_shape : (object : List ℕ) (plan : Plan) (taken : List ℕ) (own maps : List MapShape) (n k : ℕ) → maps ≡ own ++ data_shapes object plan taken → length own ≡ n → k < length taken → slice_get maps (n + k) ≡ Some (shape_of_data object plan (slice_index taken k))
-map_shape object plan taken own maps n k e count known =
+pub map_shape : (plan : Plan) (taken : List ℕ) (own maps : List MapShape) (n k : ℕ) → maps ≡ own ++ data_shapes plan taken → length own ≡ n → k < length taken → slice_get maps (n + k) ≡ Some (shape_of_data plan (slice_index taken k))
+map_shape plan taken own maps n k e count known =
     ap (λ shapes. slice_get shapes (n + k)) e
-    ∙ get_behind own (data_shapes object plan taken) k (n + k) (omega arith)
-    ∙ slice_get-map (shape_of_data object plan) taken k
-    ∙ ap (option_map (shape_of_data object plan)) (slice_get-get_or taken k 0 known)
+    ∙ get_behind own (data_shapes plan taken) k (n + k) (omega arith)
+    ∙ slice_get-map (shape_of_data plan) taken k
+    ∙ ap (option_map (shape_of_data plan)) (slice_get-get_or taken k 0 known)
 
 -- It is zero at the opening.
-pub zero_there : (object : List ℕ) (plan : Plan) (program : Checked) (context : List ℕ) (i section : ℕ) (image : List ℕ) → length context ≤ context_limit → slice_get program.maps i ≡ Some (shape_of_data object plan section) → Fits (section_at object plan.sections section).size image
+pub zero_there : (plan : Plan) (program : Checked) (context : List ℕ) (i section : ℕ) (image : List ℕ) → length context ≤ context_limit → slice_get program.maps i ≡ Some (shape_of_data plan section) → Fits (section_at plan.object section).size image
     → (j : ℕ) → j < length image → byte_at (opened program.maps context) (map_address i + j) ≡ Some 0
-zero_there object plan program context i section image short here fits j low =
-    let within = image_within (section_at object plan.sections section).size image fits in
-    (law_opened program context short).2 i j (shape_of_data object plan section) here (below_of j (length image) (map_len (shape_of_data object plan section)) low within)
+zero_there plan program context i section image short here fits j low =
+    let within = image_within (section_at plan.object section).size image fits in
+    (law_opened program context short).2 i j (shape_of_data plan section) here (below_of j (length image) (map_len (shape_of_data plan section)) low within)
 
 zeros_length : (context : List ℕ) (n : ℕ) → length (context ++ replicate n 0) ≡ length context + n
 zeros_length context n = length-append context (replicate n 0) ∙ ap (λ k. length context + k) (length-replicate {A = ℕ} n 0)
@@ -143,41 +140,25 @@ opened_image program context is short = record {
   whole = zeros_length context (frame_len * frame_count + maps_len program.maps) ∙ three_parts (length context) (frame_len * frame_count) (maps_len program.maps);
 }
 
--- The code keeps its length where calls are answered.
-move_length : (words : List ℕ) (slot : ℕ) (value : Option ℕ) → 8 * slot + 8 ≤ length words → length (with_move words slot value) ≡ length words
-move_length words slot None fits = refl
-move_length words slot (Some value) fits =
-    let size = set_length words (8 * slot) 0xb7 in
-    u32_length (slice_set words (8 * slot) 0xb7) (8 * slot + 4) value (omega arith) ∙ size
-
-answers_length : (stubs : List Stub) (words : List ℕ) (n : ℕ) → 8 * n ≤ length words → length (answered_below stubs words n) ≡ length words
-answers_length stubs words zero fits = refl
-answers_length stubs words (suc n) fits =
-    let before = answers_length stubs words n (omega arith) in
-    move_length (answered_below stubs words n) n (answer_in stubs (answered_below stubs words n) n) (omega arith) ∙ before
-
-pub answered_length : (stubs : List Stub) (words : List ℕ) → length (answered stubs words) ≡ length words
-answered_length stubs words = answers_length stubs words (length words / 8) (omega arith)
-
 -- The entry is a slot of the code, or the first.
-slot_fits : (part : Part) (symbol : SymbolEntry) (slot : ℕ) → slot_in part symbol ≡ Ok slot → slot ≤ part.slots.count
+slot_fits : (part : Part) (symbol : SymbolEntry) (slot : ℕ) → slot_in part symbol ≡ Ok slot → slot ≤ slots_in part
 slot_fits part symbol slot e =
     let a = provided_ok (symbol.value % 8 == 0) NoEntry _ slot e in
-    let b = provided_ok (nat_lt (symbol.value / 8) part.slots.count) NoEntry _ slot a.1 in
+    let b = provided_ok (nat_lt (symbol.value / 8) (slots_in part)) NoEntry _ slot a.1 in
     let same = ok_same (symbol.value / 8) slot b.1 in
-    let inside = is_below (symbol.value / 8) part.slots.count b.0 in
+    let inside = is_below (symbol.value / 8) (slots_in part) b.0 in
     omega arith
 
 clash : (fault : LinkFault) (v : ℕ) → ◌≡◌ {A = Result ℕ LinkFault} (Err fault) (Ok v) → ⊥
 clash fault v e = cc
 
-found_fits : (object : List ℕ) (plan : Plan) (unnamed : Bool) (found : Found) (slot : ℕ) → entry_at object plan unnamed found ≡ Ok slot → slot ≤ plan.code.slots.count
-found_fits object plan unnamed (Only i) slot e = slot_fits plan.code (symbol_at object plan.symbols i) slot e
-found_fits object plan unnamed Several slot e = absurd (clash ManyPrograms slot e)
-found_fits object plan true Nothing slot e = let same = ok_same 0 slot e in omega arith
-found_fits object plan false Nothing slot e = absurd (clash NoEntry slot e)
+found_fits : (plan : Plan) (unnamed : Bool) (found : Found) (slot : ℕ) → entry_at plan unnamed found ≡ Ok slot → slot ≤ slots_in plan.parts.code
+found_fits plan unnamed (Only i) slot e = slot_fits plan.parts.code (symbol_at plan.symbols i) slot e
+found_fits plan unnamed Several slot e = absurd (clash ManyPrograms slot e)
+found_fits plan true Nothing slot e = let same = ok_same 0 slot e in omega arith
+found_fits plan false Nothing slot e = absurd (clash NoEntry slot e)
 
-pub entry_fits : (object : List ℕ) (plan : Plan) (name : List ℕ) (slot : ℕ) → entry_of object plan name ≡ Ok slot → slot ≤ plan.code.slots.count
-entry_fits object plan name slot e =
+pub entry_fits : (plan : Plan) (name : List ℕ) (slot : ℕ) → entry_of plan name ≡ Ok slot → slot ≤ slots_in plan.parts.code
+entry_fits plan name slot e =
     let a = provided_ok (nat_le (length name) 255) NoEntry _ slot e in
-    found_fits object plan (length name == 0) (entry_found object plan name) slot a.1
+    found_fits plan (length name == 0) (entry_found plan name) slot a.1

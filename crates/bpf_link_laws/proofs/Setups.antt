@@ -10,13 +10,16 @@ use Rattle.bpf_isa.specs.declared.instruction.Insn.TheVariants.{JumpLong}
 use Rattle.bpf_isa.specs.Programs.{Checked, IsProgram, IsStart, IsStartAt, insn_at}
 use Rattle.bpf_link.specs.declared.plan.Plan.{Plan}
 use Rattle.bpf_link.specs.declared.stubs.Stub.{Stub}
+use Rattle.bpf_link.specs.Data.{Numbered, numbered}
 use Rattle.bpf_link.specs.Images.{image_of}
 use Rattle.bpf_link.specs.Links.{data_shapes, shape_of_data}
 use Rattle.bpf_link.specs.Plans.{steps}
-use Rattle.bpf_link.specs.Sections.{section_at}
+use Rattle.bpf_link.specs.Objects.{section_at}
+use Rattle.bpf_link.specs.Parts.{slots_in}
 use Rattle.bpf_link.specs.Layout.{u64_at}
 use Rattle.bpf_link.specs.Setup.{place_words, with_stores, is_zero, with_image, with_section_image, jump_words, clear_words, with_entry}
 use Rattle.bpf_link.specs.Stubs.{answered}
+use Rattle.bpf_link.proofs.Answered.{answered_length}
 use Rattle.bpf_link.proofs.Inversions.{ok_same, after_ok}
 use Rattle.bpf_machine.specs.ByAddress.{byte_at}
 use Rattle.bpf_machine.specs.Platform.{context_limit, map_address}
@@ -29,7 +32,7 @@ use Rattle.bpf_link_laws.proofs.Slots.{move_bytes, move_here, jump_here}
 use Rattle.bpf_link_laws.proofs.Steps.{within, Gone, still, once, go, step_clear, step_clear_both, step_jump}
 use Rattle.bpf_link_laws.proofs.Filling.{Filled, AreZero, none_filled, zero_filled, zero_at}
 use Rattle.bpf_link_laws.proofs.Walk.{At, stand, walk, store_part, piece_part, one_more, stores_more}
-use Rattle.bpf_link_laws.proofs.Sections.{image_fits, image_whole, image_short, map_shape, zero_there, opened_image, answered_length, entry_fits}
+use Rattle.bpf_link_laws.proofs.Sections.{image_fits, image_whole, image_short, map_shape, zero_there, opened_image, entry_fits}
 
 -- Where the last jump goes to, and the words of a program with a setup.
 abbrev distance : List ℕ → List ℕ → ℕ → ℕ
@@ -72,45 +75,45 @@ image_more map image setup true = ([], sym (append-nil setup))
 image_more map image setup false = stores_more map image setup (length image / 8)
 
 -- The sections below a number.
-record OfSome (object : List ℕ) (plan : Plan) (maps taken : List ℕ) (k address : ℕ) : Type 0 where
+record OfSome (placed : Numbered) (k address : ℕ) : Type 0 where
   i : ℕ
   image : List ℕ
   j : ℕ
   known : i < k
-  is : image_of object plan maps taken (slice_index taken i) ≡ Ok image
+  is : image_of placed (slice_index placed.taken i) ≡ Ok image
   inside : j < length image
-  place : address ≡ map_address (length maps + i) + j
+  place : address ≡ map_address (length placed.maps + i) + j
 
-record Stored (object : List ℕ) (plan : Plan) (maps taken : List ℕ) (program : Checked) (context : List ℕ) (least : ℕ) (done : List ℕ) (old : Image) (k : ℕ) : Type 0 where
+record Stored (placed : Numbered) (program : Checked) (context : List ℕ) (least : ℕ) (done : List ℕ) (old : Image) (k : ℕ) : Type 0 where
   a : ℕ
   b : ℕ
   m : Image
   at : At program context least done a b m
   is : IsImage m
   same : m ≡ record old { bytes = m.bytes }
-  data_of : (i : ℕ) → i < k → HoldsSection object plan maps taken m i
-  others : (address : ℕ) → (OfSome object plan maps taken k address → ⊥) → byte_at m address ≡ byte_at old address
+  data_of : (i : ℕ) → i < k → HoldsSection placed m i
+  others : (address : ℕ) → (OfSome placed k address → ⊥) → byte_at m address ≡ byte_at old address
 
-short_of : (object : List ℕ) (plan : Plan) (maps taken : List ℕ) (section : ℕ) (image : List ℕ) → image_of object plan maps taken section ≡ Ok image → length image ≤ 65536
-short_of object plan maps taken section image e = image_short (section_at object plan.sections section).size image (image_fits object plan maps taken section image e)
+short_of : (placed : Numbered) (section : ℕ) (image : List ℕ) → image_of placed section ≡ Ok image → length image ≤ 65536
+short_of placed section image e = image_short (section_at placed.plan.object section).size image (image_fits placed section image e)
 
 -- The maps of two sections are apart.
-apart : (object : List ℕ) (plan : Plan) (maps taken : List ℕ) (k j : ℕ) → OfSome object plan maps taken k (map_address (length maps + k) + j) → ⊥
-apart object plan maps taken k j o =
-    let short = short_of object plan maps taken (slice_index taken o.i) o.image o.is in
+apart : (placed : Numbered) (k j : ℕ) → OfSome placed k (map_address (length placed.maps + k) + j) → ⊥
+apart placed k j o =
+    let short = short_of placed (slice_index placed.taken o.i) o.image o.is in
     let known = o.known in
     let inside = o.inside in
     let place = o.place in
     absurd (omega arith)
 
 -- One more section.
-added : (object : List ℕ) (plan : Plan) (maps taken : List ℕ) (program : Checked) (context : List ℕ) (least : ℕ) (before done image : List ℕ) (old : Image) (k : ℕ) → image_of object plan maps taken (slice_index taken k) ≡ Ok image
-    → (known : Stored object plan maps taken program context least before old k) → Imaged program context least done known.m (map_address (length maps + k)) image
-    → Stored object plan maps taken program context least done old (suc k)
-added object plan maps taken program context least before done image old k here known im =
-    let base = map_address (length maps + k) in
-    let fits = image_fits object plan maps taken (slice_index taken k) image here in
-    let whole = image_whole (section_at object plan.sections (slice_index taken k)).size image fits in
+added : (placed : Numbered) (program : Checked) (context : List ℕ) (least : ℕ) (before done image : List ℕ) (old : Image) (k : ℕ) → image_of placed (slice_index placed.taken k) ≡ Ok image
+    → (known : Stored placed program context least before old k) → Imaged program context least done known.m (map_address (length placed.maps + k)) image
+    → Stored placed program context least done old (suc k)
+added placed program context least before done image old k here known im =
+    let base = map_address (length placed.maps + k) in
+    let fits = image_fits placed (slice_index placed.taken k) image here in
+    let whole = image_whole (section_at placed.plan.object (slice_index placed.taken k)).size image fits in
     record {
       a = im.a;
       b = im.b;
@@ -121,18 +124,18 @@ added object plan maps taken program context least before done image old k here 
       data_of = λ i low. elim (cases_lt i k) [
         | inl below ↦
             let holds = known.data_of i below in
-            let short = short_of object plan maps taken (slice_index taken i) holds.image holds.is in
+            let short = short_of placed (slice_index placed.taken i) holds.image holds.is in
             record {
               image = holds.image;
               is = holds.is;
-              bytes = λ j inside. im.filled.outside (map_address (length maps + i) + j) (inl (omega arith)) ∙ holds.bytes j inside;
+              bytes = λ j inside. im.filled.outside (map_address (length placed.maps + i) + j) (inl (omega arith)) ∙ holds.bytes j inside;
             }
         | inr from ↦
             let same : k ≡ i = omega arith in
-            subst (HoldsSection object plan maps taken im.m) same (record { image = image; is = here; bytes = λ j inside. im.filled.inside j (omega arith) })
+            subst (HoldsSection placed im.m) same (record { image = image; is = here; bytes = λ j inside. im.filled.inside j (omega arith) })
       ];
       others = λ address none.
-          let earlier : OfSome object plan maps taken k address → ⊥ = λ o. none (record { i = o.i; image = o.image; j = o.j; known = omega (arith, o.known); is = o.is; inside = o.inside; place = o.place }) in
+          let earlier : OfSome placed k address → ⊥ = λ o. none (record { i = o.i; image = o.image; j = o.j; known = omega (arith, o.known); is = o.is; inside = o.inside; place = o.place }) in
           let side : (address < base) ⊎ (base + 8 * (length image / 8) ≤ address) = elim (cases_lt address base) [
             | inl below ↦ inl below
             | inr from ↦ elim (cases_lt address (base + 8 * (length image / 8))) [
@@ -144,19 +147,19 @@ added object plan maps taken program context least before done image old k here 
     }
 
 -- All sections.
-pub record Ready (object : List ℕ) (plan : Plan) (maps taken : List ℕ) (program : Checked) (context : List ℕ) : Type 0 where
+pub record Ready (placed : Numbered) (program : Checked) (context : List ℕ) : Type 0 where
   pub checked : IsProgram program
   pub short : length context ≤ context_limit
-  pub few : (k : ℕ) → k < length taken → length maps + k < 16
-  pub shape : (k : ℕ) → k < length taken → slice_get program.maps (length maps + k) ≡ Some (shape_of_data object plan (slice_index taken k))
+  pub few : (k : ℕ) → k < length placed.taken → length placed.maps + k < 16
+  pub shape : (k : ℕ) → k < length placed.taken → slice_get program.maps (length placed.maps + k) ≡ Some (shape_of_data placed.plan (slice_index placed.taken k))
 
 three : (a b c d : List ℕ) → a ++ ((b ++ c) ++ d) ≡ a ++ (b ++ (c ++ d))
 three a b c d = ap (λ xs. a ++ xs) (append_assoc b c d)
 
-sections : (object : List ℕ) (plan : Plan) (maps taken : List ℕ) (program : Checked) (context : List ℕ) (least : ℕ) (begin : List ℕ) (a b k : ℕ) (setup rest : List ℕ) → Ready object plan maps taken program context → k ≤ length taken
-    → steps (with_section_image object plan maps taken) [] k ≡ Ok setup → program.bytes ≡ begin ++ (setup ++ rest) → At program context least begin a b (opened program.maps context)
-    → Stored object plan maps taken program context least (begin ++ setup) (opened program.maps context) k
-sections object plan maps taken program context least begin a b zero setup rest ready within e whole x = record {
+sections : (placed : Numbered) (program : Checked) (context : List ℕ) (least : ℕ) (begin : List ℕ) (a b k : ℕ) (setup rest : List ℕ) → Ready placed program context → k ≤ length placed.taken
+    → steps (with_section_image placed) [] k ≡ Ok setup → program.bytes ≡ begin ++ (setup ++ rest) → At program context least begin a b (opened program.maps context)
+    → Stored placed program context least (begin ++ setup) (opened program.maps context) k
+sections placed program context least begin a b zero setup rest ready within e whole x = record {
   a = a;
   b = b;
   m = opened program.maps context;
@@ -166,27 +169,27 @@ sections object plan maps taken program context least begin a b zero setup rest 
   data_of = λ i low. absurd (omega arith);
   others = λ address none. refl;
 }
-sections object plan maps taken program context least begin a b (suc k) setup rest ready within e whole x =
+sections placed program context least begin a b (suc k) setup rest ready within e whole x =
     let old = opened program.maps context in
-    let map = length maps + k in
-    let first = after_ok (steps (with_section_image object plan maps taken) [] k) (with_section_image object plan maps taken k) setup e in
+    let map = length placed.maps + k in
+    let first = after_ok (steps (with_section_image placed) [] k) (with_section_image placed k) setup e in
     let before : List ℕ = first.0 in
-    let second = after_ok (image_of object plan maps taken (slice_index taken k)) (λ image. Ok (with_image map image before)) setup first.2 in
+    let second = after_ok (image_of placed (slice_index placed.taken k)) (λ image. Ok (with_image map image before)) setup first.2 in
     let image : List ℕ = second.0 in
-    let here : image_of object plan maps taken (slice_index taken k) ≡ Ok image = second.1 in
+    let here : image_of placed (slice_index placed.taken k) ≡ Ok image = second.1 in
     let same : image_words map image before (is_zero image) ≡ setup = ok_same (with_image map image before) setup second.2 in
     let more = image_more map image before (is_zero image) in
     let split : program.bytes ≡ begin ++ (image_words map image before (is_zero image) ++ rest) = whole ∙ ap (λ words. begin ++ (words ++ rest)) (sym same) in
     let earlier : program.bytes ≡ begin ++ (before ++ (more.0 ++ rest)) = split ∙ ap (λ words. begin ++ (words ++ rest)) more.1 ∙ three begin before more.0 rest in
-    let known = sections object plan maps taken program context least begin a b k before (more.0 ++ rest) ready (omega arith) first.1 earlier x in
-    let fits = image_fits object plan maps taken (slice_index taken k) image here in
-    let long = short_of object plan maps taken (slice_index taken k) image here in
+    let known = sections placed program context least begin a b k before (more.0 ++ rest) ready (omega arith) first.1 earlier x in
+    let fits = image_fits placed (slice_index placed.taken k) image here in
+    let long = short_of placed (slice_index placed.taken k) image here in
     let zeros : AreZero known.m (map_address map) image = λ j low.
-    known.others (map_address map + j) (apart object plan maps taken k j)
-    ∙ zero_there object plan program context map (slice_index taken k) image ready.short (ready.shape k (omega arith)) fits j low in
+    known.others (map_address map + j) (apart placed k j)
+    ∙ zero_there placed.plan program context map (slice_index placed.taken k) image ready.short (ready.shape k (omega arith)) fits j low in
     let im = imaged program context least begin before rest known.m map image known.a known.b (is_zero image) refl ready.checked (ready.few k (omega arith)) long known.is zeros split known.at in
-    subst (λ words. Stored object plan maps taken program context least (begin ++ words) old (suc k)) same
-    (added object plan maps taken program context least (begin ++ before) (begin ++ image_words map image before (is_zero image)) image old k here known im)
+    subst (λ words. Stored placed program context least (begin ++ words) old (suc k)) same
+    (added placed program context least (begin ++ before) (begin ++ image_words map image before (is_zero image)) image old k here known im)
 
 -- Where there are no stores all images are zero.
 filled_some : (image : List ℕ) → is_zero image ≡ false → 0 < length image
@@ -206,13 +209,13 @@ longer map image setup (suc n) =
     let same = ap length (one_more map image setup (suc n)) in
     omega arith
 
-holds_zero : (object : List ℕ) (plan : Plan) (maps taken : List ℕ) (program : Checked) (context : List ℕ) (k : ℕ) (image : List ℕ) → Ready object plan maps taken program context → k < length taken → image_of object plan maps taken (slice_index taken k) ≡ Ok image
-    → is_zero image ≡ true → HoldsSection object plan maps taken (opened program.maps context) k
-holds_zero object plan maps taken program context k image ready known here none = record {
+holds_zero : (placed : Numbered) (program : Checked) (context : List ℕ) (k : ℕ) (image : List ℕ) → Ready placed program context → k < length placed.taken → image_of placed (slice_index placed.taken k) ≡ Ok image
+    → is_zero image ≡ true → HoldsSection placed (opened program.maps context) k
+holds_zero placed program context k image ready known here none = record {
   image = image;
   is = here;
   bytes = λ j low.
-      zero_there object plan program context (length maps + k) (slice_index taken k) image ready.short (ready.shape k known) (image_fits object plan maps taken (slice_index taken k) image here) j low
+      zero_there placed.plan program context (length placed.maps + k) (slice_index placed.taken k) image ready.short (ready.shape k known) (image_fits placed (slice_index placed.taken k) image here) j low
       ∙ ap Some (sym (zero_at image none j));
 }
 
@@ -225,24 +228,24 @@ is_zero_by map image setup false test whole e =
     let count = ap (λ n. length (with_stores map image setup n)) pieces in
     absurd (omega arith)
 
-none_stored : (object : List ℕ) (plan : Plan) (maps taken : List ℕ) (program : Checked) (context : List ℕ) (k : ℕ) (setup : List ℕ) → Ready object plan maps taken program context → k ≤ length taken
-    → steps (with_section_image object plan maps taken) [] k ≡ Ok setup → length setup ≡ 0 → (i : ℕ) → i < k → HoldsSection object plan maps taken (opened program.maps context) i
-none_stored object plan maps taken program context zero setup ready within e none i low = absurd (omega arith)
-none_stored object plan maps taken program context (suc k) setup ready within e none i low =
-    let map = length maps + k in
-    let first = after_ok (steps (with_section_image object plan maps taken) [] k) (with_section_image object plan maps taken k) setup e in
+none_stored : (placed : Numbered) (program : Checked) (context : List ℕ) (k : ℕ) (setup : List ℕ) → Ready placed program context → k ≤ length placed.taken
+    → steps (with_section_image placed) [] k ≡ Ok setup → length setup ≡ 0 → (i : ℕ) → i < k → HoldsSection placed (opened program.maps context) i
+none_stored placed program context zero setup ready within e none i low = absurd (omega arith)
+none_stored placed program context (suc k) setup ready within e none i low =
+    let map = length placed.maps + k in
+    let first = after_ok (steps (with_section_image placed) [] k) (with_section_image placed k) setup e in
     let before : List ℕ = first.0 in
-    let second = after_ok (image_of object plan maps taken (slice_index taken k)) (λ image. Ok (with_image map image before)) setup first.2 in
+    let second = after_ok (image_of placed (slice_index placed.taken k)) (λ image. Ok (with_image map image before)) setup first.2 in
     let image : List ℕ = second.0 in
-    let here : image_of object plan maps taken (slice_index taken k) ≡ Ok image = second.1 in
+    let here : image_of placed (slice_index placed.taken k) ≡ Ok image = second.1 in
     let same : image_words map image before (is_zero image) ≡ setup = ok_same (with_image map image before) setup second.2 in
-    let whole = image_whole (section_at object plan.sections (slice_index taken k)).size image (image_fits object plan maps taken (slice_index taken k) image here) in
+    let whole = image_whole (section_at placed.plan.object (slice_index placed.taken k)).size image (image_fits placed (slice_index placed.taken k) image here) in
     let zeros = is_zero_by map image before (is_zero image) refl whole (ap length same ∙ none) in
     elim (cases_lt i k) [
-      | inl below ↦ none_stored object plan maps taken program context k before ready (omega arith) first.1 zeros.1 i below
+      | inl below ↦ none_stored placed program context k before ready (omega arith) first.1 zeros.1 i below
       | inr from ↦
           let last : k ≡ i = omega arith in
-          subst (HoldsSection object plan maps taken (opened program.maps context)) last (holds_zero object plan maps taken program context k image ready (omega arith) here zeros.0)
+          subst (HoldsSection placed (opened program.maps context)) last (holds_zero placed program context k image ready (omega arith) here zeros.0)
     ]
 
 -- The first jump.
@@ -295,26 +298,26 @@ ended program context least done a b m slot k is x short near same e =
     (step_jump program context (p + 1 + 1) 0 0 m (cast_signed w32 bytes) three ∙ ap (λ q. within program context q 0 0 m) goes)
 
 -- What is known of a linked program.
-ready : (object : List ℕ) (plan : Plan) (entry : List ℕ) (stubs : List Stub) (program : Checked) (linked : IsLinked object plan entry stubs program) (context : List ℕ) → length context ≤ context_limit
-    → Ready object plan linked.laid.maps linked.laid.taken program context
-ready object plan entry stubs program linked context short =
+ready : (plan : Plan) (entry : List ℕ) (stubs : List Stub) (program : Checked) (linked : IsLinked plan entry stubs program) (context : List ℕ) → length context ≤ context_limit
+    → Ready (numbered plan linked.laid.maps linked.laid.taken) program context
+ready plan entry stubs program linked context short =
     let taken = linked.laid.taken in
     let count : length program.maps ≡ length linked.own + length taken =
-    ap length linked.shapes ∙ length-append linked.own (data_shapes object plan taken) ∙ ap (λ n. length linked.own + n) (length-map taken (shape_of_data object plan)) in
+    ap length linked.shapes ∙ length-append linked.own (data_shapes plan taken) ∙ ap (λ n. length linked.own + n) (length-map taken (shape_of_data plan)) in
     let few = linked.checked.tables.few in
     record {
       checked = linked.checked;
       short = short;
       few = λ k known. omega (arith, linked.count);
-      shape = λ k known. map_shape object plan taken linked.own program.maps (length linked.laid.maps) k linked.shapes linked.count known;
+      shape = λ k known. map_shape plan taken linked.own program.maps (length linked.laid.maps) k linked.shapes linked.count known;
     }
 
-finished : (object : List ℕ) (plan : Plan) (entry : List ℕ) (stubs : List Stub) (program : Checked) (linked : IsLinked object plan entry stubs program) (context : List ℕ) (m : Image)
+finished : (plan : Plan) (entry : List ℕ) (stubs : List Stub) (program : Checked) (linked : IsLinked plan entry stubs program) (context : List ℕ) (m : Image)
     → (g : Gone program context (length linked.laid.code / 8 + 1) (entry_slot linked.laid.stores linked.laid.slot) 0 0 m) → (length linked.laid.stores ≡ 0 → g.steps ≡ (if linked.laid.slot == 0 then 0 else 1))
-    → IsImage m → m ≡ record (opened program.maps context) { bytes = m.bytes } → ((k : ℕ) → k < length linked.laid.taken → HoldsSection object plan linked.laid.maps linked.laid.taken m k)
-    → ((a : ℕ) → (IsOfData object plan linked.laid.maps linked.laid.taken a → ⊥) → byte_at m a ≡ byte_at (opened program.maps context) a)
-    → (y : State) × (n : ℕ) × IsSetUp object plan entry stubs program.bytes linked.laid (initial program context) y n
-finished object plan entry stubs program linked context m g without image same holds others = (
+    → IsImage m → m ≡ record (opened program.maps context) { bytes = m.bytes } → ((k : ℕ) → k < length linked.laid.taken → HoldsSection (numbered plan linked.laid.maps linked.laid.taken) m k)
+    → ((a : ℕ) → (IsOfData (numbered plan linked.laid.maps linked.laid.taken) a → ⊥) → byte_at m a ≡ byte_at (opened program.maps context) a)
+    → (y : State) × (n : ℕ) × IsSetUp plan entry stubs program.bytes linked.laid (initial program context) y n
+finished plan entry stubs program linked context m g without image same holds others = (
   within program context (entry_slot linked.laid.stores linked.laid.slot) 0 0 m,
   g.steps,
   record {
@@ -338,42 +341,42 @@ is_none n e = grind (arith, nat_tests)
 is_some : (n : ℕ) → (n == 0) ≡ false → n ≡ 0 → ⊥
 is_some n e none = grind (arith, nat_tests)
 
-abbrev Sets : (object : List ℕ) (plan : Plan) (entry : List ℕ) (stubs : List Stub) (program : Checked) (linked : IsLinked object plan entry stubs program) (context : List ℕ) → Type 0
-Sets object plan entry stubs program linked context = (y : State) × (n : ℕ) × IsSetUp object plan entry stubs program.bytes linked.laid (initial program context) y n
+abbrev Sets : (plan : Plan) (entry : List ℕ) (stubs : List Stub) (program : Checked) (linked : IsLinked plan entry stubs program) (context : List ℕ) → Type 0
+Sets plan entry stubs program linked context = (y : State) × (n : ℕ) × IsSetUp plan entry stubs program.bytes linked.laid (initial program context) y n
 
-without_setup : (object : List ℕ) (plan : Plan) (entry : List ℕ) (stubs : List Stub) (program : Checked) (linked : IsLinked object plan entry stubs program) (context : List ℕ) → length context ≤ context_limit
-    → linked.laid.slot < 2147483648 → (length linked.laid.stores == 0) ≡ true → (begins : Bool) → (linked.laid.slot == 0) ≡ begins → Sets object plan entry stubs program linked context
-without_setup object plan entry stubs program linked context short near none true first =
+without_setup : (plan : Plan) (entry : List ℕ) (stubs : List Stub) (program : Checked) (linked : IsLinked plan entry stubs program) (context : List ℕ) → length context ≤ context_limit
+    → linked.laid.slot < 2147483648 → (length linked.laid.stores == 0) ≡ true → (begins : Bool) → (linked.laid.slot == 0) ≡ begins → Sets plan entry stubs program linked context
+without_setup plan entry stubs program linked context short near none true first =
     let least = length linked.laid.code / 8 + 1 in
     let old = opened program.maps context in
-    let known = ready object plan entry stubs program linked context short in
+    let known = ready plan entry stubs program linked context short in
     let at : 0 ≡ entry_slot linked.laid.stores linked.laid.slot = sym (ap (λ b. if b && (linked.laid.slot == 0) then 0 else linked.laid.slot + 1) none ∙ ap (λ b. if true && b then 0 else linked.laid.slot + 1) first) in
     let count : 0 ≡ (if linked.laid.slot == 0 then 0 else 1) = sym (ap (λ b. if b then 0 else 1) first) in
     let way : (p : ℕ) → 0 ≡ p → (g : Gone program context least p 0 0 old) × (g.steps ≡ 0) = λ p e. subst (λ q. (g : Gone program context least q 0 0 old) × (g.steps ≡ 0)) e (still program context least) in
     let there = way (entry_slot linked.laid.stores linked.laid.slot) at in
-    finished object plan entry stubs program linked context old there.0 (λ stores. there.1 ∙ count) (opened_image program context linked.checked short) refl
-    (none_stored object plan linked.laid.maps linked.laid.taken program context (length linked.laid.taken) linked.laid.stores known (itself (length linked.laid.taken)) linked.laid.stored (is_none (length linked.laid.stores) none))
+    finished plan entry stubs program linked context old there.0 (λ stores. there.1 ∙ count) (opened_image program context linked.checked short) refl
+    (none_stored (numbered plan linked.laid.maps linked.laid.taken) program context (length linked.laid.taken) linked.laid.stores known (itself (length linked.laid.taken)) linked.laid.stored (is_none (length linked.laid.stores) none))
     (λ a other. refl)
-without_setup object plan entry stubs program linked context short near none false first =
+without_setup plan entry stubs program linked context short near none false first =
     let least = length linked.laid.code / 8 + 1 in
     let old = opened program.maps context in
     let slot = linked.laid.slot in
     let code = answered stubs linked.laid.code in
-    let known = ready object plan entry stubs program linked context short in
+    let known = ready plan entry stubs program linked context short in
     let at : slot + 1 ≡ entry_slot linked.laid.stores slot = sym (ap (λ b. if b && (slot == 0) then 0 else slot + 1) none ∙ ap (λ b. if true && b then 0 else slot + 1) first) in
     let count : 1 ≡ (if slot == 0 then 0 else 1) = sym (ap (λ b. if b then 0 else 1) first) in
     let whole : program.bytes ≡ jump_words slot ++ code = linked.laid.whole ∙ ap (λ b. if b then with_entry code slot else with_setup_words code linked.laid.stores slot) none ∙ ap (λ b. if b then code else jump_words slot ++ code) first in
     let jump = jumped program context least slot code linked.checked near whole in
     let way : (p : ℕ) → slot + 1 ≡ p → (g : Gone program context least p 0 0 old) × (g.steps ≡ 1) = λ p e. subst (λ q. (g : Gone program context least q 0 0 old) × (g.steps ≡ 1)) e jump.gone in
     let there = way (entry_slot linked.laid.stores slot) at in
-    finished object plan entry stubs program linked context old there.0 (λ stores. there.1 ∙ count) (opened_image program context linked.checked short) refl
-    (none_stored object plan linked.laid.maps linked.laid.taken program context (length linked.laid.taken) linked.laid.stores known (itself (length linked.laid.taken)) linked.laid.stored (is_none (length linked.laid.stores) none))
+    finished plan entry stubs program linked context old there.0 (λ stores. there.1 ∙ count) (opened_image program context linked.checked short) refl
+    (none_stored (numbered plan linked.laid.maps linked.laid.taken) program context (length linked.laid.taken) linked.laid.stores known (itself (length linked.laid.taken)) linked.laid.stored (is_none (length linked.laid.stores) none))
     (λ a other. refl)
 
 -- With one.
-with_it : (object : List ℕ) (plan : Plan) (entry : List ℕ) (stubs : List Stub) (program : Checked) (linked : IsLinked object plan entry stubs program) (context : List ℕ) → length context ≤ context_limit
-    → (n : ℕ) → length (answered stubs linked.laid.code) ≡ 8 * n → length linked.laid.code / 8 ≡ n → linked.laid.slot ≤ n → n < 65536 → length program.bytes ≤ 8 * 65535 → (length linked.laid.stores == 0) ≡ false → Sets object plan entry stubs program linked context
-with_it object plan entry stubs program linked context short n size pieces inside few limit some =
+with_it : (plan : Plan) (entry : List ℕ) (stubs : List Stub) (program : Checked) (linked : IsLinked plan entry stubs program) (context : List ℕ) → length context ≤ context_limit
+    → (n : ℕ) → length (answered stubs linked.laid.code) ≡ 8 * n → length linked.laid.code / 8 ≡ n → linked.laid.slot ≤ n → n < 65536 → length program.bytes ≤ 8 * 65535 → (length linked.laid.stores == 0) ≡ false → Sets plan entry stubs program linked context
+with_it plan entry stubs program linked context short n size pieces inside few limit some =
     let least = length linked.laid.code / 8 + 1 in
     let old = opened program.maps context in
     let slot = linked.laid.slot in
@@ -381,7 +384,7 @@ with_it object plan entry stubs program linked context short n size pieces insid
     let maps = linked.laid.maps in
     let taken = linked.laid.taken in
     let code = answered stubs linked.laid.code in
-    let known = ready object plan entry stubs program linked context short in
+    let known = ready plan entry stubs program linked context short in
     let whole : program.bytes ≡ with_setup_words code stores slot = linked.laid.whole ∙ ap (λ b. if b then with_entry code slot else with_setup_words code stores slot) some in
     let last : List ℕ = jump_words (distance code stores slot) in
     let begin : List ℕ = jump_words n ++ code in
@@ -390,7 +393,7 @@ with_it object plan entry stubs program linked context short n size pieces insid
     let jump = jumped program context least n (code ++ (stores ++ (clear_words ++ last))) linked.checked (omega arith) (split ∙ append_assoc (jump_words n) code (stores ++ (clear_words ++ last))) in
     let begun = length-append (jump_words n) code in
     let at : At program context least begin 0 0 old = record { p = n + 1; place = omega arith; start = jump.start; low = omega arith; gone = jump.gone.0 } in
-    let st = sections object plan maps taken program context least begin 0 0 (length taken) stores (clear_words ++ last) known (omega arith) linked.laid.stored split at in
+    let st = sections (numbered plan maps taken) program context least begin 0 0 (length taken) stores (clear_words ++ last) known (omega arith) linked.laid.stored split at in
     let ends = length-append begin stores in
     let place = st.at.place in
     let low = st.at.low in
@@ -403,13 +406,13 @@ with_it object plan entry stubs program linked context short n size pieces insid
     split ∙ sym (append_assoc begin stores (clear_words ++ last)) ∙ ap (λ d. (begin ++ stores) ++ (clear_words ++ jump_words ((4294967296 + slot - d) % 4294967296))) back in
     let gone = ended program context least (begin ++ stores) st.a st.b st.m slot k linked.checked st.at (omega arith) (omega arith) here turned in
     let slot_is : slot + 1 ≡ entry_slot stores slot = sym (ap (λ b. if b && (slot == 0) then 0 else slot + 1) some) in
-    finished object plan entry stubs program linked context st.m (subst (λ p. Gone program context least p 0 0 st.m) slot_is gone) (λ none. absurd (is_some (length stores) some none)) st.is st.same st.data_of
+    finished plan entry stubs program linked context st.m (subst (λ p. Gone program context least p 0 0 st.m) slot_is gone) (λ none. absurd (is_some (length stores) some none)) st.is st.same st.data_of
     (λ a other. st.others a (λ o. other (record { k = o.i; image = o.image; j = o.j; known = o.known; is = o.is; inside = o.inside; place = o.place })))
 
-by_stores : (object : List ℕ) (plan : Plan) (entry : List ℕ) (stubs : List Stub) (program : Checked) (linked : IsLinked object plan entry stubs program) (context : List ℕ) → length context ≤ context_limit
-    → (n : ℕ) → length (answered stubs linked.laid.code) ≡ 8 * n → length linked.laid.code / 8 ≡ n → linked.laid.slot ≤ n → n < 65536 → length program.bytes ≤ 8 * 65535 → (none : Bool) → (length linked.laid.stores == 0) ≡ none → Sets object plan entry stubs program linked context
-by_stores object plan entry stubs program linked context short n size pieces inside few limit true none = without_setup object plan entry stubs program linked context short (omega arith) none (linked.laid.slot == 0) refl
-by_stores object plan entry stubs program linked context short n size pieces inside few limit false some = with_it object plan entry stubs program linked context short n size pieces inside few limit some
+by_stores : (plan : Plan) (entry : List ℕ) (stubs : List Stub) (program : Checked) (linked : IsLinked plan entry stubs program) (context : List ℕ) → length context ≤ context_limit
+    → (n : ℕ) → length (answered stubs linked.laid.code) ≡ 8 * n → length linked.laid.code / 8 ≡ n → linked.laid.slot ≤ n → n < 65536 → length program.bytes ≤ 8 * 65535 → (none : Bool) → (length linked.laid.stores == 0) ≡ none → Sets plan entry stubs program linked context
+by_stores plan entry stubs program linked context short n size pieces inside few limit true none = without_setup plan entry stubs program linked context short (omega arith) none (linked.laid.slot == 0) refl
+by_stores plan entry stubs program linked context short n size pieces inside few limit false some = with_it plan entry stubs program linked context short n size pieces inside few limit some
 
 -- The code is at least as short as the program.
 code_within : (code stores : List ℕ) (slot : ℕ) (none begins : Bool) → length code ≤ length (if none then (if begins then code else jump_words slot ++ code) else with_setup_words code stores slot)
@@ -424,14 +427,14 @@ code_within code stores slot false begins =
     omega arith
 
 pub law : SetupsStoreTheData
-law object plan entry stubs program linked context short =
+law plan entry stubs program linked context short =
     let code = answered stubs linked.laid.code in
-    let n = plan.code.slots.count + plan.text.slots.count in
+    let n = slots_in plan.parts.code + slots_in plan.parts.text in
     let size : length linked.laid.code ≡ 8 * n = linked.laid.laid.size in
     let kept = answered_length stubs linked.laid.code in
     let slots = linked.checked.slots in
     let most = linked.checked.short in
     let fits : length code ≤ length program.bytes =
     subst (λ words. length code ≤ length words) (sym linked.laid.whole) (code_within code linked.laid.stores linked.laid.slot (length linked.laid.stores == 0) (linked.laid.slot == 0)) in
-    let slot = entry_fits object plan entry linked.laid.slot linked.laid.begins in
-    by_stores object plan entry stubs program linked context short n (kept ∙ size) (omega arith) (omega arith) (omega arith) (omega arith) (length linked.laid.stores == 0) refl
+    let slot = entry_fits plan entry linked.laid.slot linked.laid.begins in
+    by_stores plan entry stubs program linked context short n (kept ∙ size) (omega arith) (omega arith) (omega arith) (omega arith) (length linked.laid.stores == 0) refl

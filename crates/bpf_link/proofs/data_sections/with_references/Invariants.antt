@@ -4,4 +4,4 @@ use Rattle.bpf_link.specs.Plans.{steps}
 use Rattle.bpf_link.proofs.data_sections.with_references.Given as goal
 
 abbrev pub invariant-loop-i : goal.invariant-loop-i
-invariant-loop-i l = steps (with_reference l.object l.plan l.kind l.relocations) l.fn.found.items l.i ≡ Ok l.all.items
+invariant-loop-i l = steps (with_reference l.plan l.kind l.relocations) l.fn.found.items l.i ≡ Ok l.all.items

@@ -1,8 +1,7 @@
-use Rattle.std.proofs.Common.{◌≡◌}
+use Rattle.std.proofs.Common.{◌≡◌, take}
+use Rattle.bpf_link.specs.Sections.{found, FoundBelow}
 use Rattle.bpf_link.specs.Entries.{is_entry}
-use Rattle.bpf_link.specs.Plans.{symbol_at}
-use Rattle.bpf_link.specs.Sections.{found_below}
 use Rattle.bpf_link.proofs.entry.entry_found.Given as goal
 
 abbrev pub invariant-loop-i : goal.invariant-loop-i
-invariant-loop-i l = l.found ≡ found_below (λ i. is_entry l.object l.plan l.name (symbol_at l.object l.plan.symbols i)) l.i
+invariant-loop-i l = record { value : l.found ≡ found (is_entry l.plan l.name) (take l.i l.plan.symbols); within : FoundBelow l.i l.found }

@@ -5,10 +5,10 @@ use Rattle.bpf_link.proofs.image.with_pointer.Goals as goal
 
 pub returns-clause-ok : goal.returns-clause-ok
 returns-clause-ok c =
-    subst (λ r. IfOk c.with_relocated.result (λ new. with_relocated c.args.object.now c.args.plan.now c.args.maps.now c.args.taken.now r c.args.image.items ≡ Ok new.items))
-    c.relocation_at-relocation.ensures c.with_relocated.ensures.ok
+    subst (λ r. IfOk c.with_relocated.result (λ new. with_relocated c.args.placed.now r c.args.image.items ≡ Ok new.items))
+    c.at-relocation.ensures c.with_relocated.ensures.ok
 
 pub returns-clause-err : goal.returns-clause-err
 returns-clause-err c =
-    subst (λ r. IfErr c.with_relocated.result (λ fault. with_relocated c.args.object.now c.args.plan.now c.args.maps.now c.args.taken.now r c.args.image.items ≡ Err fault))
-    c.relocation_at-relocation.ensures c.with_relocated.ensures.err
+    subst (λ r. IfErr c.with_relocated.result (λ fault. with_relocated c.args.placed.now r c.args.image.items ≡ Err fault))
+    c.at-relocation.ensures c.with_relocated.ensures.err

@@ -8,8 +8,8 @@ use Rattle.bpf_link.proofs.linker.data_shapes.Goals as goal
 
 pub loop-section-preserved : goal.loop-section-preserved
 loop-section-preserved c =
-    let of = shape_of_data c.args.object.now c.args.plan.now in
-    let shape = c.data_shape.ensures.value ∙ ap (λ header. data_shape header.size) c.section_at-header.ensures in
+    let of = shape_of_data c.args.plan.now in
+    let shape = c.data_shape.ensures.value ∙ ap (λ header. data_shape header.size) c.section-header.ensures in
     record {
       made =
           c.push.ensures.items

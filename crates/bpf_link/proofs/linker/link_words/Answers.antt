@@ -5,11 +5,8 @@ use Rattle.bpf_link.specs.Links.{program_of, least_maps, told_of}
 use Rattle.bpf_link.proofs.linker.link_words.Goals as goal
 
 pub told_of-requires : goal.told_of-requires
-told_of-requires c = record {
-  plan = c.in-Ok.ensures.fits;
-  refused =
-      (c.least_maps.result, subst (λ words. IsRefused words c.least_maps.result c.in-Err-check.fault) (c.deref.ensures.value ∙ sym c.deref-in-Err-check.ensures.value) c.in-Err-check.ensures.fault);
-}
+told_of-requires c =
+    (c.least_maps.result, subst (λ words. IsRefused words c.least_maps.result c.in-Err-check.fault) (c.deref.ensures.value ∙ sym c.deref-in-Err-check.ensures.value) c.in-Err-check.ensures.fault)
 
 pub returns : goal.returns
 returns c =
@@ -19,12 +16,12 @@ returns c =
       ok = tt;
       err = inr (inl (record {
         plan = c.in-Ok.plan;
-        plans = sym c.in-Ok.ensures.value;
+        plans = sym c.in-Ok.ensures;
         program = record { words = program.words.items; maps = length program.maps.items; data_maps = program.data_maps.items; answered = program.answered };
         refusal = c.in-Err-check.fault;
-        told = c.told_of.ensures ∙ ap (λ words. told_of c.args.object.now c.in-Ok.plan words c.in-Err-check.fault) c.deref-in-Err-check.ensures.value;
+        told = c.told_of.ensures ∙ ap (λ words. told_of c.in-Ok.plan words c.in-Err-check.fault) c.deref-in-Err-check.ensures.value;
         linked =
-            ap (λ r. after r (program_of c.args.object.now c.args.options.now.entry.now c.args.options.now.stubs.now)) (sym c.in-Ok.ensures.value)
+            ap (λ r. after r (program_of c.args.options.now.entry.now c.args.options.now.stubs.now)) (sym c.in-Ok.ensures)
             ∙ c.in-Ok-program_of.ensures.ok.ok;
         refused =
             subst (λ words. IsRefused words (least_maps (length program.maps.items) program.data_maps.items) c.in-Err-check.fault) c.deref.ensures.value

@@ -1,5 +1,6 @@
 use Rattle.std.proofs.Common.{◌≡◌, ◌≤◌, ◌+◌, ◌∙◌, Ok, length, sym, ap, rules, tests, arith}
 use Rattle.std.proofs.lemmas.List.{length-map}
+use Rattle.bpf_link.specs.Data.{numbered}
 use Rattle.bpf_link.proofs.Laid.{laid_out}
 use Rattle.bpf_link.proofs.linker.program_of.Goals as goal
 
@@ -12,8 +13,8 @@ returns-clause-ok c =
     record {
       ok = search (rules, tests);
       laid =
-          laid_out c.args.object.now c.args.plan.now c.as_slice-own.result.now c.as_slice-taken.result.now c.args.entry.now _ c.args.stubs.now _ c.requires
-          (c.in-Ok-maps_of.ensures.ok ∙ ap Ok (sym c.as_slice-own.ensures.value)) found (sym c.in-Ok.ensures.value) c.in-Ok-program_words.ensures.ok;
-      own = record { lies = c.requires; few = few; maps = c.in-Ok-maps_of.ensures.ok; of_data = (c.as_slice-taken.result.now, found, c.data_shapes-data_maps.ensures.value) };
+          laid_out (numbered c.args.plan.now c.as_slice-own.result.now c.as_slice-taken.result.now) c.args.entry.now _ c.args.stubs.now _ c.invariant.ensures
+          (c.in-Ok-maps_of.ensures.ok ∙ ap Ok (sym c.as_slice-own.ensures.value)) found (sym c.in-Ok.ensures.value) c.in-Ok-numbered_words.ensures.ok;
+      own = record { few = few; maps = c.in-Ok-maps_of.ensures.ok; of_data = (c.as_slice-taken.result.now, found, c.data_shapes-data_maps.ensures.value) };
       possible = c.data_shapes-data_maps.ensures.possible;
     }

@@ -1,21 +1,25 @@
-use Rattle.std.proofs.Common.{◌≡◌, ap, arith}
-use Rattle.bpf_link.specs.Sections.{section_at, is_chosen, is_text, is_symbols, is_maps}
-use Rattle.bpf_link.proofs.Searches.{roles_more, inside}
+use Rattle.std.proofs.Common.{◌≡◌, ◌≤◌, ◌∙◌, length, ap, subst, arith}
+use Rattle.bpf_link.specs.Sections.{AreFound, roles_in}
+use Rattle.std.proofs.lemmas.List.{take_all}
+use Rattle.bpf_link.proofs.Searches.{roles_more, roles_within}
 use Rattle.bpf_link.proofs.sections.roles_of.Goals as goal
 
 pub loop-i-preserved : goal.loop-i-preserved
 loop-i-preserved c =
-    roles_more c.args.object.now c.args.sections.now c.args.name.now c.loop-i.i c.section_at-section.result c.loop-i.roles c.roles_with-roles.result
-    c.loop-i.invariant c.section_at-section.ensures c.roles_with-roles.ensures
+    let inside = rw c.len-i-end.ensures at c.loop-i-test.true in
+    record {
+      value =
+          roles_more c.args.object.now c.args.name.now c.loop-i.i c.section-section.result c.loop-i.roles c.roles_with-roles.result inside
+          c.loop-i.invariant.value c.section-section.ensures c.roles_with-roles.ensures;
+      within = roles_within c.args.object.now c.args.name.now c.loop-i.i c.section-section.result c.loop-i.roles c.roles_with-roles.result c.roles_with-roles.ensures c.loop-i.invariant.within;
+    }
+
+pub returns-clause-value : goal.returns-clause-value
+returns-clause-value c =
+    let end : length c.args.object.now.sections ≤ c.loop-i.i = omega arith in
+    c.loop-i.invariant.value ∙ ap (roles_in c.args.object.now c.args.name.now) (take_all c.loop-i.i c.args.object.now.sections end)
 
 pub returns-clause-within : goal.returns-clause-within
 returns-clause-within c =
-    let object = c.args.object.now in
-    let sections = c.args.sections.now in
-    let end : c.loop-i.i ≡ sections.count = omega arith in
-    record {
-      chosen = inside (λ i. is_chosen object sections c.args.name.now (section_at object sections i)) c.loop-i.i _ _ (ap (λ r. r.chosen) c.loop-i.invariant) end;
-      text = inside (λ i. is_text object sections (section_at object sections i)) c.loop-i.i _ _ (ap (λ r. r.text) c.loop-i.invariant) end;
-      symbols = inside (λ i. is_symbols (section_at object sections i)) c.loop-i.i _ _ (ap (λ r. r.symbols) c.loop-i.invariant) end;
-      maps = inside (λ i. is_maps object sections (section_at object sections i)) c.loop-i.i _ _ (ap (λ r. r.maps) c.loop-i.invariant) end;
-    }
+    let end : c.loop-i.i ≡ length c.args.object.now.sections = omega arith in
+    subst (λ n. AreFound n c.loop-i.roles) end c.loop-i.invariant.within

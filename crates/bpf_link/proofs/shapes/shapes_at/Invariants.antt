@@ -6,6 +6,6 @@ use Rattle.bpf_link.proofs.shapes.shapes_at.Given as goal
 
 abbrev pub invariant-loop-place : goal.invariant-loop-place
 invariant-loop-place l = record {
-  arrays : list_all (is_array l.object l.definitions) (take l.place-index l.places) ≡ true;
-  made : l.shapes.items ≡ map (shape_at l.object l.definitions) (take l.place-index l.places);
+  arrays : list_all (is_array l.definitions) (take l.place-index l.places) ≡ true;
+  made : l.shapes.items ≡ map (shape_at l.definitions) (take l.place-index l.places);
 }

@@ -8,10 +8,10 @@ returns-clause-defined c =
     let made = rw c.as_slice.ensures.value at c.shapes_at.ensures in
     record {
       ordered = (ordered, c.in_order-ordered.ensures.value, made);
-      numbered = numbered c.args.object.now c.args.definitions.now c.args.maps.now ordered c.shapes_at.result.items c.in_order-ordered.ensures.value made;
+      numbered = numbered c.args.definitions.now c.args.maps.now ordered c.shapes_at.result.items c.in_order-ordered.ensures.value made;
     }
 
 pub returns-clause-few : goal.returns-clause-few
 returns-clause-few c =
     subst (λ shapes. length shapes ≤ length c.args.maps.now) (sym (rw c.as_slice.ensures.value at c.shapes_at.ensures))
-    (few c.args.object.now c.args.definitions.now c.args.maps.now c.in_order-ordered.result.items c.in_order-ordered.ensures.value)
+    (few c.args.definitions.now c.args.maps.now c.in_order-ordered.result.items c.in_order-ordered.ensures.value)
