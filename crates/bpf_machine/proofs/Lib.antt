@@ -8,7 +8,6 @@ pub mod Codes
 pub mod Flats
 pub mod Arms
 pub mod Running
-pub mod Noted
 pub mod Writing
 pub mod Sorts
 pub mod Fitting

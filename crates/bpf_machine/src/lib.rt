@@ -14,7 +14,6 @@ pub mod laws;
 mod map_layout;
 mod memory;
 mod moves;
-mod overwritten;
 mod platform;
 mod run;
 mod sort;
