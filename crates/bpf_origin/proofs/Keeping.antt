@@ -285,7 +285,7 @@ bytes_edited x a bytes b is some other =
         keeps_cell x.memory is.image a (length bytes) bytes (index_of x.memory a (length bytes)) refl refl some b
         (subst (λ (old : List ℕ). (b < a) ⊎ (a + length old ≤ b)) (both bytes ∙ sym (both [])) (outside b (record { address = a; bytes = unwrap_or (run_at x.memory a (length bytes)) bytes }) other))
 
-edit_places : (x : State) (e : Edit) → IsState x → IsEditable x e → (p : Place) → IsPlace (edited x e) p → writes (edited x e) (edit_entry x e) p ≡ false → value (edited x e) p ≡ value x p
+pub edit_places : (x : State) (e : Edit) → IsState x → IsEditable x e → (p : Place) → IsPlace (edited x e) p → writes (edited x e) (edit_entry x e) p ≡ false → value (edited x e) p ≡ value x p
 unfolding edited edit_entry
 edit_places x (edit.Register s v) is able (Register d r) there other = set_kept x.registers x.frames s v d r there.1 (first_false _ _ other)
 edit_places x (edit.Register s v) is able (Word i) there other = refl

@@ -11,4 +11,10 @@ pub mod Turning
 pub mod Going
 pub mod Asking
 mod Paths
+mod Mattering
+mod Unlike
+mod EachRead
+mod EachAtomic
+mod EachHelper
+mod EachMatters
 pub mod Passing

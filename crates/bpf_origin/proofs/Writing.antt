@@ -96,7 +96,7 @@ word_there d n (Some w) None true i there = rest_false _ _ refl there
 word_there d n (Some w) (Some run) true i there = rest_false _ _ refl there
 
 -- A register that was set.
-abbrev among : List ℕ → List Frame → ℕ → ℕ → ℕ
+abbrev pub among : List ℕ → List Frame → ℕ → ℕ → ℕ
 among registers frames d r = if nat_lt r 6 then slice_index registers r else own_register (slice_get frames d) registers r
 
 pub set_there : (rs : List ℕ) (fs : List Frame) (s v e r : ℕ) → length rs ≡ 10 → s < 10 → same (Register (depth_for (length fs) s) s) (Register e r) ≡ true → among (slice_set rs s v) fs e r ≡ v
@@ -128,7 +128,7 @@ in_run_is b a n old len there =
     let to : b < a + length old = let holds = two.1 in grind (arith, nat_tests) in
     (from, omega (arith, to, len))
 
-some_index : (found : Option ℕ) → IsSome found → (at : ℕ) × (found ≡ Some at)
+pub some_index : (found : Option ℕ) → IsSome found → (at : ℕ) × (found ≡ Some at)
 some_index None some = cc
 some_index (Some at) some = (at, refl)
 

@@ -5,6 +5,7 @@ pub mod Marks
 pub mod Wanted
 pub mod Pasts
 pub mod Laws
+pub mod Matters
 pub mod Texts
 pub mod Answers
 pub mod Meaning

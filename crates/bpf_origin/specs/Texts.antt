@@ -17,11 +17,8 @@ use Rattle.bpf_origin.specs.declared.place.Part.TheVariants as part
 use Rattle.bpf_origin.specs.Places.{value}
 
 -- A register, by its function's depth if that isn't 0; a word; bytes, as `origin` is asked for them.
-abbrev pub depth_text : ℕ → List ℕ
-depth_text d = if d == 0 then [] else codes " at depth " ++ decimal d
-
 unfoldable pub register_name : ℕ → ℕ → List ℕ
-register_name d r = codes "r" ++ decimal r ++ depth_text d
+register_name d r = if d == 0 then codes "r" ++ decimal r else codes "r" ++ decimal r ++ codes " at depth " ++ decimal d
 
 unfoldable pub word_name : ℕ → List ℕ
 word_name i = codes "word " ++ decimal i

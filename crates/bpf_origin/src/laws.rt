@@ -1,5 +1,6 @@
 //! Laws of the definitions, each proved as the contract of a function that does nothing.
 ghost use Rattle.bpf_origin.specs.Laws.{MovesKeepOtherPlaces, MovesWriteWhatTheyRead, StepsGoByConditions};
+ghost use Rattle.bpf_origin.specs.Matters.{EachReadMatters};
 ghost use Rattle.bpf_origin.specs.Meaning.{AgreeingRunsGoAlike, LeftIsAll, LinesAreHits};
 
 /// A move changes no place but those that it writes.
@@ -21,6 +22,15 @@ pub fn moves_write_what_they_read()
 #[tactic(none)]
 pub fn steps_go_by_conditions()
     ensures { StepsGoByConditions }
+{}
+
+/// No read is told in vain: wherever a program stands at an instruction whose operands are different
+/// registers, each place that it reads, and each register of its addresses, can be changed alone so
+/// that the step writes something else, and each register of its condition so that it goes
+/// elsewhere.
+#[tactic(none)]
+pub fn each_read_matters()
+    ensures { EachReadMatters }
 {}
 
 /// What is left is all that an answer depends on: two histories along one path with the same

@@ -3,8 +3,8 @@ ghost use Rattle.std.specs.Prelude.{◌≡◌, ◌≤◌, ◌<◌, ◌+◌, ◌+
 ghost use Rattle.counted_io.specs.Writing.{WritesAfter};
 ghost use Rattle.bpf_origin.specs.Texts as spec;
 
-use crate::line::{put_register_name, put_value, put_word_name, value_at};
-use crate::place::Place;
+use crate::line::{put_part_name, put_value, value_at};
+use crate::place::{Part, Place};
 use bpf_entries::frame_base;
 use bpf_machine::Cpu;
 use counted_io::{Counted, WriteFault, put, put_decimal, put_hexadecimal};
@@ -58,8 +58,10 @@ fn put_place_name<W: Write>(
     ensures { WritesAfter W.contents writer.old so_far writer.new result (spec.place_name place) }
 {
     match place {
-        Place::Register { depth, number } => put_register_name(writer, so_far, depth, number),
-        Place::Word { index } => put_word_name(writer, so_far, index),
+        Place::Register { depth, number } => {
+            put_part_name(writer, so_far, Part::Register { depth, number })
+        }
+        Place::Word { index } => put_part_name(writer, so_far, Part::Word { index }),
         Place::Byte { address } => put_hexadecimal(writer, so_far, address),
     }
 }

@@ -13,7 +13,7 @@ use bpf_machine::Cpu;
 use bpf_text::put_insn;
 use bpfdb_replies::number_in;
 use byteorder::{ByteOrder, LittleEndian};
-use counted_io::{Counted, WriteFault, put, put_decimal, put_hexadecimal};
+use counted_io::{Counted, Piece, WriteFault, put, put_all, put_decimal};
 use std::io::Write;
 
 /// The value at a place.
@@ -69,8 +69,9 @@ fn byte_at(cpu: &Cpu, address: u64) -> u8
     }
 }
 
-/// Writes the name of a register.
-pub fn put_register_name<W: Write>(
+/// Writes the name of a register, by the depth of its function unless that is 0.
+#[tactic(auto, unfolding(crate::specs::Texts::register_name))]
+fn put_register_name<W: Write>(
     writer: &mut Counted<W>,
     so_far: Result<(), WriteFault>,
     depth: usize,
@@ -79,55 +80,24 @@ pub fn put_register_name<W: Write>(
     ensures { WritesAfter W.contents writer.old so_far writer.new result
         (spec.register_name depth number) }
 {
-    let begun = put(writer, so_far, b"r");
-    let named = put_decimal(writer, begun, u64::from(number));
-    put_depth(writer, named, depth)
-}
-
-/// Writes the depth of a register's function, unless it is 0.
-fn put_depth<W: Write>(
-    writer: &mut Counted<W>,
-    so_far: Result<(), WriteFault>,
-    depth: usize,
-) -> Result<(), WriteFault>
-    ensures { WritesAfter W.contents writer.old so_far writer.new result (spec.depth_text depth) }
-{
+    let number = u64::from(number);
     if depth == 0 {
-        return so_far;
+        let pieces = [Piece::Text(b"r"), Piece::Decimal(number)];
+        put_all(writer, so_far, &pieces)
+    } else {
+        let pieces = [
+            Piece::Text(b"r"),
+            Piece::Decimal(number),
+            Piece::Text(b" at depth "),
+            Piece::Decimal(depth as u64),
+        ];
+        put_all(writer, so_far, &pieces)
     }
-    let parted = put(writer, so_far, b" at depth ");
-    put_decimal(writer, parted, depth as u64)
-}
-
-/// Writes the name of a traced word.
-pub fn put_word_name<W: Write>(
-    writer: &mut Counted<W>,
-    so_far: Result<(), WriteFault>,
-    index: usize,
-) -> Result<(), WriteFault>
-    ensures { WritesAfter W.contents writer.old so_far writer.new result (spec.word_name index) }
-{
-    let begun = put(writer, so_far, b"word ");
-    put_decimal(writer, begun, index as u64)
-}
-
-/// Writes the name of a run of bytes.
-fn put_bytes_name<W: Write>(
-    writer: &mut Counted<W>,
-    so_far: Result<(), WriteFault>,
-    address: u64,
-    len: usize,
-) -> Result<(), WriteFault>
-    ensures { WritesAfter W.contents writer.old so_far writer.new result
-        (spec.bytes_name address len) }
-{
-    let begun = put_hexadecimal(writer, so_far, address);
-    let parted = put(writer, begun, b":");
-    put_decimal(writer, parted, len as u64)
 }
 
 /// Writes the name of a part.
-fn put_part_name<W: Write>(
+#[tactic(auto, unfolding(crate::specs::Texts::word_name, crate::specs::Texts::bytes_name))]
+pub fn put_part_name<W: Write>(
     writer: &mut Counted<W>,
     so_far: Result<(), WriteFault>,
     part: Part,
@@ -136,12 +106,23 @@ fn put_part_name<W: Write>(
 {
     match part {
         Part::Register { depth, number } => put_register_name(writer, so_far, depth, number),
-        Part::Word { index } => put_word_name(writer, so_far, index),
-        Part::Bytes { address, len } => put_bytes_name(writer, so_far, address, len),
+        Part::Word { index } => {
+            let pieces = [Piece::Text(b"word "), Piece::Decimal(index as u64)];
+            put_all(writer, so_far, &pieces)
+        }
+        Part::Bytes { address, len } => {
+            let pieces = [
+                Piece::Hexadecimal(address),
+                Piece::Text(b":"),
+                Piece::Decimal(len as u64),
+            ];
+            put_all(writer, so_far, &pieces)
+        }
     }
 }
 
 /// Writes a value.
+#[tactic(auto, unfolding(crate::specs::Texts::value_text))]
 pub fn put_value<W: Write>(
     writer: &mut Counted<W>,
     so_far: Result<(), WriteFault>,
@@ -149,8 +130,8 @@ pub fn put_value<W: Write>(
 ) -> Result<(), WriteFault>
     ensures { WritesAfter W.contents writer.old so_far writer.new result (spec.value_text value) }
 {
-    let begun = put(writer, so_far, b" = ");
-    put_hexadecimal(writer, begun, value)
+    let pieces = [Piece::Text(b" = "), Piece::Hexadecimal(value)];
+    put_all(writer, so_far, &pieces)
 }
 
 /// Writes the value of one to eight bytes that are present, and else nothing.

@@ -7,7 +7,7 @@ use crate::place::Part;
 use crate::reads::{Parts, asked, register_part};
 use bpf_isa::Reg;
 use bpf_machine::Cpu;
-use counted_io::natural;
+use counted_io::{natural, position};
 
 /// The most bytes that are asked about at once.
 const MOST_BYTES: u64 = 256;
@@ -109,17 +109,10 @@ fn register_asked(register: Reg) -> Option<What>
 fn bytes_in(text: &[u8]) -> Option<What>
     ensures { result ≡ spec.bytes_cut (position spec.is_colon text.now) text.now }
 {
-    match colon_in(text) {
+    match position(text, b':') {
         Some(at) => bytes_asked(number_in(&text[..at]), number_in(&text[at + 1..])),
         None => bytes_asked(number_in(text), Some(1)),
     }
-}
-
-/// Where the first colon stands.
-fn colon_in(text: &[u8]) -> Option<usize>
-    ensures { result ≡ position spec.is_colon text.now }
-{
-    text.iter().position(|byte| *byte == b':')
 }
 
 /// The number that a text is.

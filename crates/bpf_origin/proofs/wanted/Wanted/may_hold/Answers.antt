@@ -1,5 +1,4 @@
 use Rattle.std.proofs.Common.{◌∙◌, sym}
-use Rattle.bpf_origin.specs.Marks.{mark_of}
 use Rattle.bpf_origin.specs.declared.place.Place.TheVariants as place
 use Rattle.bpf_origin.proofs.Marking.{one_unmarked}
 use Rattle.bpf_origin.proofs.wanted.Wanted.may_hold.Goals as goal
