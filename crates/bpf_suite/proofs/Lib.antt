@@ -7,6 +7,5 @@ pub mod Programs
 pub mod Reporting
 pub mod Shares
 pub mod Tests
-pub mod Texts
 pub mod Told
 pub mod Trimming

@@ -6,6 +6,7 @@ pub mod Files
 pub mod Images
 pub mod Kinds
 pub mod Outcomes
+pub mod Refusals
 pub mod Reports
 pub mod Shown
 pub mod Tests

@@ -1,19 +1,15 @@
 -- What comes of a test's program: it is refused, or it runs to its end or to the limit.
-use Rattle.std.specs.Prelude.{ℕ, ◌≡◌, ◌≤◌, ⊤, true, false, Bool, not, List, [], ◌∷◌, ◌++◌, codes, decimal, find, length, map, Option, Some, None, Result, Ok, Err, IfErr, OnErr, OnOk, slice_get}
+use Rattle.std.specs.Prelude.{ℕ, ◌≡◌, ◌≤◌, ⊤, true, false, Bool, not, List, [], ◌∷◌, ◌++◌, codes, find, length, map, Option, Some, None, Result, Ok, Err, IfErr, OnErr, OnOk, slice_get}
 use Rattle.bpf_isa.specs.Checker.{IsRefused}
-use Rattle.bpf_isa.specs.Faults.{load_fault, map_fault}
 use Rattle.bpf_isa.specs.Maps.{IsListFault, IsMapList, items_of, shape_of}
 use Rattle.bpf_isa.specs.Programs.{Checked, IsProgram}
-use Rattle.bpf_isa.specs.declared.fault.LoadFault.{LoadFault}
 use Rattle.bpf_isa.specs.declared.fault.LoadFault.TheVariants as load
 use Rattle.bpf_isa.specs.declared.maps.MapShape.{MapShape}
-use Rattle.bpf_text.specs.Faults.{asm_fault, fault_line}
 use Rattle.bpf_text.specs.Listing.{IsFaultOf, IsListing}
 use Rattle.bpf_text.specs.declared.fault.AsmFault.{AsmFault}
 use Rattle.bpf_text.specs.declared.fault.AsmFault.TheVariants as assembly
 use Rattle.bpf_machine.specs.Edits.{edited, has_cell}
 use Rattle.bpf_machine.specs.Opening as opening
-use Rattle.bpf_machine.specs.Opening.{open_fault}
 use Rattle.bpf_machine.specs.Platform.{context_limit}
 use Rattle.bpf_machine.specs.State.{State, initial}
 use Rattle.bpf_machine.specs.declared.edit.Edit.{Edit}
@@ -23,6 +19,7 @@ use Rattle.bpf_entries.specs.declared.status.Status.{Status}
 use Rattle.bpf_entries.specs.declared.status.Status.TheVariants as status
 use Rattle.bpf_session.specs.Plain.{plain_end}
 use Rattle.bpfdb_replies.specs.Texts.{place}
+use Rattle.bpf_suite.specs.Refusals.{refusal_text}
 use Rattle.bpf_suite.specs.declared.cells.Cell.{Cell}
 use Rattle.bpf_suite.specs.declared.refusal.Refusal.{Refusal}
 use Rattle.bpf_suite.specs.declared.refusal.Refusal.TheVariants.{Maps, Listing, Load, Open, NoCell}
@@ -120,34 +117,6 @@ Outcome = Result State Refusal
 abbrev pub Comes : Setting → Outcome → Type 0
 Comes t (Ok x) = Ends t x
 Comes t (Err refusal) = Refuses t refusal × (is_memory refusal ≡ false)
-
--- A refusal as it is printed: a letter and a number, where it is if that is known, and a text.
-abbrev pub placed : List ℕ → Option ℕ → List ℕ
-placed unit (Some n) = unit ++ decimal n
-placed unit None = []
-
-abbrev pub text_of_refusal : List ℕ → ℕ → List ℕ → List ℕ → List ℕ
-text_of_refusal family number at text = family ++ decimal number ++ at ++ codes ": " ++ text
-
-abbrev pub slot_of : LoadFault → Option ℕ
-slot_of (load.At slot fault) = Some slot
-slot_of load.Empty = None
-slot_of load.TooLong = None
-slot_of load.Ragged = None
-slot_of load.Memory = None
-
-abbrev pub cell_name : ℕ → ℕ → List ℕ
-cell_name map index = codes "cell " ++ decimal map ++ codes " " ++ decimal index
-
-unfoldable pub cell_place : ℕ → ℕ → List ℕ
-cell_place map index = codes " at " ++ cell_name map index
-
-abbrev pub refusal_text : Refusal → List ℕ
-refusal_text (Maps fault) = text_of_refusal (codes "refused M") (map_fault fault).0 [] (map_fault fault).1
-refusal_text (Listing fault) = text_of_refusal (codes "refused A") (asm_fault fault).0 (placed (codes " at line ") (fault_line fault)) (asm_fault fault).1
-refusal_text (Load fault) = text_of_refusal (codes "refused C") (load_fault fault).0 (placed (codes " at slot ") (slot_of fault)) (load_fault fault).1
-refusal_text (Open fault) = text_of_refusal (codes "refused O") (open_fault fault).0 [] (open_fault fault).1
-refusal_text (NoCell map index) = text_of_refusal (codes "refused Q") 14 (cell_place map index) (codes "no such cell or wrong length")
 
 -- The word in front of where a machine stands that still runs.
 abbrev pub limit_word : Status → List ℕ

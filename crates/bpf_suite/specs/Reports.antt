@@ -8,10 +8,10 @@ use Rattle.counted_io.specs.Counted.{Tally, one_more}
 use Rattle.counted_io.specs.Writing.{Writes}
 use Rattle.bpf_suite.specs.Bodies.{trimmed}
 use Rattle.bpf_suite.specs.Faults.{has_part}
-use Rattle.bpf_suite.specs.Outcomes.{Comes, Outcome, cell_name, outcome_text}
+use Rattle.bpf_suite.specs.Outcomes.{Comes, Outcome, outcome_text}
 use Rattle.bpf_suite.specs.Shown.{quoted}
 use Rattle.bpf_suite.specs.Tests.{first_line, section_for, setting, title}
-use Rattle.bpf_suite.specs.Verdicts.{cell_size, expected_text, passes, wrong_cells}
+use Rattle.bpf_suite.specs.Verdicts.{cell_size, expected_text, lead, passes, wrong_cells}
 use Rattle.bpf_suite.specs.declared.cells.CellLine.{CellLine}
 use Rattle.bpf_suite.specs.declared.kind.Part.TheVariants as part
 use Rattle.bpf_suite.specs.declared.report.SuiteFault.{SuiteFault}
@@ -23,33 +23,29 @@ use Rattle.bpf_suite.specs.declared.values.WrongCells.{WrongCells}
 abbrev pub plan : ℕ → List ℕ
 plan n = codes "1.." ++ decimal n ++ codes "\n"
 
--- The name of a test behind its number, if it has one.
-abbrev pub named_text : List ℕ → List ℕ
-named_text [] = []
-named_text (b ∷ s) = codes " - " ++ b ∷ s
-
 -- What is said of a test that fails.
 abbrev pub wanted_outcome : List Section → List ℕ
 wanted_outcome test = option_map_or (λ section. expected_text section.kind section.body) (section_for part.Expected test) []
 
-abbrev pub after_word : Bool → List ℕ → List ℕ
-after_word true name = codes ", and " ++ name
-after_word false name = []
+abbrev pub also : Bool → List ℕ → List ℕ
+also true text = text
+also false text = []
 
 unfoldable pub wanted : List Section → List ℕ
 wanted test =
-    wanted_outcome test ++ after_word (has_part part.After test) (codes "mem-after") ++ after_word (has_part part.CellsAfter test) (codes "map-after")
+    wanted_outcome test ++ also (has_part part.After test) (codes ", and mem-after") ++ also (has_part part.CellsAfter test) (codes ", and map-after")
+    ++ codes "\n"
 
 -- What is said of a cell that doesn't hold what is wanted of it: its address and its value, as `x` of the debugger shows them, and the pattern.
 abbrev pub value_text : State → ℕ → ℕ → List ℕ
 value_text x map index = option_map_or (λ n. text_of_bytes x (cell_address map index n) n) (cell_size x map index) (codes "none\n")
 
-unfoldable pub cell_head : CellLine → List ℕ → List ℕ
-cell_head line word = codes "# " ++ cell_name line.map line.index ++ word
+abbrev pub cell_name : CellLine → List ℕ
+cell_name line = codes "# cell " ++ decimal line.map ++ codes " " ++ decimal line.index
 
 unfoldable pub cell_text : State → CellLine → List ℕ
 cell_text x line =
-    cell_head line (codes " came: ") ++ value_text x line.map line.index ++ cell_head line (codes " wanted: ") ++ trimmed line.digits ++ codes "\n"
+    cell_name line ++ codes " came: " ++ value_text x line.map line.index ++ cell_name line ++ codes " wanted: " ++ trimmed line.digits ++ codes "\n"
 
 -- A report tells of so many cells at most, and then how many more are wrong.
 abbrev pub most_told : ℕ
@@ -73,7 +69,7 @@ show_line file name = codes "# debug: bpfdb-show " ++ quoted name ++ codes " " +
 
 unfoldable pub diagnosis : List ℕ → List Section → Outcome → List ℕ
 diagnosis file test outcome =
-    codes "# the test in line " ++ decimal (first_line test) ++ codes "\n# came: " ++ outcome_text outcome ++ codes "\n# wanted: " ++ wanted test ++ codes "\n"
+    codes "# the test in line " ++ decimal (first_line test) ++ codes "\n# came: " ++ outcome_text outcome ++ codes "\n# wanted: " ++ wanted test
     ++ cells_text (wrong_cells test outcome) outcome ++ show_line file (title test)
 
 -- The lines of a test.
@@ -82,7 +78,7 @@ verdict_word true = codes "ok "
 verdict_word false = codes "not ok "
 
 abbrev pub verdict_text : Bool → ℕ → List Section → List ℕ
-verdict_text passed k test = verdict_word passed ++ decimal k ++ named_text (title test) ++ codes "\n"
+verdict_text passed k test = verdict_word passed ++ decimal k ++ lead (codes " - ") (title test) ++ title test ++ codes "\n"
 
 abbrev pub report_text : List ℕ → Bool → ℕ → List Section → Outcome → List ℕ
 report_text file true k test outcome = verdict_text true k test

@@ -20,13 +20,14 @@ use Rattle.bpf_suite.specs.declared.kind.Kind.TheVariants as kind
 use Rattle.bpf_suite.specs.declared.kind.Part.TheVariants as part
 use Rattle.bpf_suite.specs.declared.section.Section.{Section}
 
--- What is expected, as it is printed: its word, and what stands in its section.
-abbrev pub apart : List ℕ → List ℕ
-apart [] = []
-apart (b ∷ s) = codes " " ++ b ∷ s
+-- What stands in front of a text, unless that is empty.
+abbrev pub lead : List ℕ → List ℕ → List ℕ
+lead front [] = []
+lead front (b ∷ s) = front
 
+-- What is expected, as it is printed: its word, and what stands in its section.
 abbrev pub expected_text : Kind → List ℕ → List ℕ
-expected_text k body = word_of k ++ apart (trimmed body)
+expected_text k body = word_of k ++ lead (codes " ") (trimmed body) ++ trimmed body
 
 abbrev pub begins : List ℕ → List ℕ → Bool
 begins s front = starts_with (λ a b. a == b) s front

@@ -1,6 +1,6 @@
 //! What stands in a section: a text, bytes, or a number.
 ghost use Rattle.std.specs.Prelude.{◌≡◌, ◌≤◌, ◌==◌, ◌&&◌, ◌||◌, IfOk, IsTrue, length, not, position};
-ghost use Rattle.std.specs.Char.{digit_value, is_digit};
+ghost use Rattle.std.specs.Char.{is_digit};
 ghost use Rattle.std.specs.List.{list_all, list_any, position_or_len};
 ghost use Rattle.std.specs.Option.{option_map};
 ghost use Rattle.bstr.specs.Utf8.{lossy_chars};
@@ -9,7 +9,7 @@ ghost use Rattle.bpf_suite.specs.Bodies.{are_remarks, bytes_of, fits, fits_byte,
 
 use bpfdb_limits::is_limit;
 use bstr::ByteSlice;
-use counted_io::{is_blank, natural, trim_start};
+use counted_io::{digit_value, is_blank, natural, trim_start};
 use hex::{FromHexError, decode};
 use shown_text::steers;
 use std::alloc::{AllocError, Global};
@@ -146,13 +146,6 @@ fn is_pattern_digit(digit: u8) -> bool
     ensures { result ≡ (digit == 46 || is_digit digit 16) }
 {
     digit == b'.' || digit_value(digit) < 16
-}
-
-/// The value of a digit or a letter, and 36 for any other byte.
-fn digit_value(byte: u8) -> u32
-    ensures { result ≡ digit_value byte }
-{
-    char::from(byte).to_digit(36).unwrap_or(36)
 }
 
 /// Whether a digit of a pattern fits the value of four bits.

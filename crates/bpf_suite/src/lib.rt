@@ -22,6 +22,7 @@ mod words;
 
 pub use fault::{FileFault, SectionFault};
 pub use list::{TestList, choose};
+pub use refusal::{Refusal, put_numbered, put_refusal, slot_of};
 pub use report::{SuiteFault, run_tests, write_plan};
 pub use shown::WordsFault;
 pub use suite::Suite;

@@ -7,24 +7,21 @@ ghost use Rattle.counted_io.specs.Writing.{WritesAfter};
 ghost use Rattle.bpf_suite.specs.Benches.{Loads, RefusesProgram};
 ghost use Rattle.bpf_suite.specs.Cells.{cell_of};
 ghost use Rattle.bpf_suite.specs.Images.{IsImageOf};
-ghost use Rattle.bpf_suite.specs.Outcomes.{Ends, GivesCell, GivesCells, HasMaps, HasWords, IsProgramOf, Reads, Refuses, RefusesCells, cell_name, cell_place, limit_word, missing, outcome_text, placed, refusal_text, slot_of, text_of_refusal, with_cells};
+ghost use Rattle.bpf_suite.specs.Outcomes.{Ends, GivesCell, GivesCells, HasMaps, HasWords, IsProgramOf, Reads, Refuses, RefusesCells, limit_word, missing, outcome_text, with_cells};
 
 use crate::cells::{Cell, CellLine, cell_of};
 use crate::image::{Image, put_runs};
-use crate::refusal::Refusal;
+use crate::refusal::{Refusal, put_refusal};
 use crate::setting::Setting;
 use crate::words::Words;
-use bpf_isa::{LoadFault, MapTable, Program, check};
+use bpf_isa::{MapTable, Program, check};
 use bpf_machine::{Cpu, Edit, OpenFault, Status};
 use bpf_session::run_plain;
 use bpf_text::AsmFault;
-use bpfdb_replies::write_place;
-use counted_io::{Counted, WriteFault, put, put_decimal};
+use bpfdb_replies::put_place;
+use counted_io::{Counted, WriteFault, put};
 use std::alloc::{AllocError, Global};
 use std::io::{Write, sink};
-
-/// The number of the refusal of a cell, in the debugger too.
-const NO_CELL: u64 = 14;
 
 /// The map table.
 fn maps_of(setting: &Setting<'_, '_>) -> Result<MapTable, Refusal>
@@ -237,218 +234,17 @@ fn put_stop<W: Write>(
     ensures { WritesAfter W.contents writer.old so_far writer.new result
         (limit_word cpu.now.status ++ place cpu.now) }
 {
-    let begun = put_limit_word(writer, so_far, cpu.status());
+    let begun = put(writer, so_far, limit_word(cpu.status()));
     put_place(writer, begun, cpu)
 }
 
-/// Writes the word in front of where a machine stands that still runs.
-fn put_limit_word<W: Write>(
-    writer: &mut Counted<W>,
-    so_far: Result<(), WriteFault>,
-    status: Status,
-) -> Result<(), WriteFault>
-    ensures { WritesAfter W.contents writer.old so_far writer.new result (limit_word status) }
+/// The word in front of where a machine stands that still runs.
+fn limit_word(status: Status) -> &'static [u8]
+    ensures { result.now ≡ limit_word status }
 {
     match status {
-        Status::Running => put(writer, so_far, b"limit "),
-        Status::Exited => put(writer, so_far, b""),
-        Status::Faulted(_) => put(writer, so_far, b""),
-    }
-}
-
-/// Writes where a machine stands, after what was written so far, unless that failed.
-fn put_place<W: Write>(
-    writer: &mut Counted<W>,
-    so_far: Result<(), WriteFault>,
-    cpu: &Cpu,
-) -> Result<(), WriteFault>
-    ensures { WritesAfter W.contents writer.old so_far writer.new result (place cpu.now) }
-{
-    match so_far {
-        Ok(()) => write_place(cpu, writer),
-        Err(fault) => Err(fault),
-    }
-}
-
-/// Writes a refusal.
-fn put_refusal<W: Write>(
-    writer: &mut Counted<W>,
-    so_far: Result<(), WriteFault>,
-    refusal: &Refusal,
-) -> Result<(), WriteFault>
-    ensures { WritesAfter W.contents writer.old so_far writer.new result
-        (refusal_text refusal.now) }
-{
-    match refusal {
-        Refusal::Maps(fault) => {
-            put_unplaced(writer, so_far, b"refused M", fault.number(), fault.text())
-        }
-        Refusal::Listing(fault) => put_listing(writer, so_far, fault),
-        Refusal::Load(fault) => put_load(writer, so_far, fault),
-        Refusal::Open(fault) => {
-            put_unplaced(writer, so_far, b"refused O", fault.number(), fault.text())
-        }
-        Refusal::NoCell(map, index) => put_no_cell(
-            writer,
-            so_far,
-            b"refused Q",
-            NO_CELL,
-            *map,
-            *index,
-            b"no such cell or wrong length",
-        ),
-    }
-}
-
-/// Writes the refusal of a cell: how it begins, its number, which cell it is, and its text.
-fn put_no_cell<W: Write>(
-    writer: &mut Counted<W>,
-    so_far: Result<(), WriteFault>,
-    family: &[u8],
-    number: u64,
-    map: u64,
-    index: u64,
-    text: &[u8],
-) -> Result<(), WriteFault>
-    ensures { WritesAfter W.contents writer.old so_far writer.new result
-        (text_of_refusal family.now number (cell_place map index) text.now) }
-{
-    let begun = put(writer, so_far, family);
-    let numbered = put_decimal(writer, begun, number);
-    let placed = put_cell_place(writer, numbered, map, index);
-    let parted = put(writer, placed, b": ");
-    put(writer, parted, text)
-}
-
-/// Writes at which cell it is.
-fn put_cell_place<W: Write>(
-    writer: &mut Counted<W>,
-    so_far: Result<(), WriteFault>,
-    map: u64,
-    index: u64,
-) -> Result<(), WriteFault>
-    ensures { WritesAfter W.contents writer.old so_far writer.new result (cell_place map index) }
-{
-    let begun = put(writer, so_far, b" at ");
-    put_cell_name(writer, begun, map, index)
-}
-
-/// Writes which cell it is.
-pub fn put_cell_name<W: Write>(
-    writer: &mut Counted<W>,
-    so_far: Result<(), WriteFault>,
-    map: u64,
-    index: u64,
-) -> Result<(), WriteFault>
-    ensures { WritesAfter W.contents writer.old so_far writer.new result (cell_name map index) }
-{
-    let begun = put(writer, so_far, b"cell ");
-    let counted = put_decimal(writer, begun, map);
-    let parted = put(writer, counted, b" ");
-    put_decimal(writer, parted, index)
-}
-
-/// Writes the fault of a listing.
-fn put_listing<W: Write>(
-    writer: &mut Counted<W>,
-    so_far: Result<(), WriteFault>,
-    fault: &AsmFault,
-) -> Result<(), WriteFault>
-    ensures { WritesAfter W.contents writer.old so_far writer.new result
-        (refusal_text (Refusal.Listing fault.now)) }
-{
-    put_numbered(
-        writer,
-        so_far,
-        b"refused A",
-        fault.number(),
-        b" at line ",
-        fault.line(),
-        fault.text(),
-    )
-}
-
-/// Writes the fault of a program.
-fn put_load<W: Write>(
-    writer: &mut Counted<W>,
-    so_far: Result<(), WriteFault>,
-    fault: &LoadFault,
-) -> Result<(), WriteFault>
-    ensures { WritesAfter W.contents writer.old so_far writer.new result
-        (refusal_text (Refusal.Load fault.now)) }
-{
-    put_numbered(
-        writer,
-        so_far,
-        b"refused C",
-        fault.number(),
-        b" at slot ",
-        slot_of(fault),
-        fault.text(),
-    )
-}
-
-/// Writes a refusal that has no place.
-fn put_unplaced<W: Write>(
-    writer: &mut Counted<W>,
-    so_far: Result<(), WriteFault>,
-    family: &[u8],
-    number: u8,
-    text: &str,
-) -> Result<(), WriteFault>
-    ensures { WritesAfter W.contents writer.old so_far writer.new result
-        (text_of_refusal family.now number [] text.now) }
-{
-    put_numbered(writer, so_far, family, number, b"", None, text)
-}
-
-/// The slot of a program's fault, where it has one.
-fn slot_of(fault: &LoadFault) -> Option<usize>
-    ensures { result ≡ slot_of fault.now }
-{
-    match fault {
-        LoadFault::At { slot, .. } => Some(*slot),
-        LoadFault::Empty => None,
-        LoadFault::TooLong => None,
-        LoadFault::Ragged => None,
-        LoadFault::Memory => None,
-    }
-}
-
-/// Writes a refusal: how it begins, its number, where it is in this unit, and its text.
-fn put_numbered<W: Write>(
-    writer: &mut Counted<W>,
-    so_far: Result<(), WriteFault>,
-    family: &[u8],
-    number: u8,
-    unit: &[u8],
-    at: Option<usize>,
-    text: &str,
-) -> Result<(), WriteFault>
-    ensures { WritesAfter W.contents writer.old so_far writer.new result
-        (text_of_refusal family.now number (placed unit.now at) text.now) }
-{
-    let begun = put(writer, so_far, family);
-    let numbered = put_decimal(writer, begun, u64::from(number));
-    let placed = put_placed(writer, numbered, unit, at);
-    let parted = put(writer, placed, b": ");
-    put(writer, parted, text.as_bytes())
-}
-
-/// Writes a place, where there is one.
-fn put_placed<W: Write>(
-    writer: &mut Counted<W>,
-    so_far: Result<(), WriteFault>,
-    unit: &[u8],
-    at: Option<usize>,
-) -> Result<(), WriteFault>
-    ensures { WritesAfter W.contents writer.old so_far writer.new result (placed unit.now at) }
-{
-    match at {
-        Some(at) => {
-            let begun = put(writer, so_far, unit);
-            put_decimal(writer, begun, at as u64)
-        }
-        None => put(writer, so_far, b""),
+        Status::Running => b"limit ",
+        Status::Exited => b"",
+        Status::Faulted(_) => b"",
     }
 }

@@ -3,7 +3,7 @@ ghost use Rattle.std.specs.Prelude.{◌≡◌, ◌&&◌, ◌++◌, List, [], IfE
 ghost use Rattle.counted_io.specs.Writing.{Writes, WritesAfter};
 ghost use Rattle.bpf_suite.specs.Files.{with_shared};
 ghost use Rattle.bpf_suite.specs.Outcomes.{Comes, Outcome};
-ghost use Rattle.bpf_suite.specs.Reports.{AreOutcomes, AreTold, BreaksAt, BreaksOff, after_word, all_pass, diagnosis, named_text, plan, report_text, show_line, test_text, tests_text, verdict_text, verdict_word, wanted, wanted_outcome};
+ghost use Rattle.bpf_suite.specs.Reports.{AreOutcomes, AreTold, BreaksAt, BreaksOff, all_pass, also, diagnosis, plan, report_text, show_line, test_text, tests_text, verdict_word, wanted, wanted_outcome};
 ghost use Rattle.bpf_suite.specs.Tests.{setting};
 ghost use Rattle.bpf_suite.specs.Verdicts.{passes, wrong_cells};
 
@@ -15,9 +15,9 @@ use crate::refusal::Refusal;
 use crate::shown::put_quoted;
 use crate::test::Test;
 use crate::values::{WrongCells, put_cells};
-use crate::verdict::{passes, put_expected};
+use crate::verdict::{lead, passes, put_expected};
 use bpf_machine::Cpu;
-use counted_io::{Counted, WriteFault, put, put_decimal};
+use counted_io::{Counted, Piece, WriteFault, put, put_all};
 use std::alloc::Global;
 use std::io::Write;
 
@@ -34,9 +34,12 @@ pub enum SuiteFault {
 pub fn write_plan<W: Write>(writer: &mut Counted<W>, tests: usize) -> Result<(), WriteFault>
     ensures { Writes W.contents writer.old writer.new result (plan tests) }
 {
-    let begun = put(writer, Ok(()), b"1..");
-    let counted = put_decimal(writer, begun, tests as u64);
-    put(writer, counted, b"\n")
+    let pieces = [
+        Piece::Text(b"1.."),
+        Piece::Decimal(tests as u64),
+        Piece::Text(b"\n"),
+    ];
+    put_all(writer, Ok(()), &pieces)
 }
 
 /// Runs tests of a file, the first of which has a number, and reports on each. Answers whether all
@@ -179,62 +182,29 @@ fn write_test<W: Write>(
     ensures { Writes W.contents writer.old writer.new result
         (report_text file.now passed number test.now outcome.now) }
 {
+    let word = verdict_word(passed);
+    let title = test.title();
+    let dash = lead(b" - ", title);
+    let pieces = [
+        Piece::Text(word),
+        Piece::Decimal(number),
+        Piece::Text(dash),
+        Piece::Text(title),
+        Piece::Text(b"\n"),
+    ];
+    let told = put_all(writer, Ok(()), &pieces);
     if passed {
-        put_verdict(writer, Ok(()), true, number, test)
+        told
     } else {
-        let told = put_verdict(writer, Ok(()), false, number, test);
         put_diagnosis(writer, told, file, test, outcome, wrong)
     }
 }
 
-/// Writes whether a test passed.
-fn put_verdict<W: Write>(
-    writer: &mut Counted<W>,
-    so_far: Result<(), WriteFault>,
-    passed: bool,
-    number: u64,
-    test: &Test<'_, '_>,
-) -> Result<(), WriteFault>
-    ensures { WritesAfter W.contents writer.old so_far writer.new result
-        (verdict_text passed number test.now) }
+/// The word of a verdict.
+fn verdict_word(passed: bool) -> &'static [u8]
+    ensures { result.now ≡ verdict_word passed }
 {
-    let begun = put_word(writer, so_far, passed);
-    let counted = put_decimal(writer, begun, number);
-    let named = put_title(writer, counted, test.title());
-    put(writer, named, b"\n")
-}
-
-/// Writes the word of a verdict.
-fn put_word<W: Write>(
-    writer: &mut Counted<W>,
-    so_far: Result<(), WriteFault>,
-    passed: bool,
-) -> Result<(), WriteFault>
-    ensures { WritesAfter W.contents writer.old so_far writer.new result (verdict_word passed) }
-{
-    if passed {
-        put(writer, so_far, b"ok ")
-    } else {
-        put(writer, so_far, b"not ok ")
-    }
-}
-
-/// Writes a name behind a number, if there is one.
-fn put_title<W: Write>(
-    writer: &mut Counted<W>,
-    so_far: Result<(), WriteFault>,
-    title: &[u8],
-) -> Result<(), WriteFault>
-    ensures { WritesAfter W.contents writer.old so_far writer.new result
-        (named_text title.now) }
-{
-    match title {
-        [] => put(writer, so_far, b""),
-        _ => {
-            let begun = put(writer, so_far, b" - ");
-            put(writer, begun, title)
-        }
-    }
+    if passed { b"ok " } else { b"not ok " }
 }
 
 /// Writes what came of a test, what was wanted, which cells are wrong, and how it is debugged.
@@ -250,14 +220,17 @@ fn put_diagnosis<W: Write>(
     ensures { WritesAfter W.contents writer.old so_far writer.new result
         (diagnosis file.now test.now outcome.now) }
 {
-    let begun = put(writer, so_far, b"# the test in line ");
-    let placed = put_decimal(writer, begun, test.first_line() as u64);
-    let parted = put(writer, placed, b"\n# came: ");
-    let told = put_outcome(writer, parted, outcome);
+    let line = test.first_line() as u64;
+    let pieces = [
+        Piece::Text(b"# the test in line "),
+        Piece::Decimal(line),
+        Piece::Text(b"\n# came: "),
+    ];
+    let begun = put_all(writer, so_far, &pieces);
+    let told = put_outcome(writer, begun, outcome);
     let followed = put(writer, told, b"\n# wanted: ");
     let said = put_wanted(writer, followed, test);
-    let ended = put(writer, said, b"\n");
-    let celled = put_cells(writer, ended, outcome, wrong);
+    let celled = put_cells(writer, said, outcome, wrong);
     put_show_line(writer, celled, file, test.title())
 }
 
@@ -287,8 +260,10 @@ fn put_wanted<W: Write>(
     ensures { WritesAfter W.contents writer.old so_far writer.new result (wanted test.now) }
 {
     let begun = put_wanted_outcome(writer, so_far, test);
-    let told = put_after_word(writer, begun, test.has(Part::After), b"mem-after");
-    put_after_word(writer, told, test.has(Part::CellsAfter), b"map-after")
+    let context = also(test.has(Part::After), b", and mem-after");
+    let cells = also(test.has(Part::CellsAfter), b", and map-after");
+    let pieces = [Piece::Text(context), Piece::Text(cells), Piece::Text(b"\n")];
+    put_all(writer, begun, &pieces)
 }
 
 /// Writes which outcome is wanted of a test.
@@ -306,20 +281,9 @@ fn put_wanted_outcome<W: Write>(
     }
 }
 
-/// Writes that a section's bytes are wanted, too.
-fn put_after_word<W: Write>(
-    writer: &mut Counted<W>,
-    so_far: Result<(), WriteFault>,
-    has: bool,
-    name: &[u8],
-) -> Result<(), WriteFault>
-    ensures { WritesAfter W.contents writer.old so_far writer.new result
-        (after_word has name.now) }
+/// A text, or nothing.
+fn also(has: bool, text: &[u8]) -> &[u8]
+    ensures { result.now ≡ also has text.now }
 {
-    if has {
-        let begun = put(writer, so_far, b", and ");
-        put(writer, begun, name)
-    } else {
-        put(writer, so_far, b"")
-    }
+    if has { text } else { b"" }
 }

@@ -7,6 +7,7 @@ ghost use Rattle.bpf_suite.specs.Kinds.{is_name, kind_named};
 
 use crate::body::trimmed;
 use crate::kind::{Kind, Part};
+use counted_io::sides;
 use std::alloc::{AllocError, Global};
 use std::marker::Model;
 
@@ -113,35 +114,15 @@ pub fn front(text: &[u8]) -> &[u8]
     if is_head(text) { &[] } else { until_head(text) }
 }
 
-/// Where a line ends, or the length.
-#[tactic(auto, using(counted_io::proofs::Places::unwrap_or_position))]
-fn find_end(text: &[u8]) -> usize
-    ensures value { result ≡ position_or_len (λ b. b == 10) text.now }
-    ensures within { result ≤ length text.now }
-{
-    end_position(text).unwrap_or(text.len())
-}
-
-fn end_position(text: &[u8]) -> Option<usize>
-    ensures { result ≡ position (λ b. b == 10) text.now }
-{
-    text.iter().position(|byte| *byte == b'\n')
-}
-
 /// The section that a text is, at a line.
 fn section_of(line: usize, text: &[u8]) -> Section<'_>
     requires { is_head text.now ≡ true }
     ensures { result ≡ section_of line text.now }
 {
-    let end = find_end(text);
-    let body: &[u8] = if end < text.len() {
-        &text[end + 1..]
-    } else {
-        &[]
-    };
+    let (head, body) = sides(text, b'\n');
     Section {
         line,
-        kind: kind_in(&text[..end]),
+        kind: kind_in(head),
         body: Text { bytes: body },
     }
 }

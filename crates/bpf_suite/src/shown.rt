@@ -5,7 +5,7 @@ ghost use Rattle.hex.specs.Hex.{encode_lower};
 ghost use Rattle.counted_io.specs.Writing.{Writes, WritesAfter};
 ghost use Rattle.bpf_suite.specs.Cells.{cell_of};
 ghost use Rattle.bpf_suite.specs.Outcomes.{HasWords};
-ghost use Rattle.bpf_suite.specs.Shown.{IsWordsFault, cell_command, maps_option, options_text, quoted, quoted_as, quoted_char, script_text};
+ghost use Rattle.bpf_suite.specs.Shown.{IsWordsFault, cell_command, options_text, quoted, quoted_as, quoted_char, script_text};
 ghost use Rattle.bpf_suite.specs.Tests.{has_listing, program};
 
 use crate::cells::{Cell, CellLine, cell_lines, cell_of};
@@ -14,7 +14,7 @@ use crate::section::Text;
 use crate::test::Test;
 use bpf_text::{AsmFault, assemble};
 use bstr::ByteSlice;
-use counted_io::{Counted, WriteFault, put, put_decimal};
+use counted_io::{Counted, Piece, WriteFault, put, put_all};
 use hex::encode_to_slice;
 use shown_text::steers;
 use std::alloc::{AllocError, Global};
@@ -82,38 +82,28 @@ impl<'b, 'a> Test<'b, 'a> {
 fn write_options<W: Write>(writer: &mut Counted<W>, test: &Test<'_, '_>) -> Result<(), WriteFault>
     ensures { Writes W.contents writer.old writer.new result (options_text test.now) }
 {
-    put_options(writer, Ok(()), test)
-}
-
-/// Writes the options of a test, after what was written so far, unless that failed.
-fn put_options<W: Write>(
-    writer: &mut Counted<W>,
-    so_far: Result<(), WriteFault>,
-    test: &Test<'_, '_>,
-) -> Result<(), WriteFault>
-    ensures { WritesAfter W.contents writer.old so_far writer.new result (options_text test.now) }
-{
-    let mapped = put_maps_option(writer, so_far, test.maps());
-    let named = put(writer, mapped, b"--steps=");
-    let counted = put_decimal(writer, named, test.limit());
-    put(writer, counted, b"\n")
-}
-
-/// Writes the option of maps, if there are any.
-fn put_maps_option<W: Write>(
-    writer: &mut Counted<W>,
-    so_far: Result<(), WriteFault>,
-    maps: Option<Text<'_>>,
-) -> Result<(), WriteFault>
-    ensures { WritesAfter W.contents writer.old so_far writer.new result (maps_option maps.entry) }
-{
-    match maps {
+    let limit = test.limit();
+    match test.maps() {
         Some(text) => {
-            let begun = put(writer, so_far, b"--maps=");
-            let told = put(writer, begun, bytes_in(&text));
-            put(writer, told, b"\n")
+            let maps = bytes_in(&text);
+            let pieces = [
+                Piece::Text(b"--maps="),
+                Piece::Text(maps),
+                Piece::Text(b"\n"),
+                Piece::Text(b"--steps="),
+                Piece::Decimal(limit),
+                Piece::Text(b"\n"),
+            ];
+            put_all(writer, Ok(()), &pieces)
         }
-        None => put(writer, so_far, b""),
+        None => {
+            let pieces = [
+                Piece::Text(b"--steps="),
+                Piece::Decimal(limit),
+                Piece::Text(b"\n"),
+            ];
+            put_all(writer, Ok(()), &pieces)
+        }
     }
 }
 
@@ -178,12 +168,15 @@ fn put_cell_command<W: Write>(
 ) -> Result<(), WriteFault>
     ensures { WritesAfter W.contents writer.old so_far writer.new result (cell_command cell.now) }
 {
-    let begun = put(writer, so_far, b"set cell ");
-    let mapped = put_decimal(writer, begun, cell.map);
-    let parted = put(writer, mapped, b" ");
-    let placed = put_decimal(writer, parted, cell.index);
-    let spaced = put(writer, placed, b" ");
-    let valued = put_value(writer, spaced, cell.value.as_slice());
+    let pieces = [
+        Piece::Text(b"set cell "),
+        Piece::Decimal(cell.map),
+        Piece::Text(b" "),
+        Piece::Decimal(cell.index),
+        Piece::Text(b" "),
+    ];
+    let begun = put_all(writer, so_far, &pieces);
+    let valued = put_value(writer, begun, cell.value.as_slice());
     put(writer, valued, b"\n")
 }
 

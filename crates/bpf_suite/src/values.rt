@@ -4,19 +4,18 @@ ghost use Rattle.std.specs.Option.{option_map};
 ghost use Rattle.bpf_machine.specs.Platform.{cell_address as cell_address_of};
 ghost use Rattle.bpf_machine.specs.Regions.{index_of};
 ghost use Rattle.counted_io.specs.Writing.{WritesAfter};
-ghost use Rattle.bpf_suite.specs.Reports.{AreTold, cell_head, cell_text, cells_text, more_text, value_text};
+ghost use Rattle.bpf_suite.specs.Reports.{AreTold, cell_text, cells_text, more_text, value_text};
 ghost use Rattle.bpf_suite.specs.Verdicts.{cell_size, cell_value, holds, wrong_lines};
 ghost use Rattle.bpf_suite.specs.declared.cells.CellLine.{CellLine};
 
 use crate::body::{fits_body, trimmed};
 use crate::cells::CellLine;
 use crate::image::{MAP_BASE, MAP_STRIDE};
-use crate::outcome::put_cell_name;
 use crate::refusal::Refusal;
 use bpf_machine::Cpu;
 use bpfdb_commands::Span;
 use bpfdb_replies::put_bytes;
-use counted_io::{Counted, WriteFault, put, put_decimal};
+use counted_io::{Counted, Piece, WriteFault, put, put_all};
 use std::alloc::{AllocError, Global};
 use std::io::Write;
 
@@ -189,9 +188,12 @@ fn put_more<W: Write>(
     if more == 0 {
         return put(writer, so_far, b"");
     }
-    let begun = put(writer, so_far, b"# more wrong cells: ");
-    let counted = put_decimal(writer, begun, more as u64);
-    put(writer, counted, b"\n")
+    let pieces = [
+        Piece::Text(b"# more wrong cells: "),
+        Piece::Decimal(more as u64),
+        Piece::Text(b"\n"),
+    ];
+    put_all(writer, so_far, &pieces)
 }
 
 /// Writes each of these cells.
@@ -221,26 +223,26 @@ fn put_cell<W: Write>(
     ensures { WritesAfter W.contents writer.old so_far writer.new result
         (cell_text cpu.now line.now) }
 {
-    let begun = put_cell_head(writer, so_far, line, b" came: ");
+    let came = [
+        Piece::Text(b"# cell "),
+        Piece::Decimal(line.map),
+        Piece::Text(b" "),
+        Piece::Decimal(line.index),
+        Piece::Text(b" came: "),
+    ];
+    let begun = put_all(writer, so_far, &came);
     let told = put_value(writer, begun, cpu, line.map, line.index);
-    let followed = put_cell_head(writer, told, line, b" wanted: ");
-    let said = put(writer, followed, trimmed(line.text()));
-    put(writer, said, b"\n")
-}
-
-/// Writes which cell is spoken of, and how.
-fn put_cell_head<W: Write>(
-    writer: &mut Counted<W>,
-    so_far: Result<(), WriteFault>,
-    line: &CellLine<'_>,
-    word: &[u8],
-) -> Result<(), WriteFault>
-    ensures { WritesAfter W.contents writer.old so_far writer.new result
-        (cell_head line.now word.now) }
-{
-    let begun = put(writer, so_far, b"# ");
-    let named = put_cell_name(writer, begun, line.map, line.index);
-    put(writer, named, word)
+    let pattern = trimmed(line.text());
+    let wanted = [
+        Piece::Text(b"# cell "),
+        Piece::Decimal(line.map),
+        Piece::Text(b" "),
+        Piece::Decimal(line.index),
+        Piece::Text(b" wanted: "),
+        Piece::Text(pattern),
+        Piece::Text(b"\n"),
+    ];
+    put_all(writer, told, &wanted)
 }
 
 /// Writes the address and the value of a cell.

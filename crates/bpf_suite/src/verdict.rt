@@ -1,11 +1,11 @@
 //! Whether a test passes.
 ghost use Rattle.std.specs.Prelude.{◌≡◌, IfOk, false};
 ghost use Rattle.std.specs.Option.{option_map_or};
-ghost use Rattle.counted_io.specs.Writing.{Writes, WritesAfter};
+ghost use Rattle.counted_io.specs.Writing.{WritesAfter};
 ghost use Rattle.bpf_suite.specs.Bodies.{number_of};
 ghost use Rattle.bpf_suite.specs.Outcomes.{outcome_text};
 ghost use Rattle.bpf_suite.specs.Reports.{AreTold};
-ghost use Rattle.bpf_suite.specs.Verdicts.{apart, cells_left, context_after, expected_text, has_exited, is_left, is_met, is_stop, leaves, meets, passes, results, tells, wrong_cells};
+ghost use Rattle.bpf_suite.specs.Verdicts.{cells_left, context_after, expected_text, has_exited, is_left, is_met, is_stop, lead, leaves, meets, passes, results, tells, wrong_cells};
 
 use crate::body::{fits, number_of, solid, trimmed};
 use crate::kind::{Kind, Part};
@@ -15,7 +15,7 @@ use crate::test::Test;
 use crate::values::WrongCells;
 use bpf_machine::{Cpu, Status};
 use bpfdb_replies::number_in;
-use counted_io::{Counted, WriteFault, put};
+use counted_io::{Counted, Piece, WriteFault, put_all};
 use std::alloc::{AllocError, Global};
 use std::io::Write;
 
@@ -175,20 +175,10 @@ fn outcome_text(alloc: Global, outcome: &Result<Cpu, Refusal>) -> Result<Vec<u8>
     ensures { IfOk result (λ text. text.items ≡ outcome_text outcome.now) }
 {
     let mut writer = Counted::new(Vec::new(alloc));
-    match write_outcome(&mut writer, outcome) {
+    match put_outcome(&mut writer, Ok(()), outcome) {
         Ok(()) => Ok(writer.into_inner()),
         Err(WriteFault) => Err(AllocError),
     }
-}
-
-/// Writes an outcome.
-fn write_outcome<W: Write>(
-    writer: &mut Counted<W>,
-    outcome: &Result<Cpu, Refusal>,
-) -> Result<(), WriteFault>
-    ensures { Writes W.contents writer.old writer.new result (outcome_text outcome.now) }
-{
-    put_outcome(writer, Ok(()), outcome)
 }
 
 /// What is expected, as it is printed.
@@ -196,21 +186,10 @@ fn expected_text(alloc: Global, kind: Kind, body: &[u8]) -> Result<Vec<u8>, Allo
     ensures { IfOk result (λ text. text.items ≡ expected_text kind body.now) }
 {
     let mut writer = Counted::new(Vec::new(alloc));
-    match write_expected(&mut writer, kind, body) {
+    match put_expected(&mut writer, Ok(()), kind, body) {
         Ok(()) => Ok(writer.into_inner()),
         Err(WriteFault) => Err(AllocError),
     }
-}
-
-/// Writes what is expected.
-fn write_expected<W: Write>(
-    writer: &mut Counted<W>,
-    kind: Kind,
-    body: &[u8],
-) -> Result<(), WriteFault>
-    ensures { Writes W.contents writer.old writer.new result (expected_text kind body.now) }
-{
-    put_expected(writer, Ok(()), kind, body)
 }
 
 /// Writes what is expected: its word, and what stands in its section.
@@ -223,23 +202,19 @@ pub fn put_expected<W: Write>(
     ensures { WritesAfter W.contents writer.old so_far writer.new result
         (expected_text kind body.now) }
 {
-    let begun = put(writer, so_far, kind.word().as_bytes());
-    put_apart(writer, begun, trimmed(body))
+    let word = kind.word().as_bytes();
+    let text = trimmed(body);
+    let blank = lead(b" ", text);
+    let pieces = [Piece::Text(word), Piece::Text(blank), Piece::Text(text)];
+    put_all(writer, so_far, &pieces)
 }
 
-/// Writes a text with a blank in front, or nothing.
-fn put_apart<W: Write>(
-    writer: &mut Counted<W>,
-    so_far: Result<(), WriteFault>,
-    text: &[u8],
-) -> Result<(), WriteFault>
-    ensures { WritesAfter W.contents writer.old so_far writer.new result (apart text.now) }
+/// What stands in front of a text, unless that is empty.
+pub fn lead<'a>(front: &'a [u8], text: &[u8]) -> &'a [u8]
+    ensures { result.now ≡ lead front.now text.now }
 {
     match text {
-        [] => put(writer, so_far, b""),
-        _ => {
-            let begun = put(writer, so_far, b" ");
-            put(writer, begun, text)
-        }
+        [] => b"",
+        _ => front,
     }
 }

@@ -1,16 +1,13 @@
 -- Why a job isn't done, as a line on standard error. bpfdb's own choice.
 use Rattle.std.specs.Prelude.{ℕ, List, [], ◌∷◌, ◌++◌, Option, Some, None, codes, decimal}
-use Rattle.bpf_isa.specs.Faults.{load_fault, map_fault}
-use Rattle.bpf_isa.specs.declared.fault.LoadFault.{LoadFault}
-use Rattle.bpf_isa.specs.declared.fault.LoadFault.TheVariants as load
 use Rattle.bpf_link.specs.Faults.{link_fault}
 use Rattle.bpf_link.specs.Helpers.{helper_name}
 use Rattle.bpf_link.specs.declared.fault.LinkFault.{LinkFault}
 use Rattle.bpf_link.specs.declared.fault.LinkFault.TheVariants as linking
 use Rattle.bpf_link.specs.declared.sources.Source.{Source}
 use Rattle.bpf_suite.specs.Faults.{section_fault}
-use Rattle.bpf_text.specs.Faults.{asm_fault, fault_line}
-use Rattle.bpf_machine.specs.Opening.{open_fault}
+use Rattle.bpf_suite.specs.Refusals.{refusal_text, slot_of, text_of_refusal}
+use Rattle.bpf_suite.specs.declared.refusal.Refusal.TheVariants as program
 use Rattle.bpf_ring.specs.Opening.{journal_fault}
 use Rattle.bpf_origin.specs.Asked.{what_fault}
 use Rattle.bpf_trace.specs.Traces.{limit_line}
@@ -21,46 +18,24 @@ use Rattle.bpfdb_jobs.specs.declared.fault.JobFault.TheVariants.{Unreadable, Not
 use Rattle.bpfdb_jobs.specs.declared.refusal.JobRefusal.{JobRefusal}
 use Rattle.bpfdb_jobs.specs.declared.refusal.JobRefusal.TheVariants.{Maps, Listing, Load, Open, Journal, What, Object, Tests, NoTest, ManyTests, Script}
 
--- A refusal: a letter and a number, where it is if that is known, and a text.
-abbrev pub placed : List ℕ → Option ℕ → List ℕ
-placed unit (Some n) = unit ++ decimal n
-placed unit None = []
-
-abbrev pub refusal_text : List ℕ → ℕ → List ℕ → List ℕ → List ℕ
-refusal_text family number at text = family ++ decimal number ++ at ++ codes ": " ++ text ++ codes "\n"
+-- The line of a refusal: a letter and a number, its line if it has one, and a text.
+abbrev pub refused_line : List ℕ → ℕ → Option ℕ → List ℕ → List ℕ
+refused_line family number line text = text_of_refusal family number (codes " at line ") line text ++ codes "\n"
 
 -- What stands behind the text of an object's fault: of a call of a helper that there isn't its number, its name in the kernel, if it has one, and the
 -- option that answers it.
-abbrev pub kernel_name : List ℕ → List ℕ
-kernel_name [] = []
-kernel_name (byte ∷ bytes) = codes " (bpf_" ++ (byte ∷ bytes) ++ codes ")"
+abbrev pub helper_text : ℕ → List ℕ → List ℕ
+helper_text helper [] = codes " " ++ decimal helper ++ codes ": --stub " ++ decimal helper ++ codes "=VALUE answers it"
+helper_text helper (byte ∷ bytes) =
+    codes " " ++ decimal helper ++ codes " (bpf_" ++ (byte ∷ bytes) ++ codes "): --stub " ++ decimal helper ++ codes "=VALUE answers it"
 
-abbrev pub helper_text : ℕ → List ℕ
-helper_text helper =
-    codes " " ++ decimal helper ++ kernel_name (helper_name helper) ++ codes ": --stub " ++ decimal helper ++ codes "=VALUE answers it"
-
--- How many relocations of fields there are, and the option that leaves them.
-abbrev pub fields_text : ℕ → List ℕ
-fields_text count = codes ", " ++ decimal count ++ codes " in all: --as-compiled leaves them undone"
-
--- The option that chooses a section or a function.
-abbrev pub choice_text : LinkFault → List ℕ
-choice_text linking.ManySections = codes ": --section NAME chooses one"
-choice_text linking.ManyPrograms = codes ": --entry NAME chooses one"
-choice_text fault = []
-
+-- Of relocations of fields it is how many there are, and the option that leaves them; else the option that chooses a section or a function.
 abbrev pub more_of : LinkFault → List ℕ
-more_of (linking.Helper slot helper source) = helper_text helper
-more_of (linking.Fields count slot at) = fields_text count
-more_of fault = choice_text fault
-
--- The slot of a program's fault, where it has one.
-abbrev pub slot_of : LoadFault → Option ℕ
-slot_of (load.At slot fault) = Some slot
-slot_of load.Empty = None
-slot_of load.TooLong = None
-slot_of load.Ragged = None
-slot_of load.Memory = None
+more_of (linking.Helper slot helper source) = helper_text helper (helper_name helper)
+more_of (linking.Fields count slot at) = codes ", " ++ decimal count ++ codes " in all: --as-compiled leaves them undone"
+more_of linking.ManySections = codes ": --section NAME chooses one"
+more_of linking.ManyPrograms = codes ": --entry NAME chooses one"
+more_of fault = []
 
 -- The slot of an object's fault, where the words that are linked have one, or a relocation.
 abbrev pub slot_of_words : LinkFault → Option ℕ
@@ -88,7 +63,8 @@ origin_text fault = []
 
 abbrev pub object_line : LinkFault → List ℕ → List ℕ
 object_line fault name =
-    refusal_text (codes "refused E") (link_fault fault).0 (placed (codes " at slot ") (slot_of_words fault)) ((link_fault fault).1 ++ more_of fault ++ name_text name ++ origin_text fault)
+    text_of_refusal (codes "refused E") (link_fault fault).0 (codes " at slot ") (slot_of_words fault) (link_fault fault).1
+    ++ more_of fault ++ name_text name ++ origin_text fault ++ codes "\n"
 
 -- A name that no test has.
 abbrev pub no_test_line : List ℕ → List ℕ
@@ -96,20 +72,19 @@ no_test_line name = codes "refused T7: no test of this name" ++ name_text name +
 
 -- The line of a refusal that a session looks at.
 abbrev pub session_line : JobRefusal → List ℕ
-session_line (Maps fault) = refusal_text (codes "refused M") (map_fault fault).0 [] (map_fault fault).1
-session_line (Listing fault) = refusal_text (codes "refused A") (asm_fault fault).0 (placed (codes " at line ") (fault_line fault)) (asm_fault fault).1
-session_line (Load fault) = refusal_text (codes "refused C") (load_fault fault).0 (placed (codes " at slot ") (slot_of fault)) (load_fault fault).1
-session_line (Open fault) = refusal_text (codes "refused O") (open_fault fault).0 [] (open_fault fault).1
-session_line (Journal fault) = refusal_text (codes "refused J") (journal_fault fault).0 [] (journal_fault fault).1
+session_line (Maps fault) = refusal_text (program.Maps fault) ++ codes "\n"
+session_line (Listing fault) = refusal_text (program.Listing fault) ++ codes "\n"
+session_line (Load fault) = refusal_text (program.Load fault) ++ codes "\n"
+session_line (Open fault) = refusal_text (program.Open fault) ++ codes "\n"
+session_line (Journal fault) = refused_line (codes "refused J") (journal_fault fault).0 None (journal_fault fault).1
 session_line refusal = []
 
 -- The line of each refusal.
 abbrev pub refusal_line : JobRefusal → List ℕ
 refusal_line (Script refusal) = commands.refusal_text refusal
-refusal_line (What fault) = refusal_text (codes "refused V") (what_fault fault).0 [] (what_fault fault).1
+refusal_line (What fault) = refused_line (codes "refused V") (what_fault fault).0 None (what_fault fault).1
 refusal_line (Object fault name) = object_line fault name.now
-refusal_line (Tests fault line) =
-    refusal_text (codes "refused T") (section_fault fault).0 (placed (codes " at line ") (Some line)) (section_fault fault).1
+refusal_line (Tests fault line) = refused_line (codes "refused T") (section_fault fault).0 (Some line) (section_fault fault).1
 refusal_line (NoTest name) = no_test_line name.now
 refusal_line ManyTests = codes "refused T8: more than one test is asked for\n"
 refusal_line refusal = session_line refusal

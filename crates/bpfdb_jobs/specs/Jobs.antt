@@ -99,7 +99,7 @@ pub record IsLinkedTo (job : Job) (words : List ℕ) (shapes : List MapShape) (a
   pub asked : stubs_of job ≡ Ok stubs
   pub made : AreWordsOf job.file.now (section_of job) (entry_of job) stubs words
   pub plans : planned job.file.now (section_of job) ≡ Ok plan
-  pub shaped : HasShapes job.file.now plan shapes
+  pub shaped : HasShapes plan shapes
   pub counted : answered ≡ made.program.answered
   pub left : AreLeft job.file.now (section_of job) job.options.as_compiled fields
 

@@ -11,27 +11,20 @@ shape_text shape = decimal shape.value_size ++ codes "x" ++ decimal shape.entrie
 abbrev pub maps_text : List MapShape → List ℕ
 maps_text shapes = join_by shape_text (codes ",") shapes
 
-abbrev pub maps_line : List MapShape → List ℕ
-maps_line shapes = codes "--maps " ++ maps_text shapes ++ codes "\n"
-
 -- The line of its maps, if it has some.
-abbrev pub maps_lines : List MapShape → List ℕ
-maps_lines [] = []
-maps_lines (first ∷ rest) = maps_line (first ∷ rest)
+abbrev pub maps_line : List MapShape → List ℕ
+maps_line [] = []
+maps_line (first ∷ rest) = codes "--maps " ++ maps_text (first ∷ rest) ++ codes "\n"
 
--- How many calls of helpers are answered, if that is to be told.
-abbrev pub answered_lines : Option ℕ → List ℕ
-answered_lines None = []
-answered_lines (Some count) = codes "calls answered by --stub: " ++ decimal count ++ codes "\n"
+-- A line of how many there are, if that is to be told.
+abbrev pub count_line : List ℕ → Option ℕ → List ℕ
+count_line text None = []
+count_line text (Some count) = text ++ decimal count ++ codes "\n"
 
--- How many fields are left where they were compiled, if that is to be told.
-abbrev pub fields_lines : Option ℕ → List ℕ
-fields_lines None = []
-fields_lines (Some count) = codes "fields left by --as-compiled: " ++ decimal count ++ codes "\n"
-
--- All, one after the other.
+-- Its maps, how many calls of helpers are answered, and how many fields are left where they were compiled.
 unfoldable pub linked_text : List MapShape → Option ℕ → Option ℕ → List ℕ
-linked_text shapes answered fields = maps_lines shapes ++ answered_lines answered ++ fields_lines fields
+linked_text shapes answered fields =
+    maps_line shapes ++ count_line (codes "calls answered by --stub: ") answered ++ count_line (codes "fields left by --as-compiled: ") fields
 
 -- What is told of an object: its maps, how many calls are answered, and how many fields are left; of none of them nothing.
 abbrev pub linked_told : List MapShape → Option ℕ → Option ℕ → Option (List ℕ)

@@ -1,6 +1,6 @@
 //! What a job of `check` does.
 ghost use Rattle.std.specs.Prelude.{◌≡◌, ◌≤◌, count_by, is_some};
-ghost use Rattle.counted_io.specs.Writing.{Writes, WritesAfter};
+ghost use Rattle.counted_io.specs.Writing.{Writes};
 ghost use Rattle.bpfdb_jobs.specs.Endings.{EndsPrinted};
 ghost use Rattle.bpfdb_jobs.specs.Jobs.{check_line};
 ghost use Rattle.bpfdb_options.specs.declared.subcommand.Subcommand.TheVariants.{Check};
@@ -8,9 +8,9 @@ ghost use Rattle.bpfdb_options.specs.declared.subcommand.Subcommand.TheVariants.
 use crate::fault::JobFault;
 use crate::job::Job;
 use crate::opening::program_of;
-use crate::report::{ended, give_up};
+use crate::report::{ended, flush_after, give_up};
 use bpf_isa::Program;
-use counted_io::{Counted, WriteFault, put, put_decimal};
+use counted_io::{Counted, Piece, WriteFault, put_all};
 use std::alloc::Global;
 use std::io::Write;
 
@@ -38,37 +38,17 @@ pub fn check_job<W: Write, E: Write>(
 fn write_size<W: Write>(program: &Program, writer: &mut Counted<W>) -> Result<(), WriteFault>
     ensures { Writes W.contents writer.old writer.new result (check_line program.now) }
 {
-    match write_line(program, writer) {
-        Ok(()) => {}
-        Err(fault) => return Err(fault),
-    }
-    match writer.flush() {
-        Ok(()) => Ok(()),
-        Err(_) => Err(WriteFault),
-    }
-}
-
-/// Writes how many instructions and slots a program has.
-fn write_line<W: Write>(program: &Program, writer: &mut Counted<W>) -> Result<(), WriteFault>
-    ensures { Writes W.contents writer.old writer.new result (check_line program.now) }
-{
-    put_size(writer, Ok(()), program)
-}
-
-/// Writes how many instructions and slots a program has, after what was written so far, unless that
-/// failed.
-fn put_size<W: Write>(
-    writer: &mut Counted<W>,
-    so_far: Result<(), WriteFault>,
-    program: &Program,
-) -> Result<(), WriteFault>
-    ensures { WritesAfter W.contents writer.old so_far writer.new result (check_line program.now) }
-{
-    let begun = put(writer, so_far, b"ok ");
-    let counted = put_decimal(writer, begun, instructions(program) as u64);
-    let parted = put(writer, counted, b" instructions in ");
-    let sized = put_decimal(writer, parted, program.len() as u64);
-    put(writer, sized, b" slots\n")
+    let instructions = instructions(program) as u64;
+    let slots = program.len() as u64;
+    let pieces = [
+        Piece::Text(b"ok "),
+        Piece::Decimal(instructions),
+        Piece::Text(b" instructions in "),
+        Piece::Decimal(slots),
+        Piece::Text(b" slots\n"),
+    ];
+    let written = put_all(writer, Ok(()), &pieces);
+    flush_after(writer, written)
 }
 
 /// How many instructions a program has.

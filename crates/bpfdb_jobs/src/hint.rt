@@ -1,11 +1,10 @@
 //! A hint at a terminal behind a refusal: what FILE looks like where it isn't words, and the line of
 //! a slot where it is a listing.
-ghost use Rattle.std.specs.Prelude.{◌≡◌, ◌++◌, option_map, true};
+ghost use Rattle.std.specs.Prelude.{◌≡◌, option_map, true};
 ghost use Rattle.counted_io.specs.Lines.{lines};
-ghost use Rattle.counted_io.specs.Writing.{Writes, WritesAfter};
+ghost use Rattle.counted_io.specs.Writing.{Writes};
 ghost use Rattle.bpfdb_jobs.specs.Endings.{Told};
-ghost use Rattle.shown_text.specs.Shown.{shown};
-ghost use Rattle.bpfdb_jobs.specs.Hints.{AddsHint, AddsLine, IsHintOf, hint_line, is_check, is_of_file, line_at, look_after, look_of, place_after, place_line};
+ghost use Rattle.bpfdb_jobs.specs.Hints.{AddsHint, AddsLine, IsHintOf, hint_line, is_check, is_of_file, line_at, look_after, look_of, place_after};
 ghost use Rattle.bpfdb_jobs.specs.Refusals.{RefusesProgram};
 ghost use Rattle.bpfdb_jobs.specs.declared.hint.Hint.TheVariants as hint;
 
@@ -13,11 +12,12 @@ use crate::job::Job;
 use crate::look::{is_object, is_text};
 use crate::opening::program_of;
 use crate::refusal::JobRefusal;
+use crate::report::flush_after;
 use crate::row::line_at;
 use bpf_isa::{LoadFault, PieceFault, WordFault};
 use bpf_text::line_table;
 use bpfdb_options::Subcommand;
-use counted_io::{Counted, WriteFault, put, put_decimal};
+use counted_io::{Counted, Piece, WriteFault, put, put_all};
 use shown_text::put_shown;
 use std::alloc::Global;
 use std::io::Write;
@@ -182,14 +182,8 @@ fn try_hint<E: Write>(errors: &mut Counted<E>, name: &str, hint: &Hint)
 fn flush_hint<E: Write>(errors: &mut Counted<E>, name: &str, hint: &Hint) -> Result<(), WriteFault>
     ensures { Writes E.contents errors.old errors.new result (hint_line name.now hint.now) }
 {
-    match write_hint(errors, name, hint) {
-        Ok(()) => {}
-        Err(fault) => return Err(fault),
-    }
-    match errors.flush() {
-        Ok(()) => Ok(()),
-        Err(_) => Err(WriteFault),
-    }
+    let written = write_hint(errors, name, hint);
+    flush_after(errors, written)
 }
 
 /// Writes the line of a hint.
@@ -197,36 +191,25 @@ fn write_hint<E: Write>(errors: &mut Counted<E>, name: &str, hint: &Hint) -> Res
     ensures { Writes E.contents errors.old errors.new result (hint_line name.now hint.now) }
 {
     match hint {
-        Hint::Object => write_look(errors, name, b" looks like an object: bpfdb link\n"),
-        Hint::Listing => write_look(errors, name, b" looks like a listing: --listing\n"),
-        Hint::Line(slot, line) => put_place(errors, Ok(()), name, *slot as u64, *line),
+        Hint::Object => {
+            let named = put_shown(errors, Ok(()), name.as_bytes());
+            put(errors, named, b" looks like an object: bpfdb link\n")
+        }
+        Hint::Listing => {
+            let named = put_shown(errors, Ok(()), name.as_bytes());
+            put(errors, named, b" looks like a listing: --listing\n")
+        }
+        Hint::Line(slot, line) => {
+            let pieces = [
+                Piece::Text(b"slot "),
+                Piece::Decimal(*slot as u64),
+                Piece::Text(b" is line "),
+                Piece::Decimal(*line),
+                Piece::Text(b" of "),
+            ];
+            let begun = put_all(errors, Ok(()), &pieces);
+            let named = put_shown(errors, begun, name.as_bytes());
+            put(errors, named, b"\n")
+        }
     }
-}
-
-/// Writes the name of FILE, and what it looks like.
-fn write_look<E: Write>(errors: &mut Counted<E>, name: &str, look: &[u8]) -> Result<(), WriteFault>
-    ensures { Writes E.contents errors.old errors.new result (shown name.now ++ look.now) }
-{
-    let named = put_shown(errors, Ok(()), name.as_bytes());
-    put(errors, named, look)
-}
-
-/// Writes the line of a slot, after what was written so far, unless that failed.
-fn put_place<E: Write>(
-    errors: &mut Counted<E>,
-    so_far: Result<(), WriteFault>,
-    name: &str,
-    slot: u64,
-    line: u64,
-) -> Result<(), WriteFault>
-    ensures { WritesAfter E.contents errors.old so_far errors.new result
-        (place_line name.now slot line) }
-{
-    let begun = put(errors, so_far, b"slot ");
-    let placed = put_decimal(errors, begun, slot);
-    let parted = put(errors, placed, b" is line ");
-    let lined = put_decimal(errors, parted, line);
-    let joined = put(errors, lined, b" of ");
-    let named = put_shown(errors, joined, name.as_bytes());
-    put(errors, named, b"\n")
 }

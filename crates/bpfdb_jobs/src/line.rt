@@ -1,29 +1,21 @@
 //! The line of a fault.
-ghost use Rattle.std.specs.Prelude.{◌≡◌, ◌++◌, [], codes, decimal};
-ghost use Rattle.counted_io.specs.Writing.{Writes, WritesAfter};
-ghost use Rattle.bpfdb_jobs.specs.Faults.{choice_text, fields_text, helper_text, kernel_name, line_of, more_of, name_text, no_test_line, object_line, origin_text, placed, refusal_line, refusal_text, slot_of, slot_of_words, source_text, unreadable_line};
-ghost use Rattle.shown_text.specs.Shown.{shown};
+ghost use Rattle.std.specs.Prelude.{◌≡◌, ◌++◌, codes};
+ghost use Rattle.counted_io.specs.Writing.{WritesAfter};
+ghost use Rattle.bpf_link.specs.Helpers.{helper_name};
+ghost use Rattle.bpf_suite.specs.Refusals.{refusal_text};
+ghost use Rattle.bpfdb_jobs.specs.Faults.{helper_text, line_of, more_of, name_text, object_line, origin_text, refusal_line, refused_line, slot_of_words, source_text};
 
 use crate::fault::JobFault;
 use crate::refusal::JobRefusal;
-use bpf_isa::LoadFault;
 use bpf_link::{LinkFault, Source, helper_name};
-use bpf_suite::SectionFault;
-use bpf_text::AsmFault;
+use bpf_suite::{Refusal, put_numbered, slot_of};
 use bpf_trace::put_limit;
-use counted_io::{Counted, WriteFault, put, put_decimal};
+use counted_io::{Counted, Piece, WriteFault, put, put_all};
 use shown_text::put_shown;
 use std::io::Write;
 
-/// Writes the line of a fault.
-pub fn write_line<E: Write>(errors: &mut Counted<E>, fault: &JobFault<'_>) -> Result<(), WriteFault>
-    ensures { Writes E.contents errors.old errors.new result (line_of fault.now) }
-{
-    put_line(errors, Ok(()), fault)
-}
-
 /// Writes the line of a fault, after what was written so far, unless that failed.
-fn put_line<E: Write>(
+pub fn put_line<E: Write>(
     errors: &mut Counted<E>,
     so_far: Result<(), WriteFault>,
     fault: &JobFault<'_>,
@@ -31,7 +23,11 @@ fn put_line<E: Write>(
     ensures { WritesAfter E.contents errors.old so_far errors.new result (line_of fault.now) }
 {
     match fault {
-        JobFault::Unreadable(name) => put_unreadable(errors, so_far, name),
+        JobFault::Unreadable(name) => {
+            let begun = put(errors, so_far, b"cannot read ");
+            let named = put_shown(errors, begun, name.as_bytes());
+            put(errors, named, b"\n")
+        }
         JobFault::NotText => put(errors, so_far, b"the command line is not UTF-8 text\n"),
         JobFault::Refused(refusal) => put_refusal(errors, so_far, refusal),
         JobFault::Input => put(errors, so_far, b"cannot read input\n"),
@@ -39,20 +35,6 @@ fn put_line<E: Write>(
         JobFault::Memory => put(errors, so_far, b"out of memory\n"),
         JobFault::StepLimit(limit, slot) => put_limit(errors, so_far, *limit, *slot),
     }
-}
-
-/// Writes that a file can't be read.
-fn put_unreadable<E: Write>(
-    errors: &mut Counted<E>,
-    so_far: Result<(), WriteFault>,
-    name: &str,
-) -> Result<(), WriteFault>
-    ensures { WritesAfter E.contents errors.old so_far errors.new result
-        (unreadable_line name.now) }
-{
-    let begun = put(errors, so_far, b"cannot read ");
-    let named = put_shown(errors, begun, name.as_bytes());
-    put(errors, named, b"\n")
 }
 
 /// Writes the line of a refusal.
@@ -65,24 +47,29 @@ fn put_refusal<E: Write>(
         (refusal_line refusal.now) }
 {
     match refusal {
-        JobRefusal::Maps(fault) => {
-            put_unplaced(errors, so_far, b"refused M", fault.number(), fault.text())
-        }
-        JobRefusal::Listing(fault) => put_listing(errors, so_far, fault),
-        JobRefusal::Load(fault) => put_load(errors, so_far, fault),
-        JobRefusal::Open(fault) => {
-            put_unplaced(errors, so_far, b"refused O", fault.number(), fault.text())
-        }
+        JobRefusal::Maps(fault) => put_program(errors, so_far, &Refusal::Maps(*fault)),
+        JobRefusal::Listing(fault) => put_program(errors, so_far, &Refusal::Listing(*fault)),
+        JobRefusal::Load(fault) => put_program(errors, so_far, &Refusal::Load(*fault)),
+        JobRefusal::Open(fault) => put_program(errors, so_far, &Refusal::Open(*fault)),
         JobRefusal::Journal(fault) => {
-            put_unplaced(errors, so_far, b"refused J", fault.number(), fault.text())
+            let (number, text) = (fault.number(), fault.text());
+            put_refused(errors, so_far, b"refused J", number, None, text)
         }
         JobRefusal::Script(refusal) => bpfdb_replies::put_refusal(errors, so_far, *refusal),
         JobRefusal::What(fault) => {
-            put_unplaced(errors, so_far, b"refused V", fault.number(), fault.text())
+            let (number, text) = (fault.number(), fault.text());
+            put_refused(errors, so_far, b"refused V", number, None, text)
         }
         JobRefusal::Object(fault, name) => put_object(errors, so_far, fault, name),
-        JobRefusal::Tests(fault, line) => put_tests(errors, so_far, fault, *line),
-        JobRefusal::NoTest(name) => put_no_test(errors, so_far, name),
+        JobRefusal::Tests(fault, line) => {
+            let (number, text) = (fault.number(), fault.text());
+            put_refused(errors, so_far, b"refused T", number, Some(*line), text)
+        }
+        JobRefusal::NoTest(name) => {
+            let begun = put(errors, so_far, b"refused T7: no test of this name");
+            let named = put_named(errors, begun, name.as_bytes());
+            put(errors, named, b"\n")
+        }
         JobRefusal::ManyTests => {
             put(
                 errors,
@@ -93,44 +80,33 @@ fn put_refusal<E: Write>(
     }
 }
 
-/// Writes the line of a listing's fault.
-fn put_listing<E: Write>(
+/// Writes the line of a program's refusal.
+fn put_program<E: Write>(
     errors: &mut Counted<E>,
     so_far: Result<(), WriteFault>,
-    fault: &AsmFault,
+    refusal: &Refusal,
 ) -> Result<(), WriteFault>
     ensures { WritesAfter E.contents errors.old so_far errors.new result
-        (refusal_line (JobRefusal.Listing fault.now)) }
+        (refusal_text refusal.now ++ codes "\n") }
 {
-    put_numbered(
-        errors,
-        so_far,
-        b"refused A",
-        fault.number(),
-        b" at line ",
-        fault.line(),
-        fault.text(),
-    )
+    let said = bpf_suite::put_refusal(errors, so_far, refusal);
+    put(errors, said, b"\n")
 }
 
-/// Writes the line of a program's fault.
-fn put_load<E: Write>(
+/// Writes the line of a refusal: how it begins, its number, its line if it has one, and its text.
+fn put_refused<'a, E: Write>(
     errors: &mut Counted<E>,
     so_far: Result<(), WriteFault>,
-    fault: &LoadFault,
+    family: &'a [u8],
+    number: u8,
+    line: Option<usize>,
+    text: &'a str,
 ) -> Result<(), WriteFault>
     ensures { WritesAfter E.contents errors.old so_far errors.new result
-        (refusal_line (JobRefusal.Load fault.now)) }
+        (refused_line family.now number line text.now) }
 {
-    put_numbered(
-        errors,
-        so_far,
-        b"refused C",
-        fault.number(),
-        b" at slot ",
-        slot_of(fault),
-        fault.text(),
-    )
+    let said = put_numbered(errors, so_far, family, number, b" at line ", line, text);
+    put(errors, said, b"\n")
 }
 
 /// Writes the line of an object's fault.
@@ -143,14 +119,16 @@ fn put_object<E: Write>(
     ensures { WritesAfter E.contents errors.old so_far errors.new result
         (object_line fault.now name.now) }
 {
-    let begun = put_begun(
+    let (number, text) = (fault.number(), fault.text());
+    let slot = slot_of_words(fault);
+    let begun = put_numbered(
         errors,
         so_far,
         b"refused E",
-        fault.number(),
+        number,
         b" at slot ",
-        slot_of_words(fault),
-        fault.text(),
+        slot,
+        text,
     );
     let said = put_more(errors, begun, fault);
     let named = put_named(errors, said, name);
@@ -183,8 +161,8 @@ fn put_source<E: Write>(
 {
     match source {
         Some(source) => {
-            let begun = put(errors, so_far, b", slot ");
-            put_decimal(errors, begun, source.slot as u64)
+            let pieces = [Piece::Text(b", slot "), Piece::Decimal(source.slot as u64)];
+            put_all(errors, so_far, &pieces)
         }
         None => put(errors, so_far, b""),
     }
@@ -198,23 +176,13 @@ fn put_named<E: Write>(
 ) -> Result<(), WriteFault>
     ensures { WritesAfter E.contents errors.old so_far errors.new result (name_text name.now) }
 {
-    if name.is_empty() {
-        return put(errors, so_far, b"");
+    match name {
+        [] => put(errors, so_far, b""),
+        _ => {
+            let begun = put(errors, so_far, b": ");
+            put_shown(errors, begun, name)
+        }
     }
-    put_parted(errors, so_far, name)
-}
-
-/// Writes a colon and a name.
-fn put_parted<E: Write>(
-    errors: &mut Counted<E>,
-    so_far: Result<(), WriteFault>,
-    name: &[u8],
-) -> Result<(), WriteFault>
-    ensures { WritesAfter E.contents errors.old so_far errors.new result
-        (codes ": " ++ shown name.now) }
-{
-    let begun = put(errors, so_far, b": ");
-    put_shown(errors, begun, name)
 }
 
 /// Writes what stands behind the text of an object's fault.
@@ -227,20 +195,14 @@ fn put_more<E: Write>(
 {
     match fault {
         LinkFault::Helper { helper, .. } => put_helper(errors, so_far, *helper),
-        LinkFault::Fields { count, .. } => put_fields(errors, so_far, *count),
-        _ => put_choice(errors, so_far, fault),
-    }
-}
-
-/// Writes the option that chooses a section or a function, where one is to be chosen.
-fn put_choice<E: Write>(
-    errors: &mut Counted<E>,
-    so_far: Result<(), WriteFault>,
-    fault: &LinkFault,
-) -> Result<(), WriteFault>
-    ensures { WritesAfter E.contents errors.old so_far errors.new result (choice_text fault.now) }
-{
-    match fault {
+        LinkFault::Fields { count, .. } => {
+            let pieces = [
+                Piece::Text(b", "),
+                Piece::Decimal(u64::from(*count)),
+                Piece::Text(b" in all: --as-compiled leaves them undone"),
+            ];
+            put_all(errors, so_far, &pieces)
+        }
         LinkFault::ManySections => put(errors, so_far, b": --section NAME chooses one"),
         LinkFault::ManyPrograms => put(errors, so_far, b": --entry NAME chooses one"),
         _ => put(errors, so_far, b""),
@@ -253,106 +215,34 @@ fn put_helper<E: Write>(
     so_far: Result<(), WriteFault>,
     helper: u32,
 ) -> Result<(), WriteFault>
-    ensures { WritesAfter E.contents errors.old so_far errors.new result (helper_text helper) }
-{
-    let begun = put(errors, so_far, b" ");
-    let numbered = put_decimal(errors, begun, u64::from(helper));
-    let named = put_kernel_name(errors, numbered, helper_name(helper));
-    let parted = put(errors, named, b": --stub ");
-    let again = put_decimal(errors, parted, u64::from(helper));
-    put(errors, again, b"=VALUE answers it")
-}
-
-/// Writes the name of a helper in the kernel, if it has one.
-fn put_kernel_name<E: Write>(
-    errors: &mut Counted<E>,
-    so_far: Result<(), WriteFault>,
-    name: &[u8],
-) -> Result<(), WriteFault>
-    ensures { WritesAfter E.contents errors.old so_far errors.new result (kernel_name name.now) }
-{
-    if name.is_empty() {
-        return put(errors, so_far, b"");
-    }
-    put_bracketed(errors, so_far, name)
-}
-
-/// Writes a name of the kernel in brackets.
-fn put_bracketed<E: Write>(
-    errors: &mut Counted<E>,
-    so_far: Result<(), WriteFault>,
-    name: &[u8],
-) -> Result<(), WriteFault>
     ensures { WritesAfter E.contents errors.old so_far errors.new result
-        (codes " (bpf_" ++ name.now ++ codes ")") }
+        (helper_text helper (helper_name helper)) }
 {
-    let begun = put(errors, so_far, b" (bpf_");
-    let named = put(errors, begun, name);
-    put(errors, named, b")")
-}
-
-/// Writes how many relocations of fields there are, and the option that leaves them.
-fn put_fields<E: Write>(
-    errors: &mut Counted<E>,
-    so_far: Result<(), WriteFault>,
-    count: u32,
-) -> Result<(), WriteFault>
-    ensures { WritesAfter E.contents errors.old so_far errors.new result (fields_text count) }
-{
-    let begun = put(errors, so_far, b", ");
-    let counted = put_decimal(errors, begun, u64::from(count));
-    put(
-        errors,
-        counted,
-        b" in all: --as-compiled leaves them undone",
-    )
-}
-
-/// Writes the line of a test file's fault.
-fn put_tests<E: Write>(
-    errors: &mut Counted<E>,
-    so_far: Result<(), WriteFault>,
-    fault: &SectionFault,
-    line: usize,
-) -> Result<(), WriteFault>
-    ensures { WritesAfter E.contents errors.old so_far errors.new result
-        (refusal_line (JobRefusal.Tests fault.now line)) }
-{
-    put_numbered(
-        errors,
-        so_far,
-        b"refused T",
-        fault.number(),
-        b" at line ",
-        Some(line),
-        fault.text(),
-    )
-}
-
-/// Writes the line of a name that no test has.
-fn put_no_test<E: Write>(
-    errors: &mut Counted<E>,
-    so_far: Result<(), WriteFault>,
-    name: &str,
-) -> Result<(), WriteFault>
-    ensures { WritesAfter E.contents errors.old so_far errors.new result
-        (no_test_line name.now) }
-{
-    let begun = put(errors, so_far, b"refused T7: no test of this name");
-    let named = put_named(errors, begun, name.as_bytes());
-    put(errors, named, b"\n")
-}
-
-/// The slot of a program's fault, where it has one.
-fn slot_of(fault: &LoadFault) -> Option<usize>
-    ensures { result ≡ slot_of fault.now }
-{
-    match fault {
-        LoadFault::At { slot, .. } => Some(*slot),
-        LoadFault::Empty => None,
-        LoadFault::TooLong => None,
-        LoadFault::Ragged => None,
-        LoadFault::Memory => None,
+    let number = u64::from(helper);
+    let name = helper_name(helper);
+    match name {
+        [] => {
+            let pieces = [
+                Piece::Text(b" "),
+                Piece::Decimal(number),
+                Piece::Text(b": --stub "),
+                Piece::Decimal(number),
+                Piece::Text(b"=VALUE answers it"),
+            ];
+            put_all(errors, so_far, &pieces)
+        }
+        _ => {
+            let pieces = [
+                Piece::Text(b" "),
+                Piece::Decimal(number),
+                Piece::Text(b" (bpf_"),
+                Piece::Text(name),
+                Piece::Text(b"): --stub "),
+                Piece::Decimal(number),
+                Piece::Text(b"=VALUE answers it"),
+            ];
+            put_all(errors, so_far, &pieces)
+        }
     }
 }
 
@@ -367,74 +257,5 @@ fn slot_of_words(fault: &LinkFault) -> Option<usize>
         LinkFault::Helper { slot, .. } => Some(*slot),
         LinkFault::Fields { slot, .. } => Some(*slot),
         _ => None,
-    }
-}
-
-/// Writes the line of a refusal: how it begins, its number, where it is in this unit, and its text.
-fn put_numbered<E: Write>(
-    errors: &mut Counted<E>,
-    so_far: Result<(), WriteFault>,
-    family: &[u8],
-    number: u8,
-    unit: &[u8],
-    at: Option<usize>,
-    text: &str,
-) -> Result<(), WriteFault>
-    ensures { WritesAfter E.contents errors.old so_far errors.new result
-        (refusal_text family.now number (placed unit.now at) text.now) }
-{
-    let said = put_begun(errors, so_far, family, number, unit, at, text);
-    put(errors, said, b"\n")
-}
-
-/// Writes the line of a refusal up to its text.
-fn put_begun<E: Write>(
-    errors: &mut Counted<E>,
-    so_far: Result<(), WriteFault>,
-    family: &[u8],
-    number: u8,
-    unit: &[u8],
-    at: Option<usize>,
-    text: &str,
-) -> Result<(), WriteFault>
-    ensures { WritesAfter E.contents errors.old so_far errors.new result
-        (family.now ++ decimal number ++ placed unit.now at ++ codes ": " ++ text.now) }
-{
-    let begun = put(errors, so_far, family);
-    let numbered = put_decimal(errors, begun, u64::from(number));
-    let placed = put_place(errors, numbered, unit, at);
-    let parted = put(errors, placed, b": ");
-    put(errors, parted, text.as_bytes())
-}
-
-/// Writes a refusal that has no place.
-fn put_unplaced<E: Write>(
-    errors: &mut Counted<E>,
-    so_far: Result<(), WriteFault>,
-    family: &[u8],
-    number: u8,
-    text: &str,
-) -> Result<(), WriteFault>
-    ensures { WritesAfter E.contents errors.old so_far errors.new result
-        (refusal_text family.now number [] text.now) }
-{
-    put_numbered(errors, so_far, family, number, b"", None, text)
-}
-
-/// Writes a place, where there is one.
-fn put_place<E: Write>(
-    errors: &mut Counted<E>,
-    so_far: Result<(), WriteFault>,
-    unit: &[u8],
-    at: Option<usize>,
-) -> Result<(), WriteFault>
-    ensures { WritesAfter E.contents errors.old so_far errors.new result (placed unit.now at) }
-{
-    match at {
-        Some(at) => {
-            let begun = put(errors, so_far, unit);
-            put_decimal(errors, begun, at as u64)
-        }
-        None => put(errors, so_far, b""),
     }
 }

@@ -100,21 +100,21 @@ fn stubs_of(job: &Job<'_>) -> Result<ArrayVec<Stub, MOST_STUBS>, LinkFault>
 }
 
 /// How many calls are answered, if that is to be told.
-fn answered_if(job: &Job<'_>, count: usize) -> Option<usize>
+fn answered_if(job: &Job<'_>, count: usize) -> Option<u64>
     ensures { result ≡ answered_if job.now.options.stubs count }
 {
     match job.options.stubs {
-        Some(_) => Some(count),
+        Some(_) => Some(count as u64),
         None => None,
     }
 }
 
 /// How many fields are left as compiled, if that is to be told.
-fn fields_if(job: &Job<'_>, count: u32) -> Option<u32>
+fn fields_if(job: &Job<'_>, count: u32) -> Option<u64>
     ensures { result ≡ fields_if job.now.options.as_compiled count }
 {
     if job.options.as_compiled {
-        Some(count)
+        Some(u64::from(count))
     } else {
         None
     }

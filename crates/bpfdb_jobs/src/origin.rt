@@ -1,9 +1,9 @@
 //! What a job of `origin` does.
-ghost use Rattle.std.specs.Prelude.{◌≡◌, ◌≤◌, [], IfErr, IfOk, List, None, Option, Some};
+ghost use Rattle.std.specs.Prelude.{◌≡◌, ◌≤◌, IfErr, IfOk, List, None, Option, Some};
 ghost use Rattle.bpf_journal.specs.Histories.{Record, StandsFor};
 ghost use Rattle.bpf_origin.specs.Asked as spec;
 ghost use Rattle.bpf_origin.specs.declared.what.What.{What as Asked};
-ghost use Rattle.counted_io.specs.Writing.{Writes, WritesAfter};
+ghost use Rattle.counted_io.specs.Writing.{Writes};
 ghost use Rattle.bpfdb_jobs.specs.Endings.{EndsPrinted};
 ghost use Rattle.bpfdb_jobs.specs.Openings.{HasArrived};
 ghost use Rattle.bpfdb_jobs.specs.Origins.{Asks, RefusesWhat, found_text, status_of_extent};
@@ -15,7 +15,7 @@ use crate::fault::JobFault;
 use crate::job::Job;
 use crate::opening::{session_of, timeline_of, wanted_of};
 use crate::refusal::JobRefusal;
-use crate::report::give_up;
+use crate::report::{flush_after, give_up};
 use crate::script::obey_script;
 use bpf_journal::{Keeper, RingKeeper, Timeline};
 use bpf_machine::Cpu;
@@ -192,23 +192,6 @@ fn put_found<K: Keeper, W: Write>(
         written: flush_after(writer, told.written),
         extent: told.extent,
         moves: told.moves,
-    }
-}
-
-/// Flushes after what was written so far, unless that failed.
-fn flush_after<W: Write>(
-    writer: &mut Counted<W>,
-    so_far: Result<(), WriteFault>,
-) -> Result<(), WriteFault>
-    ensures { WritesAfter W.contents writer.old so_far writer.new result [] }
-{
-    match so_far {
-        Ok(()) => {}
-        Err(fault) => return Err(fault),
-    }
-    match writer.flush() {
-        Ok(()) => Ok(()),
-        Err(_) => Err(WriteFault),
     }
 }
 

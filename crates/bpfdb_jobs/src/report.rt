@@ -1,6 +1,6 @@
 //! What goes to standard output at once, and what goes to standard error.
-ghost use Rattle.std.specs.Prelude.{◌≡◌, ◌≤◌, ◌++◌, OnErr, OnOk, codes};
-ghost use Rattle.counted_io.specs.Writing.{Writes};
+ghost use Rattle.std.specs.Prelude.{◌≡◌, ◌≤◌, ◌++◌, OnErr, OnOk, [], codes};
+ghost use Rattle.counted_io.specs.Writing.{Writes, WritesAfter};
 ghost use Rattle.bpfdb_replies.specs.Texts.{place};
 ghost use Rattle.bpfdb_jobs.specs.Endings.{Told};
 ghost use Rattle.bpfdb_jobs.specs.Faults.{line_of};
@@ -8,7 +8,7 @@ ghost use Rattle.shown_text.specs.Shown.{shown_lines};
 ghost use Rattle.bpfdb_jobs.specs.declared.fault.JobFault.TheVariants.{Output};
 
 use crate::fault::JobFault;
-use crate::line::write_line;
+use crate::line::put_line;
 use bpf_machine::Cpu;
 use bpfdb_replies::write_place;
 use counted_io::{Counted, WriteFault, put, write_text};
@@ -19,7 +19,18 @@ use std::io::Write;
 pub fn write_out<W: Write>(writer: &mut Counted<W>, text: &[u8]) -> Result<(), WriteFault>
     ensures { Writes W.contents writer.old writer.new result text.now }
 {
-    match write_text(writer, text) {
+    let written = write_text(writer, text);
+    flush_after(writer, written)
+}
+
+/// Flushes after what was written so far, unless that failed.
+pub fn flush_after<W: Write>(
+    writer: &mut Counted<W>,
+    so_far: Result<(), WriteFault>,
+) -> Result<(), WriteFault>
+    ensures { WritesAfter W.contents writer.old so_far writer.new result [] }
+{
+    match so_far {
         Ok(()) => {}
         Err(fault) => return Err(fault),
     }
@@ -33,36 +44,17 @@ pub fn write_out<W: Write>(writer: &mut Counted<W>, text: &[u8]) -> Result<(), W
 pub fn tell<E: Write>(errors: &mut Counted<E>, fault: &JobFault<'_>) -> Result<(), WriteFault>
     ensures { Writes E.contents errors.old errors.new result (line_of fault.now) }
 {
-    match write_line(errors, fault) {
-        Ok(()) => {}
-        Err(fault) => return Err(fault),
-    }
-    match errors.flush() {
-        Ok(()) => Ok(()),
-        Err(_) => Err(WriteFault),
-    }
+    let written = put_line(errors, Ok(()), fault);
+    flush_after(errors, written)
 }
 
 /// Writes where a machine stands to standard error, as a line, and flushes.
 pub fn tell_place<E: Write>(errors: &mut Counted<E>, cpu: &Cpu) -> Result<(), WriteFault>
     ensures { Writes E.contents errors.old errors.new result (place cpu.now ++ codes "\n") }
 {
-    match put_place_line(errors, cpu) {
-        Ok(()) => {}
-        Err(fault) => return Err(fault),
-    }
-    match errors.flush() {
-        Ok(()) => Ok(()),
-        Err(_) => Err(WriteFault),
-    }
-}
-
-/// Writes where a machine stands, as a line.
-fn put_place_line<W: Write>(writer: &mut Counted<W>, cpu: &Cpu) -> Result<(), WriteFault>
-    ensures { Writes W.contents writer.old writer.new result (place cpu.now ++ codes "\n") }
-{
-    let placed = write_place(cpu, writer);
-    put(writer, placed, b"\n")
+    let placed = write_place(cpu, errors);
+    let ended = put(errors, placed, b"\n");
+    flush_after(errors, ended)
 }
 
 /// Writes the line of a fault that ends a job to standard error, and flushes. Answers the exit
@@ -94,21 +86,8 @@ pub fn tell_usage<E: Write>(errors: &mut Counted<E>, text: &str) -> u8
 fn tell_text<E: Write>(errors: &mut Counted<E>, text: &str) -> Result<(), WriteFault>
     ensures { Writes E.contents errors.old errors.new result (shown_lines text.now) }
 {
-    match write_shown(errors, text) {
-        Ok(()) => {}
-        Err(fault) => return Err(fault),
-    }
-    match errors.flush() {
-        Ok(()) => Ok(()),
-        Err(_) => Err(WriteFault),
-    }
-}
-
-/// Writes a text of several lines.
-fn write_shown<E: Write>(errors: &mut Counted<E>, text: &str) -> Result<(), WriteFault>
-    ensures { Writes E.contents errors.old errors.new result (shown_lines text.now) }
-{
-    put_shown_lines(errors, Ok(()), text.as_bytes())
+    let written = put_shown_lines(errors, Ok(()), text.as_bytes());
+    flush_after(errors, written)
 }
 
 /// The exit status after an output that was written, or not.

@@ -1,6 +1,5 @@
 //! Scripts that are obeyed for where they lead: their replies are written nowhere.
-ghost use Rattle.std.specs.Prelude.{◌≡◌, ◌==◌, ◌≤◌, length, position};
-ghost use Rattle.std.specs.List.{after_first, before_first, position_or_len};
+ghost use Rattle.std.specs.Prelude.{◌≡◌};
 ghost use Rattle.bpf_journal.specs.Tracks.{Track, ring_room};
 ghost use Rattle.bpf_session.specs.Output.{is_quit};
 ghost use Rattle.bpf_session.specs.Sessions.{bounds_of};
@@ -13,6 +12,7 @@ use bpf_remote::moves_after;
 use bpf_session::Session;
 use bpf_session::laws::no_answer_is_of_memory;
 use bpfdb_commands::{Command, Refusal, parse_command};
+use counted_io::sides;
 
 /// Obeys the lines of a script one after another, up to its end, the first `quit` or the first line
 /// that is refused. Answers how many moves then lie before the session's state, where none did
@@ -24,7 +24,7 @@ pub fn obey_script(session: &mut Session<RingKeeper>, script: &[u8]) -> Result<u
     let mut rest = script;
     let mut moves = 0;
     while !rest.is_empty() {
-        let (line, others) = first_line(rest);
+        let (line, others) = sides(rest, b'\n');
         match obey_line(session, line, moves) {
             Ok(Some(after)) => moves = after,
             Ok(None) => return Ok(moves),
@@ -33,35 +33,6 @@ pub fn obey_script(session: &mut Session<RingKeeper>, script: &[u8]) -> Result<u
         rest = others;
     }
     Ok(moves)
-}
-
-/// The first line of a text, without its line feed, and what follows that.
-pub fn first_line(text: &[u8]) -> (&[u8], &[u8])
-    ensures line { result.0.now ≡ before_first (λ b. b == 10) text.now }
-    ensures others { result.1.now ≡ after_first (λ b. b == 10) text.now }
-{
-    let end = line_end(text);
-    if end < text.len() {
-        (&text[..end], &text[end + 1..])
-    } else {
-        (text, &[])
-    }
-}
-
-/// Where the first line feed stands, or the length.
-#[tactic(auto, using(counted_io::proofs::Places::unwrap_or_position))]
-fn line_end(text: &[u8]) -> usize
-    ensures value { result ≡ position_or_len (λ b. b == 10) text.now }
-    ensures within { result ≤ length text.now }
-{
-    line_feed(text).unwrap_or(text.len())
-}
-
-/// Where the first line feed stands.
-fn line_feed(text: &[u8]) -> Option<usize>
-    ensures { result ≡ position (λ b. b == 10) text.now }
-{
-    text.iter().position(|byte| *byte == b'\n')
 }
 
 /// Obeys a line behind so many moves. Answers how many there are then, None where it ends the

@@ -3,5 +3,5 @@ use Rattle.bpf_suite.proofs.outcome.put_stop.Goals as goal
 
 pub returns : goal.returns
 returns g c = λ first front known.
-    let begun = rw c.status.ensures at (c.put_limit_word-begun.ensures first front known) in
+    let begun = rw (c.limit_word.ensures, c.status.ensures) at (c.put-begun.ensures first front known) in
     simp append_assoc at (c.put_place.ensures first _ begun)

@@ -1,16 +1,26 @@
-use Rattle.std.proofs.Common.{append_assoc}
-use Rattle.bpf_suite.specs.Reports.{diagnosis}
+use Rattle.std.proofs.Common.{◌≡◌, ◌++◌, ℕ, List, append_assoc, codes, decimal, refl}
+use Rattle.counted_io.proofs.Appending.{Writes-text}
+use Rattle.bpf_suite.specs.Outcomes.{outcome_text}
+use Rattle.bpf_suite.specs.Reports.{cells_text, diagnosis, show_line, wanted}
+use Rattle.bpf_suite.specs.Tests.{first_line, title}
+use Rattle.bpf_suite.specs.Verdicts.{wrong_cells}
 use Rattle.bpf_suite.proofs.report.put_diagnosis.Goals as goal
+
+-- the parts of the lines, one behind the other
+in_line : (front begun came word want cells show : List ℕ)
+    → (((((front ++ begun) ++ came) ++ word) ++ want) ++ cells) ++ show ≡ front ++ (begun ++ came ++ word ++ want ++ cells ++ show)
+in_line front begun came word want cells show = simp append_assoc refl
 
 pub returns : goal.returns
 unfolding diagnosis
 returns g c = λ first front known.
-    let begun = c.put-begun.ensures first front known in
-    let placed = rw c.first_line.ensures at (c.put_decimal-placed.ensures first _ begun) in
-    let parted = c.put-parted.ensures first _ placed in
-    let told = c.put_outcome-told.ensures first _ parted in
+    let test = c.args.test.now in
+    let outcome = c.args.outcome.now in
+    let begun = rw c.first_line-line.ensures at (c.put_all-begun.ensures first front known) in
+    let told = c.put_outcome-told.ensures first _ begun in
     let followed = c.put-followed.ensures first _ told in
     let said = c.put_wanted-said.ensures first _ followed in
-    let ended = c.put-ended.ensures first _ said in
-    let celled = c.put_cells-celled.ensures _ c.requires first _ ended in
-    simp append_assoc (simp append_assoc at (rw c.title.ensures at (c.put_show_line.ensures first _ celled)))
+    let celled = c.put_cells-celled.ensures _ c.requires first _ said in
+    Writes-text g.W.Write.contents _ _ _ _ _ (rw c.title.ensures at (c.put_show_line.ensures first _ celled))
+    (in_line front (codes "# the test in line " ++ decimal (first_line test) ++ codes "\n# came: ") (outcome_text outcome) (codes "\n# wanted: ") (wanted test)
+    (cells_text (wrong_cells test outcome) outcome) (show_line c.args.file.now (title test)))

@@ -8,7 +8,7 @@ loop-shape-init g c = Telling-start _ _ _ _
 
 pub loop-shape-preserved : goal.loop-shape-preserved
 loop-shape-preserved g c =
-    Telling-step _ _ _ _ _ _ _ _ _ _ _ c.loop-shape.invariant c.put_next-told.ensures
+    Telling-step _ _ _ _ _ _ _ _ _ _ _ c.loop-shape.invariant (rw (c.from-size.ensures, c.from-entries.ensures) at c.put_all-told.ensures)
     (pieces-next (λ shape. codes "," ++ shape_text shape) c.args.shapes.now c.loop-shape.shape-index (record { value_size = 0; entries = 0 }) (omega arith))
 
 pub returns : goal.returns

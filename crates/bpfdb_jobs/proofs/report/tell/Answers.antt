@@ -1,7 +1,8 @@
-use Rattle.bpf_session.proofs.Flushing.{Writes-unflushed}
+use Rattle.std.proofs.lemmas.List.{append-nil}
+use Rattle.counted_io.proofs.Appending.{Writes-none, Writes-text}
 use Rattle.bpfdb_jobs.proofs.report.tell.Goals as goal
 
-pub returns-in-Err-flush : goal.returns-in-Err-flush
-returns-in-Err-flush g c =
-    let whole = rw c.in-Ok.is at c.write_line.ensures in
-    Writes-unflushed g.E.Write.contents c.args.errors.now _ _ _ _ _ whole c.in-Err-flush.ensures.bytes c.in-Err-flush.ensures.fault
+pub returns : goal.returns
+returns g c =
+    let written = c.put_line-written.ensures _ _ (Writes-none g.E.Write.contents c.args.errors.now _) in
+    Writes-text g.E.Write.contents _ _ _ _ _ (c.flush_after.ensures _ _ written) (append-nil _)

@@ -2,7 +2,7 @@
 use Rattle.std.proofs.Common.{ℕ, ◌≡◌, ◌==◌, ◌<◌, ◌∙◌, true, false, List, ◌∷◌, length, ap, arith, refl, sym}
 use Rattle.std.specs.List.{after_first, before_first}
 use Rattle.std.proofs.lemmas.Grind.{common_steps}
-use Rattle.bpf_text.proofs.Cutting.{lines-cut}
+use Rattle.counted_io.proofs.Cutting.{lines-cut}
 use Rattle.counted_io.specs.Lines.{lines}
 use Rattle.bpfdb_jobs.specs.Hints.{is_number, line_at, number_of}
 use Rattle.bpfdb_jobs.proofs.row.line_at.Goals as goal
@@ -20,25 +20,25 @@ pub returns-then-is_number : goal.returns-then-is_number
 returns-then-is_number c =
     let l = c.loop-rest in
     let slot = c.args.slot in
-    let row = c.first_line.result.0.now in
-    let others = c.first_line.result.1.now in
+    let row = c.sides.result.0.now in
+    let others = c.sides.result.1.now in
     let more : 0 < length l.rest.now = grind (arith, common_steps) in
     let cut : lines l.rest.now ≡ row ∷ lines others =
-    rw (c.first_line.ensures.line, c.first_line.ensures.others) (lines-cut l.rest.now more) in
+    rw (c.sides.ensures.before, c.sides.ensures.after) (lines-cut l.rest.now more) in
     let is : is_number slot (before_first (λ b. b == 32) row) ≡ true =
-    ap (is_number slot) (sym c.first_word.ensures.word) ∙ sym c.is_number.ensures ∙ c.if-is_number.true in
-    let word = c.first_word-then-is_number.ensures.word ∙ ap (before_first (λ b. b == 32)) c.first_word.ensures.more in
+    ap (is_number slot) (sym c.sides-in-loop-rest.ensures.before) ∙ sym c.is_number.ensures ∙ c.if-is_number.true in
+    let word = c.sides-then-is_number.ensures.before ∙ ap (before_first (λ b. b == 32)) c.sides-in-loop-rest.ensures.after in
     c.number_of.ensures ∙ ap number_of word ∙ sym (found slot row (lines others) is) ∙ ap (line_at slot) (sym cut) ∙ l.invariant
 
 pub loop-rest-preserved : goal.loop-rest-preserved
 loop-rest-preserved c =
     let l = c.loop-rest in
     let slot = c.args.slot in
-    let row = c.first_line.result.0.now in
-    let others = c.first_line.result.1.now in
+    let row = c.sides.result.0.now in
+    let others = c.sides.result.1.now in
     let more : 0 < length l.rest.now = grind (arith, common_steps) in
     let cut : lines l.rest.now ≡ row ∷ lines others =
-    rw (c.first_line.ensures.line, c.first_line.ensures.others) (lines-cut l.rest.now more) in
+    rw (c.sides.ensures.before, c.sides.ensures.after) (lines-cut l.rest.now more) in
     let isnt : is_number slot (before_first (λ b. b == 32) row) ≡ false =
-    ap (is_number slot) (sym c.first_word.ensures.word) ∙ sym c.is_number.ensures ∙ c.if-is_number.false in
+    ap (is_number slot) (sym c.sides-in-loop-rest.ensures.before) ∙ sym c.is_number.ensures ∙ c.if-is_number.false in
     sym (passed slot row (lines others) isnt) ∙ ap (line_at slot) (sym cut) ∙ l.invariant

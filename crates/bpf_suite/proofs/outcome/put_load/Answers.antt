@@ -1,5 +1,0 @@
-use Rattle.bpf_suite.proofs.outcome.put_load.Goals as goal
-
-pub returns : goal.returns
-returns g c = λ first front known.
-    rw (c.number.ensures, c.slot_of.ensures, c.text.ensures) at (c.put_numbered.ensures first front known)

@@ -1,5 +1,0 @@
-use Rattle.counted_io.proofs.Appending.{Writes-none}
-use Rattle.bpf_suite.proofs.verdict.write_expected.Goals as goal
-
-pub returns : goal.returns
-returns g c = c.put_expected.ensures _ _ (Writes-none g.W.Write.contents c.args.writer.now _)

@@ -1,5 +1,0 @@
-use Rattle.bpfdb_jobs.proofs.line.put_listing.Goals as goal
-
-pub returns : goal.returns
-returns g c = λ first front known.
-    rw (c.number.ensures, c.line.ensures, c.text.ensures) at (c.put_numbered.ensures first front known)
