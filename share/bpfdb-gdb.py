@@ -322,16 +322,18 @@ class Origin(Asker):
         super().__init__("bpf-origin", gdb.COMMAND_DATA, gdb.COMPLETE_EXPRESSION)
 
     def obey(self, argument):
+        for line in self.lines(argument.strip()):
+            print(line + self.source_of(line))
+
+    def lines(self, text):
+        """The lines of the answer."""
         if not is_connected():
             raise gdb.GdbError(NOT_CONNECTED)
-        line = " ".join(["monitor origin", *self.what(argument.strip())])
         Origin.asks = True
         try:
-            answer = gdb.execute(line, to_string=True)
+            return gdb.execute(" ".join(["monitor origin", *self.what(text)]), to_string=True).splitlines()
         finally:
             Origin.asks = False
-        for line in answer.splitlines():
-            print(line + self.source_of(line))
 
     def source_of(self, line):
         """The line of the source of a move, behind its own."""
@@ -533,7 +535,7 @@ def taken(words, option):
 
 def found(name):
     """Where a program stands."""
-    place = shutil.which(name, path=PLACES)
+    place = (os.environ.get("BPFDB") if name == "bpfdb" else None) or shutil.which(name, path=PLACES)
     if place is None:
         raise gdb.GdbError("there is no program %s" % name)
     return place
@@ -603,7 +605,7 @@ Load()
 Undo("bpf-undo")
 Redo("bpf-redo")
 LastWrite()
-Origin()
+origin = Origin()
 Registers()
 Map()
 Break("hbreak", "break")

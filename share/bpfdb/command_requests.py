@@ -1,0 +1,136 @@
+"""What an editor asks by expressions and by commands of bpfdb, and bpfdb's own requests."""
+
+import re
+
+from bpfdb.machine import ADDRESS, SLOT
+from bpfdb.protocol import Failed
+from bpfdb.running import Stop
+from bpfdb.session import MOVE, Hint
+from bpfdb.texts import number
+
+
+# The commands of bpfdb, for completion behind a colon.
+COMMANDS = ('stepi', 'nexti', 'continue', 'finish', 'undo', 'redo', 'origin', 'reverse-stepi', 'reverse-nexti', 'reverse-continue', 'reverse-finish',
+            'set reg', 'set mem', 'set cell', 'set pc', 'break', 'delete', 'watch', 'unwatch', 'info regs', 'info frames', 'info breaks',
+            'info history', 'info trace', 'x', 'disas', 'last-write')
+# Those that only show something, and may be asked for again and again.
+VIEWS = ('x', 'info', 'last-write', 'disas')
+# A move in an answer of `origin`, with its slot.
+ORIGIN_SLOT = re.compile(r'-\d+ .*?; (\d+): ')
+
+
+class CommandRequests:
+    """Those of an adapter."""
+
+    def do_evaluate(self, arguments):
+        text, context = arguments.text('expression').strip(), arguments.text('context', 'repl')
+        if text.startswith(':'):
+            if context in ('hover', 'watch') and (text[1:].split() or [''])[0] not in VIEWS:
+                raise Failed('only commands that show something are asked for again and again')
+            return {'result': self.command(text[1:].strip()), 'variablesReference': 0}
+        found = self.names.evaluate(text, self.level(arguments))
+        view = found.pop('view', None)
+        return {'result': found.pop('value'), 'variablesReference': self.hold(view) if view else 0, **found}
+
+    def command(self, line):
+        """Obeys a line of bpfdb's script. What it replies."""
+        words = line.split()
+        if not words or '\n' in line or '\0' in line:
+            raise Failed('a command of bpfdb is wanted behind the colon')
+        if words[0] == 'quit':
+            raise Failed('the editor ends the session')
+        if words[0] in ('undo', 'redo', 'origin'):
+            return getattr(self, words[0])(words[1:])
+        self.machine.history.begin()
+        reply = self.machine.ask(line)
+        if reply and reply[0].startswith('refused '):
+            raise Failed(reply[0])
+        move = MOVE.match(reply[0]) if reply else None
+        if move or words[0] == 'set':
+            self.moved_by_hand(move)
+        return '\n'.join(reply)
+
+    def moved_by_hand(self, move):
+        """A command has moved: the editor is told behind its answer."""
+        self.changed()
+        self.views = [None]
+        end = move and move[3] == 'end'
+        reason = {'break': 'breakpoint', 'watch': 'data breakpoint'}.get(move[3], 'step') if move else 'step'
+        self.later = [lambda: self.stopped(self.runner.end() if end else Stop(reason))]
+
+    def count_of(self, words):
+        count = number(words[0]) if words else 1
+        if count is None or count < 1 or len(words) > 1:
+            raise Failed('refused Q2: wrong argument')
+        return count
+
+    def undo(self, words):
+        """Takes back the last commands of the editor, each as a whole, edits too."""
+        commands = self.machine.history.undo(self.count_of(words))
+        if not commands:
+            raise Failed('refused Q5: fewer kept commands')
+        reply = self.machine.demand(f'undo {commands}')[0]
+        self.moved_by_hand(MOVE.match(reply))
+        return reply
+
+    def redo(self, words):
+        """Makes the next commands again that were taken back."""
+        moves = self.machine.history.redo(self.count_of(words))
+        reply = self.machine.demand(f'redo {max(moves, 1)}')[0]
+        self.moved_by_hand(MOVE.match(reply))
+        return reply
+
+    def origin(self, words):
+        """Where a value came from, a line a move, with the line of the source behind it."""
+        lines = self.names.origin(words)
+        return '\n'.join(line + self.link(line) for line in lines)
+
+    def link(self, line):
+        """The place in the source of a move of such an answer."""
+        found = ORIGIN_SLOT.match(line)
+        slot = int(found[1]) if found else -1
+        source = self.machine.loaded.source
+        return f' ({source.paths[slot]}:{source.lines[slot][1]})' if slot in source.lines else ''
+
+    def do_bpfdb_origin(self, arguments):
+        lines = self.names.origin(arguments.text('what', '').split())
+        moves = []
+        for line in lines:
+            found = ORIGIN_SLOT.match(line)
+            source, at = self.source_at(int(found[1])) if found else (None, 0)
+            moves.append({'text': line, **({'source': source, 'line': at - 1 + self.lines_from_1,
+                                            'instructionReference': f'{SLOT * int(found[1]):#x}'} if source else {})})
+        return {'lines': moves}
+
+    def do_bpfdb_undo(self, arguments):
+        return {'reply': self.undo([str(arguments.number('count', 1))])}
+
+    def do_bpfdb_redo(self, arguments):
+        return {'reply': self.redo([str(arguments.number('count', 1))])}
+
+    def do_exceptionInfo(self, arguments):
+        if not self.machine.is_faulty():
+            raise Failed('the program stands at no fault')
+        place = self.machine.place()
+        address = ADDRESS.match(place)
+        lines = [place] + ([self.machine.where(int(address[1], 16))] if address else [])
+        if address:
+            try:
+                first = next((line for line in self.names.origin([]) if line.startswith(('-', 'left '))), '')
+                lines += [first + self.link(first)] if first else []
+            except (Hint, Failed) as fault:
+                lines.append(str(fault))
+        return {'exceptionId': ' '.join(place.split()[:2]), 'description': '\n'.join(lines), 'breakMode': 'always', 'details': {'message': place}}
+
+    def do_completions(self, arguments):
+        text, column = arguments.text('text'), arguments.number('column') - self.columns_from_1
+        before = text[:max(column, 0)]
+        if before.lstrip().startswith(':'):
+            begun = before.lstrip()[1:]
+            known = [name for name in COMMANDS if name.startswith(begun)]
+            begin = len(before) - len(begun)
+        else:
+            begun = re.search(r'\$?\w*$', before)[0]
+            known = sorted({name for name in self.names.known() if name.startswith(begun) and begun})
+            begin = len(before) - len(begun)
+        return {'targets': [{'label': name, 'start': begin, 'length': len(begun)} for name in known[:200]]}

@@ -1,0 +1,100 @@
+"""What a program was written as: the lines and names of its slots, by `bpfdb lines` or by an object's debug information."""
+
+import contextlib
+import os
+import re
+import struct
+import sys
+import tempfile
+
+from bpfdb.texts import beside, line_in, plain, ran, start_of, text_lines, warn
+
+NAME = re.compile(r'[A-Za-z_][A-Za-z_0-9]*')
+# What addr2line says of an address: that, a file and a line.
+ADDRESS_LINE = re.compile(r'^0x([0-9a-f]+): (.+):([1-9][0-9]*)\b', re.MULTILINE)
+
+
+class Source:
+    """What a program was written as: for slots their file, line and text, and the path of the file, and the slots of labels or functions."""
+
+    # whether each line is one instruction
+    of_instructions = False
+
+    def __init__(self):
+        self.lines, self.labels, self.paths = {}, {}, {}
+
+    def name(self, slot):
+        """A slot by the nearest label at or before it: `loop+1`; empty if there is none."""
+        at, label = max(((at, label) for label, at in self.labels.items() if at <= slot), default=(0, ''))
+        return f'{label}+{slot - at}' if label and slot > at else label
+
+    def line_of(self, slot):
+        """A slot's line, with its place."""
+        file, at, text = self.lines[slot]
+        label = self.name(slot)
+        return f'{file}:{at}' + (f' <{label}>' if label else '') + (f': {text}' if text else '')
+
+    def has_setup(self):
+        """Whether slot 0 isn't the entry's, but jumps to it or to a setup of data, whose end jumps there. (docs/COMMANDS.md, E)"""
+        return not self.of_instructions and 0 not in self.lines and 1 in self.lines
+
+    def slot_of(self, file, line):
+        """The first slot of a line, or of the next one that has any; None if there is none."""
+        found = [(at, slot) for slot, (name, at, _) in self.lines.items() if at >= line and name == os.path.basename(file)]
+        return min(found)[1] if found else None
+
+
+class Listing(Source):
+    """A listing, by `bpfdb lines`."""
+
+    of_instructions = True
+
+    def __init__(self, path, rows):
+        super().__init__()
+        name, whole, texts = os.path.basename(path), os.path.abspath(path), text_lines(path)
+        for row in rows.splitlines():
+            slot, line, *labels = row.split(' ')
+            self.labels.update(dict.fromkeys(labels, int(slot)))
+            code = line_in(texts, int(line)).split(';')[0]
+            self.lines[int(slot)] = (name, int(line), re.sub(rf'^{NAME.pattern}:', '', code).strip())
+            self.paths[int(slot)] = whole
+
+
+class Object(Source):
+    """An object with its functions, and the lines of C if it has them and addr2line is installed: both by bpfdb-symbols."""
+
+    def __init__(self, path, link, size):
+        super().__init__()
+        tool = beside('bpfdb-symbols')
+        with tempfile.TemporaryDirectory() as folder:
+            symbols = os.path.join(folder, 'symbols')
+            _, said = ran([tool, *link, '--', path, symbols])
+            file = start_of(symbols, sys.maxsize)
+            if file is None:
+                return warn(said, '')
+            self.labels = {name: at // 8 for name, at in functions(file) if at < size}
+            found, _ = ran(['addr2line', '-a', '-p', '-e', symbols, *(hex(at) for at in range(0, size, 8))])
+        places = {}
+        for address, file, line in ADDRESS_LINE.findall(found):
+            places.setdefault(file, []).append((int(address, 16) // 8, int(line)))
+        for file, slots in places.items():
+            name = os.path.basename(file)
+            near = os.path.join(os.path.dirname(os.path.abspath(path)), name)
+            texts = text_lines(file) or text_lines(near)
+            self.lines.update({slot: (name, line, line_in(texts, line)) for slot, line in slots})
+            self.paths.update(dict.fromkeys((slot for slot, _ in slots), near if not os.path.isfile(file) and os.path.isfile(near) else file))
+
+
+def functions(file):
+    """The functions of an ELF file of 64 bits, each with its address, as far as it isn't damaged."""
+    with contextlib.suppress(struct.error, IndexError):
+        start, = struct.unpack_from('<Q', file, 40)
+        count, = struct.unpack_from('<H', file, 60)
+        sections = [struct.unpack_from('<IIQQQQIIQQ', file, start + at * 64) for at in range(count)]
+        for _, kind, _, _, place, length, link, *_ in sections:
+            for at in range(place, place + length, 24) if kind == 2 else ():
+                name, info, _, section, value, _ = struct.unpack_from('<IBBHQQ', file, at)
+                begin = sections[link][4] + name
+                text = file[begin:begin + 255].split(b'\0')[0]
+                if info & 15 == 2 and section and text:
+                    yield plain(text.decode(errors='surrogateescape')), value

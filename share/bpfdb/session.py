@@ -1,0 +1,140 @@
+"""How bpfdb is spoken to: its command line, its lines and its replies."""
+
+import contextlib
+import os
+import re
+import subprocess
+import tempfile
+
+# Commands of bpfdb that change nothing.
+SHOWS = ('info', 'x', 'disas', 'last-write')
+# The options with a value, those for `link`, and those of these that bpfdb-symbols has.
+WITH_VALUE = ('-m', '--mem', '--maps', '--journal', '--steps', '--section', '--entry', '--stub')
+FOR_LINK = ('--section', '--entry', '--stub', '--as-compiled')
+FOR_SYMBOLS = ('--section', '--entry')
+# The mnemonics of instructions that take two slots.
+WIDE = ('lddw', 'ldmap', 'ldmapval')
+MOVE = re.compile(r'(\d+) (forward|back|redone); (\w+); (.*)')
+PLACE = re.compile(r'(?:at|exited at) (\d+)(?:: (.*))?$|fault .*\bat (\d+)$')
+
+
+class Ended(Exception):
+    """bpfdb has ended, or what it says can't be written."""
+
+
+class Hint(Exception):
+    """What a line needs and doesn't have, or what bpfdb-shell has in place of it."""
+
+
+class Refused(Exception):
+    """What a program said as it ended, and its status."""
+
+    def __init__(self, said, status):
+        super().__init__(said)
+        self.said, self.status = said, status
+
+
+class Program:
+    """bpfdb, to which lines are sent and whose replies are read. A reply ends where two lines behind it are refused."""
+
+    def __init__(self, line, kept):
+        # the files that it is given by their numbers, how many moves lie before the state, and the lines that led there
+        self.line, self.kept, self.moves, self.lines = line, kept, 0, []
+        # (a group of its own: an interrupt doesn't end it)
+        self.child = subprocess.Popen(line, stdin=subprocess.PIPE, stdout=subprocess.PIPE, stderr=subprocess.PIPE, text=True,
+                                      pass_fds=[file.fileno() for file in kept], encoding='utf-8', errors='surrogateescape', preexec_fn=os.setpgrp)
+
+    def ask(self, line):
+        """The lines of the reply."""
+        try:
+            self.child.stdin.write(line + '\n?\nstepi ?\n')
+            self.child.stdin.flush()
+        except OSError:
+            raise Ended from None
+        reply = []
+        for text in self.child.stdout:
+            reply.append(text.rstrip('\n'))
+            if reply[-2:] == ['refused Q1: unknown command', 'refused Q2: wrong argument']:
+                self.count(line, reply[:-2])
+                return reply[:-2]
+        raise Ended
+
+    def count(self, line, reply):
+        """Counts the moves of a line by its reply, and keeps the line if it was obeyed and does more than to show something."""
+        words, move = line.split(), MOVE.match(reply[0]) if reply else None
+        if words[:1] == ['set'] and reply == ['ok']:
+            self.moves += 1
+        elif move:
+            self.moves += -int(move[1]) if move[2] == 'back' else int(move[1])
+        if reply and not reply[0].startswith('refused ') and words[0] not in SHOWS:
+            self.lines.append(line)
+
+    def origin(self, what):
+        """What `bpfdb origin` says of the session of these lines, over a journal of the same size, and the words for it."""
+        subcommand, *words = self.line[1:] or ['']
+        if subcommand != 'debug' or '--' not in words:
+            raise Hint('the program that is built in has no file')
+        if self.moves == 0:
+            raise Hint('nothing has run yet: each value is that of the opening')
+        at = words.index('--')
+        journal = [] if has(words[:at], '--journal') else ['--journal', self.ask('info history')[0].split()[-2]]
+        asked = ['origin', *words[:at], *journal, '--script', '/dev/stdin', *words[at:], *what]
+        done = subprocess.run([self.line[0], *asked], input=''.join(line + '\n' for line in self.lines), capture_output=True, text=True,
+                              pass_fds=[file.fileno() for file in self.kept], encoding='utf-8', errors='surrogateescape')
+        return asked, done.stdout.splitlines()[1:] if done.stdout else done.stderr.splitlines()
+
+    def end(self):
+        """The exit status and what went to standard error, after the end of its input. (It has no prompt there: what comes is a line, or
+        the few of a wrong command line.)"""
+        with contextlib.suppress(OSError):
+            self.child.stdin.close()
+        self.child.stdout.close()
+        errors = self.child.stderr.read()
+        return self.child.wait(), errors
+
+    def kill(self):
+        """Ends it, whatever it does."""
+        self.child.kill()
+        for stream in (self.child.stdin, self.child.stdout, self.child.stderr):
+            with contextlib.suppress(OSError):
+                stream.close()
+        return self.child.wait()
+
+
+def split_words(given):
+    """The words for `debug` without FILE, FILE, and the words for `link`, a list an option."""
+    debug, file, link, words = [], None, [], list(given)
+    while words:
+        word = words.pop(0)
+        name = word.split('=')[0]
+        if word == '--' and words:
+            return debug + words[1:], words[0], link
+        option = [word, words.pop(0)] if word in WITH_VALUE and words else [word]
+        if name in FOR_LINK:
+            link.append(option)
+        elif file is None and (word == '-' or not word.startswith('-')):
+            file = word
+        else:
+            debug += option
+    return debug, file, link
+
+
+def has(words, option):
+    """Whether an option is among words."""
+    return any(word.split('=')[0] == option for word in words)
+
+
+def linked(program, file, link):
+    """A file with the words of an object, and what `link` said on standard error."""
+    content = tempfile.TemporaryFile()
+    done = subprocess.run([program, 'link', *link, '--', file], stdin=subprocess.DEVNULL, stdout=content, stderr=subprocess.PIPE, text=True,
+                          errors='surrogateescape')
+    if done.returncode:
+        raise Refused(done.stderr, done.returncode)
+    return content, done.stderr
+
+
+def maps_of(said):
+    """The option for the maps in what `link` said, and their names, as far as it has a line for them."""
+    words = said.split('\n')[0].split(' ')
+    return (words[:2], words[2:]) if words[0] == '--maps' else ([], [])
