@@ -8,7 +8,7 @@ BIN = $(PREFIX)/bin
 MAN = $(PREFIX)/share/man/man1
 SHARE = $(PREFIX)/share/bpfdb
 DOC = $(PREFIX)/share/doc/bpfdb
-PAGES = COMMANDS LISTING MACHINE JOURNAL GDB TESTS HEADLINE PROMISES PERFORMANCE
+PAGES = COMMANDS LISTING MACHINE JOURNAL GDB EDITORS PAGE TESTS HEADLINE PROMISES PERFORMANCE
 
 # A first look without proofs, in a minute or two: the session of tests/session/script, or with FILE=FILE (and JOB, OPTIONS) `bpfdb JOB OPTIONS FILE`.
 JOB = debug
@@ -44,12 +44,14 @@ install:
 
 # Takes them away again.
 uninstall:
-	@rm -f "$(DESTDIR)$(BIN)/bpfdb" "$(DESTDIR)$(BIN)/bpfdb-shell" "$(DESTDIR)$(BIN)/bpfdb-symbols" "$(DESTDIR)$(BIN)/bpfdb-show" "$(DESTDIR)$(BIN)/bpfdb-conformance"
+	@rm -f "$(DESTDIR)$(BIN)/bpfdb" "$(DESTDIR)$(BIN)/bpfdb-shell" "$(DESTDIR)$(BIN)/bpfdb-symbols" "$(DESTDIR)$(BIN)/bpfdb-show" "$(DESTDIR)$(BIN)/bpfdb-page" "$(DESTDIR)$(BIN)/bpfdb-conformance"
 	@rm -f "$(DESTDIR)$(MAN)/bpfdb.1"
-	@[ ! -d "$(DESTDIR)$(PREFIX)/share" ] || { cd "$(DESTDIR)$(PREFIX)/share" && rm -f bpfdb/bpfdb-gdb.py bpfdb/bpfdb.h bpfdb/bpfdb.vim bpfdb/bpfdb.tmLanguage.json bpfdb/package.json \
+	@[ ! -d "$(DESTDIR)$(PREFIX)/share" ] || { cd "$(DESTDIR)$(PREFIX)/share" && rm -f bpfdb/bpfdb-gdb.py bpfdb/bpfdb.h bpfdb/bpfdb.vim \
 		bash-completion/completions/bpfdb bash-completion/completions/bpfdb-shell zsh/site-functions/_bpfdb zsh/vendor-completions/_bpfdb \
 		fish/vendor_completions.d/bpfdb.fish fish/vendor_completions.d/bpfdb-shell.fish; }
-	@rm -rf "$(DESTDIR)$(DOC)"
+	@[ ! -d "$(DESTDIR)$(SHARE)" ] || { cd "$(DESTDIR)$(SHARE)" && rm -rf $(notdir $(wildcard share/bpfdb/*.py)) bpfdb-dap.el vscode; }
+	@rm -f "$(DESTDIR)$(BIN)/bpfdb-dap"
+	@rm -rf "$(DESTDIR)$(DOC)" "$(DESTDIR)$(SHARE)/page"
 	@[ ! -d "$(DESTDIR)$(SHARE)" ] || rmdir "$(DESTDIR)$(SHARE)"
 
 # Makes the tables of the pages and what is made of them anew, and holds the pages against the repository.

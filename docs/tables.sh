@@ -1,7 +1,7 @@
 #!/bin/sh
 # The table of crates in docs/ARCHITECTURE.md and those of files in docs/FILES.md, made from crates.txt and from the first sentence of each file, and
 # the code in docs/CALLING.md with the crates that it uses, and the definitions in docs/HEADLINE.md; and the tables of commands in README.md, in the
-# help of `bpfdb debug` and in share/bpfdb-shell, made from docs/commands.txt. 'docs/tables.sh' writes them anew; 'docs/tables.sh --check' fails
+# help of `bpfdb debug` and in share/bpfdb/shell.py, made from docs/commands.txt. 'docs/tables.sh' writes them anew; 'docs/tables.sh --check' fails
 # where a page and the files differ. How many definitions the headline rests on is counted by docs/rests.py, where there is a python3.
 #
 # A table stands between the lines '<!-- docs/tables.sh: NAME -->' and '<!-- docs/tables.sh: end -->' of a page, a whole file of
@@ -272,7 +272,7 @@ for file in crates/bpfdb_cli/src/help.rt tests/program/help/debug.txt; do
     with_help "$file" > "$work/page"
     hold "${1:-}" "$file"
 done
-with_rows share/bpfdb-shell > "$work/page"
-hold "${1:-}" share/bpfdb-shell
+with_rows share/bpfdb/shell.py > "$work/page"
+hold "${1:-}" share/bpfdb/shell.py
 [ ! -f "$work/missing" ] || fault "docs/HEADLINE.md: $(cat "$work/missing")"
 [ ! -s "$work/faults" ]

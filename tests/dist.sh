@@ -1,6 +1,6 @@
 #!/bin/sh
 # `make dist`: what is handed on of a built program, in the folder out/dist (or the one that is named): an archive, a Debian package where there is
-# dpkg-deb, and their SHA256SUMS. In it are the program, its shell, the tools for gdb, the man page, the pages for users, the examples, the
+# dpkg-deb, and their SHA256SUMS. In it are the program, its shell, the tools for gdb and for pages, the man page, the pages for users, the examples, the
 # license, the changelog, and a file BUILD with the commit and the last line of the gate, which `make test` leaves in out/passed. A tree
 # that differs from its commit, or whose commit the gate hasn't passed, gives none. The same commit gives the same bytes, under any umask.
 set -u

@@ -23,9 +23,14 @@ put_as() {
     mkdir -p "$folder" && cp "$4" "$folder/$3" && chmod "$1" "$folder/$3" || exit 1
 }
 
-put 755 bin crates/bpfdb/out/bpfdb share/bpfdb-shell share/bpfdb-symbols share/bpfdb-show share/bpfdb-conformance
+put 755 bin crates/bpfdb/out/bpfdb share/bpfdb-shell share/bpfdb-symbols share/bpfdb-show share/bpfdb-page share/bpfdb-conformance
 put 644 share/man/man1 docs/bpfdb.1
-put 644 share/bpfdb share/bpfdb-gdb.py share/editors/bpfdb.vim share/editors/bpfdb.tmLanguage.json share/editors/package.json share/bpfdb.h
+put 644 share/bpfdb/page share/page/*
+put 755 bin share/bpfdb-dap
+# (what bpfdb-shell and bpfdb-dap have in common)
+put 644 share/bpfdb share/bpfdb/*.py
+put 644 share/bpfdb share/bpfdb-gdb.py share/editors/bpfdb.vim share/editors/bpfdb-dap.el share/bpfdb.h
+put 644 share/bpfdb/vscode share/editors/vscode/*
 # (each shell looks for a completion by the name of the command; zsh of Debian's packages in a folder of its own)
 for name in bpfdb bpfdb-shell; do
     put_as 644 share/bash-completion/completions "$name" share/completion/bpfdb.bash
@@ -35,7 +40,7 @@ case $prefix in
 /usr) put 644 share/zsh/vendor-completions share/completion/_bpfdb ;;
 *) put 644 share/zsh/site-functions share/completion/_bpfdb ;;
 esac
-put 644 share/doc/bpfdb LICENSE README.md CHANGELOG.md docs/session.svg
+put 644 share/doc/bpfdb LICENSE README.md CHANGELOG.md docs/session.svg docs/page-overrun.png docs/page-firewall.png
 for page in "$@"; do
     put 644 share/doc/bpfdb "docs/$page.md"
 done
@@ -46,7 +51,7 @@ done
 folder=$destination$prefix/share/doc/bpfdb
 sed -i 's|](\.\./examples/|](examples/|g; s|](\.\./README.md|](README.md|g' "$folder"/*.md || exit 1
 sed -i 's|](\.\./docs/|](../|g' "$folder/examples"/*.md || exit 1
-sed -i 's|](docs/session.svg)|](session.svg)|' "$folder/README.md" || exit 1
+sed -i 's|](docs/\([a-z-]*\.svg\))|](\1)|; s|](docs/\([a-z-]*\.png\))|](\1)|' "$folder/README.md" || exit 1
 for page in "$@"; do
     sed -i "s|](docs/$page.md|]($page.md|g; s|\`docs/$page.md\`|\`$page.md\`|g; s|docs/$page.md|$page.md|g" "$folder"/*.md "$folder/examples"/*.md || exit 1
 done
@@ -54,4 +59,5 @@ for page in docs/*.md; do
     page=$(basename "$page")
     [ -e "$folder/$page" ] || sed -i "s|\[\([^][]*\)\](\(docs/\)\{0,1\}${page}[^)]*)|\1|g" "$folder"/*.md "$folder/examples"/*.md || exit 1
 done
-echo "installed $prefix/bin/bpfdb, bpfdb-shell, bpfdb-symbols, bpfdb-show and bpfdb-conformance beside it, the man page, completions of bash, zsh and fish, and pages and examples in $prefix/share/doc/bpfdb; in gdb: source $prefix/share/bpfdb/bpfdb-gdb.py"
+echo "installed $prefix/bin/bpfdb, bpfdb-shell, bpfdb-symbols, bpfdb-show, bpfdb-page and bpfdb-conformance beside it, the man page, completions of bash, zsh and fish, and pages and examples in $prefix/share/doc/bpfdb; in gdb: source $prefix/share/bpfdb/bpfdb-gdb.py"
+echo "for editors: $prefix/bin/bpfdb-dap, $prefix/share/bpfdb/vscode and $prefix/share/bpfdb/bpfdb-dap.el"

@@ -11,12 +11,15 @@ lacking() {
     done <<'PROGRAMS'
 addr2line binutils
 cc gcc libc6-dev
+chromium chromium
 clang clang
 dash dash
+emacs emacs-nox elpa-dap-mode node-vscode-debugprotocol
 fish fish
 gdb gdb
 gdb-multiarch gdb-multiarch
 git git
+node nodejs
 python3 python3
 vim vim
 xxd xxd

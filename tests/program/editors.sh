@@ -51,11 +51,11 @@ fi
 sed 's/;.*//; s/^ *[A-Za-z_][A-Za-z_0-9]*://' "$parts/listings/forms.s" | awk 'NF { print $1 }' | sort -u > wanted/words
 sed -n 's/^syntax keyword bpfdbMnemonic //p' "$top/share/editors/bpfdb.vim" | tr ' ' '\n' | sort -u > found/words
 same 'Vim: the mnemonics' wanted/words found/words
-sed -n 's/.*keyword.mnemonic.*b(\(add[^)]*\)).*/\1/p' "$top/share/editors/bpfdb.tmLanguage.json" | tr '|' '\n' | sort -u > found/words
+sed -n 's/.*keyword.mnemonic.*b(\(add[^)]*\)).*/\1/p' "$top/share/editors/vscode/bpfdb.tmLanguage.json" | tr '|' '\n' | sort -u > found/words
 same 'TextMate: the mnemonics' wanted/words found/words
 if has python3 'the JSON of editors'; then
     for name in bpfdb.tmLanguage.json package.json; do
-        python3 -m json.tool "$top/share/editors/$name" > /dev/null 2> found/err
+        python3 -m json.tool "$top/share/editors/vscode/$name" > /dev/null 2> found/err
         echo $? > found/status
         : > found/out
         check "VS Code: $name is JSON" 0 '' ''

@@ -9,7 +9,11 @@ else
         installed=$1$2
         (umask "$3" && env -u MAKEFLAGS make -s -C "$top" install DESTDIR="$1" PREFIX="$2") > found/out 2> found/err
         echo $? > found/status
-        check "make install PREFIX=$2" 0 "installed $2/bin/bpfdb, bpfdb-shell, bpfdb-symbols, bpfdb-show and bpfdb-conformance beside it, the man page, completions of bash, zsh and fish, and pages and examples in $2/share/doc/bpfdb; in gdb: source $2/share/bpfdb/bpfdb-gdb.py\n" ''
+        tail -n 1 found/out > found/editors
+        echo "for editors: $2/bin/bpfdb-dap, $2/share/bpfdb/vscode and $2/share/bpfdb/bpfdb-dap.el" > wanted/editors
+        same "make install PREFIX=$2: what it says of editors" wanted/editors found/editors
+        sed -i '$d' found/out
+        check "make install PREFIX=$2" 0 "installed $2/bin/bpfdb, bpfdb-shell, bpfdb-symbols, bpfdb-show, bpfdb-page and bpfdb-conformance beside it, the man page, completions of bash, zsh and fish, and pages and examples in $2/share/doc/bpfdb; in gdb: source $2/share/bpfdb/bpfdb-gdb.py\n" ''
         (cd "$installed" && find . -type f -printf '%m %P\n' | sort) > found/files
         (cd "${1:-$2}" && find . -type d ! -perm 755) > found/folders
         : > wanted/folders
@@ -19,22 +23,37 @@ else
 644 share/bash-completion/completions/bpfdb
 644 share/bash-completion/completions/bpfdb-shell
 644 share/bpfdb/bpfdb-gdb.py
+644 share/bpfdb/bpfdb-dap.el
 644 share/bpfdb/bpfdb.h
-644 share/bpfdb/bpfdb.tmLanguage.json
 644 share/bpfdb/bpfdb.vim
-644 share/bpfdb/package.json
+644 share/bpfdb/page/curve.js
+644 share/bpfdb/page/find.js
+644 share/bpfdb/page/memory.js
+644 share/bpfdb/page/names.js
+644 share/bpfdb/page/page.css
+644 share/bpfdb/page/page.html
+644 share/bpfdb/page/page.js
+644 share/bpfdb/page/rows.js
+644 share/bpfdb/page/run.js
+644 share/bpfdb/vscode/bpfdb.tmLanguage.json
+644 share/bpfdb/vscode/extension.js
+644 share/bpfdb/vscode/package.json
 644 share/doc/bpfdb/CHANGELOG.md
 644 share/doc/bpfdb/COMMANDS.md
+644 share/doc/bpfdb/EDITORS.md
 644 share/doc/bpfdb/GDB.md
 644 share/doc/bpfdb/HEADLINE.md
 644 share/doc/bpfdb/JOURNAL.md
 644 share/doc/bpfdb/LICENSE
 644 share/doc/bpfdb/LISTING.md
 644 share/doc/bpfdb/MACHINE.md
+644 share/doc/bpfdb/PAGE.md
 644 share/doc/bpfdb/PERFORMANCE.md
 644 share/doc/bpfdb/PROMISES.md
 644 share/doc/bpfdb/README.md
 644 share/doc/bpfdb/TESTS.md
+644 share/doc/bpfdb/page-firewall.png
+644 share/doc/bpfdb/page-overrun.png
 644 share/doc/bpfdb/session.svg
 644 share/fish/vendor_completions.d/bpfdb-shell.fish
 644 share/fish/vendor_completions.d/bpfdb.fish
@@ -42,11 +61,13 @@ else
 644 share/zsh/site-functions/_bpfdb
 755 bin/bpfdb
 755 bin/bpfdb-conformance
+755 bin/bpfdb-dap
+755 bin/bpfdb-page
 755 bin/bpfdb-shell
 755 bin/bpfdb-show
 755 bin/bpfdb-symbols
 FILES
-            (cd "$top" && find examples -type f -printf '644 share/doc/bpfdb/%p\n')
+            (cd "$top" && find examples -type f -printf '644 share/doc/bpfdb/%p\n' && find share/bpfdb -name '*.py' -printf '644 %p\n')
         } | sort > wanted/files
         same "make install PREFIX=$2: files and their modes" wanted/files found/files
         # Each link of an installed page leads to an installed file.
@@ -66,6 +87,17 @@ FILES
         BPFDB=$installed/bin/bpfdb "$installed/bin/bpfdb-shell" "$top/examples/checksum/program.bin" < script > found/out 2> found/err
         printf '%s\n' "$(printf 'continue\n' | "$program" debug "$top/examples/checksum/program.bin")" > wanted/out
         same 'the installed shell' wanted/out found/out
+        if has python3 'the installed bpfdb-page'; then
+            BPFDB=$installed/bin/bpfdb "$installed/bin/bpfdb-page" -o run.html "$top/examples/checksum/program.bin" < /dev/null > found/out 2>&1
+            echo $? > found/status
+            : > found/err
+            check 'the installed bpfdb-page' 0 '' ''
+        fi
+        # (the 67 bytes of a request)
+        printf 'Content-Length: 67\r\n\r\n{"seq":1,"type":"request","command":"launch","arguments":{"x":"y"}}' | "$installed/bin/bpfdb-dap" > found/out 2> found/err
+        echo $? > found/status
+        sed -i 's/.*"message": "\([^"]*\)".*/\1/; 1,2d' found/out
+        check 'the installed adapter' 0 'program: a text is wanted' ''
         env -u MAKEFLAGS make -s -C "$top" uninstall DESTDIR="$1" PREFIX="$2" > found/out 2> found/err
         echo $? > found/status
         check "make uninstall PREFIX=$2" 0 '' ''

@@ -187,10 +187,10 @@ PYTHON
     same 'bpfdb-shell: what bpfdb-symbols refuses' wanted/out found/out
     # (a name is read, and not all of the file behind it)
     cat > functions.py <<'PYTHON'
-import importlib.machinery, importlib.util, struct, sys
-loader = importlib.machinery.SourceFileLoader('shell', sys.argv[1])
-shell = importlib.util.module_from_spec(importlib.util.spec_from_loader('shell', loader))
-loader.exec_module(shell)
+import struct, sys
+sys.dont_write_bytecode = True
+sys.path[0] = sys.argv[1]
+from bpfdb.places import functions
 count = 200000
 strings = b'\0' + b''.join(b'f%06d\0' % at for at in range(count))
 symbols = b''.join(struct.pack('<IBBHQQ', 1 + 8 * at, 2, 0, 1, 8 * at, 8) for at in range(count))
@@ -198,9 +198,9 @@ tables = (3, 0, 0, 64 + 128, len(strings), 0, 0, 1, 0), (2, 0, 0, 64 + 128 + len
 file = bytearray(64) + b''.join(struct.pack('<IIQQQQIIQQ', 0, *table) for table in tables) + strings + symbols
 struct.pack_into('<Q', file, 40, 64)
 struct.pack_into('<HHH', file, 58, 64, 2, 1)
-print(len(dict(shell.functions(bytes(file)))))
+print(len(dict(functions(bytes(file)))))
 PYTHON
-    timeout 20 python3 functions.py "$shell" > found/out 2> found/err
+    timeout 20 python3 functions.py "$top/share" > found/out 2> found/err
     echo $? > found/status
     check 'bpfdb-shell: 200,000 functions' 0 '200000\n' ''
     if has addr2line '`start` in bpfdb-shell' && has_clang '`start` in bpfdb-shell'; then
@@ -210,6 +210,7 @@ PYTHON
         habit 'start; stepi 3; start' 'p $pc' '> info regs / $pc = 0x1 (1)'
     fi
     plainly 'an object' 0 'c\n' '105 forward; end; fault access 0x10077656d at 25\n' '' -m context.bin overrun.o
+    plainly 'a function of an object' 0 'b copy\nc\n' 'ok\n10 forward; break; at 13: jeq r3, 0, L23\n' '' -m context.bin overrun.o
     plainly 'an object, and a section that it has' 0 'c\n' '105 forward; end; fault access 0x10077656d at 25\n' '' \
         --section filter -m context.bin overrun.o
     plainly 'an object, and a section that it lacks' 2 'c\n' '' 'refused E8: no such code section: .text, filter\n' --section nothing overrun.o

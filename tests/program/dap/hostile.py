@@ -1,0 +1,238 @@
+"""What an editor must not send to bpfdb-dap, what happens around it, and how long it takes. What is wrong is told, and the last line counts."""
+import os
+import random
+import shutil
+import signal
+import subprocess
+import socket
+import sys
+import time
+
+import client
+from client import Client, Refusal, Wrong, hold
+
+HERE = os.getcwd()
+TRIALS = []
+# Each request that the adapter answers, and arguments that it may have.
+REQUESTS = {
+    'initialize': ['linesStartAt1', 'columnsStartAt1'], 'launch': ['program', 'context', 'maps', 'steps', 'journal', 'over', 'script'], 'attach': [],
+    'configurationDone': [], 'setBreakpoints': ['source', 'breakpoints'], 'setFunctionBreakpoints': ['breakpoints'],
+    'setInstructionBreakpoints': ['breakpoints'], 'setDataBreakpoints': ['breakpoints'], 'setExceptionBreakpoints': ['filters'],
+    'dataBreakpointInfo': ['name', 'variablesReference', 'frameId', 'bytes', 'asAddress'], 'continue': ['threadId'], 'next': ['granularity'],
+    'stepIn': ['granularity'], 'stepOut': ['threadId'], 'stepBack': ['granularity'], 'reverseContinue': ['threadId'], 'pause': ['threadId'],
+    'gotoTargets': ['source', 'line'], 'goto': ['targetId'], 'threads': [], 'stackTrace': ['startFrame', 'levels'], 'scopes': ['frameId'],
+    'variables': ['variablesReference', 'start', 'count', 'filter'], 'setVariable': ['variablesReference', 'name', 'value'],
+    'setExpression': ['expression', 'value', 'frameId'], 'evaluate': ['expression', 'context', 'frameId'], 'exceptionInfo': ['threadId'],
+    'completions': ['text', 'column'], 'readMemory': ['memoryReference', 'offset', 'count'], 'writeMemory': ['memoryReference', 'offset', 'data'],
+    'disassemble': ['memoryReference', 'offset', 'instructionOffset', 'instructionCount'], 'loadedSources': [], 'source': ['source', 'sourceReference'],
+    'restart': ['arguments'], 'bpfdb/origin': ['what'], 'bpfdb/undo': ['count'], 'bpfdb/redo': ['count'], 'nothing': ['x'], '__init__': [], 'do_next': []}
+VALUES = [None, True, 0, 1, -1, 5, 1 << 63, 1 << 64, -(1 << 70), 1.5, 1e300, '', 'r0', 'pc', ':stepi', ':undo', ':origin r0', ':x 0 1', 'x' * 5000, '\0', '\ud800', '0x100000000',
+          '0x2000001f8:8', '0x10', '-1', '*(u8 *)r1', '((((', '[0]', 'r10-8', '+0', 'instruction', 'overrun.o', 'gdb', '8x2', [], [{}], [1], ['x'], {}, {'path': 'overrun.c'},
+          {'sourceReference': 1}, [{'line': 21}], [{'line': -5}], [{'line': 1 << 80}], [{'name': 'copy'}], [{'instructionReference': '0xa0', 'condition': '1/0'}],
+          [{'dataId': '0x2000001f8:4'}], [{'dataId': '0x2000001f8:999'}], [[[[]]]]]
+
+
+def trial(function):
+    TRIALS.append(function)
+    return function
+
+
+def opened(**more):
+    editor = Client()
+    editor.open('overrun.o', context='context.bin', **{'over': 'bpfdb', **more})
+    return editor
+
+
+def ended(editor, status, *wanted):
+    """The adapter ends with a status, and says this on standard error."""
+    os.close(editor.to)
+    editor.child.stdin = None
+    hold((editor.child.stderr.read().decode(), editor.child.wait(client.PATIENCE)), (''.join(line + '\n' for line in wanted), status), 'the end')
+
+
+@trial
+def out_of_order():
+    """Requests before there is a program, after it, and twice."""
+    editor = Client()
+    for name in REQUESTS:
+        if name not in ('initialize', 'launch', 'attach', 'nothing', '__init__', 'do_next'):
+            hold(editor.refused(name), 'no program is launched', name)
+    hold(editor.refused('attach'), 'there is nothing to attach to: launch starts a program', 'attach')
+    hold(editor.refused('nothing'), 'there is no request nothing', 'an unknown request')
+    hold(editor.refused('launch'), 'program: a text is wanted', 'launch without a program')
+    hold(editor.refused('launch', program=7), 'program: a text is wanted', 'launch of a number')
+    hold(editor.refused('launch', program='missing.bin'), 'cannot read missing.bin', 'no file')
+    hold(editor.refused('launch', program='context.bin'), 'refused C3: length is no multiple of 8', 'no program')
+    hold(editor.refused('launch', program='overrun.o', section='nothing'), 'refused E8: no such code section: .text, filter', 'no section')
+    hold(editor.refused('launch', program='overrun.o', context='missing.bin', over='bpfdb'), 'cannot read missing.bin', 'no context')
+    hold(editor.refused('launch', program='overrun.o', journal=5, over='bpfdb'), 'refused J1: journal size out of range', 'a small journal')
+    hold(editor.refused('launch', program='overrun.o', maps='x', over='bpfdb'), 'refused M5: malformed map list', 'no maps')
+    hold(editor.refused('launch', program='overrun.o', over='lldb'), 'over: gdb or bpfdb is wanted', 'another debugger')
+    hold(editor.refused('launch', program='far.s'), 'refused C8 at slot 1: target is no instruction', 'a refused program')
+    hold(editor.refused('launch', program='wrong.s'), 'refused A1 at line 1: unknown mnemonic', 'a refused listing')
+    hold(editor.open('overrun.o', context='context.bin', over='bpfdb')[0], 'entry', 'then a program')
+    hold(editor.refused('launch', program='overrun.o'), 'a program is launched already: restart starts it anew', 'launch twice')
+    hold(editor.refused('configurationDone'), 'configurationDone came before', 'configurationDone twice')
+    hold(editor.refused('variables', variablesReference=99), 'variablesReference: nothing is known by it now', 'no variables')
+    hold(editor.refused('scopes', frameId=99), 'frameId: there is no frame 99', 'no frame')
+    hold(editor.refused('scopes'), 'frameId: a whole number is wanted', 'no number')
+    hold(editor.refused('exceptionInfo', threadId=1), 'the program stands at no fault', 'no fault')
+    editor.ask('terminate')
+    editor.event('terminated')
+    hold(editor.refused('threads'), 'no program is launched', 'it is over')
+    hold(editor.leave(), (0, ''), 'the end')
+
+
+@trial
+def junk():
+    """Random arguments for each request: each is answered, none by a fault of the adapter's own, and then it goes on as before."""
+    draw = random.Random(17)
+    editor = opened()
+    names = list(REQUESTS)
+    for at in range(1000):
+        name = draw.choice(names)
+        arguments = {key: draw.choice(VALUES) for key in REQUESTS[name] if draw.random() < 0.9}
+        if name in ('launch', 'restart') and draw.random() < 0.9:
+            continue
+        response = editor.answer(editor.send(name, draw.choice([None, [], 5]) if draw.random() < 0.02 else arguments))
+        if not response['success'] and 'internal fault' in response['message']:
+            raise Wrong(f'{name} {arguments}: {response["message"]}')
+        if name in ('continue', 'next', 'stepIn', 'stepOut', 'stepBack', 'reverseContinue', 'goto', 'restart') and response['success']:
+            editor.event('stopped')
+        editor.events = []
+    editor.events = []
+    editor.ask('restart')
+    editor.ask('setDataBreakpoints', breakpoints=[])
+    editor.ask('setInstructionBreakpoints', breakpoints=[])
+    editor.ask('setFunctionBreakpoints', breakpoints=[])
+    editor.lines(os.path.join(HERE, 'overrun.c'))
+    editor.lines('overrun.c')
+    editor.ask('setBreakpoints', source={'sourceReference': 1}, breakpoints=[])
+    editor.event('stopped')
+    hold(editor.go('continue'), ('exception', 'size_of', 26), 'the fault')
+    hold(editor.leave(), (0, ''), 'the end')
+
+
+@trial
+def broken():
+    """What is no message, or none of the protocol: the first ends the adapter, the second is told, and the next message is answered."""
+    for content, wanted in (
+            (b'Content-Length: 50\r\n\r\n{}', 'the input ends within a message'),
+            (b'Content-Length: 5', 'the input ends within a header'),
+            (b'Content-Length: -1\r\n\r\n{}', 'a header has no Content-Length of at most 16777216'),
+            (b'Content-Length: 99999999999999999999\r\n\r\n{}', 'a header has no Content-Length of at most 16777216'),
+            (b'Content-Length: 16777217\r\n\r\n{}', 'a header has no Content-Length of at most 16777216'),
+            (b'Content-Length: 2\r\nContent-Length: 3\r\n\r\n{}', 'a header has no Content-Length of at most 16777216'),
+            (b'Length: 2\r\n\r\n{}', 'a header has no Content-Length of at most 16777216'),
+            (b'\r\n\r\n', 'a header has no Content-Length of at most 16777216'),
+            (b'x' * 100000, 'a header is too long')):
+        editor = Client()
+        try:
+            editor.raw(content)
+        except BrokenPipeError:
+            pass
+        ended(editor, 2, 'bpfdb-dap: ' + wanted)
+    for content in (b'', b'{', b'[]', b'5', b'null', b'{"seq": "1", "command": "threads"}', b'{"seq": 1}', b'{"seq": 1, "command": 7}', b'\xff\xfe', b'[' * 100000):
+        editor = Client()
+        editor.raw(b'Content-Length: %d\r\n\r\n%s' % (len(content), content))
+        hold(editor.event('output')['category'], 'stderr', 'what is told')
+        hold(editor.refused('threads'), 'no program is launched', 'the next message')
+        ended(editor, 0)
+    editor = Client()
+    text = b'content-length:%d\r\nX-Other: 1\r\n\r\n{"seq":1,"type":"request","command":"initialize","arguments":{}}'
+    for byte in text.replace(b'%d', b'64'):
+        editor.raw(bytes([byte]))
+    hold(editor.answer(1)['success'], True, 'a message that comes byte by byte')
+    ended(editor, 0)
+    editor = Client()
+    hold(editor.refused('evaluate', expression='1' * (1 << 23)), 'no program is launched', 'a request of 8 MB')
+    ended(editor, 0)
+
+
+@trial
+def around():
+    """bpfdb isn't there, is killed, or its files are gone; an editor that reads no more, or leaves without a word."""
+    editor = Client(env={'BPFDB': '/nowhere/bpfdb'})
+    hold(editor.refused('launch', program='overrun.o'), 'cannot find /nowhere/bpfdb; name it by BPFDB', 'no bpfdb')
+    ended(editor, 0)
+    editor = opened()
+    child = next(int(name) for name in os.listdir('/proc') if name.isdigit() and parent(name) == editor.child.pid)
+    os.kill(child, signal.SIGKILL)
+    hold(editor.refused('evaluate', expression=':info regs', context='repl'), 'bpfdb ended with status -9', 'a bpfdb that was killed')
+    editor.event('terminated')
+    hold(editor.leave(), (0, ''), 'the end')
+    shutil.copy('overrun.o', 'gone.o')
+    editor = Client()
+    editor.open('gone.o', context='context.bin', over='bpfdb')
+    os.unlink('gone.o')
+    hold(editor.go('continue')[0], 'exception', 'it runs on without its file')
+    hold(editor.refused('restart'), 'cannot read gone.o', 'but it is not started again')
+    hold(editor.number('1 + 1'), 2, 'and goes on as it was')
+    hold(editor.go('stepBack')[0], 'step', 'back, too')
+    hold(editor.leave(), (0, ''), 'the end')
+    editor = opened()
+    editor.child.stdout.close()
+    try:
+        for _ in range(1000):
+            editor.send('threads', {})
+    except BrokenPipeError:
+        pass
+    hold(editor.child.wait(client.PATIENCE), 0, 'a reader that closes')
+    editor = opened()
+    children = [int(name) for name in os.listdir('/proc') if name.isdigit() and parent(name) == editor.child.pid]
+    ended(editor, 0)
+    hold([child for child in children if os.path.isdir(f'/proc/{child}')], [], 'nothing is left')
+
+
+def parent(name):
+    try:
+        with open(f'/proc/{name}/stat') as file:
+            return int(file.read().rpartition(') ')[2].split()[1])
+    except OSError:
+        return 0
+
+
+@trial
+def port():
+    """The same on a port of the loopback, to one editor."""
+    child = subprocess.Popen(client.ADAPTER + ['--port', '0'], stdin=subprocess.DEVNULL, stderr=subprocess.PIPE, text=True)
+    number = int(child.stderr.readline().rsplit(' ', 1)[1])
+    with socket.create_connection(('127.0.0.1', number)) as there:
+        editor = Client.__new__(Client)
+        editor.child, editor.to, editor.of = child, there.fileno(), there.fileno()
+        editor.sent, editor.held, editor.events, editor.last = 0, b'', [], 0
+        hold(editor.open('overrun.o', context='context.bin', over='bpfdb')[0], 'entry', 'the entry')
+        editor.ask('disconnect')
+        hold(child.wait(client.PATIENCE), 0, 'the end')
+    hold(subprocess.run(client.ADAPTER + ['--port', '70000'], capture_output=True).returncode, 2, 'no port')
+
+
+@trial
+def quick():
+    """A request over bpfdb takes at most some milliseconds, on busy processors too. (docs/EDITORS.md has what it took on a quiet one.)"""
+    editor = opened()
+    for name, arguments in (('stackTrace', {'threadId': 1}), ('evaluate', {'expression': 'r1 + 1'}), ('threads', {})):
+        times = []
+        for _ in range(200):
+            begun = time.perf_counter()
+            editor.ask(name, **arguments)
+            times.append(time.perf_counter() - begun)
+        hold(sorted(times)[100] < 0.01, True, f'{name} in {sorted(times)[100] * 1000:.2f} ms')
+    hold(editor.leave(), (0, ''), 'the end')
+
+
+def main():
+    failed = 0
+    for function in TRIALS:
+        try:
+            function()
+        except (Wrong, Refusal, EOFError, OSError, KeyError, StopIteration) as fault:
+            failed += 1
+            print(f'FAILED: bpfdb-dap: {function.__name__}: {type(fault).__name__}: {fault}')
+            if os.environ.get('RAISE'):
+                raise
+    print(f'{len(TRIALS)} trials, {failed} failed')
+    sys.exit(failed > 0)
+
+
+main()
