@@ -2,6 +2,7 @@
 counts. What is wanted is what README, docs/GDB.md and docs/COMMANDS.md say of the same session."""
 import base64
 import os
+import shutil
 import signal
 import subprocess
 import sys
@@ -404,17 +405,40 @@ def run_alone():
     left(editor)
 
 
+def below(process):
+    """The processes that one started, and those that these did."""
+    for thread in os.listdir(f'/proc/{process}/task'):
+        with open(f'/proc/{process}/task/{thread}/children') as file:
+            for child in map(int, file.read().split()):
+                yield child
+                yield from below(child)
+
+
+def program_of(process):
+    """The name of the program that a process runs; of one that has ended nothing, waited for or not."""
+    try:
+        return os.path.basename(os.readlink(f'/proc/{process}/exe'))
+    except OSError:
+        return ''
+
+
+def kill(process, name):
+    """Kills the one below a process that runs this program, and waits until it has ended."""
+    running = [one for one in below(process) if program_of(one) == name]
+    hold(len(running), 1, f'processes of {name}')
+    os.kill(running[0], signal.SIGKILL)
+    until = time.monotonic() + client.PATIENCE
+    while program_of(running[0]):
+        hold(time.monotonic() < until, True, f'{name} ends')
+        time.sleep(0.01)
+
+
 @only('gdb')
 def killed():
     """bpfdb behind gdb is killed, and gdb itself."""
-    for depth in (2, 1):
+    for program in (os.environ['BPFDB'], shutil.which('gdb')):
         editor, _ = started()
-        child = editor.child.pid
-        for _ in range(depth):
-            with open(f'/proc/{child}/task/{child}/children') as file:
-                child = int(file.read().split()[0])
-        os.kill(child, signal.SIGKILL)
-        time.sleep(0.1)
+        kill(editor.child.pid, os.path.basename(os.path.realpath(program)))
         hold('has ended' in editor.refused('evaluate', expression=':info regs', context='repl'), True, 'what is told')
         editor.event('terminated')
         left(editor)
