@@ -1,7 +1,8 @@
 #!/bin/sh
 # The table of crates in docs/ARCHITECTURE.md and those of files in docs/FILES.md, made from crates.txt and from the first sentence of each file, and
 # the code in docs/CALLING.md with the crates that it uses, and the definitions in docs/HEADLINE.md; and the tables of commands in README.md, in the
-# help of `bpfdb debug` and in share/bpfdb/shell.py, made from docs/commands.txt. 'docs/tables.sh' writes them anew; 'docs/tables.sh --check' fails
+# help of `bpfdb debug` and in share/bpfdb/habits.py, made from docs/commands.txt, with what refusals mean, of docs/COMMANDS.md; and the contents
+# of docs/COMMANDS.md, made from its headings. 'docs/tables.sh' writes them anew; 'docs/tables.sh --check' fails
 # where a page and the files differ. How many definitions the headline rests on is counted by docs/rests.py, where there is a python3.
 #
 # A table stands between the lines '<!-- docs/tables.sh: NAME -->' and '<!-- docs/tables.sh: end -->' of a page, a whole file of
@@ -155,9 +156,14 @@ with_help() {
     ' "$1"
 }
 
-# with_rows FILE: a script with the rows of docs/commands.txt between its marks.
+# refusals: of a session's refusals 'NUMBER | WHAT TO DO' each, by the manual.
+refusals() {
+    sed -n "s/^| \([QV][0-9]*\) | [^|]* | \([^|]*\) |\$/\1 | \2/p" docs/COMMANDS.md | tr '`' "'"
+}
+
+# with_rows FILE: a script with the rows of docs/commands.txt, and with refusals, between its marks.
 with_rows() {
-    awk '
+    awk -v work="$work" '
         /^# docs\/tables\.sh: end$/ { if (inside) print "\"\"\""; inside = 0 }
         !inside { print }
         /^# docs\/tables\.sh: shell$/ {
@@ -165,6 +171,42 @@ with_rows() {
             print "COMMANDS = \"\"\""
             while ((getline line < "docs/commands.txt") > 0) if (line !~ /^#/) print line
         }
+        /^# docs\/tables\.sh: refusals$/ {
+            inside = 1
+            print "REFUSALS = \"\"\""
+            while ((getline line < (work "/refusals")) > 0) print line
+        }
+    ' "$1"
+}
+
+# contents FILE: a list of the headings of a page below its title, each a link; those of the third level stand behind the one above them.
+contents() {
+    awk '
+        function linked(text,    slug) {
+            slug = tolower(text)
+            gsub(/[^a-z0-9_ -]/, "", slug)
+            gsub(/ /, "-", slug)
+            return "[" text "](#" slug ")"
+        }
+        function wrap(text,    words, n, i, line) {
+            n = split(text, words, "\t")
+            line = "- " words[1] (n > 1 ? ":" : "")
+            for (i = 2; i <= n; i++) {
+                words[i] = words[i] (i < n ? "," : "")
+                # (a line ends within a link, too, as elsewhere on the pages)
+                m = split(words[i], parts, " ")
+                for (j = 1; j <= m; j++) {
+                    if (length(line) + 1 + length(parts[j]) > 100) { print line; line = " " }
+                    line = line " " parts[j]
+                }
+            }
+            print line
+        }
+        /^```/ { code = !code }
+        code { next }
+        /^## / { if (text != "") wrap(text); text = linked(substr($0, 4)) }
+        /^### / { text = text "\t" linked(substr($0, 5)) }
+        END { wrap(text) }
     ' "$1"
 }
 
@@ -202,7 +244,7 @@ page() {
         }
         /^<!-- docs\/tables\.sh: end -->$/ { inside = 0 }
         !inside { print }
-        /^<!-- docs\/tables\.sh: (crates|files|commands) -->$/ {
+        /^<!-- docs\/tables\.sh: (crates|files|commands|contents) -->$/ {
             inside = 1
             while ((getline line < (work "/" $3)) > 0) print line
             close(work "/" $3)
@@ -262,9 +304,11 @@ list_crates > "$work/crates"
 { echo; list_files; } > "$work/files"
 list_commands > "$work/commands"
 help_commands > "$work/help"
+refusals > "$work/refusals"
+contents docs/COMMANDS.md > "$work/contents"
 stands_apart
 ! command -v python3 > /dev/null || python3 docs/rests.py bpfdb_jobs.Done.Debugs > "$work/rests" || fault 'docs/rests.py'
-for file in README.md docs/ARCHITECTURE.md docs/FILES.md docs/CALLING.md docs/HEADLINE.md; do
+for file in README.md docs/COMMANDS.md docs/ARCHITECTURE.md docs/FILES.md docs/CALLING.md docs/HEADLINE.md; do
     page "$file" > "$work/page"
     hold "${1:-}" "$file"
 done
@@ -272,7 +316,7 @@ for file in crates/bpfdb_cli/src/help.rt tests/program/help/debug.txt; do
     with_help "$file" > "$work/page"
     hold "${1:-}" "$file"
 done
-with_rows share/bpfdb/shell.py > "$work/page"
-hold "${1:-}" share/bpfdb/shell.py
+with_rows share/bpfdb/habits.py > "$work/page"
+hold "${1:-}" share/bpfdb/habits.py
 [ ! -f "$work/missing" ] || fault "docs/HEADLINE.md: $(cat "$work/missing")"
 [ ! -s "$work/faults" ]

@@ -175,13 +175,7 @@ class Machine:
             if len(reply) < PART:
                 break
         self.slots = sorted(self.code)
-        source = self.loaded.source
-        called = {int(text[7:]) for text in self.code.values() if text.startswith('callf L')}
-        if source.labels and not source.of_instructions:
-            self.functions = {slot: name for name, slot in sorted(source.labels.items())}
-        else:
-            names = {slot: name for name, slot in reversed(source.labels.items())}
-            self.functions = {slot: names.get(slot, f'f{slot}' if slot else 'entry') for slot in {0} | called}
+        self.functions = self.loaded.source.function_starts(self.code)
         self.starts = sorted(self.functions)
         self.traces = 'call 64' in self.code.values()
 

@@ -28,6 +28,15 @@ class Source:
         at, label = max(((at, label) for label, at in self.labels.items() if at <= slot), default=(0, ''))
         return f'{label}+{slot - at}' if label and slot > at else label
 
+    def function_starts(self, code):
+        """The functions by the slots where they begin, of a program with these texts of instructions: those of an object; else the entry, and
+        what is called."""
+        if self.labels and not self.of_instructions:
+            return {slot: name for name, slot in sorted(self.labels.items())}
+        names = {slot: name for name, slot in reversed(self.labels.items())}
+        called = {int(text[7:]) for text in code.values() if text.startswith('callf L')}
+        return {slot: names.get(slot, f'f{slot}' if slot else 'entry') for slot in {0} | called}
+
     def line_of(self, slot):
         """A slot's line, with its place."""
         file, at, text = self.lines[slot]

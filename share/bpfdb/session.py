@@ -6,6 +6,8 @@ import re
 import subprocess
 import tempfile
 
+# The bytes that a journal may have. (docs/JOURNAL.md)
+LARGEST_JOURNAL = 16777216
 # Commands of bpfdb that change nothing.
 SHOWS = ('info', 'x', 'disas', 'last-write')
 # The options with a value, those for `link`, and those of these that bpfdb-symbols has.
@@ -15,6 +17,7 @@ FOR_SYMBOLS = ('--section', '--entry')
 # The mnemonics of instructions that take two slots.
 WIDE = ('lddw', 'ldmap', 'ldmapval')
 MOVE = re.compile(r'(\d+) (forward|back|redone); (\w+); (.*)')
+HISTORY = re.compile(r'(\d+) moves, \d+ commands, \d+ of (\d+) bytes')
 PLACE = re.compile(r'(?:at|exited at) (\d+)(?:: (.*))?$|fault .*\bat (\d+)$')
 
 
@@ -38,8 +41,8 @@ class Program:
     """bpfdb, to which lines are sent and whose replies are read. A reply ends where two lines behind it are refused."""
 
     def __init__(self, line, kept):
-        # the files that it is given by their numbers, how many moves lie before the state, and the lines that led there
-        self.line, self.kept, self.moves, self.lines = line, kept, 0, []
+        # the files that it is given by their numbers, how many moves lie before the state and the most that did, and the lines that led there
+        self.line, self.kept, self.moves, self.most, self.lines = line, kept, 0, 0, []
         # (a group of its own: an interrupt doesn't end it)
         self.child = subprocess.Popen(line, stdin=subprocess.PIPE, stdout=subprocess.PIPE, stderr=subprocess.PIPE, text=True,
                                       pass_fds=[file.fileno() for file in kept], encoding='utf-8', errors='surrogateescape', preexec_fn=os.setpgrp)
@@ -66,8 +69,21 @@ class Program:
             self.moves += 1
         elif move:
             self.moves += -int(move[1]) if move[2] == 'back' else int(move[1])
+        self.most = max(self.most, self.moves)
         if reply and not reply[0].startswith('refused ') and words[0] not in SHOWS:
             self.lines.append(line)
+
+    def dropped(self):
+        """Says how many moves the journal dropped, and how many the largest would keep of such moves; empty if it dropped none."""
+        kept, size = (int(text) for text in HISTORY.match(self.ask('info history')[0]).groups())
+        count = self.moves - kept
+        if count <= 0:
+            return ''
+        said = f'the journal dropped {count:,} moves'
+        if size >= LARGEST_JOURNAL:
+            return f'{said}, and has the most bytes that it may have'
+        # (what it held before it was gone back over filled it but for a move)
+        return f'{said}: --journal {LARGEST_JOURNAL} would keep some {rounded(LARGEST_JOURNAL * (self.most - count) // size):,}'
 
     def origin(self, what):
         """What `bpfdb origin` says of the session of these lines, over a journal of the same size, and the words for it."""
@@ -99,6 +115,11 @@ class Program:
             with contextlib.suppress(OSError):
                 stream.close()
         return self.child.wait()
+
+
+def rounded(count):
+    """A count to two digits."""
+    return int(float(f'{count:.1e}'))
 
 
 def split_words(given):

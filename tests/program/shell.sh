@@ -22,7 +22,7 @@ habit() {
     # (these words have no blanks)
     # shellcheck disable=SC2086
     HOME=$PWD NO_COLOR=1 ./terminal script "$shell" $opened > found/all 2>&1
-    shown found/all | awk 'inside; $0 == "refused Q1: unknown command" { inside = 1 }' > found/out
+    shown found/all | awk "inside; \$0 == \"bpfdb-shell: 'help' lists the commands; 'man bpfdb' describes them\" { inside = 1 }" > found/out
     echo "$3" | sed 's| / |\n|g' > wanted/out
     count=$((count + 1))
     agree out && return
@@ -66,6 +66,23 @@ if has python3 'bpfdb-shell'; then
 'refused Q7: register not writable\n0x100000000: 0102\n' '' -m context sum.s
     plainly 'lines that end in a carriage return' 0 'c\r\n\r\nq now\r\nrs 2' \
         '18 forward; end; exited at 2: r0 0x3\nrefused Q3: the machine has ended\nrefused Q2: wrong argument\n2 back; done; at 1: stxb [r10-8], r0\n' '' -m context --listing sum.s
+    plainly 'an empty line goes on with a listing' 0 'l 8\n\n' "$(printf '%s\n' '8: add r2, -1' '9: ja L4' '10: exit' | sed 's/$/\\n/' | tr -d '\n')" \
+        "bpfdb-shell: the program ends there; 'l 0' begins anew\n" -m context sum.s
+    plainly 'where it starts, and the calls by their functions' 0 'start\nsi 3\nstart\nsi 3\nbt\n' \
+        'at 0: callf L3\n3 forward; done; at 5: ldxb r3, [r1+0]\n3 back; start; at 0: callf L3\n3 forward; done; at 5: ldxb r3, [r1+0]\n'\
+'depth 1, in sum (sum.s:7)\nreturns to 1 r6=0x0 r7=0x0 r8=0x0 r9=0x0, in entry (sum.s:2)\n' '' -m context sum.s
+    # Where going back ends at the journal's start, because moves were dropped, it says so. (An addition takes 16 bytes of the journal, a jump 7,
+    # so 1,024 bytes hold 89 of them, and the largest 1,458,176 if it held as many a byte; of words for two digits that is 1,500,000.)
+    printf 'loop: add r0, 1\nja loop\n' > endless.s
+    dropped='bpfdb-shell: the journal dropped 111 moves: --journal 16777216 would keep some 1,500,000\n'
+    plainly 'going back to where moves were dropped' 0 'c\nrc\nrs\nundo\norigin r0\nsi\norigin r0\nstart\n' \
+        '200 forward; limit; at 0: add r0, 1\n89 back; start; at 1: ja L0\nrefused Q4: no kept step\nrefused Q5: fewer kept commands\nleft r0 = 0x38; before the kept history\n'\
+'1 forward; done; at 0: add r0, 1\nleft r0 = 0x38; before the kept history\n1 back; start; at 1: ja L0\n' \
+        "$dropped$dropped$dropped$dropped$dropped$dropped" --journal 1024 --steps 200 endless.s
+    plainly 'going back to the first move' 0 'si 5\nrc\nrs\n' '5 forward; done; at 1: ja L0\n5 back; start; at 0: add r0, 1\nrefused Q4: no kept step\n' '' endless.s
+    plainly 'going back in the largest journal' 0 'c\nc\nc\nrc\n' \
+        "$(for at in 1 2 3; do printf '1000000 forward; limit; at 0: add r0, 1\\n'; done)1458888 back; start; at 0: add r0, 1\n" \
+        'bpfdb-shell: the journal dropped 1,541,112 moves, and has the most bytes that it may have\n' --journal 16777216 endless.s
     plainly 'nothing behind quit is obeyed' 0 'si\nq\nsi\n' '1 forward; done; at 1: exit\n' ''
     digits=$(awk 'BEGIN { for (i = 0; i < 5000; i++) printf 1 }')
     plainly 'numbers that are too large' 0 "p $digits\nb x.s:$digits\nx/${digits}xb 0\nb 18446744073709551616\np 18446744073709551616\np 18446744073709551615\n" \
@@ -282,6 +299,12 @@ PYTHON
     grep -a -o -e 'refused Q4: no kept step' -e '\[2m> break 4' -e '.\[33mr0 0x0 -> 0x7' found/all | tr -d '\033' > found/out
     : > found/err
     check 'bpfdb-shell: colours and completion' 0 'refused Q4: no kept step\n[33mr0 0x0 -> 0x7\n[2m> break 4\n' ''
+    printf 'help ori\\t\norig\\t$r1\\t\nsource comma\\t\nq\n' > values
+    HOME=$PWD TERM=xterm NO_COLOR=1 python3 both.py "$shell" -m context sum.s < values 2>&1 | tr -d '\r' > found/all
+    grep -a -x -e 'at 0: callf L3' -e 'sum.s:2: callf sum' -e 'origin .VALUE.: .*' -e 'bpfdb-shell: nothing has run yet.*' -e '1 forward; .*' found/all | cut -c 1-40 > found/out
+    echo 0 > found/status
+    check 'bpfdb-shell: where it stands at first, and completion of `origin`' 0 \
+        'at 0: callf L3\nsum.s:2: callf sum\norigin [VALUE]: shows where a register o\nbpfdb-shell: nothing has run yet: each v\n1 forward; done; at 3: mov r0, 0\n' ''
     HOME=$PWD TERM=xterm NO_COLOR=1 python3 both.py "$shell" -m context sum.s < script > found/all 2>&1
     echo $? > found/status
     grep -a -o -e '.\[[0-9][0-9]*m' -e 'r0 0x0 -> 0x7' found/all > found/out
