@@ -21,6 +21,8 @@ REGISTERS = {
 }
 # The register that says how many moves lie before the state, and its number.
 MOVES, MOVES_NUMBER = "moves", 64
+# The bytes that a journal may have. (docs/JOURNAL.md)
+LARGEST_JOURNAL = 16777216
 # r10 at depth 0, and what a call adds to it.
 FIRST_POINTER, POINTER_STRIDE = 0x200000200, 0x400
 # Where bpfdb lets calls' frames be read, the outermost first: where each returns to, and its r6 to r9.
@@ -48,13 +50,16 @@ class Commands:
     back and can be made again."""
 
     def __init__(self, begin=0, entry=None):
-        self.begin, self.now, self.entry, self.ends = begin, begin, entry, []
+        self.begin, self.now, self.entry, self.ends, self.most = begin, begin, entry, [], begin
 
     def stop(self, event):
-        """Notes where a command stopped."""
+        """Notes where a command stopped. At the journal's start, where moves were dropped before it, it says what would keep more."""
         if is_connected():
             count = int(gdb.newest_frame().read_register(MOVES))
             self.note(count, count > self.now)
+            # (what is asked where a breakpoint stopped, its commands would be executed behind)
+            if 0 < count < self.most and not isinstance(event, (gdb.BreakpointEvent, gdb.SignalEvent)) and history()[0] == 0:
+                gdb.write("%s moves\n" % larger_journal(count, history()[1]))
             if count < self.begin:
                 gdb.write("this is before the entry: advance *0x%x goes on to it\n" % self.entry)
 
@@ -67,6 +72,7 @@ class Commands:
         """Notes where a command ended. Behind new moves none can be made again."""
         self.ends = sorted({end, *(other for other in self.ends if other <= self.now or not is_new)})
         self.now = end
+        self.most = max(self.most, end)
 
     def start(self, now):
         """How many moves lay before the last command."""
@@ -119,6 +125,27 @@ def ask(line):
 def moves():
     """How many moves lie before the state now."""
     return int.from_bytes(bytes.fromhex(answer_to("p%x" % MOVES_NUMBER)), "little")
+
+
+def history():
+    """How many moves are kept, and how many bytes the journal has."""
+    words = ask("info history").split()
+    return int(words[0]), int(words[-2])
+
+
+def larger_journal(dropped, size):
+    """How many moves the largest journal would keep, by those that one of this size held."""
+    if size >= LARGEST_JOURNAL:
+        return "this journal has the most bytes that it may have, and held %s" % format(commands.most - dropped, ",")
+    held = LARGEST_JOURNAL * (max(commands.most, moves()) - dropped) // size
+    return "--journal %d would keep some %s" % (LARGEST_JOURNAL, format(int(float("%.1e" % held)), ","))
+
+
+def dropped_moves():
+    """Says how many moves the journal dropped, and what would keep more."""
+    kept, size = history()
+    dropped = moves() - kept
+    return "the journal dropped %s moves: %s" % (format(dropped, ","), larger_journal(dropped, size))
 
 
 def forget():
@@ -280,8 +307,8 @@ class Undo(Mover):
             return
         if start == now:
             raise gdb.GdbError("nothing to take back")
-        if int(ask("info history").split()[0]) < now - start:
-            raise gdb.GdbError("the journal has dropped moves of that command: a larger --journal keeps more")
+        if history()[0] < now - start:
+            raise gdb.GdbError("moves of that command aren't kept: " + dropped_moves())
         reply = ask("reverse-stepi %d" % (now - start))
         left = moves() - start
         # (edits before the first step are left, and among the steps they came back with them)
@@ -322,8 +349,11 @@ class Origin(Asker):
         super().__init__("bpf-origin", gdb.COMMAND_DATA, gdb.COMPLETE_EXPRESSION)
 
     def obey(self, argument):
-        for line in self.lines(argument.strip()):
+        lines = self.lines(argument.strip())
+        for line in lines:
             print(line + self.source_of(line))
+        if any(line.endswith("; before the kept history") for line in lines):
+            print(dropped_moves())
 
     def lines(self, text):
         """The lines of the answer."""

@@ -70,13 +70,14 @@ of_parts() {
     transcript gdb "$sessions/parts.txt"
 }
 
-# window LAYOUT: gdb's window of instructions, at a terminal, has those of BPF before the first step.
+# window LAYOUT: gdb's window of instructions, at a terminal, has those of BPF before the first step, and going back works there.
 window() {
     count=$((count + 1))
-    printf 'source %s\nbpf-load overrun.o -m context.bin\nlayout %s\nkill\nquit\n' "$top/share/bpfdb-gdb.py" "$1" > typed
+    printf 'source %s\nbpf-load overrun.o -m context.bin\nlayout %s\ncontinue\nreverse-stepi 2\nprint $moves\nkill\nquit\n' "$top/share/bpfdb-gdb.py" "$1" > typed
     PATH=$PWD/bin:$PATH LC_ALL=C TERM=xterm DEBUGINFOD_URLS='' timeout 60 python3 -c 'import pty, sys; pty.spawn(sys.argv[1:])' \
         gdb -nx -q -ex 'set confirm off' -ex 'set style enabled off' < typed > found/window 2>&1
     grep -aq 'ldxdw r1, \[r1+8\]' found/window || complain "layout $1 shows other instructions"
+    grep -aq '\$1 = 103' found/window || complain "layout $1: two steps back of 105 aren't taken"
 }
 
 # story NUMBER: the session of this number that docs/GDB.md shows in gdb, with an end.
@@ -144,6 +145,11 @@ if has python3 'sessions in gdb'; then
             for name in flows sized data odd; do compiled $name; done
             transcript gdb "$sessions/maps.txt"
             transcript gdb "$sessions/odd.txt"
+            # (code of -O2, and a function of it whose variables stay in memory)
+            clang -g -O2 -fstack-size-section -target bpf -c overrun.c -o optimized.o
+            sed 's/((noinline)) void copy/((noinline, optnone)) void copy/' overrun.c > kept.c
+            clang -g -O2 -fstack-size-section -target bpf -c kept.c
+            transcript gdb "$sessions/optimized.txt"
             of_parts -gdwarf-4
             of_parts -gdwarf-5
         fi
