@@ -10,6 +10,9 @@ SHARE = $(PREFIX)/share/bpfdb
 DOC = $(PREFIX)/share/doc/bpfdb
 PAGES = COMMANDS LISTING MACHINE JOURNAL GDB EDITORS PAGE TESTS HEADLINE PROMISES PERFORMANCE
 
+# The programs whose command lines shells complete.
+COMPLETED = bpfdb bpfdb-shell bpfdb-page bpfdb-dap
+
 # A first look without proofs, in a minute or two: the session of tests/session/script, or with FILE=FILE (and JOB, OPTIONS) `bpfdb JOB OPTIONS FILE`.
 JOB = debug
 try:
@@ -36,7 +39,7 @@ wrong-bodies:
 dist:
 	@sh tests/dist.sh
 
-# Installs the program, its shell for a terminal, its man page, completions of shells, the pages and examples for those who use it and what belongs
+# Installs the program, its shell for a terminal, man pages, completions of shells, the pages and examples for those who use it and what belongs
 # to gdb and to editors, below DESTDIR. It proves and builds the program where that is not done yet.
 install:
 	@sh tests/build.sh
@@ -45,10 +48,10 @@ install:
 # Takes them away again.
 uninstall:
 	@rm -f "$(DESTDIR)$(BIN)/bpfdb" "$(DESTDIR)$(BIN)/bpfdb-shell" "$(DESTDIR)$(BIN)/bpfdb-symbols" "$(DESTDIR)$(BIN)/bpfdb-show" "$(DESTDIR)$(BIN)/bpfdb-page" "$(DESTDIR)$(BIN)/bpfdb-conformance"
-	@rm -f "$(DESTDIR)$(MAN)/bpfdb.1"
+	@[ ! -d "$(DESTDIR)$(MAN)" ] || { cd "$(DESTDIR)$(MAN)" && rm -f $(notdir $(wildcard docs/*.1)); }
 	@[ ! -d "$(DESTDIR)$(PREFIX)/share" ] || { cd "$(DESTDIR)$(PREFIX)/share" && rm -f bpfdb/bpfdb-gdb.py bpfdb/bpfdb.h bpfdb/bpfdb.vim \
-		bash-completion/completions/bpfdb bash-completion/completions/bpfdb-shell zsh/site-functions/_bpfdb zsh/vendor-completions/_bpfdb \
-		fish/vendor_completions.d/bpfdb.fish fish/vendor_completions.d/bpfdb-shell.fish; }
+		$(patsubst %,bash-completion/completions/%,$(COMPLETED)) zsh/site-functions/_bpfdb zsh/vendor-completions/_bpfdb \
+		$(patsubst %,fish/vendor_completions.d/%.fish,$(COMPLETED)); }
 	@[ ! -d "$(DESTDIR)$(SHARE)" ] || { cd "$(DESTDIR)$(SHARE)" && rm -rf $(notdir $(wildcard share/bpfdb/*.py)) bpfdb-dap.el vscode; }
 	@rm -f "$(DESTDIR)$(BIN)/bpfdb-dap"
 	@rm -rf "$(DESTDIR)$(DOC)" "$(DESTDIR)$(SHARE)/page"

@@ -1,6 +1,6 @@
 #!/bin/sh
 # What shells and editors know of bpfdb: the completion of its command line (share/completion/: bash, zsh, fish), made from the tables of
-# subcommands and options of docs/COMMANDS.md, and the words of listings (share/editors/: Vim, and the TextMate grammar that VS Code reads),
+# subcommands and options of docs/COMMANDS.md, and of those of bpfdb-page and bpfdb-dap, made from their help; and the words of listings (share/editors/: Vim, and the TextMate grammar that VS Code reads),
 # made from the table of instructions of docs/LISTING.md. 'docs/editors.sh' writes them anew; 'docs/editors.sh --check' fails where one differs.
 set -u
 cd "$(dirname "$0")/.." || exit 1
@@ -47,8 +47,42 @@ options() {
     ' docs/COMMANDS.md
 }
 
-# of_jobs: '    JOB) WORDS' lines: for each subcommand, and for bpfdb-shell (which has those of debug and of link), the options that it has, as
-# bash takes them.
+# own_options NAME FILE: the same of a program beside bpfdb, by the help that stands in a file, for the subcommand NAME. What the help has of bpfdb's
+# own options is left out.
+own_options() {
+    awk -v name="$1" -v OFS='\t' '
+        function end(    n, names, i, parts, long, short, value, words) {
+            n = split(tag, names, ", ")
+            for (i = 1; i <= n; i++) {
+                split(names[i], parts, " ")
+                value = parts[2]
+                if (parts[1] ~ /^--/) long = substr(parts[1], 3); else short = substr(parts[1], 2)
+            }
+            if (match(text, /: [a-z0-9]+ or [a-z0-9]+$/)) {
+                words = substr(text, RSTART + 2)
+                sub(/ or /, " ", words)
+            }
+            sub(/[.:,;(] *.*/, "", text)
+            sub(/ +$/, "", text)
+            if (long != "" && long != "help") print long, short, value, text, name, words
+            tag = text = ""
+        }
+        /"""usage: / { inside = 1; next }
+        inside && /^$/ { end(); lists = !lists && !listed; listed = 1; next }
+        inside && /"""$/ { end(); exit }
+        inside && lists && /^  -/ {
+            end()
+            match($0, /[^ ]  +[^ ]/)
+            tag = substr($0, 3, RSTART - 2)
+            text = substr($0, RSTART + RLENGTH - 1)
+            next
+        }
+        inside && lists { sub(/^ +/, ""); text = text " " $0 }
+    ' "$2"
+}
+
+# of_jobs: '    JOB) WORDS' lines: for each subcommand, for bpfdb-shell (which has those of debug and of link), for bpfdb-page (its own, and those of run
+# and of link) and for bpfdb-dap, the options that it has, as bash takes them.
 of_jobs() {
     awk -F '\t' '
         NR == FNR { order[++count] = $1; next }
@@ -57,28 +91,73 @@ of_jobs() {
             n = split($5, jobs, ", ")
             for (i = 1; i <= n; i++) has[jobs[i]] = has[jobs[i]] names
             if ($5 ~ /debug|link/) has["shell"] = has["shell"] names
+            if ($5 ~ /^run|link/) has["page"] = has["page"] names
         }
         END {
             order[++count] = "shell"
+            order[++count] = "page"
+            order[++count] = "dap"
             for (i = 1; i <= count; i++) printf "    %s) words=\"%s\" ;;\n", order[i], substr(has[order[i]] has["each"], 2)
         }
     ' "$work/jobs" "$work/options"
 }
 
+# names: the function that asks bpfdb which names in a file an option may take: code sections, functions and tests. (Of a name that isn't there bpfdb
+# says which there are; names of tests stand in their report.)
+names() {
+    cat << 'TEXT'
+_bpfdb_names() {
+    case $1 in
+    --section) "$bpfdb" link "--section=?" -- "$file" 2>&1 > /dev/null | sed -n "s/^refused E8: no such code section: //p" | sed "s/, /\n/g" ;;
+    --entry)
+        "$bpfdb" link ${section:+"--section=$section"} "--entry=?" -- "$file" 2>&1 > /dev/null |
+            sed -n "s/^refused E31: no such function in the code section: //p" | sed "s/, /\n/g"
+        ;;
+    --only) timeout 2 "$bpfdb" test -- "$file" < /dev/null 2> /dev/null | sed -n "s/^\(not \)\{0,1\}ok [0-9]* - //p" | awk "!seen[\$0]++" ;;
+    esac
+}
+TEXT
+}
+
 # bash: the completion of bash.
 bash() {
     cat << 'TEXT'
-# Completion of bpfdb and bpfdb-shell for bash, made by docs/editors.sh.
-_bpfdb() {
-    local word=${COMP_WORDS[COMP_CWORD]} job=${COMP_WORDS[1]} first=1 words
-    [ "${COMP_WORDS[0]##*/}" = bpfdb ] || { job=shell first=0; }
-    COMPREPLY=()
-    case ${COMP_WORDS[COMP_CWORD - 1]} in
+# Completion of bpfdb, bpfdb-shell, bpfdb-page and bpfdb-dap for bash, made by docs/editors.sh.
 TEXT
-    awk -F '\t' '$3 != "" {
+    names
+    cat << 'TEXT'
+_bpfdb_of_file() {
+    local bpfdb=${BPFDB:-bpfdb} file='' section='' before='' each word=$2
+    [ "${COMP_WORDS[0]##*/}" != bpfdb ] || bpfdb=${COMP_WORDS[0]}
+    for each in "${COMP_WORDS[@]:1}"; do
+        [ "$each" != = ] || continue
+        each=${each/#\~/$HOME}
+        [ "$before" != --section ] || section=$each
+        [ ! -f "$each" ] || file=$each
+        before=$each
+    done
+    [ -n "$file" ] || return
+    word=${word#[\"\']}
+    word=${word//\\/}
+    # (names are anything, so that nothing may expand them)
+    while IFS= read -r each; do
+        [ "${each#"$word"}" = "$each" ] && [ -n "$word" ] || COMPREPLY+=("$each")
+    done < <(_bpfdb_names "$1")
+}
+_bpfdb() {
+    local word=${COMP_WORDS[COMP_CWORD]} job=${COMP_WORDS[1]} first=1 before=${COMP_WORDS[COMP_CWORD - 1]} words
+    [ "${COMP_WORDS[0]##*/}" = bpfdb ] || { job=${COMP_WORDS[0]##*bpfdb-} first=0; }
+    # (the shell takes --option=value for three words)
+    [ "$word" != = ] || { word=''; before='='; COMP_CWORD=$((COMP_CWORD + 1)); }
+    [ "$before" != = ] || before=${COMP_WORDS[COMP_CWORD - 2]}
+    COMPREPLY=()
+    case $before in
+TEXT
+    awk -F '\t' '$3 != "" && !seen[$1]++ {
         names = ($2 == "" ? "" : "-" $2 " | ") "--" $1
         if ($6 != "") done = "mapfile -t COMPREPLY < <(compgen -W \"" $6 "\" -- \"$word\")"
-        else done = ($3 == "PATH" || $3 == "FILE") ? "mapfile -t COMPREPLY < <(compgen -f -- \"$word\")" : ":"
+        else if ($1 ~ /^(section|entry|only)$/) done = "_bpfdb_of_file --" $1 " \"$word\""
+        else done = $3 ~ /^(PATH|FILE|PAGE)$/ ? "mapfile -t COMPREPLY < <(compgen -f -- \"$word\")" : ":"
         printf "    %s) %s; return ;;\n", names, done
     }' "$work/options"
     echo '    esac'
@@ -93,33 +172,53 @@ TEXT
     esac
     case $word in
     -*) mapfile -t COMPREPLY < <(compgen -W "$words" -- "$word") ;;
-    *) if [ "$job" = help ]; then mapfile -t COMPREPLY < <(compgen -W "$words" -- "$word"); else mapfile -t COMPREPLY < <(compgen -f -- "$word"); fi ;;
+    *) [ "$job" != dap ] || return; if [ "$job" = help ]; then mapfile -t COMPREPLY < <(compgen -W "$words" -- "$word"); else mapfile -t COMPREPLY < <(compgen -f -- "$word"); fi ;;
     esac
 }
-complete -o filenames -F _bpfdb bpfdb bpfdb-shell
+complete -o filenames -F _bpfdb bpfdb bpfdb-shell bpfdb-page bpfdb-dap
 TEXT
 }
 
 # zsh: the completion of zsh.
 zsh() {
     cat << 'TEXT'
-#compdef bpfdb bpfdb-shell
-# Completion of bpfdb and bpfdb-shell for zsh, made by docs/editors.sh.
+#compdef bpfdb bpfdb-shell bpfdb-page bpfdb-dap
+# Completion of bpfdb, bpfdb-shell, bpfdb-page and bpfdb-dap for zsh, made by docs/editors.sh.
+TEXT
+    names
+    cat << 'TEXT'
+_bpfdb_of_file() {
+    local bpfdb=${BPFDB:-bpfdb} file section before each
+    local -a found
+    for each in "${(@Q)words[2,-1]}"; do
+        each=${each/#\~/$HOME}
+        [[ $before != --section ]] || section=$each
+        [[ $each != --section=* ]] || section=${each#--section=}
+        [[ ! -f $each ]] || file=$each
+        before=$each
+    done
+    [[ -n $file ]] || return
+    found=("${(@f)$(_bpfdb_names $1)}")
+    compadd -a found
+}
 _bpfdb_options() {
     case $1 in
 TEXT
     awk -F '\t' '
         NR == FNR { order[++count] = $1; next }
         {
-            action = $6 != "" ? "(" $6 ")" : $3 == "PATH" || $3 == "FILE" ? "_files" : " "
+            action = $6 != "" ? "(" $6 ")" : $3 ~ /^(PATH|FILE|PAGE)$/ ? "_files" : $1 ~ /^(section|entry|only)$/ ? " _bpfdb_of_file --" $1 : " "
             spec = "[" $4 "]" ($3 == "" ? "" : ":" $3 ":" action)
             one = $2 == "" ? "\"--" $1 ($3 == "" ? "" : "=") spec "\"" : "\"(-" $2 " --" $1 ")\"{-" $2 ",--" $1 "}\"" spec "\""
             n = split($5, jobs, ", ")
             for (i = 1; i <= n; i++) has[jobs[i]] = has[jobs[i]] " " one
             if ($5 ~ /debug|link/) has["shell"] = has["shell"] " " one
+            if ($5 ~ /^run|link/) has["page"] = has["page"] " " one
         }
         END {
             order[++count] = "shell"
+            order[++count] = "page"
+            printf "    dap) _arguments%s%s ;;\n", has["dap"], has["each"]
             for (i = 1; i <= count; i++) printf "    %s) _arguments%s%s \"*:file:_files\" ;;\n", order[i], has[order[i]], has["each"]
             printf "    alone) _arguments%s%s ;;\n", has["bpfdb alone"], has["each"]
         }
@@ -139,8 +238,8 @@ TEXT
     _describe subcommand jobs
 }
 _bpfdb() {
-    if [[ $service == bpfdb-shell ]]; then
-        _bpfdb_options shell
+    if [[ $service == bpfdb-* ]]; then
+        _bpfdb_options ${service#bpfdb-}
     elif (( CURRENT == 2 )); then
         if [[ $PREFIX == -* ]]; then _bpfdb_options alone; else _bpfdb_jobs; fi
     else
@@ -156,19 +255,50 @@ TEXT
 
 # fish: the completion of fish.
 fish() {
-    echo '# Completion of bpfdb and bpfdb-shell for fish, made by docs/editors.sh.'
+    cat << 'TEXT'
+# Completion of bpfdb, bpfdb-shell, bpfdb-page and bpfdb-dap for fish, made by docs/editors.sh.
+function __bpfdb_of_file
+    set -l words (commandline -opc)
+    set -l bpfdb bpfdb
+    set -q BPFDB; and set bpfdb $BPFDB
+    string match -q -r '(^|/)bpfdb$' -- $words[1]; and set bpfdb $words[1]
+    set -l file
+    set -l section
+    set -l before
+    # (a file may stand behind the word that is typed, too)
+    for each in $words[2..-1] (commandline -o)
+        test "$before" = --section; and set section --section=$each
+        string match -q -- '--section=*' $each; and set section $each
+        set each (string replace -r '^~' $HOME -- $each)
+        test -f "$each"; and set file $each
+        set before $each
+    end
+    test -n "$file"; or return
+    switch $argv[1]
+        case section
+            $bpfdb link '--section=?' -- $file 2>&1 >/dev/null | string replace -f -r '^refused E8: no such code section: ' '' | string split ', '
+        case entry
+            $bpfdb link $section '--entry=?' -- $file 2>&1 >/dev/null | string replace -f -r '^refused E31: no such function in the code section: ' '' | string split ', '
+        case only
+            timeout 2 $bpfdb test -- $file </dev/null 2>/dev/null | string replace -f -r '^(not )?ok [0-9]* - ' ''
+    end
+end
+TEXT
     awk -F '\t' '{ printf "complete -c bpfdb -n __fish_use_subcommand -f -a %s -d \"%s\"\n", $1, $2 }' "$work/jobs"
     echo 'complete -c bpfdb -n __fish_use_subcommand -f -a help -d "describes a subcommand"'
     awk -F '\t' '
         NR == FNR { all = all " " $1; next }
         {
             names = ($2 == "" ? "" : " -s " $2) " -l " $1
-            takes = $3 == "" ? "" : $6 != "" ? " -x -a \"" $6 "\"" : $3 == "PATH" || $3 == "FILE" ? " -r -F" : " -x"
+            takes = $3 == "" ? "" : $6 != "" ? " -x -a \"" $6 "\"" : $3 ~ /^(PATH|FILE|PAGE)$/ ? " -r -F" : $1 ~ /^(section|entry|only)$/ ? " -x -a \"(__bpfdb_of_file " $1 ")\"" : " -x"
+            if ($5 ~ /^(page|dap)$/) { printf "complete -c bpfdb-%s%s%s -d \"%s\"\n", $5, names, takes, $4; next }
             jobs = $5
             gsub(/,/, "", jobs)
             where = jobs == "each" ? "" : jobs == "bpfdb alone" ? " -n __fish_use_subcommand" : " -n \"__fish_seen_subcommand_from " jobs "\""
             printf "complete -c bpfdb%s%s%s -d \"%s\"\n", where, names, takes, $4
             if (jobs ~ /debug|link|each/) printf "complete -c bpfdb-shell%s%s -d \"%s\"\n", names, takes, $4
+            if (jobs ~ /^run|link|each/) printf "complete -c bpfdb-page%s%s -d \"%s\"\n", names, takes, $4
+            if (jobs == "each") printf "complete -c bpfdb-dap -f%s%s -d \"%s\"\n", names, takes, $4
         }
     ' "$work/jobs" "$work/options"
 }
@@ -234,8 +364,11 @@ hold() {
 mode=${1:-} status=0
 jobs > "$work/jobs"
 options > "$work/options"
+own_options page share/bpfdb-page > "$work/page"
+own_options dap share/bpfdb/serving.py > "$work/dap"
+cat "$work/page" "$work/dap" >> "$work/options"
 mnemonics > "$work/mnemonics"
-for list in jobs options mnemonics; do
+for list in jobs options page dap mnemonics; do
     [ -s "$work/$list" ] || { echo "docs/editors.sh: the pages have no $list" >&2; exit 1; }
 done
 bash > "$work/made" && hold completion/bpfdb.bash "$work/made"

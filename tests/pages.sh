@@ -1,7 +1,7 @@
 #!/bin/sh
 # What README.md and docs/ say of the repository, held against it: the tables made from the files, the files, headings, functions,
 # clauses and definitions that a page names, the sessions that README and examples/README.md show, the C of docs/GDB.md, the commands and refusals of
-# the manual and its man page, the commands and options of help, the wrong bodies of must-fail/, and the toolchain
+# the manual and its man page, the man pages of all programs, the commands and options of help, the wrong bodies of must-fail/, and the toolchain
 # that README and `bpfdb --version` name.
 set -u
 cd "$(dirname "$0")/.." || exit 1
@@ -288,6 +288,18 @@ libraries() {
     done
 }
 
+# manuals: each man page is shown without a warning, and where a program beside bpfdb has no man page that is a fault.
+manuals() {
+    for program in share/bpfdb-*; do
+        case $program in *.py) continue ;; esac
+        [ -f "docs/$(basename "$program").1" ] || fault "$program has no man page"
+    done
+    command -v groff > /dev/null || return
+    for manual in docs/*.1; do
+        groff -man -ww -K utf8 -T utf8 -Z "$manual" 2>&1 > /dev/null | grep . && fault "$manual is shown with warnings"
+    done
+}
+
 # toolchain: README.md and `bpfdb --version` name the same one, and `bpfdb --version` the changelog's version. What proofs rest on is its logic: that is the one
 # that `rt version` names, in whichever kit it comes.
 toolchain() {
@@ -338,8 +350,9 @@ widths
 libraries
 refusals
 edits
-sh docs/man.sh --check || fault 'the man page'
-! grep -n '](' docs/bpfdb.1 || fault 'the man page has links of Markdown'
+sh docs/man.sh --check || fault 'the man pages'
+! grep -n '](' docs/*.1 || fault 'a man page has links of Markdown'
+manuals
 sh docs/editors.sh --check || fault 'what shells and editors know'
 toolchain
 [ ! -s "$work/faults" ]

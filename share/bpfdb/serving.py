@@ -10,6 +10,19 @@ from bpfdb.adapter import Adapter
 from bpfdb.protocol import Channel
 
 
+HELP = """usage: bpfdb-dap [--port N] [--over NAME]
+Answers an editor by the debug adapter protocol on standard input and output,
+with steps back. The editor starts it.
+
+  --port N      answers the one editor that comes to this port of this machine
+                instead; 0 is a port that the system chooses, which is told on
+                standard error
+  --over NAME   what programs are debugged over, where launch does not say it:
+                gdb or bpfdb
+  -h, --help    writes this
+"""
+
+
 def port(text):
     """A port's number."""
     if not text.isdigit() or len(text) > 5 or int(text) > 65535:
@@ -40,6 +53,10 @@ def streams():
 
 def main(given):
     parser = argparse.ArgumentParser(prog='bpfdb-dap', description='bpfdb for editors, by the debug adapter protocol: a step back, too.')
+    # (argparse's own help looks different from one Python to the next, and doesn't say where it can't be written)
+    if set(given) & {'-h', '--help'}:
+        os.write(1, HELP.encode())
+        return 0
     parser.add_argument('--port', type=port, metavar='N', help='answer on this port of the loopback, and not on standard input and output')
     parser.add_argument('--over', choices=('gdb', 'bpfdb'), default='', help='what programs are debugged over, where launch does not say it')
     words = parser.parse_args(given)

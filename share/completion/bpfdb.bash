@@ -1,9 +1,40 @@
-# Completion of bpfdb and bpfdb-shell for bash, made by docs/editors.sh.
+# Completion of bpfdb, bpfdb-shell, bpfdb-page and bpfdb-dap for bash, made by docs/editors.sh.
+_bpfdb_names() {
+    case $1 in
+    --section) "$bpfdb" link "--section=?" -- "$file" 2>&1 > /dev/null | sed -n "s/^refused E8: no such code section: //p" | sed "s/, /\n/g" ;;
+    --entry)
+        "$bpfdb" link ${section:+"--section=$section"} "--entry=?" -- "$file" 2>&1 > /dev/null |
+            sed -n "s/^refused E31: no such function in the code section: //p" | sed "s/, /\n/g"
+        ;;
+    --only) timeout 2 "$bpfdb" test -- "$file" < /dev/null 2> /dev/null | sed -n "s/^\(not \)\{0,1\}ok [0-9]* - //p" | awk "!seen[\$0]++" ;;
+    esac
+}
+_bpfdb_of_file() {
+    local bpfdb=${BPFDB:-bpfdb} file='' section='' before='' each word=$2
+    [ "${COMP_WORDS[0]##*/}" != bpfdb ] || bpfdb=${COMP_WORDS[0]}
+    for each in "${COMP_WORDS[@]:1}"; do
+        [ "$each" != = ] || continue
+        each=${each/#\~/$HOME}
+        [ "$before" != --section ] || section=$each
+        [ ! -f "$each" ] || file=$each
+        before=$each
+    done
+    [ -n "$file" ] || return
+    word=${word#[\"\']}
+    word=${word//\\/}
+    # (names are anything, so that nothing may expand them)
+    while IFS= read -r each; do
+        [ "${each#"$word"}" = "$each" ] && [ -n "$word" ] || COMPREPLY+=("$each")
+    done < <(_bpfdb_names "$1")
+}
 _bpfdb() {
-    local word=${COMP_WORDS[COMP_CWORD]} job=${COMP_WORDS[1]} first=1 words
-    [ "${COMP_WORDS[0]##*/}" = bpfdb ] || { job=shell first=0; }
+    local word=${COMP_WORDS[COMP_CWORD]} job=${COMP_WORDS[1]} first=1 before=${COMP_WORDS[COMP_CWORD - 1]} words
+    [ "${COMP_WORDS[0]##*/}" = bpfdb ] || { job=${COMP_WORDS[0]##*bpfdb-} first=0; }
+    # (the shell takes --option=value for three words)
+    [ "$word" != = ] || { word=''; before='='; COMP_CWORD=$((COMP_CWORD + 1)); }
+    [ "$before" != = ] || before=${COMP_WORDS[COMP_CWORD - 2]}
     COMPREPLY=()
-    case ${COMP_WORDS[COMP_CWORD - 1]} in
+    case $before in
     -m | --mem) mapfile -t COMPREPLY < <(compgen -f -- "$word"); return ;;
     --maps) :; return ;;
     --journal) :; return ;;
@@ -11,13 +42,17 @@ _bpfdb() {
     --from) :; return ;;
     --count) :; return ;;
     --registers) mapfile -t COMPREPLY < <(compgen -W "x86 riscv bpf" -- "$word"); return ;;
-    --section) :; return ;;
-    --entry) :; return ;;
+    --section) _bpfdb_of_file --section "$word"; return ;;
+    --entry) _bpfdb_of_file --entry "$word"; return ;;
     --stub) :; return ;;
     --script) mapfile -t COMPREPLY < <(compgen -f -- "$word"); return ;;
     --lines) :; return ;;
-    --only) :; return ;;
-    --show) :; return ;;
+    --only) _bpfdb_of_file --only "$word"; return ;;
+    --show) mapfile -t COMPREPLY < <(compgen -W "program context options script" -- "$word"); return ;;
+    -o | --output) mapfile -t COMPREPLY < <(compgen -f -- "$word"); return ;;
+    --title) :; return ;;
+    --port) :; return ;;
+    --over) mapfile -t COMPREPLY < <(compgen -W "gdb bpfdb" -- "$word"); return ;;
     esac
     if [ "$COMP_CWORD" -eq "$first" ]; then
         mapfile -t COMPREPLY < <(compgen -W "run trace debug origin asm disasm lines check link gdb test help --help --version" -- "$word")
@@ -36,12 +71,14 @@ _bpfdb() {
     gdb) words="-m --mem --maps --journal --steps --listing --registers -h --help" ;;
     test) words="--only --show -h --help" ;;
     shell) words="-m --mem --maps --journal --steps --listing --section --entry --stub --as-compiled -h --help" ;;
+    page) words="-m --mem --maps --steps --listing --section --entry --stub --as-compiled -o --output --from --count --title --object -h --help" ;;
+    dap) words="--port --over -h --help" ;;
     help) words="run trace debug origin asm disasm lines check link gdb test" ;;
     *) return ;;
     esac
     case $word in
     -*) mapfile -t COMPREPLY < <(compgen -W "$words" -- "$word") ;;
-    *) if [ "$job" = help ]; then mapfile -t COMPREPLY < <(compgen -W "$words" -- "$word"); else mapfile -t COMPREPLY < <(compgen -f -- "$word"); fi ;;
+    *) [ "$job" != dap ] || return; if [ "$job" = help ]; then mapfile -t COMPREPLY < <(compgen -W "$words" -- "$word"); else mapfile -t COMPREPLY < <(compgen -f -- "$word"); fi ;;
     esac
 }
-complete -o filenames -F _bpfdb bpfdb bpfdb-shell
+complete -o filenames -F _bpfdb bpfdb bpfdb-shell bpfdb-page bpfdb-dap

@@ -1,4 +1,30 @@
-# Completion of bpfdb and bpfdb-shell for fish, made by docs/editors.sh.
+# Completion of bpfdb, bpfdb-shell, bpfdb-page and bpfdb-dap for fish, made by docs/editors.sh.
+function __bpfdb_of_file
+    set -l words (commandline -opc)
+    set -l bpfdb bpfdb
+    set -q BPFDB; and set bpfdb $BPFDB
+    string match -q -r '(^|/)bpfdb$' -- $words[1]; and set bpfdb $words[1]
+    set -l file
+    set -l section
+    set -l before
+    # (a file may stand behind the word that is typed, too)
+    for each in $words[2..-1] (commandline -o)
+        test "$before" = --section; and set section --section=$each
+        string match -q -- '--section=*' $each; and set section $each
+        set each (string replace -r '^~' $HOME -- $each)
+        test -f "$each"; and set file $each
+        set before $each
+    end
+    test -n "$file"; or return
+    switch $argv[1]
+        case section
+            $bpfdb link '--section=?' -- $file 2>&1 >/dev/null | string replace -f -r '^refused E8: no such code section: ' '' | string split ', '
+        case entry
+            $bpfdb link $section '--entry=?' -- $file 2>&1 >/dev/null | string replace -f -r '^refused E31: no such function in the code section: ' '' | string split ', '
+        case only
+            timeout 2 $bpfdb test -- $file </dev/null 2>/dev/null | string replace -f -r '^(not )?ok [0-9]* - ' ''
+    end
+end
 complete -c bpfdb -n __fish_use_subcommand -f -a run -d "runs the program until it ends"
 complete -c bpfdb -n __fish_use_subcommand -f -a trace -d "runs the program until it ends, and shows each step"
 complete -c bpfdb -n __fish_use_subcommand -f -a debug -d "obeys the commands of a script from standard input"
@@ -13,31 +39,48 @@ complete -c bpfdb -n __fish_use_subcommand -f -a test -d "runs the tests of the 
 complete -c bpfdb -n __fish_use_subcommand -f -a help -d "describes a subcommand"
 complete -c bpfdb -n "__fish_seen_subcommand_from run trace debug origin gdb" -s m -l mem -r -F -d "The file that holds the context"
 complete -c bpfdb-shell -s m -l mem -r -F -d "The file that holds the context"
+complete -c bpfdb-page -s m -l mem -r -F -d "The file that holds the context"
 complete -c bpfdb -n "__fish_seen_subcommand_from run trace debug origin disasm check gdb" -l maps -x -d "The program's maps"
 complete -c bpfdb-shell -l maps -x -d "The program's maps"
+complete -c bpfdb-page -l maps -x -d "The program's maps"
 complete -c bpfdb -n "__fish_seen_subcommand_from debug origin gdb" -l journal -x -d "The size of the journal"
 complete -c bpfdb-shell -l journal -x -d "The size of the journal"
 complete -c bpfdb -n "__fish_seen_subcommand_from run trace debug origin gdb" -l steps -x -d "The limit of steps for a run"
 complete -c bpfdb-shell -l steps -x -d "The limit of steps for a run"
+complete -c bpfdb-page -l steps -x -d "The limit of steps for a run"
 complete -c bpfdb -n "__fish_seen_subcommand_from trace" -l from -x -d "The number of the first step that is shown"
 complete -c bpfdb -n "__fish_seen_subcommand_from trace" -l count -x -d "The most steps that are shown"
 complete -c bpfdb -n "__fish_seen_subcommand_from trace" -l profile -d "Shows how often each instruction ran"
 complete -c bpfdb -n "__fish_seen_subcommand_from run trace debug origin disasm check gdb" -l listing -d "FILE is a listing"
 complete -c bpfdb-shell -l listing -d "FILE is a listing"
+complete -c bpfdb-page -l listing -d "FILE is a listing"
 complete -c bpfdb -n "__fish_seen_subcommand_from gdb" -l registers -x -a "x86 riscv bpf" -d "The machine that gdb takes bpfdb for"
-complete -c bpfdb -n "__fish_seen_subcommand_from link" -l section -x -d "The code section to link"
-complete -c bpfdb-shell -l section -x -d "The code section to link"
-complete -c bpfdb -n "__fish_seen_subcommand_from link" -l entry -x -d "The function of that section at which the program begins"
-complete -c bpfdb-shell -l entry -x -d "The function of that section at which the program begins"
+complete -c bpfdb -n "__fish_seen_subcommand_from link" -l section -x -a "(__bpfdb_of_file section)" -d "The code section to link"
+complete -c bpfdb-shell -l section -x -a "(__bpfdb_of_file section)" -d "The code section to link"
+complete -c bpfdb-page -l section -x -a "(__bpfdb_of_file section)" -d "The code section to link"
+complete -c bpfdb -n "__fish_seen_subcommand_from link" -l entry -x -a "(__bpfdb_of_file entry)" -d "The function of that section at which the program begins"
+complete -c bpfdb-shell -l entry -x -a "(__bpfdb_of_file entry)" -d "The function of that section at which the program begins"
+complete -c bpfdb-page -l entry -x -a "(__bpfdb_of_file entry)" -d "The function of that section at which the program begins"
 complete -c bpfdb -n "__fish_seen_subcommand_from link" -l stub -x -d "Helpers whose calls are answered by a constant"
 complete -c bpfdb-shell -l stub -x -d "Helpers whose calls are answered by a constant"
+complete -c bpfdb-page -l stub -x -d "Helpers whose calls are answered by a constant"
 complete -c bpfdb -n "__fish_seen_subcommand_from origin" -l script -r -F -d "The script that is obeyed in place of a run"
 complete -c bpfdb -n "__fish_seen_subcommand_from link" -l as-compiled -d "Leaves fields where they were compiled"
 complete -c bpfdb-shell -l as-compiled -d "Leaves fields where they were compiled"
+complete -c bpfdb-page -l as-compiled -d "Leaves fields where they were compiled"
 complete -c bpfdb -n "__fish_seen_subcommand_from origin" -l lines -x -d "The most lines of moves in an answer"
 complete -c bpfdb -n "__fish_seen_subcommand_from origin" -l addresses -d "The registers that make addresses are followed"
-complete -c bpfdb -n "__fish_seen_subcommand_from test" -l only -x -d "The tests of this name are run alone"
-complete -c bpfdb -n "__fish_seen_subcommand_from test" -l show -x -d "A part of the one test that is asked for is written to standard output"
+complete -c bpfdb -n "__fish_seen_subcommand_from test" -l only -x -a "(__bpfdb_of_file only)" -d "The tests of this name are run alone"
+complete -c bpfdb -n "__fish_seen_subcommand_from test" -l show -x -a "program context options script" -d "A part of the one test that is asked for is written to standard output"
 complete -c bpfdb -s h -l help -d "Writes help to standard output"
 complete -c bpfdb-shell -s h -l help -d "Writes help to standard output"
+complete -c bpfdb-page -s h -l help -d "Writes help to standard output"
+complete -c bpfdb-dap -f -s h -l help -d "Writes help to standard output"
 complete -c bpfdb -n __fish_use_subcommand -s V -l version -d "Writes the version"
+complete -c bpfdb-page -s o -l output -r -F -d "the file to write"
+complete -c bpfdb-page -l from -x -d "the first step that is shown"
+complete -c bpfdb-page -l count -x -d "how many are shown"
+complete -c bpfdb-page -l title -x -d "what the page is called"
+complete -c bpfdb-page -l object -d "FILE is an object"
+complete -c bpfdb-dap -l port -x -d "answers the one editor that comes to this port of this machine instead"
+complete -c bpfdb-dap -l over -x -a "gdb bpfdb" -d "what programs are debugged over"

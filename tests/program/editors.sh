@@ -11,6 +11,13 @@ completed() {
 }
 
 : > program.bin
+mkdir bin
+ln -s "$program" bin/bpfdb
+PATH=$PWD/bin:$PATH
+bytes overrun.o $(sed 's/../& /g' "$top/examples/overrun/object.hex")
+# (a section whose name a shell would obey: `id`;x in the place of filter)
+bytes hostile.o $(sed 's/66696c746572/6069 64603b78/g; s/ //g; s/../& /g' "$top/examples/overrun/object.hex")
+cp "$top/examples/suite/program.test" named.test
 if has bash 'completion in bash'; then
     completed 'run\n' bpfdb ru
     completed 'debug\ndisasm\n' bpfdb d
@@ -33,9 +40,31 @@ if has bash 'completion in bash'; then
     completed '--section\n' bpfdb-shell --sec
     completed '\n' bpfdb-shell --reg
     completed 'program.bin\n' bpfdb-shell prog
+    completed '--output\n--object\n' bpfdb-page --o
+    completed '--journal\n' bpfdb-shell --jou
+    completed '\n' bpfdb-page --jou
+    completed 'program.bin\n' bpfdb-page -o prog
+    completed '--port\n--over\n-h\n--help\n' bpfdb-dap -
+    completed 'gdb\nbpfdb\n' bpfdb-dap --over ''
+    completed '\n' bpfdb-dap prog
+    # Values: words of an option, and names that stand in the file.
+    completed 'program\ncontext\noptions\nscript\n' bpfdb test --show ''
+    completed 'riscv\n' bpfdb gdb --registers = r
+    completed 'x86\nriscv\nbpf\n' bpfdb gdb --registers =
+    completed '.text\nfilter\n' bpfdb link overrun.o --section ''
+    completed 'filter\n' bpfdb-shell overrun.o --section f
+    completed 'filter\n' bpfdb-page overrun.o --section = f
+    completed '`id`;x\n' bpfdb link hostile.o --section '\`'
+    completed 'entry\n' bpfdb link overrun.o --entry ''
+    completed 'copy\nsize_of\n' bpfdb link --section .text overrun.o --entry ''
+    completed 'a short header is dropped\n' bpfdb test named.test --only "'a sh"
+    completed '\n' bpfdb test program.bin --only ''
+    completed '\n' bpfdb link --section ''
 fi
 if has fish 'completion in fish'; then
-    for row in 'bpfdb ru|run' 'bpfdb run --ma|--maps' 'bpfdb run --jo|' 'bpfdb debug --jo|--journal' 'bpfdb gdb --registers ri|riscv' 'bpfdb-shell --jo|--journal'; do
+    for row in 'bpfdb ru|run' 'bpfdb run --ma|--maps' 'bpfdb run --jo|' 'bpfdb debug --jo|--journal' 'bpfdb gdb --registers ri|riscv' 'bpfdb-shell --jo|--journal' 'bpfdb-page --ti|--title' 'bpfdb-dap --over b|bpfdb' \
+        'bpfdb test --show sc|script' 'bpfdb link overrun.o --section f|filter' 'bpfdb link --section .text overrun.o --entry s|size_of' \
+        'bpfdb link hostile.o --section \`|`id`;x' 'bpfdb test named.test --only a\ sh|a short header is dropped'; do
         HOME=$PWD fish --no-config -c "source '$top/share/completion/bpfdb.fish'; complete -C '${row%|*}'" 2> found/err | sed 's/\t.*//' > found/out
         echo 0 > found/status
         check "fish: ${row%|*}" 0 "${row#*|}$([ -z "${row#*|}" ] || printf '%s' '\n')" ''

@@ -13,7 +13,7 @@ else
         echo "for editors: $2/bin/bpfdb-dap, $2/share/bpfdb/vscode and $2/share/bpfdb/bpfdb-dap.el" > wanted/editors
         same "make install PREFIX=$2: what it says of editors" wanted/editors found/editors
         sed -i '$d' found/out
-        check "make install PREFIX=$2" 0 "installed $2/bin/bpfdb, bpfdb-shell, bpfdb-symbols, bpfdb-show, bpfdb-page and bpfdb-conformance beside it, the man page, completions of bash, zsh and fish, and pages and examples in $2/share/doc/bpfdb; in gdb: source $2/share/bpfdb/bpfdb-gdb.py\n" ''
+        check "make install PREFIX=$2" 0 "installed $2/bin/bpfdb, bpfdb-shell, bpfdb-symbols, bpfdb-show, bpfdb-page and bpfdb-conformance beside it, man pages, completions of bash, zsh and fish, and pages and examples in $2/share/doc/bpfdb; in gdb: source $2/share/bpfdb/bpfdb-gdb.py\n" ''
         (cd "$installed" && find . -type f -printf '%m %P\n' | sort) > found/files
         (cd "${1:-$2}" && find . -type d ! -perm 755) > found/folders
         : > wanted/folders
@@ -21,6 +21,8 @@ else
         {
             cat <<'FILES'
 644 share/bash-completion/completions/bpfdb
+644 share/bash-completion/completions/bpfdb-dap
+644 share/bash-completion/completions/bpfdb-page
 644 share/bash-completion/completions/bpfdb-shell
 644 share/bpfdb/bpfdb-gdb.py
 644 share/bpfdb/bpfdb-dap.el
@@ -55,8 +57,16 @@ else
 644 share/doc/bpfdb/page-firewall.png
 644 share/doc/bpfdb/page-overrun.png
 644 share/doc/bpfdb/session.svg
+644 share/fish/vendor_completions.d/bpfdb-dap.fish
+644 share/fish/vendor_completions.d/bpfdb-page.fish
 644 share/fish/vendor_completions.d/bpfdb-shell.fish
 644 share/fish/vendor_completions.d/bpfdb.fish
+644 share/man/man1/bpfdb-conformance.1
+644 share/man/man1/bpfdb-dap.1
+644 share/man/man1/bpfdb-page.1
+644 share/man/man1/bpfdb-shell.1
+644 share/man/man1/bpfdb-show.1
+644 share/man/man1/bpfdb-symbols.1
 644 share/man/man1/bpfdb.1
 644 share/zsh/site-functions/_bpfdb
 755 bin/bpfdb

@@ -252,3 +252,27 @@ session 'the example of bpfdb --help' 'stepi 3\nreverse-stepi\nundo\n' \
 session 'the example of bpfdb debug --help' 'break 1\ncontinue\nundo\n' \
     'ok\n1 forward; break; at 1: jlt r0, 3, L0\n1 back; done; at 0: add r0, 1\n' debug --journal 1048576 count.bin
 result 'L0:\nadd r0, 1\njlt r0, 3, L0\nexit\n' disasm count.bin
+
+# The programs beside it tell their help alone, in lines of 80 columns, and status 0.
+for tool in conformance show dap page shell symbols; do
+    case $tool in conformance | show) ;; *) has python3 "bpfdb-$tool --help" || continue ;; esac
+    for word in -h --help; do
+        BPFDB=$program "$top/share/bpfdb-$tool" "$word" < /dev/null > found/help 2> found/err
+        echo $? > found/status
+        head -n 1 found/help | cut -d ' ' -f 1-2 > found/out
+        awk 'length > 80' found/help >> found/out
+        check "bpfdb-$tool $word" 0 "usage: bpfdb-$tool\n" ''
+    done
+    [ ! -c /dev/full ] || {
+        "$top/share/bpfdb-$tool" --help < /dev/null > /dev/full 2> found/err
+        [ $? -ne 0 ] || complain "bpfdb-$tool --help to a full output"
+        count=$((count + 1))
+    }
+done
+# argparse knows no other options than help tells.
+for tool in dap symbols; do
+    has python3 "options of bpfdb-$tool" || continue
+    "$top/share/bpfdb-$tool" --help < /dev/null | grep -o -e '--[a-z]*' | sort -u > wanted/options
+    { "$top/share/bpfdb-$tool" --frob < /dev/null 2>&1 | sed '/error:/d' | grep -o -e '--[a-z]*'; echo --help; } | sort -u > found/options
+    same "bpfdb-$tool: options of its help" wanted/options found/options
+done
