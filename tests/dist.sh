@@ -1,7 +1,7 @@
 #!/bin/sh
 # `make dist`: what is handed on of a built program, in the folder out/dist (or the one that is named): an archive, a Debian package where there is
-# dpkg-deb, and their SHA256SUMS. In it are the program, its shell, the tools for gdb and for pages, the man page, the pages for users, the examples, the
-# license, the changelog, and a file BUILD with the commit and the last line of the gate, which `make test` leaves in out/passed. A tree
+# dpkg-deb, and their SHA256SUMS. In it are the program, its shell, the tools for gdb and for pages, man pages, the pages for users, the examples, the
+# license, the changelog, in the archive a README at its top, and a file BUILD with the commit and the last line of the gate, which `make test` leaves in out/passed. A tree
 # that differs from its commit, or whose commit the gate hasn't passed, gives none. The same commit gives the same bytes, under any umask.
 set -u
 umask 022
@@ -34,6 +34,49 @@ told() {
     "$program" --version
 }
 
+# readme: what stands at the top of the archive. (Its commands are those of a test.)
+readme() {
+    cat << README
+bpfdb $version runs BPF programs forwards and backwards. You need Linux on x86-64
+with glibc 2.34 or later; python3 for all programs but bpfdb itself; addr2line
+(binutils) for lines of C. Nothing has to be installed. In this folder:
+
+    PATH=\$PWD/bin:\$PATH
+    cd share/doc/bpfdb/examples/overrun
+    bpfdb run -m context.bin program.bin
+
+This program faults at a bad address. Where did the address come from?
+
+    bpfdb origin -m context.bin program.bin
+    bpfdb-shell -m context.bin program.bin
+    bpfdb-page -o \$HOME/run.html -m context.bin program.bin
+
+The second is a prompt, for 'continue', 'reverse-stepi 2' and 'origin r1'; the
+third writes the whole run as a page for a browser. share/doc/bpfdb/README.md
+goes on from there, and GDB.md beside it has the session in gdb. The manual is
+'man -M share/man bpfdb'.
+
+To install it, copy bin and share to /usr/local. share/doc/bpfdb/BUILD says what
+was built and proved. License: Apache-2.0 (share/doc/bpfdb/LICENSE).
+README
+}
+
+# copyright: what a Debian package says of its license.
+copyright() {
+    cat << COPYRIGHT
+Format: https://www.debian.org/doc/packaging-manuals/copyright-format/1.0/
+Upstream-Name: bpfdb
+
+Files: *
+Copyright: $(sed -n 's/.*Copyright \([0-9].*\)\.$/\1/p' README.md)
+License: Apache-2.0
+
+License: Apache-2.0
+ On Debian systems the text of this license is the file
+ /usr/share/common-licenses/Apache-2.0. It is LICENSE beside this file, too.
+COPYRIGHT
+}
+
 # package: the Debian package of the tree $work/deb.
 package() {
     mkdir "$work/deb/DEBIAN"
@@ -46,7 +89,7 @@ Section: devel
 Priority: optional
 Depends: libc6 (>= 2.34)
 Recommends: python3
-Suggests: gdb, clang
+Suggests: binutils, clang, gdb
 Description: runs BPF programs forwards and backwards
  A debugger for BPF programs (RFC 9669) that goes back exactly, with a checker,
  an assembler, a disassembler, a linker and an interpreter. Its code is proved.
@@ -61,10 +104,12 @@ rm -rf "$to"
 mkdir -p "$to" || exit 1
 make -s install DESTDIR="$work/tree" PREFIX="/$name" > /dev/null || fail 'make install'
 told > "$work/tree/$name/share/doc/bpfdb/BUILD"
+readme > "$work/tree/$name/README"
 tar -c --sort=name --mtime="@$SOURCE_DATE_EPOCH" --owner=0 --group=0 --numeric-owner -C "$work/tree" "$name" | gzip -n > "$to/$name.tar.gz" || fail 'tar'
 if command -v dpkg-deb > /dev/null; then
     make -s install DESTDIR="$work/deb" PREFIX=/usr > /dev/null || fail 'make install'
     told > "$work/deb/usr/share/doc/bpfdb/BUILD"
+    copyright > "$work/deb/usr/share/doc/bpfdb/copyright"
     package
 else
     echo 'There is no dpkg-deb here, so no Debian package is made.'

@@ -2,19 +2,42 @@
 # bpfdb without proofs, for a first look: `rt try` compiles it with checks and runs it once, in a minute or two. Nothing is proved by that.
 # Without words it plays the session of tests/session/script with the example overrun, which README shows, each command behind '> '. With words it is bpfdb's own
 # command line: a word that names a file is that file, standard input is the script (of `debug` at a terminal: up to Ctrl-D), and what is
-# printed comes when it has ended. Its status is bpfdb's.
+# printed comes when it has ended. Its status is bpfdb's. Each ten seconds a line says that it still works.
 set -u
 from=$PWD
 cd "$(dirname "$0")/.." || exit 1
 command -v rt > /dev/null || { echo "FAILED: there is no 'rt', the command of the Rattle toolchain (README.md says where it comes from)." >&2; exit 1; }
 work=$(mktemp -d) || exit 1
-trap 'rm -rf "$work"' EXIT
+ticker=''
+# leave: ends what tells of the time, and takes all files away.
+leave() {
+    [ -z "$ticker" ] || kill "$ticker"
+    rm -rf "$work"
+}
+trap leave EXIT
 trap 'exit 130' HUP INT TERM
+
+# tell_time: a line each ten seconds, until it is killed.
+tell_time() {
+    trap 'kill "$sleeper"; exit' TERM
+    seconds=0
+    while :; do
+        sleep 10 &
+        sleeper=$!
+        wait "$sleeper"
+        seconds=$((seconds + 10))
+        echo "still at work, after $seconds s" >&2
+    done
+}
 
 # tried WORD..: the command line, by `rt try`. What `rt try` itself says of its run is left out, unless the run gave no answer.
 tried() {
+    tell_time < /dev/null > /dev/null &
+    ticker=$!
     (cd crates/bpfdb && rt try "$@") 2> "$work/err"
     status=$?
+    kill "$ticker"
+    ticker=''
     grep -q '^run=ended' "$work/err" || { cat "$work/err" >&2; return "$status"; }
     grep -v -E '^(checked: |run=|interpreted: |rt: |note: )' "$work/err" >&2
     return "$status"
@@ -66,3 +89,13 @@ fi
 tried --data "context.bin=$PWD/examples/overrun/context.bin" --data "program.bin=$PWD/examples/overrun/program.bin" -- \
     debug $(cat examples/overrun/arguments) < tests/session/script > "$work/replies" || exit
 paste -d '\n' tests/session/script "$work/replies" | sed '1~2s/^/> /'
+cat >&2 <<'NEXT'
+
+What to type next:
+  make try FILE=examples/fault/program.s OPTIONS='--listing -m examples/fault/context.bin'
+      debugs a program of yours, or this one: continue, reverse-stepi, info regs, and then Ctrl-D
+  make try JOB=origin FILE=examples/fault/program.s OPTIONS='--listing -m examples/fault/context.bin'
+      says where its bad address came from
+  make run
+      proves and builds bpfdb; `make install` then brings bpfdb-shell, bpfdb-page and the others
+NEXT

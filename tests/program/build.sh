@@ -142,3 +142,22 @@ PATH=$PWD/try:$PATH ./terminal script "$(command -v sh)" "$top/tests/try.sh" deb
 echo $? > found/status
 check 'make try at a terminal' 0 'stepi\ninfo regs\n' \
     'Type the commands, and then Ctrl-D: the replies come together, when bpfdb is compiled.\nCompiling bpfdb without its proofs: a minute or two. `make run` proves it.\n'
+
+# It says that it works, and behind the session of README what to type next. (Here a second stands for ten, and an `rt` for the toolchain's that
+# waits until that was said, and answers each command by a line.)
+cat > try/sleep <<'SLEEP'
+#!/bin/sh
+exec "$SLEEP" 1
+SLEEP
+cat > try/rt <<'RT'
+#!/bin/sh
+until grep -q 'after 20 s' "$TOLD"; do "$SLEEP" 0.1; done
+sed 's/^/answered /'
+echo run=ended >&2
+RT
+chmod 755 try/sleep
+SLEEP=$(command -v sleep) TOLD=$PWD/found/err PATH=$PWD/try:$PATH timeout 60 sh "$top/tests/try.sh" > found/out 2> found/err < /dev/null
+echo $? > found/status
+sed -i '/ 30 s$/d; /^  /d' found/err
+check 'make try says that it works' 0 "$(sed 's/.*/> &\\nanswered &\\n/' "$top/tests/session/script" | tr -d '\n')" \
+    'Compiling bpfdb without its proofs: a minute or two. `make run` proves it.\nstill at work, after 10 s\nstill at work, after 20 s\n\nWhat to type next:\n'

@@ -12,12 +12,26 @@ handed_on() {
     "$name/bin/bpfdb" --version > found/out
     { echo "commit $commit"; echo 'gate: 7 passed, 0 failed'; cat found/out; } > wanted/build
     same 'make dist: what was built' wanted/build "$name/share/doc/bpfdb/BUILD"
+    # What README at the top says to type works there as it stands.
+    if has python3 'the commands of the README of the archive'; then
+        sed -n 's/^    //p' "$name/README" > typed
+        (HOME=$PWD && cd "$name" && sh ../typed < /dev/null) > found/out 2> found/err
+        echo $? > found/status
+        check 'make dist: what README of the archive says to type' 0 "$(cd "$top/examples/overrun" && "$program" origin -m context.bin program.bin | sed 's/$/\\n/' | tr -d '\n')" \
+            'fault access 0x10077656d at 25\n'
+        [ -s run.html ] || complain 'make dist: README of the archive makes no page'
+        [ "$(wc -l < typed)" -eq 6 ] || complain 'make dist: README of the archive has other commands'
+    fi
     (cd made && sha256sum -c --quiet SHA256SUMS) > found/out 2>&1 || complain 'make dist: SHA256SUMS'
     if has dpkg-deb 'the Debian package'; then
         dpkg-deb -x made/bpfdb_*_amd64.deb deb
         BPFDB=$PWD/deb/usr/bin/bpfdb sh deb/usr/share/doc/bpfdb/examples/suite/test.sh > found/out 2> found/err
         echo $? > found/status
         check 'make dist: the suite of the Debian package' 0 '' ''
+        { grep -x -e 'License: Apache-2.0' -e 'Copyright: 2026 the bpfdb authors' deb/usr/share/doc/bpfdb/copyright | sort -u
+            dpkg-deb -f made/bpfdb_*_amd64.deb Suggests; } > found/out
+        : > found/err
+        check 'make dist: what the Debian package says' 0 'Copyright: 2026 the bpfdb authors\nLicense: Apache-2.0\nbinutils, clang, gdb\n' ''
     fi
 }
 
