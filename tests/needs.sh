@@ -19,6 +19,7 @@ fish fish
 gdb gdb
 gdb-multiarch gdb-multiarch
 git git
+groff groff-base
 node nodejs
 python3 python3
 vim vim

@@ -5,7 +5,9 @@
 # that README and `bpfdb --version` name.
 set -u
 cd "$(dirname "$0")/.." || exit 1
+. tests/machine.sh
 work=$(mktemp -d) || exit 1
+LEFT_OUT=${LEFT_OUT:-$work/left-out}
 trap 'rm -rf "$work"' EXIT
 trap 'exit 130' HUP INT TERM
 : > "$work/faults"
@@ -294,7 +296,7 @@ manuals() {
         case $program in *.py) continue ;; esac
         [ -f "docs/$(basename "$program").1" ] || fault "$program has no man page"
     done
-    command -v groff > /dev/null || return
+    has groff 'man pages as they are shown' || return 0
     for manual in docs/*.1; do
         groff -man -ww -K utf8 -T utf8 -Z "$manual" 2>&1 > /dev/null | grep . && fault "$manual is shown with warnings"
     done
@@ -355,4 +357,5 @@ sh docs/man.sh --check || fault 'the man pages'
 manuals
 sh docs/editors.sh --check || fault 'what shells and editors know'
 toolchain
+tell_left_out "$work/left-out"
 [ ! -s "$work/faults" ]
