@@ -8,10 +8,10 @@ BIN = $(PREFIX)/bin
 MAN = $(PREFIX)/share/man/man1
 SHARE = $(PREFIX)/share/bpfdb
 DOC = $(PREFIX)/share/doc/bpfdb
-PAGES = COMMANDS LISTING MACHINE JOURNAL GDB EDITORS PAGE TESTS HEADLINE PROMISES PERFORMANCE
+PAGES = COMMANDS LISTING MACHINE JOURNAL GDB EDITORS PAGE CONTEXTS TESTS HEADLINE PROMISES PERFORMANCE
 
 # The programs whose command lines shells complete.
-COMPLETED = bpfdb bpfdb-shell bpfdb-page bpfdb-dap
+COMPLETED = bpfdb bpfdb-shell bpfdb-page bpfdb-dap bpfdb-context
 
 # A first look without proofs, in a minute or two: the session of tests/session/script, or with FILE=FILE (and JOB, OPTIONS) `bpfdb JOB OPTIONS FILE`.
 JOB = debug
@@ -47,7 +47,7 @@ install:
 
 # Takes them away again.
 uninstall:
-	@rm -f "$(DESTDIR)$(BIN)/bpfdb" "$(DESTDIR)$(BIN)/bpfdb-shell" "$(DESTDIR)$(BIN)/bpfdb-symbols" "$(DESTDIR)$(BIN)/bpfdb-show" "$(DESTDIR)$(BIN)/bpfdb-page" "$(DESTDIR)$(BIN)/bpfdb-conformance"
+	@rm -f "$(DESTDIR)$(BIN)/bpfdb" "$(DESTDIR)$(BIN)/bpfdb-shell" "$(DESTDIR)$(BIN)/bpfdb-symbols" "$(DESTDIR)$(BIN)/bpfdb-show" "$(DESTDIR)$(BIN)/bpfdb-page" "$(DESTDIR)$(BIN)/bpfdb-context" "$(DESTDIR)$(BIN)/bpfdb-conformance"
 	@[ ! -d "$(DESTDIR)$(MAN)" ] || { cd "$(DESTDIR)$(MAN)" && rm -f $(notdir $(wildcard docs/*.1)); }
 	@[ ! -d "$(DESTDIR)$(PREFIX)/share" ] || { cd "$(DESTDIR)$(PREFIX)/share" && rm -f bpfdb/bpfdb-gdb.py bpfdb/bpfdb.h bpfdb/bpfdb.vim \
 		$(patsubst %,bash-completion/completions/%,$(COMPLETED)) zsh/site-functions/_bpfdb zsh/vendor-completions/_bpfdb \

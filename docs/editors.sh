@@ -1,6 +1,6 @@
 #!/bin/sh
 # What shells and editors know of bpfdb: the completion of its command line (share/completion/: bash, zsh, fish), made from the tables of
-# subcommands and options of docs/COMMANDS.md, and of those of bpfdb-page and bpfdb-dap, made from their help; and the words of listings (share/editors/: Vim, and the TextMate grammar that VS Code reads),
+# subcommands and options of docs/COMMANDS.md, and of those of bpfdb-page and bpfdb-dap, made from their help (that of bpfdb-context stands here); and the words of listings (share/editors/: Vim, and the TextMate grammar that VS Code reads),
 # made from the table of instructions of docs/LISTING.md. 'docs/editors.sh' writes them anew; 'docs/editors.sh --check' fails where one differs.
 set -u
 cd "$(dirname "$0")/.." || exit 1
@@ -122,7 +122,7 @@ TEXT
 # bash: the completion of bash.
 bash() {
     cat << 'TEXT'
-# Completion of bpfdb, bpfdb-shell, bpfdb-page and bpfdb-dap for bash, made by docs/editors.sh.
+# Completion of bpfdb, bpfdb-shell, bpfdb-page, bpfdb-dap and bpfdb-context for bash, made by docs/editors.sh.
 TEXT
     names
     cat << 'TEXT'
@@ -176,14 +176,27 @@ TEXT
     esac
 }
 complete -o filenames -F _bpfdb bpfdb bpfdb-shell bpfdb-page bpfdb-dap
+_bpfdb_context() {
+    local word=${COMP_WORDS[COMP_CWORD]} form='' at
+    COMPREPLY=()
+    for ((at = 1; at < COMP_CWORD; at++)); do
+        case ${COMP_WORDS[at]} in packet | hex | struct) form=${COMP_WORDS[at]} ;; esac
+    done
+    case ${COMP_WORDS[COMP_CWORD - 1]},$word,$form in
+    -o,* | --output,* | *,[!-]*,packet | *,,packet | *,[!-]*,struct | *,,struct) mapfile -t COMPREPLY < <(compgen -f -- "$word") ;;
+    *,-*,*) mapfile -t COMPREPLY < <(compgen -W "-o --output -h --help" -- "$word") ;;
+    *,*,) mapfile -t COMPREPLY < <(compgen -W "packet hex struct" -- "$word") ;;
+    esac
+}
+complete -o filenames -F _bpfdb_context bpfdb-context
 TEXT
 }
 
 # zsh: the completion of zsh.
 zsh() {
     cat << 'TEXT'
-#compdef bpfdb bpfdb-shell bpfdb-page bpfdb-dap
-# Completion of bpfdb, bpfdb-shell, bpfdb-page and bpfdb-dap for zsh, made by docs/editors.sh.
+#compdef bpfdb bpfdb-shell bpfdb-page bpfdb-dap bpfdb-context
+# Completion of bpfdb, bpfdb-shell, bpfdb-page, bpfdb-dap and bpfdb-context for zsh, made by docs/editors.sh.
 TEXT
     names
     cat << 'TEXT'
@@ -238,7 +251,10 @@ TEXT
     _describe subcommand jobs
 }
 _bpfdb() {
-    if [[ $service == bpfdb-* ]]; then
+    if [[ $service == bpfdb-context ]]; then
+        _arguments "(-o --output)"{-o,--output}"[The file to write]:CTX:_files" "(-h --help)"{-h,--help}"[Writes help to standard output]" \
+            "1:form:(packet hex struct)" "*:file:_files"
+    elif [[ $service == bpfdb-* ]]; then
         _bpfdb_options ${service#bpfdb-}
     elif (( CURRENT == 2 )); then
         if [[ $PREFIX == -* ]]; then _bpfdb_options alone; else _bpfdb_jobs; fi
@@ -256,7 +272,7 @@ TEXT
 # fish: the completion of fish.
 fish() {
     cat << 'TEXT'
-# Completion of bpfdb, bpfdb-shell, bpfdb-page and bpfdb-dap for fish, made by docs/editors.sh.
+# Completion of bpfdb, bpfdb-shell, bpfdb-page, bpfdb-dap and bpfdb-context for fish, made by docs/editors.sh.
 function __bpfdb_of_file
     set -l words (commandline -opc)
     set -l bpfdb bpfdb
@@ -301,6 +317,13 @@ TEXT
             if (jobs == "each") printf "complete -c bpfdb-dap -f%s%s -d \"%s\"\n", names, takes, $4
         }
     ' "$work/jobs" "$work/options"
+    cat << 'TEXT'
+complete -c bpfdb-context -n "not __fish_seen_subcommand_from packet hex struct" -f -a packet -d "of a packet of a capture"
+complete -c bpfdb-context -n "not __fish_seen_subcommand_from packet hex struct" -f -a hex -d "of bytes in hexadecimal"
+complete -c bpfdb-context -n "not __fish_seen_subcommand_from packet hex struct" -f -a struct -d "of structs by the types of an object"
+complete -c bpfdb-context -s o -l output -r -F -d "The file to write"
+complete -c bpfdb-context -s h -l help -d "Writes help to standard output"
+TEXT
 }
 
 # mnemonics: those of the table of instructions, in its order.

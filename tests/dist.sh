@@ -1,6 +1,6 @@
 #!/bin/sh
 # `make dist`: what is handed on of a built program, in the folder out/dist (or the one that is named): an archive, a Debian package where there is
-# dpkg-deb, and their SHA256SUMS. In it are the program, its shell, the tools for gdb and for pages, man pages, the pages for users, the examples, the
+# dpkg-deb, and their SHA256SUMS. In it are the program, its shell, the tools for gdb, for contexts and for pages, man pages, the pages for users, the examples, the
 # license, the changelog, in the archive a README at its top, and a file BUILD with the commit and the last line of the gate, which `make test` leaves in out/passed. A tree
 # that differs from its commit, or whose commit the gate hasn't passed, gives none. The same commit gives the same bytes, under any umask.
 set -u
@@ -90,7 +90,7 @@ Section: devel
 Priority: optional
 Depends: libc6 (>= 2.34)
 Recommends: python3
-Suggests: binutils, clang, gdb
+Suggests: binutils, clang, gdb, libpcap0.8
 Description: runs BPF programs forwards and backwards
  A debugger for BPF programs (RFC 9669) that goes back exactly, with a checker,
  an assembler, a disassembler, a linker and an interpreter. Its code is proved.

@@ -155,11 +155,12 @@ for folder in examples/*/; do
     cd "$top" || exit 1
     count=$((count + 1))
 done
-[ "$count" -ge 9 ] || fault "there are $count examples"
+[ "$count" -ge 10 ] || fault "there are $count examples"
 plain count 0 0x3 ''
 plain checksum 0 0xb861 ''
 plain counters 0 0x1 ''
 plain fault 1 '' 'fault access 0x100000083 at 9'
+plain listen 0 0x0 ''
 plain overrun 1 '' 'fault access 0x10077656d at 25'
 plain records 1 '' 'fault access 0x10000000f at 0'
 plain suite 0 0x1 ''

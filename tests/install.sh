@@ -23,7 +23,7 @@ put_as() {
     mkdir -p "$folder" && cp "$4" "$folder/$3" && chmod "$1" "$folder/$3" || exit 1
 }
 
-put 755 bin crates/bpfdb/out/bpfdb share/bpfdb-shell share/bpfdb-symbols share/bpfdb-show share/bpfdb-page share/bpfdb-conformance
+put 755 bin crates/bpfdb/out/bpfdb share/bpfdb-shell share/bpfdb-symbols share/bpfdb-show share/bpfdb-page share/bpfdb-context share/bpfdb-conformance
 put 644 share/man/man1 docs/*.1
 put 644 share/bpfdb/page share/page/*
 put 755 bin share/bpfdb-dap
@@ -32,7 +32,7 @@ put 644 share/bpfdb share/bpfdb/*.py
 put 644 share/bpfdb share/bpfdb-gdb.py share/editors/bpfdb.vim share/editors/bpfdb-dap.el share/bpfdb.h
 put 644 share/bpfdb/vscode share/editors/vscode/*
 # (each shell looks for a completion by the name of the command; zsh of Debian's packages in a folder of its own)
-for name in bpfdb bpfdb-shell bpfdb-page bpfdb-dap; do
+for name in bpfdb bpfdb-shell bpfdb-page bpfdb-dap bpfdb-context; do
     put_as 644 share/bash-completion/completions "$name" share/completion/bpfdb.bash
     put_as 644 share/fish/vendor_completions.d "$name.fish" share/completion/bpfdb.fish
 done
@@ -59,5 +59,5 @@ for page in docs/*.md; do
     page=$(basename "$page")
     [ -e "$folder/$page" ] || sed -i "s|\[\([^][]*\)\](\(docs/\)\{0,1\}${page}[^)]*)|\1|g" "$folder"/*.md "$folder/examples"/*.md || exit 1
 done
-echo "installed $prefix/bin/bpfdb, bpfdb-shell, bpfdb-symbols, bpfdb-show, bpfdb-page and bpfdb-conformance beside it, man pages, completions of bash, zsh and fish, and pages and examples in $prefix/share/doc/bpfdb; in gdb: source $prefix/share/bpfdb/bpfdb-gdb.py"
+echo "installed $prefix/bin/bpfdb, bpfdb-shell, bpfdb-symbols, bpfdb-show, bpfdb-page, bpfdb-context and bpfdb-conformance beside it, man pages, completions of bash, zsh and fish, and pages and examples in $prefix/share/doc/bpfdb; in gdb: source $prefix/share/bpfdb/bpfdb-gdb.py"
 echo "for editors: $prefix/bin/bpfdb-dap, $prefix/share/bpfdb/vscode and $prefix/share/bpfdb/bpfdb-dap.el"

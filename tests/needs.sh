@@ -22,6 +22,7 @@ git git
 groff groff-base
 node nodejs
 python3 python3
+tcpdump tcpdump
 vim vim
 xxd xxd
 zsh zsh

@@ -14,6 +14,10 @@ NUMBER = re.compile(r'0x[0-9a-fA-F]+|[0-9]+')
 UNSEEN = re.compile('[\x00-\x1f\x7f-\x9f\u061c\u200e\u200f\u202a-\u202e\u2066-\u2069\udc80-\udcff]')
 
 
+class Refused(Exception):
+    """Why something isn't done: a line."""
+
+
 def plain(text):
     """A text whose bytes that a terminal would obey are shown as \\xNN."""
     return UNSEEN.sub(lambda found: ''.join(f'\\x{byte:02x}' for byte in found[0].encode(errors='surrogateescape')), text)

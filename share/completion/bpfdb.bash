@@ -1,4 +1,4 @@
-# Completion of bpfdb, bpfdb-shell, bpfdb-page and bpfdb-dap for bash, made by docs/editors.sh.
+# Completion of bpfdb, bpfdb-shell, bpfdb-page, bpfdb-dap and bpfdb-context for bash, made by docs/editors.sh.
 _bpfdb_names() {
     case $1 in
     --section) "$bpfdb" link "--section=?" -- "$file" 2>&1 > /dev/null | sed -n "s/^refused E8: no such code section: //p" | sed "s/, /\n/g" ;;
@@ -82,3 +82,16 @@ _bpfdb() {
     esac
 }
 complete -o filenames -F _bpfdb bpfdb bpfdb-shell bpfdb-page bpfdb-dap
+_bpfdb_context() {
+    local word=${COMP_WORDS[COMP_CWORD]} form='' at
+    COMPREPLY=()
+    for ((at = 1; at < COMP_CWORD; at++)); do
+        case ${COMP_WORDS[at]} in packet | hex | struct) form=${COMP_WORDS[at]} ;; esac
+    done
+    case ${COMP_WORDS[COMP_CWORD - 1]},$word,$form in
+    -o,* | --output,* | *,[!-]*,packet | *,,packet | *,[!-]*,struct | *,,struct) mapfile -t COMPREPLY < <(compgen -f -- "$word") ;;
+    *,-*,*) mapfile -t COMPREPLY < <(compgen -W "-o --output -h --help" -- "$word") ;;
+    *,*,) mapfile -t COMPREPLY < <(compgen -W "packet hex struct" -- "$word") ;;
+    esac
+}
+complete -o filenames -F _bpfdb_context bpfdb-context

@@ -1,4 +1,4 @@
-# Completion of bpfdb, bpfdb-shell, bpfdb-page and bpfdb-dap for fish, made by docs/editors.sh.
+# Completion of bpfdb, bpfdb-shell, bpfdb-page, bpfdb-dap and bpfdb-context for fish, made by docs/editors.sh.
 function __bpfdb_of_file
     set -l words (commandline -opc)
     set -l bpfdb bpfdb
@@ -84,3 +84,8 @@ complete -c bpfdb-page -l title -x -d "what the page is called"
 complete -c bpfdb-page -l object -d "FILE is an object"
 complete -c bpfdb-dap -l port -x -d "answers the one editor that comes to this port of this machine instead"
 complete -c bpfdb-dap -l over -x -a "gdb bpfdb" -d "what programs are debugged over"
+complete -c bpfdb-context -n "not __fish_seen_subcommand_from packet hex struct" -f -a packet -d "of a packet of a capture"
+complete -c bpfdb-context -n "not __fish_seen_subcommand_from packet hex struct" -f -a hex -d "of bytes in hexadecimal"
+complete -c bpfdb-context -n "not __fish_seen_subcommand_from packet hex struct" -f -a struct -d "of structs by the types of an object"
+complete -c bpfdb-context -s o -l output -r -F -d "The file to write"
+complete -c bpfdb-context -s h -l help -d "Writes help to standard output"

@@ -1,10 +1,10 @@
 # What shells complete of bpfdb's command line, and what editors show of a listing: of each shell and editor that is installed here.
 
-# completed WANTED WORD..: what bash makes of the last word of a command line.
+# completed WANTED WORD..: what bash makes of the last word of a command line, by the function that is for its first one.
 completed() {
     wanted=$1
     shift
-    bash -c '. "$1"; shift; COMP_WORDS=("$@") COMP_CWORD=$(($# - 1)); _bpfdb; printf "%s\n" "${COMPREPLY[@]}"' \
+    bash -c '. "$1"; shift; COMP_WORDS=("$@") COMP_CWORD=$(($# - 1)); function=$(complete -p "$1" | sed "s/.* -F \([^ ]*\).*/\1/"); $function; printf "%s\n" "${COMPREPLY[@]}"' \
         bash "$top/share/completion/bpfdb.bash" "$@" > found/out 2> found/err
     echo $? > found/status
     check "bash: $*" 0 "$wanted" ''
@@ -60,11 +60,19 @@ if has bash 'completion in bash'; then
     completed 'a short header is dropped\n' bpfdb test named.test --only "'a sh"
     completed '\n' bpfdb test program.bin --only ''
     completed '\n' bpfdb link --section ''
+    completed 'packet\n' bpfdb-context -o other pa
+    completed 'packet\nhex\nstruct\n' bpfdb-context ''
+    completed '--output\n' bpfdb-context --o
+    completed 'program.bin\n' bpfdb-context -o prog
+    completed 'program.bin\n' bpfdb-context -o other packet prog
+    completed 'program.bin\n' bpfdb-context struct prog
+    completed '\n' bpfdb-context hex prog
 fi
 if has fish 'completion in fish'; then
     for row in 'bpfdb ru|run' 'bpfdb run --ma|--maps' 'bpfdb run --jo|' 'bpfdb debug --jo|--journal' 'bpfdb gdb --registers ri|riscv' 'bpfdb-shell --jo|--journal' 'bpfdb-page --ti|--title' 'bpfdb-dap --over b|bpfdb' \
         'bpfdb test --show sc|script' 'bpfdb link overrun.o --section f|filter' 'bpfdb link --section .text overrun.o --entry s|size_of' \
-        'bpfdb link hostile.o --section \`|`id`;x' 'bpfdb test named.test --only a\ sh|a short header is dropped'; do
+        'bpfdb link hostile.o --section \`|`id`;x' 'bpfdb test named.test --only a\ sh|a short header is dropped' \
+        'bpfdb-context pac|packet' 'bpfdb-context --ou|--output' 'bpfdb-context struct pac|'; do
         HOME=$PWD fish --no-config -c "source '$top/share/completion/bpfdb.fish'; complete -C '${row%|*}'" 2> found/err | sed 's/\t.*//' > found/out
         echo 0 > found/status
         check "fish: ${row%|*}" 0 "${row#*|}$([ -z "${row#*|}" ] || printf '%s' '\n')" ''

@@ -13,7 +13,7 @@ else
         echo "for editors: $2/bin/bpfdb-dap, $2/share/bpfdb/vscode and $2/share/bpfdb/bpfdb-dap.el" > wanted/editors
         same "make install PREFIX=$2: what it says of editors" wanted/editors found/editors
         sed -i '$d' found/out
-        check "make install PREFIX=$2" 0 "installed $2/bin/bpfdb, bpfdb-shell, bpfdb-symbols, bpfdb-show, bpfdb-page and bpfdb-conformance beside it, man pages, completions of bash, zsh and fish, and pages and examples in $2/share/doc/bpfdb; in gdb: source $2/share/bpfdb/bpfdb-gdb.py\n" ''
+        check "make install PREFIX=$2" 0 "installed $2/bin/bpfdb, bpfdb-shell, bpfdb-symbols, bpfdb-show, bpfdb-page, bpfdb-context and bpfdb-conformance beside it, man pages, completions of bash, zsh and fish, and pages and examples in $2/share/doc/bpfdb; in gdb: source $2/share/bpfdb/bpfdb-gdb.py\n" ''
         (cd "$installed" && find . -type f -printf '%m %P\n' | sort) > found/files
         (cd "${1:-$2}" && find . -type d ! -perm 755) > found/folders
         : > wanted/folders
@@ -21,6 +21,7 @@ else
         {
             cat <<'FILES'
 644 share/bash-completion/completions/bpfdb
+644 share/bash-completion/completions/bpfdb-context
 644 share/bash-completion/completions/bpfdb-dap
 644 share/bash-completion/completions/bpfdb-page
 644 share/bash-completion/completions/bpfdb-shell
@@ -42,6 +43,7 @@ else
 644 share/bpfdb/vscode/package.json
 644 share/doc/bpfdb/CHANGELOG.md
 644 share/doc/bpfdb/COMMANDS.md
+644 share/doc/bpfdb/CONTEXTS.md
 644 share/doc/bpfdb/EDITORS.md
 644 share/doc/bpfdb/GDB.md
 644 share/doc/bpfdb/HEADLINE.md
@@ -57,11 +59,13 @@ else
 644 share/doc/bpfdb/page-firewall.png
 644 share/doc/bpfdb/page-overrun.png
 644 share/doc/bpfdb/session.svg
+644 share/fish/vendor_completions.d/bpfdb-context.fish
 644 share/fish/vendor_completions.d/bpfdb-dap.fish
 644 share/fish/vendor_completions.d/bpfdb-page.fish
 644 share/fish/vendor_completions.d/bpfdb-shell.fish
 644 share/fish/vendor_completions.d/bpfdb.fish
 644 share/man/man1/bpfdb-conformance.1
+644 share/man/man1/bpfdb-context.1
 644 share/man/man1/bpfdb-dap.1
 644 share/man/man1/bpfdb-page.1
 644 share/man/man1/bpfdb-shell.1
@@ -71,6 +75,7 @@ else
 644 share/zsh/site-functions/_bpfdb
 755 bin/bpfdb
 755 bin/bpfdb-conformance
+755 bin/bpfdb-context
 755 bin/bpfdb-dap
 755 bin/bpfdb-page
 755 bin/bpfdb-shell
@@ -102,6 +107,13 @@ FILES
             echo $? > found/status
             : > found/err
             check 'the installed bpfdb-page' 0 '' ''
+        fi
+        if has python3 'the installed bpfdb-context'; then
+            "$installed/bin/bpfdb-context" -o context hex 6263 < /dev/null > found/out 2> found/err
+            echo $? > found/status
+            check 'the installed bpfdb-context' 0 '' ''
+            printf bc > wanted/context
+            same 'the file of the installed bpfdb-context' wanted/context context
         fi
         # (the 67 bytes of a request)
         printf 'Content-Length: 67\r\n\r\n{"seq":1,"type":"request","command":"launch","arguments":{"x":"y"}}' | "$installed/bin/bpfdb-dap" > found/out 2> found/err
