@@ -10,7 +10,7 @@ from bpfdb.texts import Refused
 
 # The most bytes of a context (docs/COMMANDS.md), and at which multiples structs begin.
 LONGEST, ALIGNMENT = 65536, 8
-# A group's head; a field and its value; a field's path and its steps; the values: a number, a place, a text and what stands behind its backslashes.
+# A group's head; a field and its value; a field's path and its steps; of values a number, an address, and what a backslash of a text begins.
 HEAD = re.compile(r'([A-Za-z_]\w*):(?:(struct|union|enum)\s+)?([^\s:=\[\]"]+)(?:\[([0-9]{1,9})\])?(?=\s|$)', re.ASCII)
 SETTING = re.compile(r'\s+([^\s="]*)=("(?:[^"\\]|\\.)*"|[^\s"]+)(?=\s|$)', re.DOTALL)
 PATH = re.compile(r'(?:[^\s.\[\]&]+|\[[0-9]{1,10}\])(?:\.[^\s.\[\]&]+|\[[0-9]{1,10}\])*')
@@ -18,9 +18,9 @@ STEP = re.compile(r'\[([0-9]+)\]|\.?([^.\[\]]+)')
 NUMBER = re.compile(r'-?(0[xX][0-9a-fA-F]{1,1000}|[0-9]{1,1000})')
 ADDRESS = re.compile(r'&([A-Za-z_]\w*)(?:\.?(.+))?', re.ASCII | re.DOTALL)
 ESCAPE = re.compile(r'\\(x[0-9a-fA-F]{2}|.)', re.DOTALL)
+ESCAPED = {'"': '"', '\\': '\\', 'n': '\n', 't': '\t', 'r': '\r', '0': '\0'}
 # The kinds of types whose values are numbers.
 NUMBERS = (INT, ENUM, ENUM64, POINTER)
-ESCAPED = {'"': '"', '\\': '\\', 'n': '\n', 't': '\t', 'r': '\r', '0': '\0'}
 
 
 class Struct(NamedTuple):
@@ -148,10 +148,11 @@ class Layout:
     def what(self, found):
         """What a field is that isn't a number."""
         if found.kind in (STRUCT, UNION):
-            return f'a {"struct" if found.kind == STRUCT else "union"}, of which a field is wanted: {few([field.name for field in self.types.fields(found)])}'
+            names = few([field.name for field in self.types.fields(found)])
+            return f'a {"struct" if found.kind == STRUCT else "union"}, of which a field is wanted: {names}'
         if found.kind == ARRAY:
             return f'an array of {found.count}, of which an element is wanted'
-        return 'a floating-point number, and can\'t be given' if found.kind == FLOAT else 'nothing that has a value'
+        return "a floating-point number, and can't be given" if found.kind == FLOAT else 'nothing that has a value'
 
     def text(self, field, found, value):
         """Where a text goes, its bits and they as a number: zeros follow it to the end of its array."""

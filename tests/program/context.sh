@@ -397,5 +397,7 @@ if has python3 "$tool"; then
         context 0 'arguments at 0: 0x100000000, 16 bytes\nsocket at 16: 0x100000010, 16 bytes\ninet at 32: 0x100000020, 4 bytes\n' '' -o made/context struct listen.o \
             'arguments:u64[2] [0]=&socket [1]=128' 'socket:socket type=1 sk=&inet' 'inet:inet_sock sk.__sk_common.skc_family=2 inet_sport=0x5000'
         same 'examples/listen/context.bin' "$top/examples/listen/context.bin" made/context
+        python3 "$top/tests/trials/contexts.py" objects "$top/share" listen.o 'socket:socket type=1 sk=&inet.sk' 'inet:inet_sock inet_sport=1' > found/damaged 2>&1
+        same 'damaged objects of clang' wanted/damaged found/damaged
     fi
 fi

@@ -1,9 +1,9 @@
 """Types and captures for the tests of bpfdb-context: odd, wrong and damaged ones.
 
 contexts.py kinds FILE                 writes an object with a type of each kind, and with bit fields of both forms
-contexts.py refusals SHARE             lets bpfdb-context (the folder of its package) take wrong types: tells what isn't refused as the table below has it
+contexts.py refusals SHARE             lets bpfdb-context take wrong types: tells what isn't refused as wrong() has it (SHARE is the folder of its package)
 contexts.py objects SHARE OBJECT WORD..  lets it take the object with bytes of headers and types changed, and cut off, with these groups
-contexts.py captures SHARE CAPTURE..     the same of captures, for each of their first packets
+contexts.py captures SHARE CAPTURE..     the same of captures, for their first and their third packet
 Each tells what ends with other than a line, and at the end how many trials there were, where they were enough."""
 import contextlib
 import io
@@ -103,15 +103,17 @@ def wrong():
         return elf(made.section(**changed))
 
     damaged = 'damaged types: '
-    yield 'a typedef of itself', one(lambda made, number: ('x', made.add(TYPEDEF, 't', made.count + 1), 0)), 's:s x=1', damaged + 'type 2 leads nowhere'
-    yield 'an array of itself', one(lambda made, number: ('x', made.array(made.count + 1, 2), 0)), 's:s x[0]=1', damaged + 'type 2 leads nowhere'
+    nowhere = damaged + 'type 2 leads nowhere'
+    yield 'a typedef of itself', one(lambda made, number: ('x', made.add(TYPEDEF, 't', made.count + 1), 0)), 's:s x=1', nowhere
+    yield 'an array of itself', one(lambda made, number: ('x', made.array(made.count + 1, 2), 0)), 's:s x[0]=1', nowhere
     yield 'a struct in itself', one(lambda made, number: ('', 2, 0)), 's:s x=1', damaged + 'struct s has no end'
     yield 'no such type', one(lambda made, number: ('x', 77, 0)), 's:s x=1', damaged + 'there is no type 77'
     yield 'a member outside', one(lambda made, number: ('x', number, 33)), 's:s x=1', damaged + 's.x lies outside s'
     yield 'a name outside', one(lambda made, number: (9999, number, 0)), 's:s x=1', damaged + 'a name lies outside'
     yield 'an int without bits', one(lambda made, number: ('x', made.integer('empty', 4, 0), 0)), 's:s x=1', damaged + 'empty has 0 bits'
     yield 'an int of too many bits', one(lambda made, number: ('x', made.integer('full', 4, 1 << 16 | 32), 0)), 's:s x=1', damaged + 'full has 32 bits'
-    yield 'a number of 4 GB', one(lambda made, number: ('x', made.add(ENUM, 'e', 0xffffffff), 0)), 's:s x=1', damaged + 's.x is a number of 4294967295 bytes'
+    large = damaged + 's.x is a number of 4294967295 bytes'
+    yield 'a number of 4 GB', one(lambda made, number: ('x', made.add(ENUM, 'e', 0xffffffff), 0)), 's:s x=1', large
     yield 'another kind', one(lambda made, number: ('x', made.add(25, ''), 0)), 's:s', damaged + 'type 2 is of kind 25, and there is none'
     yield 'kind 0', one(lambda made, number: ('x', made.add(0, ''), 0)), 's:s', damaged + 'type 2 is of kind 0, and there is none'
     yield 'too many members', one(lambda made, number: ('x', made.add(STRUCT, 't', 0, b'', 65535), 0)), 's:s', damaged + 'type 2 is cut off'
