@@ -130,16 +130,17 @@ def tell(lines, stream):
         raise Refused('cannot write output') from None
 
 
-def is_output(path):
-    """Whether a file is standard output itself."""
+def is_same(path, other):
+    """Whether two files, by their paths or numbers, are one."""
     with contextlib.suppress(OSError):
-        return os.path.samestat(os.stat(path), os.fstat(1))
+        return os.path.samestat(os.stat(path), os.stat(other))
     return False
 
 
 def write(path, content, lines):
-    """Writes a file, and tells of it: one that was there is replaced when all is done, and nothing is left of one that can't be written."""
-    if is_output(path):
+    """Writes a file, and tells of it: one that was there is replaced when all is done, and nothing is left of one that can't be written. Where it
+    is standard output itself, that gets nothing else."""
+    if is_same(path, 1):
         with open(1, 'wb', closefd=False) as file:
             file.write(content)
         return tell(lines, 2)
@@ -167,6 +168,8 @@ def main(words):
     if asked is None:
         return tell([USAGE], 1)
     output, form, rest = asked
+    if form != 'hex' and is_same(output, rest[0]):
+        raise Refused(f'{output}: it is read, and would be lost')
     content, lines = {'packet': packet, 'hex': bytes_of, 'struct': structs}[form](*rest)
     if len(content) > LONGEST:
         raise Refused(f'the context has {len(content)} bytes, and at most {LONGEST} are taken')

@@ -235,6 +235,11 @@ if has python3 "$tool"; then
             [ "$number" != -- ] || continue
             context 2 '' "bpfdb-context: '$number' is no number of a packet: they count from 1\n" -o made/context packet two.pcap "$number"
         done
+        cp two.pcap made/context
+        "$top/share/bpfdb-context" -o made/context packet "$PWD/made/context" 1 > found/out 2> found/err
+        echo $? > found/status
+        check 'bpfdb-context over its capture' 2 '' 'bpfdb-context: made/context: it is read, and would be lost\n'
+        same 'the capture that would be lost' two.pcap made/context
         context 2 '' 'bpfdb-context: no\\x1bne: No such file or directory\n' -o made/context packet "$(printf 'no\033ne')" 1
         context 2 '' 'bpfdb-context: .: Is a directory\n' -o made/context packet . 1
         if has tcpdump 'captures as tcpdump reads them'; then
