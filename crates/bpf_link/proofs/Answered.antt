@@ -37,7 +37,7 @@ move_apart words slot (Some value) j fits (inr high) =
 abbrev pub AreSame : List ℕ → ℕ → List ℕ → ℕ → Type 0
 AreSame xs s ys t = (k : ℕ) → k < 8 → get_or xs (8 * s + k) 0 ≡ get_or ys (8 * t + k) 0
 
-number_same : (xs ys : List ℕ) (i j : ℕ) → get_or xs i 0 ≡ get_or ys j 0 → get_or xs (i + 1) 0 ≡ get_or ys (j + 1) 0 → get_or xs (i + 2) 0 ≡ get_or ys (j + 2) 0 → get_or xs (i + 2 + 1) 0 ≡ get_or ys (j + 2 + 1) 0
+pub number_same : (xs ys : List ℕ) (i j : ℕ) → get_or xs i 0 ≡ get_or ys j 0 → get_or xs (i + 1) 0 ≡ get_or ys (j + 1) 0 → get_or xs (i + 2) 0 ≡ get_or ys (j + 2) 0 → get_or xs (i + 2 + 1) 0 ≡ get_or ys (j + 2 + 1) 0
     → u32_at xs i ≡ u32_at ys j
 number_same xs ys i j a b c d = omega (arith, a, b, c, d)
 

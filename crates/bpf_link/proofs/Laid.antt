@@ -1,5 +1,5 @@
 -- How the words of a program are laid out.
-use Rattle.std.proofs.Common.{◌≡◌, ◌<◌, ◌+◌, ◌*◌, nat_le, ℕ, List, Result, Ok, length, get_or, refl, ap, sym, ◌∙◌, subst, arith}
+use Rattle.std.proofs.Common.{◌≡◌, ◌≤◌, ◌<◌, ◌+◌, ◌*◌, nat_le, ℕ, Bool, List, Result, Ok, length, get_or, refl, ap, sym, ◌∙◌, subst, arith}
 use Rattle.std.specs.Prelude.{is_some, if◌then◌else◌}
 use Rattle.bpf_link.specs.declared.parts.Side.TheVariants.{Code, Text}
 use Rattle.bpf_isa.specs.Checker.{most_slots}
@@ -7,8 +7,8 @@ use Rattle.bpf_link.specs.declared.fault.LinkFault.TheVariants.{TooLong}
 use Rattle.bpf_link.specs.Objects.{provided}
 use Rattle.bpf_link.specs.Parts.{AreParts}
 use Rattle.bpf_link.specs.Plans.{after}
+use Rattle.bpf_link.specs.Blanked.{blanked}
 use Rattle.bpf_link.specs.Data.{Numbered, data_of}
-use Rattle.bpf_link.specs.Entries.{entry_of}
 use Rattle.bpf_link.specs.Setup.{stores_of, with_setup}
 use Rattle.bpf_link.specs.Stubs.{answered, answers}
 use Rattle.bpf_link.specs.declared.stubs.Stub.{Stub}
@@ -64,26 +64,29 @@ laid placed words whole e =
       text_done = λ i inside. all_done placed Text d.between words (length placed.plan.parts.text.relocations) i d.text (fresh_text placed words whole d) inside;
     }
 
-abbrev finished : ℕ → List Stub → List ℕ → List ℕ → Result Answered LinkFault
-finished entry stubs code stores =
-    provided (nat_le (length code + length stores) (8 * most_slots)) TooLong (Ok (record { words = with_setup (answered stubs code) stores entry; count = answers stubs code }))
+abbrev written : ℕ → List Bool → List Stub → List ℕ → List ℕ → Answered
+written entry reach stubs code stores = record { words = with_setup (answered stubs (blanked reach code)) stores entry; count = answers stubs (blanked reach code) }
 
-pub laid_out : (placed : Numbered) (entry : List ℕ) (slot : ℕ) (stubs : List Stub) (made : Answered) → AreParts placed.plan.parts → maps_of placed.plan ≡ Ok placed.maps
-    → data_of placed.plan ≡ Ok placed.taken → entry_of placed.plan entry ≡ Ok slot → program_words placed slot stubs ≡ Ok made → IsLaidOut placed.plan entry stubs made.words
-laid_out placed entry slot stubs made whole numbered referred begins e =
-    let a = after_ok (words_of placed) (λ code. after (stores_of placed) (λ stores. finished slot stubs code stores)) made e in
-    let b = after_ok (stores_of placed) (λ stores. finished slot stubs a.0 stores) made a.2 in
-    let c = provided_ok (nat_le (length a.0 + length b.0) (8 * most_slots)) TooLong (Ok (record { words = with_setup (answered stubs a.0) b.0 slot; count = answers stubs a.0 })) made b.2 in
+abbrev finished : ℕ → List Bool → List Stub → List ℕ → List ℕ → Result Answered LinkFault
+finished entry reach stubs code stores = provided (nat_le (length code + length stores) (8 * most_slots)) TooLong (Ok (written entry reach stubs code stores))
+
+pub laid_out : (placed : Numbered) (slot : ℕ) (reach : List Bool) (stubs : List Stub) (made : Answered) → slot ≤ count placed Code → AreParts placed.plan.parts → maps_of placed.plan ≡ Ok placed.maps
+    → data_of placed.plan ≡ Ok placed.taken → program_words placed reach slot stubs ≡ Ok made → IsLaidOut placed.plan slot reach stubs made.words
+laid_out placed slot reach stubs made inside whole numbered referred e =
+    let a = after_ok (words_of placed) (λ code. after (stores_of placed) (λ stores. finished slot reach stubs code stores)) made e in
+    let b = after_ok (stores_of placed) (λ stores. finished slot reach stubs a.0 stores) made a.2 in
+    let c = provided_ok (nat_le (length a.0 + length b.0) (8 * most_slots)) TooLong (Ok (written slot reach stubs a.0 b.0)) made b.2 in
     record {
       maps = placed.maps;
       taken = placed.taken;
       counted = numbered;
       referred = referred;
-      code = a.0;
+      relocated = a.0;
       laid = laid placed a.0 whole a.1;
+      code = blanked reach a.0;
+      blank = refl;
+      inside = inside;
       stores = b.0;
       stored = b.1;
-      slot = slot;
-      begins = begins;
-      whole = sym (ap (λ done. done.words) (ok_same (record { words = with_setup (answered stubs a.0) b.0 slot; count = answers stubs a.0 }) made c.1));
+      whole = sym (ap (λ done. done.words) (ok_same (written slot reach stubs a.0 b.0) made c.1));
     }

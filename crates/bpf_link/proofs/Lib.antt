@@ -12,3 +12,6 @@ pub mod Laid
 pub mod InOrder
 pub mod Answered
 pub mod Untouched
+pub mod Reached
+pub mod Pruning
+pub mod Blanking

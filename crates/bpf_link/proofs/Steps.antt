@@ -1,16 +1,12 @@
 -- Steps, one after the other: one more, and a fault, which stays.
-use Rattle.std.proofs.Common.{◌≡◌, ◌<◌, inl, inr, ℕ, zero, suc, ◌+◌, ◌-◌, nat_lt, true, List, [], ◌∷◌, ◌++◌, Result, Ok, Err, length, ap, subst, ◌∙◌, arith, add-one, add-zero, add-suc}
-use Rattle.std.specs.Prelude.{if◌then◌else◌}
+use Rattle.std.proofs.Common.{◌≡◌, ◌<◌, inl, inr, ℕ, zero, suc, ◌+◌, ◌-◌, List, Result, Ok, Err, ap, subst, ◌∙◌, arith, add-one, add-zero, add-suc}
 use Rattle.bpf_link.specs.declared.fault.LinkFault.{LinkFault}
-use Rattle.bpf_link.specs.declared.fault.LinkFault.TheVariants.{TooManyMaps}
-use Rattle.bpf_link.specs.declared.layout.SymbolEntry.{SymbolEntry}
 use Rattle.bpf_link.specs.declared.parts.Side.{Side}
 use Rattle.bpf_link.specs.declared.patch.Patch.{Patch}
-use Rattle.bpf_link.specs.Objects.{provided}
 use Rattle.bpf_link.specs.Data.{Numbered}
 use Rattle.bpf_link.specs.Plans.{after, steps}
-use Rattle.bpf_link.specs.Patches.{is_map, patch_of}
-use Rattle.bpf_link.specs.Links.{MemoryOr, with_patch, with_relocation, with_symbol}
+use Rattle.bpf_link.specs.Patches.{patch_of}
+use Rattle.bpf_link.specs.Links.{MemoryOr, with_patch, with_relocation}
 
 pub one_more : {A : Type 0} (step : ℕ → A → Result A LinkFault) (start : A) (n : ℕ) (a : A) (next : Result A LinkFault) → steps step start n ≡ Ok a → step n a ≡ next → steps step start (n + 1) ≡ next
 one_more step start n a next e h = ap (steps step start) (add-one n) ∙ ap (λ r. after r (step n)) e ∙ h
@@ -33,8 +29,3 @@ patched placed side i words patch e = ap (λ r. after r (λ p. Ok (with_patch wo
 
 pub not_patched : (placed : Numbered) (side : Side) (i : ℕ) (words : List ℕ) (fault : LinkFault) → patch_of placed side i ≡ Err fault → with_relocation placed side i words ≡ Err fault
 not_patched placed side i words fault e = ap (λ r. after r (λ p. Ok (with_patch words p))) e
-
-pub full_symbol : (maps : ℕ) (symbol : SymbolEntry) (values : List ℕ) → is_map maps symbol ≡ true → length values ≡ 16 → with_symbol maps symbol values ≡ Err TooManyMaps
-full_symbol maps symbol values m full =
-    ap (λ b. if b then provided (nat_lt (length values) 16) TooManyMaps (Ok (values ++ symbol.value ∷ [])) else Ok values) m
-    ∙ ap (λ n. provided (nat_lt n 16) TooManyMaps (Ok (values ++ symbol.value ∷ []))) full

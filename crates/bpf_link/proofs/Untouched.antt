@@ -7,11 +7,14 @@ use Rattle.byteorder.specs.Numbers.{length-bytes_low_first}
 use Rattle.bpf_link.specs.declared.parts.Side.{Side}
 use Rattle.bpf_link.specs.declared.parts.Side.TheVariants.{Code, Text}
 use Rattle.bpf_link.specs.declared.stubs.Stub.{Stub}
-use Rattle.bpf_link.specs.Data.{Numbered}
+use Rattle.bpf_link.specs.Begun.{counts}
+use Rattle.bpf_link.specs.Blanked.{blanked}
+use Rattle.bpf_link.specs.Data.{Numbered, numbered}
 use Rattle.bpf_link.specs.Laid.{IsLaid, IsPlain}
 use Rattle.bpf_link.specs.Setup.{jump_words, clear_words, with_setup}
 use Rattle.bpf_link.specs.Stubs.{answer_in, answered}
 use Rattle.bpf_link.specs.Untouched.{lead, IsLeft, OtherSlotsStay}
+use Rattle.bpf_link.proofs.Blanking.{blanked_kept, blanked_length}
 use Rattle.bpf_link.proofs.Answered.{AreSame, answer_same, answered_length, kept}
 use Rattle.bpf_link.proofs.Inversions.{count, from, here}
 
@@ -50,22 +53,31 @@ within : (placed : Numbered) (code : List ℕ) (side : Side) (p : ℕ) → IsLai
 within placed code Code p laid inside = let size = laid.size in omega (arith, size)
 within placed code Text p laid inside = let size = laid.size in omega (arith, size)
 
-stays : (placed : Numbered) (code stores : List ℕ) (entry : ℕ) (stubs : List Stub) (side : Side) (p k : ℕ) → IsLaid placed code → IsLeft (here placed side) stubs p → k < 8
-    → get_or (with_setup (answered stubs code) stores entry) (8 * (lead stores entry + (from placed side + p)) + k) 0 ≡ get_or (here placed side).slots (8 * p + k) 0
-stays placed code stores entry stubs side p k laid left small =
+stays : (placed : Numbered) (relocated stores : List ℕ) (entry : ℕ) (reach : List Bool) (stubs : List Stub) (side : Side) (p k : ℕ) → IsLaid placed relocated
+    → IsLeft placed.plan reach stubs side p → k < 8
+    → get_or (with_setup (answered stubs (blanked reach relocated)) stores entry) (8 * (lead stores entry + (from placed side + p)) + k) 0 ≡ get_or (here placed side).slots (8 * p + k) 0
+stays placed relocated stores entry reach stubs side p k laid left small =
     let slot = from placed side + p in
-    let same : AreSame code slot (here placed side).slots p = laid_plain placed code side p laid left.inside left.plain in
+    let code = blanked reach relocated in
+    let plain : AreSame relocated slot (here placed side).slots p = laid_plain placed relocated side p laid left.inside left.plain in
+    let there : AreSame code slot relocated slot = blanked_kept reach relocated slot left.reached in
+    let same : AreSame code slot (here placed side).slots p = λ k small. there k small ∙ plain k small in
     let none : answer_in stubs code slot ≡ None = answer_same stubs code (here placed side).slots slot p same ∙ left.unanswered in
-    let room : 8 * slot + 8 ≤ length code = within placed code side p laid left.inside in
+    let room : 8 * slot + 8 ≤ length relocated = within placed relocated side p laid left.inside in
+    let blank = blanked_length reach relocated in
     let size = answered_length stubs code in
     let place : 8 * (lead stores entry + slot) + k ≡ 8 * lead stores entry + (8 * slot + k) = omega arith in
     ap (λ i. get_or (with_setup (answered stubs code) stores entry) i 0) place
-    ∙ code_in (answered stubs code) stores entry (8 * slot + k) (omega (arith, room, size))
+    ∙ code_in (answered stubs code) stores entry (8 * slot + k) (omega (arith, room, size, blank))
     ∙ kept stubs code slot (length code / 8) none (omega arith) k small
     ∙ same k small
 
 pub law : OtherSlotsStay
 law object name entry stubs program linked side p k left small =
-    let laid = linked.laid in
-    ap (λ words. get_or words (8 * (lead laid.stores laid.slot + (from (record { plan = linked.plan; maps = laid.maps; taken = laid.taken }) side + p)) + k) 0) laid.whole
-    ∙ stays (record { plan = linked.plan; maps = laid.maps; taken = laid.taken }) laid.code laid.stores laid.slot stubs side p k laid.laid left small
+    let laid = linked.made.laid in
+    let reach = linked.begun.reach in
+    let placed = numbered (counts linked.begun) laid.maps laid.taken in
+    let place : ℕ = 8 * (lead laid.stores linked.begun.slot + (from placed side + p)) + k in
+    ap (λ words. get_or words place 0) laid.whole
+    ∙ ap (λ code. get_or (with_setup (answered stubs code) laid.stores linked.begun.slot) place 0) laid.blank
+    ∙ stays placed laid.relocated laid.stores linked.begun.slot reach stubs side p k laid.laid left small

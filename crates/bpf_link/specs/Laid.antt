@@ -1,5 +1,5 @@
 -- What stands in the slots of a program, whatever the order in which relocations are done.
-use Rattle.std.specs.Prelude.{◌≡◌, ◌<◌, ℕ, ◌+◌, ◌*◌, List, ◌∷◌, Ok, Some, length, slice_index}
+use Rattle.std.specs.Prelude.{◌≡◌, ◌≤◌, ◌<◌, ℕ, ◌+◌, ◌*◌, Bool, List, ◌∷◌, Ok, Some, length, slice_index}
 use Rattle.byteorder.specs.Endian.{little_bytes}
 use Rattle.bpf_link.specs.declared.parts.Part.{Part}
 use Rattle.bpf_link.specs.declared.parts.Side.{Side}
@@ -9,8 +9,8 @@ use Rattle.bpf_link.specs.declared.patch.Patch.{Patch}
 use Rattle.bpf_link.specs.Parts.{part_of, slots_in}
 use Rattle.bpf_link.specs.Tables.{relocation_at}
 use Rattle.bpf_link.specs.Patches.{patch_of}
+use Rattle.bpf_link.specs.Blanked.{blanked}
 use Rattle.bpf_link.specs.Data.{Numbered, data_of, numbered}
-use Rattle.bpf_link.specs.Entries.{entry_of}
 use Rattle.bpf_link.specs.Setup.{stores_of, with_setup}
 use Rattle.bpf_link.specs.Stubs.{answered}
 use Rattle.bpf_link.specs.declared.stubs.Stub.{Stub}
@@ -51,16 +51,18 @@ pub record IsLaid (placed : Numbered) (words : List ℕ) : Type 0 where
   pub code_done : (i : ℕ) → i < length placed.plan.parts.code.relocations → IsDone placed Code words i
   pub text_done : (i : ℕ) → i < length placed.plan.parts.text.relocations → IsDone placed Text words i
 
--- A program is that with calls answered; with the setup where its data aren't zeros at the start, and else, where it doesn't begin with the entry, with a jump there.
-pub record IsLaidOut (plan : Plan) (entry : List ℕ) (stubs : List Stub) (words : List ℕ) : Type 0 where
+-- A program is that with an exit in each slot that isn't reached, and with calls answered; with the setup where its data aren't zeros at the start, and
+-- else, where it doesn't begin with the entry, with a jump there.
+pub record IsLaidOut (plan : Plan) (slot : ℕ) (reach : List Bool) (stubs : List Stub) (words : List ℕ) : Type 0 where
   pub maps : List ℕ
   pub taken : List ℕ
   pub counted : maps_of plan ≡ Ok maps
   pub referred : data_of plan ≡ Ok taken
+  pub relocated : List ℕ
+  pub laid : IsLaid (numbered plan maps taken) relocated
   pub code : List ℕ
-  pub laid : IsLaid (numbered plan maps taken) code
+  pub blank : code ≡ blanked reach relocated
+  pub inside : slot ≤ slots_in plan.parts.code
   pub stores : List ℕ
   pub stored : stores_of (numbered plan maps taken) ≡ Ok stores
-  pub slot : ℕ
-  pub begins : entry_of plan entry ≡ Ok slot
   pub whole : words ≡ with_setup (answered stubs code) stores slot

@@ -22,4 +22,10 @@ pub mod Names
 pub mod Helpers
 pub mod FieldRelocations
 pub mod Programs
+pub mod Reach
+pub mod Blanked
+pub mod Pruned
+pub mod Begun
+pub mod Kept
+pub mod ReachSteps
 pub mod Untouched

@@ -1,6 +1,6 @@
 -- The program that an object holds: the words of its code, with the relocations of these done.
-use Rattle.std.specs.Prelude.{◌≡◌, ◌⊎◌, ◌≤◌, All, ℕ, zero, suc, ◌+◌, ◌*◌, ◌/◌, ◌==◌, nat_le, nat_lt, min, Option, Some, None, is_some, List, [], ◌∷◌, ◌++◌, Result, Ok, Err, length, map, slice_set, if◌then◌else◌}
-use Rattle.bpf_isa.specs.Checker.{IsAccepted, IsRefused, most_slots}
+use Rattle.std.specs.Prelude.{◌≡◌, ◌⊎◌, ◌≤◌, All, ℕ, zero, suc, ◌+◌, ◌*◌, ◌/◌, ◌==◌, nat_le, nat_lt, min, Bool, ◌&&◌, Option, Some, None, is_some, List, [], ◌∷◌, ◌++◌, Result, Ok, Err, length, map, slice_set, if◌then◌else◌}
+use Rattle.bpf_isa.specs.Checker.{most_slots}
 use Rattle.bpf_isa.specs.Maps.{IsShape, most_maps, most_entries}
 use Rattle.bpf_isa.specs.declared.maps.MapShape.{MapShape}
 use Rattle.bpf_isa.specs.declared.fault.LoadFault.{LoadFault}
@@ -9,32 +9,40 @@ use Rattle.bpf_isa.specs.declared.fault.PieceFault.TheVariants.{UnknownHelper}
 use Rattle.bpf_isa.specs.Words.{u32_at}
 use Rattle.bpf_link.specs.declared.fault.LinkFault.{LinkFault}
 use Rattle.bpf_link.specs.declared.fault.LinkFault.TheVariants.{LongName, TooLong, TooManyMaps, Program, Helper, Memory}
-use Rattle.bpf_link.specs.declared.layout.SymbolEntry.{SymbolEntry}
+use Rattle.bpf_link.specs.declared.layout.RelocationEntry.{RelocationEntry}
 use Rattle.bpf_link.specs.declared.parts.Side.{Side}
 use Rattle.bpf_link.specs.declared.parts.Side.TheVariants.{Code, Text}
 use Rattle.bpf_link.specs.declared.plan.Plan.{Plan}
 use Rattle.bpf_link.specs.declared.patch.Patch.{Patch}
 use Rattle.bpf_link.specs.Objects.{provided, opened, section_at}
 use Rattle.bpf_link.specs.Parts.{Sides, first_of, part_of, slots_in}
-use Rattle.bpf_link.specs.Tables.{symbol_at}
+use Rattle.bpf_link.specs.Tables.{relocation_at, symbol_at}
 use Rattle.bpf_link.specs.Sections.{roles_in}
 use Rattle.bpf_link.specs.Plans.{after, steps, plan_of}
-use Rattle.bpf_link.specs.Data.{Numbered, data_of, numbered}
-use Rattle.bpf_link.specs.Entries.{entry_of}
+use Rattle.bpf_link.specs.Blanked.{blanked}
+use Rattle.bpf_link.specs.Data.{Numbered, data_of, numbered, with_section}
 use Rattle.bpf_link.specs.Patches.{is_map, patch_of, with_u32}
 use Rattle.bpf_link.specs.Setup.{stores_of, with_setup}
 use Rattle.bpf_link.specs.Sources.{source_of}
 use Rattle.bpf_link.specs.Stubs.{answered, answers}
 use Rattle.bpf_link.specs.declared.stubs.Stub.{Stub}
 
--- One more symbol: its value, where it names a map. There are at most `most_maps`.
-abbrev pub with_symbol : ℕ → SymbolEntry → List ℕ → Result (List ℕ) LinkFault
-with_symbol maps symbol values =
-    if is_map maps symbol then provided (nat_lt (length values) most_maps) TooManyMaps (Ok (values ++ symbol.value ∷ [])) else Ok values
+-- A wide load refers to a map.
+abbrev pub refers_to_map : Plan → RelocationEntry → Bool
+refers_to_map plan relocation =
+    (relocation.kind == 1) && (nat_lt relocation.symbol (length plan.symbols) && is_map plan.maps (symbol_at plan.symbols relocation.symbol))
 
--- Where the maps stand in their section.
+-- Maps, by their places in their section, with the one that a relocation refers to. There are at most `most_maps`.
+abbrev pub with_map : Plan → List RelocationEntry → ℕ → List ℕ → Result (List ℕ) LinkFault
+with_map plan relocations i maps =
+    if refers_to_map plan (relocation_at relocations i) then with_section (symbol_at plan.symbols (relocation_at relocations i).symbol).value maps else Ok maps
+
+abbrev pub with_maps : Plan → List RelocationEntry → List ℕ → Result (List ℕ) LinkFault
+with_maps plan relocations maps = steps (with_map plan relocations) maps (length relocations)
+
+-- The maps of a plan: those to which its code refers.
 abbrev pub maps_of : Plan → Result (List ℕ) LinkFault
-maps_of plan = steps (λ i values. with_symbol plan.maps (symbol_at plan.symbols i) values) [] (length plan.symbols)
+maps_of plan = after (with_maps plan plan.parts.code.relocations []) (λ maps. with_maps plan plan.parts.text.relocations maps)
 
 -- A slot with its registers and imm replaced, and the imm of the slot after it, of a wide load.
 abbrev pub with_slot : List ℕ → Patch → List ℕ
@@ -113,27 +121,22 @@ pub record Answered : Type 0 where
   pub words : List ℕ
   pub count : ℕ
 
--- The words of a plan with calls answered, and with the setup. They are at most as many as a program may have.
-abbrev pub program_words : Numbered → ℕ → List Stub → Result Answered LinkFault
-program_words placed entry stubs =
+-- The words of a plan where slots that aren't reached hold an exit, with calls answered, and with the setup. They are at most as many as a program may have.
+abbrev pub program_words : Numbered → List Bool → ℕ → List Stub → Result Answered LinkFault
+program_words placed reach entry stubs =
     after (words_of placed) (λ code.
     after (stores_of placed) (λ stores.
     provided (nat_le (length code + length stores) (8 * most_slots)) TooLong
-    (Ok (record { words = with_setup (answered stubs code) stores entry; count = answers stubs code }))))
+    (Ok (record { words = with_setup (answered stubs (blanked reach code)) stores entry; count = answers stubs (blanked reach code) }))))
 
--- The program of a plan: its words with relocations done and, where its data aren't zeros at the start, the setup.
-abbrev pub program_of : List ℕ → List Stub → Plan → Result Made LinkFault
-program_of entry stubs plan =
-    after (entry_of plan entry) (λ slot.
+-- The program of a plan whose entry is a slot: its words with relocations done and, where its data aren't zeros at the start, the setup.
+abbrev pub program_of : ℕ → List Bool → List Stub → Plan → Result Made LinkFault
+program_of slot reach stubs plan =
     after (maps_of plan) (λ maps.
     after (data_of plan) (λ taken.
     provided (nat_le (length maps + length taken) most_maps) TooManyMaps
-    (after (program_words (numbered plan maps taken) slot stubs) (λ done.
-    Ok (record { words = done.words; maps = length maps; data_maps = data_shapes plan taken; answered = done.count }))))))
-
--- The program of a section from a function of that name on, with the calls of some helpers answered, or the first fault.
-abbrev pub linked : List ℕ → List ℕ → List ℕ → List Stub → Result Made LinkFault
-linked object name entry stubs = after (planned object name) (program_of entry stubs)
+    (after (program_words (numbered plan maps taken) reach slot stubs) (λ done.
+    Ok (record { words = done.words; maps = length maps; data_maps = data_shapes plan taken; answered = done.count })))))
 
 -- Maps of one byte each: the object's own shapes are its loader's matter.
 abbrev pub plain_maps : ℕ → List MapShape
@@ -144,25 +147,8 @@ plain_maps (suc n) = plain_maps n ++ record { value_size = 1; entries = 1 } ∷ 
 abbrev pub least_maps : ℕ → List MapShape → List MapShape
 least_maps own shapes = plain_maps own ++ shapes
 
--- The words that come out for an object. The checker accepts them, with maps of at least one byte, and those of its data.
-pub record AreWordsOf (object name entry : List ℕ) (stubs : List Stub) (code : List ℕ) : Type 0 where
-  pub program : Made
-  pub linked : linked object name entry stubs ≡ Ok program
-  pub words : code ≡ program.words
-  pub accepted : IsAccepted code (least_maps program.maps program.data_maps)
-
 -- What is told of words that the checker refuses: from where their slot comes; of a call of a helper that there isn't the helper's number, too.
 abbrev pub told_of : Plan → List ℕ → LoadFault → LinkFault
 told_of plan words (At slot UnknownHelper) = Helper slot (u32_at words (8 * slot + 4)) (source_of plan words slot)
 told_of plan words (At slot fault) = Program (At slot fault) (source_of plan words slot)
 told_of plan words refusal = Program refusal None
-
--- The words are no program.
-pub record IsRejected (object name entry : List ℕ) (stubs : List Stub) (fault : LinkFault) : Type 0 where
-  pub plan : Plan
-  pub plans : planned object name ≡ Ok plan
-  pub program : Made
-  pub refusal : LoadFault
-  pub told : fault ≡ told_of plan program.words refusal
-  pub linked : linked object name entry stubs ≡ Ok program
-  pub refused : IsRefused program.words (least_maps program.maps program.data_maps) refusal

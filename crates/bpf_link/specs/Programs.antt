@@ -8,7 +8,8 @@ use Rattle.bpf_link.specs.declared.plan.Plan.{Plan}
 use Rattle.bpf_link.specs.declared.stubs.Stub.{Stub}
 use Rattle.bpf_link.specs.FieldRelocations.{AreLeft, IsFieldsFault}
 use Rattle.bpf_link.specs.Laid.{IsLaidOut}
-use Rattle.bpf_link.specs.Links.{AllShapes, Made, least_maps, linked, maps_of, planned, program_of}
+use Rattle.bpf_link.specs.Begun.{Begun, counts}
+use Rattle.bpf_link.specs.Links.{AllShapes, Made, least_maps, maps_of, program_of}
 use Rattle.bpf_link.specs.Refusals.{IsLinkFault}
 use Rattle.bpf_link.specs.Shapes.{AreDataShapes, HasShapes}
 use Rattle.bpf_isa.specs.Maps.{most_maps}
@@ -37,20 +38,23 @@ pub record HasOwnMaps (plan : Plan) (program : Program) : Type 0 where
   pub of_data : AreDataShapes plan program.data_maps.items
 
 -- A program is that of a plan, and lies as the plan says.
-pub record IsProgram (plan : Plan) (entry : List ℕ) (stubs : List Stub) (program : Program) : Type 0 where
-  pub ok : program_of entry stubs plan ≡ Ok (made_of program)
-  pub laid : IsLaidOut plan entry stubs program.words.items
+pub record IsProgram (plan : Plan) (slot : ℕ) (reach : List Bool) (stubs : List Stub) (program : Program) : Type 0 where
+  pub ok : program_of slot reach stubs plan ≡ Ok (made_of program)
+  pub laid : IsLaidOut plan slot reach stubs program.words.items
   pub own : HasOwnMaps plan program
   pub possible : AllShapes program.data_maps.items
 
--- A program that is made of an object. The checker accepts its words, for maps that have at least one byte.
-pub record IsLinked (object name entry : List ℕ) (stubs : List Stub) (program : Linked) : Type 0 where
-  pub ok : linked object name entry stubs ≡ Ok (linked_of program)
-  pub plan : Plan
-  pub plans : planned object name ≡ Ok plan
-  pub laid : IsLaidOut plan entry stubs program.words.items
+-- A program that is made of a plan. The checker accepts its words, for maps that have at least one byte.
+pub record IsMade (plan : Plan) (slot : ℕ) (reach : List Bool) (stubs : List Stub) (program : Linked) : Type 0 where
+  pub ok : program_of slot reach stubs plan ≡ Ok (linked_of program)
+  pub laid : IsLaidOut plan slot reach stubs program.words.items
   pub shapes : HasShapes plan program.shapes.items
   pub accepted : IsAccepted program.words.items (least_maps program.maps program.data_maps.items)
+
+-- A program that is made of an object, of what counts of it.
+pub record IsLinked (object name entry : List ℕ) (stubs : List Stub) (program : Linked) : Type 0 where
+  pub begun : Begun object name entry
+  pub made : IsMade (counts begun) begun.slot begun.reach stubs program
 
 -- So many relocations of its fields are left undone: none unless that is asked for.
 pub record IsLinkedAs (object name entry : List ℕ) (stubs : List Stub) (as_compiled : Bool) (program : Linked) : Type 0 where

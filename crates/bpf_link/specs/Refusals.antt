@@ -1,5 +1,7 @@
 -- Why no program is made of an object: in its words, or in the shapes of its maps.
-use Rattle.std.specs.Prelude.{◌≡◌, ◌⊎◌, ℕ, true, List, Ok, Err}
+use Rattle.std.specs.Prelude.{◌≡◌, ◌⊎◌, ℕ, Bool, true, List, Ok, Err}
+use Rattle.bpf_isa.specs.Checker.{IsAccepted, IsRefused}
+use Rattle.bpf_isa.specs.declared.fault.LoadFault.{LoadFault}
 use Rattle.bpf_btf.specs.Sections.{IsRead, IsReadFault}
 use Rattle.bpf_btf.specs.Types.{Types}
 use Rattle.bpf_btf.specs.declared.fault.BtfFault.{BtfFault}
@@ -7,7 +9,8 @@ use Rattle.bpf_link.specs.declared.fault.LinkFault.{LinkFault}
 use Rattle.bpf_link.specs.declared.fault.LinkFault.TheVariants as link
 use Rattle.bpf_link.specs.declared.plan.Plan.{Plan}
 use Rattle.bpf_link.specs.declared.stubs.Stub.{Stub}
-use Rattle.bpf_link.specs.Links.{AreWordsOf, IsRejected, MemoryOr, linked, maps_of, planned}
+use Rattle.bpf_link.specs.Begun.{Begun, BeginsNot, counts}
+use Rattle.bpf_link.specs.Links.{Made, MemoryOr, least_maps, maps_of, program_of, told_of}
 use Rattle.bpf_link.specs.MapTypes.{types_found, types_bytes, is_typed, typed_shapes}
 use Rattle.bpf_link.specs.Shapes.{IsInOrder}
 
@@ -40,15 +43,25 @@ pub record IsShapeFault (plan : Plan) (fault : LinkFault) : Type 0 where
   pub found : maps_of plan ≡ Ok maps
   pub why : HasTypeFault plan maps fault
 
+-- The checker refuses the words of a plan.
+pub record IsRejected (plan : Plan) (program : Made) (fault : LinkFault) : Type 0 where
+  pub refusal : LoadFault
+  pub told : fault ≡ told_of plan program.words refusal
+  pub refused : IsRefused program.words (least_maps program.maps program.data_maps) refusal
+
 -- The words are a program, and its maps have no shapes.
-pub record LacksShapes (object name entry : List ℕ) (stubs : List Stub) (fault : LinkFault) : Type 0 where
-  pub words : List ℕ
-  pub made : AreWordsOf object name entry stubs words
-  pub plan : Plan
-  pub plans : planned object name ≡ Ok plan
+pub record LacksShapes (plan : Plan) (program : Made) (fault : LinkFault) : Type 0 where
+  pub accepted : IsAccepted program.words (least_maps program.maps program.data_maps)
   pub why : IsShapeFault plan fault
 
--- Why no program is made of an object.
+-- Why no program is made of a plan.
+abbrev pub IsPlanFault : Plan → ℕ → List Bool → List Stub → LinkFault → Type 0
+IsPlanFault plan slot reach stubs fault =
+    MemoryOr (program_of slot reach stubs plan) fault
+    ⊎ ((program : Made) × (program_of slot reach stubs plan ≡ Ok program) × (IsRejected plan program fault ⊎ LacksShapes plan program fault))
+
+-- Why none is made of an object.
 abbrev pub IsLinkFault : List ℕ → List ℕ → List ℕ → List Stub → LinkFault → Type 0
 IsLinkFault object name entry stubs fault =
-    MemoryOr (linked object name entry stubs) fault ⊎ (IsRejected object name entry stubs fault ⊎ LacksShapes object name entry stubs fault)
+    (fault ≡ link.Memory)
+    ⊎ (BeginsNot object name entry fault ⊎ ((begun : Begun object name entry) × IsPlanFault (counts begun) begun.slot begun.reach stubs fault))

@@ -1,5 +1,5 @@
 //! The entry of a program: one of the functions of its section.
-ghost use Rattle.std.specs.Prelude.{◌≡◌, ◌<◌, ◌+◌, ◌==◌, length, IfOk};
+ghost use Rattle.std.specs.Prelude.{◌≡◌, ◌≤◌, ◌<◌, ◌+◌, ◌==◌, length, IfOk};
 ghost use Rattle.bpf_link.specs.Entries.{is_function, is_program, is_entry, entry_found, slot_in, entry_at, entry_of};
 ghost use Rattle.bpf_link.specs.Parts.{slots_in};
 ghost use Rattle.bpf_link.specs.Sections.{FoundBelow, name_at};
@@ -87,6 +87,7 @@ fn entry_at(plan: &Plan<'_>, unnamed: bool, found: Found) -> Result<usize, LinkF
     requires found { FoundBelow (length plan.now.symbols) found }
     ensures value { result ≡ entry_at plan.now unnamed found }
     ensures small { IfOk result (λ slot. slot < most_slots) }
+    ensures inside { IfOk result (λ slot. slot ≤ slots_in plan.now.parts.code) }
 {
     match found {
         Found::Nothing => {
@@ -105,6 +106,7 @@ fn entry_at(plan: &Plan<'_>, unnamed: bool, found: Found) -> Result<usize, LinkF
 pub fn entry_of(plan: &Plan<'_>, name: &[u8]) -> Result<usize, LinkFault>
     ensures value { result ≡ entry_of plan.now name.now }
     ensures small { IfOk result (λ slot. slot < most_slots) }
+    ensures inside { IfOk result (λ slot. slot ≤ slots_in plan.now.parts.code) }
 {
     if name.len() > LONGEST_NAME {
         return Err(LinkFault::NoEntry);

@@ -18,6 +18,8 @@ mod parts;
 mod patch;
 mod placed;
 mod plan;
+mod pruned;
+mod reach;
 mod sections;
 mod setup;
 mod shapes;

@@ -5,8 +5,12 @@ ghost use Rattle.bpf_isa.specs.declared.maps.MapShape.{MapShape};
 ghost use Rattle.bpf_isa.specs.Maps.{IsShape, most_maps};
 ghost use Rattle.bpf_link.specs.Data.{AllBelow, HasMaps, numbered};
 ghost use Rattle.bpf_link.specs.Links.{AllShapes, MemoryOr, planned, program_of, program_words, plain_maps, least_maps, data_shape, data_shapes, told_of};
-ghost use Rattle.bpf_link.specs.Programs.{HasOwnMaps, IsLinked, IsLinkRefusal, IsLinkedAs, IsProgram, linked_of, made_of};
-ghost use Rattle.bpf_link.specs.Refusals.{IsLinkFault, IsShapeFault};
+ghost use Rattle.bpf_link.specs.declared.fault.LinkFault.TheVariants.{Memory};
+ghost use Rattle.bpf_link.specs.Programs.{HasOwnMaps, IsLinked, IsLinkRefusal, IsLinkedAs, IsMade, IsProgram, linked_of, made_of};
+ghost use Rattle.bpf_link.specs.Parts.{slots_in};
+ghost use Rattle.bpf_link.specs.Pruned.{flow_of};
+ghost use Rattle.bpf_link.specs.Reach.{IsReach};
+ghost use Rattle.bpf_link.specs.Refusals.{IsLinkFault, IsPlanFault, IsShapeFault};
 ghost use Rattle.bpf_link.specs.Shapes.{HasShapes};
 
 use crate::data_sections::data_of;
@@ -17,6 +21,8 @@ use crate::fields::u32_at;
 use crate::object::open;
 use crate::placed::Placed;
 use crate::plan::{Plan, plan_of};
+use crate::pruned::{blanked, flow_of, kept_of, pruned};
+use crate::reach::reached;
 use crate::sections::roles_of;
 use crate::setup::{stores_of, with_setup};
 use crate::shapes::all_shapes;
@@ -163,19 +169,21 @@ fn data_shapes(plan: &Plan<'_>, taken: &[usize]) -> ArrayVec<MapShape, MOST_MAPS
     shapes
 }
 
-/// The words of a plan with calls answered, and with the setup.
+/// The words of a plan with an exit in each slot that isn't reached, with calls answered, and with
+/// the setup.
 fn program_words(
     alloc: Global,
     placed: &Placed<'_, '_>,
+    reach: &[bool],
     entry: usize,
     stubs: &[Stub],
 ) -> Result<Answered, LinkFault>
     requires { entry < most_slots }
     ensures ok { IfOk result (λ done.
-        program_words placed.now entry stubs.now
+        program_words placed.now reach.now entry stubs.now
         ≡ Ok (record { words = done.words.items; count = done.count })) }
     ensures err { IfErr result (MemoryOr
-        (program_words placed.now entry stubs.now)) }
+        (program_words placed.now reach.now entry stubs.now)) }
 {
     let code = match words_of(alloc, placed) {
         Ok(code) => code,
@@ -188,8 +196,9 @@ fn program_words(
     if code.len() + stores.len() > 8 * MOST_SLOTS {
         return Err(LinkFault::TooLong);
     }
-    let count = answers(stubs, &code);
-    match with_setup(alloc, answered(stubs, code), &stores, entry) {
+    let blank = blanked(reach, code);
+    let count = answers(stubs, &blank);
+    match with_setup(alloc, answered(stubs, blank), &stores, entry) {
         Ok(words) => Ok(Answered { words, count }),
         Err(fault) => Err(fault),
     }
@@ -201,36 +210,35 @@ fn numbered_words(
     plan: &Plan<'_>,
     maps: &[u64],
     taken: &[usize],
+    reach: &[bool],
     entry: usize,
     stubs: &[Stub],
 ) -> Result<Answered, LinkFault>
     requires maps { HasMaps (numbered plan.now maps.now taken.now) }
     requires begins { entry < most_slots }
     ensures ok { IfOk result (λ done.
-        program_words (numbered plan.now maps.now taken.now) entry stubs.now
+        program_words (numbered plan.now maps.now taken.now) reach.now entry stubs.now
         ≡ Ok (record { words = done.words.items; count = done.count })) }
     ensures err { IfErr result (MemoryOr
-        (program_words (numbered plan.now maps.now taken.now) entry
+        (program_words (numbered plan.now maps.now taken.now) reach.now entry
         stubs.now)) }
 {
-    program_words(alloc, &Placed { plan, maps, taken }, entry, stubs)
+    program_words(alloc, &Placed { plan, maps, taken }, reach, entry, stubs)
 }
 
-/// The words of a plan, and its maps.
+/// The words of a plan whose entry is known, and its maps.
 fn program_of(
     alloc: Global,
-    object: &[u8],
-    entry: &[u8],
-    stubs: &[Stub],
     plan: &Plan<'_>,
+    slot: usize,
+    reach: &[bool],
+    stubs: &[Stub],
 ) -> Result<Program, LinkFault>
-    ensures ok { IfOk result (IsProgram plan.now entry.now stubs.now) }
-    ensures err { IfErr result (MemoryOr (program_of entry.now stubs.now plan.now)) }
+    requires small { slot < most_slots }
+    requires inside { slot ≤ slots_in plan.now.parts.code }
+    ensures ok { IfOk result (IsProgram plan.now slot reach.now stubs.now) }
+    ensures err { IfErr result (MemoryOr (program_of slot reach.now stubs.now plan.now)) }
 {
-    let slot = match entry_of(plan, entry) {
-        Ok(slot) => slot,
-        Err(fault) => return Err(fault),
-    };
     let maps = match maps_of(plan) {
         Ok(maps) => maps,
         Err(fault) => return Err(fault),
@@ -245,7 +253,7 @@ fn program_of(
         return Err(LinkFault::TooManyMaps);
     }
     plan.parts.invariant();
-    let done = match numbered_words(alloc, plan, own, taken, slot, stubs) {
+    let done = match numbered_words(alloc, plan, own, taken, reach, slot, stubs) {
         Ok(done) => done,
         Err(fault) => return Err(fault),
     };
@@ -319,6 +327,48 @@ pub fn link_with(
     }
 }
 
+/// The program of a plan of what counts, from a slot of its code on.
+fn link_plan(
+    alloc: Global,
+    plan: &Plan<'_>,
+    slot: usize,
+    reach: &[bool],
+    stubs: &[Stub],
+) -> Result<Linked, LinkFault>
+    requires small { slot < most_slots }
+    requires inside { slot ≤ slots_in plan.now.parts.code }
+    ensures ok { IfOk result (IsMade plan.now slot reach.now stubs.now) }
+    ensures err { IfErr result (IsPlanFault plan.now slot reach.now stubs.now) }
+{
+    let program = match program_of(alloc, plan, slot, reach, stubs) {
+        Ok(program) => program,
+        Err(fault) => return Err(fault),
+    };
+    match check(
+        alloc,
+        &program.words,
+        &least_maps(program.maps.len(), program.data_maps.as_slice()),
+    ) {
+        Ok(_) => match with_shapes(alloc, plan, program) {
+            Ok(linked) => Ok(linked),
+            Err(fault) => Err(fault),
+        },
+        Err(LoadFault::Memory) => Err(LinkFault::Memory),
+        Err(fault) => Err(told_of(plan, &program.words, fault)),
+    }
+}
+
+/// The slots of a plan's code that are reached from one of them.
+fn reach_of(alloc: Global, plan: &Plan<'_>, slot: usize) -> Result<Vec<bool>, LinkFault>
+    ensures ok { IfOk result (λ reach. IsReach (flow_of plan.now) slot reach.items) }
+    ensures err { IfErr result (λ fault. fault ≡ Memory) }
+{
+    match flow_of(alloc, plan) {
+        Ok(flow) => reached(alloc, &flow, slot),
+        Err(fault) => Err(fault),
+    }
+}
+
 /// The program of a code section, whose relocations of fields aren't looked at.
 fn link_words(alloc: Global, object: &[u8], options: &LinkOptions<'_>) -> Result<Linked, LinkFault>
     ensures ok { IfOk result (IsLinked object.now options.now.section.now options.now.entry.now
@@ -330,21 +380,21 @@ fn link_words(alloc: Global, object: &[u8], options: &LinkOptions<'_>) -> Result
         Ok(plan) => plan,
         Err(fault) => return Err(fault),
     };
-    let program = match program_of(alloc, object, options.entry, options.stubs, &plan) {
-        Ok(program) => program,
+    let slot = match entry_of(&plan, options.entry) {
+        Ok(slot) => slot,
         Err(fault) => return Err(fault),
     };
-    match check(
-        alloc,
-        &program.words,
-        &least_maps(program.maps.len(), program.data_maps.as_slice()),
-    ) {
-        Ok(_) => match with_shapes(alloc, &plan, program) {
-            Ok(linked) => Ok(linked),
-            Err(fault) => Err(fault),
-        },
-        Err(LoadFault::Memory) => Err(LinkFault::Memory),
-        Err(fault) => Err(told_of(&plan, &program.words, fault)),
+    let reach = match reach_of(alloc, &plan, slot) {
+        Ok(reach) => reach,
+        Err(fault) => return Err(fault),
+    };
+    let kept = match kept_of(alloc, &plan, &reach) {
+        Ok(kept) => kept,
+        Err(fault) => return Err(fault),
+    };
+    match link_plan(alloc, &pruned(&plan, &kept), slot, &reach, options.stubs) {
+        Ok(linked) => Ok(linked),
+        Err(fault) => Err(fault),
     }
 }
 

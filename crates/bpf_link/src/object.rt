@@ -30,6 +30,18 @@ impl<'a> Model for Object<'a> {
 }
 
 impl<'a> Object<'a> {
+    /// The same object.
+    pub fn again(&self) -> Object<'_>
+        ensures { result ≡ self.now }
+    {
+        Object {
+            bytes: self.bytes,
+            at: self.at,
+            count: self.count,
+            names: self.names,
+        }
+    }
+
     /// The bytes of the file.
     pub fn bytes(&self) -> &'a [u8]
         ensures { result.now ≡ self.now.bytes }

@@ -291,7 +291,9 @@ fn is_next(relocations: &Relocations<'_>, i: usize) -> bool
     before.kind != 1 || offset - before.offset > 8
 }
 
-fn patch_at(
+/// What a relocation makes of the slot of a part that it names, whatever stands before it in its
+/// table.
+pub fn patch_at(
     placed: &Placed<'_, '_>,
     side: Side,
     relocation: &RelocationEntry,

@@ -1,5 +1,6 @@
 //! Tables of an object: bytes in which entries of one size stand, one after the other.
 ghost use Rattle.std.specs.Prelude.{◌≡◌, ◌<◌, length};
+ghost use Rattle.bpf_link.specs.Layout.{relocation_entry};
 ghost use Rattle.bpf_link.specs.Tables.{relocation_at, symbol_at};
 
 use crate::layout::{RelocationEntry, SymbolEntry, relocation_entry, symbol_entry};
@@ -27,6 +28,7 @@ pub struct Symbols<'a> {
 
 impl<'a> Model for Symbols<'a> {
     ghost use Rattle.std.specs.Prelude.{List};
+    ghost use Rattle.bpf_link.specs.Layout.{relocation_entry};
     ghost use Rattle.bpf_link.specs.Tables.{symbols_in};
     ghost use Rattle.bpf_link.specs.declared.layout.SymbolEntry.{SymbolEntry};
 
@@ -59,6 +61,7 @@ pub struct Relocations<'a> {
 
 impl<'a> Model for Relocations<'a> {
     ghost use Rattle.std.specs.Prelude.{List};
+    ghost use Rattle.bpf_link.specs.Layout.{relocation_entry};
     ghost use Rattle.bpf_link.specs.Tables.{relocations_in};
     ghost use Rattle.bpf_link.specs.declared.layout.RelocationEntry.{RelocationEntry};
 
@@ -80,5 +83,14 @@ impl<'a> Relocations<'a> {
         ensures { result ≡ relocation_at self.now i }
     {
         relocation_entry(self.bytes, 16 * i)
+    }
+
+    /// The bytes of a relocation, by its index.
+    pub fn bytes_at(&self, i: usize) -> &'a [u8]
+        requires { i < length self.now }
+        ensures size { length result.now ≡ 16 }
+        ensures same { relocation_entry result.now 0 ≡ relocation_at self.now i }
+    {
+        &self.bytes[16 * i..16 * i + 16]
     }
 }

@@ -1,5 +1,5 @@
 -- The images of sections of data: they fit their maps, which are zero at the opening.
-use Rattle.std.proofs.Common.{◌≡◌, ◌≤◌, ◌<◌, ◌+◌, ◌*◌, ◌/◌, ◌%◌, ◌==◌, nat_le, nat_lt, ℕ, zero, suc, Bool, true, false, List, [], ◌∷◌, ◌++◌, Some, Result, Ok, Err, length, refl, sym, ap, ◌∙◌, arith, length-append}
+use Rattle.std.proofs.Common.{◌≡◌, ◌≤◌, ◌<◌, ◌+◌, ◌*◌, ◌/◌, ◌==◌, nat_le, nat_lt, ℕ, zero, suc, Bool, true, false, List, [], ◌∷◌, ◌++◌, Some, Ok, length, refl, sym, ap, ◌∙◌, arith, length-append}
 use Rattle.std.specs.Prelude.{if◌then◌else◌, min, option_map, replicate, slice_get, slice_index, slice_range}
 use Rattle.std.proofs.lemmas.Bool.Decides.{nat_tests}
 use Rattle.std.proofs.lemmas.Grind.{common_steps}
@@ -9,19 +9,12 @@ use Rattle.byteorder.specs.Endian.{little_bytes}
 use Rattle.byteorder.specs.Numbers.{length-bytes_low_first}
 use Rattle.bpf_isa.specs.declared.maps.MapShape.{MapShape}
 use Rattle.bpf_isa.specs.Programs.{Checked, IsProgram}
-use Rattle.bpf_link.specs.declared.fault.LinkFault.{LinkFault}
-use Rattle.bpf_link.specs.declared.fault.LinkFault.TheVariants.{LongData, DataSection, NoEntry, ManyPrograms}
+use Rattle.bpf_link.specs.declared.fault.LinkFault.TheVariants.{LongData, DataSection}
 use Rattle.bpf_link.specs.declared.layout.RelocationEntry.{RelocationEntry}
 use Rattle.bpf_link.specs.declared.layout.SectionHeader.{SectionHeader}
-use Rattle.bpf_link.specs.declared.layout.SymbolEntry.{SymbolEntry}
-use Rattle.bpf_link.specs.declared.parts.Part.{Part}
 use Rattle.bpf_link.specs.declared.plan.Plan.{Plan}
-use Rattle.bpf_link.specs.declared.sections.Found.{Found}
-use Rattle.bpf_link.specs.declared.sections.Found.TheVariants.{Nothing, Only, Several}
 use Rattle.bpf_link.specs.Data.{Numbered, is_among, pointers_of}
-use Rattle.bpf_link.specs.Entries.{entry_of, entry_at, entry_found, slot_in}
 use Rattle.bpf_link.specs.Objects.{Elf, provided, section_at}
-use Rattle.bpf_link.specs.Parts.{slots_in}
 use Rattle.bpf_link.specs.Tables.{relocation_at, symbol_at}
 use Rattle.bpf_link.specs.Images.{filled, whole_size, bytes_of, with_u64, address_of, with_relocated, with_pointer, with_pointers, image_of}
 use Rattle.bpf_link.specs.Layout.{u64_at}
@@ -139,26 +132,3 @@ opened_image program context is short = record {
   tables = is.tables;
   whole = zeros_length context (frame_len * frame_count + maps_len program.maps) ∙ three_parts (length context) (frame_len * frame_count) (maps_len program.maps);
 }
-
--- The entry is a slot of the code, or the first.
-slot_fits : (part : Part) (symbol : SymbolEntry) (slot : ℕ) → slot_in part symbol ≡ Ok slot → slot ≤ slots_in part
-slot_fits part symbol slot e =
-    let a = provided_ok (symbol.value % 8 == 0) NoEntry _ slot e in
-    let b = provided_ok (nat_lt (symbol.value / 8) (slots_in part)) NoEntry _ slot a.1 in
-    let same = ok_same (symbol.value / 8) slot b.1 in
-    let inside = is_below (symbol.value / 8) (slots_in part) b.0 in
-    omega arith
-
-clash : (fault : LinkFault) (v : ℕ) → ◌≡◌ {A = Result ℕ LinkFault} (Err fault) (Ok v) → ⊥
-clash fault v e = cc
-
-found_fits : (plan : Plan) (unnamed : Bool) (found : Found) (slot : ℕ) → entry_at plan unnamed found ≡ Ok slot → slot ≤ slots_in plan.parts.code
-found_fits plan unnamed (Only i) slot e = slot_fits plan.parts.code (symbol_at plan.symbols i) slot e
-found_fits plan unnamed Several slot e = absurd (clash ManyPrograms slot e)
-found_fits plan true Nothing slot e = let same = ok_same 0 slot e in omega arith
-found_fits plan false Nothing slot e = absurd (clash NoEntry slot e)
-
-pub entry_fits : (plan : Plan) (name : List ℕ) (slot : ℕ) → entry_of plan name ≡ Ok slot → slot ≤ slots_in plan.parts.code
-entry_fits plan name slot e =
-    let a = provided_ok (nat_le (length name) 255) NoEntry _ slot e in
-    found_fits plan (length name == 0) (entry_found plan name) slot a.1

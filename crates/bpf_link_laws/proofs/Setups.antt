@@ -20,6 +20,7 @@ use Rattle.bpf_link.specs.Layout.{u64_at}
 use Rattle.bpf_link.specs.Setup.{place_words, with_stores, is_zero, with_image, with_section_image, jump_words, clear_words, with_entry}
 use Rattle.bpf_link.specs.Stubs.{answered}
 use Rattle.bpf_link.proofs.Answered.{answered_length}
+use Rattle.bpf_link.proofs.Blanking.{blanked_length}
 use Rattle.bpf_link.proofs.Inversions.{ok_same, after_ok}
 use Rattle.bpf_machine.specs.ByAddress.{byte_at}
 use Rattle.bpf_machine.specs.Platform.{context_limit, map_address}
@@ -32,7 +33,7 @@ use Rattle.bpf_link_laws.proofs.Slots.{move_bytes, move_here, jump_here}
 use Rattle.bpf_link_laws.proofs.Steps.{within, Gone, still, once, go, step_clear, step_clear_both, step_jump}
 use Rattle.bpf_link_laws.proofs.Filling.{Filled, AreZero, none_filled, zero_filled, zero_at}
 use Rattle.bpf_link_laws.proofs.Walk.{At, stand, walk, store_part, piece_part, one_more, stores_more}
-use Rattle.bpf_link_laws.proofs.Sections.{image_fits, image_whole, image_short, map_shape, zero_there, opened_image, entry_fits}
+use Rattle.bpf_link_laws.proofs.Sections.{image_fits, image_whole, image_short, map_shape, zero_there, opened_image}
 
 -- Where the last jump goes to, and the words of a program with a setup.
 abbrev distance : List ℕ → List ℕ → ℕ → ℕ
@@ -298,9 +299,9 @@ ended program context least done a b m slot k is x short near same e =
     (step_jump program context (p + 1 + 1) 0 0 m (cast_signed w32 bytes) three ∙ ap (λ q. within program context q 0 0 m) goes)
 
 -- What is known of a linked program.
-ready : (plan : Plan) (entry : List ℕ) (stubs : List Stub) (program : Checked) (linked : IsLinked plan entry stubs program) (context : List ℕ) → length context ≤ context_limit
+ready : (plan : Plan) (entry : ℕ) (reach : List Bool) (stubs : List Stub) (program : Checked) (linked : IsLinked plan entry reach stubs program) (context : List ℕ) → length context ≤ context_limit
     → Ready (numbered plan linked.laid.maps linked.laid.taken) program context
-ready plan entry stubs program linked context short =
+ready plan entry reach stubs program linked context short =
     let taken = linked.laid.taken in
     let count : length program.maps ≡ length linked.own + length taken =
     ap length linked.shapes ∙ length-append linked.own (data_shapes plan taken) ∙ ap (λ n. length linked.own + n) (length-map taken (shape_of_data plan)) in
@@ -312,13 +313,13 @@ ready plan entry stubs program linked context short =
       shape = λ k known. map_shape plan taken linked.own program.maps (length linked.laid.maps) k linked.shapes linked.count known;
     }
 
-finished : (plan : Plan) (entry : List ℕ) (stubs : List Stub) (program : Checked) (linked : IsLinked plan entry stubs program) (context : List ℕ) (m : Image)
-    → (g : Gone program context (length linked.laid.code / 8 + 1) (entry_slot linked.laid.stores linked.laid.slot) 0 0 m) → (length linked.laid.stores ≡ 0 → g.steps ≡ (if linked.laid.slot == 0 then 0 else 1))
+finished : (plan : Plan) (entry : ℕ) (reach : List Bool) (stubs : List Stub) (program : Checked) (linked : IsLinked plan entry reach stubs program) (context : List ℕ) (m : Image)
+    → (g : Gone program context (length linked.laid.code / 8 + 1) (entry_slot linked.laid.stores entry) 0 0 m) → (length linked.laid.stores ≡ 0 → g.steps ≡ (if entry == 0 then 0 else 1))
     → IsImage m → m ≡ record (opened program.maps context) { bytes = m.bytes } → ((k : ℕ) → k < length linked.laid.taken → HoldsSection (numbered plan linked.laid.maps linked.laid.taken) m k)
     → ((a : ℕ) → (IsOfData (numbered plan linked.laid.maps linked.laid.taken) a → ⊥) → byte_at m a ≡ byte_at (opened program.maps context) a)
-    → (y : State) × (n : ℕ) × IsSetUp plan entry stubs program.bytes linked.laid (initial program context) y n
-finished plan entry stubs program linked context m g without image same holds others = (
-  within program context (entry_slot linked.laid.stores linked.laid.slot) 0 0 m,
+    → (y : State) × (n : ℕ) × IsSetUp linked.laid (initial program context) y n
+finished plan entry reach stubs program linked context m g without image same holds others = (
+  within program context (entry_slot linked.laid.stores entry) 0 0 m,
   g.steps,
   record {
     steps = record { state = sym g.state; running = g.running };
@@ -327,7 +328,7 @@ finished plan entry stubs program linked context m g without image same holds ot
     sections = holds;
     others = others;
     image = image;
-    rest = ap (λ (i : Image). within program context (entry_slot linked.laid.stores linked.laid.slot) 0 0 i) same;
+    rest = ap (λ (i : Image). within program context (entry_slot linked.laid.stores entry) 0 0 i) same;
   },
 )
 
@@ -341,50 +342,50 @@ is_none n e = grind (arith, nat_tests)
 is_some : (n : ℕ) → (n == 0) ≡ false → n ≡ 0 → ⊥
 is_some n e none = grind (arith, nat_tests)
 
-abbrev Sets : (plan : Plan) (entry : List ℕ) (stubs : List Stub) (program : Checked) (linked : IsLinked plan entry stubs program) (context : List ℕ) → Type 0
-Sets plan entry stubs program linked context = (y : State) × (n : ℕ) × IsSetUp plan entry stubs program.bytes linked.laid (initial program context) y n
+abbrev Sets : (plan : Plan) (entry : ℕ) (reach : List Bool) (stubs : List Stub) (program : Checked) (linked : IsLinked plan entry reach stubs program) (context : List ℕ) → Type 0
+Sets plan entry reach stubs program linked context = (y : State) × (n : ℕ) × IsSetUp linked.laid (initial program context) y n
 
-without_setup : (plan : Plan) (entry : List ℕ) (stubs : List Stub) (program : Checked) (linked : IsLinked plan entry stubs program) (context : List ℕ) → length context ≤ context_limit
-    → linked.laid.slot < 2147483648 → (length linked.laid.stores == 0) ≡ true → (begins : Bool) → (linked.laid.slot == 0) ≡ begins → Sets plan entry stubs program linked context
-without_setup plan entry stubs program linked context short near none true first =
+without_setup : (plan : Plan) (entry : ℕ) (reach : List Bool) (stubs : List Stub) (program : Checked) (linked : IsLinked plan entry reach stubs program) (context : List ℕ) → length context ≤ context_limit
+    → entry < 2147483648 → (length linked.laid.stores == 0) ≡ true → (begins : Bool) → (entry == 0) ≡ begins → Sets plan entry reach stubs program linked context
+without_setup plan entry reach stubs program linked context short near none true first =
     let least = length linked.laid.code / 8 + 1 in
     let old = opened program.maps context in
-    let known = ready plan entry stubs program linked context short in
-    let at : 0 ≡ entry_slot linked.laid.stores linked.laid.slot = sym (ap (λ b. if b && (linked.laid.slot == 0) then 0 else linked.laid.slot + 1) none ∙ ap (λ b. if true && b then 0 else linked.laid.slot + 1) first) in
-    let count : 0 ≡ (if linked.laid.slot == 0 then 0 else 1) = sym (ap (λ b. if b then 0 else 1) first) in
+    let known = ready plan entry reach stubs program linked context short in
+    let at : 0 ≡ entry_slot linked.laid.stores entry = sym (ap (λ b. if b && (entry == 0) then 0 else entry + 1) none ∙ ap (λ b. if true && b then 0 else entry + 1) first) in
+    let count : 0 ≡ (if entry == 0 then 0 else 1) = sym (ap (λ b. if b then 0 else 1) first) in
     let way : (p : ℕ) → 0 ≡ p → (g : Gone program context least p 0 0 old) × (g.steps ≡ 0) = λ p e. subst (λ q. (g : Gone program context least q 0 0 old) × (g.steps ≡ 0)) e (still program context least) in
-    let there = way (entry_slot linked.laid.stores linked.laid.slot) at in
-    finished plan entry stubs program linked context old there.0 (λ stores. there.1 ∙ count) (opened_image program context linked.checked short) refl
+    let there = way (entry_slot linked.laid.stores entry) at in
+    finished plan entry reach stubs program linked context old there.0 (λ stores. there.1 ∙ count) (opened_image program context linked.checked short) refl
     (none_stored (numbered plan linked.laid.maps linked.laid.taken) program context (length linked.laid.taken) linked.laid.stores known (itself (length linked.laid.taken)) linked.laid.stored (is_none (length linked.laid.stores) none))
     (λ a other. refl)
-without_setup plan entry stubs program linked context short near none false first =
+without_setup plan entry reach stubs program linked context short near none false first =
     let least = length linked.laid.code / 8 + 1 in
     let old = opened program.maps context in
-    let slot = linked.laid.slot in
+    let slot = entry in
     let code = answered stubs linked.laid.code in
-    let known = ready plan entry stubs program linked context short in
+    let known = ready plan entry reach stubs program linked context short in
     let at : slot + 1 ≡ entry_slot linked.laid.stores slot = sym (ap (λ b. if b && (slot == 0) then 0 else slot + 1) none ∙ ap (λ b. if true && b then 0 else slot + 1) first) in
     let count : 1 ≡ (if slot == 0 then 0 else 1) = sym (ap (λ b. if b then 0 else 1) first) in
     let whole : program.bytes ≡ jump_words slot ++ code = linked.laid.whole ∙ ap (λ b. if b then with_entry code slot else with_setup_words code linked.laid.stores slot) none ∙ ap (λ b. if b then code else jump_words slot ++ code) first in
     let jump = jumped program context least slot code linked.checked near whole in
     let way : (p : ℕ) → slot + 1 ≡ p → (g : Gone program context least p 0 0 old) × (g.steps ≡ 1) = λ p e. subst (λ q. (g : Gone program context least q 0 0 old) × (g.steps ≡ 1)) e jump.gone in
     let there = way (entry_slot linked.laid.stores slot) at in
-    finished plan entry stubs program linked context old there.0 (λ stores. there.1 ∙ count) (opened_image program context linked.checked short) refl
+    finished plan entry reach stubs program linked context old there.0 (λ stores. there.1 ∙ count) (opened_image program context linked.checked short) refl
     (none_stored (numbered plan linked.laid.maps linked.laid.taken) program context (length linked.laid.taken) linked.laid.stores known (itself (length linked.laid.taken)) linked.laid.stored (is_none (length linked.laid.stores) none))
     (λ a other. refl)
 
 -- With one.
-with_it : (plan : Plan) (entry : List ℕ) (stubs : List Stub) (program : Checked) (linked : IsLinked plan entry stubs program) (context : List ℕ) → length context ≤ context_limit
-    → (n : ℕ) → length (answered stubs linked.laid.code) ≡ 8 * n → length linked.laid.code / 8 ≡ n → linked.laid.slot ≤ n → n < 65536 → length program.bytes ≤ 8 * 65535 → (length linked.laid.stores == 0) ≡ false → Sets plan entry stubs program linked context
-with_it plan entry stubs program linked context short n size pieces inside few limit some =
+with_it : (plan : Plan) (entry : ℕ) (reach : List Bool) (stubs : List Stub) (program : Checked) (linked : IsLinked plan entry reach stubs program) (context : List ℕ) → length context ≤ context_limit
+    → (n : ℕ) → length (answered stubs linked.laid.code) ≡ 8 * n → length linked.laid.code / 8 ≡ n → entry ≤ n → n < 65536 → length program.bytes ≤ 8 * 65535 → (length linked.laid.stores == 0) ≡ false → Sets plan entry reach stubs program linked context
+with_it plan entry reach stubs program linked context short n size pieces inside few limit some =
     let least = length linked.laid.code / 8 + 1 in
     let old = opened program.maps context in
-    let slot = linked.laid.slot in
+    let slot = entry in
     let stores = linked.laid.stores in
     let maps = linked.laid.maps in
     let taken = linked.laid.taken in
     let code = answered stubs linked.laid.code in
-    let known = ready plan entry stubs program linked context short in
+    let known = ready plan entry reach stubs program linked context short in
     let whole : program.bytes ≡ with_setup_words code stores slot = linked.laid.whole ∙ ap (λ b. if b then with_entry code slot else with_setup_words code stores slot) some in
     let last : List ℕ = jump_words (distance code stores slot) in
     let begin : List ℕ = jump_words n ++ code in
@@ -406,13 +407,13 @@ with_it plan entry stubs program linked context short n size pieces inside few l
     split ∙ sym (append_assoc begin stores (clear_words ++ last)) ∙ ap (λ d. (begin ++ stores) ++ (clear_words ++ jump_words ((4294967296 + slot - d) % 4294967296))) back in
     let gone = ended program context least (begin ++ stores) st.a st.b st.m slot k linked.checked st.at (omega arith) (omega arith) here turned in
     let slot_is : slot + 1 ≡ entry_slot stores slot = sym (ap (λ b. if b && (slot == 0) then 0 else slot + 1) some) in
-    finished plan entry stubs program linked context st.m (subst (λ p. Gone program context least p 0 0 st.m) slot_is gone) (λ none. absurd (is_some (length stores) some none)) st.is st.same st.data_of
+    finished plan entry reach stubs program linked context st.m (subst (λ p. Gone program context least p 0 0 st.m) slot_is gone) (λ none. absurd (is_some (length stores) some none)) st.is st.same st.data_of
     (λ a other. st.others a (λ o. other (record { k = o.i; image = o.image; j = o.j; known = o.known; is = o.is; inside = o.inside; place = o.place })))
 
-by_stores : (plan : Plan) (entry : List ℕ) (stubs : List Stub) (program : Checked) (linked : IsLinked plan entry stubs program) (context : List ℕ) → length context ≤ context_limit
-    → (n : ℕ) → length (answered stubs linked.laid.code) ≡ 8 * n → length linked.laid.code / 8 ≡ n → linked.laid.slot ≤ n → n < 65536 → length program.bytes ≤ 8 * 65535 → (none : Bool) → (length linked.laid.stores == 0) ≡ none → Sets plan entry stubs program linked context
-by_stores plan entry stubs program linked context short n size pieces inside few limit true none = without_setup plan entry stubs program linked context short (omega arith) none (linked.laid.slot == 0) refl
-by_stores plan entry stubs program linked context short n size pieces inside few limit false some = with_it plan entry stubs program linked context short n size pieces inside few limit some
+by_stores : (plan : Plan) (entry : ℕ) (reach : List Bool) (stubs : List Stub) (program : Checked) (linked : IsLinked plan entry reach stubs program) (context : List ℕ) → length context ≤ context_limit
+    → (n : ℕ) → length (answered stubs linked.laid.code) ≡ 8 * n → length linked.laid.code / 8 ≡ n → entry ≤ n → n < 65536 → length program.bytes ≤ 8 * 65535 → (none : Bool) → (length linked.laid.stores == 0) ≡ none → Sets plan entry reach stubs program linked context
+by_stores plan entry reach stubs program linked context short n size pieces inside few limit true none = without_setup plan entry reach stubs program linked context short (omega arith) none (entry == 0) refl
+by_stores plan entry reach stubs program linked context short n size pieces inside few limit false some = with_it plan entry reach stubs program linked context short n size pieces inside few limit some
 
 -- The code is at least as short as the program.
 code_within : (code stores : List ℕ) (slot : ℕ) (none begins : Bool) → length code ≤ length (if none then (if begins then code else jump_words slot ++ code) else with_setup_words code stores slot)
@@ -427,14 +428,14 @@ code_within code stores slot false begins =
     omega arith
 
 pub law : SetupsStoreTheData
-law plan entry stubs program linked context short =
+law plan entry reach stubs program linked context short =
     let code = answered stubs linked.laid.code in
     let n = slots_in plan.parts.code + slots_in plan.parts.text in
-    let size : length linked.laid.code ≡ 8 * n = linked.laid.laid.size in
+    let size : length linked.laid.code ≡ 8 * n = ap length linked.laid.blank ∙ blanked_length reach linked.laid.relocated ∙ linked.laid.laid.size in
     let kept = answered_length stubs linked.laid.code in
     let slots = linked.checked.slots in
     let most = linked.checked.short in
     let fits : length code ≤ length program.bytes =
-    subst (λ words. length code ≤ length words) (sym linked.laid.whole) (code_within code linked.laid.stores linked.laid.slot (length linked.laid.stores == 0) (linked.laid.slot == 0)) in
-    let slot = entry_fits plan entry linked.laid.slot linked.laid.begins in
-    by_stores plan entry stubs program linked context short n (kept ∙ size) (omega arith) (omega arith) (omega arith) (omega arith) (length linked.laid.stores == 0) refl
+    subst (λ words. length code ≤ length words) (sym linked.laid.whole) (code_within code linked.laid.stores entry (length linked.laid.stores == 0) (entry == 0)) in
+    let slot = linked.laid.inside in
+    by_stores plan entry reach stubs program linked context short n (kept ∙ size) (omega arith) (omega arith) (omega arith) (omega arith) (length linked.laid.stores == 0) refl

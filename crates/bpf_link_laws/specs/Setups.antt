@@ -1,5 +1,5 @@
 -- What a linked program does to a machine before its entry, which its words alone don't say.
-use Rattle.std.specs.Prelude.{◌≡◌, ◌≤◌, ◌<◌, ℕ, ◌+◌, ◌/◌, ◌==◌, ◌&&◌, if◌then◌else◌, List, ◌++◌, Ok, Some, length, slice_index}
+use Rattle.std.specs.Prelude.{◌≡◌, ◌≤◌, ◌<◌, ℕ, ◌+◌, ◌/◌, ◌==◌, Bool, ◌&&◌, if◌then◌else◌, List, ◌++◌, Ok, Some, length, slice_index}
 use Rattle.bpf_isa.specs.declared.maps.MapShape.{MapShape}
 use Rattle.bpf_isa.specs.Programs.{Checked, IsProgram}
 use Rattle.bpf_link.specs.declared.plan.Plan.{Plan}
@@ -14,11 +14,11 @@ use Rattle.bpf_machine.specs.Regions.{Image, IsImage}
 use Rattle.bpf_machine.specs.Runs.{state_after, Steps}
 use Rattle.bpf_machine.specs.State.{State, initial}
 
--- A checked program that was linked: it has the words that come out for an object, and its maps are as many as the object has
--- of its own, of any shapes, and after them those of its data.
-pub record IsLinked (plan : Plan) (entry : List ℕ) (stubs : List Stub) (program : Checked) : Type 0 where
+-- A checked program that was linked: it has the words that come out for a plan from a slot of its code on, where some slots are reached, and its maps are
+-- as many as the plan has of its own, of any shapes, and after them those of its data.
+pub record IsLinked (plan : Plan) (slot : ℕ) (reach : List Bool) (stubs : List Stub) (program : Checked) : Type 0 where
   pub checked : IsProgram program
-  pub laid : IsLaidOut plan entry stubs program.bytes
+  pub laid : IsLaidOut plan slot reach stubs program.bytes
   pub own : List MapShape
   pub count : length own ≡ length laid.maps
   pub shapes : program.maps ≡ own ++ data_shapes plan laid.taken
@@ -46,18 +46,18 @@ pub record IsOfData (placed : Numbered) (a : ℕ) : Type 0 where
 -- n steps set a machine up: they lead from its opening x to its entry y, and between these two no state stands in the code. At
 -- the entry memory holds the bytes of each section of data. Each other byte, the registers, the frames, the trace and the status
 -- are as at the opening. Without a setup there is no step, or the one to an entry that isn't the first slot.
-pub record IsSetUp (plan : Plan) (entry : List ℕ) (stubs : List Stub) (words : List ℕ) (laid : IsLaidOut plan entry stubs words) (x y : State) (n : ℕ) : Type 0 where
+pub record IsSetUp {plan : Plan} {slot : ℕ} {reach : List Bool} {stubs : List Stub} {words : List ℕ} (laid : IsLaidOut plan slot reach stubs words) (x y : State) (n : ℕ) : Type 0 where
   pub steps : Steps x y n
   pub behind : (k : ℕ) → 0 < k → k < n → length laid.code / 8 < (state_after k x).pc
-  pub without : length laid.stores ≡ 0 → n ≡ (if laid.slot == 0 then 0 else 1)
+  pub without : length laid.stores ≡ 0 → n ≡ (if slot == 0 then 0 else 1)
   pub sections : (k : ℕ) → k < length laid.taken → HoldsSection (numbered plan laid.maps laid.taken) y.memory k
   pub others : (a : ℕ) → (IsOfData (numbered plan laid.maps laid.taken) a → ⊥) → byte_at y.memory a ≡ byte_at x.memory a
   pub image : IsImage y.memory
-  pub rest : y ≡ record x { pc = entry_slot laid.stores laid.slot; memory = record x.memory { bytes = y.memory.bytes } }
+  pub rest : y ≡ record x { pc = entry_slot laid.stores slot; memory = record x.memory { bytes = y.memory.bytes } }
 
 -- Each linked program sets a machine up, whatever its context is.
 abbrev pub SetupsStoreTheData : Type 0
 SetupsStoreTheData =
-    (plan : Plan) (entry : List ℕ) (stubs : List Stub) (program : Checked) (linked : IsLinked plan entry stubs program) (context : List ℕ) →
+    (plan : Plan) (slot : ℕ) (reach : List Bool) (stubs : List Stub) (program : Checked) (linked : IsLinked plan slot reach stubs program) (context : List ℕ) →
     length context ≤ context_limit →
-    (y : State) × (n : ℕ) × IsSetUp plan entry stubs program.bytes linked.laid (initial program context) y n
+    (y : State) × (n : ℕ) × IsSetUp linked.laid (initial program context) y n

@@ -7,12 +7,10 @@ use Rattle.bpf_entries.specs.declared.status.Status.TheVariants as status
 use Rattle.bpf_isa.specs.Maps.{IsMapList, items_of, shape_of}
 use Rattle.bpf_isa.specs.Programs.{Checked, IsProgram}
 use Rattle.bpf_isa.specs.declared.maps.MapShape.{MapShape}
-use Rattle.bpf_link.specs.FieldRelocations.{AreLeft}
-use Rattle.bpf_link.specs.Links.{AreWordsOf, planned}
-use Rattle.bpf_link.specs.Shapes.{HasShapes}
+use Rattle.bpf_link.specs.Programs.{IsLinkedAs}
 use Rattle.bpf_link.specs.StubLists.{stubs_in}
 use Rattle.bpf_link.specs.declared.fault.LinkFault.{LinkFault}
-use Rattle.bpf_link.specs.declared.plan.Plan.{Plan}
+use Rattle.bpf_link.specs.declared.linker.Linked.{Linked}
 use Rattle.bpf_link.specs.declared.stubs.Stub.{Stub}
 use Rattle.bpf_machine.specs.Platform.{context_limit}
 use Rattle.bpf_machine.specs.State.{State, initial}
@@ -94,14 +92,14 @@ stubs_of job = listed_stubs job.options.stubs
 -- The words that the object is linked to; the shapes of the maps, in the order of their numbers: none unless the object defines each as
 -- an array; how many calls are answered; and how many fields are left as compiled.
 pub record IsLinkedTo (job : Job) (words : List ℕ) (shapes : List MapShape) (answered fields : ℕ) : Type 0 where
-  pub plan : Plan
   pub stubs : List Stub
   pub asked : stubs_of job ≡ Ok stubs
-  pub made : AreWordsOf job.file.now (section_of job) (entry_of job) stubs words
-  pub plans : planned job.file.now (section_of job) ≡ Ok plan
-  pub shaped : HasShapes plan shapes
-  pub counted : answered ≡ made.program.answered
-  pub left : AreLeft job.file.now (section_of job) job.options.as_compiled fields
+  pub program : Linked
+  pub linked : IsLinkedAs job.file.now (section_of job) (entry_of job) stubs job.options.as_compiled program
+  pub of_words : words ≡ program.words.items
+  pub of_shapes : shapes ≡ program.shapes.items
+  pub of_answered : answered ≡ program.answered
+  pub of_fields : fields ≡ program.fields
 
 -- How many calls are answered is told with the option alone.
 abbrev pub answered_if : Option (Bor (List ℕ)) → ℕ → Option ℕ

@@ -1,30 +1,43 @@
-use Rattle.std.proofs.Common.{◌∙◌, inl, inr, length, sym, ap, subst}
-use Rattle.bpf_isa.specs.Checker.{IsRefused}
-use Rattle.bpf_link.specs.Plans.{after}
-use Rattle.bpf_link.specs.Links.{program_of, least_maps, told_of}
+use Rattle.std.proofs.Common.{◌≤◌, inr, sym, subst}
+use Rattle.bpf_link.specs.Kept.{IsKeptOf}
+use Rattle.bpf_link.specs.Parts.{slots_in}
+use Rattle.bpf_link.specs.Programs.{IsMade}
+use Rattle.bpf_link.specs.Pruned.{pruned}
+use Rattle.bpf_link.specs.Refusals.{IsPlanFault}
 use Rattle.bpf_link.proofs.linker.link_words.Goals as goal
 
-pub told_of-requires : goal.told_of-requires
-told_of-requires c =
-    (c.least_maps.result, subst (λ words. IsRefused words c.least_maps.result c.in-Err-check.fault) (c.deref.ensures.value ∙ sym c.deref-in-Err-check.ensures.value) c.in-Err-check.ensures.fault)
+pub link_plan-requires-clause-inside : goal.link_plan-requires-clause-inside
+link_plan-requires-clause-inside c =
+    let plan = c.in-Ok.plan in
+    let reach = c.in-Ok-reach_of.reach.items in
+    let what = c.pruned.ensures reach (subst (λ r. IsKeptOf plan r c.in-Ok-kept_of.kept) c.deref.ensures.value c.in-Ok-kept_of.ensures.ok) in
+    subst (λ p. c.in-Ok-entry_of.slot ≤ slots_in p.parts.code) (sym what) c.in-Ok-entry_of.ensures.inside
 
-pub returns : goal.returns
-returns c =
-    let program = c.in-Ok-program_of.program in
-    let maps = rw c.as_slice.ensures.value at (rw c.len.ensures.value at c.least_maps.ensures) in
+pub returns-in-Ok-link_plan-clause-ok : goal.returns-in-Ok-link_plan-clause-ok
+returns-in-Ok-link_plan-clause-ok c =
+    let plan = c.in-Ok.plan in
+    let slot = c.in-Ok-entry_of.slot in
+    let reach = c.in-Ok-reach_of.reach.items in
+    let stubs = c.args.options.now.stubs.now in
+    let linked = c.in-Ok-link_plan.linked in
+    let what = c.pruned.ensures reach (subst (λ r. IsKeptOf plan r c.in-Ok-kept_of.kept) c.deref.ensures.value c.in-Ok-kept_of.ensures.ok) in
     record {
-      ok = tt;
-      err = inr (inl (record {
-        plan = c.in-Ok.plan;
-        plans = sym c.in-Ok.ensures;
-        program = record { words = program.words.items; maps = length program.maps.items; data_maps = program.data_maps.items; answered = program.answered };
-        refusal = c.in-Err-check.fault;
-        told = c.told_of.ensures ∙ ap (λ words. told_of c.in-Ok.plan words c.in-Err-check.fault) c.deref-in-Err-check.ensures.value;
-        linked =
-            ap (λ r. after r (program_of c.args.options.now.entry.now c.args.options.now.stubs.now)) (sym c.in-Ok.ensures)
-            ∙ c.in-Ok-program_of.ensures.ok.ok;
-        refused =
-            subst (λ words. IsRefused words (least_maps (length program.maps.items) program.data_maps.items) c.in-Err-check.fault) c.deref.ensures.value
-            (subst (λ m. IsRefused c.deref.result.now m c.in-Err-check.fault) maps c.in-Err-check.ensures.fault);
-      }));
+      begun = record { plan = plan; plans = sym c.in-Ok.ensures; slot = slot; begins = sym c.in-Ok-entry_of.ensures.value; reach = reach; reached = c.in-Ok-reach_of.ensures.ok };
+      made =
+          subst (λ r. IsMade (pruned reach plan) slot r stubs linked) c.deref-2.ensures.value
+          (subst (λ p. IsMade p slot c.deref-2.result.now stubs linked) what c.in-Ok-link_plan.ensures.ok);
     }
+
+pub returns-clause-err : goal.returns-clause-err
+returns-clause-err c =
+    let plan = c.in-Ok.plan in
+    let slot = c.in-Ok-entry_of.slot in
+    let reach = c.in-Ok-reach_of.reach.items in
+    let stubs = c.args.options.now.stubs.now in
+    let fault = c.in-Err-link_plan.fault in
+    let what = c.pruned.ensures reach (subst (λ r. IsKeptOf plan r c.in-Ok-kept_of.kept) c.deref.ensures.value c.in-Ok-kept_of.ensures.ok) in
+    inr (inr (
+      record { plan = plan; plans = sym c.in-Ok.ensures; slot = slot; begins = sym c.in-Ok-entry_of.ensures.value; reach = reach; reached = c.in-Ok-reach_of.ensures.ok },
+      subst (λ r. IsPlanFault (pruned reach plan) slot r stubs fault) c.deref-2.ensures.value
+          (subst (λ p. IsPlanFault p slot c.deref-2.result.now stubs fault) what c.in-Err-link_plan.ensures.err),
+    ))

@@ -1,7 +1,7 @@
 use Rattle.std.proofs.Common.{◌≡◌, Ok, List, inl, inr, ap, refl, sym, ◌∙◌}
 use Rattle.bpf_link.specs.declared.linker.Linked.{Linked}
 use Rattle.bpf_link.specs.declared.stubs.Stub.{Stub}
-use Rattle.bpf_link.specs.Programs.{IsLinkedAs, linked_of}
+use Rattle.bpf_link.specs.Programs.{IsLinkedAs}
 use Rattle.bpfdb_jobs.specs.Endings.{OutLost, Refused}
 use Rattle.bpfdb_jobs.specs.Jobs.{Prints, answered_if, entry_of, fields_if, printed, section_of, stubs_of}
 use Rattle.bpfdb_jobs.specs.MapLines.{linked_told}
@@ -21,19 +21,14 @@ linked-prints job stubs program asked made = (
   program.answered,
   program.fields,
   record {
-    plan = made.linked.plan;
     stubs = stubs;
     asked = asked;
-    made = record {
-      program = linked_of program;
-      linked = made.linked.ok;
-      words = refl;
-      accepted = made.linked.accepted;
-    };
-    plans = made.linked.plans;
-    shaped = made.linked.shapes;
-    counted = refl;
-    left = made.left;
+    program = program;
+    linked = made;
+    of_words = refl;
+    of_shapes = refl;
+    of_answered = refl;
+    of_fields = refl;
   },
   refl,
 )
