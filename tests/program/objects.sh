@@ -12,7 +12,7 @@ while IFS='|' read -r arguments words; do
 done <<'ROWS'
 calls.o|8510000006000000 bf01000000000000 8510000001000000 9500000000000000 bf10000000000000 0700000001000000 9500000000000000 bf10000000000000 2700000003000000 9500000000000000
 --section prog calls.o|8510000006000000 bf01000000000000 8510000001000000 9500000000000000 bf10000000000000 0700000001000000 9500000000000000 bf10000000000000 2700000003000000 9500000000000000
-calls.o --section=.text|bf10000000000000 0700000001000000 9500000000000000 bf10000000000000 2700000003000000 9500000000000000
+calls.o --section=.text|bf10000000000000 0700000001000000 9500000000000000 9500000000000000 9500000000000000 9500000000000000
 --section= text.o|b700000007000000 9500000000000000
 --section a two.o|b700000001000000 9500000000000000
 --section=b -- two.o|b700000002000000 9500000000000000
@@ -138,15 +138,18 @@ refused 'refused E8: no such code section: .text, prog' link --section text call
 refused 'refused E9: more than one code section: --section NAME chooses one: a, b' link two.o
 refused 'refused E30: more than one program in the code section: --entry NAME chooses one: first, second' link programs.o
 refused 'refused E31: no such function in the code section: twice, first, second' link --entry third programs.o
-# (both call helper 5, which isn't there; behind the jump to `second` that is a slot later, but the same of the section)
+# (`second` calls helper 5, which isn't there; behind the jump to it that is a slot later than in the section. `first` doesn't come there, so it is linked: what isn't
+# reached is `exit`, and its calls aren't answered)
 clock='unknown helper 5 (bpf_ktime_get_ns): --stub 5=VALUE answers it: prog, slot 7'
-refused "refused E25 at slot 7: $clock" link --entry first programs.o
 refused "refused E25 at slot 8: $clock" link --section=prog --entry=second programs.o
-refused "refused E25 at slot 7: $clock" link --entry first --stub 4=0,6=0 programs.o
+refused "refused E25 at slot 8: $clock" link --entry second --stub 4=0,6=0 programs.o
+bytes words $(printf '%s' 'bf21000000000000 8510000002000000 0700000001000000 9500000000000000 bf10000000000000 6700000001000000 9500000000000000 9500000000000000 9500000000000000 9500000000000000 9500000000000000 9500000000000000 9500000000000000' | tr -d ' ' | sed 's/../& /g')
+row 'bpfdb link --entry first' 0 "$script_unread" "$text" '' link --entry first programs.o
+row 'bpfdb link --entry first --stub 5=7' 0 "$script_unread" "$text" 'calls answered by --stub: 0\n' link --entry first --stub 5=7 programs.o
 # The number of the helper is at 124. The first and the last that have a name (in the kernel's header), and those beside them; 1, 2 and 64 are there.
 while IFS='|' read -r octal helper; do
     { head -c 124 programs.o; printf "$octal"; tail -c +129 programs.o; } > changed.o
-    refused "refused E25 at slot 7: unknown helper $helper: --stub ${helper%% *}=VALUE answers it: prog, slot 7" link --entry first changed.o
+    refused "refused E25 at slot 8: unknown helper $helper: --stub ${helper%% *}=VALUE answers it: prog, slot 7" link --entry second changed.o
 done <<'ROWS'
 \0\0\0\0|0
 \003\0\0\0|3 (bpf_map_delete_elem)
@@ -167,9 +170,9 @@ ROWS
 # A call by BTF id (src_reg 2) of the number 5 is no call of helper 5, and bpfdb doesn't have it: no stub answers it.
 { head -c 121 programs.o; printf '\040'; tail -c +123 programs.o; } > changed.o
 for list in 5=7 4=0,5=0; do
-    refused 'refused E25 at slot 7: unknown instruction: prog, slot 7' link --entry first --stub "$list" changed.o
+    refused 'refused E25 at slot 8: unknown instruction: prog, slot 7' link --entry second --stub "$list" changed.o
 done
-refused 'refused E25 at slot 7: unknown instruction: prog, slot 7' link --entry first changed.o
+refused 'refused E25 at slot 8: unknown instruction: prog, slot 7' link --entry second changed.o
 # The symbol that isn't defined; a control byte of it is shown as such.
 refused 'refused E19 at slot 1: symbol is not defined in the object: elsewhere' link extern.o
 place=$(LC_ALL=C grep -obUa elsewhere extern.o | sed 's/:.*//')
@@ -198,23 +201,23 @@ refused 'refused E35: more than 16 stubs' link --stub "$sixteen,117=0" programs.
 refused 'refused E34: two stubs of one helper' link --stub "$sixteen,116=0" programs.o
 refused 'refused E32: malformed list of stubs' link --stub a empty
 for list in "$sixteen" 4294967295=0 0=0 4=2147483647 4=-2147483648 4=-0 4=0x7fffffff 4=-0x80000000 0004=0000; do
-    refused "refused E25 at slot 7: $clock" link --entry first --stub "$list" programs.o
+    refused "refused E25 at slot 8: $clock" link --entry second --stub "$list" programs.o
 done
 
-# Calls of helpers that a list answers are `mov r0, VALUE`: in `first` and `second` those of helper 5, whichever of them runs. What is told follows the maps.
+# Calls of helpers that a list answers are `mov r0, VALUE`: in `second` that of helper 5. What is told follows the maps.
 while IFS='|' read -r list value; do
-    bytes words $(printf '%s' "bf21000000000000 8510000002000000 0700000001000000 9500000000000000 bf10000000000000 6700000001000000 9500000000000000 b7000000$value bf06000000000000 b701000005000000 85100000f9ffffff 0f60000000000000 9500000000000000" | tr -d ' ' | sed 's/../& /g')
-    row "bpfdb link --stub $list" 0 "$script_unread" "$text" 'calls answered by --stub: 1\n' link --entry first --stub "$list" programs.o
+    bytes words $(printf '%s' "0600000007000000 9500000000000000 9500000000000000 9500000000000000 9500000000000000 bf10000000000000 6700000001000000 9500000000000000 b7000000$value bf06000000000000 b701000005000000 85100000f9ffffff 0f60000000000000 9500000000000000" | tr -d ' ' | sed 's/../& /g')
+    row "bpfdb link --stub $list" 0 "$script_unread" "$text" 'calls answered by --stub: 1\n' link --entry second --stub "$list" programs.o
 done <<'ROWS'
 5=7|07000000
 5=-1|ffffffff
 6=3,5=0x7fffffff|ffffff7f
 5=-2147483648|00000080
 ROWS
-"$program" link --entry first --stub 5=7 programs.o > found/out 2> /dev/full
+"$program" link --entry second --stub 5=7 programs.o > found/out 2> /dev/full
 echo $? > found/status
 : > found/err
-bytes words $(printf '%s' 'bf21000000000000 8510000002000000 0700000001000000 9500000000000000 bf10000000000000 6700000001000000 9500000000000000 b700000007000000 bf06000000000000 b701000005000000 85100000f9ffffff 0f60000000000000 9500000000000000' | tr -d ' ' | sed 's/../& /g')
+bytes words $(printf '%s' '0600000007000000 9500000000000000 9500000000000000 9500000000000000 9500000000000000 bf10000000000000 6700000001000000 9500000000000000 b700000007000000 bf06000000000000 b701000005000000 85100000f9ffffff 0f60000000000000 9500000000000000' | tr -d ' ' | sed 's/../& /g')
 check 'bpfdb link --stub, and standard error is full' 2 "$text" ''
 
 # The slot that is told of a relocation is one of the program that would come out: slots of `.text` count behind those of the section. In deep.o, which clang 14
@@ -341,7 +344,7 @@ maps|344|160|E24 at slot 14: relocation of a map at no empty wide load: second
 point|372|005|E29: address in data of what is no data: entry
 point|372|006|E29: address in data of what is no data
 point|368|003|E29: address in data of what is no data
-maps|280|020|E25 at slot 0: target is no instruction
+maps|280|020|E25 at slot 3: unknown instruction: prog, slot 2
 ROWS
 
 # What is linked at a limit, and refused beyond it. What grows stands behind the object, at its end, and the header of its section has another offset and size.
@@ -384,7 +387,7 @@ linked 'link of 65,535 slots, of which 65,531 are of .text' long.o
 { moved calls 536 '\0\003\0\0\0\0\0\0\340\377\007\0\0\0\0\0'; cat six; exits 65526; } > long.o
 refused 'refused E11: program too long' link long.o
 
-# 16 maps: the object's own two, and the one at place 0 fourteen times more, so that there are 15 before the other one. And one more.
+# A map that no code refers to is none, however many symbols name one: the object's own two are all, with fourteen symbols more, and with fifteen.
 # symbols COUNT: the object's symbols, and the fifth so many times more.
 symbols() {
     tail -c +201 maps.o | head -c 144
@@ -392,11 +395,11 @@ symbols() {
         tail -c +297 maps.o | head -c 24
     done
 }
-bytes words $(printf '%s' 'bf16000000000000 1851000000000000 0000000000000000 bf62000000000000 8500000001000000 bf07000000000000 185100000f000000 0000000000000000 bf62000000000000 8500000001000000 bf01000000000000 b700000001000000 1d17010000000000 b700000000000000 9500000000000000' | tr -d ' ' | sed 's/../& /g')
+bytes words $(printf '%s' 'bf16000000000000 1851000000000000 0000000000000000 bf62000000000000 8500000001000000 bf07000000000000 1851000001000000 0000000000000000 bf62000000000000 8500000001000000 bf01000000000000 b700000001000000 1d17010000000000 b700000000000000 9500000000000000' | tr -d ' ' | sed 's/../& /g')
 { moved maps 856 '\200\003\0\0\0\0\0\0\340\001\0\0\0\0\0\0'; symbols 14; } > many.o
-linked 'link of 16 maps' many.o
+linked 'link of fourteen symbols of maps' many.o
 { moved maps 856 '\200\003\0\0\0\0\0\0\370\001\0\0\0\0\0\0'; symbols 15; } > many.o
-refused 'refused E15: more than 16 maps' link many.o
+linked 'link of fifteen symbols of maps' many.o
 
 # A table of 0xfeff sections, and of 0xff00, a number that names no section. The object's own four are followed by empty ones.
 bytes words b7 00 00 00 07 00 00 00 EXIT
@@ -405,7 +408,7 @@ linked 'link of an object of 65,279 sections' sections.o
 { head -c 60 text.o; printf '\000\377'; tail -c +63 text.o; head -c $((64 * (0xff00 - 4))) /dev/zero; } > sections.o
 refused 'refused E6: malformed section table' link sections.o
 
-# Twenty calls of the first slot of `.text`, each with a relocation of its own: call I, of slot I, is 20 - I slots before it.
+# Twenty calls of the first slot of `.text`, each with a relocation of its own: call I, of slot I, is 20 - I slots before it. Nothing calls the second function there.
 twenty=$(seq 0 19)
 {
     for _ in $twenty; do printf '\205\020\0\0\377\377\377\377'; done
@@ -417,7 +420,8 @@ done > relocations
 {
     for i in $twenty; do printf '%b' "\\0205\\020\\0\\0\\0$(printf '%o' $((20 - i)))\\0\\0\\0"; done
     exits 1
-    cat six
+    head -c 24 six
+    exits 3
 } > words
 moved calls 600 '\0\003\0\0\0\0\0\0\250\0\0\0\0\0\0\0' > one.o
 { moved one 664 '\250\003\0\0\0\0\0\0\100\001\0\0\0\0\0\0'; cat called relocations; } > twenty.o
@@ -439,6 +443,29 @@ __attribute__((noinline)) unsigned long sum(const unsigned char *bytes, unsigned
 __attribute__((section("prog"))) unsigned long entry(const unsigned char *bytes, unsigned long count) { return sum(bytes, count); }
 C
 if has_clang 'link of files of C'; then
+    # Sixteen maps to which code refers, and seventeen; and of seventeen that are there sixteen.
+    for most in 16 17; do
+        for used in 16 17; do
+            [ "$used" -le "$most" ] || continue
+            {
+                echo 'struct map { unsigned kind, key, value, entries; };'
+                for i in $(seq "$most"); do
+                    echo "struct map map$i __attribute__((section(\"maps\"), used)) = {2, 4, 8, 1};"
+                done
+                echo '__attribute__((section("prog"))) long entry(void) { long sum = 0; void *at;'
+                for i in $(seq "$used"); do
+                    echo "at = &map$i; __asm__ volatile(\"\" : \"+r\"(at)); sum += (long)at;"
+                done
+                echo 'return sum; }'
+            } > maps17.c
+            clang -O1 -target bpf -c -o "maps$most$used.o" maps17.c
+        done
+    done
+    for name in maps1616 maps1716; do
+        "$program" link "$name.o" > words17 2> told
+        [ "$(cat told)" = "--maps $(seq -s , 16 | sed 's/[0-9][0-9]*/8x1/g')" ] || complain "what is told of $name.o"
+    done
+    refused 'refused E15: more than 16 maps' link maps1717.o
     clang -O1 -target bpf -c -o sum.o sum.c
     "$program" link sum.o > sum
     printf '\001\002\375' > context
