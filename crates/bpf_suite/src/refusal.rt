@@ -3,6 +3,7 @@ ghost use Rattle.std.specs.Prelude.{◌≡◌};
 ghost use Rattle.counted_io.specs.Writing.{WritesAfter};
 ghost use Rattle.bpf_suite.specs.Outcomes.{is_memory};
 ghost use Rattle.bpf_suite.specs.Refusals.{refusal_text, slot_of, text_of_refusal};
+ghost use Rattle.bpf_suite.specs.declared.refusal.Refusal.TheVariants.{NoCell};
 
 use bpf_isa::{LoadFault, MapFault};
 use bpf_machine::OpenFault;
@@ -84,17 +85,28 @@ pub fn put_refusal<W: Write>(
             let (number, text) = (fault.number(), fault.text());
             put_numbered(writer, so_far, b"refused O", number, b"", None, text)
         }
-        Refusal::NoCell(map, index) => {
-            let pieces = [
-                Piece::Text(b"refused Q14 at cell "),
-                Piece::Decimal(*map),
-                Piece::Text(b" "),
-                Piece::Decimal(*index),
-                Piece::Text(b": no such cell or wrong length"),
-            ];
-            put_all(writer, so_far, &pieces)
-        }
+        Refusal::NoCell(map, index) => put_no_cell(writer, so_far, *map, *index),
     }
+}
+
+/// Writes that there is no such cell.
+fn put_no_cell<W: Write>(
+    writer: &mut Counted<W>,
+    so_far: Result<(), WriteFault>,
+    map: u64,
+    index: u64,
+) -> Result<(), WriteFault>
+    ensures { WritesAfter W.contents writer.old so_far writer.new result
+        (refusal_text (NoCell map index)) }
+{
+    let pieces = [
+        Piece::Text(b"refused Q14 at cell "),
+        Piece::Decimal(map),
+        Piece::Text(b" "),
+        Piece::Decimal(index),
+        Piece::Text(b": no such cell or wrong length"),
+    ];
+    put_all(writer, so_far, &pieces)
 }
 
 /// The slot of a program's fault, where it has one.
