@@ -1,5 +1,6 @@
 pub mod CellValues
 pub mod Cuts
+pub mod Endings
 pub mod Images
 pub mod Lists
 pub mod Patterns

@@ -1,5 +1,5 @@
 -- The program that tests of a file share: its words are read once, it is checked with the maps of a test, and tests run on one machine, one after another.
-use Rattle.std.specs.Prelude.{ℕ, ◌≡◌, Bool, false, not, List, Option, Some, None, Result, Ok, Err}
+use Rattle.std.specs.Prelude.{ℕ, ◌≡◌, Bool, true, false, not, List, Option, Some, None, Result, Ok, Err}
 use Rattle.std.specs.Option.{option_or}
 use Rattle.bpf_text.specs.declared.fault.AsmFault.{AsmFault}
 use Rattle.bpf_suite.specs.Cells.{cell_lines}
@@ -35,6 +35,11 @@ RefusesProgram t (NoCell map index) = ⊥
 abbrev pub Loads : Setting → Outcome → Type 0
 Loads t (Ok x) = IsProgramOf t x.program
 Loads t (Err refusal) = RefusesProgram t refusal × (is_memory refusal ≡ false)
+
+-- A program may run on what it loads as, by the image of its cells where these are shared.
+pub record IsReady (t : Setting) (shares : Bool) (machine : Outcome) (kept : Option Image) : Type 0 where
+  pub loads : Loads t machine
+  pub image : shares ≡ true → HasImage t.cells kept
 
 -- The sections that tests share, and the machine of their program, or why there is none.
 pub record Shared : Type 0 where

@@ -9,12 +9,13 @@ use Rattle.bpf_machine.specs.Platform.{context_limit, frame_count, frame_len, ma
 use Rattle.bpf_machine.specs.Regions.{index_in, maps_from, maps_len, paste}
 use Rattle.bpf_machine.specs.State.{State, initial}
 use Rattle.bpf_machine.specs.declared.edit.Edit.TheVariants as edit
-use Rattle.bpf_suite.specs.Outcomes.{HasMaps, missing, with_cells}
+use Rattle.bpf_suite.specs.Outcomes.{HasMaps, IsProgramOf, missing, with_cells}
 use Rattle.bpf_suite.specs.declared.cells.Cell.{Cell}
 use Rattle.bpf_suite.specs.declared.image.Image.{Image}
 use Rattle.bpf_suite.specs.declared.image.Run.{Run}
 use Rattle.bpf_suite.specs.declared.refusal.Refusal.{Refusal}
 use Rattle.bpf_suite.specs.declared.refusal.Refusal.TheVariants.{NoCell}
+use Rattle.bpf_suite.specs.declared.setting.Setting.{Setting}
 
 -- A machine with runs of bytes, put in one after another.
 abbrev pub with_runs : List Run → State → State
@@ -35,6 +36,12 @@ IsImageOf cells image = (maps : List MapShape) → HasMaps image.maps maps → M
 abbrev pub HasImage : List Cell → Option Image → Type 0
 HasImage cells None = ⊤
 HasImage cells (Some image) = IsImageOf cells image
+
+-- An image for a program of a test: it is what the test's cells make of its maps.
+pub record IsImageFor (t : Setting) (code : Checked) (image : Image) : Type 0 where
+  pub program : IsProgramOf t code
+  pub maps : image.maps ≡ t.maps
+  pub made : IsImageOf t.cells image
 
 -- The bytes of all maps of a machine, side by side, and such bytes with runs put in.
 abbrev pub map_bytes : State → List ℕ

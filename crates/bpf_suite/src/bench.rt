@@ -1,15 +1,18 @@
 //! The program that tests of a file share, and the machine that they run on, one after another.
-ghost use Rattle.std.specs.Prelude.{◌≡◌, ◌++◌, IfErr, IfOk, List, OnErr, OnOk, filter_map, false, if◌then◌else◌, true};
-ghost use Rattle.bpf_suite.specs.Benches.{Loads, ReasonOf, outcome_by, shares_program};
-ghost use Rattle.bpf_suite.specs.Cells.{cell_of};
+ghost use Rattle.std.specs.Prelude.{◌≡◌, ◌++◌, IfOk, List, Ok, OnErr, OnOk, filter_map, false, if◌then◌else◌, true};
+ghost use Rattle.bpf_suite.specs.Benches.{IsReady, Loads, ReasonOf, outcome_by, shares_program};
+ghost use Rattle.bpf_suite.specs.Cells.{cell_lines, cell_of};
 ghost use Rattle.bpf_suite.specs.Images.{HasImage};
-ghost use Rattle.bpf_suite.specs.Outcomes.{Comes, Ends, IsProgramOf, Reads, Refuses};
+ghost use Rattle.bpf_suite.specs.Outcomes.{Comes, Reads};
 ghost use Rattle.bpf_suite.specs.Reports.{AreTold};
-ghost use Rattle.bpf_suite.specs.Tests.{cells as cells_of, has_listing, program as program_of, setting};
+ghost use Rattle.bpf_suite.specs.Tests.{body_for, cells as cells_of, has_listing, program as program_of, setting};
 ghost use Rattle.bpf_suite.specs.Verdicts.{wrong_cells};
 ghost use Rattle.bpf_suite.specs.declared.cells.Cell.{Cell};
+ghost use Rattle.bpf_suite.specs.declared.kind.Part.TheVariants as part;
+ghost use Rattle.bpf_suite.specs.declared.section.Section.{Section};
 
 use crate::cells::{CellLine, Cells};
+use crate::ending::Wanted;
 use crate::image::{Image, image_for};
 use crate::kind::Part;
 use crate::list::Own;
@@ -35,7 +38,7 @@ pub struct Bench<'b, 'a> {
     words: Result<Words, AsmFault>,
     /// The cells that get values, and what is wanted of cells.
     cells: Vec<CellLine<'a>>,
-    wanted: Vec<CellLine<'a>>,
+    wanted: Wanted<'a>,
     /// What these cells made of the maps of the last test without cells of its own.
     image: Option<Image<'a>>,
     /// The maps of the test that was run last, where it has some of its own: those of the machine.
@@ -51,7 +54,7 @@ impl<'b, 'a> Model for Bench<'b, 'a> {
     ghost view = { λ b. record { sections = b.shared.now; machine = b.machine } };
 
     ghost invariant = { λ b. IsBench b.shared.now b.program.items b.words b.cells.items
-        b.wanted.items b.image b.maps b.machine };
+        b.wanted b.image b.maps b.machine };
 }
 
 impl<'b, 'a> Bench<'b, 'a> {
@@ -70,7 +73,7 @@ impl<'b, 'a> Bench<'b, 'a> {
             program,
             words,
             cells,
-            wanted,
+            wanted: Wanted::of(wanted),
             image: None,
             maps: None,
             machine,
@@ -96,17 +99,29 @@ impl<'b, 'a> Bench<'b, 'a> {
 
     /// What the lines of a test say of cells that they don't hold where its program has ended.
     pub fn wrong_cells(
-        &self,
+        &mut self,
         alloc: Global,
         own: &Own<'b, 'a>,
         outcome: &Result<Cpu, Refusal>,
     ) -> Result<WrongCells<'a>, AllocError>
-        ensures { IfOk result (AreTold (wrong_cells (own.now ++ self.now.sections) outcome.now)) }
+        ensures wrong { IfOk result
+            (AreTold (wrong_cells (own.now ++ self.old.sections) outcome.now)) }
+        ensures same { self.new ≡ self.old }
     {
-        let has_own = has_part(own.sections, Part::CellsAfter);
-        let own_lines = lines_in(alloc, own.sections, Part::CellsAfter)?;
-        let lines = chosen(has_own, own_lines.as_slice(), self.wanted.as_slice());
-        wrong_cells(alloc, lines, outcome)
+        wrong_for(alloc, own, &mut self.wanted, outcome)
+    }
+
+    /// The same where its program has ended on the machine.
+    pub fn wrong_here(
+        &mut self,
+        alloc: Global,
+        own: &Own<'b, 'a>,
+    ) -> Result<WrongCells<'a>, AllocError>
+        ensures wrong { IfOk result
+            (AreTold (wrong_cells (own.now ++ self.old.sections) self.old.machine)) }
+        ensures same { self.new ≡ self.old }
+    {
+        wrong_for(alloc, own, &mut self.wanted, &self.machine)
     }
 
     /// Runs a test of the shared program on the machine, which is made anew where it has other maps
@@ -181,6 +196,26 @@ fn chosen<'x, 'a>(
     if has_own { own } else { shared }
 }
 
+/// What the lines of a test say of cells that they don't hold: its own, if it has some, else those
+/// that are shared.
+fn wrong_for<'a>(
+    alloc: Global,
+    own: &Own<'_, 'a>,
+    wanted: &mut Wanted<'a>,
+    outcome: &Result<Cpu, Refusal>,
+) -> Result<WrongCells<'a>, AllocError>
+    ensures wrong { (shared : List Section)
+        → wanted.old ≡ cell_lines (body_for part.CellsAfter shared)
+        → IfOk result (AreTold (wrong_cells (own.now ++ shared) outcome.now)) }
+    ensures lines { wanted.new ≡ wanted.old }
+{
+    if has_part(own.sections, Part::CellsAfter) {
+        let lines = lines_in(alloc, own.sections, Part::CellsAfter)?;
+        return wrong_cells(alloc, lines.as_slice(), outcome);
+    }
+    wanted.wrong_cells(alloc, outcome)
+}
+
 /// A machine that stands on the program of a test, or why there is none.
 fn machine_of(
     alloc: Global,
@@ -248,8 +283,7 @@ fn run_on<'a>(
     shares: bool,
     image: &mut Option<Image<'a>>,
 ) -> Result<Option<Refusal>, AllocError>
-    requires loads { Loads setting.now machine.old }
-    requires image { shares ≡ true → HasImage setting.now.cells image.old }
+    requires { IsReady setting.now shares machine.old image.old }
     ensures loads { Loads setting.now machine.new }
     ensures comes { IfOk result (λ refusal.
         Comes setting.now (outcome_by machine.new refusal)) }
@@ -259,7 +293,7 @@ fn run_on<'a>(
     match machine {
         Ok(cpu) => {
             if shares {
-                refusal_of(run_by(alloc, cpu, setting, image)?)
+                run_by(alloc, cpu, setting, image)
             } else {
                 refusal_of(outcome_on(alloc, cpu, setting))
             }
@@ -268,24 +302,24 @@ fn run_on<'a>(
     }
 }
 
-/// Runs a program on its machine by the image of its cells, which is kept.
+/// Runs a program on its machine by the image of its cells, which is kept. Answers why it is
+/// refused, if it is.
 fn run_by<'a>(
     alloc: Global,
     cpu: &mut Cpu,
     setting: &Setting<'a, '_>,
     kept: &mut Option<Image<'a>>,
-) -> Result<Result<(), Refusal>, AllocError>
-    requires program { IsProgramOf setting.now cpu.old.program }
-    requires image { HasImage setting.now.cells kept.old }
-    ensures ok { IfOk result (λ done. OnOk done (Ends setting.now cpu.new)) }
-    ensures err { IfOk result (λ done. IfErr done (Refuses setting.now)) }
+) -> Result<Option<Refusal>, AllocError>
+    requires { IsReady setting.now true (Ok cpu.old) kept.old }
+    ensures comes { IfOk result (λ refusal.
+        Comes setting.now (outcome_by (Ok cpu.new) refusal)) }
     ensures program { cpu.new.program ≡ cpu.old.program }
     ensures image { HasImage setting.now.cells kept.new }
 {
     let image = image_for(alloc, cpu, setting, kept.take())?;
     let done = outcome_by_image(alloc, cpu, setting, &image);
     *kept = Some(image);
-    Ok(done)
+    refusal_of(done)
 }
 
 /// Why a program is refused, if it is, unless memory ran out.

@@ -7,7 +7,7 @@ ghost use Rattle.bpf_machine.specs.Platform.{map_base};
 ghost use Rattle.bpf_machine.specs.Regions.{index_in, map_len, maps_from, maps_len};
 ghost use Rattle.bpf_machine.specs.declared.edit.Edit.TheVariants as edit;
 ghost use Rattle.bpf_suite.specs.Cells.{cell_of};
-ghost use Rattle.bpf_suite.specs.Images.{AreAll, HasImage, Holds, IsImageOf, Makes, run_of, with_runs};
+ghost use Rattle.bpf_suite.specs.Images.{AreAll, HasImage, Holds, IsImageFor, Makes, run_of, with_runs};
 ghost use Rattle.bpf_suite.specs.Outcomes.{IsProgramOf};
 
 use crate::cells::CellLine;
@@ -69,8 +69,7 @@ pub fn image_for<'a>(
 ) -> Result<Image<'a>, AllocError>
     requires program { IsProgramOf setting.now cpu.old.program }
     requires kept { HasImage setting.now.cells kept }
-    ensures image { IfOk result (IsImageOf setting.now.cells) }
-    ensures maps { IfOk result (λ image. image.maps ≡ setting.now.maps) }
+    ensures image { IfOk result (IsImageFor setting.now cpu.old.program) }
     ensures program { cpu.new.program ≡ cpu.old.program }
 {
     match kept {
@@ -91,8 +90,7 @@ fn image_of<'a>(
     setting: &Setting<'a, '_>,
 ) -> Result<Image<'a>, AllocError>
     requires { IsProgramOf setting.now cpu.old.program }
-    ensures image { IfOk result (IsImageOf setting.now.cells) }
-    ensures maps { IfOk result (λ image. image.maps ≡ setting.now.maps) }
+    ensures image { IfOk result (IsImageFor setting.now cpu.old.program) }
     ensures program { cpu.new.program ≡ cpu.old.program }
 {
     let runs = made(alloc, cpu, setting.cells.lines)?;

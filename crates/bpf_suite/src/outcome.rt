@@ -6,7 +6,7 @@ ghost use Rattle.bpfdb_replies.specs.Texts.{place};
 ghost use Rattle.counted_io.specs.Writing.{WritesAfter};
 ghost use Rattle.bpf_suite.specs.Benches.{Loads, RefusesProgram};
 ghost use Rattle.bpf_suite.specs.Cells.{cell_of};
-ghost use Rattle.bpf_suite.specs.Images.{IsImageOf};
+ghost use Rattle.bpf_suite.specs.Images.{IsImageFor};
 ghost use Rattle.bpf_suite.specs.Outcomes.{Ends, GivesCell, GivesCells, HasMaps, HasWords, IsProgramOf, Reads, Refuses, RefusesCells, limit_word, missing, outcome_text, with_cells};
 
 use crate::cells::{Cell, CellLine, cell_of};
@@ -191,9 +191,7 @@ pub fn outcome_by_image(
     setting: &Setting<'_, '_>,
     image: &Image<'_>,
 ) -> Result<(), Refusal>
-    requires program { IsProgramOf setting.now cpu.old.program }
-    requires image { IsImageOf setting.now.cells image.now }
-    requires maps { image.now.maps ≡ setting.now.maps }
+    requires { IsImageFor setting.now cpu.old.program image.now }
     ensures ok { OnOk result (Ends setting.now cpu.new) }
     ensures err { IfErr result (Refuses setting.now) }
     ensures program { cpu.new.program ≡ cpu.old.program }

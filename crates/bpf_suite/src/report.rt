@@ -129,8 +129,35 @@ fn report<'b, 'a, W: Write>(
         };
     }
     match bench.run(alloc, own) {
-        Ok(None) => tell(alloc, file, bench, own, bench.machine(), number, writer),
+        Ok(None) => tell_here(alloc, file, bench, own, number, writer),
         Ok(Some(refusal)) => tell(alloc, file, bench, own, &Err(refusal), number, writer),
+        Err(_) => Err(SuiteFault::Memory),
+    }
+}
+
+/// Reports on a test that came to what its machine came to. Answers whether it passed.
+fn tell_here<'b, 'a, W: Write>(
+    alloc: Global,
+    file: &[u8],
+    bench: &mut Bench<'b, 'a>,
+    own: &Own<'b, 'a>,
+    number: u64,
+    writer: &mut Counted<W>,
+) -> Result<bool, SuiteFault>
+    requires { Comes (setting (own.now ++ bench.old.sections)) bench.old.machine }
+    ensures ok { IfOk result (λ passed. let test = own.now ++ bench.old.sections in
+        (passed ≡ passes test bench.old.machine)
+        × Writes W.contents writer.old writer.new result
+        (test_text file.now number test bench.old.machine)) }
+    ensures err { IfErr result (λ why. BreaksAt W.contents why writer.old writer.new file.now number
+        (own.now ++ bench.old.sections)) }
+    ensures sections { bench.new.sections ≡ bench.old.sections }
+{
+    match bench.wrong_here(alloc, own) {
+        Ok(wrong) => {
+            let test = bench.test(own);
+            say(alloc, file, &test, bench.machine(), &wrong, number, writer)
+        }
         Err(_) => Err(SuiteFault::Memory),
     }
 }
@@ -139,30 +166,53 @@ fn report<'b, 'a, W: Write>(
 fn tell<'b, 'a, W: Write>(
     alloc: Global,
     file: &[u8],
-    bench: &Bench<'b, 'a>,
+    bench: &mut Bench<'b, 'a>,
     own: &Own<'b, 'a>,
     outcome: &Result<Cpu, Refusal>,
     number: u64,
     writer: &mut Counted<W>,
 ) -> Result<bool, SuiteFault>
-    requires { Comes (setting (own.now ++ bench.now.sections)) outcome.now }
-    ensures ok { IfOk result (λ passed. let test = own.now ++ bench.now.sections in
+    requires { Comes (setting (own.now ++ bench.old.sections)) outcome.now }
+    ensures ok { IfOk result (λ passed. let test = own.now ++ bench.old.sections in
         (passed ≡ passes test outcome.now)
         × Writes W.contents writer.old writer.new result
         (test_text file.now number test outcome.now)) }
     ensures err { IfErr result (λ why. BreaksAt W.contents why writer.old writer.new file.now number
-        (own.now ++ bench.now.sections)) }
+        (own.now ++ bench.old.sections)) }
+    ensures sections { bench.new.sections ≡ bench.old.sections }
 {
-    let test = bench.test(own);
-    let wrong = match bench.wrong_cells(alloc, own, outcome) {
-        Ok(wrong) => wrong,
-        Err(_) => return Err(SuiteFault::Memory),
-    };
-    let passed = match passes(alloc, &test, outcome, &wrong) {
+    match bench.wrong_cells(alloc, own, outcome) {
+        Ok(wrong) => {
+            let test = bench.test(own);
+            say(alloc, file, &test, outcome, &wrong, number, writer)
+        }
+        Err(_) => Err(SuiteFault::Memory),
+    }
+}
+
+/// Says what a test came to, with the cells that are wrong. Answers whether it passed.
+fn say<W: Write>(
+    alloc: Global,
+    file: &[u8],
+    test: &Test<'_, '_>,
+    outcome: &Result<Cpu, Refusal>,
+    wrong: &WrongCells<'_>,
+    number: u64,
+    writer: &mut Counted<W>,
+) -> Result<bool, SuiteFault>
+    requires comes { Comes (setting test.now) outcome.now }
+    requires wrong { AreTold (wrong_cells test.now outcome.now) wrong.now }
+    ensures ok { IfOk result (λ passed. (passed ≡ passes test.now outcome.now)
+        × Writes W.contents writer.old writer.new result
+        (test_text file.now number test.now outcome.now)) }
+    ensures err { IfErr result (λ why. BreaksAt W.contents why writer.old writer.new file.now number
+        test.now) }
+{
+    let passed = match passes(alloc, test, outcome, wrong) {
         Ok(passed) => passed,
         Err(_) => return Err(SuiteFault::Memory),
     };
-    match write_test(writer, file, passed, number, &test, outcome, &wrong) {
+    match write_test(writer, file, passed, number, test, outcome, wrong) {
         Ok(()) => Ok(passed),
         Err(WriteFault) => Err(SuiteFault::Write),
     }

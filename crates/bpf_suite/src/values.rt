@@ -1,5 +1,5 @@
 //! Values of cells where a program has ended.
-ghost use Rattle.std.specs.Prelude.{◌≡◌, ◌≤◌, ◌<◌, ◌-◌, ◌^◌, ◌∷◌, ◌++◌, IfOk, IfSome, IsSome, List, OnOk, [], filter, flat_map, not};
+ghost use Rattle.std.specs.Prelude.{◌≡◌, ◌≤◌, ◌<◌, ◌-◌, ◌^◌, ◌∷◌, ◌++◌, IfOk, IfSome, IsSome, List, Ok, OnOk, [], filter, flat_map, not};
 ghost use Rattle.std.specs.Option.{option_map};
 ghost use Rattle.bpf_machine.specs.Platform.{cell_address as cell_address_of};
 ghost use Rattle.bpf_machine.specs.Regions.{index_of};
@@ -27,6 +27,19 @@ const MOST_TOLD: usize = 16;
 pub struct WrongCells<'a> {
     pub told: Vec<CellLine<'a>>,
     pub more: usize,
+}
+
+impl<'a> WrongCells<'a> {
+    /// The same lines, as many more.
+    pub fn copied(&self, alloc: Global) -> Result<WrongCells<'a>, AllocError>
+        ensures { (all : List CellLine) → AreTold all self.now → IfOk result (AreTold all) }
+    {
+        let told = self.told.iter().map(|line| line.copied()).collect(alloc)?;
+        Ok(WrongCells {
+            told,
+            more: self.more,
+        })
+    }
 }
 
 /// The address of a cell of a map, whose values have n bytes.
@@ -96,14 +109,28 @@ pub fn wrong_cells<'a>(
 ) -> Result<WrongCells<'a>, AllocError>
     ensures { IfOk result (AreTold (wrong_lines lines.now outcome.now)) }
 {
+    match outcome {
+        Ok(cpu) => wrong_on(alloc, lines, cpu),
+        Err(_) => Ok(WrongCells {
+            told: Vec::new(alloc),
+            more: 0,
+        }),
+    }
+}
+
+/// The lines that don't hold on a machine.
+pub fn wrong_on<'a>(
+    alloc: Global,
+    lines: &[CellLine<'a>],
+    cpu: &Cpu,
+) -> Result<WrongCells<'a>, AllocError>
+    ensures { IfOk result (AreTold (wrong_lines lines.now (Ok cpu.now))) }
+{
     let mut wrong = WrongCells {
         told: Vec::new(alloc),
         more: 0,
     };
-    match outcome {
-        Ok(cpu) => note_each(alloc, &mut wrong, cpu, lines)?,
-        Err(_) => {}
-    }
+    note_each(alloc, &mut wrong, cpu, lines)?;
     Ok(wrong)
 }
 

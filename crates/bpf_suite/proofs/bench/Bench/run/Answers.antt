@@ -47,15 +47,18 @@ bring-requires-clause-stands c =
     let same = c.setting_of-setting.ensures ∙ ap setting test in
     λ yes. loads-again own shared _ _ _ _ _ _ _ _ _ c.requires c.self.invariant (c.are_same-stands.ensures.0 yes) (c.maps_in-maps.ensures ∙ ap maps c.own.view_is) same
 
-pub run_on-requires-clause-image : goal.run_on-requires-clause-image
-run_on-requires-clause-image c =
+pub run_on-requires : goal.run_on-requires
+run_on-requires c =
     let own = c.args.own.now in
     let shared = c.self.inside.shared.now in
     let here : shared ≡ c.args.self.now.sections = ap (λ (b : Shared). b.sections) c.self.view_is in
     let test : c.test-test.result ≡ own ++ shared = c.test-test.ensures ∙ ap (λ s. own ++ s) (sym here) in
     let has = c.has_part-has_own.ensures ∙ ap (has_part part.Cells) c.own.view_is in
     let same = c.setting_of-setting.ensures ∙ ap setting test in
-    λ yes. subst (λ cs. HasImage cs c.self.inside.image) (cells-shared own shared _ _ has (c.gets_shared-shares.ensures yes) same) c.self.invariant.image
+    record {
+      loads = c.in_ok-bring.ensures.ok;
+      image = λ yes. subst (λ cs. HasImage cs c.self.inside.image) (cells-shared own shared _ _ has (c.gets_shared-shares.ensures yes) same) c.self.invariant.image;
+    }
 
 pub invariant_of-self-2 : goal.invariant_of-self-2
 invariant_of-self-2 c =
