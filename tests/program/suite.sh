@@ -91,6 +91,26 @@ head='-- maps\n1x1\n-- listing\nexit\n-- result\n0\n-- cells\n'
 } > many
 awk 'BEGIN { print "1..20000"; for (i = 1; i <= 20000; i++) print "ok " i " - x" }' > wanted/out
 tested 'bpfdb test of 20,000 tests that share 20,000 cells' 0 many
+# What is wrong of cells is found once for tests in a row that leave the same bytes, whether they pass or fail, in much less time than the
+# lines take for each of them.
+{
+    printf -- "${head%-- cells*}-- map-after\n"
+    yes '0 0 00' | head -n 20000
+    awk 'BEGIN { for (i = 1; i <= 20000; i++) print "-- name\nx" }'
+} > many
+sed 's/^0 0 00$/0 0 01/' many > wrong
+(
+    ulimit -t 3
+    failures=0
+    tested 'bpfdb test of 20,000 tests that share 20,000 lines of map-after' 0 many
+    : > script
+    run test wrong
+    [ "$(cat found/status) $(grep -c '^# more wrong cells: 19984$' found/out)" = '1 20000' ] ||
+        complain 'bpfdb test of 20,000 tests that share 20,000 lines of map-after, none of which holds'
+    exit "$failures"
+)
+failures=$((failures + $?))
+count=$((count + 2))
 {
     printf -- "$head"
     yes '0 0 00' | head -n 300000
