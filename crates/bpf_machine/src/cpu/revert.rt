@@ -173,12 +173,12 @@ impl Cpu {
     /// Puts back what an update replaced.
     #[inline(always)]
     #[tactic(auto, unfolding(crate::specs::Undoing::undone))]
-    fn put_cell_back(&mut self, pc: u16, r0: u64, address: u64, old: &[u8])
-        requires some { 1 ≤ length old.now }
-        requires restores { Restores self.old (Entry.Cell pc r0 address old.now) }
-        ensures { self.new ≡ undone (Entry.Cell pc r0 address old.now) self.old }
+    fn put_cell_back(&mut self, pc: u16, r0: u64, address: u64, cell: &[u8])
+        requires some { 1 ≤ length cell.now }
+        requires restores { Restores self.old (Entry.Cell pc r0 address cell.now) }
+        ensures { self.new ≡ undone (Entry.Cell pc r0 address cell.now) self.old }
     {
-        self.memory.put(address, old);
+        self.memory.put(address, cell);
         self.registers[0] = r0;
         self.pc = pc;
     }
