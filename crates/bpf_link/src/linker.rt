@@ -73,8 +73,8 @@ struct Answered {
 pub struct Linked {
     /// Its words.
     pub words: Vec<u8>,
-    /// How many maps the object has of its own. Their numbers follow their places in the section of
-    /// maps.
+    /// How many maps of the object its code refers to. Their numbers follow their places in the
+    /// section of maps.
     pub maps: usize,
     /// The shapes of the maps that its data become, which come after those: one for each section
     /// that the program refers to, in the order of the sections' numbers. There are at most 16 maps
@@ -292,14 +292,16 @@ fn with_shapes(alloc: Global, plan: &Plan<'_>, program: Program) -> Result<Linke
 ///
 /// The words are those of the section, and after them those of `.text`, if the section calls it.
 /// Calls get their distances, and wide loads of maps the maps' numbers: 0 for the one that stands
-/// first in the section `maps` or `.maps`. The sections of data that the program refers to are maps
-/// after those, and wide loads of addresses in them become those of places in these maps. Where the
-/// entry isn't the first slot of the section, slot 0 jumps to it; where data aren't zeros at the
-/// start, slot 0 jumps to a setup behind the code, which stores them and goes on at the entry. In
-/// both cases the code begins at slot 1. The words pass the checker, for maps that have at least
-/// one byte. Relocations of fields are done in none: where there are some, the object is refused
-/// unless it is asked for that they are left as compiled. Takes time in proportion to the length of
-/// the object, and to the number of stubs.
+/// first in the section `maps` or `.maps` of those that are referred to. Only slots that are
+/// reached from the entry count, by what their instructions say (RFC 9669, section 4): each other
+/// one is `exit`, and its relocations aren't looked at. The sections of data that the program
+/// refers to are maps after those, and wide loads of addresses in them become those of places in
+/// these maps. Where the entry isn't the first slot of the section, slot 0 jumps to it; where data
+/// aren't zeros at the start, slot 0 jumps to a setup behind the code, which stores them and goes
+/// on at the entry. In both cases the code begins at slot 1. The words pass the checker, for maps
+/// that have at least one byte. Relocations of fields are done in none: where there are some, the
+/// object is refused unless it is asked for that they are left as compiled. Takes time in
+/// proportion to the length of the object, and to the number of stubs.
 pub fn link_with(
     alloc: Global,
     object: &[u8],

@@ -30,7 +30,7 @@ impl<'a> Model for Object<'a> {
 }
 
 impl<'a> Object<'a> {
-    /// The same object.
+    /// This object once more, for no longer than it is lent.
     pub fn again(&self) -> Object<'_>
         ensures { result ≡ self.now }
     {

@@ -111,7 +111,7 @@ impl<'b, 'a> Bench<'b, 'a> {
         wrong_for(alloc, own, &mut self.wanted, outcome)
     }
 
-    /// The same where its program has ended on the machine.
+    /// What they say where its program has ended on the bench's own machine.
     pub fn wrong_here(
         &mut self,
         alloc: Global,
