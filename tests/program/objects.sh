@@ -432,6 +432,15 @@ bytes words b7 00 00 00 07 00 00 00 EXIT
 { cat text.o; head -c 1000000 /dev/zero; } > large.o
 linked 'link of an object of a megabyte' large.o
 
+# Objects with bytes changed: what isn't reached from the entry is taken out, so words that are linked lead to nothing that was.
+if has python3 'what linking takes out'; then
+    python3 "$top/tests/trials/reach.py" "$program" 300 calls.o maps.o arrays.o typed.o programs.o deep.o > found/reach 2>&1
+    sed '$d' found/reach
+    told=$(sed -n '$s/^\([0-9]*\) trials, \([0-9]*\) failed$/\1 \2/p' found/reach)
+    [ "${told:-0 0}" != '0 0' ] || { complain 'tests/trials/reach.py comes to no end'; tail -n 1 found/reach; told='0 0'; }
+    count=$((count + ${told% *})) failures=$((failures + ${told#* }))
+fi
+
 # A file of C, where there is a clang for BPF: the sum of the context's bytes, by a function of its own.
 cat > sum.c <<'C'
 __attribute__((noinline)) unsigned long sum(const unsigned char *bytes, unsigned long count) {
