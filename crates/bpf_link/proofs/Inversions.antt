@@ -1,6 +1,6 @@
 -- What a value tells of the tests on the way to it.
 use Rattle.std.proofs.Common.{◌≡◌, ◌<◌, ◌*◌, ◌+◌, ◌/◌, ◌%◌, ◌==◌, nat_lt, ℕ, List, Bool, true, false, Result, Ok, Err, length, refl, sym, subst, ◌⊎◌, inl, inr, ◌≤◌, arith}
-use Rattle.std.specs.Prelude.{if◌then◌else◌, not}
+use Rattle.std.specs.Prelude.{if◌then◌else◌, not, ◌&&◌}
 use Rattle.std.proofs.lemmas.Grind.{common_steps}
 use Rattle.bpf_isa.specs.Words.{u32_at}
 use Rattle.bpf_link.specs.declared.fault.LinkFault.{LinkFault}
@@ -18,7 +18,7 @@ use Rattle.bpf_link.specs.Plans.{after}
 use Rattle.bpf_link.specs.Tables.{relocation_at, symbol_at}
 use Rattle.bpf_link.specs.Links.{patch_width}
 use Rattle.bpf_link.specs.Data.{Numbered, is_among}
-use Rattle.bpf_link.specs.Patches.{is_call, is_map, is_empty_load, is_next, symbol_fault, side_with, call_to, call_patch, map_patch, is_short_load, data_patch, load_patch, width_of, patch_with, patch_of}
+use Rattle.bpf_link.specs.Patches.{is_call, is_map, is_empty_load, is_next, symbol_fault, side_with, call_to, call_patch, map_patch, is_short_load, data_patch, load_patch, width_of, patch_with, patch_at, patch_of}
 
 clash : {A : Type 0} (fault : LinkFault) (v : A) → ◌≡◌ {A = Result A LinkFault} (Err fault) (Ok v) → ⊥
 clash fault v e = cc
@@ -138,11 +138,18 @@ pub two_sizes : (b : Bool) → (sized b ≡ 16) ⊎ (sized b ≡ 8)
 two_sizes true = inl refl
 two_sizes false = inr refl
 
-pub names_slot : (placed : Numbered) (side : Side) (i : ℕ) (patch : Patch) → patch_of placed side i ≡ Ok patch → NamesSlot placed side i patch
-names_slot placed side i patch e =
-    let relocation = relocation_at (here placed side).relocations i in
-    let a = provided_ok (is_next (here placed side).relocations i) Place _ _ e in
-    let b = provided_ok (relocation.offset % 8 == 0) Place _ _ a.1 in
+-- the same of a relocation, whatever stands before it in its table
+pub record StandsAt (placed : Numbered) (side : Side) (relocation : RelocationEntry) (patch : Patch) : Type 0 where
+  pub at : patch.at ≡ 8 * (from placed side + relocation.offset / 8)
+  pub whole : relocation.offset % 8 ≡ 0
+  pub inside : relocation.offset / 8 < count placed side
+  pub width : patch_width patch ≡ width_of relocation
+  pub fits : patch.at + patch_width patch ≤ 8 * (from placed side + count placed side)
+  pub with : patch_with placed side relocation (symbol_at placed.plan.symbols relocation.symbol) ≡ Ok patch
+
+pub stands_at : (placed : Numbered) (side : Side) (relocation : RelocationEntry) (patch : Patch) → patch_at placed side relocation ≡ Ok patch → StandsAt placed side relocation patch
+stands_at placed side relocation patch e =
+    let b = provided_ok (relocation.offset % 8 == 0) Place _ _ e in
     let c = provided_ok (nat_lt (relocation.offset / 8) (count placed side)) Place _ _ b.1 in
     let d = provided_ok (nat_lt relocation.symbol (length placed.plan.symbols)) (Symbol (from placed side + relocation.offset / 8)) _ _ c.1 in
     let stands = with_at placed side relocation (symbol_at placed.plan.symbols relocation.symbol) patch d.1 in
@@ -155,4 +162,42 @@ names_slot placed side i patch e =
       inside = inside;
       width = stands.fits.width;
       fits = subst (λ w. patch.at + w ≤ 8 * (from placed side + (count placed side))) (sym stands.fits.width) end;
+      with = d.1;
     }
+
+pub names_slot : (placed : Numbered) (side : Side) (i : ℕ) (patch : Patch) → patch_of placed side i ≡ Ok patch → NamesSlot placed side i patch
+names_slot placed side i patch e =
+    let a = provided_ok (is_next (here placed side).relocations i) Place _ _ e in
+    let s = stands_at placed side (relocation_at (here placed side).relocations i) patch a.1 in
+    record { at = s.at; whole = s.whole; inside = s.inside; width = s.width; fits = s.fits }
+
+-- a wide load has the opcodes of one
+both_short : (short : Bool) (empty : Bool) → (short && empty) ≡ true → short ≡ true
+both_short short empty e = grind (arith, common_steps)
+
+loaded : (placed : Numbered) (slots : List ℕ) (symbol : SymbolEntry) (at slot : ℕ) (patch : Patch) (among : Bool)
+    → (if among then data_patch placed slots symbol at slot else map_patch placed slots symbol at slot) ≡ Ok patch → is_short_load slots at ≡ true
+loaded placed slots symbol at slot patch true e = (provided_ok (is_short_load slots at) _ _ _ e).0
+loaded placed slots symbol at slot patch false e =
+    let a = provided_ok (is_map placed.plan.maps symbol) _ _ _ e in
+    let b = provided_ok (is_empty_load slots at) _ _ _ a.1 in
+    both_short (is_short_load slots at) (u32_at slots (at + 4) == 0) b.0
+
+-- what a relocation is of: a call, or a wide load
+pub by_kind : (placed : Numbered) (slots : List ℕ) (symbol : SymbolEntry) (at slot : ℕ) (patch : Patch) (call load room : Bool)
+    → (if call then call_patch placed.plan slots symbol at slot else (if load then provided room (symbol_fault placed.plan symbol slot NoLoad) (load_patch placed slots symbol at slot) else Err (symbol_fault placed.plan symbol slot RelocationKind))) ≡ Ok patch
+    → (call ≡ true) ⊎ ((load ≡ true) × (is_short_load slots at ≡ true))
+by_kind placed slots symbol at slot patch true load room e = inl refl
+by_kind placed slots symbol at slot patch false true room e =
+    let a = provided_ok room _ (load_patch placed slots symbol at slot) patch e in
+    inr (refl, loaded placed slots symbol at slot patch (is_among placed.taken symbol.section) a.1)
+by_kind placed slots symbol at slot patch false false room e = absurd (clash _ patch e)
+
+pub kind_of : (placed : Numbered) (side : Side) (relocation : RelocationEntry) (patch : Patch) → patch_at placed side relocation ≡ Ok patch
+    → ((relocation.kind == 10) ≡ true) ⊎ (((relocation.kind == 1) ≡ true) × (is_short_load (here placed side).slots relocation.offset ≡ true))
+kind_of placed side relocation patch e =
+    let s = stands_at placed side relocation patch e in
+    let symbol = symbol_at placed.plan.symbols relocation.symbol in
+    let a = provided_ok (not (symbol.section == 0)) _ _ _ s.with in
+    by_kind placed (here placed side).slots symbol relocation.offset (from placed side + relocation.offset / 8) patch
+    (relocation.kind == 10) (relocation.kind == 1) (nat_lt (relocation.offset / 8 + 1) (count placed side)) a.1

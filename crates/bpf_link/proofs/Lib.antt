@@ -15,3 +15,5 @@ pub mod Untouched
 pub mod Reached
 pub mod Pruning
 pub mod Blanking
+pub mod Flows
+pub mod Followed

@@ -20,7 +20,7 @@ use Rattle.bpf_link.proofs.Inversions.{count, from, here, ok_same, after_ok, pro
 use Rattle.bpf_link.proofs.LaidOut.{size_kept, beside}
 
 -- a number in its four bytes
-u32_inside : (bytes : List ℕ) (at n k : ℕ) → at + 4 ≤ length bytes → k < 4 → get_or (with_u32 bytes at n) (at + k) 0 ≡ get_or (little_bytes 4 n) k 0
+pub u32_inside : (bytes : List ℕ) (at n k : ℕ) → at + 4 ≤ length bytes → k < 4 → get_or (with_u32 bytes at n) (at + k) 0 ≡ get_or (little_bytes 4 n) k 0
 u32_inside bytes at n k fits small =
     let size : length (take at bytes) ≡ at = grind (arith, common_steps) in
     let four : length (little_bytes 4 n) ≡ 4 = length-bytes_low_first 0 4 n in

@@ -6,7 +6,7 @@ use Rattle.bpf_link.specs.declared.parts.Side.{Side}
 use Rattle.bpf_link.specs.declared.parts.Side.TheVariants.{Code, Text}
 use Rattle.bpf_link.specs.declared.plan.Plan.{Plan}
 use Rattle.bpf_link.specs.declared.patch.Patch.{Patch}
-use Rattle.bpf_link.specs.Parts.{part_of, slots_in}
+use Rattle.bpf_link.specs.Parts.{AreParts, part_of, slots_in}
 use Rattle.bpf_link.specs.Tables.{relocation_at}
 use Rattle.bpf_link.specs.Patches.{patch_of}
 use Rattle.bpf_link.specs.Blanked.{blanked}
@@ -14,7 +14,7 @@ use Rattle.bpf_link.specs.Data.{Numbered, data_of, numbered}
 use Rattle.bpf_link.specs.Setup.{stores_of, with_setup}
 use Rattle.bpf_link.specs.Stubs.{answered}
 use Rattle.bpf_link.specs.declared.stubs.Stub.{Stub}
-use Rattle.bpf_link.specs.Links.{maps_of}
+use Rattle.bpf_link.specs.Links.{maps_of, words_of}
 
 -- No relocation of a part changes a slot of it: none names it, and none of a wide load the slot before it.
 pub record IsPlain (part : Part) (p : ℕ) : Type 0 where
@@ -58,7 +58,9 @@ pub record IsLaidOut (plan : Plan) (slot : ℕ) (reach : List Bool) (stubs : Lis
   pub taken : List ℕ
   pub counted : maps_of plan ≡ Ok maps
   pub referred : data_of plan ≡ Ok taken
+  pub parts : AreParts plan.parts
   pub relocated : List ℕ
+  pub done : words_of (numbered plan maps taken) ≡ Ok relocated
   pub laid : IsLaid (numbered plan maps taken) relocated
   pub code : List ℕ
   pub blank : code ≡ blanked reach relocated

@@ -29,3 +29,4 @@ pub mod Begun
 pub mod Kept
 pub mod ReachSteps
 pub mod Untouched
+pub mod Followed

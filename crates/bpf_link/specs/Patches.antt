@@ -57,10 +57,14 @@ call_patch plan slots symbol at slot =
 abbrev pub is_map : ℕ → SymbolEntry → Bool
 is_map maps symbol = (symbol.kind == 1) && (nat_lt 0 symbol.section && (symbol.section == maps))
 
--- Two slots hold a wide load of the number 0: opcode 0x18, 0 for src, 0 in both imm.
+-- Two slots hold a wide load of a number of 32 bits: opcodes 0x18 and 0, 0 for src, 0 in the second imm.
+abbrev pub is_short_load : List ℕ → ℕ → Bool
+is_short_load slots at =
+    (slice_index slots at == 0x18) && ((slice_index slots (at + 8) == 0) && ((slice_index slots (at + 1) / 16 == 0) && (u32_at slots (at + 12) == 0)))
+
+-- It is a wide load of the number 0.
 abbrev pub is_empty_load : List ℕ → ℕ → Bool
-is_empty_load slots at =
-    (slice_index slots at == 0x18) && ((slice_index slots (at + 1) / 16 == 0) && ((u32_at slots (at + 4) == 0) && (u32_at slots (at + 12) == 0)))
+is_empty_load slots at = is_short_load slots at && (u32_at slots (at + 4) == 0)
 
 -- The number of a map: how many maps stand before it in their section.
 abbrev pub map_number : List ℕ → ℕ → ℕ
@@ -72,11 +76,6 @@ map_patch placed slots symbol at slot =
     provided (is_map placed.plan.maps symbol) (symbol_fault placed.plan symbol slot Data)
     (provided (is_empty_load slots at) (symbol_fault placed.plan symbol slot NoLoad)
     (Ok (record { at = 8 * slot; registers = slice_index slots (at + 1) + 0x50; imm = map_number placed.maps symbol.value; next = Some 0 })))
-
--- Two slots hold a wide load of a number of 32 bits: opcode 0x18, 0 for src, 0 in the second imm.
-abbrev pub is_short_load : List ℕ → ℕ → Bool
-is_short_load slots at =
-    (slice_index slots at == 0x18) && ((slice_index slots (at + 1) / 16 == 0) && (u32_at slots (at + 12) == 0))
 
 -- A wide load of an address in the data of a section, which are one of the maps after the object's own (RFC 9669, section 5.4): 6 for src, the map's number in imm,
 -- and in the second imm the place in the data: the symbol's value and what stood in imm.

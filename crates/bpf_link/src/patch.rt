@@ -135,13 +135,21 @@ pub fn is_map(maps: usize, symbol: &SymbolEntry) -> bool
     symbol.kind == 1 && (symbol.section > 0 && usize::from(symbol.section) == maps)
 }
 
-/// Whether two slots hold a wide load of the number 0.
+/// Whether two slots hold a wide load of a number of 32 bits.
+fn is_short_load(slots: &[u8], at: usize) -> bool
+    requires { at + 16 ≤ length slots.now }
+    ensures { result ≡ is_short_load slots.now at }
+{
+    slots[at] == 0x18
+        && (slots[at + 8] == 0 && (slots[at + 1] / 16 == 0 && u32_at(slots, at + 12) == 0))
+}
+
+/// Whether it is a wide load of the number 0.
 fn is_empty_load(slots: &[u8], at: usize) -> bool
     requires { at + 16 ≤ length slots.now }
     ensures { result ≡ is_empty_load slots.now at }
 {
-    slots[at] == 0x18
-        && (slots[at + 1] / 16 == 0 && (u32_at(slots, at + 4) == 0 && u32_at(slots, at + 12) == 0))
+    is_short_load(slots, at) && u32_at(slots, at + 4) == 0
 }
 
 /// How many maps stand before a value.
@@ -186,14 +194,6 @@ fn map_patch(
         imm: map_number(placed.maps(), symbol.value),
         next: Some(0),
     })
-}
-
-/// Whether two slots hold a wide load of a number of 32 bits.
-fn is_short_load(slots: &[u8], at: usize) -> bool
-    requires { at + 16 ≤ length slots.now }
-    ensures { result ≡ is_short_load slots.now at }
-{
-    slots[at] == 0x18 && (slots[at + 1] / 16 == 0 && u32_at(slots, at + 12) == 0)
 }
 
 /// The wide load of an address in data, in the two slots at a place of a section.
