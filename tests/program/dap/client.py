@@ -170,3 +170,18 @@ class Client:
         self.child.stdin = None
         errors = self.child.stderr.read().decode()
         return self.child.wait(PATIENCE), errors
+
+
+def play(what, sessions):
+    """Plays sessions, tells what is wrong in which, and counts in the last line."""
+    failed = 0
+    for session in sessions:
+        try:
+            session()
+        except (Wrong, Refusal, EOFError, OSError, KeyError, StopIteration) as fault:
+            failed += 1
+            print(f'FAILED: {what}: {session.__name__}: {type(fault).__name__}: {fault}')
+            if os.environ.get('RAISE'):
+                raise
+    print(f'{len(sessions)} trials, {failed} failed')
+    sys.exit(failed > 0)

@@ -5,11 +5,10 @@ import shutil
 import signal
 import subprocess
 import socket
-import sys
 import time
 
 import client
-from client import Client, Refusal, Wrong, hold
+from client import Client, Wrong, hold
 
 HERE = os.getcwd()
 TRIALS = []
@@ -221,18 +220,4 @@ def quick():
     hold(editor.leave(), (0, ''), 'the end')
 
 
-def main():
-    failed = 0
-    for function in TRIALS:
-        try:
-            function()
-        except (Wrong, Refusal, EOFError, OSError, KeyError, StopIteration) as fault:
-            failed += 1
-            print(f'FAILED: bpfdb-dap: {function.__name__}: {type(fault).__name__}: {fault}')
-            if os.environ.get('RAISE'):
-                raise
-    print(f'{len(TRIALS)} trials, {failed} failed')
-    sys.exit(failed > 0)
-
-
-main()
+client.play('bpfdb-dap', TRIALS)

@@ -9,7 +9,7 @@ import sys
 import time
 
 import client
-from client import Client, Refusal, Wrong, hold
+from client import Client, hold
 
 OVER = sys.argv[1]
 HERE = os.getcwd()
@@ -487,18 +487,4 @@ def names():
     left(editor)
 
 
-def main():
-    failed = 0
-    for function in STORIES:
-        try:
-            function()
-        except (Wrong, Refusal, EOFError, OSError, KeyError, StopIteration) as fault:
-            failed += 1
-            print(f'FAILED: bpfdb-dap over {OVER}: {function.__name__}: {type(fault).__name__}: {fault}')
-            if os.environ.get('RAISE'):
-                raise
-    print(f'{len(STORIES)} trials, {failed} failed')
-    sys.exit(failed > 0)
-
-
-main()
+client.play(f'bpfdb-dap over {OVER}', STORIES)
