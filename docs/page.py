@@ -1,6 +1,6 @@
 #!/usr/bin/env python3
 """The pictures docs/page-overrun.png and docs/page-firewall.png: pages of runs as a browser shows them. 'docs/page.py' makes them anew, by the program
-that BPFDB names (or 'bpfdb' on the PATH), with chromium, and with a clang for BPF. No test holds them: fonts differ from system to system."""
+that BPFDB names (or 'bpfdb' on the PATH), with chromium. No test holds them: fonts differ from system to system."""
 import base64
 import os
 import struct
@@ -14,8 +14,6 @@ TOP = os.path.dirname(os.path.dirname(os.path.realpath(__file__)))
 sys.path.insert(0, os.path.join(TOP, 'tests', 'trials'))
 from browser import Browser  # noqa: E402
 
-# A packet of TCP to port 23, whose header of IPv4 has an option.
-PACKET = '020000000001 020000000002 0800 4600002c00010000400600000a0000010a000002 07040400 3039001700000001000000005002200000000000'
 # The most colours of a picture.
 COLOURS = 96
 
@@ -26,28 +24,28 @@ def page(folder, *words):
     return f'file://{folder}/run.html'
 
 
+def example(folder, name):
+    """The folder, with an example's object, its source and its context."""
+    files = os.path.join(TOP, 'examples', name)
+    with open(os.path.join(files, 'object.hex')) as digits, open(os.path.join(folder, f'{name}.o'), 'wb') as file:
+        file.write(bytes.fromhex(digits.read()))
+    for file in (f'{name}.c', 'context.bin'):
+        os.symlink(os.path.join(files, file), os.path.join(folder, file))
+    return folder
+
+
 def overrun(browser, folder):
     """The overrun, at the store that wrote the wrong byte: a click on it led there."""
-    example = os.path.join(TOP, 'examples', 'overrun')
-    with open(os.path.join(example, 'object.hex')) as digits, open(os.path.join(folder, 'overrun.o'), 'wb') as file:
-        file.write(bytes.fromhex(digits.read()))
-    for name in ('overrun.c', 'context.bin'):
-        os.symlink(os.path.join(example, name), os.path.join(folder, name))
     browser.size(1280, 720)
-    browser.open(page(folder, '-m', 'context.bin', 'overrun.o'))
+    browser.open(page(example(folder, 'overrun'), '-m', 'context.bin', 'overrun.o'))
     browser.click(f'#m{0x2000001f8}')
 
 
 def firewall(browser, folder):
     """The firewall, where it reads the port of a packet with options."""
-    source = os.path.join(TOP, 'tests', 'program', 'page', 'firewall.c')
-    os.symlink(source, os.path.join(folder, 'firewall.c'))
-    subprocess.run(['clang', '-g', '-O1', '-fstack-size-section', f'-I{TOP}/share', '-target', 'bpf', '-c', 'firewall.c'], cwd=folder, check=True)
-    with open(os.path.join(folder, 'packet.bin'), 'wb') as file:
-        file.write(bytes.fromhex(PACKET))
     browser.size(1280, 720, dark=True)
-    browser.open(page(folder, '-m', 'packet.bin', '--section', 'xdp', '--entry', 'bpfdb', 'firewall.o'))
-    browser.value('page.jump(page.run.slots.indexOf(42), "")')
+    browser.open(page(example(folder, 'firewall'), '-m', 'context.bin', '--section', 'xdp', '--entry', 'bpfdb', 'firewall.o'))
+    browser.value('page.jump(page.run.slots.indexOf(44), "")')
 
 
 def rows(picture):

@@ -1,27 +1,60 @@
-/* A program for XDP or tc as it stands, on the bytes of a context: include this in place of <linux/bpf.h> and <bpf/bpf_helpers.h>, and write
-   BPFDB_XDP(NAME) or BPFDB_TC(NAME) behind the function NAME. Then 'bpfdb link --section xdp --entry bpfdb FILE.o' (or '--section tc') makes the program, and
-   'bpfdb run -m PACKET' runs it on a packet. Addresses have 64 bits here, as bpfdb's have: what is compiled with this is no program for the kernel. */
-#ifndef BPFDB_H
-#define BPFDB_H
-typedef unsigned char __u8;
-typedef unsigned short __u16, __be16;
-typedef unsigned int __u32, __be32;
-typedef unsigned long long __u64;
+/* clang -include bpfdb.h -DBPFDB_XDP=NAME (or -DBPFDB_TC=NAME): the XDP or tc program NAME as it stands, with the kernel's and libbpf's headers. The
+   entry `bpfdb` gives it the context's bytes as its packet. It lies in the section `xdp` or `tc`, or in that of -DBPFDB_SECTION=xdp.frags: it has to be
+   NAME's own. A program that includes "vmlinux.h" wants -DBPFDB_VMLINUX and -I with the folder of that, too. `data`, `data_end` and `data_meta` have 64
+   bits here, as bpfdb's addresses need, and 32 in the kernel: what is compiled with this is no program for the kernel. */
+#if !defined BPFDB_XDP && !defined BPFDB_TC
+#error "bpfdb.h: which program? -DBPFDB_XDP=NAME or -DBPFDB_TC=NAME"
+#endif
+#define xdp_md kernel_xdp_md
+#define __sk_buff kernel_sk_buff
+#ifdef BPFDB_VMLINUX
+#include "vmlinux.h"
+#else
+#if !__has_include(<linux/bpf.h>)
+#error "bpfdb.h: there are no headers of the kernel (in Debian the package linux-libc-dev has them, and libbpf-dev those of libbpf)"
+#elif !__has_include(<asm/types.h>)
+#error "bpfdb.h: add -I/usr/include/$(uname -m)-linux-gnu: there Debian has <asm/types.h>, and clang for BPF doesn't look there"
+#endif
+#include <linux/bpf.h>
+#endif
+#undef xdp_md
+#undef __sk_buff
 struct xdp_md { __u64 data, data_end, data_meta; __u32 ingress_ifindex, rx_queue_index, egress_ifindex; };
-struct __sk_buff { __u64 data, data_end, data_meta; __u32 len, protocol, mark, priority, ifindex, cb[5]; };
-enum xdp_action { XDP_ABORTED, XDP_DROP, XDP_PASS, XDP_TX, XDP_REDIRECT };
-enum { TC_ACT_UNSPEC = -1, TC_ACT_OK, TC_ACT_RECLASSIFY, TC_ACT_SHOT };
-enum { BPF_MAP_TYPE_ARRAY = 2 };
-#define SEC(NAME) __attribute__((section(NAME), used))
-#define __always_inline inline __attribute__((always_inline))
-#define bpf_htons(N) __builtin_bswap16(N)
-#define bpf_ntohs(N) __builtin_bswap16(N)
-#define bpf_htonl(N) __builtin_bswap32(N)
-#define bpf_ntohl(N) __builtin_bswap32(N)
-static void *(*const bpf_map_lookup_elem)(void *map, const void *key) = (void *)1;
-static long (*const bpf_map_update_elem)(void *map, const void *key, const void *value, __u64 flags) = (void *)2;
-#define BPFDB_XDP(NAME) SEC("xdp") long bpfdb(void *packet, __u64 size) \
-    { struct xdp_md ctx = { (__u64)packet, (__u64)packet + size, (__u64)packet }; return NAME(&ctx); }
-#define BPFDB_TC(NAME) SEC("tc") long bpfdb(void *packet, __u64 size) \
-    { struct __sk_buff ctx = { (__u64)packet, (__u64)packet + size, (__u64)packet, size }; return NAME(&ctx); }
+struct bpf_flow_keys;
+struct bpf_sock;
+struct __sk_buff {
+	__u64 data, data_end, data_meta;
+	__u32 len, pkt_type, mark, queue_mapping, protocol, vlan_present, vlan_tci, vlan_proto, priority, ingress_ifindex, ifindex, tc_index, cb[5], hash,
+		tc_classid, napi_id, family, remote_ip4, local_ip4, remote_ip6[4], local_ip6[4], remote_port, local_port, wire_len, gso_segs, gso_size;
+	__u64 tstamp, hwtstamp;
+	__u8 tstamp_type;
+	struct bpf_flow_keys *flow_keys;
+	struct bpf_sock *sk;
+};
+#define BPFDB_TEXT(NAME) #NAME
+#define BPFDB_IN(SECTION) __attribute__((section(BPFDB_TEXT(SECTION)), used))
+#ifdef BPFDB_XDP
+#ifndef BPFDB_SECTION
+#define BPFDB_SECTION xdp
+#endif
+__attribute__((noinline)) int BPFDB_XDP(struct xdp_md *);
+BPFDB_IN(BPFDB_SECTION)
+long bpfdb(const unsigned char *packet, __u64 size)
+{
+	struct xdp_md ctx = { .data = (__u64)packet, .data_end = (__u64)packet + size, .data_meta = (__u64)packet };
+	return BPFDB_XDP(&ctx);
+}
+#else
+#ifndef BPFDB_SECTION
+#define BPFDB_SECTION tc
+#endif
+__attribute__((noinline)) int BPFDB_TC(struct __sk_buff *);
+BPFDB_IN(BPFDB_SECTION)
+long bpfdb(const unsigned char *packet, __u64 size)
+{
+	struct __sk_buff ctx = { .data = (__u64)packet, .data_end = (__u64)packet + size, .data_meta = (__u64)packet, .len = size };
+	if (size >= 14)
+		ctx.protocol = packet[12] | packet[13] << 8;
+	return BPFDB_TC(&ctx);
+}
 #endif

@@ -312,15 +312,11 @@ LISTING
     printf '%s\n' --listing "$PWD/long.s" > states/last.words
     seq 9000 | awk '{ print ($1 % 40 ? "" : "n" $1 ": ") "add r0, " $1 " ; line " $1 } END { print "exit" }' > wide.s
     page wide --listing "$PWD/wide.s"
-    if has_clang 'a page of a firewall'; then
-        clang -g -O1 -fstack-size-section -I "$top/share" -target bpf -c "$parts/page/firewall.c" -o firewall.o
-        cp "$parts/page/firewall.c" .
-        bytes packet 02 00 00 00 00 01 02 00 00 00 00 02 08 00 46 00 00 2c 00 01 00 00 40 06 00 00 0a 00 00 01 0a 00 00 02 07 04 04 00 30 39 00 17 00 00 00 01
-        "$program" link --section xdp --entry bpfdb firewall.o > firewall.bin 2> maps
-        page firewall -m "$PWD/packet" --section xdp --entry bpfdb firewall.o
-        # (the words for bpfdb are those of the linked program)
-        printf '%s\n' -m "$PWD/packet" $(head -n 1 maps) "$PWD/firewall.bin" > states/firewall.words
-    fi
+    python3 -c 'import sys; sys.stdout.buffer.write(bytes.fromhex(sys.stdin.read()))' < "$top/examples/firewall/object.hex" > firewall.o
+    cp "$top/examples/firewall/firewall.c" .
+    page firewall -m "$top/examples/firewall/context.bin" --section xdp --entry bpfdb firewall.o
+    # (the words for bpfdb are those of the linked program)
+    printf '%s\n' -m "$top/examples/firewall/context.bin" --maps 8x5 "$top/examples/firewall/program.bin" > states/firewall.words
 
     for process in $making; do
         wait "$process"
@@ -330,7 +326,7 @@ LISTING
         name=$(basename "$said" .said)
         [ -s "states/$name.html" ] && [ ! -s "$said" ] || complain "the page of $name: $(cat "$said")"
     done
-    grep -q '"maps":\[\[8,5,"verdicts"\]' states/firewall.html 2> found/err || [ ! -e firewall.o ] || complain 'the page of a firewall has no name of its map'
+    grep -q '"maps":\[\[8,5,"verdicts"\]' states/firewall.html 2> found/err || complain 'the page of a firewall has no name of its map'
     begin_trials states
 
     # Pages of 100,000 steps: of a loop, and of one whose steps all write what can't be told in short.
