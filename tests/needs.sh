@@ -1,10 +1,13 @@
 #!/bin/sh
-# Installs, from Debian's packages, what rows of the gate call beside the toolchain, where it isn't there: in CI alone (CI is true), and as root. What can't be
+# Installs, from Debian's packages, the programs and headers that rows of the gate take beside the toolchain, where it isn't there: in CI alone (CI is true), and as root. What can't be
 # installed is left out of the tests, which say so at their end; so this script never fails.
 cd "$(dirname "$0")/.." || exit 0
 [ "${CI:-}" = true ] && [ "$(id -u)" = 0 ] && command -v apt-get > /dev/null || exit 0
 
-# lacking: the packages of the programs that aren't there, a line each.
+# Where headers lie.
+include=${INCLUDE:-/usr/include}
+
+# lacking: the packages of the programs and headers that aren't there, a line each.
 lacking() {
     while read -r name packages; do
         command -v "$name" > /dev/null || echo "$packages"
@@ -27,6 +30,9 @@ vim vim
 xxd xxd
 zsh zsh
 PROGRAMS
+    # (and of headers, by a file of each)
+    [ -e "$include/linux/bpf.h" ] || echo linux-libc-dev
+    [ -e "$include/bpf/bpf_helpers.h" ] || echo libbpf-dev
 }
 
 # apt WORD..: apt-get, without a question, and for four minutes at most; what it says is in out/needs.log.

@@ -133,14 +133,20 @@ definitions() {
 }
 
 # session: README's session has the commands of tests/session/script and the replies of tests/session/replies; and each line of the one in gdb
-# stands in docs/GDB.md, in the same order.
+# stands in docs/GDB.md, each of the one about a packet in docs/XDP.md, in the same order.
 session() {
     awk '/^\$ bpfdb debug / { inside = 1; next } /^```$/ { inside = 0 } inside' README.md > "$work/session"
     sed -n 's/^> //p' "$work/session" | cmp -s - tests/session/script || fault "README.md's session has other commands than tests/session/script"
     grep -v '^> ' "$work/session" | cmp -s - tests/session/replies || fault "README.md's session has other replies than tests/session/replies"
-    awk '/^```$/ { inside = 0 } /^\(gdb\) source / { inside = 1 } inside' README.md > "$work/session"
-    awk 'NR == FNR { line[++count] = $0; next } $0 == line[at + 1] { at++ } END { exit count == 0 || at < count }' "$work/session" docs/GDB.md ||
-        fault "README.md's session in gdb isn't the one of docs/GDB.md"
+    awk '/^## / { exit } /^```$/ { inside = 0 } /^\(gdb\) source / { inside = 1 } inside' README.md > "$work/session"
+    stands_in docs/GDB.md || fault "README.md's session in gdb isn't the one of docs/GDB.md"
+    awk '/^## / { packet = /^## A packet / } /^```$/ { inside = !inside; next } packet && inside' README.md > "$work/session"
+    stands_in docs/XDP.md || fault "README.md's session about a packet isn't the one of docs/XDP.md"
+}
+
+# stands_in PAGE: whether each line of the file `session` stands on the page, in the same order.
+stands_in() {
+    awk 'NR == FNR { line[++count] = $0; next } $0 == line[at + 1] { at++ } END { exit count == 0 || at < count }' "$work/session" "$1"
 }
 
 # examples: a session that examples/README.md shows under '## NAME' has the commands and the replies of examples/NAME.

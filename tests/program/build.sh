@@ -82,13 +82,15 @@ for row in "There is no program to test. \`make run\` proves and builds one; mak
     check "make check without a program${row#*|}" 1 "${row%|*}\n" ''
 done
 
-# What rows of the gate need is installed in CI alone, and by root alone; what can't be is told, and is no failure. (Here all is there but fish and gdb, and
-# fish can't be installed.)
+# What rows of the gate need is installed in CI alone, and by root alone; what can't be is told, and is no failure. (Here all is there but fish, gdb
+# and the headers of libbpf, and fish can't be installed.)
 cp "$top/tests/needs.sh" copy/tests
 mkdir bare
 for name in dirname mkdir sh timeout; do ln -s "$(command -v "$name")" bare; done
 for name in $(sed -n "/<<'PROGRAMS'/,/^PROGRAMS/s/^\([^ ]*\) .*/\1/p" copy/tests/needs.sh); do ln -s sh "bare/$name"; done
 rm bare/fish bare/gdb
+mkdir -p bare/include/linux
+: > bare/include/linux/bpf.h
 printf '#!/bin/sh\necho "$IDENTITY"\n' > bare/id
 cat > bare/apt-get <<'APT'
 #!/bin/sh
@@ -101,10 +103,10 @@ chmod 755 bare/id bare/apt-get
 for row in '|0|' 'true|1000|' "true|0|tests/needs.sh: not installed: fish (out/needs.log says why)\n"; do
     : > called
     rest=${row#*|}
-    PATH=$PWD/bare CI=${row%%|*} IDENTITY=${rest%%|*} CALLED=$PWD/called sh copy/tests/needs.sh > found/out 2> found/err
+    PATH=$PWD/bare INCLUDE=$PWD/bare/include CI=${row%%|*} IDENTITY=${rest%%|*} CALLED=$PWD/called sh copy/tests/needs.sh > found/out 2> found/err
     echo $? > found/status
     check "tests/needs.sh, CI=${row%%|*}, as user ${rest%%|*}" 0 "${rest#*|}" ''
-    if [ -n "${rest#*|}" ]; then printf 'update\ninstall fish gdb\ninstall fish\ninstall gdb\n'; fi > wanted/called
+    if [ -n "${rest#*|}" ]; then printf 'update\ninstall fish gdb libbpf-dev\ninstall fish\ninstall gdb\ninstall libbpf-dev\n'; fi > wanted/called
     same "tests/needs.sh, CI=${row%%|*}, as user ${rest%%|*}: what is installed" wanted/called called
 done
 

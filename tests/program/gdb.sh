@@ -13,7 +13,7 @@ transcript() {
         { typed = substr($0, 7); told = typed; gsub(/\\/, "\\\\", told) }
         { printf "echo (gdb) %s\\n\n%s\n", told, typed }
     ' "$2" | installed > typed
-    talk "$1" -ex 'set prompt' -ex 'set width 0' -ex 'set confirm off'
+    talk "$1" -ex 'set prompt' -ex 'set width 0' -ex 'set confirm off' -ex "set substitute-path /usr/local/share/bpfdb $top/share"
     hold "$1: $2"
 }
 
@@ -80,12 +80,12 @@ window() {
     grep -aq '\$1 = 103' found/window || complain "layout $1: two steps back of 105 aren't taken"
 }
 
-# story NUMBER: the session of this number that docs/GDB.md shows in gdb, with an end.
+# story NUMBER PAGE: the session of this number that a page shows in gdb, with an end.
 story() {
     awk -v wanted="$1" '
         /^```/ { if (count == wanted && inside) exit; inside = 0; getline; if (/^\(gdb\) /) { inside = 1; count++ } }
         inside && count == wanted
-    ' "$top/docs/GDB.md"
+    ' "$top/docs/$2"
     printf '(gdb) kill\n[Inferior 1 (Remote target) killed]\n'
 }
 
@@ -107,9 +107,14 @@ if has python3 'sessions in gdb'; then
     "$top/share/bpfdb-symbols" overrun.o overrun.sym
     "$top/share/bpfdb-symbols" --registers riscv overrun.o overrun.riscv
     for number in 1 2; do
-        story $number > story$number.txt
+        story $number GDB.md > story$number.txt
         [ "$(wc -l < story$number.txt)" -gt 2 ] || complain "docs/GDB.md shows no session $number"
     done
+    story 1 XDP.md > firewall.txt
+    [ "$(wc -l < firewall.txt)" -gt 2 ] || complain 'docs/XDP.md shows no session'
+    bytes firewall.o $(sed 's/../& /g' "$top/examples/firewall/object.hex")
+    "$program" link --section xdp --entry bpfdb firewall.o > firewall.bin 2> told
+    same 'examples/firewall/program.bin is linked from its object' "$top/examples/firewall/program.bin" firewall.bin
 
     # Names that gdb takes apart at blanks and quotes.
     cp overrun.o 'a b/over run.o'
@@ -133,6 +138,8 @@ if has python3 'sessions in gdb'; then
         transcript gdb "$sessions/listing.txt"
         cp "$top/examples/fault/program.s" "$top/examples/fault/context.bin" .
         transcript gdb story2.txt
+        cp "$top/examples/firewall/firewall.c" "$top/examples/firewall/context.bin" .
+        transcript gdb firewall.txt
         cp "$top/examples/overrun/context.bin" .
 
         # Where the commands end at a fault, without `kill` or `detach`, gdb ends bpfdb.
