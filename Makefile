@@ -8,7 +8,7 @@ BIN = $(PREFIX)/bin
 MAN = $(PREFIX)/share/man/man1
 SHARE = $(PREFIX)/share/bpfdb
 DOC = $(PREFIX)/share/doc/bpfdb
-PAGES = COMMANDS LISTING MACHINE JOURNAL GDB EDITORS PAGE CONTEXTS TESTS HEADLINE PROMISES PERFORMANCE
+PAGES = COMMANDS LISTING MACHINE JOURNAL GDB EDITORS PAGE CONTEXTS XDP TESTS HEADLINE PROMISES PERFORMANCE
 
 # The programs whose command lines shells complete.
 COMPLETED = bpfdb bpfdb-shell bpfdb-page bpfdb-dap bpfdb-context
