@@ -191,6 +191,20 @@ PACKETS
             linked elsewhere '--maps 8x256' --section xdp --entry bpfdb
             verdict "TCP to 23, a map of processors, $compiler" elsewhere 0x1 256 6
         done
+        unfit "conflicting types for 'filter'" $architecture -DBPFDB_TC=filter "$top/examples/xdp/xdp.c"
+        sed 's/^int filter/static int filter/' "$top/examples/xdp/xdp.c" > elsewhere.c
+        unfit "static declaration of 'filter' follows non-static declaration" $architecture -DBPFDB_XDP=filter elsewhere.c
+        unfit "redefinition of 'xdp_md'" $architecture -I"$parts/headers" -DBPFDB_XDP=no_arp "$parts/headers/relocated.c"
+
+        # Without the header the program reads its packet in place of the struct: its first four bytes, 02000000, are `data`, so the protocol is at 0xe.
+        clang $architecture -g -O2 -target bpf -c -o program.o "$top/examples/firewall/firewall.c"
+        linked bare '--maps 8x5' --section xdp
+        packet_of "$(sed -n 's/^TCP to 23|.*|//p' packets)"
+        "$program" run --maps 8x5 -m packet bare.words > found/out 2> found/err
+        echo $? > found/status
+        sed -i 's/ 0x[ef] at [0-9]*$/ 0xe/' found/err
+        check 'a program without the header' 1 '' 'fault access 0xe\n'
+
         # What docs/XDP.md shows at a shell, in a copy of the example.
         mkdir bin
         ln -s "$program" bin/bpfdb
