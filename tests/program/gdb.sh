@@ -112,6 +112,7 @@ if has python3 'sessions in gdb'; then
     done
     story 1 XDP.md > firewall.txt
     [ "$(wc -l < firewall.txt)" -gt 2 ] || complain 'docs/XDP.md shows no session'
+    # (this object has lines of share/bpfdb.h, too: examples/README.md says how it is made anew)
     bytes firewall.o $(sed 's/../& /g' "$top/examples/firewall/object.hex")
     "$program" link --section xdp --entry bpfdb firewall.o > firewall.bin 2> told
     same 'examples/firewall/program.bin is linked from its object' "$top/examples/firewall/program.bin" firewall.bin

@@ -70,6 +70,7 @@ if has_clang 'programs with the headers of libbpf'; then
     : > few/linux/bpf.h
     echo 'int f(void);' > f.c
     unfit 'bpfdb.h: which program? -DBPFDB_XDP=NAME or -DBPFDB_TC=NAME' f.c
+    unfit 'bpfdb.h: which program? -DBPFDB_XDP=NAME or -DBPFDB_TC=NAME' -DBPFDB_XDP=f -DBPFDB_TC=f f.c
     unfit 'linux-libc-dev' -nostdinc -DBPFDB_XDP=f f.c
     unfit 'bpfdb.h: add -I/usr/include/$(uname -m)-linux-gnu' -nostdinc -isystem few -DBPFDB_XDP=f f.c
 
@@ -157,6 +158,12 @@ PACKETS
                 printf 'continue\nx 0x300000000 8\n' | "$program" debug --maps 8x2 -m few.bytes fields.words | sed -n 's/.* r0 //p; s/^0x300000000: //p' > shown
                 [ "$(tr '\n' ' ' < shown)" = "0x0 $wanted " ] || complain "the fields of $length bytes, $compiler: $(cat shown)"
             done
+
+            # The struct takes nothing of the program's frame. (Twice 54 is 0x6c.)
+            with $compiler -O2 -DBPFDB_TC=whole_frame "$parts/headers/frame.c"
+            linked frame '' --section tc --entry bpfdb
+            packet_of "$(sed -n 's/^TCP to 23|.*|//p' packets)"
+            verdict "54 bytes, $compiler" frame 0x6c
 
             # vmlinux.h, whose structs of packets have relocations of fields.
             with $compiler -O2 -DBPFDB_VMLINUX -I"$parts/headers" -DBPFDB_XDP=no_arp "$parts/headers/relocated.c"
