@@ -90,7 +90,7 @@ Section: devel
 Priority: optional
 Depends: libc6 (>= 2.34)
 Recommends: python3
-Suggests: binutils, clang, gdb, libpcap0.8
+Suggests: binutils, clang, gdb, libbpf-dev, libpcap0.8, linux-libc-dev
 Description: runs BPF programs forwards and backwards
  A debugger for BPF programs (RFC 9669) that goes back exactly, with a checker,
  an assembler, a disassembler, a linker and an interpreter. Its code is proved.

@@ -31,7 +31,7 @@ handed_on() {
         { grep -x -e 'License: Apache-2.0' -e 'Copyright: 2026 the bpfdb authors' deb/usr/share/doc/bpfdb/copyright | sort -u
             dpkg-deb -f made/bpfdb_*_amd64.deb Suggests; } > found/out
         : > found/err
-        check 'make dist: what the Debian package says' 0 'Copyright: 2026 the bpfdb authors\nLicense: Apache-2.0\nbinutils, clang, gdb\n' ''
+        check 'make dist: what the Debian package says' 0 'Copyright: 2026 the bpfdb authors\nLicense: Apache-2.0\nbinutils, clang, gdb, libbpf-dev, libpcap0.8, linux-libc-dev\n' ''
     fi
 }
 
