@@ -1,7 +1,7 @@
 #!/bin/sh
 # The examples, through the built program (or the one that BPFDB names): each script gives its replies, each program assembles
 # and disassembles to itself, the example of a test suite passes and can fail, and the examples in docs/COMMANDS.md, README.md, examples/README.md and
-# examples/RECIPES.md print what they show. What is wrong is a line each.
+# examples/RECIPES.md, and docs/TESTS.md on files of uBPF, print what they show. What is wrong is a line each.
 set -u
 cd "$(dirname "$0")/.." || exit 1
 [ -n "${BPFDB:-}" ] || sh tests/build.sh || exit 1
@@ -100,7 +100,7 @@ shown() {
     while [ -f "$work/shown/command-$n" ]; do
         command=$(cat "$work/shown/command-$n")
         case $command in
-        'cat '*.c | 'cat '*.s | 'cat '*.test) cp "$work/shown/text-$n" "$work/shown/files/${command#cat }" ;;
+        'cat '*.c | 'cat '*.s | 'cat '*.test | 'cat '*.data) cp "$work/shown/text-$n" "$work/shown/files/${command#cat }" ;;
         esac
         (cd "$work/shown/files" && PATH=$work/bin:$PATH && export PATH && unset BPFDB && sh "$work/shown/command-$n") > "$work/out" 2>&1
         cmp -s "$work/shown/text-$n" "$work/out" || fault "$1, '$2': '$command': $(first_difference "$work/shown/text-$n" "$work/out")"
@@ -136,9 +136,10 @@ origins() {
 pages() {
     mkdir "$work/bin" || exit 1
     ln -s "$BPFDB" "$work/bin/bpfdb" || exit 1
-    ln -s "$top/share/bpfdb-conformance" "$top/share/bpfdb-show" "$work/bin" || exit 1
+    ln -s "$top/share/bpfdb-conformance" "$top/share/bpfdb-convert" "$top/share/bpfdb-show" "$work/bin" || exit 1
     shown docs/COMMANDS.md EXAMPLES
     shown examples/RECIPES.md ''
+    if has python3 'the tests of uBPF of docs/TESTS.md'; then shown docs/TESTS.md 'Files of uBPF'; fi
     origins README.md '' overrun
     for name in overrun fault records; do
         origins examples/README.md "$name" "$name"

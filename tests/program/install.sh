@@ -13,7 +13,7 @@ else
         echo "for editors: $2/bin/bpfdb-dap, $2/share/bpfdb/vscode and $2/share/bpfdb/bpfdb-dap.el" > wanted/editors
         same "make install PREFIX=$2: what it says of editors" wanted/editors found/editors
         sed -i '$d' found/out
-        check "make install PREFIX=$2" 0 "installed $2/bin/bpfdb, bpfdb-shell, bpfdb-symbols, bpfdb-show, bpfdb-page, bpfdb-context and bpfdb-conformance beside it, man pages, completions of bash, zsh and fish, and pages and examples in $2/share/doc/bpfdb; in gdb: source $2/share/bpfdb/bpfdb-gdb.py\n" ''
+        check "make install PREFIX=$2" 0 "installed $2/bin/bpfdb, bpfdb-shell, bpfdb-symbols, bpfdb-show, bpfdb-page, bpfdb-context, bpfdb-convert and bpfdb-conformance beside it, man pages, completions of bash, zsh and fish, and pages and examples in $2/share/doc/bpfdb; in gdb: source $2/share/bpfdb/bpfdb-gdb.py\n" ''
         (cd "$installed" && find . -type f -printf '%m %P\n' | sort) > found/files
         (cd "${1:-$2}" && find . -type d ! -perm 755) > found/folders
         : > wanted/folders
@@ -67,6 +67,7 @@ else
 644 share/fish/vendor_completions.d/bpfdb.fish
 644 share/man/man1/bpfdb-conformance.1
 644 share/man/man1/bpfdb-context.1
+644 share/man/man1/bpfdb-convert.1
 644 share/man/man1/bpfdb-dap.1
 644 share/man/man1/bpfdb-page.1
 644 share/man/man1/bpfdb-shell.1
@@ -77,6 +78,7 @@ else
 755 bin/bpfdb
 755 bin/bpfdb-conformance
 755 bin/bpfdb-context
+755 bin/bpfdb-convert
 755 bin/bpfdb-dap
 755 bin/bpfdb-page
 755 bin/bpfdb-shell
@@ -115,6 +117,12 @@ FILES
             check 'the installed bpfdb-context' 0 '' ''
             printf bc > wanted/context
             same 'the file of the installed bpfdb-context' wanted/context context
+        fi
+        if has python3 'the installed bpfdb-convert'; then
+            printf -- '-- asm\nmov %%r0, 1\nexit\n-- result\n1\n' > one.data
+            "$installed/bin/bpfdb-convert" one.data < /dev/null > found/out 2> found/err
+            echo $? > found/status
+            check 'the installed bpfdb-convert' 0 '-- name\none.data\n-- listing\n        mov r0, 1\n        exit\n-- result\n1\n' ''
         fi
         # (the 67 bytes of a request)
         printf 'Content-Length: 67\r\n\r\n{"seq":1,"type":"request","command":"launch","arguments":{"x":"y"}}' | "$installed/bin/bpfdb-dap" > found/out 2> found/err
