@@ -100,7 +100,7 @@ shown() {
     while [ -f "$work/shown/command-$n" ]; do
         command=$(cat "$work/shown/command-$n")
         case $command in
-        'cat '*.c | 'cat '*.s | 'cat '*.test | 'cat '*.data) cp "$work/shown/text-$n" "$work/shown/files/${command#cat }" ;;
+        'cat '*.c | 'cat '*.s | 'cat '*.test | 'cat '*.data | 'cat '*.awk) cp "$work/shown/text-$n" "$work/shown/files/${command#cat }" ;;
         esac
         (cd "$work/shown/files" && PATH=$work/bin:$PATH && export PATH && unset BPFDB && sh "$work/shown/command-$n") > "$work/out" 2>&1
         cmp -s "$work/shown/text-$n" "$work/out" || fault "$1, '$2': '$command': $(first_difference "$work/shown/text-$n" "$work/out")"
@@ -145,6 +145,7 @@ pages() {
         origins examples/README.md "$name" "$name"
     done
     if has xxd 'the example from words'; then shown examples/README.md 'From words'; fi
+    if has xxd 'the example from a filter' && has tcpdump 'the example from a filter'; then shown examples/README.md 'From a filter'; fi
     if has_clang 'the example from C'; then shown examples/README.md 'From C'; fi
 }
 
