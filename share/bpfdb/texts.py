@@ -24,7 +24,9 @@ def plain(text):
 
 
 def warn(text, end='\n'):
-    """Writes lines to standard error, if that can be written."""
+    """Writes lines to standard error, if that can be written. (Where there is none, `print` would take standard output.)"""
+    if sys.stderr is None:
+        return
     with contextlib.suppress(OSError):
         print('\n'.join(plain(line) for line in text.split('\n')), end=end, file=sys.stderr, flush=True)
 

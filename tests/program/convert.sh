@@ -242,6 +242,13 @@ TEST
     : > found/out
     check 'bpfdb-convert: no output' 2 '' 'bpfdb-convert: cannot write output\n'
 
+    # (the interpreter itself: what a shell calls by its name may open a standard error where there is none)
+    printf -- '-- asm\nfrob\n-- result\n0\n' > bad.data
+    "$(python3 -c 'import sys; print(sys.executable)')" "$top/share/bpfdb-convert" bad.data good.data > found/out 2>&-
+    echo $? > found/status
+    : > found/err
+    check 'bpfdb-convert: no standard error' 2 '-- name\ngood.data\n-- listing\n        exit\n-- result\n0\n' ''
+
     # Files of a megabyte, in 400 MB and 5 seconds of the processor: lines, one line, labels, words, bytes. They are taken (0), or left out (2).
     # large STATUS SECTION COMMAND: so much of what the command writes is the section.
     large() {
