@@ -208,7 +208,7 @@ PYTHON
         "$BPFDB_PAGE" -o "states/$name.html" "$@" > "states/$name.said" 2>&1 &
         started="$started $!" making="$making $!"
     }
-    for example in fault records wrong-byte counters checksum count xdp suite overrun; do
+    for example in fault records wrong-byte counters checksum count xdp suite overrun firewall listen; do
         # (the words of an example are without blanks; those of files get its folder)
         # shellcheck disable=SC2046
         page "$example" $(tr ' ' '\n' < "$top/examples/$example/arguments" | sed "s#^\([a-z]*\.[a-z]*\)\$#$top/examples/$example/\1#")
