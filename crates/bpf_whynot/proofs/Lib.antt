@@ -1,0 +1,11 @@
+pub mod Sourced
+pub mod Walking
+pub mod Flowing
+pub mod Alongs
+pub mod Leveling
+pub mod Telling
+pub mod Walks
+pub mod Goaling
+pub mod Passing
+pub mod Going
+pub mod Latest

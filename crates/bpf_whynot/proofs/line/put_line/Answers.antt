@@ -1,0 +1,13 @@
+use Rattle.std.proofs.Common.{append_assoc}
+use Rattle.bpf_whynot.proofs.line.put_line.Goals as goal
+
+pub returns : goal.returns
+returns g c = λ m y step stood first front known.
+    let begun = c.put-begun.ensures first front known in
+    let counted = c.put_decimal-counted.ensures first _ begun in
+    let parted = c.put-parted.ensures first _ counted in
+    let named = c.put_move-named.ensures m step first _ parted in
+    let values = rw (c.as_slice.ensures.value, c.compared.ensures m step) at c.put_values-valued.ensures in
+    let valued = values first _ named in
+    let went = c.put_went-told.ensures m y step stood first _ valued in
+    simp append_assoc (simp append_assoc at (c.put.ensures first _ went))

@@ -1,0 +1,13 @@
+use Rattle.std.proofs.Common.{arith}
+use Rattle.bpf_whynot.specs.Answers.{compared_text}
+use Rattle.bpfdb_replies.proofs.Telling.{Telling-start, Telling-step, Telling-end, pieces-next, pieces-end}
+use Rattle.bpf_whynot.proofs.line.put_values.Goals as goal
+
+pub loop-part-init : goal.loop-part-init
+loop-part-init g c = Telling-start _ _ _ _
+
+pub loop-part-preserved : goal.loop-part-preserved
+loop-part-preserved g c = Telling-step _ _ _ _ _ _ _ _ _ _ _ c.loop-part.invariant c.put_compared-told.ensures (pieces-next (compared_text c.args.cpu.now) c.args.parts.now c.loop-part.part-index _ (omega arith))
+
+pub returns : goal.returns
+returns g c = Telling-end _ _ _ _ _ _ _ c.loop-part.invariant (pieces-end (compared_text c.args.cpu.now) c.args.parts.now c.loop-part.part-index (omega arith))

@@ -1,0 +1,10 @@
+pub mod Reach
+pub mod Tables
+pub mod Asked
+pub mod Answers
+pub mod Laws
+pub mod Flows
+pub mod Walks
+pub mod Levels
+pub mod Asking
+pub mod Turns

@@ -1,0 +1,17 @@
+//! What is asked, and how.
+
+use crate::reach::Reach;
+use bpf_origin::Question;
+
+/// What is asked, and how.
+#[derive(Clone, Copy)]
+pub struct Search<'a> {
+    /// From where the goals can be come to.
+    pub reach: &'a Reach,
+    /// The goals, one flag a slot.
+    pub goals: &'a [bool],
+    /// How the answer about values is made.
+    pub question: Question,
+    /// Whether that is left out.
+    pub alone: bool,
+}
