@@ -2,6 +2,7 @@
 use Rattle.std.specs.Prelude.{ℕ, zero, suc, ◌+◌, ◌*◌, ◌==◌, nat_le, nat_lt, Bool, ◌&&◌, ◌||◌, if◌then◌else◌, List, length, codes, Option, Some, None, Result, Ok, Err}
 use Rattle.bpf_isa.specs.Words.{u32_at}
 use Rattle.bpf_isa.specs.declared.maps.MapShape.{MapShape}
+use Rattle.bpf_btf.specs.declared.maps.MapDescription.{MapDescription}
 use Rattle.bpf_isa.specs.declared.fault.MapFault.TheVariants.{ValueSize, Entries, Total}
 use Rattle.bpf_btf.specs.declared.fault.BtfFault.{BtfFault}
 use Rattle.bpf_btf.specs.declared.fault.BtfFault.TheVariants.{NoMap, NoStruct, NoNumber, NoSize, TwoSizes, Kind, KeySize, Limits, LongName}
@@ -107,6 +108,19 @@ one_size number size =
 abbrev pub size_by : Types → ℕ → List ℕ → List ℕ → Result ℕ BtfFault
 size_by types definition number name =
     after (number_of types definition number) (λ a. after (size_at types definition name) (λ b. one_size a b))
+
+-- What a struct says of a map of any kind: its kind, the sizes of its keys and values, and how many entries it has at most. 0 is what isn't said.
+abbrev pub described_by : Types → ℕ → Result MapDescription BtfFault
+described_by types definition =
+    after (number_of types definition (codes "type")) (λ kind.
+    after (size_by types definition (codes "key_size") (codes "key")) (λ key.
+    after (size_by types definition (codes "value_size") (codes "value")) (λ value.
+    after (number_of types definition (codes "max_entries")) (λ entries.
+    Ok (record { kind = kind; key_size = key; value_size = value; entries = entries })))))
+
+-- What is said of the map of a name, of at most 255 bytes.
+abbrev pub map_description : Types → List ℕ → Result MapDescription BtfFault
+map_description types name = provided (nat_le (length name) 255) LongName (after (definition_of types name) (described_by types))
 
 -- Array maps: BPF_MAP_TYPE_ARRAY, 2, and BPF_MAP_TYPE_PERCPU_ARRAY, 6, of which the machine has the values of its one processor.
 abbrev pub is_array : ℕ → Bool

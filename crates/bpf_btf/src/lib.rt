@@ -14,4 +14,5 @@ mod types;
 
 pub use core_relocations::CoreRelocations;
 pub use fault::BtfFault;
+pub use maps::MapDescription;
 pub use section::Btf;

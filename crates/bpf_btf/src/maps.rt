@@ -2,7 +2,7 @@
 ghost use Rattle.std.specs.Prelude.{◌≡◌, ◌≤◌, ◌<◌, ◌+◌, ◌*◌, Some, None, IfSome, Ok, Err, IfOk, if◌then◌else◌};
 ghost use Rattle.bpf_isa.specs.Maps.{IsShape};
 ghost use Rattle.bpf_btf.specs.Types.{start_of, type_of};
-ghost use Rattle.bpf_btf.specs.Maps.{is_maps, maps_section, variable_at, is_variable, is_variable_at, variable_of, struct_of, definition_of, is_array, limited, sizes_of, shape_by, map_shape};
+ghost use Rattle.bpf_btf.specs.Maps.{is_maps, maps_section, variable_at, is_variable, is_variable_at, variable_of, struct_of, definition_of, described_by, is_array, limited, map_description, sizes_of, shape_by, map_shape};
 
 use crate::fault::BtfFault;
 use crate::members::{latest, number_of, size_by};
@@ -13,6 +13,19 @@ use bpf_isa::{LONGEST_VALUE, MOST_ENTRIES, MOST_MAP_BYTES, MapFault, MapShape};
 /// The most bytes of a map's name. It is compared with the name of each variable of `.maps`, and
 /// with one as long as the section that would take time in the square of its length.
 const LONGEST_NAME: usize = 255;
+
+/// What BTF says of a map of any kind. 0 is what it doesn't say.
+#[derive(Clone, Copy)]
+pub struct MapDescription {
+    /// The kind, as in `enum bpf_map_type` of the kernel's `<linux/bpf.h>`.
+    pub kind: u32,
+    /// The size of a key in bytes.
+    pub key_size: u32,
+    /// The size of a value in bytes.
+    pub value_size: u32,
+    /// How many entries it has at most.
+    pub entries: u32,
+}
 
 /// Whether a type is the section of maps.
 fn is_maps(btf: &Btf<'_>, id: usize) -> bool
@@ -85,6 +98,48 @@ fn definition_of(btf: &Btf<'_>, name: &[u8]) -> Result<usize, BtfFault>
             None => Err(BtfFault::NoMap),
         },
         None => Err(BtfFault::NoMap),
+    }
+}
+
+/// What a struct says of a map.
+fn described_by(btf: &Btf<'_>, definition: usize) -> Result<MapDescription, BtfFault>
+    ensures { result ≡ described_by btf.now definition }
+{
+    let kind = match number_of(btf, definition, b"type") {
+        Ok(kind) => kind,
+        Err(fault) => return Err(fault),
+    };
+    let key_size = match size_by(btf, definition, b"key_size", b"key") {
+        Ok(size) => size,
+        Err(fault) => return Err(fault),
+    };
+    let value_size = match size_by(btf, definition, b"value_size", b"value") {
+        Ok(size) => size,
+        Err(fault) => return Err(fault),
+    };
+    match number_of(btf, definition, b"max_entries") {
+        Ok(entries) => Ok(MapDescription {
+            kind,
+            key_size,
+            value_size,
+            entries,
+        }),
+        Err(fault) => Err(fault),
+    }
+}
+
+/// What is said of the map of a name of at most 255 bytes, whatever its kind.
+///
+/// Takes time in proportion to the length of the section.
+pub fn map_description(btf: &Btf<'_>, name: &[u8]) -> Result<MapDescription, BtfFault>
+    ensures { result ≡ map_description btf.now name.now }
+{
+    if name.len() > LONGEST_NAME {
+        return Err(BtfFault::LongName);
+    }
+    match definition_of(btf, name) {
+        Ok(definition) => described_by(btf, definition),
+        Err(fault) => Err(fault),
     }
 }
 

@@ -2,7 +2,7 @@
 ghost use Rattle.std.specs.Prelude.{◌≡◌, ◌≤◌, ◌<◌, ◌+◌, IfOk, IfErr, length, Ok, Err, slice_index_or};
 ghost use Rattle.bpf_btf.specs.Layout.{array_entry, btf_header, is_called, member_entry};
 ghost use Rattle.bpf_btf.specs.CoreRelocations.{AreRelocations, IsExtFault};
-ghost use Rattle.bpf_btf.specs.Maps.{map_shape, member_at, variable_at};
+ghost use Rattle.bpf_btf.specs.Maps.{map_description, map_shape, member_at, variable_at};
 ghost use Rattle.bpf_isa.specs.Maps.{IsShape};
 ghost use Rattle.bpf_btf.specs.Sections.{header_of, types_in, strings_in, IsRead, IsReadFault};
 ghost use Rattle.bpf_btf.specs.Types.{start_of, type_of, AreTypes, HasBadType};
@@ -15,7 +15,7 @@ use crate::layout::{
     ArrayEntry, BtfHeader, MemberEntry, TypeEntry, array_entry, btf_header, member_entry,
     type_entry,
 };
-use crate::maps::map_shape;
+use crate::maps::{MapDescription, map_description, map_shape};
 use crate::types::starts_of;
 use bpf_isa::MapShape;
 use std::alloc::Global;
@@ -127,6 +127,15 @@ impl<'a> Btf<'a> {
         ensures possible { IfOk result IsShape }
     {
         map_shape(self, name)
+    }
+
+    /// What is said of the map of a name, whatever its kind: its kind, the sizes of its keys and
+    /// values, and its most entries, found as `map_shape` finds them; 0 is what isn't said. The name
+    /// has at most 255 bytes (`LongName`). Takes time in proportion to the length of the section.
+    pub fn map_description(&self, name: &[u8]) -> Result<MapDescription, BtfFault>
+        ensures { result ≡ map_description self.now name.now }
+    {
+        map_description(self, name)
     }
 
     /// How many relocations of fields a section `.BTF.ext` lists for the section of code of a name,

@@ -5,7 +5,7 @@ use Rattle.bpf_isa.specs.declared.fault.PieceFault.TheVariants.{UnknownHelper}
 use Rattle.bpf_btf.specs.Faults.{btf_fault}
 use Rattle.bpf_btf.specs.declared.fault.BtfFault.TheVariants as btf
 use Rattle.bpf_link.specs.declared.fault.LinkFault.{LinkFault}
-use Rattle.bpf_link.specs.declared.fault.LinkFault.TheVariants.{NotElf, Class, Order, Kind, Machine, SectionTable, LongName, NoSection, ManySections, Section, TooLong, RunsOff, SymbolTable, ManyMapSections, TooManyMaps, RelocationTable, Place, Symbol, Relocation, Program, Memory, LongData, DataSection, Pointer, ManyPrograms, NoEntry, Helper, StubList, StubRange, StubTwice, ManyStubs, Types, Map, Fields}
+use Rattle.bpf_link.specs.declared.fault.LinkFault.TheVariants.{NotElf, Class, Order, Kind, Machine, SectionTable, LongName, NoSection, ManySections, Section, TooLong, RunsOff, SymbolTable, ManyMapSections, TooManyMaps, RelocationTable, Place, Symbol, Relocation, Program, Memory, LongData, DataSection, Pointer, ManyPrograms, NoEntry, Helper, StubList, StubRange, StubTwice, ManyStubs, Types, Map, Fields, ManyRecords, ManyWanted, Pointers}
 use Rattle.bpf_link.specs.declared.fault.RelocationFault.{RelocationFault}
 use Rattle.bpf_link.specs.declared.fault.RelocationFault.TheVariants.{Extern, RelocationKind, CallTarget, NoCall, Data, NoLoad}
 
@@ -52,5 +52,8 @@ link_fault StubRange = (33, codes "helper or value of a stub out of range")
 link_fault StubTwice = (34, codes "two stubs of one helper")
 link_fault ManyStubs = (35, codes "more than 16 stubs")
 link_fault (Fields count slot at) = (36, codes "relocations of fields")
+link_fault ManyRecords = (37, codes "more than 1024 maps")
+link_fault ManyWanted = (38, codes "more than 256 undefined symbols")
+link_fault Pointers = (39, codes "addresses in the data of an object of functions")
 link_fault (Types fault) = btf_fault fault
 link_fault (Map at fault) = btf_fault fault

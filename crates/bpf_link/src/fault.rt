@@ -120,6 +120,12 @@ pub enum LinkFault {
         slot: usize,
         at: usize,
     },
+    /// An object that is joined with another has more than 1,024 maps.
+    ManyRecords,
+    /// An object that is joined with another leaves more than 256 symbols undefined.
+    ManyWanted,
+    /// The data of an object of functions have addresses in them.
+    Pointers,
     /// BTF doesn't say of the map, whose name stands at this place in the file, what the machine may
     /// have.
     Map {
@@ -188,6 +194,9 @@ impl LinkFault {
             LinkFault::StubTwice => (34, "two stubs of one helper"),
             LinkFault::ManyStubs => (35, "more than 16 stubs"),
             LinkFault::Fields { .. } => (36, "relocations of fields"),
+            LinkFault::ManyRecords => (37, "more than 1024 maps"),
+            LinkFault::ManyWanted => (38, "more than 256 undefined symbols"),
+            LinkFault::Pointers => (39, "addresses in the data of an object of functions"),
             LinkFault::Types(fault) | LinkFault::Map { fault, .. } => (
                 fault.number(),
                 fault.text(),
@@ -195,7 +204,7 @@ impl LinkFault {
         }
     }
 
-    /// The number that is printed after E, 1 to 36, and 40 to 54 of BTF; that of a program's fault
+    /// The number that is printed after E, 1 to 39, and 40 to 54 of BTF; that of a program's fault
     /// is 25.
     pub fn number(self) -> u8
         ensures { result ≡ (link_fault self).0 }

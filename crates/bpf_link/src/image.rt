@@ -17,7 +17,7 @@ use byteorder::{ByteOrder, LittleEndian};
 use std::alloc::Global;
 
 /// Bytes, and zeros after them up to a whole number of eight.
-fn filled(alloc: Global, size: usize, bytes: &[u8]) -> Result<Vec<u8>, LinkFault>
+pub fn filled(alloc: Global, size: usize, bytes: &[u8]) -> Result<Vec<u8>, LinkFault>
     ensures ok { IfOk result (λ image. image.items ≡ filled size bytes.now) }
     ensures err { IfErr result (λ fault. fault ≡ Memory) }
 {

@@ -29,10 +29,28 @@ mod stubs;
 mod tables;
 mod words;
 
+pub use data_sections::is_among;
+pub use entry::is_program;
 pub use fault::{LinkFault, RelocationFault};
+pub use field_relocations::fields_as_compiled;
+pub use fields::{u16_at, u32_at};
 pub use helpers::helper_name;
-pub use linker::{LinkOptions, Linked, link, link_with};
+pub use image::filled;
+pub use layout::{
+    MapDefinition, RelocationEntry, SectionHeader, SymbolEntry, map_definition, symbol_entry,
+};
+pub use linker::{LinkOptions, Linked, link, link_with, planned};
+pub use map_types::{
+    are_in_maps, name_from, name_place, section_bytes, symbol_of, told_of_types, types_in,
+};
 pub use names::fault_names;
+pub use object::Object;
+pub use parts::{Part, Parts, Side};
+pub use patch::is_map;
+pub use plan::{Plan, is_closed, symbol_place};
+pub use sections::{Found, is_data, name_at};
 pub use sources::Source;
 pub use stub_lists::{MOST_STUBS, stubs_in};
-pub use stubs::Stub;
+pub use stubs::{Stub, calls_helper};
+pub use tables::{Bytes, Relocations, Symbols};
+pub use words::unlinked;

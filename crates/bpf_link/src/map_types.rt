@@ -21,7 +21,7 @@ use bpf_isa::{MOST_MAPS, MapShape};
 use std::alloc::Global;
 
 /// Whether the maps stand in `.maps`.
-fn are_in_maps(plan: &Plan<'_>) -> bool
+pub fn are_in_maps(plan: &Plan<'_>) -> bool
     ensures { result ≡ are_in_maps plan.now }
 {
     if plan.maps >= plan.object.len() {
@@ -53,7 +53,7 @@ fn types_found(object: &Object<'_>) -> Found
 }
 
 /// The bytes of a section; none where it doesn't lie in the file.
-fn section_bytes<'a>(object: &Object<'a>, section: &SectionHeader) -> &'a [u8]
+pub fn section_bytes<'a>(object: &Object<'a>, section: &SectionHeader) -> &'a [u8]
     ensures { result.now ≡ section_bytes object.now section.now }
 {
     let bytes = object.bytes();
@@ -137,7 +137,7 @@ fn is_map_at(plan: &Plan<'_>, place: u64, symbol: &SymbolEntry) -> bool
 }
 
 /// The last symbol that names the map at a place.
-fn symbol_of(plan: &Plan<'_>, place: u64) -> Option<usize>
+pub fn symbol_of(plan: &Plan<'_>, place: u64) -> Option<usize>
     ensures value { result ≡ symbol_of plan.now place }
     ensures below { IfSome result (λ i. i < length plan.now.symbols) }
 {
@@ -152,7 +152,7 @@ fn symbol_of(plan: &Plan<'_>, place: u64) -> Option<usize>
 }
 
 /// Where the name of a symbol stands.
-fn name_place(plan: &Plan<'_>, symbol: Option<usize>) -> usize
+pub fn name_place(plan: &Plan<'_>, symbol: Option<usize>) -> usize
     requires { IfSome symbol (λ i. i < length plan.now.symbols) }
     ensures value { result ≡ name_place plan.now symbol }
     ensures inside { result ≤ length plan.now.object.bytes }

@@ -260,7 +260,7 @@ fn text_in<'a>(
 }
 
 /// Whether the last slot begins as an exit or a jump that is always taken.
-fn is_closed(slots: &[u8]) -> bool
+pub fn is_closed(slots: &[u8]) -> bool
     ensures { result ≡ is_closed slots.now }
 {
     if slots.len() < 8 {

@@ -34,7 +34,7 @@ pub fn is_answered(stubs: &[Stub], helper: u32) -> bool
 }
 
 /// Whether a slot calls a helper by its number.
-fn calls_helper(words: &[u8], slot: usize) -> bool
+pub fn calls_helper(words: &[u8], slot: usize) -> bool
     requires { 8 * slot + 8 ≤ length words.now }
     ensures { result ≡ calls_helper words.now slot }
 {

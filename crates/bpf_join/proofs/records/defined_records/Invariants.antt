@@ -1,0 +1,7 @@
+use Rattle.std.proofs.Common.{◌≡◌, [], Ok}
+use Rattle.bpf_link.specs.Plans.{steps}
+use Rattle.bpf_join.specs.Records.{defined, with_record}
+use Rattle.bpf_join.proofs.records.defined_records.Given as goal
+
+abbrev pub invariant-loop-k : goal.invariant-loop-k
+invariant-loop-k l = steps (with_record (defined l.plan) l.places) [] l.k ≡ Ok l.records.items

@@ -1,0 +1,11 @@
+pub mod Gathered
+pub mod Functions
+pub mod Codes
+pub mod Moved
+pub mod Spots
+pub mod Symbols
+pub mod Tables
+pub mod Names
+pub mod Records
+pub mod Joined
+pub mod Readiness

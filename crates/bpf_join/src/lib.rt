@@ -1,0 +1,17 @@
+//! Two objects as one: a program, and the functions that answer what it calls.
+#![tactic(auto)]
+
+mod codes;
+mod fault;
+mod functions;
+mod joined;
+mod names;
+mod places;
+mod records;
+mod relocations;
+mod spots;
+mod symbols;
+mod table;
+
+pub use fault::JoinFault;
+pub use joined::{Joined, join};
