@@ -1,4 +1,7 @@
 pub mod Stepping
 pub mod Lines
+pub mod Making
+pub mod Steps
+pub mod Branching
 pub mod Counting
 pub mod TheRuns

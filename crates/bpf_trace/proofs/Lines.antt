@@ -1,6 +1,6 @@
 -- Lines that are written one a turn.
-use Rattle.std.proofs.Common.{◌≡◌, ◌+◌, ◌-◌, ◌<◌, ℕ, suc, min, true, false, List, ◌++◌, drop, take, Option, Result, Ok, Err, sym, ap, subst, ◌∙◌, refl, arith, append_assoc, inl, inr}
-use Rattle.std.specs.Prelude.{OnOk, codes, decimal, flat_map}
+use Rattle.std.proofs.Common.{◌≡◌, ◌+◌, ◌-◌, ◌<◌, ℕ, suc, min, Bool, true, false, List, ◌++◌, drop, take, Option, Result, Ok, Err, sym, ap, subst, ◌∙◌, refl, arith, append_assoc, inl, inr}
+use Rattle.std.specs.Prelude.{OnOk}
 use Rattle.counted_io.specs.Counted.{Tally}
 use Rattle.counted_io.specs.Writing.{Writes, WritesAfter}
 use Rattle.counted_io.proofs.Appending.{Writes-Err}
@@ -9,12 +9,9 @@ use Rattle.bpf_machine.specs.Next.{next}
 use Rattle.bpf_machine.specs.Runs.{Advances}
 use Rattle.bpf_machine.specs.State.{State}
 use Rattle.bpfdb_replies.proofs.Telling.{Telling, Telling-start, Telling-step, Telling-end}
-use Rattle.bpf_origin.specs.Writes.{written}
-use Rattle.bpf_machine.specs.Entries.{step_entry}
-use Rattle.bpfdb_replies.specs.Texts.{text_at}
 use Rattle.bpf_session.specs.Plain.{plain_end}
 use Rattle.bpf_trace.specs.Runs.{steps_of}
-use Rattle.bpf_trace.specs.Traces.{end_line, lines_from, step_line, trace_text, written_text}
+use Rattle.bpf_trace.specs.Traces.{end_line, line_of, lines_from, trace_text}
 use Rattle.bpf_trace.specs.declared.trace.Shown.{Shown}
 use Rattle.bpf_trace.proofs.Stepping.{none_ended, none_left, one_more_step, shown_steps}
 
@@ -25,10 +22,10 @@ Telling-broken contents old before now e rest whole t = λ first front known.
     subst (Writes contents first now (Err e)) (append_assoc front t.told rest ∙ ap (λ (text : List ℕ). front ++ text) t.parts)
     (Writes-Err contents first now (Err e) e (front ++ t.told) rest refl (t.written first front known))
 
-module _ {W A E : Type 0} (contents : W → Option (List ℕ)) (old : Tally W) (before : Result A E) (passed most : ℕ) (x : State) where
+module _ {W A E : Type 0} (contents : W → Option (List ℕ)) (old : Tally W) (before : Result A E) (branches : Bool) (passed most : ℕ) (x : State) where
   -- so many lines are told, and the rest are those of the steps from here on
   abbrev pub TellsLines : ℕ → State → Tally W → Result A E → Type 0
-  TellsLines k y now told = Telling contents old before now told (lines_from (passed + k + 1) (steps_of (most - k) y)) (lines_from (passed + 1) (steps_of most x))
+  TellsLines k y now told = Telling contents old before now told (lines_from branches (passed + k + 1) (steps_of (most - k) y)) (lines_from branches (passed + 1) (steps_of most x))
 
   pub lines_start : TellsLines 0 x old before
   lines_start =
@@ -37,30 +34,30 @@ module _ {W A E : Type 0} (contents : W → Option (List ℕ)) (old : Tally W) (
       rw (a, b) (Telling-start contents old before _)
 
   pub lines_step : (k : ℕ) (y : State) (now new : Tally W) (told more : Result A E) → k < most → has_ended y.status ≡ false
-      → TellsLines k y now told → WritesAfter contents now told new more (step_line (passed + k + 1) y) → TellsLines (k + 1) (next y) new more
+      → TellsLines k y now told → WritesAfter contents now told new more (line_of branches (passed + k + 1) y) → TellsLines (k + 1) (next y) new more
   lines_step k y now new told more low on t w =
       let e : most - k ≡ suc (most - (k + 1)) = omega (arith, low) in
       let n : passed + k + 1 + 1 ≡ passed + (k + 1) + 1 = omega arith in
-      Telling-step contents old before now new told more (step_line (passed + k + 1) y) _ _ _ t w
-      (ap (lines_from (passed + k + 1)) (one_more_step (most - k) (most - (k + 1)) y e on)
-      ∙ ap (λ (m : ℕ). step_line (passed + k + 1) y ++ lines_from m (steps_of (most - (k + 1)) (next y))) n)
+      Telling-step contents old before now new told more (line_of branches (passed + k + 1) y) _ _ _ t w
+      (ap (lines_from branches (passed + k + 1)) (one_more_step (most - k) (most - (k + 1)) y e on)
+      ∙ ap (λ (m : ℕ). line_of branches (passed + k + 1) y ++ lines_from branches m (steps_of (most - (k + 1)) (next y))) n)
 
   pub lines_ended : (k : ℕ) (y : State) (now : Tally W) (told : Result A E) → has_ended y.status ≡ true
-      → TellsLines k y now told → WritesAfter contents old before now told (lines_from (passed + 1) (steps_of most x))
-  lines_ended k y now told over t = Telling-end contents old before now told _ _ t (ap (lines_from (passed + k + 1)) (none_ended (most - k) y over))
+      → TellsLines k y now told → WritesAfter contents old before now told (lines_from branches (passed + 1) (steps_of most x))
+  lines_ended k y now told over t = Telling-end contents old before now told _ _ t (ap (lines_from branches (passed + k + 1)) (none_ended (most - k) y over))
 
   pub lines_all : (k : ℕ) (y : State) (now : Tally W) (told : Result A E) → k ≡ most
-      → TellsLines k y now told → WritesAfter contents old before now told (lines_from (passed + 1) (steps_of most x))
+      → TellsLines k y now told → WritesAfter contents old before now told (lines_from branches (passed + 1) (steps_of most x))
   lines_all k y now told all t =
       let e : most - k ≡ 0 = omega (arith, all) in
-      Telling-end contents old before now told _ _ t (ap (lines_from (passed + k + 1)) (none_left (most - k) y e))
+      Telling-end contents old before now told _ _ t (ap (lines_from branches (passed + k + 1)) (none_left (most - k) y e))
 
 -- the lines of the steps that are shown
-pub shown_lines : (limit s count passed : ℕ) (x y : State) → Advances (min limit s) x y passed
-    → lines_from (passed + 1) (steps_of (min (limit - passed) count) y) ≡ lines_from (s + 1) (take count (drop s (steps_of limit x)))
-shown_lines limit s count passed x y run = elim (shown_steps limit s count passed x y run) [
-  | inl here ↦ ap (λ (n : ℕ). lines_from (n + 1) (steps_of (min (limit - passed) count) y)) here.0 ∙ ap (lines_from (s + 1)) (sym here.1)
-  | inr none ↦ ap (lines_from (passed + 1)) none.1 ∙ ap (lines_from (s + 1)) (sym none.0)
+pub shown_lines : (branches : Bool) (limit s count passed : ℕ) (x y : State) → Advances (min limit s) x y passed
+    → lines_from branches (passed + 1) (steps_of (min (limit - passed) count) y) ≡ lines_from branches (s + 1) (take count (drop s (steps_of limit x)))
+shown_lines branches limit s count passed x y run = elim (shown_steps limit s count passed x y run) [
+  | inl here ↦ ap (λ (n : ℕ). lines_from branches (n + 1) (steps_of (min (limit - passed) count) y)) here.0 ∙ ap (lines_from branches (s + 1)) (sym here.1)
+  | inr none ↦ ap (lines_from branches (passed + 1)) none.1 ∙ ap (lines_from branches (s + 1)) (sym none.0)
 ]
 
 -- what was written before a write failed is a beginning of more
@@ -70,21 +67,14 @@ broken_more contents old before now e text more whole w is = λ first front know
     subst (Writes contents first now (Err e)) (append_assoc front text more ∙ ap (λ (t : List ℕ). front ++ t) is)
     (Writes-Err contents first now (Err e) e (front ++ text) more refl (w first front known))
 
--- the line of a step, by the state after it
-pub step_line_is : (k : ℕ) (x y : State) → y ≡ next x
-    → decimal k ++ codes " " ++ text_at x.program x.pc ++ flat_map (written_text y) (written y (step_entry x)) ++ codes "\n" ≡ step_line k x
-unfolding step_line
-step_line_is k x y e =
-    ap (λ (z : State). decimal k ++ codes " " ++ text_at x.program x.pc ++ flat_map (written_text z) (written z (step_entry x)) ++ codes "\n") e
-
 -- the whole trace
 pub trace_is : (limit most passed : ℕ) (shown : Shown) (x y z : State) → Advances (min limit (shown.from - 1)) x y passed
     → most ≡ min (limit - passed) shown.count → z ≡ plain_end limit x
-    → lines_from (passed + 1) (steps_of most y) ++ end_line limit z ≡ trace_text limit shown x
+    → lines_from shown.only_branches (passed + 1) (steps_of most y) ++ end_line limit z ≡ trace_text limit shown x
 trace_is limit most passed shown x y z run e is =
-    ap (λ (n : ℕ). lines_from (passed + 1) (steps_of n y) ++ end_line limit z) e
-    ∙ ap (λ (text : List ℕ). text ++ end_line limit z) (shown_lines limit (shown.from - 1) shown.count passed x y run)
-    ∙ ap (λ (w : State). lines_from (shown.from - 1 + 1) (take shown.count (drop (shown.from - 1) (steps_of limit x))) ++ end_line limit w) is
+    ap (λ (n : ℕ). lines_from shown.only_branches (passed + 1) (steps_of n y) ++ end_line limit z) e
+    ∙ ap (λ (text : List ℕ). text ++ end_line limit z) (shown_lines shown.only_branches limit (shown.from - 1) shown.count passed x y run)
+    ∙ ap (λ (w : State). lines_from shown.only_branches (shown.from - 1 + 1) (take shown.count (drop (shown.from - 1) (steps_of limit x))) ++ end_line limit w) is
 
 -- what holds anyway
 pub anyway : {A E : Type 0} {P : Type 0} (r : Result A E) → P → OnOk r P

@@ -1,9 +1,14 @@
 -- Steps one after another, and a run as their list.
-use Rattle.std.proofs.Common.{◌≡◌, ◌+◌, ◌-◌, ◌≤◌, ℕ, zero, suc, min, Bool, true, false, List, [], ◌∷◌, drop, take, sym, ap, ◌∙◌, refl, arith, inl, inr}
+use Rattle.std.proofs.Common.{◌≡◌, ◌+◌, ◌-◌, ◌≤◌, ℕ, zero, suc, min, Bool, true, false, List, [], ◌∷◌, drop, take, Option, Some, None, sym, ap, ◌∙◌, refl, arith, inl, inr}
 use Rattle.std.specs.Prelude.{◌⊎◌, if◌then◌else◌}
 use Rattle.std.proofs.lemmas.Bool.{cases_lt}
 use Rattle.bpf_entries.specs.Status.{has_ended}
-use Rattle.bpf_machine.specs.Next.{next}
+use Rattle.std.specs.Option.{option_map_or}
+use Rattle.bpf_machine.specs.Calls.{innermost}
+use Rattle.bpf_machine.specs.Next.{change, changed, next, returned}
+use Rattle.bpf_machine.specs.declared.change.Change.{Change}
+use Rattle.bpf_machine.specs.declared.change.Change.TheVariants.{Set, Go, Store, Fetch, Call, Return, Cell, Trace, Stop}
+use Rattle.bpf_machine.specs.declared.frame.Frame.{Frame}
 use Rattle.bpf_machine.specs.Runs.{state_after, Steps, Advances}
 use Rattle.bpf_machine.specs.State.{State}
 use Rattle.bpf_session.specs.Plain.{plain_end}
@@ -53,6 +58,33 @@ Steps-tail x y n s = record {
   state = s.state ∙ sym (shift n x);
   running = λ k low. ap (λ (w : State). has_ended w.status) (shift k x) ∙ s.running (suc k) (omega (arith, low));
 }
+
+-- the program stays
+returned-program : (x : State) (found : Option Frame) → (option_map_or (returned x) found x).program ≡ x.program
+returned-program x None = refl
+returned-program x (Some f) = refl
+
+changed-program : (x : State) (c : Change) → (changed x c).program ≡ x.program
+unfolding changed
+changed-program x (Set r value after) = refl
+changed-program x (Go after) = refl
+changed-program x (Store a at size value after) = refl
+changed-program x (Fetch a at size value r after) = refl
+changed-program x (Call to) = refl
+changed-program x Return = returned-program x (innermost x)
+changed-program x (Cell a from n after) = refl
+changed-program x (Trace word after) = refl
+changed-program x (Stop status) = refl
+
+pub next-program : (x : State) → (next x).program ≡ x.program
+next-program x = changed-program x (change x)
+
+state_after-program : (k : ℕ) (x : State) → (state_after k x).program ≡ x.program
+state_after-program zero x = refl
+state_after-program (suc k) x = next-program (state_after k x) ∙ state_after-program k x
+
+pub Steps-program : (x y : State) (n : ℕ) → Steps x y n → y.program ≡ x.program
+Steps-program x y n s = ap (λ (z : State). z.program) s.state ∙ state_after-program n x
 
 -- a machine that has ended takes no step
 pub none_ended : (limit : ℕ) (x : State) → has_ended x.status ≡ true → steps_of limit x ≡ []

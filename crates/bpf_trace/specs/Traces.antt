@@ -1,5 +1,5 @@
 -- The text of a trace. bpfdb's own choice.
-use Rattle.std.specs.Prelude.{ℕ, ◌+◌, ◌-◌, if◌then◌else◌, List, [], ◌∷◌, ◌++◌, decimal, drop, flat_map, take}
+use Rattle.std.specs.Prelude.{ℕ, Bool, ◌+◌, ◌-◌, if◌then◌else◌, List, [], ◌∷◌, ◌++◌, decimal, drop, flat_map, take}
 use lib.Chars.{codes}
 use Rattle.bpf_entries.specs.Status.{has_ended}
 use Rattle.bpf_machine.specs.Entries.{step_entry}
@@ -10,6 +10,7 @@ use Rattle.bpf_origin.specs.Writes.{written}
 use Rattle.bpf_origin.specs.declared.place.Part.{Part}
 use Rattle.bpf_session.specs.Plain.{plain_end}
 use Rattle.bpfdb_replies.specs.Texts.{place, text_at}
+use Rattle.bpf_trace.specs.Branches.{branch_line}
 use Rattle.bpf_trace.specs.Runs.{steps_of}
 use Rattle.bpf_trace.specs.declared.trace.Shown.{Shown}
 
@@ -23,10 +24,14 @@ step_line k x =
     decimal k ++ codes " " ++ text_at x.program x.pc
     ++ flat_map (written_text (next x)) (written (next x) (step_entry x)) ++ codes "\n"
 
+-- The line of a step that is shown, where conditional jumps alone are, or each.
+abbrev pub line_of : Bool → ℕ → State → List ℕ
+line_of branches k x = if branches then branch_line k x else step_line k x
+
 -- The lines of steps, numbered from k on.
-abbrev pub lines_from : ℕ → List State → List ℕ
-lines_from k [] = []
-lines_from k (x ∷ xs) = step_line k x ++ lines_from (k + 1) xs
+abbrev pub lines_from : Bool → ℕ → List State → List ℕ
+lines_from branches k [] = []
+lines_from branches k (x ∷ xs) = line_of branches k x ++ lines_from branches (k + 1) xs
 
 -- The steps that are shown of all.
 abbrev pub shown_of : Shown → List State → List State
@@ -40,7 +45,8 @@ limit_line limit slot = codes "step limit " ++ decimal limit ++ codes " reached 
 abbrev pub end_line : ℕ → State → List ℕ
 end_line limit y = if has_ended y.status then place y ++ codes "\n" else limit_line limit y.pc
 
--- The trace of a run: a line a step that is shown, and where it ended.
+-- The trace of a run: the lines of the steps that are shown, and where it ended.
 abbrev pub trace_text : ℕ → Shown → State → List ℕ
 trace_text limit shown x =
-    lines_from (shown.from - 1 + 1) (shown_of shown (steps_of limit x)) ++ end_line limit (plain_end limit x)
+    lines_from shown.only_branches (shown.from - 1 + 1) (shown_of shown (steps_of limit x))
+    ++ end_line limit (plain_end limit x)

@@ -1,12 +1,18 @@
-//! Runs told step by step: a line a step, or how often each instruction ran.
+//! Runs told step by step: a line a step or a conditional jump, or how often each instruction ran.
 #![tactic(auto)]
 
+mod branch;
 mod ending;
+mod head;
 pub mod laws;
+mod line;
+mod parts;
 mod profile;
 mod step;
+mod texts;
 mod trace;
 
 pub use ending::put_limit;
 pub use profile::{Profile, put_profile};
+pub use texts::Texts;
 pub use trace::{Shown, write_trace};

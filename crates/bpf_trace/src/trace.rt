@@ -1,13 +1,19 @@
 //! The trace of a run.
-ghost use Rattle.std.specs.Prelude.{◌≡◌, ◌≤◌, ◌<◌, ◌+◌, ◌-◌, ◌^◌, OnOk};
+ghost use Rattle.std.specs.Prelude.{◌≡◌, ◌≤◌, ◌<◌, ◌+◌, ◌-◌, ◌^◌, OnOk, false};
+ghost use Rattle.bpf_entries.specs.Status.{has_ended};
+ghost use Rattle.bpf_machine.specs.Next.{next};
 ghost use Rattle.bpf_machine.specs.Runs.{Steps};
 ghost use Rattle.bpf_session.specs.Plain.{plain_end};
 ghost use Rattle.bpf_trace.specs.Runs.{IsOnTheWay, steps_of};
-ghost use Rattle.bpf_trace.specs.Traces.{lines_from, trace_text};
+ghost use Rattle.bpf_trace.specs.Texts.{texts_of};
+ghost use Rattle.bpf_trace.specs.Traces.{line_of, lines_from, trace_text};
 ghost use Rattle.counted_io.specs.Writing.{WritesAfter};
 
+use crate::branch::put_branch;
 use crate::ending::put_end;
+use crate::line::Line;
 use crate::step::put_step;
+use crate::texts::Texts;
 use bpf_machine::Cpu;
 use counted_io::{Counted, WriteFault};
 use std::io::Write;
@@ -19,6 +25,8 @@ pub struct Shown {
     pub from: u64,
     /// How many at most.
     pub count: u64,
+    /// Of these, conditional jumps alone.
+    pub only_branches: bool,
 }
 
 impl Shown {
@@ -40,8 +48,10 @@ pub struct Taken {
 }
 
 /// Runs a machine to its end, or to a limit of steps, and writes a line of each step that is shown:
-/// its number, its instruction, and each place that it wrote, with the value there after it. The
-/// last line says where the machine stands: how it ended, or that the limit is reached.
+/// its number, its instruction by the texts of the program, and each place that it wrote, with the
+/// value there after it; or of the conditional jumps among them, each with the registers that it
+/// compared and which way it went. The last line says where the machine stands: how it ended, or that
+/// the limit is reached.
 ///
 /// Steps before the first that is shown, and those behind the last, cost no more than in a run
 /// without history. A write that fails ends it early, with the machine at some state of the run.
@@ -49,9 +59,11 @@ pub fn write_trace<W: Write>(
     cpu: &mut Cpu,
     limit: u64,
     shown: Shown,
+    texts: &Texts,
     writer: &mut Counted<W>,
     so_far: Result<(), WriteFault>,
 ) -> Result<(), WriteFault>
+    requires texts { texts.now ≡ texts_of cpu.old.program }
     ensures text { WritesAfter W.contents writer.old so_far writer.new result
         (trace_text limit shown cpu.old) }
     ensures next { OnOk result (cpu.new ≡ plain_end limit cpu.old) }
@@ -59,7 +71,15 @@ pub fn write_trace<W: Write>(
 {
     let passed = cpu.run(limit.min(shown.before()));
     let left = limit - passed;
-    let taken = put_steps(cpu, passed, left.min(shown.count), writer, so_far);
+    let taken = put_steps(
+        cpu,
+        texts,
+        shown.only_branches,
+        passed,
+        left.min(shown.count),
+        writer,
+        so_far,
+    );
     match taken.written {
         Ok(()) => {}
         Err(fault) => return Err(fault),
@@ -68,20 +88,24 @@ pub fn write_trace<W: Write>(
     put_end(writer, taken.written, limit, cpu)
 }
 
-/// Takes at most so many steps, after some, and writes a line of each.
+/// Takes at most so many steps, after some, and writes the lines of those that are shown.
 fn put_steps<W: Write>(
     cpu: &mut Cpu,
+    texts: &Texts,
+    only_branches: bool,
     passed: u64,
     most: u64,
     writer: &mut Counted<W>,
     so_far: Result<(), WriteFault>,
 ) -> Taken
-    requires { passed + most < 2 ^ 64 }
+    requires counted { passed + most < 2 ^ 64 }
+    requires texts { texts.now ≡ texts_of cpu.old.program }
     ensures text { WritesAfter W.contents writer.old so_far writer.new result.written
-        (lines_from (passed + 1) (steps_of most cpu.old)) }
+        (lines_from only_branches (passed + 1) (steps_of most cpu.old)) }
     ensures steps { Steps cpu.old cpu.new result.steps }
     ensures within { result.steps ≤ most }
 {
+    let mut line = Line::new();
     let mut told = so_far;
     for k in 0..most {
         if cpu.status().has_ended() {
@@ -90,7 +114,15 @@ fn put_steps<W: Write>(
                 steps: k,
             };
         }
-        told = put_step(cpu, passed + k + 1, writer, told);
+        told = put_line(
+            cpu,
+            texts,
+            only_branches,
+            &mut line,
+            passed + k + 1,
+            writer,
+            told,
+        );
         match told {
             Ok(()) => {}
             Err(fault) => {
@@ -104,5 +136,28 @@ fn put_steps<W: Write>(
     Taken {
         written: told,
         steps: most,
+    }
+}
+
+/// Takes a step, and writes its line, if it is shown.
+fn put_line<W: Write>(
+    cpu: &mut Cpu,
+    texts: &Texts,
+    only_branches: bool,
+    line: &mut Line,
+    number: u64,
+    writer: &mut Counted<W>,
+    so_far: Result<(), WriteFault>,
+) -> Result<(), WriteFault>
+    requires runs { has_ended cpu.old.status ≡ false }
+    requires texts { texts.now ≡ texts_of cpu.old.program }
+    ensures next { cpu.new ≡ next cpu.old }
+    ensures text { WritesAfter W.contents writer.old so_far writer.new result
+        (line_of only_branches number cpu.old) }
+{
+    if only_branches {
+        put_branch(cpu, texts, line, number, writer, so_far)
+    } else {
+        put_step(cpu, texts, line, number, writer, so_far)
     }
 }

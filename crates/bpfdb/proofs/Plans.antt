@@ -13,10 +13,10 @@ pub ends_plan_with : {R W E : Type 0} (bytes_at : List ℕ → Option (List ℕ)
     (lines : E → Option (List ℕ)) (at_terminal : Bool) (plan : Plan) (reader reader' : Tally R) (writer writer' : Tally W) (errors errors' : Tally E) (status : ℕ)
     → DoesPlan bytes_at remaining contents lines at_terminal plan reader reader' writer writer' errors errors' status → status ≢ 2 → EndsPlanWith plan status
 ends_plan_with bytes_at remaining contents lines at_terminal plan r r' w w' e e' status (Unread fault why same kept told two) other = absurd (other two)
-ends_plan_with bytes_at remaining contents lines at_terminal plan r r' w w' e e' status (Done of_file of_path of_script job are is does) other = record {
+ends_plan_with bytes_at remaining contents lines at_terminal plan r r' w w' e e' status (Done of_file of_path of_other job are is does) other = record {
   of_file = of_file;
   of_path = of_path;
-  of_script = of_script;
+  of_other = of_other;
   job = job;
   is = is;
   ends = ends_with remaining contents lines job.subcommand job r r' w w' e does.told status does.does other;

@@ -26,8 +26,8 @@ pub data DoesPlan {R W E : Type 0} (bytes_at : List ℕ → Option (List ℕ)) (
     (errors errors' : Tally E) (status : ℕ) : Type 0 where
   Unread : (fault : JobFault) → IsUnread bytes_at plan fault → reader' ≡ reader → writer' ≡ writer → Told lines errors errors' (line_of fault)
       → status ≡ 2 → DoesPlan bytes_at remaining contents lines at_terminal plan reader reader' writer writer' errors errors' status
-  Done : (of_file of_path of_script : List ℕ) → (job : Job) → AreRead bytes_at plan of_file of_path of_script
-      → IsJobOf plan of_file of_path of_script job
+  Done : (of_file of_path of_other : List ℕ) → (job : Job) → AreRead bytes_at plan of_file of_path of_other
+      → IsJobOf plan of_file of_path of_other job
       → DoesHinted remaining contents lines at_terminal job reader reader' writer writer' errors errors' status
       → DoesPlan bytes_at remaining contents lines at_terminal plan reader reader' writer writer' errors errors' status
 
@@ -35,9 +35,9 @@ pub data DoesPlan {R W E : Type 0} (bytes_at : List ℕ → Option (List ℕ)) (
 pub record EndsPlanWith (plan : Plan) (status : ℕ) : Type 0 where
   pub of_file : List ℕ
   pub of_path : List ℕ
-  pub of_script : List ℕ
+  pub of_other : List ℕ
   pub job : Job
-  pub is : IsJobOf plan of_file of_path of_script job
+  pub is : IsJobOf plan of_file of_path of_other job
   pub ends : EndsWith job.subcommand job status
 
 -- A text was written as help; or a beginning of it; or memory ran out, and nothing was written.

@@ -37,19 +37,19 @@ abbrev pub NamesGiven : Option (Bor (List ℕ)) → JobFault → Type 0
 NamesGiven (Some path) fault = Names path.now fault
 NamesGiven None fault = ⊥
 
--- The bytes of FILE, of PATH and of the script, where the bytes of files are known.
-pub record AreRead (bytes_at : List ℕ → Option (List ℕ)) (plan : Plan) (of_file of_path of_script : List ℕ) : Type 0 where
+-- The bytes of FILE, of PATH and of the other file, where the bytes of files are known.
+pub record AreRead (bytes_at : List ℕ → Option (List ℕ)) (plan : Plan) (of_file of_path of_other : List ℕ) : Type 0 where
   pub file : Gives (kind_of plan) (bytes_at plan.file.now) (Some of_file)
   pub context : GivesNamed bytes_at Context plan.memory of_path
-  pub script : GivesNamed bytes_at Source plan.script of_script
+  pub other : GivesNamed bytes_at Source plan.other of_other
 
 -- Why they aren't read: by the first of them that can't be.
 pub data IsUnread (bytes_at : List ℕ → Option (List ℕ)) (plan : Plan) (fault : JobFault) : Type 0 where
   OfFile : Names plan.file.now fault → IsUnread bytes_at plan fault
   OfPath : (of_file : List ℕ) → Gives (kind_of plan) (bytes_at plan.file.now) (Some of_file) → NamesGiven plan.memory fault
       → IsUnread bytes_at plan fault
-  OfScript : (of_file of_path : List ℕ) → Gives (kind_of plan) (bytes_at plan.file.now) (Some of_file)
-      → GivesNamed bytes_at Context plan.memory of_path → NamesGiven plan.script fault → IsUnread bytes_at plan fault
+  OfOther : (of_file of_path : List ℕ) → Gives (kind_of plan) (bytes_at plan.file.now) (Some of_file)
+      → GivesNamed bytes_at Context plan.memory of_path → NamesGiven plan.other fault → IsUnread bytes_at plan fault
 
 -- The program that is built in: r0 = 42, and the end.
 abbrev pub first_program : List ℕ

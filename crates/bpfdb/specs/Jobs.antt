@@ -10,11 +10,11 @@ IsNamed None bytes given = given ≡ None
 IsNamed (Some path) bytes None = ⊥
 IsNamed (Some path) bytes (Some given) = given.now ≡ bytes
 
--- It has the plan's subcommand and options, the name of FILE and its bytes, those of PATH, and those of the script, if there is one.
-pub record IsJobOf (plan : Plan) (of_file of_path of_script : List ℕ) (job : Job) : Type 0 where
+-- It has the plan's subcommand and options, the name of FILE and its bytes, those of PATH, and those of the other file, if there is one.
+pub record IsJobOf (plan : Plan) (of_file of_path of_other : List ℕ) (job : Job) : Type 0 where
   pub subcommand : job.subcommand ≡ plan.subcommand
   pub name : job.name.now ≡ plan.file.now
   pub file : job.file.now ≡ of_file
   pub context : job.context.now ≡ of_path
-  pub script : IsNamed plan.script of_script job.script
+  pub other : IsNamed plan.other of_other job.other
   pub options : job.options ≡ plan.options

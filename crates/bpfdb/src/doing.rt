@@ -16,7 +16,7 @@ use counted_io::{Counted, WriteFault, write_text};
 use std::alloc::Global;
 use std::io::{Read, Write};
 
-/// Reads the files of a plan, FILE before PATH is opened, and that before the script; then does its
+/// Reads the files of a plan, FILE before PATH is opened, and that before the other one; then does its
 /// job. Where standard error is a terminal, the job's hint follows, if there is one. Answers the exit
 /// status.
 pub fn do_plan<F: Opener, R: Read, W: Write, E: Write>(
@@ -41,8 +41,8 @@ pub fn do_plan<F: Opener, R: Read, W: Write, E: Write>(
         Ok(context) => context,
         Err(fault) => return give_up(errors, &fault),
     };
-    let script = match read_given(alloc, files, plan.script, FileKind::Source) {
-        Ok(script) => script,
+    let other = match read_given(alloc, files, plan.other, FileKind::Source) {
+        Ok(other) => other,
         Err(fault) => return give_up(errors, &fault),
     };
     do_read(
@@ -50,7 +50,7 @@ pub fn do_plan<F: Opener, R: Read, W: Write, E: Write>(
         plan,
         file.as_slice(),
         context.as_slice(),
-        script.as_slice(),
+        other.as_slice(),
         at_terminal,
         reader,
         writer,
@@ -58,26 +58,26 @@ pub fn do_plan<F: Opener, R: Read, W: Write, E: Write>(
     )
 }
 
-/// Does the job of a plan, with the bytes of FILE, those of PATH and those of the script, and adds its
-/// hint.
+/// Does the job of a plan, with the bytes of FILE, those of PATH and those of the other file, and adds
+/// its hint.
 fn do_read<R: Read, W: Write, E: Write>(
     alloc: Global,
     plan: &Plan<'_>,
     file: &[u8],
     context: &[u8],
-    script: &[u8],
+    other: &[u8],
     at_terminal: bool,
     reader: &mut Counted<R>,
     writer: &mut Counted<W>,
     errors: &mut Counted<E>,
 ) -> u8
     requires limit { IsLimit plan.now.options.limit }
-    ensures does { (job : Job) × IsJobOf plan.now file.now context.now script.now job
+    ensures does { (job : Job) × IsJobOf plan.now file.now context.now other.now job
         × DoesHinted R.remaining W.contents E.contents at_terminal job reader.old reader.new
         writer.old writer.new errors.old errors.new result }
     ensures status { result ≤ 2 }
 {
-    let job = job_of(plan, file, context, script);
+    let job = job_of(plan, file, context, other);
     let status = tool(alloc, &job, reader, writer, errors);
     add_hint(alloc, &job, at_terminal, status, errors);
     status

@@ -1,4 +1,4 @@
-//! FILE, PATH and the script: files by their names.
+//! FILE, PATH and the other file: files by their names.
 ghost use Rattle.std.specs.Prelude.{◌≡◌, IfErr, IfOk, Some};
 ghost use Rattle.bpfdb.specs.Files.{GivesNamed, Names, NamesGiven, kind_of};
 ghost use Rattle.bpfdb_files.specs.Reading.{Gives};

@@ -46,7 +46,7 @@ pub const FIRST_PLAN: Plan<'static> = Plan {
     subcommand: Subcommand::Debug,
     file: "",
     memory: None,
-    script: None,
+    other: None,
     options: NO_OPTIONS,
 };
 

@@ -1,4 +1,4 @@
--- The command line as `clap` is told of it: eleven subcommands, the options of each, and FILE.
+-- The command line as `clap` is told of it: twelve subcommands, the options of each, and FILE.
 use Rattle.std.specs.Prelude.{[], ◌∷◌, Some, true, codes}
 use Rattle.clap.specs.Words.{App, Rule, Text, new_app, new_rule, with_rule, with_subcommand}
 use Rattle.clap.specs.declared.builder.action.ArgAction.TheVariants.{SetTrue}
@@ -13,7 +13,8 @@ mem_rule = record (new_rule (codes "mem")) { short = Some 109; long = Some (code
 abbrev pub maps_rule : Rule
 maps_rule = record (new_rule (codes "maps")) { long = Some (codes "maps"); value_names = 1 }
 
--- `--journal J`: a number below 2^64, with a default. That of `gdb` and `origin`, whose histories are longer, is greater.
+-- `--journal J`: a number below 2^64, with a default. That of `gdb`, `origin` and `whynot`, whose histories are longer, is
+-- greater.
 abbrev pub journal_rule_with : Text → Rule
 journal_rule_with default = record (new_rule (codes "journal")) {
   long = Some (codes "journal");
@@ -54,6 +55,10 @@ count_rule = record (new_rule (codes "count")) {
   parser = Some (vp.Unsigned 1 greatest_count);
 }
 
+-- `--branches`: conditional jumps alone.
+abbrev pub branches_rule : Rule
+branches_rule = record (new_rule (codes "branches")) { long = Some (codes "branches"); action = Some SetTrue }
+
 -- `--profile`: how often each instruction runs.
 abbrev pub profile_rule : Rule
 profile_rule = record (new_rule (codes "profile")) { long = Some (codes "profile"); action = Some SetTrue }
@@ -78,6 +83,14 @@ stub_rule = record (new_rule (codes "stub")) { long = Some (codes "stub"); value
 abbrev pub as_compiled_rule : Rule
 as_compiled_rule = record (new_rule (codes "as-compiled")) { long = Some (codes "as-compiled"); action = Some SetTrue }
 
+-- `--with OBJECT`: an object with functions that answer calls.
+abbrev pub with_functions_rule : Rule
+with_functions_rule = record (new_rule (codes "with")) { long = Some (codes "with"); value_names = 1 }
+
+-- `--joined`: the object that is linked is written.
+abbrev pub joined_rule : Rule
+joined_rule = record (new_rule (codes "joined")) { long = Some (codes "joined"); action = Some SetTrue }
+
 -- `--registers NAME`: the machine that gdb is told of.
 abbrev pub registers_rule : Rule
 registers_rule = record (new_rule (codes "registers")) { long = Some (codes "registers"); value_names = 1; defaults = codes "x86" ∷ [] }
@@ -99,6 +112,10 @@ lines_rule = record (new_rule (codes "lines")) {
 abbrev pub addresses_rule : Rule
 addresses_rule = record (new_rule (codes "addresses")) { long = Some (codes "addresses"); action = Some SetTrue }
 
+-- `--alone`: where the values came from that decided it is left out.
+abbrev pub alone_rule : Rule
+alone_rule = record (new_rule (codes "alone")) { long = Some (codes "alone"); action = Some SetTrue }
+
 -- `--only NAME`: the tests of this name.
 abbrev pub only_rule : Rule
 only_rule = record (new_rule (codes "only")) { long = Some (codes "only"); value_names = 1 }
@@ -111,6 +128,10 @@ show_rule = record (new_rule (codes "show")) { long = Some (codes "show"); value
 abbrev pub what_rule : Rule
 what_rule = record (new_rule (codes "what")) { index = Some 2; value_names = 1 }
 
+-- WHAT of `whynot`, which needs it.
+abbrev pub goal_rule : Rule
+goal_rule = record (new_rule (codes "what")) { required = true; index = Some 2; value_names = 1 }
+
 -- FILE, which each subcommand needs.
 abbrev pub file_rule : Rule
 file_rule = record (new_rule (codes "file")) { required = true; value_names = 1 }
@@ -121,8 +142,8 @@ run_app = with_rule (with_rule (with_rule (with_rule (with_rule (new_app (codes 
     mem_rule) maps_rule) steps_rule) listing_rule) file_rule
 
 abbrev pub trace_app : App
-trace_app = with_rule (with_rule (with_rule (with_rule (with_rule (with_rule (with_rule (with_rule (new_app (codes "trace"))
-    mem_rule) maps_rule) steps_rule) from_rule) count_rule) profile_rule) listing_rule) file_rule
+trace_app = with_rule (with_rule (with_rule (with_rule (with_rule (with_rule (with_rule (with_rule (with_rule (new_app (codes "trace"))
+    mem_rule) maps_rule) steps_rule) from_rule) count_rule) branches_rule) profile_rule) listing_rule) file_rule
 
 abbrev pub debug_app : App
 debug_app = with_rule (with_rule (with_rule (with_rule (with_rule (with_rule (new_app (codes "debug"))
@@ -141,7 +162,9 @@ abbrev pub check_app : App
 check_app = with_rule (with_rule (with_rule (new_app (codes "check")) maps_rule) listing_rule) file_rule
 
 abbrev pub link_app : App
-link_app = with_rule (with_rule (with_rule (with_rule (with_rule (new_app (codes "link")) section_rule) entry_rule) stub_rule) as_compiled_rule) file_rule
+link_app =
+    with_rule (with_rule (with_rule (with_rule (with_rule (with_rule (with_rule (new_app (codes "link"))
+    section_rule) entry_rule) stub_rule) as_compiled_rule) with_functions_rule) joined_rule) file_rule
 
 abbrev pub test_app : App
 test_app = with_rule (with_rule (with_rule (new_app (codes "test")) only_rule) show_rule) file_rule
@@ -156,11 +179,16 @@ abbrev pub origin_app : App
 origin_app = with_rule (with_rule (with_rule (with_rule (with_rule (with_rule (with_rule (with_rule (with_rule (with_rule (new_app (codes "origin"))
     mem_rule) maps_rule) gdb_journal_rule) steps_rule) script_rule) listing_rule) lines_rule) addresses_rule) what_rule) file_rule
 
+-- `whynot` does so, too.
+abbrev pub whynot_app : App
+whynot_app = with_rule (with_rule (with_rule (with_rule (with_rule (with_rule (with_rule (with_rule (with_rule (with_rule (with_rule (new_app (codes "whynot"))
+    mem_rule) maps_rule) gdb_journal_rule) steps_rule) script_rule) listing_rule) lines_rule) addresses_rule) alone_rule) goal_rule) file_rule
+
 -- The command without its subcommands: it can't stand without one, and it tells its version.
 abbrev pub bare_app : App
 bare_app = record (new_app (codes "bpfdb")) { top = record (new_app (codes "bpfdb")).top { subcommand_required = true; has_version = true } }
 
 -- The command with its subcommands.
 unfoldable pub command_app : App
-command_app = with_subcommand (with_subcommand (with_subcommand (with_subcommand (with_subcommand (with_subcommand (with_subcommand (with_subcommand (with_subcommand (with_subcommand (with_subcommand bare_app
-    run_app.top) trace_app.top) debug_app.top) origin_app.top) gdb_app.top) asm_app.top) disasm_app.top) lines_app.top) check_app.top) link_app.top) test_app.top
+command_app = with_subcommand (with_subcommand (with_subcommand (with_subcommand (with_subcommand (with_subcommand (with_subcommand (with_subcommand (with_subcommand (with_subcommand (with_subcommand (with_subcommand bare_app
+    run_app.top) trace_app.top) debug_app.top) origin_app.top) whynot_app.top) gdb_app.top) asm_app.top) disasm_app.top) lines_app.top) check_app.top) link_app.top) test_app.top

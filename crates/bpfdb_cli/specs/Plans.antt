@@ -48,25 +48,36 @@ pub record Chooses (rows : List Row) (options : Options) : Type 0 where
   pub limit : options.limit ≡ number_or default_limit (first_of (codes "steps") rows)
   pub from : options.from ≡ number_or 1 (first_of (codes "from") rows)
   pub count : options.count ≡ number_or greatest_count (first_of (codes "count") rows)
+  pub branches : options.only_branches ≡ is_given (first_of (codes "branches") rows)
   pub profile : options.is_profile ≡ is_given (first_of (codes "profile") rows)
   pub listing : options.is_listing ≡ is_given (first_of (codes "listing") rows)
   pub section : option_map (λ s. s.now) options.section ≡ first_of (codes "section") rows
   pub entry : option_map (λ s. s.now) options.entry ≡ first_of (codes "entry") rows
   pub stubs : option_map (λ s. s.now) options.stubs ≡ first_of (codes "stub") rows
   pub as_compiled : options.as_compiled ≡ is_given (first_of (codes "as-compiled") rows)
+  pub joined : options.is_joined ≡ is_given (first_of (codes "joined") rows)
   pub registers : NamesRegisters (first_of (codes "registers") rows) options.registers
   pub what : option_map (λ s. s.now) options.what ≡ first_of (codes "what") rows
   pub lines : options.lines ≡ number_or default_lines (first_of (codes "lines") rows)
   pub addresses : options.addresses ≡ is_given (first_of (codes "addresses") rows)
+  pub alone : options.alone ≡ is_given (first_of (codes "alone") rows)
   pub only : option_map (λ s. s.now) options.only ≡ first_of (codes "only") rows
   pub show : NamesPart (first_of (codes "show") rows) options.show
+
+-- The other file: a script, or an object with functions. No subcommand takes both.
+abbrev pub given_or : Option Text → Option Text → Option Text
+given_or (Some text) other = Some text
+given_or None other = other
+
+abbrev pub other_in : List Row → Option Text
+other_in rows = given_or (first_of (codes "script") rows) (first_of (codes "with") rows)
 
 -- A plan says what they say.
 pub record Says (name : Text) (rows : List Row) (plan : Plan) : Type 0 where
   pub subcommand : subcommand_name plan.subcommand ≡ name
   pub file : first_of (codes "file") rows ≡ Some plan.file.now
   pub memory : option_map (λ s. s.now) plan.memory ≡ first_of (codes "mem") rows
-  pub script : option_map (λ s. s.now) plan.script ≡ first_of (codes "script") rows
+  pub other : option_map (λ s. s.now) plan.other ≡ other_in rows
   pub options : Chooses rows plan.options
 
 -- A number that is given is one below 2^64.

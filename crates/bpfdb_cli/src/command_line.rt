@@ -74,6 +74,7 @@ fn argument_of<'a>(alloc: Global, option: CliOption) -> Arg<'a>
             count_option(alloc, "from", "K", help::FROM, help::FROM_LONG).default_value("1")
         }
         CliOption::Count => count_option(alloc, "count", "N", help::COUNT, help::COUNT_LONG),
+        CliOption::Branches => flag(alloc, "branches", help::BRANCHES),
         CliOption::Profile => flag(alloc, "profile", help::PROFILE),
         CliOption::Listing => flag(alloc, "listing", help::LISTING),
         CliOption::Registers => text_option(
@@ -97,6 +98,8 @@ fn argument_of<'a>(alloc: Global, option: CliOption) -> Arg<'a>
             text_option(alloc, "script", "PATH", help::SCRIPT, help::SCRIPT_LONG)
         }
         CliOption::AsCompiled => flag(alloc, "as-compiled", help::AS_COMPILED),
+        CliOption::With => text_option(alloc, "with", "OBJECT", help::WITH, help::WITH_LONG),
+        CliOption::Joined => flag(alloc, "joined", help::JOINED),
         CliOption::Lines => count_option(
             alloc,
             "lines",
@@ -105,12 +108,18 @@ fn argument_of<'a>(alloc: Global, option: CliOption) -> Arg<'a>
             help::LINES_MOST_LONG,
         ).default_value("1000"),
         CliOption::Addresses => flag(alloc, "addresses", help::ADDRESSES),
+        CliOption::Alone => flag(alloc, "alone", help::ALONE),
         CliOption::Only => text_option(alloc, "only", "NAME", help::ONLY, help::ONLY_LONG),
         CliOption::Show => text_option(alloc, "show", "PART", help::SHOW, help::SHOW_LONG),
         CliOption::What => Arg::new(alloc, "what")
             .index(2)
             .value_name("WHAT")
             .help(help::WHAT),
+        CliOption::Goal => Arg::new(alloc, "what")
+            .index(2)
+            .required(true)
+            .value_name("WHAT")
+            .help(help::GOAL),
     }
 }
 

@@ -29,11 +29,11 @@ pub const BPFDB_EXAMPLE: &str = "Example:
   2 back; done; at 0: add r0, 1
 
 Exit status: 0; 1 where `run` or `trace` ends in a fault or at the limit of steps, a test
-fails or an answer of `origin` is cut; 2 where the command line or the program is refused,
-input or output fails, or memory runs out.
+fails or an answer of `origin` or `whynot` is cut; 2 where the command line or the program is
+refused, input or output fails, or memory runs out.
 Results go to standard output, and so do the replies of a session, refusals among them.
-Where it ends with 1 or 2 a line on standard error says why; but `trace`, `test` and
-`origin` say in their output why they end with 1.";
+Where it ends with 1 or 2 a line on standard error says why; but `trace`, `test`, `origin`
+and `whynot` say in their output why they end with 1.";
 
 pub const RUN: &str = "Runs a program to its end and prints r0";
 
@@ -56,13 +56,18 @@ Reads FILE, and the context from the file that -m names. Writes a line a step to
 output: its number, its slot and instruction, and each place that it wrote, with the value
 there after it, whether that changed or not. The last line says where the program ended, or
 that the limit of steps is reached; then, and where it faults, the exit status is 1.
---profile tells how often each instruction ran, in place of the steps.";
+--branches shows of these steps the conditional jumps alone: the registers that each one
+compared, and whether it jumped or went on. --profile tells how often each instruction ran,
+in place of the steps.";
 
 pub const TRACE_EXAMPLE: &str = "Example:
   $ bpfdb trace --from 5 --listing count.s
   5 0: add r0, 1; r0 = 0x3
   6 1: jlt r0, 3, L0
   7 2: exit
+  exited at 2: r0 0x3
+  $ bpfdb trace --branches --count 2 --listing count.s
+  2 1: jlt r0, 3, L0; r0 = 0x1; jumped
   exited at 2: r0 0x3
   $ bpfdb trace --profile --listing count.s
   3 0: add r0, 1
@@ -119,6 +124,31 @@ pub const ORIGIN_EXAMPLE: &str = "Example:
   -5 r0 = 0x2; 0: add r0, 1; from r0
   -7 r0 = 0x1; 0: add r0, 1; from r0
   left r0 = 0x0; at the opening";
+
+pub const WHYNOT: &str = "Runs a program to its end and shows why it did not come to a slot";
+
+pub const WHYNOT_LONG: &str = "Runs a program to its end and shows why it did not come to a slot.
+
+Reads FILE and the context, and runs the program to its end or to the limit of steps; with
+--script it obeys commands instead, edits and steps back among them, and asks where they
+lead. WHAT is a slot, or slots with commas between: then it is asked about any of them.
+
+Writes to standard output where the program stands, then the latest kept move from whose
+state the program's jumps, calls and returns lead to the slot, whatever conditions decide,
+and from whose next state they don't: how many moves back, the instruction, the values
+that it compared, and where it went. Unless --alone is given the place of that instruction
+follows, and where those values came from, as `origin` shows it there. If that is cut
+(--lines), its last line says so, and the exit status is 1.
+
+Other answers: it was reached, by the move that stood at the slot and left it out of reach;
+it can still be reached; it was out of reach from the opening, or before what is kept.";
+
+pub const WHYNOT_EXAMPLE: &str = "Example:
+  $ bpfdb whynot --listing first.s 1
+  exited at 4: r0 0x1
+  -3 0: jeq r1, 0, L3; r1 = 0x0; jumped to 3
+  at 0: jeq r1, 0, L3
+  left r1 = 0x0; at the opening";
 
 pub const ASM: &str = "Assembles a listing to raw words";
 
@@ -272,6 +302,9 @@ pub const COUNT_LONG: &str =
     "Most steps that are shown, 1 to 1000000000. Without it all are, from the first one on.
 Example: --count 20";
 
+/// `--branches`.
+pub const BRANCHES: &str = "Shows the conditional jumps alone, and which way each went";
+
 /// `--profile`.
 pub const PROFILE: &str = "Tells how often each instruction ran, and no steps";
 
@@ -309,6 +342,17 @@ and -2147483648 to 2147483647. Nothing else happens at such a call.
 Example: --stub 5=0,14=-1";
 
 /// `--script`.
+pub const WITH: &str = "Object with functions that answer what FILE's code calls";
+
+pub const WITH_LONG: &str =
+    "Object with functions that answer what FILE's code calls: a call of a helper of the kernel
+becomes a call of its function of the helper's name, as bpf_ktime_get_ns, and a symbol that
+FILE leaves undefined is its symbol of that name. If it has bpf_map_lookup_elem, maps of any
+kind are data of its own. Example: --with bpfdb-linux.o";
+
+pub const JOINED: &str =
+    "Writes the object of FILE and --with together, and not the program: for gdb, or to link again";
+
 pub const SCRIPT: &str = "Script that is obeyed in place of a run, as `debug` obeys it";
 
 pub const SCRIPT_LONG: &str =
@@ -330,6 +374,9 @@ pub const LINES_MOST_LONG: &str =
 /// `--addresses`.
 pub const ADDRESSES: &str = "Follows the registers that make addresses, too";
 
+/// `--alone`.
+pub const ALONE: &str = "Leaves out where the values came from that decided it";
+
 /// `--only NAME`.
 pub const ONLY: &str = "Runs the tests of this name alone";
 
@@ -349,6 +396,9 @@ Example: --show program";
 
 /// WHAT.
 pub const WHAT: &str = "r0 to r9, or ADDRESS:COUNT; without it r0, or the address of a bad access";
+
+/// WHAT of `whynot`.
+pub const GOAL: &str = "Slot, or slots with commas between";
 
 /// FILE.
 pub const PROGRAM: &str = "Program: its raw words, or with --listing its listing";

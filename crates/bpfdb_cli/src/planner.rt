@@ -4,7 +4,7 @@ ghost use Rattle.std.specs.Str.Parse.{IsNumeral, digits_value, without_leading_p
 ghost use Rattle.clap.specs.Words.{Row, Text, first_of, found_of, rows_of, subcommand_rows_of};
 ghost use Rattle.bpfdb_limits.specs.Limits.{IsLimit};
 ghost use Rattle.bpfdb_cli.specs.Scaffolding.{AskAlike};
-ghost use Rattle.bpfdb_cli.specs.Plans.{AreInRange, Chooses, HasKindIfTold, IsFaultOf, IsPlan, IsPlanOf, NamesPart, NamesRegisters, Says, Tells, is_given, number_or};
+ghost use Rattle.bpfdb_cli.specs.Plans.{AreInRange, Chooses, HasKindIfTold, IsFaultOf, IsPlan, IsPlanOf, NamesPart, NamesRegisters, Says, Tells, is_given, number_or, other_in};
 
 use crate::command_line::command_line;
 use crate::plans::{Plan, PlanFault};
@@ -116,7 +116,7 @@ fn plan_in<'a>(name: &'a str, found: &ArgMatches<'a>) -> Option<Plan<'a>>
         subcommand,
         file,
         memory: text_of(found, "mem"),
-        script: text_of(found, "script"),
+        other: other_of(found),
         options,
     })
 }
@@ -149,19 +149,32 @@ fn options_in<'a>(found: &ArgMatches<'a>) -> Option<Options<'a>>
         limit,
         from,
         count,
+        only_branches: is_given(text_of(found, "branches")),
         is_profile: is_given(text_of(found, "profile")),
         is_listing: is_given(text_of(found, "listing")),
         section: text_of(found, "section"),
         entry: text_of(found, "entry"),
         stubs: text_of(found, "stub"),
         as_compiled: is_given(text_of(found, "as-compiled")),
+        is_joined: is_given(text_of(found, "joined")),
         registers,
         what: text_of(found, "what"),
         lines,
         addresses: is_given(text_of(found, "addresses")),
+        alone: is_given(text_of(found, "alone")),
         only: text_of(found, "only"),
         show,
     })
+}
+
+/// The path of the other file: of the script, or of the object with functions.
+fn other_of<'a>(found: &ArgMatches<'a>) -> Option<&'a str>
+    ensures { option_map (λ text. text.now) result ≡ other_in (rows_of (found_of found.now)) }
+{
+    match text_of(found, "script") {
+        Some(path) => Some(path),
+        None => text_of(found, "with"),
+    }
 }
 
 /// The machine of this name, the default where none is named.

@@ -14,9 +14,9 @@ pub struct Plan<'a> {
     pub file: &'a str,
     /// The path of the file whose bytes are the context; without one the context is empty.
     pub memory: Option<&'a str>,
-    /// The path of the file whose lines are obeyed before `origin` asks; without one the program
-    /// runs.
-    pub script: Option<&'a str>,
+    /// The path of the other file: of the script that is obeyed before `origin` asks, or of the
+    /// object with functions that `link` joins to FILE.
+    pub other: Option<&'a str>,
     pub options: Options<'a>,
 }
 

@@ -10,7 +10,7 @@ pub(crate) enum CliOption {
     Maps,
     /// `--journal J`.
     Journal,
-    /// `--journal J` of `gdb` and `origin`, whose histories are longer.
+    /// `--journal J` of `gdb`, `origin` and `whynot`, whose histories are longer.
     GdbJournal,
     /// `--steps N`.
     Steps,
@@ -18,6 +18,8 @@ pub(crate) enum CliOption {
     From,
     /// `--count N`.
     Count,
+    /// `--branches`.
+    Branches,
     /// `--profile`.
     Profile,
     /// `--listing`.
@@ -34,16 +36,24 @@ pub(crate) enum CliOption {
     Script,
     /// `--as-compiled`.
     AsCompiled,
+    /// `--with OBJECT`.
+    With,
+    /// `--joined`.
+    Joined,
     /// `--lines N`.
     Lines,
     /// `--addresses`.
     Addresses,
+    /// `--alone`.
+    Alone,
     /// `--only NAME`.
     Only,
     /// `--show PART`.
     Show,
     /// WHAT, behind FILE.
     What,
+    /// WHAT of `whynot`, which needs it.
+    Goal,
 }
 
 /// A subcommand: its texts of help, and the options that it takes besides FILE.
@@ -58,7 +68,7 @@ pub(crate) struct CliSubcommand<'a> {
 }
 
 /// The subcommands, as help lists them.
-pub(crate) const SUBCOMMANDS: [CliSubcommand<'static>; 11] = [
+pub(crate) const SUBCOMMANDS: [CliSubcommand<'static>; 12] = [
     CliSubcommand {
         name: "run",
         about: help::RUN,
@@ -83,6 +93,7 @@ pub(crate) const SUBCOMMANDS: [CliSubcommand<'static>; 11] = [
             CliOption::Steps,
             CliOption::From,
             CliOption::Count,
+            CliOption::Branches,
             CliOption::Profile,
             CliOption::Listing,
         ],
@@ -117,6 +128,25 @@ pub(crate) const SUBCOMMANDS: [CliSubcommand<'static>; 11] = [
             CliOption::Lines,
             CliOption::Addresses,
             CliOption::What,
+        ],
+        file: help::PROGRAM,
+    },
+    CliSubcommand {
+        name: "whynot",
+        about: help::WHYNOT,
+        long_about: help::WHYNOT_LONG,
+        example: help::WHYNOT_EXAMPLE,
+        options: &[
+            CliOption::Mem,
+            CliOption::Maps,
+            CliOption::GdbJournal,
+            CliOption::Steps,
+            CliOption::Script,
+            CliOption::Listing,
+            CliOption::Lines,
+            CliOption::Addresses,
+            CliOption::Alone,
+            CliOption::Goal,
         ],
         file: help::PROGRAM,
     },
@@ -177,6 +207,8 @@ pub(crate) const SUBCOMMANDS: [CliSubcommand<'static>; 11] = [
             CliOption::Entry,
             CliOption::Stub,
             CliOption::AsCompiled,
+            CliOption::With,
+            CliOption::Joined,
         ],
         file: help::OBJECT_FILE,
     },

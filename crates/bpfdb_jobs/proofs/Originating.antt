@@ -20,7 +20,7 @@ use Rattle.bpfdb_jobs.specs.Jobs.{Prints, arrival_of, origin_print, start_of}
 use Rattle.bpfdb_jobs.specs.Obeying.{ObeysScript, arrived}
 use Rattle.bpfdb_jobs.specs.Openings.{HasArrived, IsOpening, IsStart}
 use Rattle.bpfdb_jobs.specs.Origins.{Asks, RefusesWhat, arrival, bounds, obeyed, question_by, run_arrival, run_history}
-use Rattle.bpfdb_jobs.specs.Refusals.{RefusesAs, RefusesOrigin}
+use Rattle.bpfdb_jobs.specs.Refusals.{RefusesArrival, RefusesAs}
 use Rattle.bpfdb_jobs.specs.declared.job.Job.{Job}
 use Rattle.bpfdb_jobs.specs.declared.refusal.JobRefusal.TheVariants as jobs
 use Rattle.bpfdb_options.specs.declared.subcommand.Subcommand.TheVariants.{Origin}
@@ -41,7 +41,7 @@ module _ (job : Job) (old new : Moment RingKeeper) (n : ℕ) (start : IsStart jo
       ∙ ap (λ (x : State). history_after job.options.journal (plain_steps job.options.limit x) x []) start.state
 
   -- so it stands where it is asked without a script
-  pub run-arrives : job.script ≡ None → HasArrived job new n
+  pub run-arrives : job.other ≡ None → HasArrived job new n
   run-arrives none = record {
     code = start.code;
     at = run_arrival job.options first;
@@ -53,7 +53,7 @@ module _ (job : Job) (old new : Moment RingKeeper) (n : ℕ) (start : IsStart jo
   }
 
 -- a session that has obeyed the job's script, from its opening
-module _ (job : Job) (script : Bor (List ℕ)) (given : job.script ≡ Some script) (old new : SessionValue RingKeeper) (start : IsOpening job old) where
+module _ (job : Job) (script : Bor (List ℕ)) (given : job.other ≡ Some script) (old new : SessionValue RingKeeper) (start : IsOpening job old) where
   abbrev begins : Point
   begins = (start_of job start.code).point
 
@@ -83,7 +83,7 @@ module _ (job : Job) (script : Bor (List ℕ)) (given : job.script ≡ Some scri
 
   -- a line of it is refused
   pub script-refuses : (refusal : Refusal) → ((t : Track) → ObeysScript old new t (lines script.now) 0 (Err refusal))
-      → RefusesOrigin job (jobs.Script refusal)
+      → RefusesArrival job (jobs.Script refusal)
   script-refuses refusal obeys = (start.code, start.opens, sym same ∙ obeys (track_at begins) past)
 
 -- how a question is asked over a history behind so many moves

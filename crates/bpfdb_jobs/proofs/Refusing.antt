@@ -4,10 +4,10 @@ use Rattle.bpf_isa.specs.Programs.{Checked}
 use Rattle.bpf_ring.specs.declared.fault.JournalFault.TheVariants.{OutOfMemory}
 use Rattle.bpfdb_jobs.specs.Faults.{refusal_line, session_line}
 use Rattle.bpfdb_jobs.specs.Jobs.{OpensSession}
-use Rattle.bpfdb_jobs.specs.Refusals.{Refuses, RefusesMachine, RefusesOrigin, RefusesProgram}
+use Rattle.bpfdb_jobs.specs.Refusals.{Refuses, RefusesArrival, RefusesMachine, RefusesOrigin, RefusesProgram, RefusesWhynot}
 use Rattle.bpfdb_jobs.specs.declared.job.Job.{Job}
 use Rattle.bpfdb_jobs.specs.declared.refusal.JobRefusal.{JobRefusal}
-use Rattle.bpfdb_jobs.specs.declared.refusal.JobRefusal.TheVariants.{Maps, Listing, Load, Open, Journal, What, Object, Tests, NoTest, ManyTests, Script}
+use Rattle.bpfdb_jobs.specs.declared.refusal.JobRefusal.TheVariants.{Maps, Listing, Load, Open, Journal, What, Goal, Object, Functions, Tests, NoTest, ManyTests, Script}
 
 -- a refusal of a program is one of a machine on it, and that one of a session over it
 pub program-machine : (job : Job) (refusal : JobRefusal) → RefusesProgram job refusal → RefusesMachine job refusal
@@ -18,7 +18,9 @@ program-machine job (Open fault) p = absurd p
 program-machine job (Journal fault) p = absurd p
 program-machine job (Script refusal) p = absurd p
 program-machine job (What fault) p = absurd p
+program-machine job (Goal fault) p = absurd p
 program-machine job (Object fault name) p = absurd p
+program-machine job (Functions fault name) p = absurd p
 program-machine job (Tests fault line) p = absurd p
 program-machine job (NoTest name) p = absurd p
 program-machine job ManyTests p = absurd p
@@ -31,24 +33,58 @@ machine-session job (Open fault) p = p
 machine-session job (Journal fault) p = absurd p
 machine-session job (Script refusal) p = absurd p
 machine-session job (What fault) p = absurd p
+machine-session job (Goal fault) p = absurd p
 machine-session job (Object fault name) p = absurd p
+machine-session job (Functions fault name) p = absurd p
 machine-session job (Tests fault line) p = absurd p
 machine-session job (NoTest name) p = absurd p
 machine-session job ManyTests p = absurd p
 
--- a refusal of a session is one of `origin`
-pub session-origin : (job : Job) (refusal : JobRefusal) → Refuses job refusal → RefusesOrigin job refusal
-session-origin job (Maps fault) p = p
-session-origin job (Listing fault) p = p
-session-origin job (Load fault) p = p
-session-origin job (Open fault) p = p
-session-origin job (Journal fault) p = p
-session-origin job (Script refusal) p = absurd p
-session-origin job (What fault) p = absurd p
-session-origin job (Object fault name) p = p
-session-origin job (Tests fault line) p = p
-session-origin job (NoTest name) p = p
-session-origin job ManyTests p = p
+-- a refusal of a session is one on the way to where it is asked, and that one of `origin` and of `whynot`
+pub session-arrival : (job : Job) (refusal : JobRefusal) → Refuses job refusal → RefusesArrival job refusal
+session-arrival job (Maps fault) p = p
+session-arrival job (Listing fault) p = p
+session-arrival job (Load fault) p = p
+session-arrival job (Open fault) p = p
+session-arrival job (Journal fault) p = p
+session-arrival job (Script refusal) p = absurd p
+session-arrival job (What fault) p = p
+session-arrival job (Goal fault) p = p
+session-arrival job (Object fault name) p = p
+session-arrival job (Functions fault name) p = p
+session-arrival job (Tests fault line) p = p
+session-arrival job (NoTest name) p = p
+session-arrival job ManyTests p = p
+
+pub arrival-origin : (job : Job) (refusal : JobRefusal) → RefusesArrival job refusal → RefusesOrigin job refusal
+arrival-origin job (Maps fault) p = p
+arrival-origin job (Listing fault) p = p
+arrival-origin job (Load fault) p = p
+arrival-origin job (Open fault) p = p
+arrival-origin job (Journal fault) p = p
+arrival-origin job (Script refusal) p = p
+arrival-origin job (What fault) p = absurd p
+arrival-origin job (Goal fault) p = p
+arrival-origin job (Object fault name) p = p
+arrival-origin job (Functions fault name) p = p
+arrival-origin job (Tests fault line) p = p
+arrival-origin job (NoTest name) p = p
+arrival-origin job ManyTests p = p
+
+pub arrival-whynot : (job : Job) (refusal : JobRefusal) → RefusesArrival job refusal → RefusesWhynot job refusal
+arrival-whynot job (Maps fault) p = p
+arrival-whynot job (Listing fault) p = p
+arrival-whynot job (Load fault) p = p
+arrival-whynot job (Open fault) p = p
+arrival-whynot job (Journal fault) p = p
+arrival-whynot job (Script refusal) p = p
+arrival-whynot job (What fault) p = p
+arrival-whynot job (Goal fault) p = absurd p
+arrival-whynot job (Object fault name) p = p
+arrival-whynot job (Functions fault name) p = p
+arrival-whynot job (Tests fault line) p = p
+arrival-whynot job (NoTest name) p = p
+arrival-whynot job ManyTests p = p
 
 -- what a session refuses has a line of the session's
 pub session-refused : (job : Job) (refusal : JobRefusal) → Refuses job refusal → refusal_line refusal ≡ session_line refusal
@@ -59,7 +95,9 @@ session-refused job (Open fault) p = refl
 session-refused job (Journal fault) p = refl
 session-refused job (Script refusal) p = absurd p
 session-refused job (What fault) p = absurd p
+session-refused job (Goal fault) p = absurd p
 session-refused job (Object fault name) p = absurd p
+session-refused job (Functions fault name) p = absurd p
 session-refused job (Tests fault line) p = absurd p
 session-refused job (NoTest name) p = absurd p
 session-refused job ManyTests p = absurd p

@@ -13,7 +13,7 @@ use Rattle.bpfdb_jobs.specs.Suites.{EndsTests}
 use Rattle.bpfdb_jobs.specs.Suites as tests
 use Rattle.bpfdb_jobs.specs.declared.job.Job.{Job}
 use Rattle.bpfdb_options.specs.declared.subcommand.Subcommand.{Subcommand}
-use Rattle.bpfdb_options.specs.declared.subcommand.Subcommand.TheVariants.{Run, Trace, Debug, Origin, Gdb, Asm, Disasm, Lines, Check, Link, Test}
+use Rattle.bpfdb_options.specs.declared.subcommand.Subcommand.TheVariants.{Run, Trace, Debug, Origin, Whynot, Gdb, Asm, Disasm, Lines, Check, Link, Test}
 use Rattle.bpfdb_options.specs.declared.test_part.TestPart.{TestPart}
 
 session_with : {R W E : Type 0} (lines : E → Option (List ℕ)) (job : Job) (Serves : Checked → Type 0) (Breaks : Checked → RunFault → Type 0)
@@ -56,6 +56,7 @@ ends_with remaining contents lines Test job r r' w w' e e' status does other = t
 ends_with remaining contents lines Run job r r' w w' e e' status does other = printed_with contents lines Run job w w' e e' status does.1 other
 ends_with remaining contents lines Trace job r r' w w' e e' status does other = printed_with contents lines Trace job w w' e e' status does.1 other
 ends_with remaining contents lines Origin job r r' w w' e e' status does other = printed_with contents lines Origin job w w' e e' status does.1 other
+ends_with remaining contents lines Whynot job r r' w w' e e' status does other = printed_with contents lines Whynot job w w' e e' status does.1 other
 ends_with remaining contents lines Asm job r r' w w' e e' status does other = printed_with contents lines Asm job w w' e e' status does.1 other
 ends_with remaining contents lines Disasm job r r' w w' e e' status does other = printed_with contents lines Disasm job w w' e e' status does.1 other
 ends_with remaining contents lines Lines job r r' w w' e e' status does other = printed_with contents lines Lines job w w' e e' status does.1 other

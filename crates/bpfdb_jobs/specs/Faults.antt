@@ -11,12 +11,13 @@ use Rattle.bpf_suite.specs.declared.refusal.Refusal.TheVariants as program
 use Rattle.bpf_ring.specs.Opening.{journal_fault}
 use Rattle.bpf_origin.specs.Asked.{what_fault}
 use Rattle.bpf_trace.specs.Traces.{limit_line}
+use Rattle.bpf_whynot.specs.Asked.{goal_fault}
 use Rattle.bpfdb_commands.specs.Refusals as commands
 use Rattle.shown_text.specs.Shown.{shown}
 use Rattle.bpfdb_jobs.specs.declared.fault.JobFault.{JobFault}
 use Rattle.bpfdb_jobs.specs.declared.fault.JobFault.TheVariants.{Unreadable, NotText, Refused, Input, Output, Memory, StepLimit}
 use Rattle.bpfdb_jobs.specs.declared.refusal.JobRefusal.{JobRefusal}
-use Rattle.bpfdb_jobs.specs.declared.refusal.JobRefusal.TheVariants.{Maps, Listing, Load, Open, Journal, What, Object, Tests, NoTest, ManyTests, Script}
+use Rattle.bpfdb_jobs.specs.declared.refusal.JobRefusal.TheVariants.{Maps, Listing, Load, Open, Journal, What, Object, Functions, Tests, NoTest, ManyTests, Script, Goal}
 
 -- The line of a refusal: a letter and a number, its line if it has one, and a text.
 abbrev pub refused_line : List ℕ → ℕ → Option ℕ → List ℕ → List ℕ
@@ -61,10 +62,10 @@ origin_text (linking.Program fault source) = source_text source
 origin_text (linking.Helper slot helper source) = source_text source
 origin_text fault = []
 
-abbrev pub object_line : LinkFault → List ℕ → List ℕ
-object_line fault name =
+abbrev pub object_text : LinkFault → List ℕ → List ℕ
+object_text fault name =
     text_of_refusal (codes "refused E") (link_fault fault).0 (codes " at slot ") (slot_of_words fault) (link_fault fault).1
-    ++ more_of fault ++ name_text name ++ origin_text fault ++ codes "\n"
+    ++ more_of fault ++ name_text name ++ origin_text fault
 
 -- A name that no test has.
 abbrev pub no_test_line : List ℕ → List ℕ
@@ -83,7 +84,9 @@ session_line refusal = []
 abbrev pub refusal_line : JobRefusal → List ℕ
 refusal_line (Script refusal) = commands.refusal_text refusal
 refusal_line (What fault) = refused_line (codes "refused V") (what_fault fault).0 None (what_fault fault).1
-refusal_line (Object fault name) = object_line fault name.now
+refusal_line (Goal fault) = refused_line (codes "refused V") (goal_fault fault).0 None (goal_fault fault).1
+refusal_line (Object fault name) = object_text fault name.now ++ codes "\n"
+refusal_line (Functions fault name) = object_text fault name.now ++ codes " (--with)\n"
 refusal_line (Tests fault line) = refused_line (codes "refused T") (section_fault fault).0 (Some line) (section_fault fault).1
 refusal_line (NoTest name) = no_test_line name.now
 refusal_line ManyTests = codes "refused T8: more than one test is asked for\n"

@@ -7,6 +7,8 @@ use Rattle.bpf_entries.specs.declared.status.Status.TheVariants as status
 use Rattle.bpf_isa.specs.Maps.{IsMapList, items_of, shape_of}
 use Rattle.bpf_isa.specs.Programs.{Checked, IsProgram}
 use Rattle.bpf_isa.specs.declared.maps.MapShape.{MapShape}
+use Rattle.bpf_join.specs.Joined.{IsJoined}
+use Rattle.bpf_join.specs.declared.joined.Joined.{Joined}
 use Rattle.bpf_link.specs.Programs.{IsLinkedAs}
 use Rattle.bpf_link.specs.StubLists.{stubs_in}
 use Rattle.bpf_link.specs.declared.fault.LinkFault.{LinkFault}
@@ -27,13 +29,16 @@ use Rattle.bpf_text.specs.Listing.{IsListing}
 use Rattle.bpf_trace.specs.Profiles.{profile_text}
 use Rattle.bpf_trace.specs.Traces.{limit_line, trace_text}
 use Rattle.bpf_trace.specs.declared.trace.Shown.{Shown}
+use Rattle.bpf_whynot.specs.Answers.{Query, why_not}
+use Rattle.bpf_whynot.specs.Asked.{goals_in}
+use Rattle.bpf_whynot.specs.Reach.{TellsReach}
 use Rattle.bpfdb_commands.specs.declared.refusal.Refusal.{Refusal}
 use Rattle.bpfdb_replies.specs.Texts.{place}
 use Rattle.bpfdb_jobs.specs.MapLines.{linked_told}
-use Rattle.bpfdb_jobs.specs.Origins.{Arrival, Asks, answer_by, arrival, found_text, status_of_extent}
+use Rattle.bpfdb_jobs.specs.Origins.{Arrival, Asks, answer_by, arrival, found_text, question_by, status_of_extent}
 use Rattle.bpfdb_jobs.specs.declared.job.Job.{Job}
 use Rattle.bpfdb_options.specs.declared.subcommand.Subcommand.{Subcommand}
-use Rattle.bpfdb_options.specs.declared.subcommand.Subcommand.TheVariants.{Run, Trace, Debug, Origin, Gdb, Asm, Disasm, Lines, Check, Link, Test}
+use Rattle.bpfdb_options.specs.declared.subcommand.Subcommand.TheVariants.{Run, Trace, Debug, Origin, Whynot, Gdb, Asm, Disasm, Lines, Check, Link, Test}
 
 -- The map table that a text names; no map where there is no text.
 abbrev pub HasMaps : Option (Bor (List ℕ)) → List MapShape → Type 0
@@ -89,17 +94,34 @@ listed_stubs None = Ok []
 abbrev pub stubs_of : Job → Result (List Stub) LinkFault
 stubs_of job = listed_stubs job.options.stubs
 
+-- The object that is linked: FILE, or what FILE and the functions come to, of which it is known how many fields are left.
+abbrev pub ObjectOf : Option (Bor (List ℕ)) → Job → List ℕ → Option ℕ → Type 0
+ObjectOf None job object counted = (object ≡ job.file.now) × (counted ≡ None)
+ObjectOf (Some functions) job object counted = (joined : Joined)
+    × IsJoined job.file.now functions.now (section_of job) job.options.as_compiled joined
+    × (object ≡ joined.bytes.items) × (counted ≡ Some joined.fields)
+
+abbrev pub IsObjectOf : Job → List ℕ → Option ℕ → Type 0
+IsObjectOf job object counted = ObjectOf job.other job object counted
+
+abbrev pub or_count : Option ℕ → ℕ → ℕ
+or_count None count = count
+or_count (Some counted) count = counted
+
 -- The words that the object is linked to; the shapes of the maps, in the order of their numbers: none unless the object defines each as
 -- an array; how many calls are answered; and how many fields are left as compiled.
 pub record IsLinkedTo (job : Job) (words : List ℕ) (shapes : List MapShape) (answered fields : ℕ) : Type 0 where
   pub stubs : List Stub
   pub asked : stubs_of job ≡ Ok stubs
   pub program : Linked
-  pub linked : IsLinkedAs job.file.now (section_of job) (entry_of job) stubs job.options.as_compiled program
+  pub object : List ℕ
+  pub counted : Option ℕ
+  pub of_object : IsObjectOf job object counted
+  pub linked : IsLinkedAs object (section_of job) (entry_of job) stubs job.options.as_compiled program
   pub of_words : words ≡ program.words.items
   pub of_shapes : shapes ≡ program.shapes.items
   pub of_answered : answered ≡ program.answered
-  pub of_fields : fields ≡ program.fields
+  pub of_fields : fields ≡ or_count counted program.fields
 
 -- How many calls are answered is told with the option alone.
 abbrev pub answered_if : Option (Bor (List ℕ)) → ℕ → Option ℕ
@@ -134,10 +156,14 @@ run_print limit Limit end = stopped (limit_line limit end.pc)
 abbrev pub run_end : Job → Checked → State
 run_end job code = plain_end job.options.limit (initial code job.context.now)
 
--- `trace`: the steps that are shown, or with `--profile` how often each instruction ran, and where the run ended. Its status is 1 where `run` has
--- no result.
+-- `trace`: the steps that are shown, with `--branches` the conditional jumps among them, or with `--profile` how often each instruction ran, and where
+-- the run ended. Its status is 1 where `run` has no result.
 abbrev pub shown_of : Job → Shown
-shown_of job = record { from = job.options.from; count = job.options.count }
+shown_of job = record {
+  from = job.options.from;
+  count = job.options.count;
+  only_branches = job.options.only_branches;
+}
 
 abbrev pub trace_out : Job → State → List ℕ
 trace_out job x =
@@ -153,15 +179,31 @@ trace_print job x end = record { out = Some (trace_out job x); err = None; statu
 -- `origin`: where the machine stands, and where the values came from that are asked about. Where that is, by the job; or why its script is
 -- refused.
 abbrev pub arrival_of : Job → Checked → Result Arrival Refusal
-arrival_of job code = arrival job.script job.options (initial code job.context.now)
+arrival_of job code = arrival job.other job.options (initial code job.context.now)
 
 abbrev pub origin_print : State → Answer → Print
 origin_print end answer = record (printed (found_text end answer)) { status = status_of_extent answer.extent }
+
+-- `whynot`: where the machine stands, and why it did not come to the slots that are asked about.
+abbrev pub asked_of : Job → List ℕ
+asked_of job = name_or_empty job.options.what
+
+abbrev pub query_of : Job → List ℕ → Arrival → Query
+query_of job goals at = record { goals = goals; question = question_by job.options at; alone = job.options.alone }
+
+abbrev pub whynot_print : Job → List ℕ → (ℕ → List ℕ → Bool) → Arrival → Print
+whynot_print job goals can at = origin_print at.point.state (why_not can (query_of job goals at) at.point.history at.point.state)
 
 -- `check`: how many instructions, and in how many slots.
 unfoldable pub check_line : Checked → List ℕ
 check_line code =
     codes "ok " ++ decimal (count_by is_some code.insns) ++ codes " instructions in " ++ decimal (length code.insns) ++ codes " slots\n"
+
+-- `link`: the words of the program; or with `--joined` the object that would be linked.
+abbrev pub LinkPrints : Bool → Job → Print → Type 0
+LinkPrints false job a = (words : List ℕ) × (shapes : List MapShape) × (count : ℕ) × (fields : ℕ) × IsLinkedTo job words shapes count fields
+    × (a ≡ record (printed words) { err = linked_told shapes (answered_if job.options.stubs count) (fields_if job.options.as_compiled fields) })
+LinkPrints true job a = (object : List ℕ) × (counted : Option ℕ) × IsObjectOf job object counted × (a ≡ printed object)
 
 -- What a subcommand prints of a job that has what it needs: one that reads no standard input. (`test` has a definition of its own.)
 abbrev pub Prints : Subcommand → Job → Print → Type 0
@@ -170,11 +212,13 @@ Prints Trace job a = (code : Checked) × Opens job code × (a ≡ trace_print jo
 Prints Debug job a = ⊥
 Prints Origin job a = (code : Checked) × (at : Arrival) × (what : Option What) × OpensSession job code × (arrival_of job code ≡ Ok at)
     × Asks job.options.what at.point.state what × (a ≡ origin_print at.point.state (answer_by job.options what at))
+Prints Whynot job a = (code : Checked) × (at : Arrival) × (goals : List ℕ) × (can : ℕ → List ℕ → Bool) × OpensSession job code
+    × (arrival_of job code ≡ Ok at) × (goals_in at.point.state.program (asked_of job) ≡ Ok goals)
+    × TellsReach at.point.state.program goals can × (a ≡ whynot_print job goals can at)
 Prints Gdb job a = ⊥
 Prints Test job a = ⊥
 Prints Asm job a = (words : List ℕ) × IsListing job.file.now words × (a ≡ printed words)
 Prints Disasm job a = (code : Checked) × IsProgramOf job code × (a ≡ printed (canon code))
 Prints Lines job a = (table : List ℕ) × IsLineTable job.file.now table × (a ≡ printed table)
 Prints Check job a = (code : Checked) × IsProgramOf job code × (a ≡ printed (check_line code))
-Prints Link job a = (words : List ℕ) × (shapes : List MapShape) × (count : ℕ) × (fields : ℕ) × IsLinkedTo job words shapes count fields
-    × (a ≡ record (printed words) { err = linked_told shapes (answered_if job.options.stubs count) (fields_if job.options.as_compiled fields) })
+Prints Link job a = LinkPrints job.options.is_joined job a

@@ -15,3 +15,4 @@ pub mod Shown
 pub mod Statuses
 pub mod Suites
 pub mod Tellings
+pub mod Whynots

@@ -1,9 +1,13 @@
 -- Why a job is refused, in this order: its maps, its listing, its program, its context, its journal; its script, what it asks about; its stubs,
 -- its object, the fields of that; or its tests.
-use Rattle.std.specs.Prelude.{◌≡◌, ◌⊎◌, List, [], ℕ, Option, Some, None, Ok, Err, true}
+use Rattle.std.specs.Prelude.{◌≡◌, ◌⊎◌, List, [], ℕ, Option, Some, None, Ok, Err, true, codes}
 use Rattle.std.specs.Borrow.{Bor}
 use Rattle.bpf_isa.specs.Checker.{IsRefused}
 use Rattle.bpf_isa.specs.Maps.{IsListFault}
+use Rattle.bpf_join.specs.Joined.{IsJoinFault}
+use Rattle.bpf_join.specs.declared.fault.JoinFault.{JoinFault}
+use Rattle.bpf_join.specs.declared.fault.JoinFault.TheVariants.{First, Second}
+use Rattle.bpf_link.specs.declared.fault.LinkFault.{LinkFault}
 use Rattle.bpf_isa.specs.Programs.{Checked}
 use Rattle.bpf_isa.specs.declared.maps.MapShape.{MapShape}
 use Rattle.bpf_text.specs.Listing.{IsFaultOf}
@@ -17,13 +21,14 @@ use Rattle.bpf_suite.specs.declared.section.Section.{Section}
 use Rattle.bpf_suite.specs.declared.fault.FileFault.TheVariants.{Line}
 use Rattle.bpf_machine.specs.Opening.{Refused}
 use Rattle.bpf_ring.specs.Opening.{RefusesSize}
-use Rattle.bpfdb_jobs.specs.Jobs.{HasMaps, HasWords, IsProgramOf, Opens, OpensSession, arrival_of, entry_of, section_of, stubs_of}
+use Rattle.bpf_whynot.specs.Asked.{goals_in}
+use Rattle.bpfdb_jobs.specs.Jobs.{HasMaps, HasWords, IsObjectOf, IsProgramOf, Opens, OpensSession, arrival_of, asked_of, entry_of, section_of, stubs_of}
 use Rattle.bpfdb_jobs.specs.Origins.{Arrival, RefusesWhat}
 use Rattle.bpfdb_jobs.specs.declared.job.Job.{Job}
 use Rattle.bpfdb_jobs.specs.declared.refusal.JobRefusal.{JobRefusal}
-use Rattle.bpfdb_jobs.specs.declared.refusal.JobRefusal.TheVariants.{Maps, Listing, Load, Open, Journal, What, Object, Tests, NoTest, ManyTests, Script}
+use Rattle.bpfdb_jobs.specs.declared.refusal.JobRefusal.TheVariants.{Maps, Listing, Load, Open, Journal, What, Goal, Object, Functions, Tests, NoTest, ManyTests, Script}
 use Rattle.bpfdb_options.specs.declared.subcommand.Subcommand.{Subcommand}
-use Rattle.bpfdb_options.specs.declared.subcommand.Subcommand.TheVariants.{Run, Trace, Debug, Origin, Gdb, Asm, Disasm, Lines, Check, Link, Test}
+use Rattle.bpfdb_options.specs.declared.subcommand.Subcommand.TheVariants.{Run, Trace, Debug, Origin, Whynot, Gdb, Asm, Disasm, Lines, Check, Link, Test}
 
 -- Each refusal comes where those before don't.
 abbrev pub Refuses : Job → JobRefusal → Type 0
@@ -36,7 +41,9 @@ Refuses job (Open fault) = (code : Checked) × IsProgramOf job code × Refused j
 Refuses job (Journal fault) = (code : Checked) × Opens job code × RefusesSize job.options.journal fault
 Refuses job (Script refusal) = ⊥
 Refuses job (What fault) = ⊥
+Refuses job (Goal fault) = ⊥
 Refuses job (Object fault name) = ⊥
+Refuses job (Functions fault name) = ⊥
 Refuses job (Tests fault line) = ⊥
 Refuses job (NoTest name) = ⊥
 Refuses job ManyTests = ⊥
@@ -51,20 +58,50 @@ abbrev pub RefusesMachine : Job → JobRefusal → Type 0
 RefusesMachine job (Journal fault) = ⊥
 RefusesMachine job refusal = Refuses job refusal
 
--- `origin` looks at a session's, then at the lines of its script, and then at what is asked about there.
+-- `origin` and `whynot` look at a session's, then at the lines of its script, and then at what is asked about there.
+abbrev pub RefusesArrival : Job → JobRefusal → Type 0
+RefusesArrival job (Script refusal) = (code : Checked) × OpensSession job code × (arrival_of job code ≡ Err refusal)
+RefusesArrival job refusal = Refuses job refusal
+
 abbrev pub RefusesOrigin : Job → JobRefusal → Type 0
-RefusesOrigin job (Script refusal) = (code : Checked) × OpensSession job code × (arrival_of job code ≡ Err refusal)
 RefusesOrigin job (What fault) = (code : Checked) × (at : Arrival) × OpensSession job code × (arrival_of job code ≡ Ok at)
     × RefusesWhat job.options.what at.point.state fault
-RefusesOrigin job refusal = Refuses job refusal
+RefusesOrigin job refusal = RefusesArrival job refusal
+
+abbrev pub RefusesWhynot : Job → JobRefusal → Type 0
+RefusesWhynot job (Goal fault) = (code : Checked) × (at : Arrival) × OpensSession job code × (arrival_of job code ≡ Ok at)
+    × (goals_in at.point.state.program (asked_of job) ≡ Err fault)
+RefusesWhynot job refusal = RefusesArrival job refusal
 
 abbrev pub RefusesListing : Job → JobRefusal → Type 0
 RefusesListing job (Listing fault) = IsFaultOf job.file.now fault
 RefusesListing job refusal = ⊥
 
+-- `link` looks at its stubs, then at both objects, where it joins two, and then at the one that is linked.
+abbrev pub RefusesStubs : Job → LinkFault → Type 0
+RefusesStubs job fault = stubs_of job ≡ Err fault
+
+abbrev pub RefusesJoin : Option (Bor (List ℕ)) → Job → JoinFault → Type 0
+RefusesJoin None job fault = ⊥
+RefusesJoin (Some functions) job fault = IsJoinFault job.file.now functions.now (section_of job) job.options.as_compiled fault
+
+abbrev pub RefusesLink : Job → List ℕ → LinkFault → Type 0
+RefusesLink job object fault = (stubs : List Stub) × (stubs_of job ≡ Ok stubs)
+    × IsLinkRefusal object (section_of job) (entry_of job) stubs job.options.as_compiled fault
+
+abbrev pub OfFile : Job → LinkFault → List ℕ → Type 0
+OfFile job fault name =
+    (name ≡ fault_names job.file.now (section_of job) fault) × (RefusesStubs job fault ⊎ RefusesJoin job.other job (First fault))
+
+abbrev pub OfObject : Job → LinkFault → List ℕ → Type 0
+OfObject job fault name =
+    (object : List ℕ) × (counted : Option ℕ) × IsObjectOf job object counted × (name ≡ fault_names object (section_of job) fault) × RefusesLink job object fault
+
 abbrev pub RefusesObject : Job → JobRefusal → Type 0
-RefusesObject job (Object fault name) = (name.now ≡ fault_names job.file.now (section_of job) fault) × ((stubs_of job ≡ Err fault)
-    ⊎ ((stubs : List Stub) × (stubs_of job ≡ Ok stubs) × IsLinkRefusal job.file.now (section_of job) (entry_of job) stubs job.options.as_compiled fault))
+RefusesObject job (Object fault name) = OfFile job fault name.now ⊎ OfObject job fault name.now
+RefusesObject job (Functions fault name) =
+    (functions : Bor (List ℕ)) × (job.other ≡ Some functions) × (name.now ≡ fault_names functions.now (codes ".text") fault)
+    × RefusesJoin job.other job (Second fault)
 RefusesObject job refusal = ⊥
 
 -- No test has the name that is asked for.
@@ -83,6 +120,7 @@ RefusesAs Run job refusal = RefusesMachine job refusal
 RefusesAs Trace job refusal = RefusesMachine job refusal
 RefusesAs Debug job refusal = Refuses job refusal
 RefusesAs Origin job refusal = RefusesOrigin job refusal
+RefusesAs Whynot job refusal = RefusesWhynot job refusal
 RefusesAs Gdb job refusal = Refuses job refusal
 RefusesAs Asm job refusal = RefusesListing job refusal
 RefusesAs Disasm job refusal = RefusesProgram job refusal

@@ -13,13 +13,15 @@ use crate::origin::origin_job;
 use crate::run::run_job;
 use crate::suite::test_job;
 use crate::trace::trace_job;
+use crate::whynot::whynot_job;
 use bpfdb_options::Subcommand;
 use counted_io::Counted;
 use std::alloc::Global;
 use std::io::{Read, Write};
 
 /// Does a job, and answers the exit status: 0; 1 where `run` or `trace` ends in a fault of the
-/// program or at the limit of steps, where a test fails, and where an answer of `origin` is cut; 2
+/// program or at the limit of steps, where a test fails, and where an answer of `origin` or
+/// `whynot` is cut; 2
 /// where the job is refused, where input or output fails, and where memory runs out.
 ///
 /// Results, replies and answers go to the writer. A refusal, a fault or a limit is one line on
@@ -42,6 +44,7 @@ pub fn tool<R: Read, W: Write, E: Write>(
         Subcommand::Trace => trace_job(alloc, job, writer, errors),
         Subcommand::Debug => debug_job(alloc, job, reader, writer, errors),
         Subcommand::Origin => origin_job(alloc, job, writer, errors),
+        Subcommand::Whynot => whynot_job(alloc, job, writer, errors),
         Subcommand::Gdb => gdb_job(alloc, job, reader, writer, errors),
         Subcommand::Asm => asm_job(alloc, job, writer, errors),
         Subcommand::Disasm => disasm_job(alloc, job, writer, errors),

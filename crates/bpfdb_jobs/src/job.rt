@@ -12,7 +12,9 @@ pub struct Job<'a> {
     pub file: &'a [u8],
     /// PATH's bytes, the context: at most 65,536.
     pub context: &'a [u8],
-    /// The bytes of the script that is obeyed before `origin` asks; without one the program runs.
-    pub script: Option<&'a [u8]>,
+    /// The bytes of the other file, where there is one: of the script that is obeyed before `origin`
+    /// asks, without which the program runs; or of the object with functions that `link` joins to
+    /// FILE.
+    pub other: Option<&'a [u8]>,
     pub options: Options<'a>,
 }

@@ -23,6 +23,7 @@ mod script;
 mod show;
 mod suite;
 mod trace;
+mod whynot;
 
 pub use debug::debug_job;
 pub use dispatch::tool;

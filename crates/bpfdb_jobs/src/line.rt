@@ -3,7 +3,7 @@ ghost use Rattle.std.specs.Prelude.{◌≡◌, ◌++◌, codes};
 ghost use Rattle.counted_io.specs.Writing.{WritesAfter};
 ghost use Rattle.bpf_link.specs.Helpers.{helper_name};
 ghost use Rattle.bpf_suite.specs.Refusals.{refusal_text};
-ghost use Rattle.bpfdb_jobs.specs.Faults.{helper_text, line_of, more_of, name_text, object_line, origin_text, refusal_line, refused_line, slot_of_words, source_text};
+ghost use Rattle.bpfdb_jobs.specs.Faults.{helper_text, line_of, more_of, name_text, object_text, origin_text, refusal_line, refused_line, slot_of_words, source_text};
 
 use crate::fault::JobFault;
 use crate::refusal::JobRefusal;
@@ -60,7 +60,14 @@ fn put_refusal<E: Write>(
             let (number, text) = (fault.number(), fault.text());
             put_refused(errors, so_far, b"refused V", number, None, text)
         }
-        JobRefusal::Object(fault, name) => put_object(errors, so_far, fault, name),
+        JobRefusal::Goal(fault) => {
+            let (number, text) = (fault.number(), fault.text());
+            put_refused(errors, so_far, b"refused V", number, None, text)
+        }
+        JobRefusal::Object(fault, name) => put_object(errors, so_far, fault, name, b"\n"),
+        JobRefusal::Functions(fault, name) => {
+            put_object(errors, so_far, fault, name, b" (--with)\n")
+        }
         JobRefusal::Tests(fault, line) => {
             let (number, text) = (fault.number(), fault.text());
             put_refused(errors, so_far, b"refused T", number, Some(*line), text)
@@ -109,15 +116,16 @@ fn put_refused<'a, E: Write>(
     put(errors, said, b"\n")
 }
 
-/// Writes the line of an object's fault.
+/// Writes the line of an object's fault, which ends so.
 fn put_object<E: Write>(
     errors: &mut Counted<E>,
     so_far: Result<(), WriteFault>,
     fault: &LinkFault,
     name: &[u8],
+    end: &[u8],
 ) -> Result<(), WriteFault>
     ensures { WritesAfter E.contents errors.old so_far errors.new result
-        (object_line fault.now name.now) }
+        (object_text fault.now name.now ++ end.now) }
 {
     let (number, text) = (fault.number(), fault.text());
     let slot = slot_of_words(fault);
@@ -133,7 +141,7 @@ fn put_object<E: Write>(
     let said = put_more(errors, begun, fault);
     let named = put_named(errors, said, name);
     let placed = put_origin(errors, named, fault);
-    put(errors, placed, b"\n")
+    put(errors, placed, end)
 }
 
 /// Writes the slot of a section from which the slot of an object's fault comes, if there is one.

@@ -1,19 +1,23 @@
 //! What a job of `link` does.
-ghost use Rattle.std.specs.Prelude.{◌≡◌, ◌≤◌, ℕ, List, IfErr, IfOk, Ok, Err};
+ghost use Rattle.std.specs.Prelude.{◌≡◌, ◌≤◌, ℕ, List, Some, codes, false, IfErr, IfOk, Ok, Err};
 ghost use Rattle.std.specs.Borrow.{Bor};
+ghost use Rattle.bpf_join.specs.Joined.{IsJoinFault};
 ghost use Rattle.bpf_link.specs.Names.{fault_names};
 ghost use Rattle.bpf_link.specs.Programs.{IsLinkRefusal, IsLinkedAs};
 ghost use Rattle.bpfdb_jobs.specs.Endings.{EndsPrinted, Told};
 ghost use Rattle.bpfdb_jobs.specs.Faults.{line_of};
-ghost use Rattle.bpfdb_jobs.specs.Jobs.{answered_if, entry_of, fields_if, section_of, stubs_of};
+ghost use Rattle.bpfdb_jobs.specs.Jobs.{IsObjectOf, answered_if, entry_of, fields_if, or_count, section_of, stubs_of};
+ghost use Rattle.bpfdb_jobs.specs.Refusals.{RefusesObject};
+ghost use Rattle.bpfdb_jobs.specs.declared.refusal.JobRefusal.{JobRefusal as WhyRefused};
 ghost use Rattle.bpfdb_options.specs.declared.subcommand.Subcommand.TheVariants.{Link};
 
 use crate::fault::JobFault;
 use crate::job::Job;
 use crate::maps::tell_linked;
 use crate::refusal::JobRefusal;
-use crate::report::{give_up, told_as, write_out};
+use crate::report::{ended, give_up, told_as, write_out};
 use arrayvec::ArrayVec;
+use bpf_join::{JoinFault, join};
 use bpf_link::{
     LinkFault, LinkOptions, Linked, MOST_STUBS, Stub, fault_names, link_with, stubs_in,
 };
@@ -22,7 +26,8 @@ use std::alloc::Global;
 use std::io::Write;
 
 /// Writes the words that an object's code section is linked to, and tells the maps that the object
-/// defines, and how many calls are answered, and fields left, where that is asked for.
+/// defines, and how many calls are answered, and fields left, where that is asked for. Where there
+/// is an object with functions, that is joined to it first.
 pub fn link_job<W: Write, E: Write>(
     alloc: Global,
     job: &Job<'_>,
@@ -35,19 +40,81 @@ pub fn link_job<W: Write, E: Write>(
 {
     let stubs = match stubs_of(job) {
         Ok(stubs) => stubs,
-        Err(fault) => {
-            return refuse(job, errors, fault);
-        }
+        Err(fault) => return refuse(job, job.file, errors, fault),
     };
     let named = stubs.as_slice();
-    let linked = match linked_from(alloc, job, named) {
-        Ok(linked) => linked,
-        Err(fault) => {
-            return refuse(job, errors, fault);
+    let Some(functions) = job.other else {
+        return put_object(alloc, job, job.file, None, named, writer, errors);
+    };
+    match join(
+        alloc,
+        job.file,
+        functions,
+        section_of(job),
+        job.options.as_compiled,
+    ) {
+        Ok(joined) => {
+            let counted = Some(joined.fields);
+            put_object(
+                alloc,
+                job,
+                joined.bytes.as_slice(),
+                counted,
+                named,
+                writer,
+                errors,
+            )
         }
+        Err(fault) => refuse_join(job, functions, errors, fault),
+    }
+}
+
+/// Writes the object that is linked, or its program.
+fn put_object<W: Write, E: Write>(
+    alloc: Global,
+    job: &Job<'_>,
+    object: &[u8],
+    counted: Option<u32>,
+    stubs: &[Stub],
+    writer: &mut Counted<W>,
+    errors: &mut Counted<E>,
+) -> u8
+    requires object { IsObjectOf job.now object.now counted }
+    requires stubs { stubs_of job.now ≡ Ok stubs.now }
+    ensures does { EndsPrinted W.contents E.contents Link job.now writer.old writer.new errors.old
+        errors.new result }
+    ensures status { result ≤ 2 }
+{
+    if job.options.is_joined {
+        let written = write_out(writer, object);
+        return ended(written, errors);
+    }
+    put_program(alloc, job, object, counted, stubs, writer, errors)
+}
+
+/// Writes the program of the object that is linked, and what is told of it.
+fn put_program<W: Write, E: Write>(
+    alloc: Global,
+    job: &Job<'_>,
+    object: &[u8],
+    counted: Option<u32>,
+    stubs: &[Stub],
+    writer: &mut Counted<W>,
+    errors: &mut Counted<E>,
+) -> u8
+    requires object { IsObjectOf job.now object.now counted }
+    requires stubs { stubs_of job.now ≡ Ok stubs.now }
+    requires words { job.now.options.is_joined ≡ false }
+    ensures does { EndsPrinted W.contents E.contents Link job.now writer.old writer.new errors.old
+        errors.new result }
+    ensures status { result ≤ 2 }
+{
+    let linked = match linked_from(alloc, job, object, stubs) {
+        Ok(linked) => linked,
+        Err(fault) => return refuse(job, object, errors, fault),
     };
     let answered = answered_if(job, linked.answered);
-    let fields = fields_if(job, linked.fields);
+    let fields = fields_if(job, or_count(counted, linked.fields));
     match write_out(writer, linked.words.as_slice()) {
         Ok(()) => told_as(
             tell_linked(errors, linked.shapes.as_slice(), answered, fields),
@@ -57,28 +124,79 @@ pub fn link_job<W: Write, E: Write>(
     }
 }
 
+/// How many fields are left: those that were counted before, or those of the program.
+fn or_count(counted: Option<u32>, count: u32) -> u32
+    ensures { result ≡ or_count counted count }
+{
+    match counted {
+        None => count,
+        Some(counted) => counted,
+    }
+}
+
 /// Tells why no program is made of an object, and answers the exit status, 2.
-fn refuse<E: Write>(job: &Job<'_>, errors: &mut Counted<E>, fault: LinkFault) -> u8
+fn refuse<E: Write>(job: &Job<'_>, object: &[u8], errors: &mut Counted<E>, fault: LinkFault) -> u8
     ensures value { result ≡ 2 }
     ensures told { (name : Bor (List ℕ))
-        × (name.now ≡ fault_names job.now.file.now (section_of job.now) fault)
+        × (name.now ≡ fault_names object.now (section_of job.now) fault)
         × Told E.contents errors.old errors.new (line_of (JobFault.Refused (JobRefusal.Object fault name))) }
 {
-    let names = fault_names(job.file, section_of(job), &fault);
+    let names = fault_names(object, section_of(job), &fault);
     let name = names.as_slice();
     give_up(errors, &JobFault::Refused(JobRefusal::Object(fault, name)))
 }
 
-/// The program of a job's object, with the calls of some helpers answered.
-fn linked_from(alloc: Global, job: &Job<'_>, stubs: &[Stub]) -> Result<Linked, LinkFault>
-    ensures ok { IfOk result (IsLinkedAs job.now.file.now (section_of job.now) (entry_of job.now)
+/// Tells why two objects aren't joined, and answers the exit status, 2.
+fn refuse_join<E: Write>(
+    job: &Job<'_>,
+    functions: &[u8],
+    errors: &mut Counted<E>,
+    fault: JoinFault,
+) -> u8
+    requires other { job.now.other ≡ Some functions }
+    requires why { IsJoinFault job.now.file.now functions.now (section_of job.now)
+        job.now.options.as_compiled fault }
+    ensures value { result ≡ 2 }
+    ensures told { (refusal : WhyRefused) × RefusesObject job.now refusal
+        × Told E.contents errors.old errors.new (line_of (JobFault.Refused refusal)) }
+{
+    match fault {
+        JoinFault::First(fault) => refuse(job, job.file, errors, fault),
+        JoinFault::Second(fault) => refuse_functions(functions, errors, fault),
+    }
+}
+
+/// Tells why an object with functions isn't joined, and answers the exit status, 2.
+fn refuse_functions<E: Write>(functions: &[u8], errors: &mut Counted<E>, fault: LinkFault) -> u8
+    ensures value { result ≡ 2 }
+    ensures told { (name : Bor (List ℕ))
+        × (name.now ≡ fault_names functions.now (codes ".text") fault)
+        × Told E.contents errors.old errors.new
+        (line_of (JobFault.Refused (JobRefusal.Functions fault name))) }
+{
+    let names = fault_names(functions, b".text", &fault);
+    let name = names.as_slice();
+    give_up(
+        errors,
+        &JobFault::Refused(JobRefusal::Functions(fault, name)),
+    )
+}
+
+/// The program of an object, with the calls of some helpers answered.
+fn linked_from(
+    alloc: Global,
+    job: &Job<'_>,
+    object: &[u8],
+    stubs: &[Stub],
+) -> Result<Linked, LinkFault>
+    ensures ok { IfOk result (IsLinkedAs object.now (section_of job.now) (entry_of job.now)
         stubs.now job.now.options.as_compiled) }
-    ensures err { IfErr result (IsLinkRefusal job.now.file.now (section_of job.now)
+    ensures err { IfErr result (IsLinkRefusal object.now (section_of job.now)
         (entry_of job.now) stubs.now job.now.options.as_compiled) }
 {
     link_with(
         alloc,
-        job.file,
+        object,
         &LinkOptions {
             section: section_of(job),
             entry: entry_of(job),

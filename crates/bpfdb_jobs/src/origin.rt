@@ -7,7 +7,7 @@ ghost use Rattle.counted_io.specs.Writing.{Writes};
 ghost use Rattle.bpfdb_jobs.specs.Endings.{EndsPrinted};
 ghost use Rattle.bpfdb_jobs.specs.Openings.{HasArrived};
 ghost use Rattle.bpfdb_jobs.specs.Origins.{Asks, RefusesWhat, found_text, status_of_extent};
-ghost use Rattle.bpfdb_jobs.specs.Refusals.{RefusesOrigin};
+ghost use Rattle.bpfdb_jobs.specs.Refusals.{RefusesArrival};
 ghost use Rattle.bpfdb_limits.specs.Limits.{IsLimit};
 ghost use Rattle.bpfdb_options.specs.declared.subcommand.Subcommand.TheVariants.{Origin};
 
@@ -30,12 +30,12 @@ use std::io::Write;
 
 /// A machine with its journal, where it is asked.
 #[derive(Drop)]
-struct Arrived {
-    timeline: Timeline<RingKeeper>,
+pub(crate) struct Arrived {
+    pub(crate) timeline: Timeline<RingKeeper>,
     /// How many moves lie before its state, kept or not.
-    moves: u64,
+    pub(crate) moves: u64,
     /// The memory for the answer.
-    wanted: Wanted,
+    pub(crate) wanted: Wanted,
 }
 
 /// Runs the program to its end or to the limit, or obeys the script where there is one, and writes
@@ -58,12 +58,12 @@ pub fn origin_job<W: Write, E: Write>(
 }
 
 /// Goes where it is asked.
-fn arrive(alloc: Global, job: &Job<'_>) -> Result<Arrived, JobRefusal<'static>>
+pub(crate) fn arrive(alloc: Global, job: &Job<'_>) -> Result<Arrived, JobRefusal<'static>>
     requires limit { IsLimit job.now.options.limit }
     ensures ok { IfOk result (λ arrived. HasArrived job.now arrived.timeline arrived.moves) }
-    ensures err { IfErr result (RefusesOrigin job.now) }
+    ensures err { IfErr result (RefusesArrival job.now) }
 {
-    match job.script {
+    match job.other {
         Some(script) => arrive_by(alloc, job, script),
         None => arrive_at_end(alloc, job),
     }
@@ -72,9 +72,9 @@ fn arrive(alloc: Global, job: &Job<'_>) -> Result<Arrived, JobRefusal<'static>>
 /// Obeys the job's script.
 fn arrive_by(alloc: Global, job: &Job<'_>, script: &[u8]) -> Result<Arrived, JobRefusal<'static>>
     requires limit { IsLimit job.now.options.limit }
-    requires script { job.now.script ≡ Some script }
+    requires script { job.now.other ≡ Some script }
     ensures ok { IfOk result (λ arrived. HasArrived job.now arrived.timeline arrived.moves) }
-    ensures err { IfErr result (RefusesOrigin job.now) }
+    ensures err { IfErr result (RefusesArrival job.now) }
 {
     let mut session = match session_of(alloc, job) {
         Ok(session) => session,
@@ -99,9 +99,9 @@ fn arrive_by(alloc: Global, job: &Job<'_>, script: &[u8]) -> Result<Arrived, Job
 /// Runs the job's program to its end or to the limit.
 fn arrive_at_end(alloc: Global, job: &Job<'_>) -> Result<Arrived, JobRefusal<'static>>
     requires limit { IsLimit job.now.options.limit }
-    requires script { job.now.script ≡ None }
+    requires script { job.now.other ≡ None }
     ensures ok { IfOk result (λ arrived. HasArrived job.now arrived.timeline arrived.moves) }
-    ensures err { IfErr result (RefusesOrigin job.now) }
+    ensures err { IfErr result (RefusesArrival job.now) }
 {
     let mut timeline = match timeline_of(alloc, job) {
         Ok(timeline) => timeline,
@@ -196,7 +196,7 @@ fn put_found<K: Keeper, W: Write>(
 }
 
 /// The exit status of an answer: 1 where it is cut.
-fn status_of(extent: Extent) -> u8
+pub(crate) fn status_of(extent: Extent) -> u8
     ensures { result ≡ status_of_extent extent }
 {
     match extent {

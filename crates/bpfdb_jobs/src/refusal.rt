@@ -6,6 +6,7 @@ use bpf_machine::OpenFault;
 use bpf_origin::WhatFault;
 use bpf_suite::SectionFault;
 use bpf_text::AsmFault;
+use bpf_whynot::GoalFault;
 use bpfdb_commands::Refusal;
 
 /// Why a job is refused, in the order in which it is looked at.
@@ -25,9 +26,13 @@ pub enum JobRefusal<'a> {
     Script(Refusal),
     /// What is asked about isn't in the machine.
     What(WhatFault),
+    /// What is asked about is no slot of the program.
+    Goal(GoalFault),
     /// No program is made of the object; the name of what is wrong, or those of what there is, as
     /// they stand in the object, or nothing.
     Object(LinkFault, &'a [u8]),
+    /// The object with functions isn't joined; names as they stand in it.
+    Functions(LinkFault, &'a [u8]),
     /// A test file has this fault, in this line.
     Tests(SectionFault, usize),
     /// No test of the file has the name that is asked for.

@@ -14,7 +14,7 @@ use crate::job::Job;
 use crate::opening::machine_of;
 use crate::report::give_up;
 use bpf_machine::{Cpu, Status};
-use bpf_trace::{Profile, Shown, put_profile, write_trace};
+use bpf_trace::{Profile, Shown, Texts, put_profile, write_trace};
 use counted_io::{Counted, WriteFault};
 use std::alloc::Global;
 use std::io::Write;
@@ -109,12 +109,13 @@ fn write_run<W: Write>(
     if job.options.is_profile {
         write_profile(alloc, job.options.limit, cpu, writer)
     } else {
-        write_steps(job, cpu, writer)
+        write_steps(alloc, job, cpu, writer)
     }
 }
 
-/// Writes the steps that are shown.
+/// Writes the steps that are shown. All memory is taken before the first of them.
 fn write_steps<W: Write>(
+    alloc: Global,
     job: &Job<'_>,
     cpu: &mut Cpu,
     writer: &mut Counted<W>,
@@ -126,8 +127,13 @@ fn write_steps<W: Write>(
     let shown = Shown {
         from: job.options.from,
         count: job.options.count,
+        only_branches: job.options.only_branches,
     };
-    match write_trace(cpu, job.options.limit, shown, writer, Ok(())) {
+    let texts = match Texts::of(alloc, cpu.program()) {
+        Ok(texts) => texts,
+        Err(_) => return Err(TellFault::Memory),
+    };
+    match write_trace(cpu, job.options.limit, shown, &texts, writer, Ok(())) {
         Ok(()) => Ok(()),
         Err(WriteFault) => Err(TellFault::Write),
     }

@@ -19,6 +19,8 @@ pub struct Options<'a> {
     pub from: u64,
     /// The most steps that are shown, 1 to 1,000,000,000.
     pub count: u64,
+    /// Of the steps that are shown, conditional jumps alone.
+    pub only_branches: bool,
     /// How often each instruction runs is told, in place of the steps.
     pub is_profile: bool,
     /// FILE is a listing, assembled first.
@@ -32,6 +34,8 @@ pub struct Options<'a> {
     pub stubs: Option<&'a str>,
     /// Relocations of fields are left undone: fields stay where they were when it was compiled.
     pub as_compiled: bool,
+    /// The object that is linked is written, and not its program.
+    pub is_joined: bool,
     /// The machine that gdb takes this one for.
     pub registers: Registers,
     /// What is asked about, as `r1` or `0x200000000:8`; without it what is of interest where the
@@ -41,6 +45,8 @@ pub struct Options<'a> {
     pub lines: u64,
     /// An answer follows the registers that make addresses, too.
     pub addresses: bool,
+    /// An answer about slots leaves out where the values came from that decided it.
+    pub alone: bool,
     /// The name of the tests that are run; without it all are.
     pub only: Option<&'a str>,
     /// The part that is shown of the one test that is asked for; without it tests are run.
@@ -54,16 +60,19 @@ pub const NO_OPTIONS: Options<'static> = Options {
     limit: DEFAULT_LIMIT,
     from: 1,
     count: GREATEST_COUNT,
+    only_branches: false,
     is_profile: false,
     is_listing: false,
     section: None,
     entry: None,
     stubs: None,
     as_compiled: false,
+    is_joined: false,
     registers: Registers::X86,
     what: None,
     lines: DEFAULT_LINES,
     addresses: false,
+    alone: false,
     only: None,
     show: None,
 };

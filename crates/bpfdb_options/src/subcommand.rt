@@ -13,6 +13,8 @@ pub enum Subcommand {
     Debug,
     /// The program runs, and where a value came from is told.
     Origin,
+    /// The program runs, and why it did not come to a slot is told.
+    Whynot,
     /// gdb is served.
     Gdb,
     /// A listing is assembled.
@@ -41,6 +43,7 @@ impl Subcommand {
             "trace" => Some(Subcommand::Trace),
             "debug" => Some(Subcommand::Debug),
             "origin" => Some(Subcommand::Origin),
+            "whynot" => Some(Subcommand::Whynot),
             "gdb" => Some(Subcommand::Gdb),
             "asm" => Some(Subcommand::Asm),
             "disasm" => Some(Subcommand::Disasm),

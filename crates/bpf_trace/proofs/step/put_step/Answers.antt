@@ -1,20 +1,21 @@
-use Rattle.std.proofs.Common.{codes, decimal, flat_map, refl, ◌∙◌}
-use Rattle.bpf_machine.specs.Entries.{step_entry}
-use Rattle.bpf_origin.specs.Writes.{written}
-use Rattle.bpf_trace.specs.Traces.{written_text}
-use Rattle.bpfdb_replies.specs.Texts.{text_at}
+use Rattle.std.proofs.Common.{◌∙◌}
 use Rattle.counted_io.proofs.Appending.{WritesAfter-WritesAfter}
-use Rattle.bpf_trace.proofs.Lines.{step_line_is}
+use Rattle.bpf_trace.proofs.Steps.{slot_within, text_is, whole_line}
 use Rattle.bpf_trace.proofs.step.put_step.Goals as goal
+
+pub at-requires : goal.at-requires
+at-requires g c =
+    let slot = c.from-slot.ensures ∙ c.pc.ensures in
+    rw slot (slot_within c.args.cpu.now.program c.args.texts.now c.args.cpu.now.pc c.requires.texts c.invariant.ensures.start)
 
 pub returns-clause-text : goal.returns-clause-text
 returns-clause-text g c =
-    let after = WritesAfter-WritesAfter g.W.Write.contents in
     let x = c.args.cpu.now in
-    let y = c.commit.new.self in
-    let slot = c.from.ensures ∙ c.pc.ensures in
-    let wrote = c.as_slice.ensures.value ∙ c.written-wrote.ensures.items in
-    let numbered = after _ _ _ _ _ _ (decimal c.args.number) (codes " ") _ c.put_decimal-numbered.ensures c.put-parted.ensures refl in
-    let named = after _ _ _ _ _ _ _ (text_at x.program x.pc) _ numbered (rw (c.program.ensures, slot) at c.put_at-named.ensures) refl in
-    let told = after _ _ _ _ _ _ _ (flat_map (written_text y) (written y (step_entry x))) _ named (rw (wrote, c.entry-entry.ensures) at c.put_parts-told.ensures) refl in
-    after _ _ _ _ _ _ _ (codes "\n") _ told c.put.ensures (step_line_is c.args.number x y c.commit.ensures)
+    let slot = c.from-slot.ensures ∙ c.pc.ensures in
+    let held = c.put_head-told.ensures.text in
+    let change = rw c.in-Ok.is at c.look.ensures.ok in
+    let text = rw slot at c.at.ensures in
+    let named = text ∙ text_is x.program c.args.texts.now x.pc c.requires.texts c.invariant.ensures.start in
+    let wrote = rw change at c.add_parts.ensures.text in
+    WritesAfter-WritesAfter g.W.Write.contents _ _ _ _ _ _ _ _ _ held.written c.put.ensures
+    (whole_line c.args.number x c.commit.new.self held.told _ _ _ _ c.invariant.ensures c.commit.ensures named held.parts wrote (c.as_slice.ensures ∙ c.add.ensures))

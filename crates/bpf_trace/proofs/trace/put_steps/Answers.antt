@@ -1,45 +1,50 @@
-use Rattle.std.proofs.Common.{ℕ, ◌≡◌, false, true, arith, ap, subst, sym, ◌∙◌}
+use Rattle.std.proofs.Common.{ℕ, ◌≡◌, false, true, arith, ap, refl, subst, sym, ◌∙◌}
 use Rattle.bpf_entries.specs.Status.{has_ended}
 use Rattle.bpf_machine.specs.Runs.{Steps}
 use Rattle.bpf_trace.proofs.Lines.{Telling-broken, lines_start, lines_step, lines_ended, lines_all}
-use Rattle.bpf_trace.proofs.Stepping.{Steps-none, Steps-more}
+use Rattle.bpf_trace.proofs.Stepping.{Steps-none, Steps-more, next-program}
 use Rattle.bpf_trace.proofs.trace.put_steps.Goals as goal
 
 pub loop-k-init : goal.loop-k-init
 loop-k-init g c = record {
-  told = lines_start g.W.Write.contents c.args.writer.now c.args.so_far c.args.passed c.args.most c.args.cpu.now;
+  told = lines_start g.W.Write.contents c.args.writer.now c.args.so_far c.args.only_branches c.args.passed c.args.most c.args.cpu.now;
   steps = Steps-none c.args.cpu.now;
+  program = refl;
 }
+
+pub put_line-told-requires-clause-texts : goal.put_line-told-requires-clause-texts
+put_line-told-requires-clause-texts g c = rw c.loop-k.invariant.program c.requires.texts
 
 pub loop-k-preserved : goal.loop-k-preserved
 loop-k-preserved g c =
     let on : has_ended c.loop-k.cpu.status ≡ false = ap has_ended (sym c.status.ensures) ∙ sym c.has_ended.ensures ∙ c.if-has_ended.false in
-    rw c.put_step-told.ensures.next (record {
-      told = lines_step g.W.Write.contents c.args.writer.now c.args.so_far c.args.passed c.args.most c.args.cpu.now c.loop-k.k _ _ _ _ _ c.loop-k-test.true on c.loop-k.invariant.told c.put_step-told.ensures.text;
+    rw c.put_line-told.ensures.next (record {
+      told = lines_step g.W.Write.contents c.args.writer.now c.args.so_far c.args.only_branches c.args.passed c.args.most c.args.cpu.now c.loop-k.k _ _ _ _ _ c.loop-k-test.true on c.loop-k.invariant.told c.put_line-told.ensures.text;
       steps = Steps-more _ _ _ c.loop-k.invariant.steps on;
+      program = next-program c.loop-k.cpu ∙ c.loop-k.invariant.program;
     })
 
 pub returns-then-has_ended-clause-text : goal.returns-then-has_ended-clause-text
 returns-then-has_ended-clause-text g c =
     let over : has_ended c.loop-k.cpu.status ≡ true = ap has_ended (sym c.status.ensures) ∙ sym c.has_ended.ensures ∙ c.if-has_ended.true in
-    lines_ended g.W.Write.contents c.args.writer.now c.args.so_far c.args.passed c.args.most c.args.cpu.now c.loop-k.k _ _ _ over c.loop-k.invariant.told
+    lines_ended g.W.Write.contents c.args.writer.now c.args.so_far c.args.only_branches c.args.passed c.args.most c.args.cpu.now c.loop-k.k _ _ _ over c.loop-k.invariant.told
 
 pub returns-in-Err-clause-text : goal.returns-in-Err-clause-text
 returns-in-Err-clause-text g c =
     let on : has_ended c.loop-k.cpu.status ≡ false = ap has_ended (sym c.status.ensures) ∙ sym c.has_ended.ensures ∙ c.if-has_ended.false in
-    let more = lines_step g.W.Write.contents c.args.writer.now c.args.so_far c.args.passed c.args.most c.args.cpu.now c.loop-k.k _ _ _ _ _ c.loop-k-test.true on c.loop-k.invariant.told c.put_step-told.ensures.text in
+    let more = lines_step g.W.Write.contents c.args.writer.now c.args.so_far c.args.only_branches c.args.passed c.args.most c.args.cpu.now c.loop-k.k _ _ _ _ _ c.loop-k-test.true on c.loop-k.invariant.told c.put_line-told.ensures.text in
     Telling-broken g.W.Write.contents c.args.writer.now c.args.so_far _ _ _ _ (rw c.in-Err.is at more)
 
 pub returns-in-Err-clause-steps : goal.returns-in-Err-clause-steps
 returns-in-Err-clause-steps g c =
     let on : has_ended c.loop-k.cpu.status ≡ false = ap has_ended (sym c.status.ensures) ∙ sym c.has_ended.ensures ∙ c.if-has_ended.false in
-    rw c.put_step-told.ensures.next (Steps-more _ _ _ c.loop-k.invariant.steps on)
+    rw c.put_line-told.ensures.next (Steps-more _ _ _ c.loop-k.invariant.steps on)
 
 pub returns-clause-text : goal.returns-clause-text
 returns-clause-text g c =
     let fin = c.loop-k-test.false in
     let within = c.loop-k.auto.k-end in
-    lines_all g.W.Write.contents c.args.writer.now c.args.so_far c.args.passed c.args.most c.args.cpu.now c.loop-k.k _ _ _ (omega arith) c.loop-k.invariant.told
+    lines_all g.W.Write.contents c.args.writer.now c.args.so_far c.args.only_branches c.args.passed c.args.most c.args.cpu.now c.loop-k.k _ _ _ (omega arith) c.loop-k.invariant.told
 
 pub returns-clause-steps : goal.returns-clause-steps
 returns-clause-steps g c =

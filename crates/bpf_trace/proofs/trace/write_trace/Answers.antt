@@ -1,8 +1,12 @@
-use Rattle.std.proofs.Common.{◌+◌, arith, refl}
+use Rattle.std.proofs.Common.{◌+◌, ◌∙◌, ap, arith, refl, sym}
 use Rattle.counted_io.proofs.Appending.{WritesAfter-WritesAfter}
+use Rattle.bpf_trace.specs.Texts.{texts_of}
 use Rattle.bpf_trace.proofs.Lines.{anyway, broken_more, trace_is}
-use Rattle.bpf_trace.proofs.Stepping.{Steps-Steps, whole_run, whole_end, whole_way}
+use Rattle.bpf_trace.proofs.Stepping.{Steps-Steps, Steps-program, whole_run, whole_end, whole_way}
 use Rattle.bpf_trace.proofs.trace.write_trace.Goals as goal
+
+pub put_steps-taken-requires-clause-texts : goal.put_steps-taken-requires-clause-texts
+put_steps-taken-requires-clause-texts g c = c.requires.texts ∙ ap texts_of (sym (Steps-program _ _ _ c.run-passed.ensures.steps))
 
 pub returns-in-Err-clause-text : goal.returns-in-Err-clause-text
 returns-in-Err-clause-text g c =

@@ -1,6 +1,6 @@
 use Rattle.std.proofs.Common.{refl}
 use Rattle.bpfdb.specs.Done.{Done, Unread}
-use Rattle.bpfdb.specs.Files.{OfFile, OfPath, OfScript}
+use Rattle.bpfdb.specs.Files.{OfFile, OfPath, OfOther}
 use Rattle.bpfdb.proofs.doing.do_plan.Goals as goal
 
 pub returns-in-Err-clause-does : goal.returns-in-Err-clause-does
@@ -16,7 +16,7 @@ pub returns-in-Err-read_given-2-clause-does : goal.returns-in-Err-read_given-2-c
 returns-in-Err-read_given-2-clause-does g c =
     let file = rw c.kind_of.ensures at c.in-Ok.ensures.ok in
     Unread c.in-Err-read_given-2.fault
-    (OfScript c.in-Ok.file.items c.in-Ok-read_given.context.items file c.in-Ok-read_given.ensures.ok c.in-Err-read_given-2.ensures.err) refl refl
+    (OfOther c.in-Ok.file.items c.in-Ok-read_given.context.items file c.in-Ok-read_given.ensures.ok c.in-Err-read_given-2.ensures.err) refl refl
     c.give_up-in-Err-read_given-2.ensures.told c.give_up-in-Err-read_given-2.ensures.value
 
 pub returns-clause-does : goal.returns-clause-does
@@ -24,5 +24,5 @@ returns-clause-does g c =
     let file = rw c.kind_of.ensures at c.in-Ok.ensures.ok in
     let does = c.do_read.ensures.does in
     let is = rw (c.as_slice.ensures.value, c.as_slice-2.ensures.value, c.as_slice-3.ensures.value) at does.1 in
-    Done c.in-Ok.file.items c.in-Ok-read_given.context.items c.in-Ok-read_given-2.script.items does.0
-    (record { file = file; context = c.in-Ok-read_given.ensures.ok; script = c.in-Ok-read_given-2.ensures.ok }) is does.2
+    Done c.in-Ok.file.items c.in-Ok-read_given.context.items c.in-Ok-read_given-2.other.items does.0
+    (record { file = file; context = c.in-Ok-read_given.ensures.ok; other = c.in-Ok-read_given-2.ensures.ok }) is does.2

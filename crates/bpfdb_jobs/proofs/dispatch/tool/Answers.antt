@@ -18,6 +18,11 @@ returns-in-Origin-clause-does g c =
     subst (λ (s : Subcommand). DoesJob g.R.Read.remaining g.W.Write.contents g.E.Write.contents s c.args.job.now c.args.reader.now c.args.reader.now
     c.args.writer.now c.origin_job.new.writer c.args.errors.now c.origin_job.new.errors c.origin_job.result) (sym c.in-Origin.is) (refl, c.origin_job.ensures.does)
 
+pub returns-in-Whynot-clause-does : goal.returns-in-Whynot-clause-does
+returns-in-Whynot-clause-does g c =
+    subst (λ (s : Subcommand). DoesJob g.R.Read.remaining g.W.Write.contents g.E.Write.contents s c.args.job.now c.args.reader.now c.args.reader.now
+    c.args.writer.now c.whynot_job.new.writer c.args.errors.now c.whynot_job.new.errors c.whynot_job.result) (sym c.in-Whynot.is) (refl, c.whynot_job.ensures.does)
+
 pub returns-in-Gdb-clause-does : goal.returns-in-Gdb-clause-does
 returns-in-Gdb-clause-does g c =
     subst (λ (s : Subcommand). DoesJob g.R.Read.remaining g.W.Write.contents g.E.Write.contents s c.args.job.now c.args.reader.now c.gdb_job.new.reader

@@ -7,7 +7,7 @@ use Rattle.bpfdb_jobs.proofs.line.put_object.Goals as goal
 
 -- the parts of a line, one behind the other
 in_line : (front text more name origin end : List ℕ)
-    → ((((front ++ text) ++ more) ++ name) ++ origin) ++ end ≡ front ++ (text ++ more ++ name ++ origin ++ end)
+    → ((((front ++ text) ++ more) ++ name) ++ origin) ++ end ≡ front ++ ((text ++ more ++ name ++ origin) ++ end)
 in_line front text more name origin end = simp append_assoc refl
 
 pub returns : goal.returns
@@ -19,4 +19,4 @@ returns g c = λ first front known.
     let behind = c.put_origin-placed.ensures first _ named in
     Writes-text g.E.Write.contents _ _ _ _ _ (c.put.ensures first _ behind)
     (in_line front (text_of_refusal (codes "refused E") (link_fault fault).0 (codes " at slot ") (slot_of_words fault) (link_fault fault).1) (more_of fault)
-    (name_text c.args.name.now) (origin_text fault) (codes "\n"))
+    (name_text c.args.name.now) (origin_text fault) c.args.end.now)

@@ -4,6 +4,9 @@ use Rattle.bpfdb_jobs.proofs.line.put_refusal.Goals as goal
 pub returns-in-Object : goal.returns-in-Object
 returns-in-Object g c = rw c.in-Object.is (c.put_object.ensures)
 
+pub returns-in-Functions : goal.returns-in-Functions
+returns-in-Functions g c = rw c.in-Functions.is (c.put_object-in-Functions.ensures)
+
 pub returns-in-NoTest : goal.returns-in-NoTest
 returns-in-NoTest g c = λ first front known.
     let begun = c.put-begun.ensures first front known in

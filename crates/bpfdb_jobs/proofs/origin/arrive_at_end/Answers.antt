@@ -1,14 +1,14 @@
 use Rattle.bpfdb_jobs.proofs.Originating.{run-arrives}
-use Rattle.bpfdb_jobs.proofs.Refusing.{no-places, session-origin}
+use Rattle.bpfdb_jobs.proofs.Refusing.{no-places, session-arrival}
 use Rattle.bpfdb_jobs.proofs.origin.arrive_at_end.Goals as goal
 
 pub returns-in-Err-clause-err : goal.returns-in-Err-clause-err
-returns-in-Err-clause-err c = session-origin c.args.job.now c.in-Err.refusal c.in-Err.ensures.err
+returns-in-Err-clause-err c = session-arrival c.args.job.now c.in-Err.refusal c.in-Err.ensures.err
 
 pub returns-in-Err-wanted_of-clause-err : goal.returns-in-Err-wanted_of-clause-err
 returns-in-Err-wanted_of-clause-err c =
     let o = c.in-Ok.ensures.ok in
-    session-origin c.args.job.now c.in-Err-wanted_of.refusal (no-places c.args.job.now o.code c.in-Err-wanted_of.refusal o.opens c.in-Err-wanted_of.ensures)
+    session-arrival c.args.job.now c.in-Err-wanted_of.refusal (no-places c.args.job.now o.code c.in-Err-wanted_of.refusal o.opens c.in-Err-wanted_of.ensures)
 
 pub returns-clause-ok : goal.returns-clause-ok
 returns-clause-ok c =

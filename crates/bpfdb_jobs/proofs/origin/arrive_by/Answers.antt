@@ -2,16 +2,16 @@ use Rattle.std.proofs.Common.{◌∙◌, ap}
 use Rattle.bpf_ring.specs.declared.keeper.RingKeeper.{RingKeeper}
 use Rattle.bpf_machine.specs.State.{State}
 use Rattle.bpfdb_jobs.proofs.Originating.{script-arrives, script-refuses}
-use Rattle.bpfdb_jobs.proofs.Refusing.{no-places, session-origin}
+use Rattle.bpfdb_jobs.proofs.Refusing.{no-places, session-arrival}
 use Rattle.bpfdb_jobs.proofs.origin.arrive_by.Goals as goal
 
 pub returns-in-Err-clause-err : goal.returns-in-Err-clause-err
-returns-in-Err-clause-err c = session-origin c.args.job.now c.in-Err.refusal c.in-Err.ensures.err
+returns-in-Err-clause-err c = session-arrival c.args.job.now c.in-Err.refusal c.in-Err.ensures.err
 
 pub returns-in-Err-wanted_of-clause-err : goal.returns-in-Err-wanted_of-clause-err
 returns-in-Err-wanted_of-clause-err c =
     let o = c.in-Ok.ensures.ok in
-    session-origin c.args.job.now c.in-Err-wanted_of.refusal (no-places c.args.job.now o.code c.in-Err-wanted_of.refusal o.opens c.in-Err-wanted_of.ensures)
+    session-arrival c.args.job.now c.in-Err-wanted_of.refusal (no-places c.args.job.now o.code c.in-Err-wanted_of.refusal o.opens c.in-Err-wanted_of.ensures)
 
 pub returns-in-Err-obey_script-clause-err : goal.returns-in-Err-obey_script-clause-err
 returns-in-Err-obey_script-clause-err c =

@@ -15,7 +15,7 @@ use Rattle.bpfdb_jobs.specs.Suites.{AreAsked, fault_of_file}
 use Rattle.bpfdb_jobs.specs.declared.fault.JobFault.TheVariants as fault
 use Rattle.bpfdb_jobs.specs.declared.job.Job.{Job}
 use Rattle.bpfdb_jobs.specs.declared.refusal.JobRefusal.{JobRefusal}
-use Rattle.bpfdb_jobs.specs.declared.refusal.JobRefusal.TheVariants.{Maps, Listing, Load, Open, Journal, Script, What, Object, Tests, NoTest, ManyTests}
+use Rattle.bpfdb_jobs.specs.declared.refusal.JobRefusal.TheVariants.{Maps, Listing, Load, Open, Journal, Script, What, Goal, Object, Functions, Tests, NoTest, ManyTests}
 use Rattle.bpfdb_options.specs.declared.test_part.TestPart.{TestPart}
 use Rattle.bpfdb_jobs.proofs.show.show_job.Goals as goal
 
@@ -44,7 +44,9 @@ no-test contents lines part job writer errors errors' (Open why) status sound la
 no-test contents lines part job writer errors errors' (Journal why) status sound lacks told two = absurd lacks
 no-test contents lines part job writer errors errors' (Script why) status sound lacks told two = absurd lacks
 no-test contents lines part job writer errors errors' (What why) status sound lacks told two = absurd lacks
+no-test contents lines part job writer errors errors' (Goal why) status sound lacks told two = absurd lacks
 no-test contents lines part job writer errors errors' (Object why name) status sound lacks told two = absurd lacks
+no-test contents lines part job writer errors errors' (Functions why name) status sound lacks told two = absurd lacks
 no-test contents lines part job writer errors errors' (Tests why line) status sound lacks told two = absurd lacks
 no-test contents lines part job writer errors errors' ManyTests status sound lacks told two = absurd lacks
 

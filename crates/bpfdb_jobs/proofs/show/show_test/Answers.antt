@@ -10,7 +10,7 @@ use Rattle.bpfdb_jobs.specs.Suites.{AreTestsOf}
 use Rattle.bpfdb_jobs.specs.declared.fault.JobFault.{JobFault}
 use Rattle.bpfdb_jobs.specs.declared.fault.JobFault.TheVariants as fault
 use Rattle.bpfdb_jobs.specs.declared.job.Job.{Job}
-use Rattle.bpfdb_jobs.specs.declared.refusal.JobRefusal.TheVariants.{Maps, Listing, Load, Open, Journal, Script, What, Object, Tests, NoTest, ManyTests}
+use Rattle.bpfdb_jobs.specs.declared.refusal.JobRefusal.TheVariants.{Maps, Listing, Load, Open, Journal, Script, What, Goal, Object, Functions, Tests, NoTest, ManyTests}
 use Rattle.bpfdb_options.specs.declared.test_part.TestPart.{TestPart}
 use Rattle.bpfdb_jobs.proofs.show.show_test.Goals as goal
 
@@ -48,7 +48,9 @@ hidden contents lines part job test writer errors errors' (fault.Refused (Open w
 hidden contents lines part job test writer errors errors' (fault.Refused (Journal why)) status asked hides told two = absurd hides
 hidden contents lines part job test writer errors errors' (fault.Refused (Script why)) status asked hides told two = absurd hides
 hidden contents lines part job test writer errors errors' (fault.Refused (What why)) status asked hides told two = absurd hides
+hidden contents lines part job test writer errors errors' (fault.Refused (Goal why)) status asked hides told two = absurd hides
 hidden contents lines part job test writer errors errors' (fault.Refused (Object why name)) status asked hides told two = absurd hides
+hidden contents lines part job test writer errors errors' (fault.Refused (Functions why name)) status asked hides told two = absurd hides
 hidden contents lines part job test writer errors errors' (fault.Refused (Tests why line)) status asked hides told two = absurd hides
 hidden contents lines part job test writer errors errors' (fault.Refused (NoTest name)) status asked hides told two = absurd hides
 hidden contents lines part job test writer errors errors' (fault.Refused ManyTests) status asked hides told two = absurd hides

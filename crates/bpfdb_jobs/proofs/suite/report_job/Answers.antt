@@ -11,7 +11,7 @@ use Rattle.bpfdb_jobs.specs.declared.job.Job.{Job}
 use Rattle.bpfdb_jobs.specs.Refusals.{LacksName}
 use Rattle.bpfdb_jobs.specs.declared.fault.JobFault.TheVariants as fault
 use Rattle.bpfdb_jobs.specs.declared.refusal.JobRefusal.{JobRefusal}
-use Rattle.bpfdb_jobs.specs.declared.refusal.JobRefusal.TheVariants.{Maps, Listing, Load, Open, Journal, Script, What, Object, Tests, NoTest, ManyTests}
+use Rattle.bpfdb_jobs.specs.declared.refusal.JobRefusal.TheVariants.{Maps, Listing, Load, Open, Journal, Script, What, Goal, Object, Functions, Tests, NoTest, ManyTests}
 use Rattle.bpfdb_jobs.proofs.suite.report_job.Goals as goal
 
 -- a file of which no test is run
@@ -38,7 +38,9 @@ no-test contents lines job writer errors errors' (Open fault) status sound lacks
 no-test contents lines job writer errors errors' (Journal fault) status sound lacks told two = absurd lacks
 no-test contents lines job writer errors errors' (Script refusal) status sound lacks told two = absurd lacks
 no-test contents lines job writer errors errors' (What fault) status sound lacks told two = absurd lacks
+no-test contents lines job writer errors errors' (Goal fault) status sound lacks told two = absurd lacks
 no-test contents lines job writer errors errors' (Object fault name) status sound lacks told two = absurd lacks
+no-test contents lines job writer errors errors' (Functions fault name) status sound lacks told two = absurd lacks
 no-test contents lines job writer errors errors' (Tests fault line) status sound lacks told two = absurd lacks
 no-test contents lines job writer errors errors' ManyTests status sound lacks told two = absurd lacks
 

@@ -1,0 +1,148 @@
+//! What a job of `whynot` does.
+ghost use Rattle.std.specs.Prelude.{◌≡◌, ◌≤◌, ℕ, IfErr, IfOk, List};
+ghost use Rattle.bpf_isa.specs.Programs.{Checked};
+ghost use Rattle.bpf_journal.specs.Histories.{Record, StandsFor};
+ghost use Rattle.bpf_whynot.specs.Answers.{why_not};
+ghost use Rattle.bpf_whynot.specs.Asking.{query};
+ghost use Rattle.bpf_whynot.specs.Tables.{AreGoals, told_by};
+ghost use Rattle.counted_io.specs.Writing.{Writes};
+ghost use Rattle.bpfdb_jobs.specs.Endings.{EndsPrinted};
+ghost use Rattle.bpfdb_jobs.specs.Jobs.{asked_of};
+ghost use Rattle.bpfdb_jobs.specs.Openings.{HasArrived};
+ghost use Rattle.bpfdb_jobs.specs.Origins.{found_text};
+ghost use Rattle.bpfdb_jobs.specs.Whynots.{IsPrepared, RefusesGoals};
+ghost use Rattle.bpfdb_limits.specs.Limits.{IsLimit};
+ghost use Rattle.bpfdb_options.specs.declared.subcommand.Subcommand.TheVariants.{Whynot};
+
+use crate::fault::JobFault;
+use crate::job::Job;
+use crate::origin::{Arrived, arrive, status_of};
+use crate::refusal::JobRefusal;
+use crate::report::{flush_after, give_up};
+use bpf_isa::Program;
+use bpf_journal::{JournalFault, Keeper, Timeline};
+use bpf_origin::{Question, Told, Wanted};
+use bpf_whynot::{Reach, Search, flag_goals, no_goals, put_whynot};
+use bpfdb_replies::write_place;
+use counted_io::{Counted, WriteFault, put};
+use std::alloc::Global;
+use std::io::Write;
+
+/// The slots that are asked about, and from where they can be come to.
+#[derive(Drop)]
+pub struct Prepared {
+    /// One flag a slot.
+    pub goals: Vec<bool>,
+    pub reach: Reach,
+}
+
+/// Runs the program to its end or to the limit, or obeys the script where there is one, and writes
+/// where the machine stands then and why the program did not come to the slots that are asked about.
+pub fn whynot_job<W: Write, E: Write>(
+    alloc: Global,
+    job: &Job<'_>,
+    writer: &mut Counted<W>,
+    errors: &mut Counted<E>,
+) -> u8
+    requires limit { IsLimit job.now.options.limit }
+    ensures does { EndsPrinted W.contents E.contents Whynot job.now writer.old writer.new errors.old
+        errors.new result }
+    ensures status { result ≤ 2 }
+{
+    match arrive(alloc, job) {
+        Ok(mut arrived) => ask_why(alloc, job, &mut arrived, writer, errors),
+        Err(refusal) => give_up(errors, &JobFault::Refused(refusal)),
+    }
+}
+
+/// Writes where the machine stands, and why the program did not come to the slots.
+fn ask_why<W: Write, E: Write>(
+    alloc: Global,
+    job: &Job<'_>,
+    arrived: &mut Arrived,
+    writer: &mut Counted<W>,
+    errors: &mut Counted<E>,
+) -> u8
+    requires { HasArrived job.now arrived.old.timeline arrived.old.moves }
+    ensures does { EndsPrinted W.contents E.contents Whynot job.now writer.old writer.new errors.old
+        errors.new result }
+    ensures status { result ≤ 2 }
+{
+    let prepared = match prepare(alloc, job, arrived.timeline.cpu().program()) {
+        Ok(prepared) => prepared,
+        Err(refusal) => return give_up(errors, &JobFault::Refused(refusal)),
+    };
+    let question = Question {
+        addresses: job.options.addresses,
+        lines: job.options.lines,
+        opening: arrived.timeline.len() as u64 == arrived.moves,
+    };
+    let search = Search {
+        reach: &prepared.reach,
+        goals: prepared.goals.as_slice(),
+        question,
+        alone: job.options.alone,
+    };
+    let told = put_why(&mut arrived.timeline, &search, &mut arrived.wanted, writer);
+    match told.written {
+        Ok(()) => status_of(told.extent),
+        Err(WriteFault) => give_up(errors, &JobFault::Output),
+    }
+}
+
+/// The slots of a program that are asked about, and from where they can be come to.
+fn prepare(alloc: Global, job: &Job<'_>, program: &Program) -> Result<Prepared, JobRefusal<'static>>
+    ensures ok { IfOk result (IsPrepared program.now (asked_of job.now)) }
+    ensures err { IfErr result (RefusesGoals program.now (asked_of job.now)) }
+{
+    let mut goals = match no_goals(alloc, program) {
+        Ok(goals) => goals,
+        Err(_) => return Err(JobRefusal::Journal(JournalFault::OutOfMemory)),
+    };
+    match flag_goals(program, asked(job), goals.as_mut_slice()) {
+        Ok(()) => {}
+        Err(fault) => return Err(JobRefusal::Goal(fault)),
+    }
+    match Reach::find(alloc, program, goals.as_slice()) {
+        Ok(reach) => Ok(Prepared { goals, reach }),
+        Err(_) => Err(JobRefusal::Journal(JournalFault::OutOfMemory)),
+    }
+}
+
+/// The text of what is asked about.
+fn asked<'a>(job: &Job<'a>) -> &'a [u8]
+    ensures { result.now ≡ asked_of job.now }
+{
+    match job.options.what {
+        Some(text) => text.as_bytes(),
+        None => &[],
+    }
+}
+
+/// Writes where a machine stands, and why its program did not come to the slots, and flushes.
+fn put_why<K: Keeper, W: Write>(
+    timeline: &mut Timeline<K>,
+    search: &Search<'_>,
+    wanted: &mut Wanted,
+    writer: &mut Counted<W>,
+) -> Told
+    ensures text { (program : Checked) (goals : List ℕ) (h : List Record) →
+        AreGoals program goals search.now.goals.now →
+        StandsFor K.holds timeline.old.keeper timeline.old.state h →
+        Writes W.contents writer.old writer.new result.written (found_text timeline.old.state
+        (why_not (told_by search.now.reach.now) (query search.now goals) h timeline.old.state)) }
+    ensures extent { (program : Checked) (goals : List ℕ) (h : List Record) →
+        AreGoals program goals search.now.goals.now →
+        StandsFor K.holds timeline.old.keeper timeline.old.state h → result.extent
+        ≡ (why_not (told_by search.now.reach.now) (query search.now goals) h
+        timeline.old.state).extent }
+{
+    let placed = write_place(timeline.cpu(), writer);
+    let ended = put(writer, placed, b"\n");
+    let told = put_whynot(timeline, search, wanted, writer, ended);
+    Told {
+        written: flush_after(writer, told.written),
+        extent: told.extent,
+        moves: told.moves,
+    }
+}
