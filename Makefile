@@ -8,7 +8,7 @@ BIN = $(PREFIX)/bin
 MAN = $(PREFIX)/share/man/man1
 SHARE = $(PREFIX)/share/bpfdb
 DOC = $(PREFIX)/share/doc/bpfdb
-PAGES = COMMANDS LISTING MACHINE JOURNAL GDB EDITORS PAGE CONTEXTS XDP TESTS HEADLINE PROMISES PERFORMANCE
+PAGES = COMMANDS LISTING MACHINE JOURNAL GDB EDITORS PAGE CONTEXTS XDP LINUX TESTS HEADLINE PROMISES PERFORMANCE
 
 # The programs whose command lines shells complete.
 COMPLETED = bpfdb bpfdb-shell bpfdb-page bpfdb-dap bpfdb-context
@@ -47,12 +47,13 @@ install:
 
 # Takes them away again.
 uninstall:
-	@rm -f "$(DESTDIR)$(BIN)/bpfdb" "$(DESTDIR)$(BIN)/bpfdb-shell" "$(DESTDIR)$(BIN)/bpfdb-symbols" "$(DESTDIR)$(BIN)/bpfdb-show" "$(DESTDIR)$(BIN)/bpfdb-page" "$(DESTDIR)$(BIN)/bpfdb-context" "$(DESTDIR)$(BIN)/bpfdb-convert" "$(DESTDIR)$(BIN)/bpfdb-conformance"
+	@rm -f "$(DESTDIR)$(BIN)/bpfdb" "$(DESTDIR)$(BIN)/bpfdb-shell" "$(DESTDIR)$(BIN)/bpfdb-symbols" "$(DESTDIR)$(BIN)/bpfdb-show" "$(DESTDIR)$(BIN)/bpfdb-page" "$(DESTDIR)$(BIN)/bpfdb-context" "$(DESTDIR)$(BIN)/bpfdb-convert" "$(DESTDIR)$(BIN)/bpfdb-events" "$(DESTDIR)$(BIN)/bpfdb-conformance"
 	@[ ! -d "$(DESTDIR)$(MAN)" ] || { cd "$(DESTDIR)$(MAN)" && rm -f $(notdir $(wildcard docs/*.1)); }
 	@[ ! -d "$(DESTDIR)$(PREFIX)/share" ] || { cd "$(DESTDIR)$(PREFIX)/share" && rm -f bpfdb/bpfdb-gdb.py bpfdb/bpfdb.h bpfdb/bpfdb.vim \
 		$(patsubst %,bash-completion/completions/%,$(COMPLETED)) zsh/site-functions/_bpfdb zsh/vendor-completions/_bpfdb \
 		$(patsubst %,fish/vendor_completions.d/%.fish,$(COMPLETED)); }
-	@[ ! -d "$(DESTDIR)$(SHARE)" ] || { cd "$(DESTDIR)$(SHARE)" && rm -rf $(notdir $(wildcard share/bpfdb/*.py)) bpfdb-dap.el vscode; }
+	@[ ! -d "$(DESTDIR)$(SHARE)" ] || { cd "$(DESTDIR)$(SHARE)" && rm -rf $(notdir $(wildcard share/bpfdb/*.py)) bpfdb-dap.el vscode \
+		bpfdb-linux.c bpfdb-linux.h bpfdb-linux.o bpfdb-map.h bpfdb-linux; }
 	@rm -f "$(DESTDIR)$(BIN)/bpfdb-dap"
 	@rm -rf "$(DESTDIR)$(DOC)" "$(DESTDIR)$(SHARE)/page"
 	@[ ! -d "$(DESTDIR)$(SHARE)" ] || rmdir "$(DESTDIR)$(SHARE)"

@@ -40,6 +40,8 @@ end | quit | q exit | ends the session
 REFUSALS = """
 V1 | Name a register or an address; COUNT is 1 to 256. r10 has no history: it is the end of the frame.
 V2 | Some of the bytes aren't there, or they lie in two regions. 'docs/MACHINE.md' has the addresses; numbers without '0x' are decimal.
+V3 | Name a slot as '12', or several as '12,15', without blanks; 'disasm' or 'lines' shows which there are.
+V4 | The program has no such slot, or it is the second one of a wide load.
 Q1 | No command has this name. Names are lower case and whole: 'continue', not 'c'.
 Q2 | A word after the name is wrong, missing or too many.
 Q3 | Go back, or let it run again by 'set pc'.
@@ -107,6 +109,7 @@ OWN_HELP = {
     'run': ('r', 'run: goes back to the first kept step, and continues'),
     'start': ('starti', 'start: goes back to the first kept step, and on to the entry where that is another place, and shows where that is'),
     'origin': ('', 'origin [VALUE]: shows where a register or bytes (ADDRESS:COUNT) got their value; left out it is r0, or after a bad access its address'),
+    'whynot': ('', 'whynot PLACE: shows why the program did not come to a slot, a label or a line (FILE:LINE), and what decided it'),
     'source': ('', 'source FILE: obeys the lines of a file'),
     'monitor': ('mon', 'monitor LINE: sends a line as it is, as in gdb'),
     'help': ('h', 'help [COMMAND]: lists the commands, or describes one'),
@@ -145,7 +148,7 @@ HABITS = {
     'hbreak': 'set_break', 'thbreak': 'break_once',
     'delete': 'delete', 'd': 'delete', 'del': 'delete', 'clear': 'delete', 'cl': 'delete',
     'watch': 'watch', 'w': 'watch', 'wa': 'watch', 'unwatch': 'unwatch', 'uw': 'unwatch',
-    'last-write': 'at_address', 'lw': 'at_address', 'origin': 'origin',
+    'last-write': 'at_address', 'lw': 'at_address', 'origin': 'origin', 'whynot': 'whynot',
     'list': 'list', 'l': 'list', 'disas': 'disassemble', 'disassemble': 'disassemble',
     'until': 'until', 'advance': 'advance', 'jump': 'jump', 'j': 'jump',
     'run': 'run', 'r': 'run', 'start': 'start', 'starti': 'start',

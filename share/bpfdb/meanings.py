@@ -59,6 +59,11 @@ class Meanings:
             raise Hint(f'there is no label {text}' + ('' if self.source.labels else ': labels are those of a listing or an object'))
         return self.word(text)
 
+    def slots(self, text):
+        """The slots of a place: of FILE:LINE all that the line has."""
+        line = re.fullmatch(r'([^:]+):(\d+)', text.strip())
+        return [str(slot) for slot in self.source.slots_of(line[1], int(line[2]))] if line and self.slot(text) else [self.slot(text)]
+
     def pointed(self, text):
         """An address in C's words, `*(int *)A`, `{int}A`, `(char *)A` or A, and the width of what is there (None if not said)."""
         found = re.fullmatch(r'(?:-l |-location )?\s*(?:\*?\s*\(\s*([\w ]+?)\s*\*\s*\)|\{([\w ]+)\})\s*(.+)', text)

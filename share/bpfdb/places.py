@@ -52,6 +52,11 @@ class Source:
         found = [(at, slot) for slot, (name, at, _) in self.lines.items() if at >= line and name == os.path.basename(file)]
         return min(found)[1] if found else None
 
+    def slots_of(self, file, line):
+        """All slots of a line, or of the next one that has any."""
+        first = self.slot_of(file, line)
+        return [] if first is None else sorted(slot for slot, place in self.lines.items() if place[:2] == self.lines[first][:2])
+
 
 class Listing(Source):
     """A listing, by `bpfdb lines`."""

@@ -86,15 +86,19 @@ class Program:
         return f'{said}: --journal {LARGEST_JOURNAL} would keep some {rounded(LARGEST_JOURNAL * (self.most - count) // size):,}'
 
     def origin(self, what):
-        """What `bpfdb origin` says of the session of these lines, over a journal of the same size, and the words for it."""
+        """What `bpfdb origin` says of the session of these lines, and the words for it."""
+        if self.moves == 0:
+            raise Hint('nothing has run yet: each value is that of the opening')
+        return self.asked('origin', what)
+
+    def asked(self, of, what):
+        """What a subcommand says of the session of these lines, over a journal of the same size, and the words for it."""
         subcommand, *words = self.line[1:] or ['']
         if subcommand != 'debug' or '--' not in words:
             raise Hint('the program that is built in has no file')
-        if self.moves == 0:
-            raise Hint('nothing has run yet: each value is that of the opening')
         at = words.index('--')
         journal = [] if has(words[:at], '--journal') else ['--journal', self.ask('info history')[0].split()[-2]]
-        asked = ['origin', *words[:at], *journal, '--script', '/dev/stdin', *words[at:], *what]
+        asked = [of, *words[:at], *journal, '--script', '/dev/stdin', *words[at:], *what]
         done = subprocess.run([self.line[0], *asked], input=''.join(line + '\n' for line in self.lines), capture_output=True, text=True,
                               pass_fds=[file.fileno() for file in self.kept], encoding='utf-8', errors='surrogateescape')
         return asked, done.stdout.splitlines()[1:] if done.stdout else done.stderr.splitlines()

@@ -149,15 +149,23 @@ class Values:
         register = REGISTER.fullmatch(rest)
         address, colon, count = rest.partition(':')
         what = [register[1]] if register else [f'{self.pointed(address)[0]}{colon}{count}'] if rest else []
-        asked, reply = self.program.origin(what)
+        self.tell_answer('origin', *self.program.origin(what))
+
+    def whynot(self, name, rest, form):
+        if not rest:
+            raise Hint('whynot PLACE: a slot, a label, LABEL+1 or FILE:LINE')
+        self.tell_answer('whynot', *self.program.asked('whynot', [','.join(self.slots(rest))]))
+
+    def tell_answer(self, name, asked, reply):
+        """The lines of an answer, those of moves with their lines of source."""
         self.announce(f"bpfdb {' '.join(word for word in asked if word != '--')}")
         for text in reply:
-            slot = re.match(r'-\d+ .*?; (\d+): ', text)
+            slot = re.match(r'-\d+ (?:.*?; )?(\d+): ', text)
             file, at, _ = self.source.lines.get(int(slot[1]) if slot else -1, ('', 0, ''))
             self.say(text + (f' ({file}:{at})' if file and self.terminal else ''), '31' if text.startswith('refused ') else '')
         if reply and reply[0].startswith('refused ') and self.terminal:
-            warn(f"bpfdb-shell: {meaning('origin', reply[0])}")
-        if any(text.endswith('; before the kept history') for text in reply):
+            warn(f"bpfdb-shell: {meaning(name, reply[0])}")
+        if any(text.endswith(('; before the kept history', ' before what is kept')) for text in reply):
             self.tell_dropped()
 
 

@@ -46,6 +46,7 @@ _bpfdb() {
     --entry) _bpfdb_of_file --entry "$word"; return ;;
     --stub) :; return ;;
     --script) mapfile -t COMPREPLY < <(compgen -f -- "$word"); return ;;
+    --with) mapfile -t COMPREPLY < <(compgen -f -- "$word"); return ;;
     --lines) :; return ;;
     --only) _bpfdb_of_file --only "$word"; return ;;
     --show) mapfile -t COMPREPLY < <(compgen -W "program context options script" -- "$word"); return ;;
@@ -55,25 +56,26 @@ _bpfdb() {
     --over) mapfile -t COMPREPLY < <(compgen -W "gdb bpfdb" -- "$word"); return ;;
     esac
     if [ "$COMP_CWORD" -eq "$first" ]; then
-        mapfile -t COMPREPLY < <(compgen -W "run trace debug origin asm disasm lines check link gdb test help --help --version" -- "$word")
+        mapfile -t COMPREPLY < <(compgen -W "run trace debug origin whynot asm disasm lines check link gdb test help --help --version" -- "$word")
         return
     fi
     case $job in
     run) words="-m --mem --maps --steps --listing -h --help" ;;
-    trace) words="-m --mem --maps --steps --from --count --profile --listing -h --help" ;;
+    trace) words="-m --mem --maps --steps --from --count --branches --profile --listing -h --help" ;;
     debug) words="-m --mem --maps --journal --steps --listing -h --help" ;;
     origin) words="-m --mem --maps --journal --steps --listing --script --lines --addresses -h --help" ;;
+    whynot) words="-m --mem --maps --journal --steps --listing --script --lines --addresses --alone -h --help" ;;
     asm) words="-h --help" ;;
     disasm) words="--maps --listing -h --help" ;;
     lines) words="-h --help" ;;
     check) words="--maps --listing -h --help" ;;
-    link) words="--section --entry --stub --as-compiled -h --help" ;;
+    link) words="--section --entry --stub --as-compiled --with --joined -h --help" ;;
     gdb) words="-m --mem --maps --journal --steps --listing --registers -h --help" ;;
     test) words="--only --show -h --help" ;;
     shell) words="-m --mem --maps --journal --steps --listing --section --entry --stub --as-compiled -h --help" ;;
     page) words="-m --mem --maps --steps --listing --section --entry --stub --as-compiled -o --output --from --count --title --object -h --help" ;;
     dap) words="--port --over -h --help" ;;
-    help) words="run trace debug origin asm disasm lines check link gdb test" ;;
+    help) words="run trace debug origin whynot asm disasm lines check link gdb test" ;;
     *) return ;;
     esac
     case $word in

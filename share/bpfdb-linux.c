@@ -1,0 +1,28 @@
+/* Linux's helpers and kinds of maps, as functions of BPF: `bpfdb link --with bpfdb-linux.o` links a program with those
+   that it calls. docs/LINUX.md says what each does, and where Linux does otherwise.
+
+     clang -target bpf -mcpu=v3 -O2 -g -c bpfdb-linux.c -o bpfdb-linux.o
+
+   What it keeps lies in five maps of the machine: `.data.world` with the world and where the heap has got to, three
+   maps of heap, `.bss.output`. A helper calls no other function but the one that writes numbers into texts, so it takes
+   one of the machine's eight frames, or two.
+
+   The machine needs no alignment: where bytes are read eight at a time, they may lie anywhere. */
+#include "bpfdb-linux.h"
+#include "bpfdb-linux/base.h"
+#include "bpfdb-linux/heap.h"
+#include "bpfdb-linux/nodes.h"
+#include "bpfdb-linux/tables.h"
+#include "bpfdb-linux/tries.h"
+#include "bpfdb-linux/output.h"
+#include "bpfdb-linux/packet.h"
+
+#include "bpfdb-linux/maps.c"
+#include "bpfdb-linux/queues.c"
+#include "bpfdb-linux/reads.c"
+#include "bpfdb-linux/world.c"
+#include "bpfdb-linux/events.c"
+#include "bpfdb-linux/texts.c"
+#include "bpfdb-linux/stacks.c"
+#include "bpfdb-linux/packets.c"
+#include "bpfdb-linux/sums.c"

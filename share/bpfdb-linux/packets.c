@@ -1,0 +1,109 @@
+/* Helpers of programs for XDP and tc. The packet is the context's bytes: there is no room before the first one, and none
+   behind the last. */
+enum { ETHERNET = 14, MOST_META = 32, LONGEST_PACKET = 0xffff };
+
+HELPER long bpf_xdp_adjust_head(struct packet *p, s32 delta)
+{
+	u64 data = p->data + (s64)delta, meta = p->data - p->data_meta;
+
+	if (data < CONTEXT + meta || data > p->data_end - ETHERNET)
+		return -EINVAL;
+	shift((u8 *)data - meta, (u8 *)p->data_meta, meta);
+	p->data_meta = data - meta;
+	p->data = data;
+	return 0;
+}
+
+HELPER long bpf_xdp_adjust_tail(struct packet *p, s32 delta)
+{
+	u64 end = p->data_end + (s64)delta;
+
+	if (end > CONTEXT + bpfdb_context_len || end < p->data + ETHERNET)
+		return -EINVAL;
+	if (delta > 0)
+		clear((u8 *)p->data_end, delta);
+	p->data_end = end;
+	return 0;
+}
+
+HELPER long bpf_xdp_adjust_meta(struct packet *p, s32 delta)
+{
+	u64 meta = p->data_meta + (s64)delta;
+
+	if (meta < CONTEXT || meta > p->data)
+		return -EINVAL;
+	if ((p->data - meta) % 4 || p->data - meta > MOST_META)
+		return -EACCES;
+	p->data_meta = meta;
+	return 0;
+}
+
+HELPER u64 bpf_xdp_get_buff_len(struct packet *p)
+{
+	return packet_length(p);
+}
+
+HELPER long bpf_xdp_load_bytes(struct packet *p, u32 place, void *to, u32 size)
+{
+	const u8 *from = bytes_at(p, place, size);
+
+	if (place > LONGEST_PACKET || size > LONGEST_PACKET)
+		return -EFAULT;
+	if (!from)
+		return -EINVAL;
+	copy(to, from, size);
+	return 0;
+}
+
+HELPER long bpf_xdp_store_bytes(struct packet *p, u32 place, const void *from, u32 size)
+{
+	u8 *to = bytes_at(p, place, size);
+
+	if (place > LONGEST_PACKET || size > LONGEST_PACKET)
+		return -EFAULT;
+	if (!to)
+		return -EINVAL;
+	copy(to, from, size);
+	return 0;
+}
+
+HELPER long bpf_skb_load_bytes(struct packet *p, u32 place, void *to, u32 size)
+{
+	const u8 *from = bytes_at(p, place, size);
+
+	if (!from) {
+		clear(to, size);
+		return -EFAULT;
+	}
+	copy(to, from, size);
+	return 0;
+}
+
+HELPER long bpf_skb_store_bytes(struct packet *p, u32 place, const void *from, u32 size, u64 flags)
+{
+	enum { NEW_SUM = 1, NEW_HASH = 2 };
+	u8 *to = bytes_at(p, place, size);
+
+	if (flags & ~(u64)(NEW_SUM | NEW_HASH))
+		return -EINVAL;
+	if (!to)
+		return -EFAULT;
+	copy(to, from, size);
+	return 0;
+}
+
+/* All bytes are where a program can reach them. */
+HELPER long bpf_skb_pull_data(struct packet *p, u32 size)
+{
+	return size > packet_length(p) ? -ENOMEM : 0;
+}
+
+/* A world without routes. */
+HELPER long bpf_fib_lookup(void *context UNUSED, void *asked UNUSED, s32 size, u32 flags)
+{
+	enum { ASKED = 64, FLAGS = 3, NOT_FORWARDED = 4 };
+
+	if (size < ASKED || flags & ~(u32)FLAGS)
+		return -EINVAL;
+	return NOT_FORWARDED;
+}

@@ -1,0 +1,140 @@
+/* What the world is: bpfdb_world says it. */
+
+/* What the kernel's configuration is, for those who ask (`__kconfig` of libbpf): version 6.1, on x86-64. */
+int LINUX_KERNEL_VERSION WORLD = 0x060100;
+_Bool LINUX_HAS_BPF_COOKIE WORLD = 1;
+_Bool LINUX_HAS_SYSCALL_WRAPPER WORLD = 1;
+
+INLINE u64 look_at_time(void)
+{
+	bpfdb_world.time += bpfdb_world.time_step;
+	return bpfdb_world.time;
+}
+
+HELPER u64 bpf_ktime_get_ns(void)
+{
+	return look_at_time();
+}
+
+HELPER u64 bpf_ktime_get_boot_ns(void)
+{
+	return look_at_time();
+}
+
+HELPER u64 bpf_ktime_get_coarse_ns(void)
+{
+	return bpfdb_world.time;
+}
+
+HELPER u64 bpf_ktime_get_tai_ns(void)
+{
+	return look_at_time();
+}
+
+/* (of a kernel that counts 250 a second) */
+HELPER u64 bpf_jiffies64(void)
+{
+	return bpfdb_world.time / 4000000;
+}
+
+HELPER u64 bpf_get_current_pid_tgid(void)
+{
+	return (u64)bpfdb_world.tgid << 32 | bpfdb_world.pid;
+}
+
+HELPER u64 bpf_get_current_uid_gid(void)
+{
+	return (u64)bpfdb_world.gid << 32 | bpfdb_world.uid;
+}
+
+HELPER long bpf_get_current_comm(void *to, u32 size)
+{
+	u8 *t = to;
+	u32 i = 0;
+
+	if (!size)
+		return -EINVAL;
+	for (; i < size - 1 && i < BPFDB_COMM && bpfdb_world.comm[i]; i++) {
+		t[i] = bpfdb_world.comm[i];
+		STAY_A_LOOP();
+	}
+	clear(t + i, size - i);
+	return 0;
+}
+
+HELPER u64 bpf_get_smp_processor_id(void)
+{
+	return bpfdb_world.cpu;
+}
+
+HELPER u64 bpf_get_numa_node_id(void)
+{
+	return bpfdb_world.node;
+}
+
+HELPER u64 bpf_get_current_task(void)
+{
+	return bpfdb_world.task;
+}
+
+HELPER u64 bpf_get_current_task_btf(void)
+{
+	return bpfdb_world.task;
+}
+
+HELPER u64 bpf_get_current_cgroup_id(void)
+{
+	return bpfdb_world.cgroup;
+}
+
+HELPER long bpf_current_task_under_cgroup(struct map *m, u32 index)
+{
+	if (m->max_entries && index >= m->max_entries)
+		return -E2BIG;
+	return bpfdb_world.under_cgroup;
+}
+
+/* (xorshift64) */
+HELPER u64 bpf_get_prandom_u32(void)
+{
+	u64 random = bpfdb_world.random;
+
+	random ^= random << 13;
+	random ^= random >> 7;
+	random ^= random << 17;
+	bpfdb_world.random = random;
+	return (u32)random;
+}
+
+HELPER u64 bpf_get_func_ip(void *context UNUSED)
+{
+	return bpfdb_world.func_ip;
+}
+
+HELPER u64 bpf_get_attach_cookie(void *context UNUSED)
+{
+	return bpfdb_world.cookie;
+}
+
+/* What is asked of perf events: nobody opened one. */
+HELPER long bpf_perf_event_read(struct map *m UNUSED, u64 flags UNUSED)
+{
+	return -ENOENT;
+}
+
+HELPER long bpf_perf_event_read_value(struct map *m UNUSED, u64 flags UNUSED, void *to, u32 size)
+{
+	clear(to, size);
+	return -ENOENT;
+}
+
+/* A redirect to an interface. XDP has no flags, tc one; what a program of the other kind gets is of no use to it. */
+HELPER long bpf_redirect(u32 interface, u64 flags)
+{
+	enum { XDP_ABORTED = 0, XDP_REDIRECT = 4, TC_SHOT = 2, TC_REDIRECT = 7, INGRESS = 1 };
+
+	if (flags & ~(u64)(bpfdb_world.is_tc ? INGRESS : 0))
+		return bpfdb_world.is_tc ? TC_SHOT : XDP_ABORTED;
+	bpfdb_world.redirected_to = interface;
+	return bpfdb_world.is_tc ? TC_REDIRECT : XDP_REDIRECT;
+}
