@@ -85,10 +85,11 @@ suite() {
 }
 
 # shown PAGE SECTION: each command after '$ ' in a section of a page (in all of it, where the section is empty) prints the lines that follow it
-# there, and 'cat FILE' shows a file that the commands after it take. They are run in one folder, in order.
+# there, and 'cat FILE' shows a file that the commands after it take. They are run in one folder, in order, which has that of the example firewall.
 shown() {
     rm -rf "$work/shown"
     mkdir "$work/shown" "$work/shown/files" || exit 1
+    cp -R "$top/examples/firewall" "$work/shown/files" || exit 1
     awk -v section="## $2" -v work="$work/shown" '
         BEGIN { inside = section == "## " }
         /^## / { inside = section == "## " || $0 == section }
@@ -109,7 +110,7 @@ shown() {
     [ "$n" -gt 1 ] || fault "$1 has no examples in '$2'"
 }
 
-# origins PAGE SECTION EXAMPLE: each command `bpfdb origin` that a section of a page (all of it, where the section is empty) shows prints the lines
+# origins PAGE SECTION EXAMPLE: each command `bpfdb origin` or `bpfdb whynot`, and each that cuts a file for it, that a section of a page (all of it, where the section is empty) shows prints the lines
 # that follow it there, in the folder of the example, where the program also stands under the example's name.
 origins() {
     rm -rf "$work/origins"
@@ -120,7 +121,7 @@ origins() {
         BEGIN { inside = section == "## " }
         /^## / { inside = section == "## " || $0 == section }
         /^```/ { block = !block; on = 0; next }
-        inside && block && /^\$ / { on = /^\$ bpfdb origin /; if (on) { n++; print substr($0, 3) > (work "/command-" n); printf "" > (work "/text-" n) }; next }
+        inside && block && /^\$ / { on = /^\$ (bpfdb (origin|whynot)|\{ head) /; if (on) { n++; print substr($0, 3) > (work "/command-" n); printf "" > (work "/text-" n) }; next }
         inside && block && on { print > (work "/text-" n) }
     ' "$1"
     n=1
@@ -141,7 +142,7 @@ pages() {
     shown examples/RECIPES.md ''
     if has python3 'the tests of uBPF of docs/TESTS.md'; then shown docs/TESTS.md 'Files of uBPF'; fi
     origins README.md '' overrun
-    for name in overrun fault records; do
+    for name in overrun fault records firewall; do
         origins examples/README.md "$name" "$name"
     done
     if has xxd 'the example from words'; then shown examples/README.md 'From words'; fi

@@ -23,7 +23,7 @@ put_as() {
     mkdir -p "$folder" && cp "$4" "$folder/$3" && chmod "$1" "$folder/$3" || exit 1
 }
 
-put 755 bin crates/bpfdb/out/bpfdb share/bpfdb-shell share/bpfdb-symbols share/bpfdb-show share/bpfdb-page share/bpfdb-context share/bpfdb-convert share/bpfdb-conformance
+put 755 bin crates/bpfdb/out/bpfdb share/bpfdb-shell share/bpfdb-symbols share/bpfdb-show share/bpfdb-page share/bpfdb-context share/bpfdb-convert share/bpfdb-events share/bpfdb-conformance
 put 644 share/man/man1 docs/*.1
 put 644 share/bpfdb/page share/page/*
 put 755 bin share/bpfdb-dap
@@ -31,6 +31,14 @@ put 755 bin share/bpfdb-dap
 put 644 share/bpfdb share/bpfdb/*.py
 put 644 share/bpfdb share/bpfdb-gdb.py share/editors/bpfdb.vim share/editors/bpfdb-dap.el share/bpfdb.h
 put 644 share/bpfdb/vscode share/editors/vscode/*
+# The library of Linux: its C, and where there is a clang for BPF its object, whose lines are those of the files beside it.
+put 644 share/bpfdb share/bpfdb-linux.c share/bpfdb-linux.h share/bpfdb-map.h
+put 644 share/bpfdb/bpfdb-linux share/bpfdb-linux/*
+if echo | clang -target bpf -x c -c -o /dev/null - 2> /dev/null; then
+    object=$destination$prefix/share/bpfdb/bpfdb-linux.o
+    (cd share && clang -target bpf -mcpu=v3 -O2 -g -ffile-prefix-map="$PWD=$prefix/share/bpfdb" -c -o "$object" bpfdb-linux.c) || exit 1
+    chmod 644 "$object"
+fi
 # (each shell looks for a completion by the name of the command; zsh of Debian's packages in a folder of its own)
 for name in bpfdb bpfdb-shell bpfdb-page bpfdb-dap bpfdb-context; do
     put_as 644 share/bash-completion/completions "$name" share/completion/bpfdb.bash
@@ -59,5 +67,5 @@ for page in docs/*.md; do
     page=$(basename "$page")
     [ -e "$folder/$page" ] || sed -i "s|\[\([^][]*\)\](\(docs/\)\{0,1\}${page}[^)]*)|\1|g" "$folder"/*.md "$folder/examples"/*.md || exit 1
 done
-echo "installed $prefix/bin/bpfdb, bpfdb-shell, bpfdb-symbols, bpfdb-show, bpfdb-page, bpfdb-context, bpfdb-convert and bpfdb-conformance beside it, man pages, completions of bash, zsh and fish, and pages and examples in $prefix/share/doc/bpfdb; in gdb: source $prefix/share/bpfdb/bpfdb-gdb.py"
+echo "installed $prefix/bin/bpfdb, bpfdb-shell, bpfdb-symbols, bpfdb-show, bpfdb-page, bpfdb-context, bpfdb-convert, bpfdb-events and bpfdb-conformance beside it, man pages, completions of bash, zsh and fish, and pages and examples in $prefix/share/doc/bpfdb; in gdb: source $prefix/share/bpfdb/bpfdb-gdb.py"
 echo "for editors: $prefix/bin/bpfdb-dap, $prefix/share/bpfdb/vscode and $prefix/share/bpfdb/bpfdb-dap.el"

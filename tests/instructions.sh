@@ -1,8 +1,8 @@
 #!/bin/sh
 # How many instructions of the processor a move takes in the built program (or the one that BPFDB names): callgrind's count of 60,000 moves less that
-# of 20,000, so the load of the machine doesn't matter. It needs valgrind. A line a program: a plain step, one that is kept in each size of a journal, and at the
-# largest a move back, one that is made again, an entry that last-write looks at, and a move that origin passes. No promise depends on it, and the gate
-# doesn't run it.
+# of 20,000, so the load of the machine doesn't matter. It needs valgrind. A line a program: a plain step, a line of trace, a step that is kept in each size of a
+# journal, and at the largest a move back, one that is made again, an entry that last-write looks at, and a move that origin passes. No promise depends on
+# it, and the gate doesn't run it.
 set -u
 cd "$(dirname "$0")/.." || exit 1
 [ -n "${BPFDB:-}" ] || sh tests/build.sh || exit 1
@@ -37,6 +37,7 @@ tenths() {
 measure() {
     program=$work/$1.s
     line="$1: plain $(tenths "$(each '' run --listing --steps MOVES "$program")")"
+    line="$line, a line of trace $(tenths "$(each '' trace --listing --steps MOVES "$program")")"
     for size in 1024 65536 16777216; do
         kept=$(each 'stepi MOVES\n' debug --listing --journal "$size" "$program")
         line="$line, kept in $size $(tenths "$kept")"

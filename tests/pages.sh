@@ -252,7 +252,7 @@ refusals() {
         BEGIN {
             letter["LoadFault"] = letter["PieceFault"] = letter["WordFault"] = "C"
             letter["LineFault"] = letter["AsmFault"] = "A"
-            letter["MapFault"] = "M"; letter["LinkFault"] = letter["RelocationFault"] = letter["BtfFault"] = "E"; letter["OpenFault"] = "O"; letter["JournalFault"] = "J"; letter["Refusal"] = "Q"; letter["WhatFault"] = "V"
+            letter["MapFault"] = "M"; letter["LinkFault"] = letter["RelocationFault"] = letter["BtfFault"] = "E"; letter["OpenFault"] = "O"; letter["JournalFault"] = "J"; letter["Refusal"] = "Q"; letter["WhatFault"] = letter["GoalFault"] = "V"
             # (those of test files count from when the page has them)
             if (tested) letter["SectionFault"] = "T"
         }
@@ -296,10 +296,18 @@ libraries() {
     done
 }
 
+# helpers: docs/LINUX.md names each helper of share/bpfdb-linux.c, and in its table no other.
+helpers() {
+    sed -n 's/^HELPER .*[ *]\(bpf_[a-z0-9_]*\)(.*/\1/p; s/^READ[A-Z_]*(\(.*\))$/\1/p' share/bpfdb-linux/*.c | sort > "$work/helpers"
+    [ -s "$work/helpers" ] || fault 'share/bpfdb-linux has no helpers'
+    awk '/^## / { inside = $0 == "## Helpers" } inside && /^\|/' docs/LINUX.md | quoted | grep -x 'bpf_[a-z0-9_]*' | sort | diff "$work/helpers" - > "$work/differ" ||
+        fault "docs/LINUX.md has other helpers than share/bpfdb-linux: $(grep '^[<>]' "$work/differ" | tr '\n' ' ')"
+}
+
 # manuals: each man page is shown without a warning, and where a program beside bpfdb has no man page that is a fault.
 manuals() {
     for program in share/bpfdb-*; do
-        case $program in *.py) continue ;; esac
+        [ -f "$program" ] && [ -x "$program" ] || continue
         [ -f "docs/$(basename "$program").1" ] || fault "$program has no man page"
     done
     has groff 'man pages as they are shown' || return 0
@@ -360,6 +368,7 @@ refusals
 edits
 sh docs/man.sh --check || fault 'the man pages'
 ! grep -n '](' docs/*.1 || fault 'a man page has links of Markdown'
+helpers
 manuals
 sh docs/editors.sh --check || fault 'what shells and editors know'
 toolchain

@@ -298,6 +298,7 @@ bytes answer b7 00 00 00 2a 00 00 00 EXIT
 words=$text
 printf 'stepi\nset reg r0 7\nundo\nredo\n' > obeyed
 printf 'stepi\nfinish\n' > refused
+printf 'mov r0, 0\njne r0, 7, on\nexit\non: exit\n' > jump.s
 for all in '' all; do
     for kind in fail none interrupted; do
         [ "$all$kind" != allinterrupted ] || continue
@@ -313,6 +314,8 @@ for all in '' all; do
             output $piece $kind origin --script obeyed answer
             state 0 '1 0: mov r0, 42; r0 = 0x2a\n2 1: exit\nexited at 1: r0 0x2a\n' ''
             output $piece $kind trace answer
+            state 0 '2 1: jne r0, 7, L3; r0 = 0x0; jumped\nexited at 3: r0 0x0\n' ''
+            output $piece $kind trace --branches --listing jump.s
             state 0 '1 0: mov r0, 42\n1 1: exit\nexited at 1: r0 0x2a\n' ''
             output $piece $kind trace --profile answer
             state 0 '0 1\n1 2\n' ''

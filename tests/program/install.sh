@@ -13,7 +13,7 @@ else
         echo "for editors: $2/bin/bpfdb-dap, $2/share/bpfdb/vscode and $2/share/bpfdb/bpfdb-dap.el" > wanted/editors
         same "make install PREFIX=$2: what it says of editors" wanted/editors found/editors
         sed -i '$d' found/out
-        check "make install PREFIX=$2" 0 "installed $2/bin/bpfdb, bpfdb-shell, bpfdb-symbols, bpfdb-show, bpfdb-page, bpfdb-context, bpfdb-convert and bpfdb-conformance beside it, man pages, completions of bash, zsh and fish, and pages and examples in $2/share/doc/bpfdb; in gdb: source $2/share/bpfdb/bpfdb-gdb.py\n" ''
+        check "make install PREFIX=$2" 0 "installed $2/bin/bpfdb, bpfdb-shell, bpfdb-symbols, bpfdb-show, bpfdb-page, bpfdb-context, bpfdb-convert, bpfdb-events and bpfdb-conformance beside it, man pages, completions of bash, zsh and fish, and pages and examples in $2/share/doc/bpfdb; in gdb: source $2/share/bpfdb/bpfdb-gdb.py\n" ''
         (cd "$installed" && find . -type f -printf '%m %P\n' | sort) > found/files
         (cd "${1:-$2}" && find . -type d ! -perm 755) > found/folders
         : > wanted/folders
@@ -27,6 +27,9 @@ else
 644 share/bash-completion/completions/bpfdb-shell
 644 share/bpfdb/bpfdb-gdb.py
 644 share/bpfdb/bpfdb-dap.el
+644 share/bpfdb/bpfdb-linux.c
+644 share/bpfdb/bpfdb-linux.h
+644 share/bpfdb/bpfdb-map.h
 644 share/bpfdb/bpfdb.h
 644 share/bpfdb/bpfdb.vim
 644 share/bpfdb/page/curve.js
@@ -49,6 +52,7 @@ else
 644 share/doc/bpfdb/HEADLINE.md
 644 share/doc/bpfdb/JOURNAL.md
 644 share/doc/bpfdb/LICENSE
+644 share/doc/bpfdb/LINUX.md
 644 share/doc/bpfdb/LISTING.md
 644 share/doc/bpfdb/MACHINE.md
 644 share/doc/bpfdb/PAGE.md
@@ -69,6 +73,7 @@ else
 644 share/man/man1/bpfdb-context.1
 644 share/man/man1/bpfdb-convert.1
 644 share/man/man1/bpfdb-dap.1
+644 share/man/man1/bpfdb-events.1
 644 share/man/man1/bpfdb-page.1
 644 share/man/man1/bpfdb-shell.1
 644 share/man/man1/bpfdb-show.1
@@ -80,12 +85,14 @@ else
 755 bin/bpfdb-context
 755 bin/bpfdb-convert
 755 bin/bpfdb-dap
+755 bin/bpfdb-events
 755 bin/bpfdb-page
 755 bin/bpfdb-shell
 755 bin/bpfdb-show
 755 bin/bpfdb-symbols
 FILES
-            (cd "$top" && find examples -type f -printf '644 share/doc/bpfdb/%p\n' && find share/bpfdb -name '*.py' -printf '644 %p\n')
+            (cd "$top" && find examples -type f -printf '644 share/doc/bpfdb/%p\n' && find share/bpfdb -name '*.py' -printf '644 %p\n' && find share/bpfdb-linux -type f -printf '644 share/bpfdb/bpfdb-linux/%f\n')
+            has_clang 'the object of the library of Linux' && echo '644 share/bpfdb/bpfdb-linux.o'
         } | sort > wanted/files
         same "make install PREFIX=$2: files and their modes" wanted/files found/files
         # Each link of an installed page leads to an installed file.

@@ -169,8 +169,10 @@ done
 
 # Little stack: 256 kB are enough for all of this, and for help and a command line that is none.
 object typed
+object calls
 "$program" link typed.o > typed 2> told
 bytes overrun.o $(sed 's/../& /g' "$top/examples/overrun/object.hex")
+"$program" link --with calls.o overrun.o > both
 cp "$parts/suites/cells.test" "$parts/suites/alone.test" .
 (
     ulimit -s 256
@@ -184,6 +186,7 @@ cp "$parts/suites/cells.test" "$parts/suites/alone.test" .
     full 'the largest machine with 256 kB of stack'
     output 'trace with 256 kB of stack' profile trace -m context --maps $sixteen --profile --listing two.s
     output 'link with 256 kB of stack' "$top/examples/overrun/program.bin" link overrun.o
+    output 'link of two objects with 256 kB of stack' both link --with calls.o overrun.o
     whence 'origin with 256 kB of stack'
     echo continue > path
     result 'at 0: ja L0\nleft r0 = 0x0; at the opening\n' origin --steps 9 --script path endless
@@ -240,8 +243,8 @@ squeezed() {
 printf 'loop: add r0, 1\njlt r0, 3, loop\nexit\n' > count.s
 printf 'continue\n' > path
 little=$(seq 3000 25 4000)
-# (the stack of gdb grows by more than the others', and what is left of 3,700 kB or so hasn't room for that)
-grown=$(seq 3775 25 4000)
+# (the stack of gdb grows by more than the others', and what is left of 3,800 kB or so hasn't room for that)
+grown=$(seq 3875 25 4000)
 more='6000 8000 10000 12000 14000 16000 18000 20000 25000 30000 40000 50000'
 # (the words of a row are without blanks; gdb is asked to continue, for the line `origin r9`, and to detach)
 printf '$c#63$qRcmd,6f726967696e207239#45$D#44' > asked
@@ -256,6 +259,7 @@ done <<ROWS
 little|path|run --listing count.s
 little|path|debug --journal 1024 --listing count.s
 little|path|trace --listing count.s
+little|path|trace --branches --listing count.s
 little|path|trace --profile --listing count.s
 little|path|lines count.s
 little|path|check --listing count.s
@@ -263,6 +267,7 @@ little|path|asm count.s
 little|path|disasm --listing count.s
 little|path|test alone.test
 little|path|link overrun.o
+little|path|link --joined --with calls.o overrun.o
 little|path|origin --journal 1024 --listing count.s
 little|path|origin --journal 1024 --script path --listing count.s
 grown|asked|gdb --journal 1024 --listing count.s

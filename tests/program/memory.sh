@@ -120,7 +120,10 @@ wants "$plain$a7$c13$o2$j2" 0 'at 1: exit\n-1 r0 = 0x7; edit\n' '' origin --scri
 wants "$plain$c13$o2$j2" 0 'at 1: exit\n-1 r0 = 0x7; edit\n' '' origin -m context --maps 8x2 --journal 1024 --script obeyed program r0
 printf 'stepi\nfinish\n' > refused
 wants "$plain$c13$o2$j2" 2 '' 'refused Q9: outermost frame\n' origin --journal 1024 --script refused program
+wants "$plain$a7$c13$o2$j2" 0 'exited at 1: r0 0x2a\nit was reached 2 moves back\n' '' whynot --listing program.s 0
+wants "$plain$c13$o2$j2" 0 'at 1: exit\nit can still be reached\n' '' whynot -m context --maps 8x2 --journal 1024 --script obeyed program 1
 wants "$plain$c13$o2" 0 '1 0: mov r0, 42; r0 = 0x2a\n2 1: exit\nexited at 1: r0 0x2a\n' '' trace -m context --maps 8x2 program
+wants "$plain$c13$o2" 0 'exited at 1: r0 0x2a\n' '' trace --branches program
 wants "$plain$c13$o2" 0 '1 0: mov r0, 42\n1 1: exit\nexited at 1: r0 0x2a\n' '' trace --profile program
 wants "$plain$a7" 0 "$words" '' asm program.s
 wants "$plain$a7" 0 '0 1 start\n1 2\n' '' lines program.s
@@ -436,3 +439,11 @@ hold edits '
         say("0x300000008: " (cell ? "0102030405060708" : "0000000000000000"))
     }'
 program=$tool
+# Two objects as one: the code of the first section of both, and the records of a map.
+if has_clang 'link --with where memory is refused'; then
+    for name in program functions; do
+        clang -O2 -target bpf -c "$parts/join/$name.c" -o $name.o 2> found/err || complain "$name.c: $(cat found/err)"
+    done
+    "$program" link --with functions.o --section cells program.o > linked 2> told || complain "cells: $(cat told)"
+    wants "$plain$e26" 0 "$(cat linked)" "$(cat told)\n" link --with functions.o --section cells program.o
+fi

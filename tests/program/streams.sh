@@ -58,6 +58,7 @@ each() {
 run program
 run --listing program.s
 trace program
+trace --branches program
 trace --profile program
 debug program
 debug --listing program.s

@@ -160,6 +160,85 @@ traced 'the limit at a slot above 511' 1 'step limit 513 reached at 513\n' --ste
 echo 'step limit 512 reached at 512' >> some
 traced 'a profile at the limit at a slot above 255' 1 "$(text some)" --steps 512 --profile
 
+# Conditional jumps alone: of 32 bits, of two registers, of one with itself, of r10, to the next instruction, in a called function, of bits. Other jumps, calls
+# and returns are none. Frame 0 ends at 0x200000200.
+cat > p <<'LISTING'
+        mov r0, 0
+        lddw r6, 0x100000005
+        jeq32 r6, 5, a
+        exit
+a:      jne r6, r6, a
+        jsgt r10, r0, b
+        exit
+b:      jlt r0, 1, c
+c:      callf f
+        jset r0, 6, d
+        exit
+d:      ja e
+e:      exit
+f:      mov r6, -1
+        jslt r6, 0, g
+        exit
+g:      mov r0, 4
+        exit
+LISTING
+cat > branches <<'LINES'
+3 3: jeq32 r6, 5, L5; r6 = 0x100000005; jumped
+4 5: jne r6, r6, L5; r6 = 0x100000005; r6 = 0x100000005; went on
+5 6: jsgt r10, r0, L8; r10 = 0x200000200; r0 = 0x0; jumped
+6 8: jlt r0, 1, L9; r0 = 0x0; went on
+9 15: jslt r6, 0, L17; r6 = 0xffffffffffffffff; jumped
+12 10: jset r0, 6, L12; r0 = 0x4; jumped
+exited at 13: r0 0x4
+LINES
+traced 'branches' 0 "$(text branches)" --branches
+sed -n '2,4p; 7p' branches > some
+traced 'branches among steps 4 to 6' 0 "$(text some)" --branches --from 4 --count 3
+traced 'no branch among steps 7 and 8' 0 'exited at 13: r0 0x4\n' --branches --from 7 --count 2
+{ sed -n '1,3p' branches; echo 'step limit 5 reached at 8'; } > some
+traced 'branches at the limit' 1 "$(text some)" --branches --steps 5
+printf 'mov r2, 0\njne r2, 1, on\nexit\non: ldxb r0, [r2+5]\nexit\n' > p
+traced 'branches of a fault' 1 '2 1: jne r2, 1, L3; r2 = 0x0; jumped\nfault access 0x5 at 3\n' --branches
+traced 'a profile shows more than branches' 1 '1 0: mov r2, 0\n1 1: jne r2, 1, L3\n0 2: exit\n1 3: ldxb r0, [r2+5]\n0 4: exit\nfault access 0x5 at 3\n' --branches --profile
+usage "unexpected value 'yes' for '--branches' found; no more were expected" trace --branches=yes words
+
+# They follow from all lines of a trace: what the registers held that a conditional jump names, and the slot of the next line.
+cat > branches.awk <<'AWK'
+function place(word,    r) { r = substr(word, 2) + 0; return r > 5 && r < 10 ? r "@" depth : r }
+function held(word) { return word == "r10" ? sprintf("0x%x", 8589935104 + 1024 * depth) : place(word) in value ? value[place(word)] : "0x0" }
+function shown(word) { return word ~ /^r/ ? "; " word " = " held(word) : "" }
+BEGIN { if (len) { value[1] = "0x100000000"; value[2] = sprintf("0x%x", len) } }
+{
+    count = split($0, parts, "; ")
+    if (pending != "") print pending ($2 + 0 == from + 1 ? "; went on" : "; jumped")
+    pending = ""
+}
+!/^[0-9]+ [0-9]+: / { print; next }
+{
+    from = $2 + 0
+    words = split(parts[1], word, /,? /)
+    if (word[3] ~ /^j/ && word[3] !~ /^ja/) pending = parts[1] shown(word[4]) shown(word[5])
+    for (i = 2; i <= count; i++) {
+        split(parts[i], side, " = ")
+        if (side[1] ~ /^r/) { split(side[1], name, " "); value[place(name[1])] = side[2] }
+    }
+    if (word[3] == "callf") { depth++; for (r = 6; r < 10; r++) value[r "@" depth] = (r "@" (depth - 1)) in value ? value[r "@" (depth - 1)] : "0x0" }
+    if (word[3] == "exit") depth--
+}
+AWK
+for example in checksum count counters firewall listen overrun records xdp; do
+    # shellcheck disable=SC2046
+    set -- $(cat "$top/examples/$example/arguments")
+    cp "$top/examples/$example"/* .
+    len=0
+    [ ! -f context.bin ] || len=$(wc -c < context.bin)
+    "$program" trace "$@" > whole
+    found=$?
+    awk -v len="$len" -f branches.awk whole > some
+    row "branches of the example $example follow from its trace" "$found" "$script_unread" "$(text some)" '' trace --branches "$@"
+    rm -f context.bin program.bin
+done
+
 # Without --listing the program is raw words.
 bytes words b7 00 00 00 2a 00 00 00 EXIT
 row 'bpfdb trace words' 0 "$script_unread" '1 0: mov r0, 42; r0 = 0x2a\n2 1: exit\nexited at 1: r0 0x2a\n' '' trace words

@@ -103,8 +103,8 @@ for absent in 'run --journal=65536' 'debug -j=65536' 'asm -m=context' 'asm --mem
     'asm --steps=7' 'asm --listing' 'disasm -m=context' 'disasm --mem=context' 'disasm --journal=65536' 'disasm --steps=7' \
     'check -m=context' 'check --mem=context' 'check --journal=65536' 'check --steps=7' 'run --section=a' 'debug --section=a' 'asm --section=a' 'run --entry=a' 'asm --entry=a' 'run --stub=5=0' 'debug --stub=5=0' \
     'disasm --section=a' 'check --section=a' 'link -m=context' 'link --mem=context' 'link --maps=8x2' 'link --journal=65536' 'link --steps=7' 'link --listing' 'gdb --section=a' \
-    'run --from=7' 'run --count=7' 'run --profile' 'debug --from=7' 'debug --count=7' 'debug --profile' 'trace --journal=65536' 'trace --section=a' 'trace --registers=x86' \
-    'origin --section=a' 'origin --entry=a' 'origin --registers=x86' 'run --lines=7' 'debug --lines=7' 'debug --addresses' 'gdb --lines=7' 'lines --lines=7' 'lines --listing' 'lines --maps=8x2' 'lines -m=context' 'lines --steps=7' 'lines --section=a' 'run --registers=x86' 'debug --registers=x86' 'test --listing' 'test --maps=8x2' 'test --steps=7' 'run --only=a' 'debug --only=a' 'link --only=a' 'run --show=program' 'debug --show=script'
+    'run --from=7' 'run --count=7' 'run --branches' 'run --profile' 'debug --from=7' 'debug --count=7' 'debug --profile' 'trace --journal=65536' 'trace --section=a' 'trace --registers=x86' \
+    'origin --section=a' 'origin --entry=a' 'origin --registers=x86' 'origin --alone' 'gdb --alone' 'whynot --section=a' 'whynot --registers=x86' 'run --lines=7' 'debug --lines=7' 'debug --addresses' 'gdb --lines=7' 'lines --lines=7' 'lines --listing' 'lines --maps=8x2' 'lines -m=context' 'lines --steps=7' 'lines --section=a' 'run --registers=x86' 'debug --registers=x86' 'test --listing' 'test --maps=8x2' 'test --steps=7' 'run --only=a' 'debug --only=a' 'link --only=a' 'run --show=program' 'debug --show=script'
 do
     subcommand=${absent%% *} option=${absent#* }
     name=${option%%=*}
@@ -135,7 +135,7 @@ usage 'a value is none of those that its option takes' test --show words two.tes
 for subcommand in $subcommands; do
     usage 'the following required arguments were not provided:' $subcommand
     case $subcommand in
-        origin) usage "unexpected argument 'third' found" origin first second third ;;
+        origin | whynot) usage "unexpected argument 'third' found" $subcommand first second third ;;
         *) usage "unexpected argument 'second' found" $subcommand first second ;;
     esac
     usage "unexpected argument '--frob' found" $subcommand --frob first
@@ -163,6 +163,9 @@ for subcommand in run trace debug origin disasm check; do
     usage "the argument '--listing' cannot be used multiple times" $subcommand --listing --listing first.s
     usage "unexpected value 'yes' for '--listing' found; no more were expected" $subcommand --listing=yes first.s
 done
+usage 'the following required arguments were not provided:' whynot first
+usage "the argument '--alone' cannot be used multiple times" whynot --alone --alone first 0
+usage "unexpected value 'yes' for '--alone' found; no more were expected" whynot --alone=yes first 0
 for number in 0 1000000001 18446744073709551615; do
     usage "invalid value '$number' for '--lines <N>': $number is not in 1..=1000000000" origin --lines $number first
 done

@@ -899,7 +899,7 @@ static int try_script(void) {
 
 /* A random command line. */
 static int try_words(void) {
-    static char *some[] = { "run", "trace", "debug", "origin", "asm", "disasm", "lines", "check", "link", "help", "r0", "-m", "--mem", "--maps", "--journal", "--steps", "--from", "--count", "--profile", "--listing", "-h", "--help",
+    static char *some[] = { "run", "trace", "debug", "origin", "asm", "disasm", "lines", "check", "link", "help", "r0", "-m", "--mem", "--maps", "--journal", "--steps", "--from", "--count", "--branches", "--profile", "--listing", "-h", "--help",
         "program", "context", "missing", "1024", "0", "-1", "8x2", "", "--", "-", "--steps=7", "--journal=1024", "--maps=8x2", "-mcontext", "--mem=context",
         "--listing=1", "--frob", "-x", "frob", "\xc3\xa9", "\xff", "a b", "--steps=0", "18446744073709551616", "--version", "-V", "\n", "\033[1m" };
     int count = below(7);

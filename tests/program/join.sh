@@ -1,0 +1,70 @@
+# link --with and --joined: two objects as one, by each clang that is installed. What a program gives is worked out from its source
+# (tests/program/join/); what stands in a joined object is held against another reader of objects (tests/trials/joins.py).
+
+# gives VALUE SECTION OBJECT..: what the program of a section of program.o gives, where these objects are joined to it, the first one first.
+gives() {
+    value=$1 section=$2
+    shift 2
+    cp program.o joined.o
+    for object in "$@"; do
+        "$program" link --joined --with "$object" --section "$section" joined.o > next.o 2> told || complain "$section with $object: $(cat told)"
+        mv next.o joined.o
+    done
+    "$program" link --section "$section" joined.o > words 2> told || complain "$section: $(cat told)"
+    result "$value\n" run $(cat told) words
+}
+
+if has_clang 'link --with'; then
+    compilers=clang
+    command -v clang-19 > found/which && compilers='clang clang-19'
+fi
+for compiler in $compilers; do
+    for name in program functions mock pointers fields; do
+        "$compiler" -g -O2 -target bpf -c "$parts/join/$name.c" -o $name.o 2> found/err || complain "$compiler: $name.c: $(cat found/err)"
+    done
+
+    # 100 * 1 + 2; 100 * (1 + 10) + (2 + 20); 9; 42 + 1000; 41; 1000 * (27 + 4096) and 1 + 400 + 80 + 128: kind, sizes and entries of each map.
+    gives 0x66 time functions.o
+    gives 0x462 text functions.o
+    gives 0x9 trace functions.o
+    gives 0x412 extern functions.o
+    gives 0x29 cells functions.o
+    gives 0x3eebd9 kind functions.o
+    gives 0x1f9 time mock.o functions.o
+    gives 0x66 time functions.o mock.o
+
+    # In one step, and step by step: a call of FILE is answered, a call of the functions is the machine's.
+    "$program" link --with functions.o --section trace program.o > words 2> told || complain "trace: $(cat told)"
+    printf 'continue\ninfo trace\n' | "$program" debug $(cat told) words > found/out
+    count=$((count + 1))
+    [ "$(tail -n 1 found/out)" = 'trace 2 0x6b 0x8' ] || complain "helper 64 in both objects: $(cat found/out)"
+    "$program" link --with functions.o --section cells program.o > words 2> told || complain "maps: $(cat told)"
+    "$program" link --joined --with functions.o --section cells program.o > joined.o 2> found/err || complain "maps, joined: $(cat found/err)"
+    cp told first
+    "$program" link --section cells joined.o > again 2> told || complain "maps, linked again: $(cat told)"
+    cmp -s words again && cmp -s first told || complain 'a joined object has another program'
+    count=$((count + 1))
+    "$program" link --joined program.o > same.o
+    cmp -s program.o same.o || complain 'an object that is joined to none'
+    count=$((count + 1))
+
+    # What is wanting, and what is wrong with either object.
+    refused 'refused E25 at slot 0: unknown helper 8 (bpf_get_smp_processor_id): --stub 8=VALUE answers it: unanswered, slot 0' \
+        link --with functions.o --section unanswered program.o
+    refused 'refused E8: no such code section: .text, time, text, trace, extern, cells, kind, unanswered' link --with functions.o --section none program.o
+    printf 'none' > none.o
+    refused 'refused E1: no ELF file' link --with functions.o none.o
+    refused 'refused E1: no ELF file (--with)' link --with none.o --section time program.o
+    refused 'cannot read missing.o' link --with missing.o --section time program.o
+    refused 'refused E39: addresses in the data of an object of functions (--with)' link --with pointers.o --section time program.o
+    refused 'refused E36 at slot 2: relocations of fields, 1 in all: --as-compiled leaves them undone: .text' link --with functions.o fields.o
+    "$program" link --with functions.o --as-compiled fields.o > words 2> told || complain "fields: $(cat told)"
+    count=$((count + 1))
+    [ "$(cat told)" = 'fields left by --as-compiled: 1' ] || complain "what is told of fields: $(cat told)"
+
+    # Damaged objects, and what stands in each part.
+    if has python3 'joined objects'; then
+        python3 "$top/tests/trials/joins.py" "$program" program.o functions.o > found/trial 2>&1 || complain "joins.py: $(tail -n 3 found/trial)"
+        count=$((count + $(sed -n 's/^\([0-9]*\) held$/\1/p' found/trial || echo 0)))
+    fi
+done

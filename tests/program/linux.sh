@@ -1,0 +1,232 @@
+# share/bpfdb-linux.c, Linux' helpers and kinds of maps as BPF: each test of tests/program/linux/*.c is a program that is linked with it, by each clang
+# that is installed, and whose result is 0 where all that it wants holds. What it wants follows from bpf-helpers(7) and the kernel's sources.
+
+# built COMPILER SOURCE OBJECT: compiles a file for BPF; the library's own compiles without a warning.
+built() {
+    "$1" -Wall -Wextra -Werror -Wno-unused-parameter -I"$top/share" -target bpf -mcpu=v3 -O2 -g -c -o "$3" "$2" 2> found/clang && return
+    complain "$1 $2: $(cat found/clang)"
+    return 1
+}
+
+# linked_with FILE ENTRY OBJECT..: links the test of this name with these objects, the first of which answers first: `words`, and the options of their
+# maps in $maps (words without blanks).
+linked_with() {
+    file=$1 entry=$2
+    shift 2
+    while [ $# -gt 1 ]; do
+        "$program" link --joined --with "$1" "$file" > joined.o 2> told || complain "$file: link --joined: $(cat told)"
+        file=joined-$#.o
+        mv joined.o "$file"
+        shift
+    done
+    "$program" link --section test --entry "$entry" --with "$1" "$file" > words 2> told || {
+        complain "$file: link $entry: $(cat told)"
+        return 1
+    }
+    maps=$(grep '^--maps ' told)
+}
+
+# comes_to NAME WANTED: what the program of `words` gives on the file `context`.
+comes_to() {
+    count=$((count + 1))
+    "$program" run $maps -m context words > found/out 2>&1
+    [ "$(cat found/out)" = "$2" ] || complain "$1: $(cat found/out), and not $2"
+}
+
+# sent NAME WANTED: what the program of `words` sends out.
+sent() {
+    count=$((count + 1))
+    printf '%b' "$2" > wanted/out
+    # (which number the map of what was sent has is link's own choice)
+    BPFDB=$program "$top/share/bpfdb-events" $maps -m context words 2>&1 | sed 's/ at 0x300[0-9a-f]0/ at /' > found/out
+    cmp -s wanted/out found/out || {
+        complain "$1"
+        diff wanted/out found/out
+    }
+}
+
+# events_of NAME STATUS OUTPUT ERRORS ARGUMENT..: what bpfdb-events says of this command line.
+events_of() {
+    name=$1 status=$2 output=$3 errors=$4
+    shift 4
+    BPFDB=$program "$top/share/bpfdb-events" "$@" > found/out 2> found/err
+    echo $? > found/status
+    check "$name" "$status" "$output" "$errors"
+}
+
+# What bpfdb-events prints of a map that is laid out as share/bpfdb-linux.h says: here a listing writes it, in map 1 of two. It has 48 bytes: a record of
+# map 2 and three bytes for processor 5.
+if has python3 'bpfdb-events'; then
+    cat > sent.s <<'LISTING'
+        ldmapval r1, 1, 0
+        lddw r2, 0x74756f6264667062
+        stxdw [r1+0], r2
+        stw [r1+8], 40
+        stw [r1+16], 3
+        stw [r1+20], 2
+        sth [r1+24], 1
+        stw [r1+28], 5
+        stw [r1+32], 0x030201
+        mov r0, 0
+        exit
+LISTING
+    said='map 2: perf of processor 5, 3 bytes at 0x300100020: 010203\n'
+    events_of 'a record' 0 "$said" '' --listing --maps 8x2,16x4096 sent.s
+    events_of 'a record, and its options in other places' 0 "$said" '' sent.s --listing --maps=8x2,16x4096 --steps 20
+    sed '/exit/i \        stw [r1+12], 2' sent.s > lost.s
+    events_of 'records without room' 0 "$said" 'bpfdb-events: 2 records had no room\n' --listing --maps 8x2,8x6 lost.s
+    sed '/exit/i \        ldxb r0, [r0+0]' sent.s > fault.s
+    events_of 'records before a fault' 1 "$said" 'bpfdb-events: fault access 0x0 at 12\n' --listing --maps 8x2,8x6 fault.s
+    events_of 'records before the limit' 1 "$said" 'bpfdb-events: the limit of steps is reached: --steps\n' --listing --steps 9 --maps 8x2,8x6 sent.s
+    # (what is in use is no more than the map has, a record's data no more than is in use; and what isn't known is told by its number)
+    sed 's/stw \[r1+8\], 40/stw [r1+8], -1/; s/stw \[r1+16\], 3/stw [r1+16], 100/' sent.s > cut.s
+    events_of 'a record that is cut' 0 'map 2: perf of processor 5, 8 bytes at 0x300100020: 0102030000000000\n' '' --listing --maps 8x2,8x5 cut.s
+    sed 's/sth \[r1+24\], 1/sth [r1+24], 9/' sent.s > kind.s
+    events_of 'a record of no kind' 0 'map 2: kind 9, 3 bytes at 0x300100020: 010203\n' '' --listing --maps 8x2,8x6 kind.s
+    sed 's/sth \[r1+24\], 1/sth [r1+24], 3/; s/0x030201/0x070a41/' sent.s > text.s
+    events_of 'a text that steers' 0 'trace, 3 bytes at 0x300100020: A\\x0a\\x07\n' '' --listing --maps 8x2,8x6 text.s
+    printf 'mov r0, 1\nexit\n' > none.s
+    events_of 'no record' 0 '' '' --listing --maps 8x2 none.s
+    events_of 'no maps' 2 '' 'bpfdb-events: --maps is wanted, as link told it: what was sent lies in a map\n' --listing none.s
+    events_of 'no file' 2 '' "bpfdb-events: 'bpfdb-events --maps VxN,VxN FILE' is wanted; bpfdb-events --help tells more\n" --maps 8x2
+    events_of 'a file that is none' 2 '' 'bpfdb-events: cannot read nowhere\n' --maps 8x2 nowhere
+    events_of 'maps that are none' 2 '' 'bpfdb-events: refused M5: malformed map list\n' --listing --maps 8 none.s
+    BPFDB=nowhere "$top/share/bpfdb-events" --listing --maps 8x2 none.s > found/out 2> found/err
+    echo $? > found/status
+    check 'no bpfdb' 2 '' 'bpfdb-events: cannot find nowhere\n'
+    count=$((count + 1))
+    "$top/share/bpfdb-events" --maps 8x2 --help | grep -q '^usage: bpfdb-events' || complain 'help of bpfdb-events'
+fi
+
+if ! "$program" link --help | grep -q -e --with; then
+    left_out 'the library of Linux' 'link has no --with'
+elif has_clang 'the library of Linux'; then
+    versions=
+    for compiler in clang $(seq -f 'clang-%g' 14 40); do
+        echo | "$compiler" -target bpf -x c -c -o /dev/null - 2> /dev/null || continue
+        version=$("$compiler" --version | sed -n '1s/.*version \([0-9.]*\).*/\1/p')
+        case " $versions " in *" $version "*) continue ;; esac
+        versions="$versions $version"
+        built "$compiler" "$top/share/bpfdb-linux.c" library.o
+        for name in tables tries queues reads world events stacks packets; do
+            source=$parts/linux/$name.c
+            built "$compiler" "$source" "$name.o" || continue
+            bytes context $(seq 0 59 | awk -v most="$([ $name = packets ] && echo 60 || echo 16)" '$1 < most { printf "%02x ", $1 }')
+            for entry in $(sed -n 's/^TEST(\([a-z_]*\))$/\1/p' "$source"); do
+                linked_with "$name.o" "$entry" library.o && comes_to "$name, $entry, $compiler" 0x0
+            done
+        done
+
+        # Each row is a test of events.c, and what it sends out.
+        bytes context $(seq 0 15 | awk '{ printf "%02x ", $1 }')
+        while IFS='|' read -r entry output; do
+            linked_with events.o "$entry" library.o && sent "$entry, $compiler" "$output"
+        done <<'ROWS'
+perf_buffer|map 0: perf of processor 0, 5 bytes at 0020: 0102030405\nmap 0: perf of processor 0, 3 bytes at 0038: 010203\nmap 1: perf of processor 2, 1 byte at 0050: 01\n
+perf_buffer_with_a_packet|map 1: perf of processor 0, 5 bytes at 0020: aabb000102\nmap 1: perf of processor 0, 1 byte at 0038: aa\nmap 1: perf of processor 0, 1 byte at 0050: aa\n
+ring_buffer|map 2: ring, 3 bytes at 0020: 070809\nmap 2: ring, 2 bytes at 0038: 0044\nmap 2: ring, 1 byte at 0050, discarded: 00\nmap 2: ring, 1 byte at 0068, neither submitted nor discarded: 55\n
+texts|trace, 5 bytes at 0020: hello\ntrace, 17 bytes at 0038: -1 4294967295 ff\ntrace, 40 bytes at 0060: -1 18446744073709551615 ffffffffffffffff\ntrace, 18 bytes at 0098:    42|42   |-0042|\ntrace, 9 bytes at 00c0: 100 of x%\ntrace, 6 bytes at 00e0: ABC +5\ntrace, 16 bytes at 00f8: 0000000000001234\ntrace, 0 bytes at 0118: \ntrace, 18 bytes at 0128:       ab|cd      |\ntrace, 6 bytes at 0150: kernel\ntrace, 4 bytes at 0168: user\ntrace, 17 bytes at 0180: 0000000000000001 \ntrace, 10 bytes at 01a8: 1 2 3 four\n
+ROWS
+
+        # Random calls, as the context says them, on maps of each kind with keys, on a queue and a stack: what comes of each is a model's, apart from the code.
+        if has python3 'random calls of helpers'; then
+            built "$compiler" "$parts/linux/steered.c" steered.o && linked_with steered.o steered library.o && for seed in 1 2 3 4 5; do
+                python3 "$parts/linux/model.py" "$seed" context > wanted/calls
+                BPFDB=$program "$top/share/bpfdb-events" --steps 10000000 $maps -m context words 2>&1 | sed 's/.*: //' > found/calls
+                same "random calls of helpers, seed $seed, $compiler" wanted/calls found/calls
+            done
+        fi
+
+        # A mock of one's own goes before the library: the first call answers 42, later ones 43.
+        built "$compiler" "$parts/linux/mock.c" mock.o
+        built "$compiler" "$parts/linux/mocked.c" mocked.o
+        linked_with mocked.o mocked mock.o library.o && comes_to "a mock before the library, $compiler" 0x2b0000002a
+        linked_with mocked.o mocked library.o mock.o && comes_to "a mock behind the library, $compiler" 0x4d2000004d2
+
+        # How many steps a look takes among so many entries: what a run with 10 of them takes more than one with none, at most so many each.
+        built "$compiler" "$parts/linux/steps.c" steps.o
+        linked_with steps.o steps library.o || continue
+        for row in '10 100' '1000 100' '10000 150'; do
+            set -- $row
+            bytes context $(printf '%08x' "$1" | sed 's/\(..\)\(..\)\(..\)\(..\)/\4 \3 \2 \1/') 00 00 00 00
+            without=$(echo continue | "$program" debug --steps 100000000 $maps -m context words)
+            bytes context $(printf '%08x' "$1" | sed 's/\(..\)\(..\)\(..\)\(..\)/\4 \3 \2 \1/') 0a 00 00 00
+            with=$(echo continue | "$program" debug --steps 100000000 $maps -m context words)
+            count=$((count + 1))
+            case $without,$with in
+            *' r0 0x0',*' r0 0xa') ;;
+            *) complain "looks among $1 entries, $compiler: $without, $with" ;;
+            esac
+            each=$(((${with%% *} - ${without%% *}) / 10))
+            [ "$each" -le "$2" ] || complain "a look among $1 entries, $compiler: $each steps"
+        done
+    done
+
+    # What docs/LINUX.md shows at a shell, as clang 14 compiles it: 'cat FILE' is a file that the commands after it take.
+    architecture=-I/usr/include/$(uname -m)-linux-gnu
+    if ! clang --version | grep -q 'version 14\.'; then
+        left_out 'what docs/LINUX.md shows' 'there is no clang 14'
+    elif ! echo '#include <bpf/bpf_helpers.h>' | clang $architecture -include linux/bpf.h -target bpf -x c -fsyntax-only - 2> /dev/null; then
+        left_out 'what docs/LINUX.md shows' 'there are no headers of the kernel and of libbpf (linux-libc-dev and libbpf-dev)'
+    elif has python3 'what docs/LINUX.md shows'; then
+        # A program of tc that prints, and one of XDP that counts in a hash, by bpfdb.h: with the packet of the example `firewall`, and 12 bytes more.
+        { cat "$top/examples/firewall/context.bin"; head -c 12 /dev/zero; } > context
+        clang $architecture -I"$top/share" -include bpfdb.h -DBPFDB_TC=classify -g -O2 -target bpf -c -o tc.o "$parts/headers/classifier.c"
+        sed 's/MAP_TYPE_ARRAY/MAP_TYPE_HASH/' "$top/examples/xdp/xdp.c" > hash.c
+        clang $architecture -I"$top/share" -include bpfdb.h -DBPFDB_XDP=filter -g -O2 -target bpf -c -o xdp.o hash.c
+        built clang "$top/share/bpfdb-linux.c" library.o
+        for row in 'tc 0x2' 'xdp 0x2'; do
+            set -- $row
+            "$program" link --section "$1" --entry bpfdb --with library.o "$1.o" > words 2> told || complain "$1 with the library: $(cat told)"
+            maps=$(grep '^--maps ' told)
+            comes_to "$1 with bpfdb.h and the library" "$2"
+            [ "$1" = xdp ] || sent 'what a program of tc prints' 'trace, 8 bytes at 0020: 70 bytes\n'
+        done
+        mkdir bin typed shown
+        ln -s "$program" bin/bpfdb
+        ln -s "$top/share/bpfdb-events" "$top/share/bpfdb-context" bin
+        built clang "$top/share/bpfdb-linux.c" typed/bpfdb-linux.o
+        awk '
+            /^## / { inside = /^## (An event that is wrong|An installed tool)$/ }
+            /^```/ { block = !block; next }
+            inside && block && /^\$ / { n++; print substr($0, 3) > ("shown/command-" n); printf "" > ("shown/text-" n); next }
+            inside && block { print > ("shown/text-" n) }
+        ' "$top/docs/LINUX.md"
+        [ -f shown/command-6 ] || complain 'docs/LINUX.md shows too few commands'
+        for command in $(seq 1 99); do
+            [ -f "shown/command-$command" ] || break
+            line=$(cat "shown/command-$command")
+            case $line in
+            'cat '*) cp "shown/text-$command" "typed/${line#cat }" ;;
+            *)
+                if [ "$line" = 'python3 cut.py' ] && [ ! -e /usr/sbin/bashreadline ]; then
+                    left_out 'the installed tool in docs/LINUX.md' 'there is no bashreadline (libbpf-tools)'
+                    break
+                fi
+                (cd typed && PATH=$PWD/../bin:$PATH BPFDB=$program sh "../shown/command-$command") > found/out 2>&1
+                # (the end of a long line is left out there)
+                sed 's/\(d20400006c73202d6c00\)[0-9a-f]*$/\1../' found/out > found/cut
+                same "docs/LINUX.md: $line" "shown/text-$command" found/cut
+                ;;
+            esac
+        done
+    fi
+
+    # Each program of libbpf-tools, xdp-tools and libxdp, where these packages are installed: it is linked with the library, and the checker accepts it.
+    # (What an object of XDP computes so means nothing: r1 is no struct of the kernel's.)
+    files=$(ls /usr/lib/*/bpf/*.o /usr/sbin/xdp-* /usr/sbin/xdpdump 2> /dev/null)
+    # (names without blanks)
+    [ ! -e /var/lib/dpkg/info/libbpf-tools.list ] || files="$files $(grep '^/usr/sbin/.' /var/lib/dpkg/info/libbpf-tools.list)"
+    if [ -z "$files" ]; then
+        left_out 'programs of libbpf-tools and xdp-tools' 'they are not installed'
+    elif has python3 'programs of libbpf-tools and xdp-tools'; then
+        mkdir installed
+        python3 "$parts/linux/objects.py" installed $files > programs
+        [ -s programs ] || complain 'no program in the objects that are installed'
+        while read -r object section entry; do
+            count=$((count + 1))
+            "$program" link --as-compiled --section "$section" --entry "$entry" --with library.o "installed/$object" > words 2> told &&
+                "$program" check $(grep '^--maps ' told) words > told 2>&1 || complain "$object, $entry: $(cat told)"
+        done < programs
+    fi
+fi

@@ -1,0 +1,109 @@
+/* What the tests of share/bpfdb-linux.c are written with. Each test is a program of its own; its result is 0, or the
+   number of the line whose check doesn't hold. What is wanted follows from bpf-helpers(7) and from the kernel's
+   sources. */
+#include "bpfdb-linux.h"
+
+typedef unsigned char u8;
+typedef unsigned short u16;
+typedef unsigned int u32;
+typedef unsigned long long u64;
+typedef long long s64;
+
+#define NULL ((void *)0)
+#define TEST(NAME) __attribute__((section("test"), used)) long NAME(void *context, u64 size)
+#define WANT(WHAT) do { if (!(WHAT)) return __LINE__; } while (0)
+
+#define __uint(NAME, VALUE) int (*NAME)[VALUE]
+#define __type(NAME, TYPE) __typeof__(TYPE) *NAME
+#define MAP(NAME, KIND, ENTRIES, KEY, VALUE) \
+	struct { __uint(type, KIND); __uint(max_entries, ENTRIES); __type(key, KEY); __type(value, VALUE); } \
+		NAME __attribute__((section(".maps"), used))
+#define MAP_WITHOUT_KEY(NAME, KIND, ENTRIES, VALUE) \
+	struct { __uint(type, KIND); __uint(max_entries, ENTRIES); __type(value, VALUE); } \
+		NAME __attribute__((section(".maps"), used))
+#define RING(NAME, BYTES) \
+	struct { __uint(type, BPFDB_RINGBUF); __uint(max_entries, BYTES); } NAME __attribute__((section(".maps"), used))
+
+enum { ANY, NOEXIST, EXIST };
+
+/* The numbers of Linux' helpers, from <linux/bpf.h>. */
+#define HELPER(NUMBER, RESULT, NAME, ...) static RESULT (*const NAME)(__VA_ARGS__) = (void *)NUMBER
+
+HELPER(1, void *, map_lookup, void *, const void *);
+HELPER(2, long, map_update, void *, const void *, const void *, u64);
+HELPER(3, long, map_delete, void *, const void *);
+HELPER(4, long, probe_read, void *, u32, const void *);
+HELPER(5, u64, ktime_get_ns, void);
+HELPER(6, long, trace_printk, const char *, u32, ...);
+HELPER(7, u32, get_prandom_u32, void);
+HELPER(8, u32, get_smp_processor_id, void);
+HELPER(9, long, skb_store_bytes, void *, u32, const void *, u32, u64);
+HELPER(10, long, l3_csum_replace, void *, u32, u64, u64, u64);
+HELPER(11, long, l4_csum_replace, void *, u32, u64, u64, u64);
+HELPER(12, long, tail_call, void *, void *, u32);
+HELPER(14, u64, get_current_pid_tgid, void);
+HELPER(15, u64, get_current_uid_gid, void);
+HELPER(16, long, get_current_comm, void *, u32);
+HELPER(22, u64, perf_event_read, void *, u64);
+HELPER(23, long, redirect, u32, u64);
+HELPER(25, long, perf_event_output, void *, void *, u64, const void *, u64);
+HELPER(26, long, skb_load_bytes, const void *, u32, void *, u32);
+HELPER(27, long, get_stackid, void *, void *, u64);
+HELPER(28, s64, csum_diff, const void *, u32, const void *, u32, u32);
+HELPER(35, u64, get_current_task, void);
+HELPER(36, long, probe_write_user, void *, const void *, u32);
+HELPER(37, long, current_task_under_cgroup, void *, u32);
+HELPER(39, long, skb_pull_data, void *, u32);
+HELPER(42, long, get_numa_node_id, void);
+HELPER(44, long, xdp_adjust_head, void *, int);
+HELPER(45, long, probe_read_str, void *, u32, const void *);
+HELPER(51, long, redirect_map, void *, u64, u64);
+HELPER(54, long, xdp_adjust_meta, void *, int);
+HELPER(55, long, perf_event_read_value, void *, u64, void *, u32);
+HELPER(65, long, xdp_adjust_tail, void *, int);
+HELPER(67, long, get_stack, void *, void *, u32, u64);
+HELPER(69, long, fib_lookup, void *, void *, int, u32);
+HELPER(80, u64, get_current_cgroup_id, void);
+HELPER(87, long, map_push, void *, const void *, u64);
+HELPER(88, long, map_pop, void *, void *);
+HELPER(89, long, map_peek, void *, void *);
+HELPER(93, long, spin_lock, void *);
+HELPER(94, long, spin_unlock, void *);
+HELPER(111, long, skb_output, void *, void *, u64, const void *, u64);
+HELPER(112, long, probe_read_user, void *, u32, const void *);
+HELPER(113, long, probe_read_kernel, void *, u32, const void *);
+HELPER(114, long, probe_read_user_str, void *, u32, const void *);
+HELPER(115, long, probe_read_kernel_str, void *, u32, const void *);
+HELPER(118, u64, jiffies64, void);
+HELPER(121, long, xdp_output, void *, void *, u64, const void *, u64);
+HELPER(125, u64, ktime_get_boot_ns, void);
+HELPER(130, long, ringbuf_output, void *, const void *, u64, u64);
+HELPER(131, void *, ringbuf_reserve, void *, u64, u64);
+HELPER(132, void, ringbuf_submit, void *, u64);
+HELPER(133, void, ringbuf_discard, void *, u64);
+HELPER(134, u64, ringbuf_query, void *, u64);
+HELPER(148, long, copy_from_user, void *, u32, const void *);
+HELPER(158, u64, get_current_task_btf, void);
+HELPER(160, u64, ktime_get_coarse_ns, void);
+HELPER(165, long, snprintf, char *, u32, const char *, const u64 *, u32);
+HELPER(173, u64, get_func_ip, void *);
+HELPER(174, u64, get_attach_cookie, void *);
+HELPER(177, long, trace_vprintk, const char *, u32, const void *, u32);
+HELPER(182, long, strncmp, const char *, u32, const char *);
+HELPER(188, u64, xdp_get_buff_len, void *);
+HELPER(189, long, xdp_load_bytes, void *, u32, void *, u32);
+HELPER(190, long, xdp_store_bytes, void *, u32, void *, u32);
+HELPER(195, void *, map_lookup_percpu, void *, const void *, u32);
+HELPER(208, u64, ktime_get_tai_ns, void);
+
+#define EPERM 1
+#define ENOENT 2
+#define E2BIG 7
+#define EAGAIN 11
+#define ENOMEM 12
+#define EACCES 13
+#define EFAULT 14
+#define EEXIST 17
+#define EINVAL 22
+#define ENOSPC 28
+#define EOPNOTSUPP 95

@@ -1,0 +1,106 @@
+/* The world: what it is at first, and what it is made. */
+#include "linux.h"
+
+MAP(groups, BPFDB_CGROUP_ARRAY, 2, u32, u32);
+MAP(counters, BPFDB_PERF_EVENT_ARRAY, 4, u32, u32);
+MAP(programs, BPFDB_PROG_ARRAY, 4, u32, u32);
+
+TEST(time_passes)
+{
+	u64 first = ktime_get_ns(), second;
+
+	WANT(first == 1000001000);
+	second = ktime_get_boot_ns();
+	WANT(second == 1000002000);
+	WANT(ktime_get_coarse_ns() == second);
+	bpfdb_world.time = 5000000000;
+	bpfdb_world.time_step = 0;
+	WANT(ktime_get_ns() == 5000000000 && ktime_get_tai_ns() == 5000000000 && jiffies64() == 1250);
+	return 0;
+}
+
+TEST(task_is_told)
+{
+	char comm[16], few[4];
+
+	WANT(get_current_pid_tgid() == (1234ull << 32 | 1234));
+	WANT(get_current_uid_gid() == 0);
+	bpfdb_world.tgid = 7;
+	bpfdb_world.pid = 8;
+	bpfdb_world.uid = 9;
+	bpfdb_world.gid = 10;
+	WANT(get_current_pid_tgid() == (7ull << 32 | 8));
+	WANT(get_current_uid_gid() == (10ull << 32 | 9));
+	comm[15] = 1;
+	WANT(get_current_comm(comm, 16) == 0 && comm[0] == 'b' && comm[4] == 'b' && comm[5] == 0 && comm[15] == 0);
+	WANT(get_current_comm(few, 4) == 0 && few[2] == 'f' && few[3] == 0);
+	WANT(get_current_task() == 0 && get_current_task_btf() == 0);
+	bpfdb_world.task = (u64)context;
+	WANT(get_current_task() == 0x100000000 && get_current_task_btf() == 0x100000000);
+	return 0;
+}
+
+TEST(rest_is_told)
+{
+	u32 first, second, third;
+
+	WANT(get_smp_processor_id() == 0 && get_numa_node_id() == 0);
+	bpfdb_world.cpu = 3;
+	bpfdb_world.node = 1;
+	WANT(get_smp_processor_id() == 3 && get_numa_node_id() == 1);
+	WANT(get_current_cgroup_id() == 1);
+	bpfdb_world.cgroup = 77;
+	WANT(get_current_cgroup_id() == 77);
+	WANT(current_task_under_cgroup(&groups, 1) == 1);
+	WANT(current_task_under_cgroup(&groups, 2) == -E2BIG);
+	bpfdb_world.under_cgroup = 0;
+	WANT(current_task_under_cgroup(&groups, 0) == 0);
+	bpfdb_world.func_ip = 0xffffffff81000010;
+	bpfdb_world.cookie = 55;
+	WANT(get_func_ip(context) == 0xffffffff81000010 && get_attach_cookie(context) == 55);
+	first = get_prandom_u32();
+	second = get_prandom_u32();
+	third = get_prandom_u32();
+	WANT(first != second && second != third);
+	/* (the first number of Marsaglia's xorshift64 from his own seed) */
+	WANT(first == (u32)8748534153485358512ull);
+	bpfdb_world.random = 88172645463325252;
+	WANT(get_prandom_u32() == first);
+	return 0;
+}
+
+TEST(nobody_put_one_there)
+{
+	u64 read[3] = { 1, 2, 3 };
+
+	WANT(perf_event_read(&counters, 0) == (u64)-ENOENT);
+	WANT(perf_event_read_value(&counters, 0, read, 24) == -ENOENT && !read[0] && !read[2]);
+	/* (nothing is told of what a tail call leaves in r0 where it leads to no program) */
+	tail_call(context, &programs, 0);
+	return 0;
+}
+
+extern int LINUX_KERNEL_VERSION __attribute__((section(".kconfig")));
+extern _Bool LINUX_HAS_BPF_COOKIE __attribute__((section(".kconfig")));
+
+TEST(configuration_is_told)
+{
+	WANT(LINUX_KERNEL_VERSION == (6 << 16 | 1 << 8));
+	WANT(LINUX_HAS_BPF_COOKIE == 1);
+	return 0;
+}
+
+MAP(locked, BPFDB_ARRAY, 1, u32, u64);
+
+TEST(locks_are_taken)
+{
+	u32 key = 0, *lock = map_lookup(&locked, &key);
+
+	WANT(lock);
+	spin_lock(lock);
+	lock[1] = 5;
+	WANT(*lock != 0);
+	spin_unlock(lock);
+	WANT(*lock == 0 && lock[1] == 5);
+	return 0;
+}

@@ -1,0 +1,101 @@
+# Why a program did not come to a slot: each kind of answer, calls and recursion, edits, what the journal dropped, and what is refused. What is wanted was
+# worked out by hand from the jumps, calls and returns of each listing. Then programs at random, held against a model (tests/trials/whynot.py).
+
+# listing NAME LINE: writes a listing; the line is as printf's %b reads it, with `;` between instructions.
+listing() {
+    printf '%b\n' "$2" | tr ';' '\n' > "$1"
+}
+
+# tells STATUS OUTPUT ARGUMENT..: the answer and the status; nothing is on standard error, and the script stays unread.
+tells() {
+    status=$1 output=$2
+    shift 2
+    row "bpfdb $*" "$status" "$script_unread" "$output" '' "$@"
+}
+
+# A loop: the branch that left it for good; the exit, which was reached; both; what lies before the end of a run.
+listing count.s 'loop: add r0, 1;jlt r0, 3, loop;exit'
+left='-2 1: jlt r0, 3, L0; r0 = 0x3; went on\n'
+why='at 1: jlt r0, 3, L0\n-1 r0 = 0x3; 0: add r0, 1; from r0\n-3 r0 = 0x2; 0: add r0, 1; from r0\n-5 r0 = 0x1; 0: add r0, 1; from r0\nleft r0 = 0x0; at the opening\n'
+tells 0 "exited at 2: r0 0x3\n$left$why" whynot --listing count.s 0
+tells 0 "exited at 2: r0 0x3\n$left$why" whynot --listing count.s 0x00,0
+tells 0 "exited at 2: r0 0x3\n$left" whynot --alone --listing count.s 0
+tells 0 'exited at 2: r0 0x3\nit was reached 2 moves back\n' whynot --listing count.s 0,1
+tells 1 "exited at 2: r0 0x3\n${left}at 1: jlt r0, 3, L0\n-1 r0 = 0x3; 0: add r0, 1; from r0\ncut: there are more lines\n" whynot --lines 1 --listing count.s 0
+tells 0 "exited at 2: r0 0x3\n$left" whynot --lines 1 --alone --listing count.s 0
+tells 0 'exited at 2: r0 0x3\nit was reached 1 moves back\n' whynot --listing count.s 2
+tells 0 'exited at 2: r0 0x3\nit was reached 1 moves back\n' whynot --listing count.s 0,2
+tells 0 'at 1: jlt r0, 3, L0\nit can still be reached\n' whynot --steps 3 --listing count.s 0
+tells 0 'at 1: jlt r0, 3, L0\nit can still be reached\n' whynot --steps 3 --listing count.s 2
+tells 0 'at 2: exit\nit can still be reached\n' whynot --steps 6 --listing count.s 2
+
+# Faults; code to which nothing leads; two registers that are compared.
+listing far.s 'mov r3, 5;stxdw [r3+0], r1;exit'
+tells 0 'fault access 0x5 at 1\n-1 1: stxdw [r3+0], r1; faulted\n' whynot --listing far.s 2
+tells 0 'fault access 0x5 at 1\nit was reached 1 moves back\n' whynot --listing far.s 1
+listing dead.s 'exit;mov r0, 1;exit'
+tells 0 'exited at 0: r0 0x0\nit was out of reach from the opening\n' whynot --listing dead.s 1
+tells 0 'exited at 0: r0 0x0\nit was reached 1 moves back\n' whynot --listing dead.s 0,1,2
+listing both.s 'mov r1, 2;mov r2, 3;jgt r1, r2, far;mov r0, 0;exit;far: exit'
+tells 0 'exited at 4: r0 0x0\n-3 2: jgt r1, r2, L5; r1 = 0x2; r2 = 0x3; went on\nat 2: jgt r1, r2, L5\n-1 r2 = 0x3; 1: mov r2, 3\n-2 r1 = 0x2; 0: mov r1, 2\n' \
+    whynot --listing both.s 5
+listing frame.s 'jgt r10, 5, on;mov r0, 1;exit;on: exit'
+tells 0 'exited at 3: r0 0x0\n-2 0: jgt r10, 5, L3; jumped to 3\n' whynot --listing frame.s 1
+
+# Where the values came from, with addresses or without.
+bytes context 2a
+listing load.s 'ldxb r0, [r1+0];jeq r0, 1, one;exit;one: mov r0, 7;exit'
+decided='exited at 2: r0 0x2a\n-2 1: jeq r0, 1, L3; r0 = 0x2a; went on\nat 1: jeq r0, 1, L3\n-1 r0 = 0x2a; 0: ldxb r0, [r1+0]; from 0x100000000:1'
+tells 0 "$decided\nleft 0x100000000 = 0x2a; byte 0 of the context; at the opening\n" whynot -m context --listing load.s 3
+tells 0 "$decided r1\nleft 0x100000000 = 0x2a; byte 0 of the context; at the opening\nleft r1 = 0x100000000; at the opening\n" whynot -m context --addresses --listing load.s 3
+
+# Calls: what a function calls, one of its registers, what it never returns to, and what only returns lead to.
+listing calls.s 'callf f;exit;g: mov r0, 9;exit;f: jeq r0, 0, out;callf g;out: exit'
+tells 0 'exited at 1: r0 0x0\n-3 4: jeq r0, 0, L6; r0 = 0x0; jumped to 6\nat 4: jeq r0, 0, L6\nleft r0 = 0x0; at the opening\n' whynot --listing calls.s 2
+tells 0 'at 6: exit\nit can still be reached\n' whynot --steps 2 --listing calls.s 1
+tells 0 'at 6: exit\n-1 4: jeq r0, 0, L6; r0 = 0x0; jumped to 6\n' whynot --alone --steps 2 --listing calls.s 3
+listing saved.s 'callf f;exit;f: jeq r6, 0, out;mov r0, 1;out: exit'
+tells 0 'exited at 1: r0 0x0\n-3 2: jeq r6, 0, L4; r6 at depth 1 = 0x0; jumped to 4\nat 2: jeq r6, 0, L4\nleft r6 = 0x0; at the opening\n' whynot --listing saved.s 3
+listing deep.s 'f: callf f;mov r0, 1;exit'
+tells 0 'fault depth at 0\nit was out of reach from the opening\n' whynot --listing deep.s 1
+listing back.s 'f: jeq r0, 0, deeper;exit;deeper: callf f;mov r0, 1;exit'
+tells 0 'fault depth at 2\n-2 0: jeq r0, 0, L2; r0 = 0x0; jumped to 2\n' whynot --alone --listing back.s 3
+tells 0 'fault depth at 2\n-2 0: jeq r0, 0, L2; r0 = 0x0; jumped to 2\n' whynot --alone --listing back.s 1
+tells 0 'at 2: callf L0\nit can still be reached\n' whynot --steps 13 --listing back.s 3
+
+# Scripts: an edit of pc; what was taken back; an empty one. What the journal dropped.
+listing plain.s 'mov r0, 1;mov r0, 2;exit'
+printf 'stepi\nset pc 2\n' > edited
+tells 0 'at 2: exit\n-1 edit; then at 2\n' whynot --script edited --listing plain.s 1
+tells 0 'at 2: exit\nit was reached 2 moves back\n' whynot --script edited --listing plain.s 0
+printf 'stepi\nset pc 2\nundo\n' > undone
+tells 0 'at 1: mov r0, 2\nit can still be reached\n' whynot --script undone --listing plain.s 1
+tells 0 'at 0: mov r0, 1\nit can still be reached\n' whynot --script /dev/null --listing plain.s 2
+listing late.s 'jeq r0, 0, l;mov r0, 1;exit;l: ja l'
+tells 0 'at 3: ja L3\n-1000 0: jeq r0, 0, L3; r0 = 0x0; jumped to 3\nat 0: jeq r0, 0, L3\nleft r0 = 0x0; at the opening\n' whynot --steps 1000 --listing late.s 1
+tells 0 'at 3: ja L3\nit was out of reach before what is kept\n' whynot --steps 1000 --journal 1024 --listing late.s 1
+
+# What names no slot, and what no instruction starts at: the first one counts. It is looked at last.
+v3='refused V3: neither a slot nor slots with commas between'
+v4='refused V4: no instruction starts at the slot'
+for what in '' ' ' , 1, ,1 1,,2 x r0 1- -1 +1 '1 ' ' 1' 0x 1:2 18446744073709551616 1,x x,9 plain.s:1; do
+    case $what in -*) set -- --listing plain.s -- "$what" ;; *) set -- --listing plain.s "$what" ;; esac
+    refused "$v3" whynot "$@"
+done
+listing wide.s 'lddw r0, 1;exit'
+for what in 3 1,3 3,1 9,x 65535 65536 4294967296 18446744073709551615; do
+    refused "$v4" whynot --listing plain.s "$what"
+done
+refused "$v4" whynot --listing wide.s 1
+refused "$v4" whynot --listing wide.s 0,1,2
+refused 'refused J1: journal size out of range' whynot --journal 1023 --listing plain.s x
+printf 'finish\n' > refuses
+refused 'refused Q9: outermost frame' whynot --script refuses --listing plain.s x
+
+# Programs at random.
+if has python3 'why programs at random did not come to each of their slots'; then
+    python3 "$top/tests/trials/whynot.py" "$program" 150 > trial 2> found/err
+    echo $? > found/status
+    { grep -a '^FAILED' trial; sed -n 's/^[0-9]* questions .*: \([0-9]* failed\)$/\1/p' trial; } > found/out
+    check 'why programs at random did not come to each of their slots' 0 '0 failed\n' ''
+fi
