@@ -90,8 +90,8 @@ of_jobs() {
             names = ($2 == "" ? "" : " -" $2) " --" $1
             n = split($5, jobs, ", ")
             for (i = 1; i <= n; i++) has[jobs[i]] = has[jobs[i]] names
-            if ($5 ~ /debug|link/) has["shell"] = has["shell"] names
-            if ($5 ~ /^run|link/) has["page"] = has["page"] names
+            if ($5 ~ /debug|link/ && $1 !~ /^(with|joined)/) has["shell"] = has["shell"] names
+            if ($5 ~ /^run|link/ && $1 !~ /^(with|joined)/) has["page"] = has["page"] names
         }
         END {
             order[++count] = "shell"
@@ -157,7 +157,7 @@ TEXT
         names = ($2 == "" ? "" : "-" $2 " | ") "--" $1
         if ($6 != "") done = "mapfile -t COMPREPLY < <(compgen -W \"" $6 "\" -- \"$word\")"
         else if ($1 ~ /^(section|entry|only)$/) done = "_bpfdb_of_file --" $1 " \"$word\""
-        else done = $3 ~ /^(PATH|FILE|PAGE)$/ ? "mapfile -t COMPREPLY < <(compgen -f -- \"$word\")" : ":"
+        else done = $3 ~ /^(PATH|FILE|PAGE|OBJECT)$/ ? "mapfile -t COMPREPLY < <(compgen -f -- \"$word\")" : ":"
         printf "    %s) %s; return ;;\n", names, done
     }' "$work/options"
     echo '    esac'
@@ -220,13 +220,13 @@ TEXT
     awk -F '\t' '
         NR == FNR { order[++count] = $1; next }
         {
-            action = $6 != "" ? "(" $6 ")" : $3 ~ /^(PATH|FILE|PAGE)$/ ? "_files" : $1 ~ /^(section|entry|only)$/ ? " _bpfdb_of_file --" $1 : " "
+            action = $6 != "" ? "(" $6 ")" : $3 ~ /^(PATH|FILE|PAGE|OBJECT)$/ ? "_files" : $1 ~ /^(section|entry|only)$/ ? " _bpfdb_of_file --" $1 : " "
             spec = "[" $4 "]" ($3 == "" ? "" : ":" $3 ":" action)
             one = $2 == "" ? "\"--" $1 ($3 == "" ? "" : "=") spec "\"" : "\"(-" $2 " --" $1 ")\"{-" $2 ",--" $1 "}\"" spec "\""
             n = split($5, jobs, ", ")
             for (i = 1; i <= n; i++) has[jobs[i]] = has[jobs[i]] " " one
-            if ($5 ~ /debug|link/) has["shell"] = has["shell"] " " one
-            if ($5 ~ /^run|link/) has["page"] = has["page"] " " one
+            if ($5 ~ /debug|link/ && $1 !~ /^(with|joined)/) has["shell"] = has["shell"] " " one
+            if ($5 ~ /^run|link/ && $1 !~ /^(with|joined)/) has["page"] = has["page"] " " one
         }
         END {
             order[++count] = "shell"
@@ -306,14 +306,14 @@ TEXT
         NR == FNR { all = all " " $1; next }
         {
             names = ($2 == "" ? "" : " -s " $2) " -l " $1
-            takes = $3 == "" ? "" : $6 != "" ? " -x -a \"" $6 "\"" : $3 ~ /^(PATH|FILE|PAGE)$/ ? " -r -F" : $1 ~ /^(section|entry|only)$/ ? " -x -a \"(__bpfdb_of_file " $1 ")\"" : " -x"
+            takes = $3 == "" ? "" : $6 != "" ? " -x -a \"" $6 "\"" : $3 ~ /^(PATH|FILE|PAGE|OBJECT)$/ ? " -r -F" : $1 ~ /^(section|entry|only)$/ ? " -x -a \"(__bpfdb_of_file " $1 ")\"" : " -x"
             if ($5 ~ /^(page|dap)$/) { printf "complete -c bpfdb-%s%s%s -d \"%s\"\n", $5, names, takes, $4; next }
             jobs = $5
             gsub(/,/, "", jobs)
             where = jobs == "each" ? "" : jobs == "bpfdb alone" ? " -n __fish_use_subcommand" : " -n \"__fish_seen_subcommand_from " jobs "\""
             printf "complete -c bpfdb%s%s%s -d \"%s\"\n", where, names, takes, $4
-            if (jobs ~ /debug|link|each/) printf "complete -c bpfdb-shell%s%s -d \"%s\"\n", names, takes, $4
-            if (jobs ~ /^run|link|each/) printf "complete -c bpfdb-page%s%s -d \"%s\"\n", names, takes, $4
+            if (jobs ~ /debug|link|each/ && names !~ /-l (with|joined)/) printf "complete -c bpfdb-shell%s%s -d \"%s\"\n", names, takes, $4
+            if (jobs ~ /^run|link|each/ && names !~ /-l (with|joined)/) printf "complete -c bpfdb-page%s%s -d \"%s\"\n", names, takes, $4
             if (jobs == "each") printf "complete -c bpfdb-dap -f%s%s -d \"%s\"\n", names, takes, $4
         }
     ' "$work/jobs" "$work/options"
