@@ -107,6 +107,13 @@ check_usage() {
     check "$1" 2 '' "error: $text\nFor more information, try '--help'.\n" || cat message
 }
 
+# tells STATUS OUTPUT ARGUMENT..: the answer and the status; nothing is on standard error, and the script stays unread.
+tells() {
+    status=$1 output=$2
+    shift 2
+    row "bpfdb $*" "$status" "$script_unread" "$output" '' "$@"
+}
+
 # session NAME SCRIPT REPLIES ARGUMENT..: the script is answered by these replies.
 session() {
     name=$1 script=$2 replies=$3
@@ -118,6 +125,11 @@ session() {
 version() {
     printf 'bpfdb %s (%s)\\n' "$(sed -n 's/^## \([0-9][0-9.]*\).*/\1/p' "$top/CHANGELOG.md" | head -n 1)" \
         "$(sed -n 's/.*`\(rattle-kit-[^`]*\)`.*/\1/p' "$top/README.md" | head -n 1)"
+}
+
+# listing NAME LINE: writes a listing; the line is as printf's %b reads it, with `;` between instructions.
+listing() {
+    printf '%b\n' "$2" | tr ';' '\n' > "$1"
 }
 
 # object NAME: the object NAME of that crate, in the file NAME.o.

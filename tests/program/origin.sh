@@ -1,18 +1,6 @@
 # Where a value came from: what is asked about and what is refused, what is told, where an answer is cut, and what a journal has dropped. What is wanted was
 # worked out by hand from what each instruction reads and writes, and from what its entry weighs (docs/JOURNAL.md).
 
-# listing NAME LINE: writes a listing; the line is as printf's %b reads it, with `;` between instructions.
-listing() {
-    printf '%b\n' "$2" | tr ';' '\n' > "$1"
-}
-
-# tells STATUS OUTPUT ARGUMENT..: the answer and the status; nothing is on standard error, and the script stays unread.
-tells() {
-    status=$1 output=$2
-    shift 2
-    row "bpfdb $*" "$status" "$script_unread" "$output" '' "$@"
-}
-
 listing count.s 'loop: add r0, 1;jlt r0, 3, loop;exit'
 listing one.s 'mov r0, 1;exit'
 listing load.s 'ldxb r0, [r1+0];exit'

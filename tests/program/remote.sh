@@ -44,7 +44,6 @@ cuts_of "$parts/packets/cuts.txt" '$s#73$qSupported:swbreak+#8b$c#63$bs#d5'
 registers_of "$parts/packets/descriptions.txt"
 
 # Where values came from: what gdb is shown, in packets or in one, is what `origin` tells behind the same lines, up to 500 lines of moves and 32,768 bytes.
-listing() { printf '%b\n' "$2" | tr ';' '\n' > "$1"; }
 # monitor LINE: the packet of a line.
 monitor() { packet "qRcmd,$(printf '%s' "$1" | od -An -v -tx1 | tr -d ' \n')"; }
 # shows WHAT ARGUMENT..: what gdb is shown for it behind the lines of the file `said`.

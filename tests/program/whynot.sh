@@ -1,18 +1,6 @@
 # Why a program did not come to a slot: each kind of answer, calls and recursion, edits, what the journal dropped, and what is refused. What is wanted was
 # worked out by hand from the jumps, calls and returns of each listing. Then programs at random, held against a model (tests/trials/whynot.py).
 
-# listing NAME LINE: writes a listing; the line is as printf's %b reads it, with `;` between instructions.
-listing() {
-    printf '%b\n' "$2" | tr ';' '\n' > "$1"
-}
-
-# tells STATUS OUTPUT ARGUMENT..: the answer and the status; nothing is on standard error, and the script stays unread.
-tells() {
-    status=$1 output=$2
-    shift 2
-    row "bpfdb $*" "$status" "$script_unread" "$output" '' "$@"
-}
-
 # A loop: the branch that left it for good; the exit, which was reached; both; what lies before the end of a run.
 listing count.s 'loop: add r0, 1;jlt r0, 3, loop;exit'
 left='-2 1: jlt r0, 3, L0; r0 = 0x3; went on\n'
