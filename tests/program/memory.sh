@@ -43,7 +43,7 @@ lacks() {
     { read -r line; read -r more; } < found/err
     case $line in
         'out of memory' | 'refused A7: out of memory' | 'refused C13: out of memory' | 'refused O2: out of memory' | \
-            'refused J2: out of memory' | 'refused E26: out of memory')
+            'refused J2: out of memory' | 'refused E26: out of memory' | 'refused E26: out of memory (--with)')
             echo "$line" >> met ;;
         *) line='out of memory' more=none ;;
     esac
@@ -101,6 +101,7 @@ c13='refused C13: out of memory\n'
 o2='refused O2: out of memory\n'
 j2='refused J2: out of memory\n'
 e26='refused E26: out of memory\n'
+of_functions='refused E26: out of memory (--with)\n'
 wants "$plain$c13$o2" 0 '0x2a\n' '' run -m context --maps 8x2 program
 wants "$plain$a7$c13$o2" 0 '0x2a\n' '' run --listing program.s
 wants "$plain$c13$o2$j2" 0 '' '' debug -m context --maps 8x2 --journal 1024 --steps 7 program
@@ -146,6 +147,14 @@ bytes stored \
     00 00 00 00 03 00 00 00 7b 43 18 00 00 00 00 00 b7 03 00 00 00 00 00 00 b7 04 00 00 00 00 00 00 \
     06 00 00 00 e4 ff ff ff
 wants "$plain$e26" 0 "$text" '--maps 8x5\n' link point.o
+# Two objects as one: the code of both, and the records of maps.
+if has_clang 'link --with where memory is refused'; then
+    for source in program functions; do
+        clang -g -O2 -target bpf -c "$parts/join/$source.c" -o $source.o 2> found/err || complain "$source.c: $(cat found/err)"
+    done
+    "$program" link --with functions.o --section cells program.o > linked 2> told || complain "cells: $(cat told)"
+    wants "$plain$e26$of_functions" 0 "$(od -An -v -b linked | tr -d '\n' | sed 's/ /\\0/g')" "$(cat told)\n" link --with functions.o --section cells program.o
+fi
 # A file of tests: where memory runs out, no test fails by it, and what was reported before stands.
 printf -- '-- maps\n2x2\n-- listing\nmov r0, 2\nexit\n-- name\na\n-- result\n2\n' > two.test
 printf -- '-- name\nb\n-- cells\n0 1 0102\n-- result\n3\n-- map-after\n0 0 0.01\n0 1 ..02\n' >> two.test
@@ -439,11 +448,3 @@ hold edits '
         say("0x300000008: " (cell ? "0102030405060708" : "0000000000000000"))
     }'
 program=$tool
-# Two objects as one: the code of the first section of both, and the records of a map.
-if has_clang 'link --with where memory is refused'; then
-    for name in program functions; do
-        clang -O2 -target bpf -c "$parts/join/$name.c" -o $name.o 2> found/err || complain "$name.c: $(cat found/err)"
-    done
-    "$program" link --with functions.o --section cells program.o > linked 2> told || complain "cells: $(cat told)"
-    wants "$plain$e26" 0 "$(cat linked)" "$(cat told)\n" link --with functions.o --section cells program.o
-fi
