@@ -229,6 +229,23 @@ tells 0 'exited at 2: r0 0x9\n-9 r0 = 0x9; 6: ldxb r0, [r10-1]; from 0x200001dff
 listing cells.s 'ldmapval r1, 0, 8;ldmapval r2, 1, 8;stb [r1+0], 1;stb [r2+0], 2;ldxb r0, [r1+0];exit'
 tells 0 'exited at 7: r0 0x1\n-2 r0 = 0x1; 6: ldxb r0, [r1+0]; from 0x300000008:1\n-4 0x300000008:1 = 0x1; 4: stb [r1+0], 1\n' origin --maps 8x2,8x2 --listing cells.s
 
+# A name of nine letters is copied to seven bytes and a zero: the last two fall on the pointer.
+listing name.s 'stxdw [r10-8], r1;mov r3, r10;add r3, -16;copy: ldxb r4, [r1+0];stxb [r3+0], r4;add r1, 1;add r3, 1;jne r4, 0, copy;ldxdw r1, [r10-8];ldxb r0, [r1+15];exit'
+printf 'localhost\0\0\0\0\0\0\1' > name
+tells 0 'fault access 0x100000083 at 9\n-2 r1 = 0x100000074; 8: ldxdw r1, [r10-8]; from 0x2000001f8:8\n-6 0x2000001f9:1 = 0x0; 4: stxb [r3+0], r4; from r4\n-7 r4 = 0x0; 3: ldxb r4, [r1+0]; from 0x100000009:1\n-11 0x2000001f8:1 = 0x74; 4: stxb [r3+0], r4; from r4\n-12 r4 = 0x74; 3: ldxb r4, [r1+0]; from 0x100000008:1\n-55 0x2000001f8:8 = 0x100000000; 0: stxdw [r10-8], r1; from r1\nleft 0x100000009 = 0x0; byte 9 of the context; at the opening\nleft 0x100000008 = 0x74; byte 8 of the context; at the opening\nleft r1 = 0x100000000; at the opening\n' \
+    origin -m name --listing name.s
+
+# The numbers of three records are added up; the third one's length leads out of the context.
+listing records.s 'next: ldxb r3, [r1+0];jeq r3, 0, done;ldxb r4, [r1+1];add r0, r4;add r1, r3;ja next;done: exit'
+printf '\2\5\4\7\0\2\11\0' > records
+tells 0 'fault access 0x10000000f at 0\n-4 r0 = 0xc; 3: add r0, r4; from r0 r4\n-5 r4 = 0x0; 2: ldxb r4, [r1+1]; from 0x100000007:1\n-10 r0 = 0xc; 3: add r0, r4; from r0 r4\n-11 r4 = 0x7; 2: ldxb r4, [r1+1]; from 0x100000003:1\n-16 r0 = 0x5; 3: add r0, r4; from r0 r4\n-17 r4 = 0x5; 2: ldxb r4, [r1+1]; from 0x100000001:1\nleft 0x100000007 = 0x0; byte 7 of the context; at the opening\nleft 0x100000003 = 0x7; byte 3 of the context; at the opening\nleft r0 = 0x0; at the opening\nleft 0x100000001 = 0x5; byte 1 of the context; at the opening\n' \
+    origin -m records --listing records.s r0
+
+# A compare-exchange reads r0, the source and the word.
+listing compare.s 'mov r0, 7;mov r2, 9;stdw [r10-8], 7;atomic_cmpxchg64 [r10-8], r2;ldxdw r0, [r10-8];exit'
+tells 0 'exited at 5: r0 0x9\n-2 r0 = 0x9; 4: ldxdw r0, [r10-8]; from 0x2000001f8:8\n-3 r0 = 0x7; 0x2000001f8:8 = 0x9; 3: atomic_cmpxchg64 [r10-8], r2; from r0 r2 0x2000001f8:8\n-4 0x2000001f8:8 = 0x7; 2: stdw [r10-8], 7\n-5 r2 = 0x9; 1: mov r2, 9\n-6 r0 = 0x7; 0: mov r0, 7\n' \
+    origin --listing compare.s
+
 # A jump is not followed, and a move of two parts is one line.
 listing jump.s 'mov r1, 1;jne r1, 0, far;mov r0, 2;far: mov r0, 3;exit'
 tells 0 'exited at 4: r0 0x3\n-2 r0 = 0x3; 3: mov r0, 3\n' origin --listing jump.s
@@ -307,6 +324,10 @@ tells 0 'at 2: exit\n-2 r0 = 0x3; 0: add r0, 1; from r0\n-4 r0 = 0x2; 0: add r0,
     origin --steps 3 --script path count.bin
 
 # Edits write and read nothing; one of the pc has no line.
+listing word-of-frame.s 'ldxdw r0, [r10-8];exit'
+script path 'set mem 0x2000001f8 01000000\nstepi 2\nset pc 0\nstepi\n'
+tells 0 'at 1: exit\n-1 r0 = 0x1; 0: ldxdw r0, [r10-8]; from 0x2000001f8:8\n-5 0x2000001f8:4 = 0x1; edit\nleft 0x2000001fc = 0x0; at the opening\nleft 0x2000001fd = 0x0; at the opening\nleft 0x2000001fe = 0x0; at the opening\nleft 0x2000001ff = 0x0; at the opening\n' \
+    origin --script path --listing word-of-frame.s
 script path 'stepi 2\nset reg r0 5\ncontinue\n'
 five='exited at 2: r0 0x6\n-3 r0 = 0x6; 0: add r0, 1; from r0\n-4 r0 = 0x5; edit\n'
 tells 0 "$five" origin --script path count.bin

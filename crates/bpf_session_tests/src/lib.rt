@@ -1,5 +1,5 @@
-//! Tests of the journal, of sessions, of where a value came from, and of the remote protocol: what
-//! only their libraries can be asked.
+//! Tests of the journal, of sessions and of the remote protocol: what only their libraries can be
+//! asked.
 //!
 //! Tables of steps, edits, runs and packets, and transcripts, are asked of the built program
 //! (`tests/program/`). The tests stand in one crate, since what each of them stops at is proved
@@ -12,8 +12,6 @@ mod journal;
 mod keepers;
 #[cfg(test)]
 mod machines;
-#[cfg(test)]
-mod origin;
 #[cfg(test)]
 mod remote;
 #[cfg(test)]

@@ -1,12 +1,10 @@
 //! Moves by their words: `step`, `reg 3 7`, `bytes 200000000 0102`, `cell 0 1 ee*8`, `pc 1`.
 //! Numbers are hexadecimal; behind a byte and a star stands how often it comes, in decimal.
 use crate::journal::courses::number;
-use crate::journal::seen::{refusal, state_text};
-use crate::journal::texts::digits_of;
-use crate::stops::{add, bytes, cut, kept};
+use crate::stops::{bytes, cut};
 use bpf_isa::Reg;
-use bpf_journal::{Move, MoveFault, Reversible};
-use bpf_machine::{ByteString, Cpu, Edit, Entry};
+use bpf_journal::Move;
+use bpf_machine::{ByteString, Edit};
 use std::alloc::Global;
 use std::process::Abort;
 
@@ -68,37 +66,4 @@ fn repeated(rt: &impl Abort, alloc: Global, byte: &str, count: &str) -> Vec<u8> 
     let byte = u8::from_str_radix(byte, 16).ok().expect(rt, "no byte");
     let count = usize::from_str_radix(count, 10).ok().expect(rt, "no count");
     vec![in alloc; byte; count].ok().expect(rt, "no memory")
-}
-
-/// Makes a move and takes it back, through the bound.
-fn there_and_back<R: Reversible>(it: &mut R, change: &Move) -> Result<Entry, MoveFault> {
-    match it.make(change) {
-        Ok(entry) => {
-            it.revert(&entry);
-            Ok(entry)
-        }
-        Err(fault) => Err(fault),
-    }
-}
-
-/// What a move answers that is made and taken back: its entry's bytes, or why it is refused. Says
-/// so where another state is left.
-pub fn answer(rt: &impl Abort, alloc: Global, cpu: &mut Cpu, words: &str) -> String {
-    let before = state_text(rt, alloc, cpu);
-    let mut text = match there_and_back(cpu, &move_of(rt, alloc, words)) {
-        Ok(entry) => digits_of(rt, alloc, &entry, false),
-        Err(fault) => kept(rt, format!(in alloc; "{}", move_refusal(fault))),
-    };
-    if state_text(rt, alloc, cpu).as_str() != before.as_str() {
-        add(rt, &mut text, ", and another state");
-    }
-    text
-}
-
-/// Why a move is refused.
-fn move_refusal(fault: MoveFault) -> &'static str {
-    match fault {
-        MoveFault::Ended => "ended",
-        MoveFault::Edit(fault) => refusal(fault),
-    }
 }

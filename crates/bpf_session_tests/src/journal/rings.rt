@@ -1,10 +1,7 @@
 //! A ring and a list that keep the same moves: what the ring holds is what the list holds, and the
 //! ring's bytes are the texts of that.
-ghost use Rattle.bpf_journal.specs.Histories.{HasHistory};
-
 use crate::journal::courses::{CONTEXT, count, course};
 use crate::journal::play::played;
-use crate::journal::random::random_words;
 use crate::journal::texts::{cuts_from_back, cuts_from_front, newest_first};
 use crate::journal::walks::entries;
 use crate::keepers::{list, oldest, ring};
@@ -12,7 +9,6 @@ use crate::machines::machine;
 use crate::stops::{check_text, cut, kept, stop_unless};
 use bpf_journal::{Course, Keeper, ListKeeper, RingKeeper, Timeline};
 use bpf_machine::Cpu;
-use bpf_testing::Random;
 use std::alloc::Global;
 use std::process::Abort;
 
@@ -210,81 +206,4 @@ an update | 05000000000000008500000002000000; reg 1 400000000, reg 2 2000001f8, 
 #[test]
 fn each_step_of_a_run_goes_around_the_end(rt: HostRuntime) {
     check_entries(&rt, rt.alloc(), RUNS, 1_024, 7);
-}
-
-/// A keeper of the ring that another one gives up.
-fn put_back(cpu: &Cpu, keeper: RingKeeper) -> RingKeeper
-    requires { HasHistory ⟦<RingKeeper as Keeper>⟧.holds keeper cpu.now }
-    ensures { HasHistory ⟦<RingKeeper as Keeper>⟧.holds result cpu.now }
-{
-    let _cpu = cpu;
-    let ring = keeper.into_ring();
-    RingKeeper::from_ring(ring)
-}
-
-/// The course of a machine and a keeper whose newest move a timeline takes back. No move of it can
-/// be made again.
-fn opened_again<K: Keeper>(rt: &impl Abort, alloc: Global, cpu: Cpu, keeper: K) -> Course<K>
-    requires { HasHistory K.holds keeper cpu }
-{
-    let mut timeline = Timeline::open(cpu, keeper);
-    let _taken = timeline.back();
-    let (cpu, keeper) = timeline.close();
-    course(rt, alloc, cpu, keeper)
-}
-
-/// The same machines a move before, with the ring taken out and put back. What was taken back is
-/// forgotten.
-fn passed_on(rt: &impl Abort, alloc: Global, pair: Pair) -> Pair {
-    let Pair { list, ring } = pair;
-    let (list_cpu, list) = list.close();
-    let (cpu, keeper) = ring.close();
-    let keeper = put_back(&cpu, keeper);
-    Pair {
-        list: opened_again(rt, alloc, list_cpu, list),
-        ring: opened_again(rt, alloc, cpu, keeper),
-    }
-}
-
-// A loop whose steps make each kind of entry: sums, stores of each width, a fetch and a sum in
-// memory, a call and a return, an update of a cell, a trace and a jump. A store to where r8 is goes
-// wrong at first; at slot 24 it exits, once r9 is 5.
-const LOOP: &str = "\
-0700000001000000bf060000000000007b0af8ff00000000636af4ff000000006b0af2ff00000000730af1ff00000000\
-7a0af8fe07000000db6af8ff01000000c36af4ff00000000851000000f00000045000100070000006308000000000000\
-bfa200000000000007020000e8ffffff620ae8ff0100000018510000000000000000000000000000bfa3000000000000\
-07030000e8feffffb7040000000000008500000002000000bf0100000000000085000000400000005509e8ff05000000\
-9500000000000000b707000003000000737affff000000009500000000000000";
-
-/// Makes random moves in journals of so many bytes, runs of `most` steps at most, and now and then
-/// takes the ring out and puts it back.
-fn check_moves(rt: &impl Abort, alloc: Global, size: usize, most: u64, seed: u64, moves: usize) {
-    let mut random = Random::new(seed);
-    let mut pair = opened(rt, alloc, LOOP, size);
-    for _ in 0..moves {
-        let words = random_words(rt, alloc, &mut random, most);
-        both(rt, alloc, &mut pair, &words, &words);
-        if random.below(16) == 0 {
-            pair = passed_on(rt, alloc, pair);
-            both(rt, alloc, &mut pair, "place", "put back");
-        }
-    }
-    both(rt, alloc, &mut pair, "all back", "all back");
-}
-
-/// How many seeds there are, from 1 on.
-const SEEDS: u64 = 8;
-
-/// The same of each size and each seed.
-fn check_sizes(rt: &impl Abort, alloc: Global, moves: usize) {
-    for size in 1_024usize..1_041 {
-        for seed in 1..=SEEDS {
-            check_moves(rt, alloc, size, 60, seed, moves);
-        }
-    }
-}
-
-#[test]
-fn random_moves_in_a_ring_and_in_a_list(rt: HostRuntime) {
-    check_sizes(&rt, rt.alloc(), 120);
 }
