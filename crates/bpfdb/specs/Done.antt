@@ -2,12 +2,12 @@
 use Rattle.std.specs.Prelude.{ℕ, ◌≡◌, Bool, List, Option, Some}
 use Rattle.bpfdb_cli.specs.declared.plans.Plan.{Plan}
 use Rattle.bpfdb_jobs.specs.Done.{DoesJob}
-use Rattle.bpfdb_jobs.specs.Endings.{Gets, Loses, Told}
-use Rattle.bpfdb_jobs.specs.Faults.{line_of}
+use Rattle.bpfdb_faults.specs.Streams.{Gets, Loses, Told}
+use Rattle.bpfdb_faults.specs.Faults.{line_of}
 use Rattle.bpfdb_jobs.specs.Hints.{AddsHint}
 use Rattle.bpfdb_jobs.specs.Statuses.{EndsWith}
-use Rattle.bpfdb_jobs.specs.declared.fault.JobFault.{JobFault}
-use Rattle.bpfdb_jobs.specs.declared.fault.JobFault.TheVariants.{Memory, Output}
+use Rattle.bpfdb_faults.specs.declared.fault.JobFault.{JobFault}
+use Rattle.bpfdb_faults.specs.declared.fault.JobFault.TheVariants.{Memory, Output}
 use Rattle.bpfdb_jobs.specs.declared.job.Job.{Job}
 use Rattle.bpfdb.specs.Files.{AreRead, IsUnread}
 use Rattle.bpfdb.specs.Jobs.{IsJobOf}

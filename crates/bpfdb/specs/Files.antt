@@ -5,8 +5,8 @@ use Rattle.bpfdb_cli.specs.declared.plans.Plan.{Plan}
 use Rattle.bpfdb_files.specs.Reading.{Gives}
 use Rattle.bpfdb_files.specs.declared.kinds.FileKind.{FileKind}
 use Rattle.bpfdb_files.specs.declared.kinds.FileKind.TheVariants.{Program, Context, Source}
-use Rattle.bpfdb_jobs.specs.declared.fault.JobFault.{JobFault}
-use Rattle.bpfdb_jobs.specs.declared.fault.JobFault.TheVariants.{Unreadable, Memory}
+use Rattle.bpfdb_faults.specs.declared.fault.JobFault.{JobFault}
+use Rattle.bpfdb_faults.specs.declared.fault.JobFault.TheVariants.{Unreadable, Memory}
 use Rattle.bpfdb_options.specs.declared.subcommand.Subcommand.{Subcommand}
 use Rattle.bpfdb_options.specs.declared.subcommand.Subcommand.TheVariants.{Asm, Lines, Link, Test}
 

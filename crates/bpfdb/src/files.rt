@@ -5,7 +5,7 @@ ghost use Rattle.bpfdb_files.specs.Reading.{Gives};
 
 use bpfdb_cli::Plan;
 use bpfdb_files::{FileKind, FirstFault, Opener, read_kind};
-use bpfdb_jobs::JobFault;
+use bpfdb_faults::JobFault;
 use bpfdb_options::Subcommand;
 use counted_io::Counted;
 use std::alloc::Global;

@@ -2,7 +2,7 @@
 ghost use Rattle.std.specs.Prelude.{◌≡◌, IfSome, map, string_bytes};
 ghost use Rattle.shown_text.specs.Shown.{shown};
 
-use bpfdb_jobs::JobFault;
+use bpfdb_faults::JobFault;
 use shown_text::shown_name;
 use std::alloc::Global;
 use std::env;

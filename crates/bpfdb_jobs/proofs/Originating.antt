@@ -22,7 +22,7 @@ use Rattle.bpfdb_jobs.specs.Openings.{HasArrived, IsOpening, IsStart}
 use Rattle.bpfdb_jobs.specs.Origins.{Asks, RefusesWhat, arrival, bounds, obeyed, question_by, run_arrival, run_history}
 use Rattle.bpfdb_jobs.specs.Refusals.{RefusesArrival, RefusesAs}
 use Rattle.bpfdb_jobs.specs.declared.job.Job.{Job}
-use Rattle.bpfdb_jobs.specs.declared.refusal.JobRefusal.TheVariants as jobs
+use Rattle.bpfdb_faults.specs.declared.refusal.JobRefusal.TheVariants as jobs
 use Rattle.bpfdb_options.specs.declared.subcommand.Subcommand.TheVariants.{Origin}
 use Rattle.counted_io.specs.Lines.{lines}
 

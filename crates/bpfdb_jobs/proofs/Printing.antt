@@ -10,10 +10,11 @@ use Rattle.bpf_session.specs.declared.plain.Ending.{Ending}
 use Rattle.bpf_session.specs.declared.plain.Ending.TheVariants.{Exited}
 use Rattle.counted_io.specs.Counted.{Tally}
 use Rattle.counted_io.specs.Writing.{Writes}
-use Rattle.bpfdb_jobs.specs.Endings.{EndsPrinted, ErrLost, Gets, Loses, OutLost, Printed, Told}
-use Rattle.bpfdb_jobs.specs.Faults.{line_of}
+use Rattle.bpfdb_faults.specs.Streams.{Gets, Loses, Told}
+use Rattle.bpfdb_jobs.specs.Endings.{EndsPrinted, ErrLost, OutLost, Printed}
+use Rattle.bpfdb_faults.specs.Faults.{line_of}
 use Rattle.bpfdb_jobs.specs.Jobs.{Opens, Print, Prints, printed, run_print}
-use Rattle.bpfdb_jobs.specs.declared.fault.JobFault.TheVariants.{Output}
+use Rattle.bpfdb_faults.specs.declared.fault.JobFault.TheVariants.{Output}
 use Rattle.bpfdb_jobs.specs.declared.job.Job.{Job}
 use Rattle.bpfdb_options.specs.declared.subcommand.Subcommand.{Subcommand}
 use Rattle.bpfdb_options.specs.declared.subcommand.Subcommand.TheVariants.{Run}

@@ -16,8 +16,8 @@ use Rattle.bpfdb_jobs.specs.Openings.{HasArrived}
 use Rattle.bpfdb_jobs.specs.Refusals.{RefusesAs, RefusesWhynot}
 use Rattle.bpfdb_jobs.specs.Whynots.{RefusesGoals}
 use Rattle.bpfdb_jobs.specs.declared.job.Job.{Job}
-use Rattle.bpfdb_jobs.specs.declared.refusal.JobRefusal.{JobRefusal}
-use Rattle.bpfdb_jobs.specs.declared.refusal.JobRefusal.TheVariants.{Goal, Journal}
+use Rattle.bpfdb_faults.specs.declared.refusal.JobRefusal.{JobRefusal}
+use Rattle.bpfdb_faults.specs.declared.refusal.JobRefusal.TheVariants.{Goal, Journal}
 use Rattle.bpfdb_options.specs.declared.subcommand.Subcommand.TheVariants.{Whynot}
 
 -- how it is asked over a history behind so many moves

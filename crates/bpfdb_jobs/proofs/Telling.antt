@@ -8,8 +8,9 @@ use Rattle.bpf_trace.specs.Profiles.{counts_text, profile_of, profile_text}
 use Rattle.counted_io.specs.Counted.{Tally}
 use Rattle.counted_io.specs.Writing.{Writes}
 use Rattle.counted_io.specs.declared.fault.WriteFault.{WriteFault}
-use Rattle.bpfdb_jobs.specs.Endings.{EndsPrinted, Exhausted, OutLost, Printed, Told}
-use Rattle.bpfdb_jobs.specs.Faults.{line_of}
+use Rattle.bpfdb_faults.specs.Streams.{Told}
+use Rattle.bpfdb_jobs.specs.Endings.{EndsPrinted, Exhausted, OutLost, Printed}
+use Rattle.bpfdb_faults.specs.Faults.{line_of}
 use Rattle.bpfdb_jobs.specs.Jobs.{Opens, Prints, status_of_end, trace_out, trace_print}
 use Rattle.bpfdb_jobs.specs.Tellings.{Tells, fault_of_told}
 use Rattle.bpfdb_jobs.specs.declared.job.Job.{Job}

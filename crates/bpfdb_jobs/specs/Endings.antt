@@ -1,40 +1,19 @@
 -- How a job ends, as it stands on reader, writer and standard error.
-use Rattle.std.specs.Prelude.{◌≡◌, ◌⊎◌, ℕ, List, Option, Some, None, ⊤}
-use Rattle.std.specs.Io.KnownBytes.{Appends}
+use Rattle.std.specs.Prelude.{◌≡◌, ℕ, List, Option, ⊤}
 use Rattle.bpf_isa.specs.Programs.{Checked}
 use Rattle.bpf_session.specs.Runs.{FailsBy}
 use Rattle.bpf_session.specs.declared.fault.RunFault.{RunFault}
 use Rattle.bpf_session.specs.declared.fault.RunFault.TheVariants as run
-use Rattle.counted_io.specs.Counted.{Tally, one_more}
-use Rattle.counted_io.specs.Writing.{AppendsBeginning}
-use Rattle.bpfdb_jobs.specs.Faults.{input_line, line_of, output_line, session_line}
+use Rattle.counted_io.specs.Counted.{Tally}
+use Rattle.bpfdb_faults.specs.Faults.{input_line, line_of, output_line, session_line}
+use Rattle.bpfdb_faults.specs.Streams.{Gets, Loses, Spared, Told}
 use Rattle.bpfdb_jobs.specs.Jobs.{OpensSession, Print, Prints}
 use Rattle.bpfdb_jobs.specs.Refusals.{Refuses, RefusesAs}
-use Rattle.bpfdb_jobs.specs.declared.fault.JobFault.TheVariants as fault
+use Rattle.bpfdb_faults.specs.declared.fault.JobFault.TheVariants as fault
 use Rattle.bpfdb_jobs.specs.declared.job.Job.{Job}
-use Rattle.bpfdb_jobs.specs.declared.refusal.JobRefusal.{JobRefusal}
+use Rattle.bpfdb_faults.specs.declared.refusal.JobRefusal.{JobRefusal}
 use Rattle.bpfdb_options.specs.declared.subcommand.Subcommand.{Subcommand}
 use Rattle.bpfdb_options.specs.declared.subcommand.Subcommand.TheVariants.{Disasm, Trace}
-
--- A reader, a writer or standard error counted no failure; it counted one.
-abbrev pub Spared : {T : Type 0} → Tally T → Tally T → Type 0
-Spared old new = new.failures ≡ old.failures
-
-abbrev pub FailedOnce : {T : Type 0} → Tally T → Tally T → Type 0
-FailedOnce old new = new.failures ≡ one_more old.failures
-
--- A text went to a writer, which is as it was if there was none; a beginning of it, and one failure was counted.
-abbrev pub Gets : {T : Type 0} → (T → Option (List ℕ)) → Tally T → Tally T → Option (List ℕ) → Type 0
-Gets contents old new None = new ≡ old
-Gets contents old new (Some text) = Appends (contents old.inner) (contents new.inner) text × Spared old new
-
-abbrev pub Loses : {T : Type 0} → (T → Option (List ℕ)) → Tally T → Tally T → Option (List ℕ) → Type 0
-Loses contents old new None = ⊥
-Loses contents old new (Some text) = AppendsBeginning (contents old.inner) (contents new.inner) text × FailedOnce old new
-
--- The line of a fault went to standard error, as far as that could be written.
-abbrev pub Told : {E : Type 0} → (E → Option (List ℕ)) → Tally E → Tally E → List ℕ → Type 0
-Told lines old new line = Gets lines old new (Some line) ⊎ Loses lines old new (Some line)
 
 -- Subcommands for which memory may run out where no refusal says so.
 abbrev pub MayExhaust : Subcommand → Type 0

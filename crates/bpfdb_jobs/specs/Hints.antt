@@ -14,7 +14,7 @@ use Rattle.bpf_text.specs.declared.fault.AsmFault.{AsmFault}
 use Rattle.counted_io.specs.Counted.{Tally}
 use Rattle.counted_io.specs.Lines.{lines}
 use Rattle.counted_io.specs.Numerals.{as_u64, natural}
-use Rattle.bpfdb_jobs.specs.Endings.{Told}
+use Rattle.bpfdb_faults.specs.Streams.{Told}
 use Rattle.shown_text.specs.Shown.{shown}
 use Rattle.bpfdb_jobs.specs.Jobs.{IsProgramOf}
 use Rattle.bpfdb_jobs.specs.Looks.{is_object, is_text}
@@ -22,8 +22,8 @@ use Rattle.bpfdb_jobs.specs.Refusals.{RefusesProgram}
 use Rattle.bpfdb_jobs.specs.declared.hint.Hint.{Hint}
 use Rattle.bpfdb_jobs.specs.declared.hint.Hint.TheVariants as hint
 use Rattle.bpfdb_jobs.specs.declared.job.Job.{Job}
-use Rattle.bpfdb_jobs.specs.declared.refusal.JobRefusal.{JobRefusal}
-use Rattle.bpfdb_jobs.specs.declared.refusal.JobRefusal.TheVariants.{Load}
+use Rattle.bpfdb_faults.specs.declared.refusal.JobRefusal.{JobRefusal}
+use Rattle.bpfdb_faults.specs.declared.refusal.JobRefusal.TheVariants.{Load}
 use Rattle.bpfdb_options.specs.declared.subcommand.Subcommand.{Subcommand}
 use Rattle.bpfdb_options.specs.declared.subcommand.Subcommand.TheVariants.{Asm, Lines, Link, Test}
 

@@ -1,7 +1,6 @@
 pub mod Connections
 pub mod Done
 pub mod Endings
-pub mod Faults
 pub mod Hints
 pub mod Jobs
 pub mod Looks

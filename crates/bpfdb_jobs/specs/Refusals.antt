@@ -25,8 +25,8 @@ use Rattle.bpf_whynot.specs.Asked.{goals_in}
 use Rattle.bpfdb_jobs.specs.Jobs.{HasMaps, HasWords, IsObjectOf, IsProgramOf, Opens, OpensSession, arrival_of, asked_of, entry_of, section_of, stubs_of}
 use Rattle.bpfdb_jobs.specs.Origins.{Arrival, RefusesWhat}
 use Rattle.bpfdb_jobs.specs.declared.job.Job.{Job}
-use Rattle.bpfdb_jobs.specs.declared.refusal.JobRefusal.{JobRefusal}
-use Rattle.bpfdb_jobs.specs.declared.refusal.JobRefusal.TheVariants.{Maps, Listing, Load, Open, Journal, What, Goal, Object, Functions, Tests, NoTest, ManyTests, Script}
+use Rattle.bpfdb_faults.specs.declared.refusal.JobRefusal.{JobRefusal}
+use Rattle.bpfdb_faults.specs.declared.refusal.JobRefusal.TheVariants.{Maps, Listing, Load, Open, Journal, What, Goal, Object, Functions, Tests, NoTest, ManyTests, Script}
 use Rattle.bpfdb_options.specs.declared.subcommand.Subcommand.{Subcommand}
 use Rattle.bpfdb_options.specs.declared.subcommand.Subcommand.TheVariants.{Run, Trace, Debug, Origin, Whynot, Gdb, Asm, Disasm, Lines, Check, Link, Test}
 

@@ -6,15 +6,15 @@ use Rattle.bpf_suite.specs.Tests.{context, has_listing, program}
 use Rattle.bpf_suite.specs.declared.section.Section.{Section}
 use Rattle.bpf_suite.specs.declared.shown.WordsFault.TheVariants as words
 use Rattle.counted_io.specs.Counted.{Tally}
-use Rattle.bpfdb_jobs.specs.Endings.{Gets, Loses, Told}
-use Rattle.bpfdb_jobs.specs.Faults.{line_of}
+use Rattle.bpfdb_faults.specs.Streams.{Gets, Loses, Told}
+use Rattle.bpfdb_faults.specs.Faults.{line_of}
 use Rattle.bpfdb_jobs.specs.Refusals.{RefusesTests}
 use Rattle.bpfdb_jobs.specs.Suites.{AreTestsOf, EndsTests}
-use Rattle.bpfdb_jobs.specs.declared.fault.JobFault.{JobFault}
-use Rattle.bpfdb_jobs.specs.declared.fault.JobFault.TheVariants as fault
+use Rattle.bpfdb_faults.specs.declared.fault.JobFault.{JobFault}
+use Rattle.bpfdb_faults.specs.declared.fault.JobFault.TheVariants as fault
 use Rattle.bpfdb_jobs.specs.declared.job.Job.{Job}
-use Rattle.bpfdb_jobs.specs.declared.refusal.JobRefusal.{JobRefusal}
-use Rattle.bpfdb_jobs.specs.declared.refusal.JobRefusal.TheVariants.{Listing, ManyTests}
+use Rattle.bpfdb_faults.specs.declared.refusal.JobRefusal.{JobRefusal}
+use Rattle.bpfdb_faults.specs.declared.refusal.JobRefusal.TheVariants.{Listing, ManyTests}
 use Rattle.bpfdb_options.specs.declared.test_part.TestPart.{TestPart}
 use Rattle.bpfdb_options.specs.declared.test_part.TestPart.TheVariants.{Program, Context, Options, Script}
 

@@ -2,8 +2,8 @@
 use Rattle.std.specs.Prelude.{◌≡◌, ℕ, List, Option, Result, Ok, Err}
 use Rattle.counted_io.specs.Counted.{Tally}
 use Rattle.counted_io.specs.Writing.{Writes}
-use Rattle.bpfdb_jobs.specs.declared.fault.JobFault.{JobFault}
-use Rattle.bpfdb_jobs.specs.declared.fault.JobFault.TheVariants as fault
+use Rattle.bpfdb_faults.specs.declared.fault.JobFault.{JobFault}
+use Rattle.bpfdb_faults.specs.declared.fault.JobFault.TheVariants as fault
 use Rattle.bpfdb_jobs.specs.declared.trace.TellFault.{TellFault}
 use Rattle.bpfdb_jobs.specs.declared.trace.TellFault.TheVariants.{Memory, Write}
 

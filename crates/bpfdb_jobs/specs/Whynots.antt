@@ -6,8 +6,8 @@ use Rattle.bpf_whynot.specs.Asked.{goals_in}
 use Rattle.bpf_whynot.specs.Reach.{TellsReach}
 use Rattle.bpf_whynot.specs.Tables.{AreGoals, told_by}
 use Rattle.bpf_whynot.specs.declared.fault.GoalFault.{GoalFault}
-use Rattle.bpfdb_jobs.specs.declared.refusal.JobRefusal.{JobRefusal}
-use Rattle.bpfdb_jobs.specs.declared.refusal.JobRefusal.TheVariants.{Goal, Journal}
+use Rattle.bpfdb_faults.specs.declared.refusal.JobRefusal.{JobRefusal}
+use Rattle.bpfdb_faults.specs.declared.refusal.JobRefusal.TheVariants.{Goal, Journal}
 use Rattle.bpfdb_jobs.specs.declared.whynot.Prepared.{Prepared}
 
 -- The slots that a text names, and from where they can be come to.

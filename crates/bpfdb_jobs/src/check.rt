@@ -5,10 +5,10 @@ ghost use Rattle.bpfdb_jobs.specs.Endings.{EndsPrinted};
 ghost use Rattle.bpfdb_jobs.specs.Jobs.{check_line};
 ghost use Rattle.bpfdb_options.specs.declared.subcommand.Subcommand.TheVariants.{Check};
 
-use crate::fault::JobFault;
+use bpfdb_faults::JobFault;
 use crate::job::Job;
 use crate::opening::program_of;
-use crate::report::{ended, flush_after, give_up};
+use bpfdb_faults::{ended, flush_after, give_up};
 use bpf_isa::Program;
 use counted_io::{Counted, Piece, WriteFault, put_all};
 use std::alloc::Global;

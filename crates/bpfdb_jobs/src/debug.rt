@@ -3,10 +3,10 @@ ghost use Rattle.std.specs.Prelude.{◌≤◌};
 ghost use Rattle.bpfdb_jobs.specs.Done.{Debugs};
 ghost use Rattle.bpfdb_limits.specs.Limits.{IsLimit};
 
-use crate::fault::JobFault;
+use bpfdb_faults::JobFault;
 use crate::job::Job;
 use crate::opening::session_of;
-use crate::report::give_up;
+use bpfdb_faults::give_up;
 use bpf_session::laws::nothing_refused_nothing_missing;
 use bpf_session::{RunFault, run};
 use counted_io::Counted;

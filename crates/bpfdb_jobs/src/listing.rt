@@ -3,11 +3,11 @@ ghost use Rattle.std.specs.Prelude.{◌≤◌};
 ghost use Rattle.bpfdb_jobs.specs.Endings.{EndsPrinted};
 ghost use Rattle.bpfdb_options.specs.declared.subcommand.Subcommand.TheVariants.{Asm, Disasm, Lines};
 
-use crate::fault::JobFault;
+use bpfdb_faults::JobFault;
 use crate::job::Job;
 use crate::opening::program_of;
-use crate::refusal::JobRefusal;
-use crate::report::{ended, give_up, write_out};
+use bpfdb_faults::JobRefusal;
+use bpfdb_faults::{ended, give_up, write_out};
 use bpf_text::{assemble, disassemble, line_table};
 use counted_io::Counted;
 use std::alloc::Global;

@@ -1,10 +1,10 @@
 //! The lines that tell of an object that was linked.
 ghost use Rattle.std.specs.Prelude.{◌++◌, OnErr, OnOk, flat_map, codes};
 ghost use Rattle.counted_io.specs.Writing.{Writes, WritesAfter};
-ghost use Rattle.bpfdb_jobs.specs.Endings.{Gets, Loses};
+ghost use Rattle.bpfdb_faults.specs.Streams.{Gets, Loses};
 ghost use Rattle.bpfdb_jobs.specs.MapLines.{count_line, linked_text, linked_told, maps_line, shape_text};
 
-use crate::report::flush_after;
+use bpfdb_faults::flush_after;
 use bpf_isa::MapShape;
 use counted_io::{Counted, Piece, WriteFault, put, put_all};
 use std::io::Write;

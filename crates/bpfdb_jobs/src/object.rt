@@ -4,18 +4,19 @@ ghost use Rattle.std.specs.Borrow.{Bor};
 ghost use Rattle.bpf_join.specs.Joined.{IsJoinFault};
 ghost use Rattle.bpf_link.specs.Names.{fault_names};
 ghost use Rattle.bpf_link.specs.Programs.{IsLinkRefusal, IsLinkedAs};
-ghost use Rattle.bpfdb_jobs.specs.Endings.{EndsPrinted, Told};
-ghost use Rattle.bpfdb_jobs.specs.Faults.{line_of};
+ghost use Rattle.bpfdb_faults.specs.Streams.{Told};
+ghost use Rattle.bpfdb_jobs.specs.Endings.{EndsPrinted};
+ghost use Rattle.bpfdb_faults.specs.Faults.{line_of};
 ghost use Rattle.bpfdb_jobs.specs.Jobs.{IsObjectOf, answered_if, entry_of, fields_if, or_count, section_of, stubs_of};
 ghost use Rattle.bpfdb_jobs.specs.Refusals.{RefusesObject};
-ghost use Rattle.bpfdb_jobs.specs.declared.refusal.JobRefusal.{JobRefusal as WhyRefused};
+ghost use Rattle.bpfdb_faults.specs.declared.refusal.JobRefusal.{JobRefusal as WhyRefused};
 ghost use Rattle.bpfdb_options.specs.declared.subcommand.Subcommand.TheVariants.{Link};
 
-use crate::fault::JobFault;
+use bpfdb_faults::JobFault;
 use crate::job::Job;
 use crate::maps::tell_linked;
-use crate::refusal::JobRefusal;
-use crate::report::{ended, give_up, told_as, write_out};
+use bpfdb_faults::JobRefusal;
+use bpfdb_faults::{ended, give_up, told_as, write_out};
 use arrayvec::ArrayVec;
 use bpf_join::{JoinFault, join};
 use bpf_link::{

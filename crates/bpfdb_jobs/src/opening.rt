@@ -6,12 +6,12 @@ ghost use Rattle.bpf_machine.specs.State.{initial};
 ghost use Rattle.bpfdb_jobs.specs.Jobs.{HasMaps, HasWords, IsProgramOf, Opens};
 ghost use Rattle.bpfdb_jobs.specs.Openings.{IsOpening, IsStart};
 ghost use Rattle.bpfdb_jobs.specs.Refusals.{Refuses, RefusesMachine, RefusesProgram};
-ghost use Rattle.bpfdb_jobs.specs.declared.refusal.JobRefusal.TheVariants.{Journal};
+ghost use Rattle.bpfdb_faults.specs.declared.refusal.JobRefusal.TheVariants.{Journal};
 ghost use Rattle.bpf_ring.specs.declared.fault.JournalFault.TheVariants.{OutOfMemory};
 ghost use Rattle.bpfdb_limits.specs.Limits.{IsLimit};
 
 use crate::job::Job;
-use crate::refusal::JobRefusal;
+use bpfdb_faults::{JobRefusal, open_machine};
 use bpf_isa::{MapTable, Program, check};
 use bpf_journal::{JournalFault, RingKeeper, Timeline};
 use bpf_machine::Cpu;
@@ -95,9 +95,9 @@ pub fn machine_of(alloc: Global, job: &Job<'_>) -> Result<Cpu, JobRefusal<'stati
         Ok(program) => program,
         Err(refusal) => return Err(refusal),
     };
-    match Cpu::open(alloc, program, job.context) {
+    match open_machine(alloc, program, job.context) {
         Ok(cpu) => Ok(cpu),
-        Err(fault) => Err(JobRefusal::Open(fault)),
+        Err(refusal) => Err(refusal),
     }
 }
 

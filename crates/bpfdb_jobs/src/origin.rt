@@ -11,11 +11,11 @@ ghost use Rattle.bpfdb_jobs.specs.Refusals.{RefusesArrival};
 ghost use Rattle.bpfdb_limits.specs.Limits.{IsLimit};
 ghost use Rattle.bpfdb_options.specs.declared.subcommand.Subcommand.TheVariants.{Origin};
 
-use crate::fault::JobFault;
+use bpfdb_faults::JobFault;
 use crate::job::Job;
 use crate::opening::{session_of, timeline_of, wanted_of};
-use crate::refusal::JobRefusal;
-use crate::report::{flush_after, give_up};
+use bpfdb_faults::JobRefusal;
+use bpfdb_faults::{flush_after, give_up};
 use crate::script::obey_script;
 use bpf_journal::{Keeper, RingKeeper, Timeline};
 use bpf_machine::Cpu;

@@ -3,10 +3,10 @@ ghost use Rattle.std.specs.Prelude.{◌≤◌};
 ghost use Rattle.bpfdb_jobs.specs.Endings.{EndsPrinted};
 ghost use Rattle.bpfdb_options.specs.declared.subcommand.Subcommand.TheVariants.{Run};
 
-use crate::fault::JobFault;
+use bpfdb_faults::JobFault;
 use crate::job::Job;
 use crate::opening::machine_of;
-use crate::report::{give_up, tell, tell_place, told_as};
+use bpfdb_faults::{give_up, tell, tell_place, told_as};
 use bpf_session::{Ending, run_plain};
 use counted_io::Counted;
 use std::alloc::Global;

@@ -5,10 +5,10 @@ ghost use Rattle.bpfdb_jobs.specs.Shown.{EndsShown, HidesPart, Shows};
 ghost use Rattle.bpfdb_jobs.specs.Suites.{AreTestsOf};
 ghost use Rattle.bpfdb_options.specs.declared.test_part.TestPart.TheVariants.{Program};
 
-use crate::fault::JobFault;
+use bpfdb_faults::JobFault;
 use crate::job::Job;
-use crate::refusal::JobRefusal;
-use crate::report::{ended, give_up, write_out};
+use bpfdb_faults::JobRefusal;
+use bpfdb_faults::{ended, give_up, write_out};
 use crate::suite::{asked_tests, refuse};
 use bpf_suite::{Suite, Test, TestList, WordsFault};
 use bpfdb_options::TestPart;

@@ -2,17 +2,17 @@
 ghost use Rattle.std.specs.Prelude.{◌≡◌, ◌≤◌, IfErr, IfOk, List, length};
 ghost use Rattle.bpf_suite.specs.Outcomes.{Outcome};
 ghost use Rattle.bpf_suite.specs.Reports.{AreOutcomes, BreaksOff, all_pass, plan};
-ghost use Rattle.bpfdb_jobs.specs.Endings.{Told};
-ghost use Rattle.bpfdb_jobs.specs.Faults.{line_of};
+ghost use Rattle.bpfdb_faults.specs.Streams.{Told};
+ghost use Rattle.bpfdb_faults.specs.Faults.{line_of};
 ghost use Rattle.bpfdb_jobs.specs.Refusals.{LacksName};
 ghost use Rattle.bpfdb_jobs.specs.Shown.{EndsTest};
 ghost use Rattle.bpfdb_jobs.specs.Suites.{AreAsked, EndsTests, fault_of_file, fault_of_suite, report, status_of};
 ghost use Rattle.counted_io.specs.Writing.{Writes};
 
-use crate::fault::JobFault;
+use bpfdb_faults::JobFault;
 use crate::job::Job;
-use crate::refusal::JobRefusal;
-use crate::report::give_up;
+use bpfdb_faults::JobRefusal;
+use bpfdb_faults::give_up;
 use crate::show::show_job;
 use bpf_suite::{FileFault, Suite, SuiteFault, TestList, choose, run_tests, write_plan};
 use counted_io::{Counted, WriteFault};

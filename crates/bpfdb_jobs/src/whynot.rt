@@ -14,11 +14,11 @@ ghost use Rattle.bpfdb_jobs.specs.Whynots.{IsPrepared, RefusesGoals};
 ghost use Rattle.bpfdb_limits.specs.Limits.{IsLimit};
 ghost use Rattle.bpfdb_options.specs.declared.subcommand.Subcommand.TheVariants.{Whynot};
 
-use crate::fault::JobFault;
+use bpfdb_faults::JobFault;
 use crate::job::Job;
 use crate::origin::{Arrived, arrive, status_of};
-use crate::refusal::JobRefusal;
-use crate::report::{flush_after, give_up};
+use bpfdb_faults::JobRefusal;
+use bpfdb_faults::{flush_after, give_up};
 use bpf_isa::Program;
 use bpf_journal::{JournalFault, Keeper, Timeline};
 use bpf_origin::{Question, Told, Wanted};

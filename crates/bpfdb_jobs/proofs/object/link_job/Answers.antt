@@ -2,7 +2,7 @@ use Rattle.std.proofs.Common.{inl, refl, subst, sym}
 use Rattle.std.specs.Prelude.{Some}
 use Rattle.bpfdb_jobs.specs.Endings.{Refused}
 use Rattle.bpfdb_jobs.specs.Jobs.{ObjectOf}
-use Rattle.bpfdb_jobs.specs.declared.refusal.JobRefusal.TheVariants.{Object}
+use Rattle.bpfdb_faults.specs.declared.refusal.JobRefusal.TheVariants.{Object}
 use Rattle.bpfdb_jobs.proofs.object.link_job.Goals as goal
 
 pub returns-in-Err-clause-does : goal.returns-in-Err-clause-does

@@ -7,7 +7,7 @@ use Rattle.bpfdb_jobs.specs.Endings.{OutLost, Refused}
 use Rattle.bpfdb_jobs.specs.Jobs.{IsObjectOf, LinkPrints, Print, Prints, answered_if, entry_of, fields_if, or_count, printed, section_of, stubs_of}
 use Rattle.bpfdb_jobs.specs.MapLines.{linked_told}
 use Rattle.bpfdb_jobs.specs.declared.job.Job.{Job}
-use Rattle.bpfdb_jobs.specs.declared.refusal.JobRefusal.TheVariants.{Object}
+use Rattle.bpfdb_faults.specs.declared.refusal.JobRefusal.TheVariants.{Object}
 use Rattle.bpfdb_jobs.proofs.Printing.{err-printed}
 use Rattle.bpfdb_options.specs.declared.subcommand.Subcommand.TheVariants.{Link}
 use Rattle.bpfdb_jobs.proofs.object.put_program.Goals as goal

@@ -1,7 +1,7 @@
 use Rattle.std.proofs.Common.{inl, inr, subst, sym}
 use Rattle.bpf_join.specs.declared.fault.JoinFault.TheVariants.{First, Second}
 use Rattle.bpfdb_jobs.specs.Refusals.{RefusesJoin}
-use Rattle.bpfdb_jobs.specs.declared.refusal.JobRefusal.TheVariants.{Functions, Object}
+use Rattle.bpfdb_faults.specs.declared.refusal.JobRefusal.TheVariants.{Functions, Object}
 use Rattle.bpfdb_jobs.proofs.object.refuse_join.Goals as goal
 
 pub returns-in-First-clause-told : goal.returns-in-First-clause-told

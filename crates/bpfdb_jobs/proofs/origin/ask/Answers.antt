@@ -5,7 +5,7 @@ use Rattle.bpf_origin.specs.declared.question.Question.{Question}
 use Rattle.bpfdb_jobs.specs.Endings.{OutLost, Printed, Refused}
 use Rattle.bpfdb_jobs.specs.Jobs.{origin_print}
 use Rattle.bpfdb_jobs.specs.Origins.{status_of_extent}
-use Rattle.bpfdb_jobs.specs.declared.refusal.JobRefusal.TheVariants.{What}
+use Rattle.bpfdb_faults.specs.declared.refusal.JobRefusal.TheVariants.{What}
 use Rattle.bpfdb_jobs.proofs.Originating.{origin-prints, origin-refuses}
 use Rattle.bpfdb_jobs.proofs.origin.ask.Goals as goal
 

@@ -7,15 +7,15 @@ use Rattle.bpf_suite.specs.declared.fault.FileFault.TheVariants as file
 use Rattle.bpf_suite.specs.declared.section.Section.{Section}
 use Rattle.bpf_suite.proofs.Tests.{tests-some}
 use Rattle.counted_io.specs.Counted.{Tally}
-use Rattle.bpfdb_jobs.specs.Endings.{Told}
-use Rattle.bpfdb_jobs.specs.Faults.{line_of}
+use Rattle.bpfdb_faults.specs.Streams.{Told}
+use Rattle.bpfdb_faults.specs.Faults.{line_of}
 use Rattle.bpfdb_jobs.specs.Refusals.{LacksName}
 use Rattle.bpfdb_jobs.specs.Shown.{EndsShown, Exhausted, Refused}
 use Rattle.bpfdb_jobs.specs.Suites.{AreAsked, fault_of_file}
-use Rattle.bpfdb_jobs.specs.declared.fault.JobFault.TheVariants as fault
+use Rattle.bpfdb_faults.specs.declared.fault.JobFault.TheVariants as fault
 use Rattle.bpfdb_jobs.specs.declared.job.Job.{Job}
-use Rattle.bpfdb_jobs.specs.declared.refusal.JobRefusal.{JobRefusal}
-use Rattle.bpfdb_jobs.specs.declared.refusal.JobRefusal.TheVariants.{Maps, Listing, Load, Open, Journal, Script, What, Goal, Object, Functions, Tests, NoTest, ManyTests}
+use Rattle.bpfdb_faults.specs.declared.refusal.JobRefusal.{JobRefusal}
+use Rattle.bpfdb_faults.specs.declared.refusal.JobRefusal.TheVariants.{Maps, Listing, Load, Open, Journal, Script, What, Goal, Object, Functions, Tests, NoTest, ManyTests}
 use Rattle.bpfdb_options.specs.declared.test_part.TestPart.{TestPart}
 use Rattle.bpfdb_jobs.proofs.show.show_job.Goals as goal
 

@@ -3,14 +3,14 @@ use Rattle.std.specs.Prelude.{OnOk, OnErr}
 use Rattle.bpf_suite.specs.declared.section.Section.{Section}
 use Rattle.counted_io.specs.Counted.{Tally}
 use Rattle.counted_io.specs.Writing.{Writes}
-use Rattle.bpfdb_jobs.specs.Endings.{Told}
-use Rattle.bpfdb_jobs.specs.Faults.{line_of}
+use Rattle.bpfdb_faults.specs.Streams.{Told}
+use Rattle.bpfdb_faults.specs.Faults.{line_of}
 use Rattle.bpfdb_jobs.specs.Shown.{EndsShown, Exhausted, HidesPart, Lost, Refused, Shown, Shows}
 use Rattle.bpfdb_jobs.specs.Suites.{AreTestsOf}
-use Rattle.bpfdb_jobs.specs.declared.fault.JobFault.{JobFault}
-use Rattle.bpfdb_jobs.specs.declared.fault.JobFault.TheVariants as fault
+use Rattle.bpfdb_faults.specs.declared.fault.JobFault.{JobFault}
+use Rattle.bpfdb_faults.specs.declared.fault.JobFault.TheVariants as fault
 use Rattle.bpfdb_jobs.specs.declared.job.Job.{Job}
-use Rattle.bpfdb_jobs.specs.declared.refusal.JobRefusal.TheVariants.{Maps, Listing, Load, Open, Journal, Script, What, Goal, Object, Functions, Tests, NoTest, ManyTests}
+use Rattle.bpfdb_faults.specs.declared.refusal.JobRefusal.TheVariants.{Maps, Listing, Load, Open, Journal, Script, What, Goal, Object, Functions, Tests, NoTest, ManyTests}
 use Rattle.bpfdb_options.specs.declared.test_part.TestPart.{TestPart}
 use Rattle.bpfdb_jobs.proofs.show.show_test.Goals as goal
 

@@ -4,14 +4,14 @@ use Rattle.bpf_suite.specs.Files.{sections, tests}
 use Rattle.bpf_suite.specs.declared.fault.FileFault.{FileFault}
 use Rattle.bpf_suite.specs.declared.fault.FileFault.TheVariants as file
 use Rattle.counted_io.specs.Counted.{Tally}
-use Rattle.bpfdb_jobs.specs.Endings.{Told}
-use Rattle.bpfdb_jobs.specs.Faults.{line_of}
+use Rattle.bpfdb_faults.specs.Streams.{Told}
+use Rattle.bpfdb_faults.specs.Faults.{line_of}
 use Rattle.bpfdb_jobs.specs.Suites.{BrokenOff, EndsTests, Exhausted, Refused, Reported, fault_of_file, status_of}
 use Rattle.bpfdb_jobs.specs.declared.job.Job.{Job}
 use Rattle.bpfdb_jobs.specs.Refusals.{LacksName}
-use Rattle.bpfdb_jobs.specs.declared.fault.JobFault.TheVariants as fault
-use Rattle.bpfdb_jobs.specs.declared.refusal.JobRefusal.{JobRefusal}
-use Rattle.bpfdb_jobs.specs.declared.refusal.JobRefusal.TheVariants.{Maps, Listing, Load, Open, Journal, Script, What, Goal, Object, Functions, Tests, NoTest, ManyTests}
+use Rattle.bpfdb_faults.specs.declared.fault.JobFault.TheVariants as fault
+use Rattle.bpfdb_faults.specs.declared.refusal.JobRefusal.{JobRefusal}
+use Rattle.bpfdb_faults.specs.declared.refusal.JobRefusal.TheVariants.{Maps, Listing, Load, Open, Journal, Script, What, Goal, Object, Functions, Tests, NoTest, ManyTests}
 use Rattle.bpfdb_jobs.proofs.suite.report_job.Goals as goal
 
 -- a file of which no test is run

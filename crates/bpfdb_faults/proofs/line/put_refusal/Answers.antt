@@ -1,0 +1,19 @@
+use Rattle.std.proofs.Common.{append_assoc}
+use Rattle.bpfdb_faults.proofs.line.put_refusal.Goals as goal
+
+pub returns-in-Object : goal.returns-in-Object
+returns-in-Object g c = rw c.in-Object.is (c.put_object.ensures)
+
+pub returns-in-Functions : goal.returns-in-Functions
+returns-in-Functions g c = rw c.in-Functions.is (c.put_object-in-Functions.ensures)
+
+pub returns-in-NoTest : goal.returns-in-NoTest
+returns-in-NoTest g c = λ first front known.
+    let begun = c.put-begun.ensures first front known in
+    let named = rw c.as_bytes.ensures.value at (c.put_named-named.ensures first _ begun) in
+    rw c.in-NoTest.is (simp append_assoc (simp append_assoc at (c.put.ensures first _ named)))
+
+pub returns-in-Tests : goal.returns-in-Tests
+returns-in-Tests g c = λ first front known.
+    rw c.in-Tests.is
+    (rw (c.number-number-in-Tests.ensures, c.text-text-in-Tests.ensures) at (c.put_refused-in-Tests.ensures first front known))

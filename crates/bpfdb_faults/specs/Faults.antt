@@ -1,0 +1,114 @@
+-- Why a job isn't done, as a line on standard error. bpfdb's own choice.
+use Rattle.std.specs.Prelude.{ℕ, List, [], ◌∷◌, ◌++◌, Option, Some, None, codes, decimal}
+use Rattle.bpf_link.specs.Faults.{link_fault}
+use Rattle.bpf_link.specs.Helpers.{helper_name}
+use Rattle.bpf_link.specs.declared.fault.LinkFault.{LinkFault}
+use Rattle.bpf_link.specs.declared.fault.LinkFault.TheVariants as linking
+use Rattle.bpf_link.specs.declared.sources.Source.{Source}
+use Rattle.bpf_suite.specs.Faults.{section_fault}
+use Rattle.bpf_suite.specs.Refusals.{refusal_text, slot_of, text_of_refusal}
+use Rattle.bpf_suite.specs.declared.refusal.Refusal.TheVariants as program
+use Rattle.bpf_ring.specs.Opening.{journal_fault}
+use Rattle.bpf_origin.specs.Asked.{what_fault}
+use Rattle.bpf_trace.specs.Traces.{limit_line}
+use Rattle.bpf_whynot.specs.Asked.{goal_fault}
+use Rattle.bpfdb_commands.specs.Refusals as commands
+use Rattle.shown_text.specs.Shown.{shown}
+use Rattle.bpfdb_faults.specs.declared.fault.JobFault.{JobFault}
+use Rattle.bpfdb_faults.specs.declared.fault.JobFault.TheVariants.{Unreadable, NotText, Refused, Input, Output, Memory, StepLimit}
+use Rattle.bpfdb_faults.specs.declared.refusal.JobRefusal.{JobRefusal}
+use Rattle.bpfdb_faults.specs.declared.refusal.JobRefusal.TheVariants.{Maps, Listing, Load, Open, Journal, What, Object, Functions, Tests, NoTest, ManyTests, Script, Goal}
+
+-- The line of a refusal: a letter and a number, its line if it has one, and a text.
+abbrev pub refused_line : List ℕ → ℕ → Option ℕ → List ℕ → List ℕ
+refused_line family number line text = text_of_refusal family number (codes " at line ") line text ++ codes "\n"
+
+-- What stands behind the text of an object's fault: of a call of a helper that there isn't its number, its name in the kernel, if it has one, and the
+-- option that answers it.
+abbrev pub helper_text : ℕ → List ℕ → List ℕ
+helper_text helper [] = codes " " ++ decimal helper ++ codes ": --stub " ++ decimal helper ++ codes "=VALUE answers it"
+helper_text helper (byte ∷ bytes) =
+    codes " " ++ decimal helper ++ codes " (bpf_" ++ (byte ∷ bytes) ++ codes "): --stub " ++ decimal helper ++ codes "=VALUE answers it"
+
+-- Of relocations of fields it is how many there are, and the option that leaves them; else the option that chooses a section or a function.
+abbrev pub more_of : LinkFault → List ℕ
+more_of (linking.Helper slot helper source) = helper_text helper (helper_name helper)
+more_of (linking.Fields count slot at) = codes ", " ++ decimal count ++ codes " in all: --as-compiled leaves them undone"
+more_of linking.ManySections = codes ": --section NAME chooses one"
+more_of linking.ManyPrograms = codes ": --entry NAME chooses one"
+more_of fault = []
+
+-- The slot of an object's fault, where the words that are linked have one, or a relocation.
+abbrev pub slot_of_words : LinkFault → Option ℕ
+slot_of_words (linking.Symbol slot) = Some slot
+slot_of_words (linking.Relocation fault slot at) = Some slot
+slot_of_words (linking.Program fault source) = slot_of fault
+slot_of_words (linking.Helper slot helper source) = Some slot
+slot_of_words (linking.Fields count slot at) = Some slot
+slot_of_words fault = None
+
+-- The name of what is wrong with an object, or those of what there is.
+abbrev pub name_text : List ℕ → List ℕ
+name_text [] = []
+name_text (byte ∷ bytes) = codes ": " ++ shown (byte ∷ bytes)
+
+-- Behind the name of a section the slot of it from which that of the words comes.
+abbrev pub source_text : Option Source → List ℕ
+source_text (Some source) = codes ", slot " ++ decimal source.slot
+source_text None = []
+
+abbrev pub origin_text : LinkFault → List ℕ
+origin_text (linking.Program fault source) = source_text source
+origin_text (linking.Helper slot helper source) = source_text source
+origin_text fault = []
+
+abbrev pub object_text : LinkFault → List ℕ → List ℕ
+object_text fault name =
+    text_of_refusal (codes "refused E") (link_fault fault).0 (codes " at slot ") (slot_of_words fault) (link_fault fault).1
+    ++ more_of fault ++ name_text name ++ origin_text fault
+
+-- A name that no test has.
+abbrev pub no_test_line : List ℕ → List ℕ
+no_test_line name = codes "refused T7: no test of this name" ++ name_text name ++ codes "\n"
+
+-- The line of a refusal that a session looks at.
+abbrev pub session_line : JobRefusal → List ℕ
+session_line (Maps fault) = refusal_text (program.Maps fault) ++ codes "\n"
+session_line (Listing fault) = refusal_text (program.Listing fault) ++ codes "\n"
+session_line (Load fault) = refusal_text (program.Load fault) ++ codes "\n"
+session_line (Open fault) = refusal_text (program.Open fault) ++ codes "\n"
+session_line (Journal fault) = refused_line (codes "refused J") (journal_fault fault).0 None (journal_fault fault).1
+session_line refusal = []
+
+-- The line of each refusal.
+abbrev pub refusal_line : JobRefusal → List ℕ
+refusal_line (Script refusal) = commands.refusal_text refusal
+refusal_line (What fault) = refused_line (codes "refused V") (what_fault fault).0 None (what_fault fault).1
+refusal_line (Goal fault) = refused_line (codes "refused V") (goal_fault fault).0 None (goal_fault fault).1
+refusal_line (Object fault name) = object_text fault name.now ++ codes "\n"
+refusal_line (Functions fault name) = object_text fault name.now ++ codes " (--with)\n"
+refusal_line (Tests fault line) = refused_line (codes "refused T") (section_fault fault).0 (Some line) (section_fault fault).1
+refusal_line (NoTest name) = no_test_line name.now
+refusal_line ManyTests = codes "refused T8: more than one test is asked for\n"
+refusal_line refusal = session_line refusal
+
+-- A file that can't be read.
+abbrev pub unreadable_line : List ℕ → List ℕ
+unreadable_line name = codes "cannot read " ++ shown name ++ codes "\n"
+
+-- A read of standard input that failed, and a write of standard output.
+abbrev pub input_line : List ℕ
+input_line = codes "cannot read input\n"
+
+abbrev pub output_line : List ℕ
+output_line = codes "cannot write output\n"
+
+-- The line of each fault.
+abbrev pub line_of : JobFault → List ℕ
+line_of (Unreadable name) = unreadable_line name.now
+line_of NotText = codes "the command line is not UTF-8 text\n"
+line_of (Refused refusal) = refusal_line refusal
+line_of Input = input_line
+line_of Output = output_line
+line_of Memory = codes "out of memory\n"
+line_of (StepLimit limit slot) = limit_line limit slot

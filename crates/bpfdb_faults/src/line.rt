@@ -1,0 +1,269 @@
+//! The line of a fault.
+ghost use Rattle.std.specs.Prelude.{◌≡◌, ◌++◌, codes};
+ghost use Rattle.counted_io.specs.Writing.{WritesAfter};
+ghost use Rattle.bpf_link.specs.Helpers.{helper_name};
+ghost use Rattle.bpf_suite.specs.Refusals.{refusal_text};
+ghost use Rattle.bpfdb_faults.specs.Faults.{helper_text, line_of, more_of, name_text, object_text, origin_text, refusal_line, refused_line, slot_of_words, source_text};
+
+use crate::fault::JobFault;
+use crate::refusal::JobRefusal;
+use bpf_link::{LinkFault, Source, helper_name};
+use bpf_suite::{Refusal, put_numbered, slot_of};
+use bpf_trace::put_limit;
+use counted_io::{Counted, Piece, WriteFault, put, put_all};
+use shown_text::put_shown;
+use std::io::Write;
+
+/// Writes the line of a fault, after what was written so far, unless that failed.
+pub fn put_line<E: Write>(
+    errors: &mut Counted<E>,
+    so_far: Result<(), WriteFault>,
+    fault: &JobFault<'_>,
+) -> Result<(), WriteFault>
+    ensures { WritesAfter E.contents errors.old so_far errors.new result (line_of fault.now) }
+{
+    match fault {
+        JobFault::Unreadable(name) => {
+            let begun = put(errors, so_far, b"cannot read ");
+            let named = put_shown(errors, begun, name.as_bytes());
+            put(errors, named, b"\n")
+        }
+        JobFault::NotText => put(errors, so_far, b"the command line is not UTF-8 text\n"),
+        JobFault::Refused(refusal) => put_refusal(errors, so_far, refusal),
+        JobFault::Input => put(errors, so_far, b"cannot read input\n"),
+        JobFault::Output => put(errors, so_far, b"cannot write output\n"),
+        JobFault::Memory => put(errors, so_far, b"out of memory\n"),
+        JobFault::StepLimit(limit, slot) => put_limit(errors, so_far, *limit, *slot),
+    }
+}
+
+/// Writes the line of a refusal.
+fn put_refusal<E: Write>(
+    errors: &mut Counted<E>,
+    so_far: Result<(), WriteFault>,
+    refusal: &JobRefusal<'_>,
+) -> Result<(), WriteFault>
+    ensures { WritesAfter E.contents errors.old so_far errors.new result
+        (refusal_line refusal.now) }
+{
+    match refusal {
+        JobRefusal::Maps(fault) => put_program(errors, so_far, &Refusal::Maps(*fault)),
+        JobRefusal::Listing(fault) => put_program(errors, so_far, &Refusal::Listing(*fault)),
+        JobRefusal::Load(fault) => put_program(errors, so_far, &Refusal::Load(*fault)),
+        JobRefusal::Open(fault) => put_program(errors, so_far, &Refusal::Open(*fault)),
+        JobRefusal::Journal(fault) => {
+            let (number, text) = (fault.number(), fault.text());
+            put_refused(errors, so_far, b"refused J", number, None, text)
+        }
+        JobRefusal::Script(refusal) => bpfdb_replies::put_refusal(errors, so_far, *refusal),
+        JobRefusal::What(fault) => {
+            let (number, text) = (fault.number(), fault.text());
+            put_refused(errors, so_far, b"refused V", number, None, text)
+        }
+        JobRefusal::Goal(fault) => {
+            let (number, text) = (fault.number(), fault.text());
+            put_refused(errors, so_far, b"refused V", number, None, text)
+        }
+        JobRefusal::Object(fault, name) => put_object(errors, so_far, fault, name, b"\n"),
+        JobRefusal::Functions(fault, name) => {
+            put_object(errors, so_far, fault, name, b" (--with)\n")
+        }
+        JobRefusal::Tests(fault, line) => {
+            let (number, text) = (fault.number(), fault.text());
+            put_refused(errors, so_far, b"refused T", number, Some(*line), text)
+        }
+        JobRefusal::NoTest(name) => {
+            let begun = put(errors, so_far, b"refused T7: no test of this name");
+            let named = put_named(errors, begun, name.as_bytes());
+            put(errors, named, b"\n")
+        }
+        JobRefusal::ManyTests => {
+            put(
+                errors,
+                so_far,
+                b"refused T8: more than one test is asked for\n",
+            )
+        }
+    }
+}
+
+/// Writes the line of a program's refusal.
+fn put_program<E: Write>(
+    errors: &mut Counted<E>,
+    so_far: Result<(), WriteFault>,
+    refusal: &Refusal,
+) -> Result<(), WriteFault>
+    ensures { WritesAfter E.contents errors.old so_far errors.new result
+        (refusal_text refusal.now ++ codes "\n") }
+{
+    let said = bpf_suite::put_refusal(errors, so_far, refusal);
+    put(errors, said, b"\n")
+}
+
+/// Writes the line of a refusal: how it begins, its number, its line if it has one, and its text.
+fn put_refused<'a, E: Write>(
+    errors: &mut Counted<E>,
+    so_far: Result<(), WriteFault>,
+    family: &'a [u8],
+    number: u8,
+    line: Option<usize>,
+    text: &'a str,
+) -> Result<(), WriteFault>
+    ensures { WritesAfter E.contents errors.old so_far errors.new result
+        (refused_line family.now number line text.now) }
+{
+    let said = put_numbered(errors, so_far, family, number, b" at line ", line, text);
+    put(errors, said, b"\n")
+}
+
+/// Writes the line of an object's fault, which ends so.
+fn put_object<E: Write>(
+    errors: &mut Counted<E>,
+    so_far: Result<(), WriteFault>,
+    fault: &LinkFault,
+    name: &[u8],
+    end: &[u8],
+) -> Result<(), WriteFault>
+    ensures { WritesAfter E.contents errors.old so_far errors.new result
+        (object_text fault.now name.now ++ end.now) }
+{
+    let (number, text) = (fault.number(), fault.text());
+    let slot = slot_of_words(fault);
+    let begun = put_numbered(
+        errors,
+        so_far,
+        b"refused E",
+        number,
+        b" at slot ",
+        slot,
+        text,
+    );
+    let said = put_more(errors, begun, fault);
+    let named = put_named(errors, said, name);
+    let placed = put_origin(errors, named, fault);
+    put(errors, placed, end)
+}
+
+/// Writes the slot of a section from which the slot of an object's fault comes, if there is one.
+fn put_origin<E: Write>(
+    errors: &mut Counted<E>,
+    so_far: Result<(), WriteFault>,
+    fault: &LinkFault,
+) -> Result<(), WriteFault>
+    ensures { WritesAfter E.contents errors.old so_far errors.new result (origin_text fault.now) }
+{
+    match fault {
+        LinkFault::Program { source, .. } => put_source(errors, so_far, *source),
+        LinkFault::Helper { source, .. } => put_source(errors, so_far, *source),
+        _ => put(errors, so_far, b""),
+    }
+}
+
+/// Writes the slot of a section, if one is known.
+fn put_source<E: Write>(
+    errors: &mut Counted<E>,
+    so_far: Result<(), WriteFault>,
+    source: Option<Source>,
+) -> Result<(), WriteFault>
+    ensures { WritesAfter E.contents errors.old so_far errors.new result (source_text source) }
+{
+    match source {
+        Some(source) => {
+            let pieces = [Piece::Text(b", slot "), Piece::Decimal(source.slot as u64)];
+            put_all(errors, so_far, &pieces)
+        }
+        None => put(errors, so_far, b""),
+    }
+}
+
+/// Writes the name of what is wrong, if there is one.
+fn put_named<E: Write>(
+    errors: &mut Counted<E>,
+    so_far: Result<(), WriteFault>,
+    name: &[u8],
+) -> Result<(), WriteFault>
+    ensures { WritesAfter E.contents errors.old so_far errors.new result (name_text name.now) }
+{
+    match name {
+        [] => put(errors, so_far, b""),
+        _ => {
+            let begun = put(errors, so_far, b": ");
+            put_shown(errors, begun, name)
+        }
+    }
+}
+
+/// Writes what stands behind the text of an object's fault.
+fn put_more<E: Write>(
+    errors: &mut Counted<E>,
+    so_far: Result<(), WriteFault>,
+    fault: &LinkFault,
+) -> Result<(), WriteFault>
+    ensures { WritesAfter E.contents errors.old so_far errors.new result (more_of fault.now) }
+{
+    match fault {
+        LinkFault::Helper { helper, .. } => put_helper(errors, so_far, *helper),
+        LinkFault::Fields { count, .. } => {
+            let pieces = [
+                Piece::Text(b", "),
+                Piece::Decimal(u64::from(*count)),
+                Piece::Text(b" in all: --as-compiled leaves them undone"),
+            ];
+            put_all(errors, so_far, &pieces)
+        }
+        LinkFault::ManySections => put(errors, so_far, b": --section NAME chooses one"),
+        LinkFault::ManyPrograms => put(errors, so_far, b": --entry NAME chooses one"),
+        _ => put(errors, so_far, b""),
+    }
+}
+
+/// Writes the number of a helper, its name in the kernel, and the option that answers it.
+fn put_helper<E: Write>(
+    errors: &mut Counted<E>,
+    so_far: Result<(), WriteFault>,
+    helper: u32,
+) -> Result<(), WriteFault>
+    ensures { WritesAfter E.contents errors.old so_far errors.new result
+        (helper_text helper (helper_name helper)) }
+{
+    let number = u64::from(helper);
+    let name = helper_name(helper);
+    match name {
+        [] => {
+            let pieces = [
+                Piece::Text(b" "),
+                Piece::Decimal(number),
+                Piece::Text(b": --stub "),
+                Piece::Decimal(number),
+                Piece::Text(b"=VALUE answers it"),
+            ];
+            put_all(errors, so_far, &pieces)
+        }
+        _ => {
+            let pieces = [
+                Piece::Text(b" "),
+                Piece::Decimal(number),
+                Piece::Text(b" (bpf_"),
+                Piece::Text(name),
+                Piece::Text(b"): --stub "),
+                Piece::Decimal(number),
+                Piece::Text(b"=VALUE answers it"),
+            ];
+            put_all(errors, so_far, &pieces)
+        }
+    }
+}
+
+/// The slot of an object's fault, where the words that are linked have one, or a relocation.
+fn slot_of_words(fault: &LinkFault) -> Option<usize>
+    ensures { result ≡ slot_of_words fault.now }
+{
+    match fault {
+        LinkFault::Symbol(slot) => Some(*slot),
+        LinkFault::Relocation { slot, .. } => Some(*slot),
+        LinkFault::Program { fault, .. } => slot_of(fault),
+        LinkFault::Helper { slot, .. } => Some(*slot),
+        LinkFault::Fields { slot, .. } => Some(*slot),
+        _ => None,
+    }
+}

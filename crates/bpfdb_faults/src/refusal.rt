@@ -1,0 +1,42 @@
+//! Why a job is refused.
+use bpf_isa::{LoadFault, MapFault};
+use bpf_link::LinkFault;
+use bpf_machine::OpenFault;
+use bpf_origin::WhatFault;
+use bpf_ring::JournalFault;
+use bpf_suite::SectionFault;
+use bpf_text::AsmFault;
+use bpf_whynot::GoalFault;
+use bpfdb_commands::Refusal;
+
+/// Why a job is refused, in the order in which it is looked at.
+#[derive(Clone, Copy)]
+pub enum JobRefusal<'a> {
+    /// The map table's text.
+    Maps(MapFault),
+    /// The listing.
+    Listing(AsmFault),
+    /// The checker refused the program.
+    Load(LoadFault),
+    /// The machine can't be opened on it and the context.
+    Open(OpenFault),
+    /// The journal can't be opened.
+    Journal(JournalFault),
+    /// A line of the script is refused.
+    Script(Refusal),
+    /// What is asked about isn't in the machine.
+    What(WhatFault),
+    /// What is asked about is no slot of the program.
+    Goal(GoalFault),
+    /// No program is made of the object; the name of what is wrong, or those of what there is, as
+    /// they stand in the object, or nothing.
+    Object(LinkFault, &'a [u8]),
+    /// The object with functions isn't joined; names as they stand in it.
+    Functions(LinkFault, &'a [u8]),
+    /// A test file has this fault, in this line.
+    Tests(SectionFault, usize),
+    /// No test of the file has the name that is asked for.
+    NoTest(&'a str),
+    /// More than one test is asked for, where one can be shown.
+    ManyTests,
+}

@@ -1,6 +1,0 @@
-use Rattle.std.proofs.Common.{append_assoc}
-use Rattle.bpfdb_jobs.proofs.line.put_program.Goals as goal
-
-pub returns : goal.returns
-returns g c = λ first front known.
-    simp append_assoc at (c.put.ensures first _ (c.put_refusal-said.ensures first front known))
