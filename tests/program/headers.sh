@@ -189,7 +189,7 @@ PACKETS
             refused_link "a name that no program has, $compiler" 'E19: symbol is not defined in the object: filer' --section xdp --entry bpfdb
             refused_link "without an entry, $compiler" 'E30: more than one program in the code section: --entry NAME chooses one: bpfdb, filter' --section xdp
             with $compiler -O2 -DBPFDB_TC=classify "$parts/headers/classifier.c"
-            refused_link "bpf_printk, $compiler" 'E25: unknown helper 6 (bpf_trace_printk): --stub 6=VALUE answers it: tc, slot' --section tc --entry bpfdb
+            refused_link "bpf_printk, $compiler" 'E25: unknown helper 6 (bpf_trace_printk): --with OBJECT or --stub 6=VALUE answers it: tc, slot' --section tc --entry bpfdb
             sed 's/MAP_TYPE_ARRAY/MAP_TYPE_HASH/' "$top/examples/xdp/xdp.c" > elsewhere.c
             with $compiler -O2 -DBPFDB_XDP=filter elsewhere.c
             refused_link "a hash, $compiler" 'E50: map is a hash, and no array: counts' --section xdp --entry bpfdb

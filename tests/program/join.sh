@@ -49,7 +49,7 @@ for compiler in $compilers; do
     count=$((count + 1))
 
     # What is wanting, and what is wrong with either object.
-    refused 'refused E25 at slot 0: unknown helper 8 (bpf_get_smp_processor_id): --stub 8=VALUE answers it: unanswered, slot 0' \
+    refused 'refused E25 at slot 0: unknown helper 8 (bpf_get_smp_processor_id): --with OBJECT or --stub 8=VALUE answers it: unanswered, slot 0' \
         link --with functions.o --section unanswered program.o
     refused 'refused E8: no such code section: .text, time, text, trace, extern, cells, kind, unanswered' link --with functions.o --section none program.o
     printf 'none' > none.o

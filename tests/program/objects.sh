@@ -140,7 +140,7 @@ refused 'refused E30: more than one program in the code section: --entry NAME ch
 refused 'refused E31: no such function in the code section: twice, first, second' link --entry third programs.o
 # (`second` calls helper 5, which isn't there; behind the jump to it that is a slot later than in the section. `first` doesn't come there, so it is linked: what isn't
 # reached is `exit`, and its calls aren't answered)
-clock='unknown helper 5 (bpf_ktime_get_ns): --stub 5=VALUE answers it: prog, slot 7'
+clock='unknown helper 5 (bpf_ktime_get_ns): --with OBJECT or --stub 5=VALUE answers it: prog, slot 7'
 refused "refused E25 at slot 8: $clock" link --section=prog --entry=second programs.o
 refused "refused E25 at slot 8: $clock" link --entry second --stub 4=0,6=0 programs.o
 bytes words $(printf '%s' 'bf21000000000000 8510000002000000 0700000001000000 9500000000000000 bf10000000000000 6700000001000000 9500000000000000 9500000000000000 9500000000000000 9500000000000000 9500000000000000 9500000000000000 9500000000000000' | tr -d ' ' | sed 's/../& /g')
@@ -149,7 +149,9 @@ row 'bpfdb link --entry first --stub 5=7' 0 "$script_unread" "$text" 'calls answ
 # The number of the helper is at 124. The first and the last that have a name (in the kernel's header), and those beside them; 1, 2 and 64 are there.
 while IFS='|' read -r octal helper; do
     { head -c 124 programs.o; printf "$octal"; tail -c +129 programs.o; } > changed.o
-    refused "refused E25 at slot 8: unknown helper $helper: --stub ${helper%% *}=VALUE answers it: prog, slot 7" link --entry second changed.o
+    # (a function of another object answers a helper by its name)
+    case $helper in *' '*) way='--with OBJECT or --stub' ;; *) way=--stub ;; esac
+    refused "refused E25 at slot 8: unknown helper $helper: $way ${helper%% *}=VALUE answers it: prog, slot 7" link --entry second changed.o
 done <<'ROWS'
 \0\0\0\0|0
 \003\0\0\0|3 (bpf_map_delete_elem)
@@ -187,20 +189,22 @@ refused 'refused E25 at slot 0: unknown instruction: .text, slot 0' link unknown
 
 # Lists of stubs that are none, before all else. The first item with a fault is told: a helper that is answered already comes before what stands behind it. At each
 # limit of the numbers a list is taken (and `programs.o`, whose helper isn't in it, refused for that).
-for list in '' , 5 5= =0 5=0, ,5=0 5:0 5=0,,6=0 '5 =0' '5= 0' '5=0 ' 5=+0 +5=0 -5=0 5=- 5=--1 5=0x 5==0 5=0=0 5=a 'bpf_get_prandom_u32=0' 5=0,a=0 '5=0;6=0'; do
+for list in '' , 5 5= =0 5=0, ,5=0 5:0 5=0,,6=0 '5 =0' '5= 0' '5=0 ' 5=+0 +5=0 -5=0 5=- 5=--1 5=0x 5==0 5=0=0 5=a 5=0,a=0 '5=0;6=0' get_prandom_u3=0 get_prandom_u322=0 \
+    bpf_=0 bpf_bpf_ktime_get_ns=0 BPF_ktime_get_ns=0 ktime_get_ns ktime_get_ns= 'ktime_get_ns =0' ' ktime_get_ns=0' unspec=0 ktime_get_ns=ktime_get_ns; do
     refused 'refused E32: malformed list of stubs' link --stub="$list" programs.o
 done
 for list in 4294967296=0 5=2147483648 5=-2147483649 5=18446744073709551616 99999999999999999999999=0 5=0xffffffff 5=0,6=2147483648; do
     refused 'refused E33: helper or value of a stub out of range' link --stub "$list" programs.o
 done
-for list in 5=0,5=0 5=0,0x5=1 5=0,6=0,05=0 5=0,5=0,a 0=0,0=0; do
+for list in 5=0,5=0 5=0,0x5=1 5=0,6=0,05=0 5=0,5=0,a 0=0,0=0 5=0,ktime_get_ns=1 ktime_get_ns=0,bpf_ktime_get_ns=0 get_prandom_u32=0,7=0; do
     refused 'refused E34: two stubs of one helper' link --stub "$list" programs.o
 done
 sixteen=$(seq -s , 101 116 | sed 's/,/=0,/g')=0
 refused 'refused E35: more than 16 stubs' link --stub "$sixteen,117=0" programs.o
 refused 'refused E34: two stubs of one helper' link --stub "$sixteen,116=0" programs.o
 refused 'refused E32: malformed list of stubs' link --stub a empty
-for list in "$sixteen" 4294967295=0 0=0 4=2147483647 4=-2147483648 4=-0 4=0x7fffffff 4=-0x80000000 0004=0000; do
+for list in "$sixteen" 4294967295=0 0=0 4=2147483647 4=-2147483648 4=-0 4=0x7fffffff 4=-0x80000000 0004=0000 \
+    map_lookup_elem=0 bpf_cgrp_storage_delete=0 ktime_get_boot_ns=0; do
     refused "refused E25 at slot 8: $clock" link --entry second --stub "$list" programs.o
 done
 
@@ -212,6 +216,8 @@ done <<'ROWS'
 5=7|07000000
 5=-1|ffffffff
 6=3,5=0x7fffffff|ffffff7f
+ktime_get_ns=7|07000000
+trace_printk=3,bpf_ktime_get_ns=-1|ffffffff
 5=-2147483648|00000080
 ROWS
 "$program" link --entry second --stub 5=7 programs.o > found/out 2> /dev/full

@@ -1,12 +1,14 @@
--- Stubs as the command line lists them: `5=0,14=-1`. bpfdb's own choice.
-use Rattle.std.specs.Prelude.{ℕ, ◌-◌, ◌%◌, ◌==◌, nat_lt, Bool, not, if◌then◌else◌, List, [], ◌∷◌, ◌++◌, Option, Some, None, is_some, Result, Ok, Err, length, take, drop, codes, slice_index_or}
+-- Stubs as the command line lists them: `5=0,get_current_pid_tgid=-1`. bpfdb's own choice.
+use Rattle.std.specs.Prelude.{ℕ, ◌-◌, ◌%◌, ◌==◌, nat_lt, Bool, ◌&&◌, not, if◌then◌else◌, List, [], ◌∷◌, ◌++◌, Option, Some, None, is_some, Result, Ok, Err, length, take, drop, codes, slice_index_or}
 use Rattle.std.specs.List.{position_or_len, before_first, after_first}
 use Rattle.std.specs.Str.{bytes_eq}
 use Rattle.counted_io.specs.Numerals.{natural}
+use Rattle.bpf_btf.specs.Maps.{last_below}
 use Rattle.bpf_isa.specs.Maps.{items_of}
 use Rattle.bpf_link.specs.declared.fault.LinkFault.{LinkFault}
 use Rattle.bpf_link.specs.declared.fault.LinkFault.TheVariants.{StubList, StubRange, StubTwice, ManyStubs}
 use Rattle.bpf_link.specs.declared.stubs.Stub.{Stub}
+use Rattle.bpf_link.specs.Helpers.{helper_name}
 use Rattle.bpf_link.specs.Objects.{provided}
 use Rattle.bpf_link.specs.Plans.{after, steps}
 use Rattle.bpf_link.specs.Stubs.{answer_of}
@@ -16,9 +18,24 @@ abbrev pub number_below : ℕ → Option ℕ → Result ℕ LinkFault
 number_below bound None = Err StubList
 number_below bound (Some n) = provided (nat_lt n bound) StubRange (Ok n)
 
--- The number of a helper: of 32 bits, in decimal digits, or 0x and hexadecimal ones.
-abbrev pub helper_in : List ℕ → Result ℕ LinkFault
-helper_in text = number_below 4294967296 (natural text)
+-- The number of the kernel's helper of a name, which may begin with `bpf_`.
+abbrev pub has_name : List ℕ → ℕ → Bool
+has_name name helper = nat_lt 0 (length name) && bytes_eq (helper_name helper) name
+
+unfoldable pub without_prefix : List ℕ → List ℕ
+without_prefix name = if bytes_eq (take 4 name) (codes "bpf_") then drop 4 name else name
+
+abbrev pub named_helper : List ℕ → Option ℕ
+named_helper name = last_below (has_name name) 212
+
+abbrev pub or_malformed : Option ℕ → Result ℕ LinkFault
+or_malformed None = Err StubList
+or_malformed (Some helper) = Ok helper
+
+-- A helper: its number of 32 bits, in decimal digits, or 0x and hexadecimal ones; or its name.
+unfoldable pub helper_in : List ℕ → Result ℕ LinkFault
+helper_in text =
+    if is_some (natural text) then number_below 4294967296 (natural text) else or_malformed (named_helper (without_prefix text))
 
 -- What answers it: -2147483648 to 2147483647, in two's complement.
 abbrev pub value_in : List ℕ → Result ℕ LinkFault
@@ -31,7 +48,7 @@ value_in text =
 abbrev pub is_equals : ℕ → Bool
 is_equals byte = byte == 61
 
--- A stub as it is written: the helper's number, the first `=`, and the value.
+-- A stub as it is written: the helper, the first `=`, and the value.
 abbrev pub stub_in : List ℕ → Result Stub LinkFault
 stub_in item =
     provided (nat_lt (position_or_len is_equals item) (length item)) StubList

@@ -4,7 +4,7 @@ ghost use Rattle.bpf_link.specs.Helpers.{first_line, helper_name, helper_names, 
 
 /// The greatest number of a helper that has a name: later helpers of the kernel are functions
 /// without numbers.
-const MOST_HELPERS: u32 = 211;
+pub const MOST_HELPERS: u32 = 211;
 
 /// The names, without `bpf_` (Linux, include/uapi/linux/bpf.h, `__BPF_FUNC_MAPPER`): a line each,
 /// in the order of their numbers, from 0 on, which names none.

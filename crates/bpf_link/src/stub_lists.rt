@@ -1,9 +1,10 @@
 //! Stubs as the command line lists them.
 ghost use Rattle.std.specs.Prelude.{◌≡◌, ◌≤◌, ◌<◌, ◌++◌, ◌∷◌, [], IfOk, IfErr, IfNone, IfSome, Ok, Err, length, position};
 ghost use Rattle.counted_io.specs.Numerals.{natural};
-ghost use Rattle.bpf_link.specs.StubLists.{number_below, helper_in, value_in, is_equals, stub_in, with_stub, stubs_in, most_stubs};
+ghost use Rattle.bpf_link.specs.StubLists.{number_below, has_name, named_helper, without_prefix, helper_in, value_in, is_equals, stub_in, with_stub, stubs_in, most_stubs};
 
 use crate::fault::LinkFault;
+use crate::helpers::{MOST_HELPERS, helper_name};
 use crate::stubs::{Stub, is_answered};
 use arrayvec::ArrayVec;
 use counted_io::natural;
@@ -31,11 +32,49 @@ fn number_below(text: &[u8], bound: u64) -> Result<u32, LinkFault>
     }
 }
 
-/// The number of a helper.
+/// Whether a helper of the kernel has this name.
+fn has_name(name: &[u8], helper: u32) -> bool
+    ensures { result ≡ has_name name.now helper }
+{
+    !name.is_empty() && helper_name(helper) == name
+}
+
+/// The number of the helper of this name.
+fn named_helper(name: &[u8]) -> Option<u32>
+    ensures { result ≡ named_helper name.now }
+{
+    let mut found = None;
+    for helper in 0..MOST_HELPERS + 1 {
+        if has_name(name, helper) {
+            found = Some(helper);
+        }
+    }
+    found
+}
+
+/// A name without `bpf_` at its beginning.
+#[tactic(auto, unfolding(crate::specs::StubLists::without_prefix))]
+fn without_prefix(name: &[u8]) -> &[u8]
+    ensures { result.now ≡ without_prefix name.now }
+{
+    match name.strip_prefix(b"bpf_") {
+        Some(rest) => rest,
+        None => name,
+    }
+}
+
+/// The number of a helper, by its number or its name.
+#[tactic(auto, unfolding(crate::specs::StubLists::helper_in))]
 fn helper_in(text: &[u8]) -> Result<u32, LinkFault>
     ensures { result ≡ helper_in text.now }
 {
-    number_below(text, 4_294_967_296)
+    if natural(text).is_some() {
+        return number_below(text, 4_294_967_296);
+    }
+    match named_helper(without_prefix(text)) {
+        Some(helper) => Ok(helper),
+        None => Err(LinkFault::StubList),
+    }
 }
 
 /// What answers a helper.
@@ -91,8 +130,9 @@ fn stub_fault(stubs: &[Stub], stub: Stub) -> Option<LinkFault>
     None
 }
 
-/// The stubs that a text lists, as `5=0,14=-1`: numbers of helpers, each once, and what answers
-/// them, -2147483648 to 2147483647; 1 to 16 of them.
+/// The stubs that a text lists, as `5=0,get_current_pid_tgid=-1`: helpers, each once, by their
+/// numbers or their names in the kernel, with or without `bpf_`; and what answers them, -2147483648
+/// to 2147483647; 1 to 16 of them.
 ///
 /// The fault is that of the first item that has one. Takes time in proportion to the length of the
 /// text.

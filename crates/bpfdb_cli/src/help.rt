@@ -337,9 +337,9 @@ only one that isn't static. Example: --entry handle";
 pub const STUB: &str = "Helpers whose calls are answered by a constant; without it none";
 
 pub const STUB_LONG: &str =
-    "Helpers whose calls are answered by a constant in r0, at most 16: each its number, an =,
-and -2147483648 to 2147483647. Nothing else happens at such a call.
-Example: --stub 5=0,14=-1";
+    "Helpers whose calls are answered by a constant in r0, at most 16: each its number or its
+name in the kernel, an =, and -2147483648 to 2147483647. Nothing else happens at such a
+call. Example: --stub 5=0,get_current_pid_tgid=-1";
 
 /// `--script`.
 pub const WITH: &str = "Object with functions that answer what FILE's code calls";

@@ -28,7 +28,7 @@ refused_line family number line text = text_of_refusal family number (codes " at
 abbrev pub helper_text : ℕ → List ℕ → List ℕ
 helper_text helper [] = codes " " ++ decimal helper ++ codes ": --stub " ++ decimal helper ++ codes "=VALUE answers it"
 helper_text helper (byte ∷ bytes) =
-    codes " " ++ decimal helper ++ codes " (bpf_" ++ (byte ∷ bytes) ++ codes "): --stub " ++ decimal helper ++ codes "=VALUE answers it"
+    codes " " ++ decimal helper ++ codes " (bpf_" ++ (byte ∷ bytes) ++ codes "): --with OBJECT or --stub " ++ decimal helper ++ codes "=VALUE answers it"
 
 -- Of relocations of fields it is how many there are, and the option that leaves them; else the option that chooses a section or a function.
 abbrev pub more_of : LinkFault → List ℕ

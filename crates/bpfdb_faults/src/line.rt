@@ -245,7 +245,7 @@ fn put_helper<E: Write>(
                 Piece::Decimal(number),
                 Piece::Text(b" (bpf_"),
                 Piece::Text(name),
-                Piece::Text(b"): --stub "),
+                Piece::Text(b"): --with OBJECT or --stub "),
                 Piece::Decimal(number),
                 Piece::Text(b"=VALUE answers it"),
             ];

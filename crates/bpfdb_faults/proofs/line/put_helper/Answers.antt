@@ -9,7 +9,7 @@ unnamed helper [] none = refl
 unnamed helper (byte ∷ bytes) none = absurd (omega (arith, none))
 
 named : (helper : ℕ) (name : List ℕ) → 0 < length name → helper_text helper name
-    ≡ codes " " ++ decimal helper ++ codes " (bpf_" ++ name ++ codes "): --stub " ++ decimal helper ++ codes "=VALUE answers it"
+    ≡ codes " " ++ decimal helper ++ codes " (bpf_" ++ name ++ codes "): --with OBJECT or --stub " ++ decimal helper ++ codes "=VALUE answers it"
 named helper [] some = absurd (omega (arith, some))
 named helper (byte ∷ bytes) some = refl
 
