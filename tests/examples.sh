@@ -152,6 +152,8 @@ pages() {
 
 for folder in examples/*/; do
     name=$(basename "$folder")
+    # (the part `bugs` of the tests has the programs of that folder)
+    [ "$name" != bugs ] || continue
     cd "$folder" || exit 1
     replies "$name"
     round "$name"

@@ -60,9 +60,12 @@ class Meanings:
         return self.word(text)
 
     def slots(self, text):
-        """The slots of a place: of FILE:LINE all that the line has."""
-        line = re.fullmatch(r'([^:]+):(\d+)', text.strip())
-        return [str(slot) for slot in self.source.slots_of(line[1], int(line[2]))] if line and self.slot(text) else [self.slot(text)]
+        """The slots of a place: of FILE:LINE all at which an instruction starts (the second one of a wide load has a line, too)."""
+        line, first = re.fullmatch(r'([^:]+):(\d+)', text.strip()), self.slot(text)
+        if not line:
+            return [first]
+        slots = [str(slot) for slot in self.source.slots_of(line[1], int(line[2]))]
+        return [slot for slot in slots if not self.program.ask(f'disas {slot} 1')[0].startswith('refused ')]
 
     def pointed(self, text):
         """An address in C's words, `*(int *)A`, `{int}A`, `(char *)A` or A, and the width of what is there (None if not said)."""
