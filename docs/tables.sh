@@ -132,14 +132,14 @@ list_commands() {
     groups | sed 's/, /`, `/g; s/ or /` or `/g' | awk -F '\t' '{ printf "| %s | `%s` |\n", $1, $2 }'
 }
 
-# help_commands: the table of them in help, of lines of at most 86 columns.
+# help_commands: the table of them in help, of lines of at most 80 columns.
 help_commands() {
     groups | awk -F '\t' '{
         line = sprintf("  %-15s", $1)
         n = split($2, names, ", ")
         for (i = 1; i <= n; i++) {
             word = names[i] (i < n ? "," : "")
-            if (length(line) + length(word) > 86) { sub(/ +$/, "", line); print line; line = sprintf("%17s", "") }
+            if (length(line) + length(word) > 80) { sub(/ +$/, "", line); print line; line = sprintf("%17s", "") }
             line = line word " "
         }
         sub(/ +$/, "", line)

@@ -1,7 +1,7 @@
 #!/bin/sh
 # What README.md and docs/ say of the repository, held against it: the tables made from the files, the files, headings, functions,
 # clauses and definitions that a page names, the sessions that README and examples/README.md show, the C of docs/GDB.md, the commands and refusals of
-# the manual and its man page, the man pages of all programs, the commands and options of help, the wrong bodies of must-fail/, and the toolchain
+# the manual and its man page, the man pages of all programs, the commands, options and widths of help, the wrong bodies of must-fail/, and the toolchain
 # that README and `bpfdb --version` name.
 set -u
 cd "$(dirname "$0")/.." || exit 1
@@ -287,6 +287,21 @@ widths() {
     done
 }
 
+# helps: no line of the help of bpfdb, of its subcommands, or of a program beside it is wider than 80 columns.
+helps() {
+    mkdir "$work/helps"
+    cp tests/program/help/*.txt "$work/helps"
+    for program in share/bpfdb-*; do
+        [ -f "$program" ] && [ -x "$program" ] || continue
+        "$program" --help < /dev/null > "$work/helps/$(basename "$program")" 2> "$work/err" || fault "$program --help: $(cat "$work/err")"
+    done
+    for text in "$work/helps"/*; do
+        LC_ALL=C awk -v name="$(basename "$text")" '{ gsub(/[\200-\277]/, "") } length > 80 { print name ":" FNR }' "$text"
+    done | while read -r place; do
+        fault "help: $place is wider than 80 columns"
+    done
+}
+
 # libraries: README names each library of the toolchain that crates.txt lists.
 libraries() {
     sed 's/#.*//; /:/!d; s/:.*//; s/ .*//' crates.txt > "$work/own"
@@ -363,6 +378,7 @@ listing
 commands
 options
 widths
+helps
 libraries
 refusals
 edits

@@ -15,12 +15,16 @@ from bpfdb.texts import Refused, plain, warn
 USAGE = """usage: bpfdb-context -o CTX packet CAPTURE N
        bpfdb-context -o CTX hex TEXT..
        bpfdb-context -o CTX struct OBJECT 'NAME:TYPE FIELD=VALUE ..'..
-Writes the context of a run, the bytes that a program gets by r1: bpfdb run -m CTX FILE.
+Writes the context of a run, the bytes that a program gets by r1:
+bpfdb run -m CTX FILE.
 
-  packet CAPTURE N   packet N, from 1 on, of a capture (pcap or pcapng; libpcap reads it)
-  hex TEXT..         bytes in hexadecimal, with blanks between them; - is standard input
-  struct OBJECT ..   structs by the types of an object (clang -g): sk:sock skc.port=0x50,
-                     each VALUE a number, &NAME, &NAME.FIELD or "text"
+  packet CAPTURE N   packet N, from 1 on, of a capture (pcap or pcapng, which
+                     libpcap reads)
+  hex TEXT..         bytes in hexadecimal, with blanks between them; - is
+                     standard input
+  struct OBJECT ..   structs by the types of an object (clang -g): as
+                     sk:sock skc.port=0x50, each VALUE a number, &NAME,
+                     &NAME.FIELD or "text"
 
   -o CTX, --output CTX  the file to write
 

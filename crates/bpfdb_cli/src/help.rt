@@ -1,5 +1,6 @@
 //! The texts of help. `clap` adds the usage line, the lists of commands and options, and the
-//! defaults; it doesn't wrap lines.
+//! defaults; it doesn't wrap lines, and indents those of options by ten columns: so they have 80
+//! columns at most here, and those of options 70.
 
 /// The version, and the toolchain that proved it.
 pub const VERSION: &str = "0.11.0 (rattle-kit-13f logic dac8208d650f15bf)";
@@ -9,12 +10,14 @@ pub const BPFDB: &str = "Runs BPF programs (RFC 9669) forwards and backwards";
 
 pub const BPFDB_LONG: &str = "Runs BPF programs (RFC 9669) forwards and backwards.
 
-FILE holds a program: raw little-endian words, with relocations applied. `bpfdb link`
-makes them from an object of clang. With --listing FILE is a text, one instruction a
-line; without --listing such a text is refused, mostly with C3 or C4. The context is the
-bytes that the program works on: r1 has their address, r2 their number.
+FILE holds a program: raw little-endian words, with relocations applied. `bpfdb
+link` makes them from an object of clang. With --listing FILE is a text, one
+instruction a line; without --listing such a text is refused, mostly with C3 or
+C4. The context is the bytes that the program works on: r1 has their address, r2
+their number.
 
-Without arguments bpfdb debugs a small program that is built in: mov r0, 42 and exit.";
+Without arguments bpfdb debugs a small program that is built in: mov r0, 42 and
+exit.";
 
 pub const BPFDB_EXAMPLE: &str = "Example:
   $ cat count.s
@@ -28,21 +31,23 @@ pub const BPFDB_EXAMPLE: &str = "Example:
   1 back; done; at 0: add r0, 1
   2 back; done; at 0: add r0, 1
 
-Exit status: 0; 1 where `run` or `trace` ends in a fault or at the limit of steps, a test
-fails or an answer of `origin` or `whynot` is cut; 2 where the command line or the program is
-refused, input or output fails, or memory runs out.
-Results go to standard output, and so do the replies of a session, refusals among them.
-Where it ends with 1 or 2 a line on standard error says why; but `trace`, `test`, `origin`
-and `whynot` say in their output why they end with 1.";
+Exit status: 0; 1 where `run` or `trace` ends in a fault or at the limit of
+steps, a test fails or an answer of `origin` or `whynot` is cut; 2 where the
+command line or the program is refused, input or output fails, or memory runs
+out.
+Results go to standard output, and so do the replies of a session, refusals
+among them.
+Where it ends with 1 or 2 a line on standard error says why; but `trace`,
+`test`, `origin` and `whynot` say in their output why they end with 1.";
 
 pub const RUN: &str = "Runs a program to its end and prints r0";
 
 pub const RUN_LONG: &str = "Runs a program to its end and prints r0.
 
-Reads FILE, and the context from the file that -m names. Writes r0 to standard output, as
-0x and hexadecimal digits. If the program faults or reaches the limit of steps, a line on
-standard error says so, with the slot of the instruction. Then the exit status is 1, and
-nothing is on standard output.";
+Reads FILE, and the context from the file that -m names. Writes r0 to standard
+output, as 0x and hexadecimal digits. If the program faults or reaches the limit
+of steps, a line on standard error says so, with the slot of the instruction.
+Then the exit status is 1, and nothing is on standard output.";
 
 pub const RUN_EXAMPLE: &str = "Example:
   $ bpfdb run --steps 5000 --listing count.s
@@ -52,13 +57,14 @@ pub const TRACE: &str = "Runs a program to its end and shows each step";
 
 pub const TRACE_LONG: &str = "Runs a program to its end and shows each step.
 
-Reads FILE, and the context from the file that -m names. Writes a line a step to standard
-output: its number, its slot and instruction, and each place that it wrote, with the value
-there after it, whether that changed or not. The last line says where the program ended, or
-that the limit of steps is reached; then, and where it faults, the exit status is 1.
---branches shows of these steps the conditional jumps alone: the registers that each one
-compared, and whether it jumped or went on. --profile tells how often each instruction ran,
-in place of the steps.";
+Reads FILE, and the context from the file that -m names. Writes a line a step to
+standard output: its number, its slot and instruction, and each place that it
+wrote, with the value there after it, whether that changed or not. The last line
+says where the program ended, or that the limit of steps is reached; then, and
+where it faults, the exit status is 1. --branches shows of these steps the
+conditional jumps alone: the registers that each one compared, and whether it
+jumped or went on. --profile tells how often each instruction ran, in place of
+the steps.";
 
 pub const TRACE_EXAMPLE: &str = "Example:
   $ bpfdb trace --from 5 --listing count.s
@@ -87,13 +93,13 @@ Reads FILE, the context, and from standard input a script, one command a line:
   forward again  redo
   edits          set reg, set mem, set cell, set pc
   stops          break, delete, watch, unwatch
-  views          info regs, info frames, info breaks, info history, info trace, x,
-                 disas, last-write
+  views          info regs, info frames, info breaks, info history, info trace,
+                 x, disas, last-write
   end            quit
 
-Writes the reply to each command to standard output. A refused command gets a reply,
-changes nothing, and the session continues. The exit status is 0 then too, and where the
-program faulted. `man bpfdb` describes each command.";
+Writes the reply to each command to standard output. A refused command gets a
+reply, changes nothing, and the session continues. The exit status is 0 then
+too, and where the program faulted. `man bpfdb` describes each command.";
 
 pub const DEBUG_EXAMPLE: &str = "Example:
   $ printf 'break 1\\ncontinue\\nundo\\n' | bpfdb debug --journal 1048576 count.bin
@@ -105,17 +111,18 @@ pub const ORIGIN: &str = "Runs a program to its end and shows where a value came
 
 pub const ORIGIN_LONG: &str = "Runs a program to its end and shows where a value came from.
 
-Reads FILE and the context, and runs the program to its end or to the limit of steps; with
---script it obeys commands instead, edits and steps back among them, and asks where they
-lead. WHAT is r0 to r9, or ADDRESS:COUNT for 1 to 256 bytes of memory (ADDRESS alone is one
-byte). Without WHAT it is r0, or at a fault the registers of the address that isn't there.
+Reads FILE and the context, and runs the program to its end or to the limit of
+steps; with --script it obeys commands instead, edits and steps back among them,
+and asks where they lead. WHAT is r0 to r9, or ADDRESS:COUNT for 1 to 256 bytes
+of memory (ADDRESS alone is one byte). Without WHAT it is r0, or at a fault the
+registers of the address that isn't there.
 
-Writes to standard output where the program stands, then a line for each move that the
-value depends on, the newest first: how many moves back, what was written, the
-instruction, and what that read. At the end there is a line for each value that was there
-before the first kept move. What a branch decided by is not followed, and which register
-made an address only with --addresses. If the answer is cut (--lines), its last line says
-so, and the exit status is 1.";
+Writes to standard output where the program stands, then a line for each move
+that the value depends on, the newest first: how many moves back, what was
+written, the instruction, and what that read. At the end there is a line for
+each value that was there before the first kept move. What a branch decided by
+is not followed, and which register made an address only with --addresses. If
+the answer is cut (--lines), its last line says so, and the exit status is 1.";
 
 pub const ORIGIN_EXAMPLE: &str = "Example:
   $ bpfdb origin --listing count.s
@@ -129,19 +136,22 @@ pub const WHYNOT: &str = "Runs a program to its end and shows why it did not com
 
 pub const WHYNOT_LONG: &str = "Runs a program to its end and shows why it did not come to a slot.
 
-Reads FILE and the context, and runs the program to its end or to the limit of steps; with
---script it obeys commands instead, edits and steps back among them, and asks where they
-lead. WHAT is a slot, or slots with commas between: then it is asked about any of them.
+Reads FILE and the context, and runs the program to its end or to the limit of
+steps; with --script it obeys commands instead, edits and steps back among them,
+and asks where they lead. WHAT is a slot, or slots with commas between: then it
+is asked about any of them.
 
-Writes to standard output where the program stands, then the latest kept move from whose
-state the program's jumps, calls and returns lead to the slot, whatever conditions decide,
-and from whose next state they don't: how many moves back, the instruction, the values
-that it compared, and where it went. Unless --alone is given the place of that instruction
-follows, and where those values came from, as `origin` shows it there. If that is cut
-(--lines), its last line says so, and the exit status is 1.
+Writes to standard output where the program stands, then the latest kept move
+from whose state the program's jumps, calls and returns lead to the slot,
+whatever conditions decide, and from whose next state they don't: how many moves
+back, the instruction, the values that it compared, and where it went. Unless
+--alone is given the place of that instruction follows, and where those values
+came from, as `origin` shows it there. If that is cut (--lines), its last line
+says so, and the exit status is 1.
 
-Other answers: it was reached, by the move that stood at the slot and left it out of reach;
-it can still be reached; it was out of reach from the opening, or before what is kept.";
+Other answers: it was reached, by the move that stood at the slot and left it
+out of reach; it can still be reached; it was out of reach from the opening, or
+before what is kept.";
 
 pub const WHYNOT_EXAMPLE: &str = "Example:
   $ bpfdb whynot --listing first.s 1
@@ -154,9 +164,9 @@ pub const ASM: &str = "Assembles a listing to raw words";
 
 pub const ASM_LONG: &str = "Assembles a listing to raw words.
 
-Reads the listing FILE (docs/LISTING.md has the grammar). Writes the words of its
-instructions, 8 or 16 bytes each, to standard output. The program isn't checked:
-`bpfdb check` does that.";
+Reads the listing FILE (docs/LISTING.md has the grammar). Writes the words of
+its instructions, 8 or 16 bytes each, to standard output. The program isn't
+checked: `bpfdb check` does that.";
 
 pub const ASM_EXAMPLE: &str = "Example:
   $ bpfdb asm count.s > count.bin";
@@ -165,8 +175,9 @@ pub const DISASM: &str = "Writes a program as a listing";
 
 pub const DISASM_LONG: &str = "Writes a program as a listing.
 
-Reads and checks FILE. Writes its listing to standard output: one instruction a line, and
-a label before each target of a jump or call. `bpfdb asm` gives the same words back.";
+Reads and checks FILE. Writes its listing to standard output: one instruction a
+line, and a label before each target of a jump or call. `bpfdb asm` gives the
+same words back.";
 
 pub const DISASM_EXAMPLE: &str = "Example:
   $ bpfdb disasm count.bin
@@ -179,10 +190,10 @@ pub const LINES: &str = "Shows the line of each instruction of a listing";
 
 pub const LINES_LONG: &str = "Shows the line of each instruction of a listing.
 
-Reads the listing FILE. Writes one line an instruction to standard output, with blanks
-between: its slot, the line of FILE in which it stands, counted from 1, and the labels
-that stand at it. If something is wrong with FILE, a line on standard error says what
-and where, and the exit status is 2.";
+Reads the listing FILE. Writes one line an instruction to standard output, with
+blanks between: its slot, the line of FILE in which it stands, counted from 1,
+and the labels that stand at it. If something is wrong with FILE, a line on
+standard error says what and where, and the exit status is 2.";
 
 pub const LINES_EXAMPLE: &str = "Example:
   $ bpfdb lines count.s
@@ -194,9 +205,9 @@ pub const CHECK: &str = "Checks a program";
 
 pub const CHECK_LONG: &str = "Checks a program.
 
-Reads FILE. Writes to standard output how many instructions it has, and in how many slots
-of 8 bytes. The first fault is one line on standard error, with its number and, where it
-has one, its slot or line. Then the exit status is 2.";
+Reads FILE. Writes to standard output how many instructions it has, and in how
+many slots of 8 bytes. The first fault is one line on standard error, with its
+number and, where it has one, its slot or line. Then the exit status is 2.";
 
 pub const CHECK_EXAMPLE: &str = "Example:
   $ bpfdb check --listing count.s
@@ -206,13 +217,15 @@ pub const LINK: &str = "Makes the words of a program from an ELF object";
 
 pub const LINK_LONG: &str = "Makes the words of a program from an ELF object.
 
-Reads the relocatable object FILE, as `clang -target bpf -c` writes it. Writes the words
-of one code section to standard output, 8 bytes a slot, and after them those of .text
-where the section calls it: calls have their distances, and loads of maps the maps'
-numbers, 0 for the one that stands first in its section. If debug information (-g) or the
-section maps has the maps' sizes, they are printed on standard error as an option --maps.
-The first thing that is wrong is one line on standard error, with its number; then the exit
-status is 2.";
+Reads the relocatable object FILE, as `clang -target bpf -c` writes it. Writes
+the words of one code section to standard output, 8 bytes a slot, and after them
+those of .text where the section calls it: calls have their distances, and loads
+of maps the maps' numbers, 0 for the one that stands first in its section. If
+debug information (-g) or the section maps has the maps' sizes, they are printed
+on standard error as an option --maps. The first thing that is wrong is one line
+on standard error, with its number; then the exit status is 2.
+With --joined FILE and the object of --with are written as one object, for gdb
+or to link again.";
 
 pub const LINK_EXAMPLE: &str = "Example:
   $ clang -O2 -target bpf -c count.c
@@ -223,11 +236,12 @@ pub const TEST: &str = "Runs the tests of a file";
 pub const TEST_LONG: &str = "Runs the tests of a file.
 
 Reads the test file FILE: programs and the results that are expected of them
-(docs/TESTS.md describes it). Writes a report in the Test Anything Protocol to standard
-output: `ok 1 - NAME` for a test that passes, and what came and what was wanted for one
-that doesn't. If a test fails, the exit status is 1. If something is wrong with FILE, or if
-it has no test of the name that is asked for, no test runs; a line on standard error says
-what and where, and the exit status is 2.";
+(docs/TESTS.md describes it). Writes a report in the Test Anything Protocol to
+standard output: `ok 1 - NAME` for a test that passes, and what came and what
+was wanted for one that doesn't. If a test fails, the exit status is 1. If
+something is wrong with FILE, or if it has no test of the name that is asked
+for, no test runs; a line on standard error says what and where, and the exit
+status is 2.";
 
 pub const TEST_EXAMPLE: &str = "Example:
   $ cat two.test
@@ -246,10 +260,11 @@ pub const GDB: &str = "Serves gdb's remote protocol, forwards and backwards";
 
 pub const GDB_LONG: &str = "Serves gdb's remote protocol, forwards and backwards.
 
-Reads FILE, the context, and from standard input what gdb sends. Writes the answers to
-standard output. A session is opened as by debug: gdb steps, goes on and goes back in it,
-and its monitor obeys a line of a script. The program's code is at address 0, 8 bytes a
-slot, and pc counts bytes. docs/GDB.md shows a session.";
+Reads FILE, the context, and from standard input what gdb sends. Writes the
+answers to standard output. A session is opened as by debug: gdb steps, goes on
+and goes back in it, and its monitor obeys a line of a script. The program's
+code is at address 0, 8 bytes a slot, and pc counts bytes. docs/GDB.md shows a
+session.";
 
 pub const GDB_EXAMPLE: &str = "Example, in gdb:
   (gdb) target remote | bpfdb gdb count.bin
@@ -258,118 +273,118 @@ pub const GDB_EXAMPLE: &str = "Example, in gdb:
   (gdb) monitor undo";
 
 /// `-m`, `--mem`.
-pub const MEM: &str = "File with the context, 0 to 65536 bytes at r1; none without it";
+pub const MEM: &str = "File with the context, 0 to 65536 bytes at r1";
 
-pub const MEM_LONG: &str =
-    "File with the context, 0 to 65536 bytes: its address is in r1, its length in r2. Without
-it the context is empty, and r1 is 0. Example: -m packet.bin";
+pub const MEM_LONG: &str = "File with the context, 0 to 65536 bytes: its address is in r1, its
+length in r2. Without it the context is empty, and r1 is 0.
+Example: -m packet.bin";
 
 /// `--maps`.
-pub const MAPS: &str =
-    "Maps as VxN: V bytes a value, 1 to 256; N entries, 1 to 4096; none without it";
+pub const MAPS: &str = "Maps: V bytes a value, 1 to 256, N entries, 1 to 4096";
 
-pub const MAPS_LONG: &str =
-    "The program's maps, at most 16, each as VxN: V bytes a value, 1 to 256, and N entries,
-1 to 4096; at most 65536 bytes a map. Without it there are none, and a program that
-names a map is refused (C12). Example: --maps 8x2,4x256";
+pub const MAPS_LONG: &str = "The program's maps, at most 16, each as VxN: V bytes a value, 1 to
+256, and N entries, 1 to 4096; at most 65536 bytes a map. Without it
+there are none, and a program that names a map is refused (C12).
+Example: --maps 8x2,4x256";
 
 /// `--journal`.
-pub const JOURNAL: &str = "Bytes for moves that can be taken back, 1024 to 16777216";
+pub const JOURNAL: &str = "Bytes of journal, 1024 to 16777216";
 
 pub const JOURNAL_LONG: &str =
-    "Size of the journal of moves that can be taken back, in bytes, 1024 to 16777216. Most
-steps take 7 or 16 of them. When it is full the oldest moves are dropped. `debug` and `gdb`
-take as many bytes again for redo. Example: --journal 1048576";
+    "Size of the journal of moves that can be taken back, in bytes, 1024 to
+16777216. Most steps take 7 or 16 of them. When it is full the oldest
+moves are dropped. `debug` and `gdb` take as many bytes again for
+redo. Example: --journal 1048576";
 
 /// `--steps`.
-pub const STEPS: &str = "Most steps of a run, or of one forward command, 1 to 1000000000";
+pub const STEPS: &str = "Limit of steps, 1 to 1000000000";
 
-pub const STEPS_LONG: &str =
-    "Most steps of a run, or of one forward command, 1 to 1000000000. At this limit `run` ends
-with exit status 1, and a command with the word limit. Example: --steps 5000";
+pub const STEPS_LONG: &str = "Most steps of a run, or of one forward command, 1 to 1000000000. At
+this limit `run` ends with exit status 1, and a command with the word
+limit. Example: --steps 5000";
 
 /// `--from`.
-pub const FROM: &str = "Number of the first step that is shown, 1 to 1000000000";
+pub const FROM: &str = "First step that is shown, 1 to 1000000000";
 
-pub const FROM_LONG: &str =
-    "Number of the first step that is shown, 1 to 1000000000. The steps before it take no more
-time than in a run. Example: --from 5000";
+pub const FROM_LONG: &str = "Number of the first step that is shown, 1 to 1000000000. The steps
+before it take no more time than in a run. Example: --from 5000";
 
 /// `--count`.
-pub const COUNT: &str = "Most steps that are shown, 1 to 1000000000; all without it";
+pub const COUNT: &str = "Most steps shown, 1 to 1000000000; all without it";
 
-pub const COUNT_LONG: &str =
-    "Most steps that are shown, 1 to 1000000000. Without it all are, from the first one on.
-Example: --count 20";
+pub const COUNT_LONG: &str = "Most steps that are shown, 1 to 1000000000. Without it all are, from
+the first one on. Example: --count 20";
 
 /// `--branches`.
-pub const BRANCHES: &str = "Shows the conditional jumps alone, and which way each went";
+pub const BRANCHES: &str = "Shows the conditional jumps alone, and where each went";
 
 /// `--profile`.
 pub const PROFILE: &str = "Tells how often each instruction ran, and no steps";
 
 /// `--listing`.
-pub const LISTING: &str = "FILE is a listing (docs/LISTING.md); it is assembled first";
+pub const LISTING: &str = "FILE is a listing (docs/LISTING.md), assembled first";
 
 /// `--registers`.
-pub const REGISTERS: &str = "Machine that gdb takes this one for: x86, riscv or bpf";
+pub const REGISTERS: &str = "Machine for gdb: x86, riscv or bpf";
 
 pub const REGISTERS_LONG: &str =
-    "Machine that gdb takes this one for: x86 for any gdb on a PC, riscv for gdb-multiarch, bpf
-for a gdb that is built for BPF. r0 to r10 are shown under their own names, too.
-Example: --registers riscv";
+    "Machine that gdb takes this one for: x86 for any gdb on a PC, riscv
+for gdb-multiarch, bpf for a gdb that is built for BPF. r0 to r10 are
+shown under their own names, too. Example: --registers riscv";
 
 /// `--section`.
 pub const SECTION: &str = "Code section to be linked; without it the only one";
 
-pub const SECTION_LONG: &str =
-    "Name of the code section to be linked, at most 255 bytes. Without it that is the only
-one besides .text, or else .text. Example: --section xdp";
+pub const SECTION_LONG: &str = "Name of the code section to be linked, at most 255 bytes. Without it
+that is the only one besides .text, or else .text.
+Example: --section xdp";
 
 /// `--entry`.
-pub const ENTRY: &str = "Function at which the program begins; without it the only one";
+pub const ENTRY: &str = "Function to begin at; without it the only one";
 
-pub const ENTRY_LONG: &str =
-    "Name of the function of that section at which the program begins. Without it that is the
-only one that isn't static. Example: --entry handle";
+pub const ENTRY_LONG: &str = "Name of the function of that section at which the program begins.
+Without it that is the only one that isn't static.
+Example: --entry handle";
 
 /// `--stub`.
-pub const STUB: &str = "Helpers whose calls are answered by a constant; without it none";
+pub const STUB: &str = "Helpers whose calls a constant answers";
 
-pub const STUB_LONG: &str =
-    "Helpers whose calls are answered by a constant in r0, at most 16: each its number or its
-name in the kernel, an =, and -2147483648 to 2147483647. Nothing else happens at such a
-call. Example: --stub 5=0,get_current_pid_tgid=-1";
+pub const STUB_LONG: &str = "Helpers whose calls are answered by a constant in r0, at most 16: each
+its number or its name in the kernel, an =, and -2147483648 to
+2147483647. Nothing else happens at such a call.
+Example: --stub 5=0,get_current_pid_tgid=-1";
 
-/// `--script`.
-pub const WITH: &str = "Object with functions that answer what FILE's code calls";
+/// `--with`.
+pub const WITH: &str = "Object with functions that FILE's code calls";
 
-pub const WITH_LONG: &str =
-    "Object with functions that answer what FILE's code calls: a call of a helper of the kernel
-becomes a call of its function of the helper's name, as bpf_ktime_get_ns, and a symbol that
-FILE leaves undefined is its symbol of that name. If it has bpf_map_lookup_elem, maps of any
+pub const WITH_LONG: &str = "Object with functions that answer what FILE's code calls: a call of a
+helper of the kernel becomes a call of its function of the helper's
+name, as bpf_ktime_get_ns, and a symbol that FILE leaves undefined is
+its symbol of that name. If it has bpf_map_lookup_elem, maps of any
 kind are data of its own. Example: --with bpfdb-linux.o";
 
-pub const JOINED: &str =
-    "Writes the object of FILE and --with together, and not the program: for gdb, or to link again";
+/// `--joined`.
+pub const JOINED: &str = "Writes FILE and --with as one object, no program";
 
-pub const SCRIPT: &str = "Script that is obeyed in place of a run, as `debug` obeys it";
+/// `--script`.
+pub const SCRIPT: &str = "Script that is obeyed in place of a run";
 
-pub const SCRIPT_LONG: &str =
-    "Script that is obeyed in place of a run, as `debug` obeys it: its replies are not shown,
-and WHAT is asked about the state where it leaves the session. --steps is then the limit
-of each of its commands. If a line is refused, only its refusal is printed. Example: --script steps";
+pub const SCRIPT_LONG: &str = "Script that is obeyed in place of a run, as `debug` obeys it: its
+replies are not shown, and WHAT is asked about the state where it
+leaves the session. --steps is then the limit of each of its commands.
+If a line is refused, only its refusal is printed.
+Example: --script steps";
 
 /// `--as-compiled`.
-pub const AS_COMPILED: &str =
-    "Leaves the fields of CO-RE programs at the offsets they were compiled with";
+pub const AS_COMPILED: &str = "Leaves the fields of CO-RE where they were compiled";
 
 /// `--lines`.
-pub const LINES_MOST: &str = "Most lines of moves in an answer, 1 to 1000000000";
+pub const LINES_MOST: &str = "Most lines of moves, 1 to 1000000000";
 
 pub const LINES_MOST_LONG: &str =
-    "Most lines of moves in an answer, 1 to 1000000000. If there are more, the last line is
-`cut: there are more lines`, and the exit status is 1. Example: --lines 20";
+    "Most lines of moves in an answer, 1 to 1000000000. If there are more,
+the last line is `cut: there are more lines`, and the exit status is
+1. Example: --lines 20";
 
 /// `--addresses`.
 pub const ADDRESSES: &str = "Follows the registers that make addresses, too";
@@ -380,22 +395,22 @@ pub const ALONE: &str = "Leaves out where the values came from that decided it";
 /// `--only NAME`.
 pub const ONLY: &str = "Runs the tests of this name alone";
 
-pub const ONLY_LONG: &str =
-    "Runs the tests of this name alone, all that have it; they are numbered from 1. If there is
-none, no test runs, and the exit status is 2. Example: --only 'a short header is dropped'";
+pub const ONLY_LONG: &str = "Runs the tests of this name alone, all that have it; they are numbered
+from 1. If there is none, no test runs, and the exit status is 2.
+Example: --only 'a short header is dropped'";
 
 /// `--show PART`.
-pub const SHOW: &str = "Shows a part of one test: program, context, options or script";
+pub const SHOW: &str = "Shows program, context, options or script of one test";
 
-pub const SHOW_LONG: &str =
-    "Shows a part of one test, and runs none: program (its raw words), context (its bytes),
-options (those that its program needs, one a line) or script (the commands that lead to
-where its program ends). The test is the one that --only names, or the only one of FILE.
-`bpfdb-show NAME FILE` makes files of all four, and says how to debug the test.
-Example: --show program";
+pub const SHOW_LONG: &str = "Shows a part of one test, and runs none: program (its raw words),
+context (its bytes), options (those that its program needs, one a
+line) or script (the commands that lead to where its program ends).
+The test is the one that --only names, or the only one of FILE.
+`bpfdb-show NAME FILE` makes files of all four, and says how to debug
+the test. Example: --show program";
 
 /// WHAT.
-pub const WHAT: &str = "r0 to r9, or ADDRESS:COUNT; without it r0, or the address of a bad access";
+pub const WHAT: &str = "r0 to r9, or ADDRESS:COUNT; without it r0, or a fault's address";
 
 /// WHAT of `whynot`.
 pub const GOAL: &str = "Slot, or slots with commas between";
