@@ -111,14 +111,14 @@ shown() {
 }
 
 # origins PAGE SECTION EXAMPLE: each command `bpfdb origin` or `bpfdb whynot`, and each that cuts a file for it, that a section of a page (all of it, where the section is empty) shows prints the lines
-# that follow it there, in the folder of the example, where the program also stands under the example's name.
+# that follow it there, in the folder of the example, where the program also stands under the example's name. (Section - is the page up to its first.)
 origins() {
     rm -rf "$work/origins"
     mkdir "$work/origins" || exit 1
     cp -R "$top/examples/$3" "$work/origins/files" || exit 1
     [ ! -f "$work/origins/files/program.bin" ] || cp "$work/origins/files/program.bin" "$work/origins/files/$3.bin"
     awk -v section="## $2" -v work="$work/origins" '
-        BEGIN { inside = section == "## " }
+        BEGIN { inside = section == "## " || section == "## -" }
         /^## / { inside = section == "## " || $0 == section }
         /^```/ { block = !block; on = 0; next }
         inside && block && /^\$ / { on = /^\$ (bpfdb (origin|whynot)|\{ head) /; if (on) { n++; print substr($0, 3) > (work "/command-" n); printf "" > (work "/text-" n) }; next }
@@ -141,7 +141,8 @@ pages() {
     shown docs/COMMANDS.md EXAMPLES
     shown examples/RECIPES.md ''
     if has python3 'the tests of uBPF of docs/TESTS.md'; then shown docs/TESTS.md 'Files of uBPF'; fi
-    origins README.md '' overrun
+    origins README.md - overrun
+    origins README.md 'A packet that should have been dropped' firewall
     for name in overrun fault records firewall; do
         origins examples/README.md "$name" "$name"
     done
