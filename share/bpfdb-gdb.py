@@ -320,7 +320,7 @@ class Undo(Mover):
 
 
 class Redo(Mover):
-    """bpf-redo [COUNT]: makes the command again that was taken back last, as a whole next or continue, or the next COUNT moves; edits too."""
+    """bpf-redo [COUNT]: repeats the command that was taken back last, as a whole next or continue, or the next COUNT undone moves; edits too."""
 
     def obey(self, argument):
         now = moves()
