@@ -1,7 +1,7 @@
 #!/bin/sh
 # The examples, through the built program (or the one that BPFDB names): each script gives its replies, each program assembles
 # and disassembles to itself, the example of a test suite passes and can fail, and the examples in docs/COMMANDS.md, README.md, examples/README.md and
-# examples/RECIPES.md, and docs/TESTS.md on files of uBPF, print what they show. What is wrong is a line each.
+# examples/RECIPES.md, and docs/TESTS.md print what they show. What is wrong is a line each.
 set -u
 cd "$(dirname "$0")/.." || exit 1
 [ -n "${BPFDB:-}" ] || sh tests/build.sh || exit 1
@@ -93,9 +93,9 @@ shown() {
     awk -v section="## $2" -v work="$work/shown" '
         BEGIN { inside = section == "## " }
         /^## / { inside = section == "## " || $0 == section }
-        /^```/ { block = !block; next }
-        inside && block && /^\$ / { n++; print substr($0, 3) > (work "/command-" n); printf "" > (work "/text-" n); next }
-        inside && block { print > (work "/text-" n) }
+        /^```/ { block = !block; on = 0; next }
+        inside && block && /^\$ / { on = 1; n++; print substr($0, 3) > (work "/command-" n); printf "" > (work "/text-" n); next }
+        inside && block && on { print > (work "/text-" n) }
     ' "$1"
     n=1
     while [ -f "$work/shown/command-$n" ]; do
@@ -140,7 +140,7 @@ pages() {
     ln -s "$top/share/bpfdb-conformance" "$top/share/bpfdb-convert" "$top/share/bpfdb-show" "$work/bin" || exit 1
     shown docs/COMMANDS.md EXAMPLES
     shown examples/RECIPES.md ''
-    if has python3 'the tests of uBPF of docs/TESTS.md'; then shown docs/TESTS.md 'Files of uBPF'; fi
+    if has python3 'the examples of docs/TESTS.md'; then shown docs/TESTS.md ''; fi
     origins README.md - overrun
     origins README.md 'A packet that should have been dropped' firewall
     for name in overrun fault records firewall; do

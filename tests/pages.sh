@@ -140,7 +140,7 @@ session() {
     grep -v '^> ' "$work/session" | cmp -s - tests/session/replies || fault "README.md's session has other replies than tests/session/replies"
     awk '/^## / { exit } /^```$/ { inside = 0 } /^\(gdb\) source / { inside = 1 } inside' README.md > "$work/session"
     stands_in docs/GDB.md || fault "README.md's session in gdb isn't the one of docs/GDB.md"
-    awk '/^## / { packet = /^## A packet / } /^```$/ { inside = !inside; next } packet && inside' README.md > "$work/session"
+    awk '/^## / { packet = /^## A packet / } /^```$/ { inside = !inside; next } packet && inside && !/^\$ cd /' README.md > "$work/session"
     stands_in docs/XDP.md || fault "README.md's session about a packet isn't the one of docs/XDP.md"
 }
 

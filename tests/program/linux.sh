@@ -182,10 +182,10 @@ ROWS
             comes_to "$1 with bpfdb.h and the library" "$2"
             [ "$1" = xdp ] || sent 'what a program of tc prints' 'trace, 8 bytes at 0020: 70 bytes\n'
         done
-        mkdir bin typed shown
+        mkdir bin typed shown installed-here
         ln -s "$program" bin/bpfdb
         ln -s "$top/share/bpfdb-events" "$top/share/bpfdb-context" bin
-        built clang "$top/share/bpfdb-linux.c" typed/bpfdb-linux.o
+        built clang "$top/share/bpfdb-linux.c" installed-here/bpfdb-linux.o
         awk '
             /^## / { inside = /^## (An event that is wrong|An installed tool)$/ }
             /^```/ { block = !block; next }
@@ -203,6 +203,7 @@ ROWS
                     left_out 'the installed tool in docs/LINUX.md' 'there is no bashreadline (libbpf-tools)'
                     break
                 fi
+                sed -i "s|/usr/local/share/bpfdb/|$PWD/installed-here/|" "shown/command-$command"
                 (cd typed && PATH=$PWD/../bin:$PATH BPFDB=$program sh "../shown/command-$command") > found/out 2>&1
                 # (the end of a long line is left out there)
                 sed 's/\(d20400006c73202d6c00\)[0-9a-f]*$/\1../' found/out > found/cut

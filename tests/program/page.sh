@@ -26,6 +26,16 @@ if has python3 'pages of runs'; then
         "$program" "$@" 2>&1 > /dev/null | sed 's/\\/\\\\/g; s/$/\\n/' | tr -d '\n'
     }
 
+    # What docs/PAGE.md shows at a shell leaves a page.
+    if has_clang 'the commands of docs/PAGE.md'; then
+        mkdir typed
+        sed -n 's/^\$ //p' "$top/docs/PAGE.md" | sed "s|/usr/local/share/doc/bpfdb|$top|" > commands
+        (cd typed && PATH=$top/share:$PATH && . ../commands && [ -s run.html ]) > found/out 2> found/err
+        echo $? > found/status
+        unhurried found/err
+        check 'docs/PAGE.md: its commands' 0 '' ''
+    fi
+
     # What can't be made is refused in bpfdb's own words where it is bpfdb that refuses, and leaves nothing.
     mkdir left
     python3 -c 'import sys; sys.stdout.buffer.write(bytes.fromhex(sys.stdin.read()))' < "$top/examples/overrun/object.hex" > overrun.o
