@@ -71,9 +71,12 @@ long bpfdb(const unsigned char *packet, __u64 size)
 	__u64 data = (__u64)packet;
 	struct __sk_buff ctx = { .data = data, .data_end = data + size, .data_meta = data, .len = size };
 
-	/* (the type behind the two addresses of Ethernet) */
-	if (size >= 14)
+	/* (the type behind the two addresses of Ethernet; for a length, below 0x600, Linux has ETH_P_802_3, 1, where
+	   ffff is next, else ETH_P_802_2, 4) */
+	if (size >= 14 && packet[12] >= 6)
 		ctx.protocol = packet[12] | packet[13] << 8;
+	else if (size >= 14)
+		ctx.protocol = (size >= 16 && packet[14] == 0xff && packet[15] == 0xff ? 1 : 4) << 8;
 	return BPFDB_TC(&ctx);
 }
 #endif

@@ -30,6 +30,7 @@ enum {
 	ENOSPC = 28,
 	ERANGE = 34,
 	EOPNOTSUPP = 95,
+	EAFNOSUPPORT = 97,
 };
 
 /* Flags of an update: any, only a new key, only one that is there. */

@@ -98,12 +98,12 @@ HELPER long bpf_skb_pull_data(struct packet *p, u32 size)
 	return size > packet_length(p) ? -ENOMEM : 0;
 }
 
-/* A world without routes. */
-HELPER long bpf_fib_lookup(void *context UNUSED, void *asked UNUSED, s32 size, u32 flags)
+/* A world without routes. What is asked begins with the family of the address. */
+HELPER long bpf_fib_lookup(void *context UNUSED, const u8 *asked, s32 size, u32 flags)
 {
-	enum { ASKED = 64, FLAGS = 3, NOT_FORWARDED = 4 };
+	enum { ASKED = 64, FLAGS = 31, NOT_FORWARDED = 4, IPV4 = 2, IPV6 = 10 };
 
 	if (size < ASKED || flags & ~(u32)FLAGS)
 		return -EINVAL;
-	return NOT_FORWARDED;
+	return *asked == IPV4 || *asked == IPV6 ? NOT_FORWARDED : -EAFNOSUPPORT;
 }

@@ -117,15 +117,27 @@ HELPER u64 bpf_get_attach_cookie(void *context UNUSED)
 }
 
 /* What is asked of perf events: nobody opened one. */
-HELPER long bpf_perf_event_read(struct map *m UNUSED, u64 flags UNUSED)
+INLINE long no_event(struct map *m, u64 flags)
 {
-	return -ENOENT;
+	const u32 present = 0xffffffff;
+	u32 index = flags == present ? bpfdb_world.cpu : flags;
+
+	if (flags > present)
+		return -EINVAL;
+	return m->max_entries && index >= m->max_entries ? -E2BIG : -ENOENT;
 }
 
-HELPER long bpf_perf_event_read_value(struct map *m UNUSED, u64 flags UNUSED, void *to, u32 size)
+HELPER long bpf_perf_event_read(struct map *m, u64 flags)
 {
+	return no_event(m, flags);
+}
+
+HELPER long bpf_perf_event_read_value(struct map *m, u64 flags, void *to, u32 size)
+{
+	enum { COUNTS = 24 };
+
 	clear(to, size);
-	return -ENOENT;
+	return size == COUNTS ? no_event(m, flags) : -EINVAL;
 }
 
 /* A redirect to an interface. XDP has no flags, tc one; what a program of the other kind gets is of no use to it. */

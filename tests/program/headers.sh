@@ -159,6 +159,14 @@ PACKETS
                 [ "$(tr '\n' ' ' < shown)" = "0x0 $wanted " ] || complain "the fields of $length bytes, $compiler: $(cat shown)"
             done
 
+            # Below 0x600 is a length in place of a type: for that Linux has ETH_P_802_2, 4, and where ffff is next ETH_P_802_3, 1.
+            for row in '0600 000e000006000000' '05ff 000e000000040000' '0026ff 000f000000040000' '0026ffff 0010000000010000' '0026fffe 0010000000040000'; do
+                packet_of "$ethernet${row% *}"
+                count=$((count + 1))
+                printf 'continue\nx 0x300000000 8\n' | "$program" debug --maps 8x2 -m packet fields.words | sed -n 's/.* r0 //p; s/^0x300000000: //p' > shown
+                [ "$(tr '\n' ' ' < shown)" = "0x0 ${row#* } " ] || complain "the protocol before ${row% *}, $compiler: $(cat shown)"
+            done
+
             # The struct takes nothing of the program's frame. (Twice 54 is 0x6c.)
             with $compiler -O2 -DBPFDB_TC=whole_frame "$parts/headers/frame.c"
             linked frame '' --section tc --entry bpfdb

@@ -112,7 +112,7 @@ elif has_clang 'the library of Linux'; then
             source=$parts/linux/$name.c
             built "$compiler" "$source" "$name.o" || continue
             bytes context $(seq 0 59 | awk -v most="$([ $name = packets ] && echo 60 || echo 16)" '$1 < most { printf "%02x ", $1 }')
-            for entry in $(sed -n 's/^TEST(\([a-z_]*\))$/\1/p' "$source"); do
+            for entry in $(sed -n 's/^\(OWN_\)\{0,1\}TEST(\([a-z_]*\))$/\2/p' "$source"); do
                 linked_with "$name.o" "$entry" library.o && comes_to "$name, $entry, $compiler" 0x0
             done
         done

@@ -1,6 +1,8 @@
 /* What the tests of share/bpfdb-linux.c are written with. Each test is a program of its own; its result is 0, or the
    number of the line whose check doesn't hold. What is wanted follows from bpf-helpers(7) and from the kernel's
-   sources. */
+   sources. With FOR_KERNEL, the size of the context, each is a program for the kernel, of the kind SECTION
+   (tests/kernel.sh). An OWN_TEST is none for the kernel: it asks for bpfdb's own world or addresses, or what the
+   kernel's verifier refuses. */
 #include "bpfdb-linux.h"
 
 typedef unsigned char u8;
@@ -10,14 +12,37 @@ typedef unsigned long long u64;
 typedef long long s64;
 
 #define NULL ((void *)0)
+#ifdef FOR_KERNEL
+#ifndef SECTION
+#define SECTION "raw_tp"
+#endif
+#define TEST(NAME) \
+	static __attribute__((always_inline)) long NAME##_body(void *context, u64 size); \
+	__attribute__((section(SECTION), used)) int NAME(void *context) { return NAME##_body(context, FOR_KERNEL); } \
+	static __attribute__((always_inline)) long NAME##_body(void *context, u64 size)
+#define OWN_TEST(NAME) static __attribute__((unused)) long NAME(void *context, u64 size)
+char LICENSE[] __attribute__((section("license"), used)) = "GPL";
+#else
 #define TEST(NAME) __attribute__((section("test"), used)) long NAME(void *context, u64 size)
+#define OWN_TEST(NAME) TEST(NAME)
+#endif
 #define WANT(WHAT) do { if (!(WHAT)) return __LINE__; } while (0)
+/* What is so here and not in the kernel. */
+#ifdef FOR_KERNEL
+#define OWN(WHAT) (void)0
+#else
+#define OWN(WHAT) WHAT
+#endif
+#define OWN_WANT(WHAT) OWN(WANT(WHAT))
 
 #define __uint(NAME, VALUE) int (*NAME)[VALUE]
 #define __type(NAME, TYPE) __typeof__(TYPE) *NAME
 #define MAP(NAME, KIND, ENTRIES, KEY, VALUE) \
 	struct { __uint(type, KIND); __uint(max_entries, ENTRIES); __type(key, KEY); __type(value, VALUE); } \
 		NAME __attribute__((section(".maps"), used))
+#define TRIE(NAME, ENTRIES, KEY, VALUE) \
+	struct { __uint(type, BPFDB_LPM_TRIE); __uint(map_flags, 1); __uint(max_entries, ENTRIES); \
+		__type(key, KEY); __type(value, VALUE); } NAME __attribute__((section(".maps"), used))
 #define MAP_WITHOUT_KEY(NAME, KIND, ENTRIES, VALUE) \
 	struct { __uint(type, KIND); __uint(max_entries, ENTRIES); __type(value, VALUE); } \
 		NAME __attribute__((section(".maps"), used))
@@ -26,12 +51,19 @@ typedef long long s64;
 
 enum { ANY, NOEXIST, EXIST };
 
+/* (Before Linux 6.4 these results have but 32 bits that count.) */
+#ifdef FOR_KERNEL
+typedef int result;
+#else
+typedef long result;
+#endif
+
 /* The numbers of Linux' helpers, from <linux/bpf.h>. */
 #define HELPER(NUMBER, RESULT, NAME, ...) static RESULT (*const NAME)(__VA_ARGS__) = (void *)NUMBER
 
 HELPER(1, void *, map_lookup, void *, const void *);
-HELPER(2, long, map_update, void *, const void *, const void *, u64);
-HELPER(3, long, map_delete, void *, const void *);
+HELPER(2, result, map_update, void *, const void *, const void *, u64);
+HELPER(3, result, map_delete, void *, const void *);
 HELPER(4, long, probe_read, void *, u32, const void *);
 HELPER(5, u64, ktime_get_ns, void);
 HELPER(6, long, trace_printk, const char *, u32, ...);
@@ -57,16 +89,16 @@ HELPER(39, long, skb_pull_data, void *, u32);
 HELPER(42, long, get_numa_node_id, void);
 HELPER(44, long, xdp_adjust_head, void *, int);
 HELPER(45, long, probe_read_str, void *, u32, const void *);
-HELPER(51, long, redirect_map, void *, u64, u64);
+HELPER(51, result, redirect_map, void *, u64, u64);
 HELPER(54, long, xdp_adjust_meta, void *, int);
 HELPER(55, long, perf_event_read_value, void *, u64, void *, u32);
 HELPER(65, long, xdp_adjust_tail, void *, int);
 HELPER(67, long, get_stack, void *, void *, u32, u64);
 HELPER(69, long, fib_lookup, void *, void *, int, u32);
 HELPER(80, u64, get_current_cgroup_id, void);
-HELPER(87, long, map_push, void *, const void *, u64);
-HELPER(88, long, map_pop, void *, void *);
-HELPER(89, long, map_peek, void *, void *);
+HELPER(87, result, map_push, void *, const void *, u64);
+HELPER(88, result, map_pop, void *, void *);
+HELPER(89, result, map_peek, void *, void *);
 HELPER(93, long, spin_lock, void *);
 HELPER(94, long, spin_unlock, void *);
 HELPER(111, long, skb_output, void *, void *, u64, const void *, u64);

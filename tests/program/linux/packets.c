@@ -150,7 +150,7 @@ TEST(checksum_of_a_segment)
 	HEADER;
 	BYTE(8) = 0x3f;
 	WANT(l4_csum_replace(&p, 10, 0x1140, 0x113f, 0x10 | 2) == 0 && sum_of((u8 *)p.data) == 0xffff);
-	WANT(l4_csum_replace(&p, 10, 0, 0, 0x80 | 2) == -EINVAL);
+	WANT(l4_csum_replace(&p, 10, 0, 0, 0x80 | 2) == 0 && l4_csum_replace(&p, 10, 0, 0, 0x100 | 2) == -EINVAL);
 	WANT(l4_csum_replace(&p, 10, 0, 0, 3) == -EINVAL && l4_csum_replace(&p, 10, 1, 0, 0) == -EINVAL);
 	WANT(l4_csum_replace(&p, 9, 0, 0, 2) == -EFAULT && l4_csum_replace(&p, 59, 0, 0, 2) == -EFAULT);
 	/* UDP's checksum 0 is none, and stays; one that comes to 0 is written as ffff. */
@@ -158,6 +158,23 @@ TEST(checksum_of_a_segment)
 	WANT(l4_csum_replace(&p, 30, 1, 2, 0x20 | 2) == 0 && BYTE(30) == 0 && BYTE(31) == 0);
 	BYTE(30) = 0, BYTE(31) = 1;
 	WANT(l4_csum_replace(&p, 30, 0, 0x0100, 0x20 | 2) == 0 && BYTE(30) == 0xff && BYTE(31) == 0xff);
+	return 0;
+}
+
+/* Of the two zeros that a sum may be, Linux writes 0, but for a field of two bytes of a header as it was: of unturned
+   0, ~0 and 0 come to 0xffff, whose turned bits are 0; of unturned 0xffff alone, too. */
+TEST(checksum_of_zero)
+{
+	PACKET;
+
+	BYTE(10) = 0xff, BYTE(11) = 0xff;
+	WANT(l3_csum_replace(&p, 10, 0, 0, 0) == 0 && BYTE(10) == 0 && BYTE(11) == 0);
+	BYTE(10) = 0xff, BYTE(11) = 0xff;
+	WANT(l3_csum_replace(&p, 10, 0xffffffff, 0, 4) == 0 && BYTE(10) == 0 && BYTE(11) == 0);
+	BYTE(10) = 0xff, BYTE(11) = 0xff;
+	WANT(l4_csum_replace(&p, 10, 0xffffffff, 0, 2) == 0 && BYTE(10) == 0 && BYTE(11) == 0);
+	BYTE(10) = 0xff, BYTE(11) = 0xff;
+	WANT(l3_csum_replace(&p, 10, 0xffff, 0, 2) == 0 && BYTE(10) == 0xff && BYTE(11) == 0xff);
 	return 0;
 }
 
@@ -212,5 +229,10 @@ TEST(routes)
 
 	WANT(fib_lookup(context, asked, 64, 0) == 4);
 	WANT(fib_lookup(context, asked, 63, 0) == -EINVAL);
+	WANT(fib_lookup(context, asked, 64, 31) == 4 && fib_lookup(context, asked, 64, 32) == -EINVAL);
+	asked[0] = 10;
+	WANT(fib_lookup(context, asked, 64, 0) == 4);
+	asked[0] = 3;
+	WANT(fib_lookup(context, asked, 64, 0) == -97);
 	return 0;
 }

@@ -8,7 +8,7 @@ MAP_WITHOUT_KEY(heavy, BPFDB_QUEUE, 10, u8[60000]);
 static u8 bytes[60000];
 
 /* (The heap has room for three of them.) */
-TEST(queue_without_room)
+OWN_TEST(queue_without_room)
 {
 	for (u32 i = 0; i < 3; i++)
 		WANT(map_push(&heavy, bytes, ANY) == 0);
@@ -24,8 +24,10 @@ TEST(queue_in_order)
 	WANT(map_pop(&queue, &value) == -ENOENT && value == 0);
 	value = 6;
 	WANT(map_peek(&queue, &value) == -ENOENT && value == 0);
-	for (value = 1; value <= 3; value++)
+	for (u32 i = 1; i <= 3; i++) {
+		value = i;
 		WANT(map_push(&queue, &value, ANY) == 0);
+	}
 	WANT(map_push(&queue, &value, ANY) == -E2BIG);
 	WANT(map_push(&queue, &value, NOEXIST) == -EINVAL);
 	WANT(map_push(&queue, &value, 3) == -EINVAL);
@@ -48,8 +50,10 @@ TEST(stack_in_turn)
 	u32 value = 5;
 
 	WANT(map_pop(&stack, &value) == -ENOENT && value == 0);
-	for (value = 1; value <= 3; value++)
+	for (u32 i = 1; i <= 3; i++) {
+		value = i;
 		WANT(map_push(&stack, &value, ANY) == 0);
+	}
 	WANT(map_push(&stack, &value, ANY) == -E2BIG);
 	WANT(map_peek(&stack, &value) == 0 && value == 3);
 	WANT(map_pop(&stack, &value) == 0 && value == 3);

@@ -13,19 +13,27 @@ static __attribute__((always_inline)) int all(const u8 *bytes, u32 size, u8 want
 	return 1;
 }
 
+/* (What the kernel gives where a user's address is read as its own is another error on x86.) */
+#define REFUSED(CALL) ({ long error = CALL; error == -EFAULT OWN_OR_ERANGE; })
+#ifdef FOR_KERNEL
+#define OWN_OR_ERANGE || error == -34
+#else
+#define OWN_OR_ERANGE
+#endif
+
 /* The context of these tests has 16 bytes: 0 to 15. */
 #define BYTES(READ) \
-	bpfdb_context_len = size; \
+	OWN(bpfdb_context_len = size); \
 	for (u32 i = 0; i < 16; i++) \
 		to[i] = 0xaa; \
 	WANT(READ(to, 4, context + 8) == 0 && to[0] == 8 && to[3] == 11 && to[4] == 0xaa); \
 	WANT(READ(to, 16, context) == 0 && to[15] == 15); \
 	WANT(READ(to, 0, context) == 0 && to[0] == 0); \
-	WANT(READ(to, 8, NULL) == -EFAULT && all(to, 8, 0) && to[8] == 8); \
-	WANT(READ(to, 3, context + 14) == -EFAULT && all(to, 3, 0)); \
-	WANT(READ(to, 1, context + 16) == -EFAULT); \
-	WANT(READ(to, 8, (void *)0xffffffff81000000) == -EFAULT); \
-	WANT(READ(to, 8, (void *)-4) == -EFAULT); \
+	WANT(REFUSED(READ(to, 8, NULL)) && all(to, 8, 0) && to[8] == 8); \
+	OWN_WANT(READ(to, 3, context + 14) == -EFAULT && all(to, 3, 0)); \
+	OWN_WANT(READ(to, 1, context + 16) == -EFAULT); \
+	OWN_WANT(READ(to, 8, (void *)0xffffffff81000000) == -EFAULT); \
+	WANT(REFUSED(READ(to, 8, (void *)-4))); \
 	WANT(READ(to, 2, context + 14) == 0 && to[1] == 15)
 
 TEST(bytes_of_the_kernel)
@@ -36,7 +44,7 @@ TEST(bytes_of_the_kernel)
 	return 0;
 }
 
-TEST(bytes_of_a_user)
+OWN_TEST(bytes_of_a_user)
 {
 	u8 to[16];
 
@@ -52,7 +60,7 @@ TEST(bytes_of_either)
 	return 0;
 }
 
-TEST(bytes_that_may_sleep)
+OWN_TEST(bytes_that_may_sleep)
 {
 	u8 to[16];
 
@@ -61,7 +69,7 @@ TEST(bytes_that_may_sleep)
 }
 
 /* Frames are read up to the reader's own, and maps, wherever values lie. */
-TEST(bytes_of_frames_and_maps)
+OWN_TEST(bytes_of_frames_and_maps)
 {
 	u8 from[16] = { 1, 2, 3 }, to[16];
 	u32 key = 1;
@@ -79,7 +87,7 @@ TEST(bytes_of_frames_and_maps)
 }
 
 #define TEXT(READ) \
-	bpfdb_context_len = size; \
+	OWN(bpfdb_context_len = size); \
 	for (u32 i = 0; i < 16; i++) \
 		to[i] = 0xaa; \
 	WANT(READ(to, 16, text) == 8 && to[0] == 'r' && to[6] == 'e' && to[7] == 0 && to[8] == 0xaa); \
@@ -88,9 +96,9 @@ TEST(bytes_of_frames_and_maps)
 	WANT(READ(to, 1, text) == 1 && to[0] == 0); \
 	WANT(READ(to, 0, text) == 0); \
 	WANT(READ(to, 4, text + 7) == 1 && to[0] == 0); \
-	WANT(READ(to, 8, NULL) == -EFAULT && all(to, 8, 0)); \
+	WANT(REFUSED(READ(to, 8, NULL)) && all(to, 8, 0)); \
 	/* (a text that doesn't end where it can be read) */ \
-	WANT(READ(to, 16, context + 1) == -EFAULT && all(to, 16, 0)); \
+	OWN_WANT(READ(to, 16, context + 1) == -EFAULT && all(to, 16, 0)); \
 	WANT(READ(to, 4, context + 1) == 4 && to[2] == 3 && to[3] == 0); \
 	WANT(READ(to, 4, context) == 1)
 
@@ -102,7 +110,7 @@ TEST(texts_of_the_kernel)
 	return 0;
 }
 
-TEST(texts_of_a_user)
+OWN_TEST(texts_of_a_user)
 {
 	u8 to[16];
 
@@ -118,7 +126,7 @@ TEST(texts_of_either)
 	return 0;
 }
 
-TEST(bytes_to_a_user)
+OWN_TEST(bytes_to_a_user)
 {
 	u8 bytes[2] = { 0x77, 0x78 };
 
@@ -138,7 +146,7 @@ TEST(comparison_of_texts)
 	WANT(strncmp(text, 3, "rev") == 0);
 	WANT(strncmp(short_one, 8, "reverse") < 0);
 	WANT(strncmp(text, 8, "revel") > 0);
-	WANT(strncmp(short_one, 0, "x") == 0);
+	OWN_WANT(strncmp(short_one, 0, "x") == 0);
 	return 0;
 }
 
@@ -149,7 +157,7 @@ extern void *moved(void *, const void *, unsigned long) __asm__("memmove");
 extern void *filled(void *, int, unsigned long) __asm__("memset");
 extern int compared(const void *, const void *, unsigned long) __asm__("memcmp");
 
-TEST(bytes_for_compilers)
+OWN_TEST(bytes_for_compilers)
 {
 	u8 to[24] = {};
 
@@ -164,7 +172,7 @@ TEST(bytes_for_compilers)
 }
 
 /* Where nothing sets the length, all that a context may have is taken for there. */
-TEST(length_of_the_context)
+OWN_TEST(length_of_the_context)
 {
 	u8 to[8];
 

@@ -9,7 +9,7 @@ static u64 to_fill[20];
 
 enum { OF_USER = 1 << 8, COMPARE_HASH = 1 << 9, REPLACE = 1 << 10, OF_BUILD = 1 << 11 };
 
-TEST(stack_numbers)
+OWN_TEST(stack_numbers)
 {
 	long kernel, user;
 
@@ -31,7 +31,7 @@ TEST(stack_numbers)
 }
 
 /* Where there is one number, a second stack is refused it, or takes it. */
-TEST(stacks_that_collide)
+OWN_TEST(stacks_that_collide)
 {
 	bpfdb_world.kernel_depth = 1;
 	bpfdb_world.kernel_stack[0] = 1;
@@ -46,7 +46,7 @@ TEST(stacks_that_collide)
 }
 
 /* (a value has room for four addresses) */
-TEST(stack_that_is_deep)
+OWN_TEST(stack_that_is_deep)
 {
 	long number;
 
@@ -65,7 +65,7 @@ TEST(stack_that_is_deep)
 	return 0;
 }
 
-TEST(stack_copied)
+OWN_TEST(stack_copied)
 {
 	u64 to[4] = { 9, 9, 9, 9 };
 
@@ -80,5 +80,19 @@ TEST(stack_copied)
 	WANT(get_stack(context, to, 32, 1) == 16 && to[0] == 0x20 && to[1] == 0x30 && to[2] == 0);
 	WANT(get_stack(context, to, 12, 0) == -EINVAL);
 	WANT(get_stack(context, to, 32, OF_USER) == -EFAULT);
+	return 0;
+}
+
+TEST(stacks_are_refused)
+{
+	u64 to[2] = { 9, 9 };
+
+	WANT(get_stackid(context, &stacks, 1 << 12) == -EINVAL && get_stackid(context, &stacks, 1ull << 32) == -EINVAL);
+	WANT(get_stackid(context, &stacks, 255) == -EFAULT);
+	WANT(get_stack(context, to, 12, 0) == -EINVAL && !to[0] && !to[1]);
+	to[0] = 9;
+	WANT(get_stack(context, to, 16, 1 << 12) == -EINVAL && !to[0]);
+	to[1] = 9;
+	WANT(get_stack(context, to, 16, 255) == -EFAULT && !to[1]);
 	return 0;
 }

@@ -43,7 +43,10 @@ TEST(table_keeps_what_was_stored)
 	WANT(found && *found == 7);
 	value = 9;
 	WANT(map_update(&words, &key, &value, EXIST) == 0);
-	WANT(*found == 9);
+	/* (an old place of a value is the new one's here; Linux gives the entry another) */
+	OWN_WANT(*found == 9);
+	found = map_lookup(&words, &key);
+	WANT(found && *found == 9);
 	return 0;
 }
 
@@ -65,8 +68,10 @@ TEST(table_full)
 	u64 value = 5;
 	u32 key;
 
-	for (key = 0; key < 3; key++)
+	for (u32 i = 0; i < 3; i++) {
+		key = i;
 		WANT(map_update(&words, &key, &value, ANY) == 0);
+	}
 	key = 3;
 	WANT(map_update(&words, &key, &value, ANY) == -E2BIG);
 	key = 2;
@@ -117,20 +122,25 @@ TEST(table_without_a_size)
 	u32 *found;
 
 	/* (numbers of 8 bytes that differ in their high half alone) */
-	for (u64 key = 0; key < 1200ull << 32; key += 1ull << 32) {
-		u32 value = key >> 32;
+	for (u64 i = 0; i < 1200; i++) {
+		u64 key = i << 32;
+		u32 value = i;
 
 		WANT(map_update(&open, &key, &value, NOEXIST) == 0);
 	}
-	for (u64 key = 0; key < 1200ull << 32; key += 1ull << 32) {
+	for (u64 i = 0; i < 1200; i++) {
+		u64 key = i << 32;
+
 		found = map_lookup(&open, &key);
-		WANT(found && *found == key >> 32);
-		if (*found % 2)
+		WANT(found && *found == i);
+		if (i % 2)
 			WANT(map_delete(&open, &key) == 0);
 	}
-	for (u64 key = 0; key < 1201ull << 32; key += 1ull << 32) {
+	for (u64 i = 0; i < 1201; i++) {
+		u64 key = i << 32;
+
 		found = map_lookup(&open, &key);
-		WANT(key >> 32 < 1200 && (key >> 32) % 2 == 0 ? found && *found == key >> 32 : !found);
+		WANT(i < 1200 && i % 2 == 0 ? found && *found == i : !found);
 	}
 	return 0;
 }
@@ -166,8 +176,10 @@ TEST(table_with_many_odd_keys)
 	u32 *found;
 
 	for (u32 i = 0; i < 64; i++) {
+		u32 value = i;
+
 		key.bytes[0] = i * 5;
-		WANT(map_update(&crowd, &key, &i, NOEXIST) == 0);
+		WANT(map_update(&crowd, &key, &value, NOEXIST) == 0);
 	}
 	for (u32 i = 0; i < 64; i += 2) {
 		key.bytes[0] = i * 5;
@@ -190,15 +202,23 @@ TEST(table_of_a_processor)
 	found = map_lookup(&of_cpu, &key);
 	WANT(found && *found == 8);
 	WANT(map_lookup_percpu(&of_cpu, &key, 0) == found);
-	WANT(map_lookup_percpu(&of_cpu, &key, 1) == NULL);
-	WANT(map_delete(&of_cpu, &key) == 0);
-	WANT(map_lookup(&of_cpu, &key) == NULL);
+	OWN_WANT(map_lookup_percpu(&of_cpu, &key, 1) == NULL);
+	WANT(map_lookup_percpu(&of_cpu, &key, 9999) == NULL);
+	WANT(map_update(&of_cpu, &key, &value, NOEXIST) == -EEXIST && map_update(&of_cpu, &key, &value, 3) == -EINVAL);
+	WANT(map_delete(&of_cpu, &key) == 0 && map_delete(&of_cpu, &key) == -ENOENT);
+	WANT(map_lookup(&of_cpu, &key) == NULL && map_lookup_percpu(&of_cpu, &key, 0) == NULL);
+	WANT(map_update(&of_cpu, &key, &value, EXIST) == -ENOENT);
+	WANT(map_update(&of_cpu, &key, &value, ANY) == 0);
+	key = 5;
+	WANT(map_update(&of_cpu, &key, &value, ANY) == 0);
+	key = 6;
+	WANT(map_update(&of_cpu, &key, &value, ANY) == -E2BIG);
 	return 0;
 }
 
 /* A table of LRU takes a new entry always. (Which one goes is the kernel's own choice; here it is the one that wasn't
    used for longest.) */
-TEST(table_of_what_is_recent)
+OWN_TEST(table_of_what_is_recent)
 {
 	u32 value = 1, key;
 
@@ -229,15 +249,59 @@ TEST(table_of_what_is_recent)
 	return 0;
 }
 
+/* What Linux says of such tables, whichever entries go. (It frees one before it looks whether the key is there, so only
+   while there is room do its errors say what is in the table.) */
+MAP(much_recent, BPFDB_LRU_HASH, 64, u32, u32);
+MAP(much_recent_of_cpu, BPFDB_LRU_PERCPU_HASH, 64, u32, u32);
+
+#define RECENT(NAME) \
+	for (u32 i = 50; i < 70; i++) { \
+		key = i; \
+		WANT(map_update(&NAME, &key, &value, EXIST) == -ENOENT); \
+		WANT(map_update(&NAME, &key, &value, NOEXIST) == 0); \
+		WANT(map_update(&NAME, &key, &value, NOEXIST) == -EEXIST); \
+		found = map_lookup(&NAME, &key); \
+		WANT(found && *found == 1); \
+	} \
+	value = 2; \
+	WANT(map_update(&NAME, &key, &value, EXIST) == 0); \
+	found = map_lookup(&NAME, &key); \
+	WANT(found && *found == 2); \
+	WANT(map_update(&NAME, &key, &value, 3) == -EINVAL); \
+	WANT(map_delete(&NAME, &key) == 0 && map_lookup(&NAME, &key) == NULL && map_delete(&NAME, &key) == -ENOENT); \
+	for (u32 i = 0; i < 300; i++) { \
+		key = 1000 + i; \
+		WANT(map_update(&NAME, &key, &value, ANY) == 0); \
+		WANT(map_lookup(&NAME, &key)); \
+	}
+
+TEST(table_that_forgets)
+{
+	u32 value = 1, key, *found;
+
+	RECENT(much_recent);
+	return 0;
+}
+
+TEST(table_of_a_processor_that_forgets)
+{
+	u32 value = 1, key, *found;
+
+	RECENT(much_recent_of_cpu);
+	return 0;
+}
+
 TEST(array_is_all_there)
 {
 	u64 value = 3, *found;
 	u32 key;
 
-	for (key = 0; key < 5; key++) {
+	for (u32 i = 0; i < 5; i++) {
+		key = i;
 		found = map_lookup(&values, &key);
 		WANT(found && *found == 0);
 	}
+	key = 5;
 	WANT(map_lookup(&values, &key) == NULL);
 	WANT(map_update(&values, &key, &value, ANY) == -E2BIG);
 	key = 0xffffffff;
@@ -246,7 +310,8 @@ TEST(array_is_all_there)
 	WANT(map_update(&values, &key, &value, NOEXIST) == -EEXIST);
 	WANT(map_update(&values, &key, &value, 4) == -EINVAL);
 	WANT(map_update(&values, &key, &value, EXIST) == 0);
-	WANT(*found == 3);
+	found = map_lookup(&values, &key);
+	WANT(found && *found == 3);
 	WANT(map_delete(&values, &key) == -EINVAL);
 	key = 3;
 	found = map_lookup(&values, &key);
@@ -262,9 +327,12 @@ TEST(array_of_a_processor)
 	found = map_lookup(&values_of_cpu, &key);
 	WANT(found && *found == 6);
 	WANT(map_lookup_percpu(&values_of_cpu, &key, 0) == found);
-	WANT(map_lookup_percpu(&values_of_cpu, &key, 7) == NULL);
+	WANT(map_lookup_percpu(&values_of_cpu, &key, 9999) == NULL);
+	WANT(map_update(&values_of_cpu, &key, &value, NOEXIST) == -EEXIST);
+	WANT(map_update(&values_of_cpu, &key, &value, 3) == -EINVAL && map_delete(&values_of_cpu, &key) == -EINVAL);
 	key = 2;
-	WANT(map_lookup(&values_of_cpu, &key) == NULL);
+	WANT(map_lookup(&values_of_cpu, &key) == NULL && map_update(&values_of_cpu, &key, &value, ANY) == -E2BIG);
+	WANT(map_lookup_percpu(&values_of_cpu, &key, 0) == NULL);
 	return 0;
 }
 
@@ -290,7 +358,7 @@ TEST(array_that_is_large)
 MAP(cgroups, BPFDB_CGROUP_ARRAY, 2, u32, u32);
 
 /* (The kernel's verifier refuses programs that ask this.) */
-TEST(helpers_of_other_kinds)
+OWN_TEST(helpers_of_other_kinds)
 {
 	u32 key = 0;
 	u64 value = 0;
@@ -309,7 +377,7 @@ TEST(helpers_of_other_kinds)
 static u8 bytes[60000];
 
 /* The heap has room for three values of 60,000 bytes: a fourth is refused as for want of memory, and that is counted. */
-TEST(heap_without_room)
+OWN_TEST(heap_without_room)
 {
 	u64 value = 1;
 	u32 key;

@@ -3,9 +3,9 @@
 
 struct address { u32 bits; u8 bytes[4]; };
 struct long_address { u32 bits; u8 bytes[16]; };
-MAP(routes, BPFDB_LPM_TRIE, 4, struct address, u32);
-MAP(networks, BPFDB_LPM_TRIE, 300, struct address, u32);
-MAP(longer, BPFDB_LPM_TRIE, 10, struct long_address, u64);
+TRIE(routes, 4, struct address, u32);
+TRIE(networks, 300, struct address, u32);
+TRIE(longer, 10, struct long_address, u64);
 
 #define PREFIX(BITS, ...) &(struct address){ BITS, { __VA_ARGS__ } }
 #define SET(BITS, VALUE, ...) map_update(&routes, PREFIX(BITS, __VA_ARGS__), &(u32){ VALUE }, ANY)

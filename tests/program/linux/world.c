@@ -5,7 +5,7 @@ MAP(groups, BPFDB_CGROUP_ARRAY, 2, u32, u32);
 MAP(counters, BPFDB_PERF_EVENT_ARRAY, 4, u32, u32);
 MAP(programs, BPFDB_PROG_ARRAY, 4, u32, u32);
 
-TEST(time_passes)
+OWN_TEST(time_passes)
 {
 	u64 first = ktime_get_ns(), second;
 
@@ -19,7 +19,7 @@ TEST(time_passes)
 	return 0;
 }
 
-TEST(task_is_told)
+OWN_TEST(task_is_told)
 {
 	char comm[16], few[4];
 
@@ -40,7 +40,7 @@ TEST(task_is_told)
 	return 0;
 }
 
-TEST(rest_is_told)
+OWN_TEST(rest_is_told)
 {
 	u32 first, second, third;
 
@@ -69,12 +69,31 @@ TEST(rest_is_told)
 	return 0;
 }
 
+/* (what any kernel on its first processor says) */
+TEST(world_of_any_kernel)
+{
+	u64 first = ktime_get_ns(), second = ktime_get_ns();
+	char comm[4] = { 1, 1, 1, 1 };
+
+	WANT(first && second >= first && ktime_get_boot_ns() && jiffies64());
+	WANT(get_smp_processor_id() == 0 && get_numa_node_id() == 0);
+	WANT(get_current_comm(comm, 4) == 0 && comm[3] == 0);
+	WANT(get_current_pid_tgid() >> 32 && get_current_uid_gid() == 0);
+	return 0;
+}
+
 TEST(nobody_put_one_there)
 {
 	u64 read[3] = { 1, 2, 3 };
 
-	WANT(perf_event_read(&counters, 0) == (u64)-ENOENT);
-	WANT(perf_event_read_value(&counters, 0, read, 24) == -ENOENT && !read[0] && !read[2]);
+	WANT(perf_event_read(&counters, 1) == (u64)-ENOENT);
+	WANT(perf_event_read(&counters, 4) == (u64)-E2BIG && perf_event_read(&counters, 1ull << 32) == (u64)-EINVAL);
+	WANT(perf_event_read_value(&counters, 1, read, 24) == -ENOENT && !read[0] && !read[2]);
+	read[0] = 1;
+	WANT(perf_event_read_value(&counters, 1, read, 16) == -EINVAL && !read[0]);
+	WANT(perf_event_read_value(&counters, 9, read, 24) == -E2BIG);
+	WANT(perf_event_read_value(&counters, 1ull << 40, read, 24) == -EINVAL);
+	OWN_WANT(perf_event_read(&counters, 0) == (u64)-ENOENT && perf_event_read(&counters, 0xffffffff) == (u64)-ENOENT);
 	/* (nothing is told of what a tail call leaves in r0 where it leads to no program) */
 	tail_call(context, &programs, 0);
 	return 0;
@@ -83,7 +102,7 @@ TEST(nobody_put_one_there)
 extern int LINUX_KERNEL_VERSION __attribute__((section(".kconfig")));
 extern _Bool LINUX_HAS_BPF_COOKIE __attribute__((section(".kconfig")));
 
-TEST(configuration_is_told)
+OWN_TEST(configuration_is_told)
 {
 	WANT(LINUX_KERNEL_VERSION == (6 << 16 | 1 << 8));
 	WANT(LINUX_HAS_BPF_COOKIE == 1);
@@ -92,7 +111,7 @@ TEST(configuration_is_told)
 
 MAP(locked, BPFDB_ARRAY, 1, u32, u64);
 
-TEST(locks_are_taken)
+OWN_TEST(locks_are_taken)
 {
 	u32 key = 0, *lock = map_lookup(&locked, &key);
 
