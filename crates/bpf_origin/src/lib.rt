@@ -21,7 +21,7 @@ mod writes;
 pub use answer::put_answer;
 pub use fault::WhatFault;
 pub use line::put_part;
-pub use look::{Looked, look_back};
+pub use look::{Looked, go_on, look_back};
 pub use origin::put_origin;
 pub use past::Past;
 pub use place::{Part, Place};

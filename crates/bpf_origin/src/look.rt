@@ -51,8 +51,9 @@ pub fn look_back<K: Keeper, W: Write>(
     }
 }
 
-/// Makes so many moves again. Answers how many of them are left.
-fn go_on<K: Keeper>(course: &mut Course<K>, moves: u64) -> u64
+/// Makes so many moves again that were taken back, up to the first that the keeper refuses. Answers
+/// how many of them are left.
+pub fn go_on<K: Keeper>(course: &mut Course<K>, moves: u64) -> u64
     ensures stands { (t : Track) (y : State) → IsRun t.history y → moves ≤ length t.history →
         CourseStands K.holds course.old (gone_from moves t y) →
         CourseStands K.holds course.new (gone_from result t y) }
