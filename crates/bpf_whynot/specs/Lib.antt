@@ -8,3 +8,5 @@ pub mod Walks
 pub mod Levels
 pub mod Asking
 pub mod Turns
+pub mod Aims
+pub mod Looks

@@ -2,6 +2,15 @@
 ghost use Rattle.std.specs.Prelude.{◌≡◌};
 ghost use Rattle.bpf_whynot.specs.Asked.{goal_fault};
 
+/// Why there is no answer about what is asked.
+#[derive(Clone, Copy)]
+pub enum AimFault {
+    /// It is refused.
+    Goal(GoalFault),
+    /// There is no memory for what is found out about it.
+    OutOfMemory,
+}
+
 /// Why what is asked about is refused.
 #[derive(Clone, Copy)]
 pub enum GoalFault {

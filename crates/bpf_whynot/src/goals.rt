@@ -9,7 +9,7 @@ use counted_io::natural;
 use std::alloc::{AllocError, Global};
 
 /// One flag a slot, none of them set.
-pub fn no_goals(alloc: Global, program: &Program) -> Result<Vec<bool>, AllocError>
+pub(crate) fn no_goals(alloc: Global, program: &Program) -> Result<Vec<bool>, AllocError>
     ensures { IfOk result (λ flags. AreGoals program.now [] flags.items) }
 {
     Vec::from_elem(alloc, false, program.len())
@@ -17,7 +17,11 @@ pub fn no_goals(alloc: Global, program: &Program) -> Result<Vec<bool>, AllocErro
 
 /// Flags the slots that a text names: numbers with commas between. The fault is that of the first
 /// item that has one.
-pub fn flag_goals(program: &Program, text: &[u8], flags: &mut [bool]) -> Result<(), GoalFault>
+pub(crate) fn flag_goals(
+    program: &Program,
+    text: &[u8],
+    flags: &mut [bool],
+) -> Result<(), GoalFault>
     requires { AreGoals program.now [] flags.old }
     ensures ok { IfOk result (λ (done : Unit). (goals : List ℕ) × (spec.goals_in program.now text.now ≡ Ok goals)
         × AreGoals program.now goals flags.new) }

@@ -2,12 +2,14 @@
 //! after which it couldn't.
 #![tactic(auto)]
 
+mod aim;
 mod fault;
 mod flow;
 mod goals;
 pub mod laws;
 mod level;
 mod line;
+mod look;
 mod reach;
 mod search;
 mod sources;
@@ -15,8 +17,9 @@ mod standing;
 mod walk;
 mod whynot;
 
-pub use fault::GoalFault;
-pub use goals::{flag_goals, no_goals};
+pub use aim::Aim;
+pub use fault::{AimFault, GoalFault};
+pub use look::look_why;
 pub use reach::Reach;
 pub use search::Search;
 pub use whynot::put_whynot;

@@ -2,6 +2,7 @@
 ghost use Rattle.std.specs.Prelude.{◌≡◌, ◌≤◌, ℕ, IfErr, IfOk, List};
 ghost use Rattle.bpf_isa.specs.Programs.{Checked};
 ghost use Rattle.bpf_journal.specs.Histories.{Record, StandsFor};
+ghost use Rattle.bpf_whynot.specs.Aims.{IsAim};
 ghost use Rattle.bpf_whynot.specs.Answers.{why_not};
 ghost use Rattle.bpf_whynot.specs.Asking.{query};
 ghost use Rattle.bpf_whynot.specs.Tables.{AreGoals, told_by};
@@ -10,7 +11,7 @@ ghost use Rattle.bpfdb_jobs.specs.Endings.{EndsPrinted};
 ghost use Rattle.bpfdb_jobs.specs.Jobs.{asked_of};
 ghost use Rattle.bpfdb_jobs.specs.Openings.{HasArrived};
 ghost use Rattle.bpfdb_jobs.specs.Origins.{found_text};
-ghost use Rattle.bpfdb_jobs.specs.Whynots.{IsPrepared, RefusesGoals};
+ghost use Rattle.bpfdb_jobs.specs.Whynots.{RefusesGoals};
 ghost use Rattle.bpfdb_limits.specs.Limits.{IsLimit};
 ghost use Rattle.bpfdb_options.specs.declared.subcommand.Subcommand.TheVariants.{Whynot};
 
@@ -22,19 +23,11 @@ use bpfdb_faults::{flush_after, give_up};
 use bpf_isa::Program;
 use bpf_journal::{JournalFault, Keeper, Timeline};
 use bpf_origin::{Question, Told, Wanted};
-use bpf_whynot::{Reach, Search, flag_goals, no_goals, put_whynot};
+use bpf_whynot::{Aim, AimFault, Search, put_whynot};
 use bpfdb_replies::write_place;
 use counted_io::{Counted, WriteFault, put};
 use std::alloc::Global;
 use std::io::Write;
-
-/// The slots that are asked about, and from where they can be come to.
-#[derive(Drop)]
-pub struct Prepared {
-    /// One flag a slot.
-    pub goals: Vec<bool>,
-    pub reach: Reach,
-}
 
 /// Runs the program to its end or to the limit, or obeys the script where there is one, and writes
 /// where the machine stands then and why the program did not come to the slots that are asked about.
@@ -68,8 +61,8 @@ fn ask_why<W: Write, E: Write>(
         errors.new result }
     ensures status { result ≤ 2 }
 {
-    let prepared = match prepare(alloc, job, arrived.timeline.cpu().program()) {
-        Ok(prepared) => prepared,
+    let aim = match aim_of(alloc, job, arrived.timeline.cpu().program()) {
+        Ok(aim) => aim,
         Err(refusal) => return give_up(errors, &JobFault::Refused(refusal)),
     };
     let question = Question {
@@ -78,8 +71,8 @@ fn ask_why<W: Write, E: Write>(
         opening: arrived.timeline.len() as u64 == arrived.moves,
     };
     let search = Search {
-        reach: &prepared.reach,
-        goals: prepared.goals.as_slice(),
+        reach: &aim.reach,
+        goals: aim.goals.as_slice(),
         question,
         alone: job.options.alone,
     };
@@ -91,21 +84,14 @@ fn ask_why<W: Write, E: Write>(
 }
 
 /// The slots of a program that are asked about, and from where they can be come to.
-fn prepare(alloc: Global, job: &Job<'_>, program: &Program) -> Result<Prepared, JobRefusal<'static>>
-    ensures ok { IfOk result (IsPrepared program.now (asked_of job.now)) }
+fn aim_of(alloc: Global, job: &Job<'_>, program: &Program) -> Result<Aim, JobRefusal<'static>>
+    ensures ok { IfOk result (IsAim program.now (asked_of job.now)) }
     ensures err { IfErr result (RefusesGoals program.now (asked_of job.now)) }
 {
-    let mut goals = match no_goals(alloc, program) {
-        Ok(goals) => goals,
-        Err(_) => return Err(JobRefusal::Journal(JournalFault::OutOfMemory)),
-    };
-    match flag_goals(program, asked(job), goals.as_mut_slice()) {
-        Ok(()) => {}
-        Err(fault) => return Err(JobRefusal::Goal(fault)),
-    }
-    match Reach::find(alloc, program, goals.as_slice()) {
-        Ok(reach) => Ok(Prepared { goals, reach }),
-        Err(_) => Err(JobRefusal::Journal(JournalFault::OutOfMemory)),
+    match Aim::find(alloc, program, asked(job)) {
+        Ok(aim) => Ok(aim),
+        Err(AimFault::Goal(fault)) => Err(JobRefusal::Goal(fault)),
+        Err(AimFault::OutOfMemory) => Err(JobRefusal::Journal(JournalFault::OutOfMemory)),
     }
 }
 

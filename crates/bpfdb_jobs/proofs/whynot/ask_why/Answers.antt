@@ -22,7 +22,7 @@ returns-in-Ok-written-clause-does g c =
     let x = at.timeline.state in
     let h = c.requires.at.point.history in
     let p = rw (c.program.ensures, c.cpu.ensures) at c.in-Ok.ensures.ok in
-    let can = told_by c.in-Ok.prepared.reach in
+    let can = told_by c.in-Ok.aim.reach in
     let q : Query = record {
       goals = p.goals;
       question = record { addresses = job.options.addresses; lines = job.options.lines; opening = c.len.result == at.moves };
@@ -43,7 +43,7 @@ returns-clause-does g c =
     let x = at.timeline.state in
     let h = c.requires.at.point.history in
     let p = rw (c.program.ensures, c.cpu.ensures) at c.in-Ok.ensures.ok in
-    let can = told_by c.in-Ok.prepared.reach in
+    let can = told_by c.in-Ok.aim.reach in
     let q : Query = record {
       goals = p.goals;
       question = record { addresses = job.options.addresses; lines = job.options.lines; opening = c.len.result == at.moves };
