@@ -204,7 +204,10 @@ cp "$parts/suites/cells.test" "$parts/suites/alone.test" .
     requests 'gdb with 256 kB of stack' gdb --registers bpf -m context --maps $sixteen --journal 16777216 longest <<'ROWS'
 c|T05replaylog:end;|exited at 65534: r0 0xfffe
 > origin r9|OK|left r9 = 0x0; at the opening
+> whynot 65534|OK|it was reached 1 moves back
+qRcmd,7768796e6f7420{302c*4000}302c|OK|refused V3: neither a slot nor slots with commas between
 bc|T05replaylog:begin;
+> whynot 65534|OK|it can still be reached
 ROWS
     usage "unrecognized subcommand 'rum'" rum longest
     output 'help with 256 kB of stack' "$parts/help/bpfdb.txt" --help

@@ -288,6 +288,29 @@ for size in 1024 65536; do
 done
 : > script
 
+# `monitor whynot` alone takes memory behind the opening. Where a request for it is refused the answer is Q15, and the session goes on.
+told='+$T05thread:0;0a:0002000002000000;0b:0800000000000000;40:0100000000000000;#c9+'
+printf '%s' '$s#73$qRcmd,7768796e6f742030#d6$p0#a0$qRcmd,7265646f#fd$D#44' > script
+whole="$told"'$O69742077617320726561636865642031206d6f766573206261636b0a#76$OK#9a+$2a00000000000000#33+$72656675736564205131333a206e6f7468696e6720746f207265646f0a#30+$OK#9a'
+short="$told"'$O72656675736564205131353a206f7574206f66206d656d6f72790a#a8$OK#9a+$2a00000000000000#33+$72656675736564205131333a206e6f7468696e6720746f207265646f0a#30+$OK#9a'
+: > met
+request=1 lacked=0
+while [ "$request" -le "$most" ]; do
+    for how in '' all; do
+        refuse "$request" "$how" gdb --journal 1024 --listing program.s
+        case $found:$(cat found/out) in
+            "0:$whole") count=$((count + 1)) ;;
+            "0:$short") count=$((count + 1)) lacked=$((lacked + 1)) ;;
+            *) lacks "monitor whynot: request $request for memory refused" ;;
+        esac
+    done
+    [ "$(cat found/out)" != "$whole" ] || break
+    request=$((request + 1))
+done
+check "monitor whynot: there is no request for memory after $((request - 1))" 0 "$whole" ''
+[ "$lacked" -ge 20 ] || complain "monitor whynot: $lacked refused requests for its memory are answered by Q15"
+: > script
+
 # The calls of the libraries, in crates/memory_calls: each answers by its own number, or by `out of memory` where it has none.
 # `rt ci` builds that program too.
 if ! [ -x "$top/crates/memory_calls/out/memory_calls" ]; then

@@ -36,7 +36,7 @@ row 'a refused listing' 2 '$?#3f' '' 'refused A1 at line 1: unknown mnemonic\n' 
 row 'a refused journal' 2 '$?#3f' '' 'refused J1: journal size out of range\n' gdb --journal 1 --listing answer.s
 
 # The tables: sessions, streams of bytes, beginnings of a stream, and descriptions of machines.
-for name in requests refusals numbers statuses stops ends watches frames lengths machines origin; do
+for name in requests refusals numbers statuses stops ends watches frames lengths machines origin whynot; do
     play_blocks "$parts/packets/$name.txt"
 done
 streams_of "$parts/packets/streams.txt"
@@ -46,9 +46,9 @@ registers_of "$parts/packets/descriptions.txt"
 # Where values came from: what gdb is shown, in packets or in one, is what `origin` tells behind the same lines, up to 500 lines of moves and 32,768 bytes.
 # monitor LINE: the packet of a line.
 monitor() { packet "qRcmd,$(printf '%s' "$1" | od -An -v -tx1 | tr -d ' \n')"; }
-# shows WHAT ARGUMENT..: what gdb is shown for it behind the lines of the file `said`.
+# shows LINE ARGUMENT..: what gdb is shown for it behind the lines of the file `said`.
 shows() {
-    { while read -r line; do monitor "$line"; done < said; monitor "origin${1:+ $1}"; } > script
+    { while read -r line; do monitor "$line"; done < said; monitor "$1"; } > script
     shift
     run gdb --registers bpf "$@"
     tr '$' '\n' < found/out | sed -n 's/^O\([0-9a-f]*\)#..$/\1/p' |
@@ -60,7 +60,7 @@ printf '\052\001' > two
 for lines in 'stepi' 'stepi 3\nset reg r2 7\nstepi' 'continue\nundo\nredo' 'continue\nreverse-stepi 2' 'set mem 0x100000001 ff\nstepi 4\nundo 2\nstepi 3'; do
     printf "$lines\n" > said
     for what in '' r0 r2 0x2000001ff 0x2000001f8:8 0x100000000:2 0x200000000:256; do
-        shows "$what" -m two --listing sum.s
+        shows "origin${what:+ $what}" -m two --listing sum.s
         run origin -m two --script said --listing sum.s $what
         sed 1d found/out > wanted/shown
         same "what is shown of origin $what behind $lines" wanted/shown found/shown
@@ -68,14 +68,64 @@ for lines in 'stepi' 'stepi 3\nset reg r2 7\nstepi' 'continue\nundo\nredo' 'cont
 done
 printf 'continue\n' > said
 listing many.s 'loop: add r0, 1;jlt r0, 600, loop;exit'
-shows '' --listing many.s
+shows origin --listing many.s
 awk 'BEGIN { for (i = 600; i > 100; i--) printf "-%d r0 = 0x%x; 0: add r0, 1; from r0\n", 1203 - 2 * i, i; print "cut: there are more lines" }' > wanted/shown
 same 'an answer of more than 500 lines of moves' wanted/shown found/shown
 { echo 'ldxdw r0, [r1+0]'; for at in $(seq 8 8 792); do printf 'ldxdw r2, [r1+%d]\nadd r0, r2\n' "$at"; done; echo exit; } > loads.s
 head -c 800 /dev/zero > zeros
-shows '' -m zeros --listing loads.s
+shows origin -m zeros --listing loads.s
 echo 'cut: the answer has more than 32768 bytes' > wanted/shown
 same 'an answer of more than 32,768 bytes' wanted/shown found/shown
+
+# Why slots were not come to: what gdb is shown is what `whynot` tells behind the same lines, but for where the machine stands, with the same limits.
+listing turns.s 'ldxb r0, [r1+0];jeq r0, 42, on;ja out;on: ldxb r2, [r1+1];jlt r2, r0, less;mov r0, 7;out: exit;less: callf f;exit;f: sub r0, r2;jgt r0, 40, out;exit'
+for lines in 'stepi' 'stepi 2' 'continue' 'continue\nreverse-stepi 3' 'continue\nundo\nredo' 'stepi 2\nset pc 6\nstepi' 'set mem 0x100000000 2b\ncontinue' 'stepi 3\nset reg r2 99\ncontinue'; do
+    printf "$lines\n" > said
+    for what in 0 1 2 3 5 6 7 8 9 11 0,2 3,5 5,8,11; do
+        shows "whynot $what" -m two --listing turns.s
+        run whynot -m two --script said --listing turns.s $what
+        sed 1d found/out > wanted/shown
+        same "what is shown of whynot $what behind $lines" wanted/shown found/shown
+    done
+done
+printf 'continue\n' > said
+shows 'whynot 0' --listing many.s
+awk 'BEGIN {
+    print "-2 1: jlt r0, 600, L0; r0 = 0x258; went on\nat 1: jlt r0, 600, L0"
+    for (i = 600; i > 100; i--) printf "-%d r0 = 0x%x; 0: add r0, 1; from r0\n", 1201 - 2 * i, i
+    print "cut: there are more lines"
+}' > wanted/shown
+same 'why a slot was not come to, in more than 500 lines of moves' wanted/shown found/shown
+{ sed '$d' loads.s; echo 'jeq r0, 0, out'; echo 'mov r0, 1'; echo 'out: exit'; } > far.s
+slots=$(wc -l < far.s)
+shows "whynot $((slots - 2))" -m zeros --listing far.s
+echo 'cut: the answer has more than 32768 bytes' > wanted/shown
+same 'why a slot was not come to, in more than 32,768 bytes' wanted/shown found/shown
+
+# The session is left as it was: what other lines print is the same, whether slots are asked about between them or not. A move that is dropped is dropped in both.
+printf '%s\n' stepi 'stepi 3' 'info history' 'reverse-stepi 2' 'info history' redo 'set reg r2 9' 'stepi 2' 'break 7' undo 'info history' 'redo 1' 'set mem 0x2000001f8 0102' \
+    continue 'info regs' 'info breaks' 'delete 7' 'continue' 'info history' 'reverse-continue' 'watch 0x2000001f8' 'undo 2' 'info history' 'redo 2' 'redo 3' 'info history' \
+    'stepi 40' reverse-nexti 'info frames' 'reverse-stepi 25' 'info history' 'redo 5' 'redo 1000' 'set pc 1' 'stepi 9' 'undo 3' 'info history' 'redo' 'info regs' 'x 0x200000000 64' > said
+for journal in 1024 4096; do
+    for listing in turns.s many.s; do
+        while read -r line; do monitor "$line"; done < said > script
+        run gdb --registers bpf --journal $journal -m two --listing $listing
+        mv found/out wanted/lines
+        while read -r line; do monitor "$line"; monitor 'whynot 1'; monitor 'whynot 0,2'; monitor 'whynot x'; monitor 'whynot 2'; done < said > script
+        run gdb --registers bpf --journal $journal -m two --listing $listing
+        [ "$(tr '+' '\n' < found/out | grep -c '^\$O[0-9a-f]*#..\(\$O[0-9a-f]*#..\)*\$OK#9a$')" = $((4 * $(wc -l < said))) ] ||
+            complain "slots that are asked about between lines, of $listing"
+        tr '+' '\n' < found/out | grep -v '^\$O[0-9a-f]*#..' | tr '\n' '+' | sed 's/+$//' > found/lines
+        same "what lines print between which slots are asked about, of $listing, with a journal of $journal bytes" wanted/lines found/lines
+    done
+done
+
+# The whole stream behind it: a long program, whose memory is taken and given back each time.
+{ echo 'jeq r1, 0, out'; yes 'mov r0, 1' | head -n 30000; echo 'out: exit'; } > long-way.s
+printf 'stepi\n' > said
+{ monitor stepi; for _ in 1 2 3 4 5 6 7 8 9 10 11 12 13 14 15 16 17 18 19 20; do monitor 'whynot 15000'; done; monitor 'whynot 30001'; } > script
+run gdb --registers bpf --listing long-way.s
+[ "$(tr '$' '\n' < found/out | grep -c '^O[^K]')" = 21 ] || complain 'why a slot was not come to, asked twenty times of a long program'
 
 # The numbers of errors are those of refusals, in hexadecimal, 02 where a request's arguments are wrong.
 requests 'registers' gdb --registers bpf --listing answer.s <<'ROWS'
@@ -186,6 +236,7 @@ run gdb --registers bpf --listing answer.s
 sed 's/^+\$//; s/#..$//' found/out | LC_ALL=C awk "$packets"'BEGIN { prepare(); ORS = "" } { print spelled($0) }' > found/help
 awk -F ' *[|] *' '!/^#/ && $2 != "quit" { print $2 ": " $4 }' "$top/docs/commands.txt" > wanted/help
 echo "origin [WHAT]: shows where a register or ADDRESS:COUNT got its value; left out r0, or a bad access's address" >> wanted/help
+echo "whynot SLOT,..: tells the latest kept branch after which these slots were out of reach" >> wanted/help
 same 'help lists the commands' wanted/help found/help
 
 # Lines of 30 bytes and of the digits of their slots: 256 are 8,338 bytes, and 8,192 fit a packet. 251 are 8,173.

@@ -5,7 +5,7 @@ use Rattle.std.specs.Option.{option_map}
 use Rattle.counted_io.specs.Counted.{Tally}
 use Rattle.counted_io.specs.Writing.{Writes}
 use Rattle.bpf_entries.specs.Keeping.{Kept}
-use Rattle.bpf_remote.specs.Connections.{Does, DoesAsked, DoesBody, DoesLine, DoesRequest}
+use Rattle.bpf_remote.specs.Connections.{Does, DoesAsked, DoesBody, DoesLine, DoesRequest, DoesWhy}
 use Rattle.bpf_origin.specs.declared.fault.WhatFault.{WhatFault}
 use Rattle.bpf_origin.specs.declared.what.What.{What}
 use Rattle.bpf_remote.specs.Numbers.{behind}
@@ -32,6 +32,12 @@ module _ {K W : Type 0} (holds : K → List Kept → Type 0) (refusals room : K 
       → Tells contents old new result (λ last told on. DoesAsked holds refusals room (place old before) (place new last) found digits told on) true
   by-asked old new result before digits found asked e t =
       subst (λ (v : Option (Result (Option What) WhatFault)). Tells contents old new result (λ last told on. DoesAsked holds refusals room (place old before) (place new last) v digits told on) true) (sym e) t
+
+  pub by-why : {A E : Type 0} (old new : Sides K W) (result : Result A E) (before digits : List ℕ) (found asked : Option (List ℕ)) → found ≡ asked
+      → Tells contents old new result (λ last told on. DoesWhy holds refusals room (place old before) (place new last) asked digits told on) true
+      → Tells contents old new result (λ last told on. DoesWhy holds refusals room (place old before) (place new last) found digits told on) true
+  by-why old new result before digits found asked e t =
+      subst (λ (v : Option (List ℕ)). Tells contents old new result (λ last told on. DoesWhy holds refusals room (place old before) (place new last) v digits told on) true) (sym e) t
 
   pub by-request : {A E : Type 0} (old new : Sides K W) (result : Result A E) (on : Bool) (before body : List ℕ) (found : Option (List ℕ)) → found ≡ None
       → Tells contents old new result (λ last told on. DoesRequest holds refusals room (place old before) (place new last) (request_of body) told on) on

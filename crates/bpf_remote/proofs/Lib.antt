@@ -9,3 +9,4 @@ pub mod Turns
 pub mod Bodies
 pub mod Consoles
 pub mod OriginTexts
+pub mod WhyTexts

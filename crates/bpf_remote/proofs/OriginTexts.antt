@@ -28,7 +28,7 @@ pub fitting : {A E : Type 0} (items : A → List ℕ) (r : Result A E) (shown an
 fitting items (Ok a) shown answer is e = inl (is ∙ e)
 fitting items (Err fault) shown answer is e = inr is
 
-fitting-all : {A E T : Type 0} (items : A → List ℕ) (r : Result A E) (shown : List ℕ) (P : T → Type 0) (answer : T → List ℕ)
+pub fitting-all : {A E T : Type 0} (items : A → List ℕ) (r : Result A E) (shown : List ℕ) (P : T → Type 0) (answer : T → List ℕ)
     → MatchResult r (λ a. shown ≡ items a) (λ _. shown ≡ too_long) → IfOk r (λ a. (t : T) → P t → items a ≡ answer t) → (t : T) → P t → Fits (answer t) shown
 fitting-all items (Ok a) shown P answer is e t p = inl (is ∙ e t p)
 fitting-all items (Err fault) shown P answer is e t p = inr is

@@ -22,6 +22,7 @@ use Rattle.bpf_origin.specs.declared.fault.WhatFault.{WhatFault}
 use Rattle.bpf_origin.specs.declared.what.What.{What}
 use Rattle.bpf_remote.specs.Numbers.{behind, hex_text}
 use Rattle.bpf_remote.specs.Origins.{Shows, TellsOrigin, asked_in}
+use Rattle.bpf_remote.specs.Whynots.{TellsWhynot, asks_whynot}
 use Rattle.bpf_remote.specs.Packets.{framed, IsItem}
 use Rattle.bpf_remote.specs.Requests.{request_of}
 use Rattle.bpf_remote.specs.Answers.{answer_of_move, answer_of_set, error_text, halt_of_status, sent, text_of}
@@ -148,18 +149,27 @@ module _ {K : Type 0} (holds : K → List Kept → Type 0) (refusals room : K �
       × (console : List ℕ) × IsConsole (is_told remark) (remark_text remark new.session.moment.state) console
       × (told ≡ acknowledgement old.manners ++ console ++ packet (is_answered r) new.last) × (on ≡ goes_on r)
 
-  -- A line that asks where a value came from is answered in packets for gdb's user, behind which `OK` stands; any other one in one packet.
+  -- A line is answered in packets for gdb's user, behind which `OK` stands. Some of the moves before the state may then be left out.
+  abbrev pub DoesShow : Place K → Place K → (ℕ → List ℕ → Type 0) → List ℕ → Bool → Type 0
+  DoesShow old new tells told on = (left : ℕ) × (text console : List ℕ) × Shows text console × tells left text
+      × (new.manners ≡ record old.manners { moves = old.manners.moves - left }) × (new.last ≡ codes "OK")
+      × (told ≡ acknowledgement old.manners ++ console ++ framed (sent new.last)) × (on ≡ true)
+
+  -- So is a line that asks where a value came from, or why a slot was not come to; any other one is answered in one packet.
   abbrev pub DoesAsked : Place K → Place K → Option (Result (Option What) WhatFault) → List ℕ → List ℕ → Bool → Type 0
   DoesAsked old new None digits told on = (moves : ℕ) × Heeds old.session new.session (asks_help digits) digits new.last old.manners.moves moves
       × (new.manners ≡ record old.manners { moves = moves })
       × (told ≡ acknowledgement old.manners ++ framed (sent new.last)) × (on ≡ true)
-  DoesAsked old new (Some asked) digits told on = (left : ℕ) × (text console : List ℕ) × Shows text console
-      × TellsOrigin holds refusals room asked old.session new.session old.manners.moves left text
-      × (new.manners ≡ record old.manners { moves = old.manners.moves - left }) × (new.last ≡ codes "OK")
-      × (told ≡ acknowledgement old.manners ++ console ++ framed (sent new.last)) × (on ≡ true)
+  DoesAsked old new (Some asked) digits told on =
+      DoesShow old new (TellsOrigin holds refusals room asked old.session new.session old.manners.moves) told on
+
+  abbrev pub DoesWhy : Place K → Place K → Option (List ℕ) → List ℕ → List ℕ → Bool → Type 0
+  DoesWhy old new None digits told on = DoesAsked old new (asked_in old.session.moment.state digits) digits told on
+  DoesWhy old new (Some asked) digits told on =
+      DoesShow old new (TellsWhynot holds refusals room asked old.session new.session old.manners.moves) told on
 
   abbrev pub DoesLine : Place K → Place K → List ℕ → List ℕ → Bool → Type 0
-  DoesLine old new digits told on = DoesAsked old new (asked_in old.session.moment.state digits) digits told on
+  DoesLine old new digits told on = DoesWhy old new (asks_whynot digits) digits told on
 
   abbrev pub DoesBody : Place K → Place K → List ℕ → Option (List ℕ) → List ℕ → Bool → Type 0
   DoesBody old new body None told on = DoesRequest old new (request_of body) told on

@@ -10,6 +10,7 @@ pub mod Moves
 pub mod Remarks
 pub mod Help
 pub mod Origins
+pub mod Whynots
 pub mod Connections
 pub mod Turning
 pub mod Serving

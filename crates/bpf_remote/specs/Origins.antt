@@ -45,8 +45,11 @@ abbrev pub question_of : ℕ → Track → Question
 question_of moves t = record { addresses = false; lines = most_lines; opening = length t.history == moves }
 
 -- The line of a refusal.
+abbrev pub refused_line : List ℕ → ℕ → List ℕ → List ℕ
+refused_line begin number text = begin ++ decimal number ++ codes ": " ++ text ++ codes "\n"
+
 abbrev pub what_refusal : WhatFault → List ℕ
-what_refusal fault = codes "refused V" ++ decimal (what_fault fault).0 ++ codes ": " ++ (what_fault fault).1 ++ codes "\n"
+what_refusal fault = refused_line (codes "refused V") (what_fault fault).0 (what_fault fault).1
 
 -- A text is told, or that it is too long.
 abbrev pub too_long : List ℕ

@@ -10,7 +10,7 @@ use Rattle.bpf_origin.specs.declared.what.What.{What}
 use Rattle.bpf_remote.specs.Numbers.{behind}
 use Rattle.bpf_remote.specs.Packets.{Buffer, Holds, longest_body}
 use Rattle.bpf_remote.specs.Requests.{request_of}
-use Rattle.bpf_remote.specs.Connections.{Place, Does, DoesAsked, DoesBody, DoesLine, DoesRequest}
+use Rattle.bpf_remote.specs.Connections.{Place, Does, DoesAsked, DoesBody, DoesLine, DoesRequest, DoesWhy}
 use Rattle.bpf_remote.specs.declared.manners.Manners.{Manners}
 use Rattle.bpf_remote.specs.declared.stream.Item.{Item}
 use Rattle.bpf_remote.specs.declared.stream.Item.TheVariants.{Packet, End}
@@ -38,6 +38,10 @@ module _ {K W : Type 0} (holds : K → List Kept → Type 0) (refusals room : K 
   abbrev pub AnswersAsked : {A E : Type 0} → Sides K W → Sides K W → Result A E → Option (Result (Option What) WhatFault) → List ℕ → Type 0
   AnswersAsked old new result asked digits = (before : List ℕ)
       → Tells contents old new result (λ last told on. DoesAsked holds refusals room (place old before) (place new last) asked digits told on) true
+
+  abbrev pub AnswersWhy : {A E : Type 0} → Sides K W → Sides K W → Result A E → Option (List ℕ) → List ℕ → Type 0
+  AnswersWhy old new result asked digits = (before : List ℕ)
+      → Tells contents old new result (λ last told on. DoesWhy holds refusals room (place old before) (place new last) asked digits told on) true
 
   abbrev pub AnswersLine : {A E : Type 0} → Sides K W → Sides K W → Result A E → List ℕ → Type 0
   AnswersLine old new result digits = (before : List ℕ)

@@ -11,7 +11,7 @@ pub(crate) fn help() -> &'static str
 }
 
 /// What each line of a script does, as docs/commands.txt has it (tests hold one against the other),
-/// and the line that asks where a value came from.
+/// and the lines that ask where a value came from, and why a slot was not come to.
 pub(crate) const HELP: &str = "stepi [COUNT]: takes COUNT steps, 1 if left out
 nexti: takes a step, or a whole call
 continue: goes on to a breakpoint, a watch or the end
@@ -39,4 +39,5 @@ x NUM NUM: shows bytes: the address, and how many
 disas NUM NUM: shows instructions: the slot, and how many
 last-write NUM: finds the move that last changed the byte at an address
 origin [WHAT]: shows where a register or ADDRESS:COUNT got its value; left out r0, or a bad access's address
+whynot SLOT,..: tells the latest kept branch after which these slots were out of reach
 ";

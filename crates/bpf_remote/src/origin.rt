@@ -5,7 +5,7 @@ ghost use Rattle.std.specs.Result.{result_ok};
 ghost use Rattle.bpf_journal.specs.Tracks.{Track};
 ghost use Rattle.bpf_origin.specs.Asked.{answer_about, parts_asked};
 ghost use Rattle.bpf_remote.specs.Numbers.{hex_text};
-ghost use Rattle.bpf_remote.specs.Origins.{ComesBack, Fits, Shows, TellsOrigin, asked_in, longest_part, named_in, question_of, too_long, what_refusal};
+ghost use Rattle.bpf_remote.specs.Origins.{ComesBack, Fits, Shows, TellsOrigin, asked_in, longest_part, named_in, question_of, refused_line, too_long};
 ghost use Rattle.bpf_remote.specs.Packets.{framed, longest_body};
 ghost use Rattle.bpf_session.specs.Sessions.{HasPast};
 ghost use Rattle.counted_io.specs.Writing.{WritesAfter};
@@ -24,7 +24,7 @@ use counted_io::{Counted, WriteFault, put, put_decimal};
 use std::io::Write;
 
 /// The most lines of moves that are told.
-const MOST_LINES: u64 = 500;
+pub(crate) const MOST_LINES: u64 = 500;
 
 /// The longest answer, in bytes.
 const LONGEST_ANSWER: usize = 32768;
@@ -40,12 +40,12 @@ type Line = ArrayVec<u8, 64>;
 
 /// An answer. It takes much of the stack, so it isn't moved.
 #[derive(Drop)]
-struct Answered {
-    text: Text,
+pub(crate) struct Answered {
+    pub text: Text,
     /// Whether the whole text had room.
-    written: Result<(), WriteFault>,
+    pub written: Result<(), WriteFault>,
     /// How many moves the session's keeper refused to keep again.
-    left: u64,
+    pub left: u64,
 }
 
 /// What a line asks about a machine, which hexadecimal digits spell, or why that is refused. None
@@ -123,18 +123,21 @@ fn answer_text<K: Keeper>(
     }
 }
 
-/// Writes the line of a refusal.
-fn put_refusal<W: Write>(
+/// Writes the line of a refusal, behind its first words and its letter.
+fn put_refused<W: Write>(
     writer: &mut Counted<W>,
     so_far: Result<(), WriteFault>,
-    fault: WhatFault,
+    begin: &[u8],
+    number: u8,
+    text: &str,
 ) -> Result<(), WriteFault>
-    ensures { WritesAfter W.contents writer.old so_far writer.new result (what_refusal fault) }
+    ensures { WritesAfter W.contents writer.old so_far writer.new result
+        (refused_line begin.now number text.now) }
 {
-    let begun = put(writer, so_far, b"refused V");
-    let numbered = put_decimal(writer, begun, u64::from(fault.number()));
+    let begun = put(writer, so_far, begin);
+    let numbered = put_decimal(writer, begun, u64::from(number));
     let parted = put(writer, numbered, b": ");
-    let told = put(writer, parted, fault.text().as_bytes());
+    let told = put(writer, parted, text.as_bytes());
     put(writer, told, b"\n")
 }
 
@@ -155,7 +158,17 @@ pub(crate) fn show_origin<K: Keeper, W: Write>(
 {
     match asked {
         Ok(what) => show_answer(session, wanted, what, moves, body, writer, so_far),
-        Err(fault) => (show_refusal(fault, body, writer, so_far), 0),
+        Err(fault) => {
+            let told = show_refused(
+                b"refused V",
+                fault.number(),
+                fault.text(),
+                body,
+                writer,
+                so_far,
+            );
+            (told, 0)
+        }
     }
 }
 
@@ -185,24 +198,27 @@ fn show_answer<K: Keeper, W: Write>(
     (told, answered.left)
 }
 
-/// Shows why what is asked is refused.
-fn show_refusal<W: Write>(
-    fault: WhatFault,
+/// Shows gdb's user the line of a refusal, behind its first words and its letter.
+pub(crate) fn show_refused<W: Write>(
+    begin: &[u8],
+    number: u8,
+    text: &str,
     body: &mut Body,
     writer: &mut Counted<W>,
     so_far: Result<(), WriteFault>,
 ) -> Result<(), WriteFault>
-    ensures { (text told : List ℕ) × Shows text told × Fits (what_refusal fault) text
+    ensures { (shown told : List ℕ) × Shows shown told
+        × Fits (refused_line begin.now number text.now) shown
         × WritesAfter W.contents writer.old so_far writer.new result told }
 {
     let mut line = Counted::new(Line::new());
-    let written = put_refusal(&mut line, Ok(()), fault);
+    let written = put_refused(&mut line, Ok(()), begin, number, text);
     let text = line.into_inner();
     show_text(text.as_slice(), &written, body, writer, so_far)
 }
 
 /// Shows gdb's user a text, if it was written whole, or that it is too long.
-fn show_text<W: Write>(
+pub(crate) fn show_text<W: Write>(
     text: &[u8],
     written: &Result<(), WriteFault>,
     body: &mut Body,

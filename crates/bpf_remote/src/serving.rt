@@ -7,7 +7,8 @@ ghost use Rattle.bpf_remote.specs.Connections.{IsConsole, acknowledgement, packe
 ghost use Rattle.bpf_remote.specs.Remarks.{is_told, remark_text};
 ghost use Rattle.bpf_remote.specs.Packets.{Holds, framed, longest_body};
 ghost use Rattle.bpf_remote.specs.Serving.{Breaks, Serves};
-ghost use Rattle.bpf_remote.specs.Turning.{AnswersAsked, AnswersBody, AnswersLine, AnswersRequest, TakesTurn};
+ghost use Rattle.bpf_remote.specs.Turning.{AnswersAsked, AnswersBody, AnswersLine, AnswersRequest, AnswersWhy, TakesTurn};
+ghost use Rattle.bpf_remote.specs.Whynots.{IsAimed};
 
 use crate::answer::append_answer;
 use crate::body::Body;
@@ -22,17 +23,22 @@ use crate::packet::put_packet;
 use crate::parser::request_of;
 use crate::remark::{Remark, remark_of};
 use crate::stream::{Item, next_item};
+use crate::whynot::{aim_in, show_why};
 use bpf_journal::Keeper;
 use bpf_machine::Cpu;
 use bpf_origin::{Wanted, What, WhatFault};
 use bpf_session::{RunFault, Session};
+use bpf_whynot::{Aim, AimFault};
 use counted_io::{Counted, WriteFault, write_text};
+use std::alloc::Global;
 use std::io::{Read, Write};
 
 /// Serves a connection: answers each packet of a stream, up to its end or until gdb leaves. The
-/// writer is flushed after each answer. It takes no memory: `wanted` has it for answers where a value
-/// came from. `gdb` is the machine that gdb is told of.
+/// writer is flushed after each answer. `wanted` has the memory for answers where a value came from;
+/// more is taken only while it is answered why a slot was not come to. `gdb` is the machine that gdb
+/// is told of.
 pub fn serve<K: Keeper, R: Read, W: Write>(
+    alloc: Global,
     gdb: Layout,
     session: &mut Session<K>,
     wanted: &mut Wanted,
@@ -77,6 +83,7 @@ pub fn serve<K: Keeper, R: Read, W: Write>(
             return Ok(());
         }
         let on = match take_turn(
+            alloc,
             session,
             wanted,
             &mut manners,
@@ -96,6 +103,7 @@ pub fn serve<K: Keeper, R: Read, W: Write>(
 
 /// Answers an item, and flushes the writer. Answers whether the connection goes on.
 fn take_turn<K: Keeper, W: Write>(
+    alloc: Global,
     session: &mut Session<K>,
     wanted: &mut Wanted,
     manners: &mut Manners,
@@ -119,7 +127,9 @@ fn take_turn<K: Keeper, W: Write>(
           writer = writer.new;
         }) result on item request.now }
 {
-    let (told, on) = answer_item(session, wanted, manners, item, request, answer, writer);
+    let (told, on) = answer_item(
+        alloc, session, wanted, manners, item, request, answer, writer,
+    );
     flush(writer, told, on)
 }
 
@@ -146,6 +156,7 @@ fn flush<W: Write>(
 
 /// Answers an item.
 fn answer_item<K: Keeper, W: Write>(
+    alloc: Global,
     session: &mut Session<K>,
     wanted: &mut Wanted,
     manners: &mut Manners,
@@ -170,7 +181,7 @@ fn answer_item<K: Keeper, W: Write>(
 {
     match item {
         Item::Packet => match request.bytes() {
-            Some(body) => answer_body(session, wanted, manners, body, answer, writer),
+            Some(body) => answer_body(alloc, session, wanted, manners, body, answer, writer),
             None => (Ok(()), true),
         },
         Item::Damaged => (write_text(writer, b"-"), true),
@@ -181,6 +192,7 @@ fn answer_item<K: Keeper, W: Write>(
 
 /// Answers a packet with this body.
 fn answer_body<K: Keeper, W: Write>(
+    alloc: Global,
     session: &mut Session<K>,
     wanted: &mut Wanted,
     manners: &mut Manners,
@@ -205,7 +217,7 @@ fn answer_body<K: Keeper, W: Write>(
 {
     match behind("qRcmd,", body) {
         Some(digits) => (
-            answer_line(session, wanted, manners, digits, answer, writer),
+            answer_line(alloc, session, wanted, manners, digits, answer, writer),
             true,
         ),
         None => answer_request(session, manners, body, answer, writer),
@@ -214,6 +226,7 @@ fn answer_body<K: Keeper, W: Write>(
 
 /// Answers a line, which hexadecimal digits spell.
 fn answer_line<K: Keeper, W: Write>(
+    alloc: Global,
     session: &mut Session<K>,
     wanted: &mut Wanted,
     manners: &mut Manners,
@@ -235,6 +248,70 @@ fn answer_line<K: Keeper, W: Write>(
           answer = answer.new;
           writer = writer.new;
         }) result digits.now }
+{
+    match aim_in(alloc, session.cpu().program(), digits) {
+        Some(aimed) => answer_why(session, wanted, manners, &aimed, answer, writer),
+        None => answer_other(session, wanted, manners, digits, answer, writer),
+    }
+}
+
+/// Answers why the program did not come to some slots.
+fn answer_why<K: Keeper, W: Write>(
+    session: &mut Session<K>,
+    wanted: &mut Wanted,
+    manners: &mut Manners,
+    aimed: &Result<Aim, AimFault>,
+    answer: &mut Body,
+    writer: &mut Counted<W>,
+) -> Result<(), WriteFault>
+    ensures { (asked digits : List ℕ) →
+        IsAimed session.old.moment.state.program asked aimed.now →
+        AnswersWhy K.holds K.refused K.room W.contents
+        (record {
+          session = session.old;
+          manners = manners.old;
+          answer = answer.old;
+          writer = writer.old;
+        })
+        (record {
+          session = session.new;
+          manners = manners.new;
+          answer = answer.new;
+          writer = writer.new;
+        }) result (Some asked) digits }
+{
+    let begun = acknowledge(*manners, writer);
+    let (told, left) = show_why(session, wanted, aimed, manners.moves, answer, writer, begun);
+    let moves = manners.moves.saturating_sub(left);
+    *manners = with_moves(moves, *manners);
+    answer.clear();
+    answer.append(b"OK");
+    put_sent(writer, told, answer)
+}
+
+/// Answers a line that doesn't ask that, which hexadecimal digits spell.
+fn answer_other<K: Keeper, W: Write>(
+    session: &mut Session<K>,
+    wanted: &mut Wanted,
+    manners: &mut Manners,
+    digits: &[u8],
+    answer: &mut Body,
+    writer: &mut Counted<W>,
+) -> Result<(), WriteFault>
+    requires { length digits.now ≤ longest_body }
+    ensures { AnswersWhy K.holds K.refused K.room W.contents
+        (record {
+          session = session.old;
+          manners = manners.old;
+          answer = answer.old;
+          writer = writer.old;
+        })
+        (record {
+          session = session.new;
+          manners = manners.new;
+          answer = answer.new;
+          writer = writer.new;
+        }) result None digits.now }
 {
     match asked_in(session.cpu(), digits) {
         Some(asked) => answer_asked(session, wanted, manners, asked, answer, writer),

@@ -17,7 +17,7 @@ use std::io::{Read, Write};
 
 /// Opens a session as `debug` does, and serves gdb's remote protocol over the reader and the
 /// writer, up to the end of what is read or until gdb leaves. All memory is taken before the first
-/// packet is read.
+/// packet is read, but for what answers why a slot was not come to.
 #[inline(never)]
 pub fn gdb_job<R: Read, W: Write, E: Write>(
     alloc: Global,
@@ -40,6 +40,7 @@ pub fn gdb_job<R: Read, W: Write, E: Write>(
         Err(refusal) => return give_up(errors, &JobFault::Refused(refusal)),
     };
     match serve(
+        alloc,
         layout_of(job.options.registers),
         &mut session,
         &mut wanted,

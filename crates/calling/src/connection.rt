@@ -29,6 +29,7 @@ fn a_step_is_served(rt: HostRuntime) {
     let mut answers = Vec::new(alloc);
     let packets: &[u8] = b"$s#73";
     let ended = serve(
+        alloc,
         Layout::X86,
         &mut session,
         &mut wanted,

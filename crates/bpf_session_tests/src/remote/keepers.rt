@@ -47,7 +47,14 @@ fn told<K: Keeper>(
     let mut reader = Counted::new(stream.as_bytes());
     let mut writer = Counted::new(&mut told);
     let mut wanted = Wanted::new(alloc).expect(rt, "no memory");
-    let served = serve(Layout::Bpf, session, &mut wanted, &mut reader, &mut writer);
+    let served = serve(
+        alloc,
+        Layout::Bpf,
+        session,
+        &mut wanted,
+        &mut reader,
+        &mut writer,
+    );
     stop_unless(rt, served.is_ok(), stream);
     told
 }

@@ -25,7 +25,14 @@ fn breaks_off<K: Keeper, R: Read>(
     let mut told = Vec::new(alloc);
     let mut writer = Counted::new(&mut told);
     let mut wanted = Wanted::new(alloc).expect(rt, "no memory");
-    let served = serve(Layout::Bpf, session, &mut wanted, reader, &mut writer);
+    let served = serve(
+        alloc,
+        Layout::Bpf,
+        session,
+        &mut wanted,
+        reader,
+        &mut writer,
+    );
     matches!(served, Err(RunFault::Read))
 }
 

@@ -6,5 +6,5 @@ returns-in-Ok g c = rw c.in-Ok.is c.show_answer.ensures
 
 pub returns-in-Err : goal.returns-in-Err
 returns-in-Err g c =
-    let s = c.show_refusal.ensures in
-    rw c.in-Err.is (s.0, s.1, s.2, (refl, refl, s.3), s.4)
+    let s = c.show_refused-told.ensures in
+    rw c.in-Err.is (s.0, s.1, s.2, (refl, refl, rw (c.number.ensures, c.text.ensures) at s.3), s.4)

@@ -1,0 +1,58 @@
+-- `monitor whynot`: why the program did not come to some slots, asked of the session as it stands. bpfdb's own choice.
+use Rattle.std.specs.Prelude.{◌≡◌, ℕ, List, [], ◌⊎◌, Option, Some, Result, Ok, Err, if◌then◌else◌, Bool, false}
+use lib.Chars.{codes}
+use Rattle.std.specs.Option.{option_and_then}
+use Rattle.std.specs.Result.{result_ok}
+use Rattle.std.specs.Str.{bytes_eq}
+use Rattle.hex.specs.Hex.{decode_of}
+use Rattle.bpf_entries.specs.Keeping.{Kept}
+use Rattle.bpf_isa.specs.Programs.{Checked}
+use Rattle.bpf_journal.specs.Tracks.{Track}
+use Rattle.bpf_session.specs.Sessions.{HasPast, SessionValue}
+use Rattle.bpf_whynot.specs.Aims.{IsAim, IsNoAim}
+use Rattle.bpf_whynot.specs.Answers.{Query, why_not}
+use Rattle.bpf_whynot.specs.Asked.{goal_fault, goals_in}
+use Rattle.bpf_whynot.specs.Reach.{TellsReach}
+use Rattle.bpf_whynot.specs.declared.aim.Aim.{Aim}
+use Rattle.bpf_whynot.specs.declared.fault.AimFault.{AimFault}
+use Rattle.bpf_whynot.specs.declared.fault.AimFault.TheVariants.{Goal, OutOfMemory}
+use Rattle.bpf_whynot.specs.declared.fault.GoalFault.{GoalFault}
+use Rattle.bpfdb_commands.specs.Refusals.{refusal_text}
+use Rattle.bpfdb_commands.specs.declared.refusal.Refusal.TheVariants as refusal
+use Rattle.bpf_remote.specs.Numbers.{behind}
+use Rattle.bpf_remote.specs.Origins.{ComesBack, Fits, question_of, refused_line}
+
+-- What a line asks about, by the digits that gdb writes for it: an empty text where it is `whynot`, and the text behind `whynot` and a blank;
+-- None for another line.
+abbrev pub asks_whynot : List ℕ → Option (List ℕ)
+asks_whynot digits =
+    if bytes_eq digits (codes "7768796e6f74") then Some []
+    else option_and_then (λ rest. result_ok (decode_of rest)) (behind (codes "7768796e6f7420") digits)
+
+-- What a text names in a program, or why there is no answer about it.
+abbrev pub IsAimed : Checked → List ℕ → Result Aim AimFault → Type 0
+IsAimed program text (Ok aim) = IsAim program text aim
+IsAimed program text (Err fault) = IsNoAim program text fault
+
+-- The line of a refusal.
+abbrev pub aim_refusal : AimFault → List ℕ
+aim_refusal (Goal fault) = refused_line (codes "refused V") (goal_fault fault).0 (goal_fault fault).1
+aim_refusal OutOfMemory = refusal_text refusal.OutOfMemory
+
+-- What is asked of a session with this history, where so many moves lie before the state.
+abbrev pub query_of : ℕ → List ℕ → Track → Query
+query_of moves goals t = record { goals = goals; question = question_of moves t; alone = false }
+
+module _ {K : Type 0} (holds : K → List Kept → Type 0) (refusals room : K → ℕ) where
+  -- What is told of slots: the answer over the kept history, by a test that tells from where they can be come to; or why a text names none.
+  abbrev pub TellsGoals : Result (List ℕ) GoalFault → SessionValue K → SessionValue K → ℕ → ℕ → List ℕ → Type 0
+  TellsGoals (Err fault) old new moves left text = (new ≡ old) × (left ≡ 0) × Fits (aim_refusal (Goal fault)) text
+  TellsGoals (Ok goals) old new moves left text = (can : ℕ → List ℕ → Bool) × TellsReach old.moment.state.program goals can
+      × ComesBack holds refusals room old new left
+      × ((t : Track) → HasPast holds old t → Fits (why_not can (query_of moves goals t) t.history old.moment.state).text text)
+
+  -- The same of the slots that a text names; or that there is no memory for that test.
+  abbrev pub TellsWhynot : List ℕ → SessionValue K → SessionValue K → ℕ → ℕ → List ℕ → Type 0
+  TellsWhynot asked old new moves left text =
+      TellsGoals (goals_in old.moment.state.program asked) old new moves left text
+      ⊎ ((new ≡ old) × (left ≡ 0) × Fits (aim_refusal OutOfMemory) text)
